@@ -1,0 +1,24 @@
+use Rattle.std.proofs.Common.{sym}
+use Rattle.std.proofs.Math.Nat.{le_of_eq}
+use Rattle.slope_frac.proofs.Cross.{at_most_below, below_at_most}
+use Rattle.slope_frac.proofs.law_level.Goals as goal
+
+pub returns-clause-same_below : goal.returns-clause-same_below
+returns-clause-same_below c =
+    let a = c.args.a in
+    let b = c.args.b in
+    let d = c.args.c in
+    λ level. (
+      λ h. at_most_below b.bytes b.slots a.bytes a.slots d.bytes d.slots c.requires.one c.requires.other (le_of_eq (sym level)) h,
+      λ h. at_most_below a.bytes a.slots b.bytes b.slots d.bytes d.slots c.requires.other c.requires.one (le_of_eq level) h,
+    )
+
+pub returns-clause-same_above : goal.returns-clause-same_above
+returns-clause-same_above c =
+    let a = c.args.a in
+    let b = c.args.b in
+    let d = c.args.c in
+    λ level. (
+      λ h. below_at_most d.bytes d.slots a.bytes a.slots b.bytes b.slots c.requires.one c.requires.other h (le_of_eq level),
+      λ h. below_at_most d.bytes d.slots b.bytes b.slots a.bytes a.slots c.requires.other c.requires.one h (le_of_eq (sym level)),
+    )

@@ -1,0 +1,10 @@
+use Rattle.std.specs.Prelude.{◌≡◌, ◌*◌, ◌<◌}
+use Rattle.slope_frac.specs.declared.Slope.{Slope}
+
+-- slope a is less steep than slope b: the bytes of each by the slots of the other
+abbrev pub IsBelow : Slope → Slope → Type 0
+IsBelow a b = a.bytes * b.slots < b.bytes * a.slots
+
+-- two slopes are equally steep
+abbrev pub IsLevel : Slope → Slope → Type 0
+IsLevel a b = a.bytes * b.slots ≡ b.bytes * a.slots

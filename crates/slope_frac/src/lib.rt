@@ -1,0 +1,101 @@
+//! Slopes of a sending plan: a number of bytes over a number of slots, compared exactly.
+//!
+//! A plan is a broken line, and every question about it is a question about slopes. No slope is ever rounded:
+//! two of them are compared by their cross products, in 128 bits.
+#![tactic(auto)]
+
+ghost use Rattle.std.specs.Prelude.{◌≡◌, ◌<◌, ◌≤◌, ◌⊎◌, ◌↔◌};
+ghost use Rattle.std.specs.Ordering.{MatchOrdering};
+ghost use Rattle.slope_frac.specs.Order.{IsBelow, IsLevel};
+
+use std::cmp::Ordering;
+
+/// The slope of a line that rises by `bytes` over `slots` slots. A slope that stands in a line has at least one slot.
+#[derive(Clone, Copy, Debug)]
+pub struct Slope {
+    /// How far the line rises, in bytes.
+    pub bytes: u64,
+    /// Over how many slots.
+    pub slots: u64,
+}
+
+/// The order of two slopes, by `a.bytes * b.slots` against `b.bytes * a.slots`. It never overflows.
+pub fn compare(a: Slope, b: Slope) -> Ordering
+    ensures { MatchOrdering result (IsBelow a b) (IsLevel a b) (IsBelow b a) }
+{
+    let left = u128::from(a.bytes) * u128::from(b.slots);
+    let right = u128::from(b.bytes) * u128::from(a.slots);
+    left.cmp(&right)
+}
+
+/// Any two slopes are in exactly one order: one is below the other, or they are level.
+pub fn law_total(a: Slope, b: Slope)
+    ensures some { IsBelow a b ⊎ IsLevel a b ⊎ IsBelow b a }
+    ensures not_both_ways { IsBelow a b → ¬ IsBelow b a }
+    ensures not_level { IsLevel a b → (¬ IsBelow a b) × (¬ IsBelow b a) }
+{
+    let _slopes = (a, b);
+}
+
+/// The order is transitive over a slope of at least one slot, and so is being level.
+pub fn law_transitive(a: Slope, b: Slope, c: Slope)
+    requires { 1 ≤ b.slots }
+    ensures below { IsBelow a b → IsBelow b c → IsBelow a c }
+    ensures level { IsLevel a b → IsLevel b c → IsLevel a c }
+{
+    let _slopes = (a, b, c);
+}
+
+/// Level slopes stand in the same order to every third one, and being level goes both ways.
+pub fn law_level(a: Slope, b: Slope, c: Slope)
+    requires one { 1 ≤ a.slots }
+    requires other { 1 ≤ b.slots }
+    ensures turned { IsLevel a b → IsLevel b a }
+    ensures same_below { IsLevel a b → (IsBelow a c ↔ IsBelow b c) }
+    ensures same_above { IsLevel a b → (IsBelow c a ↔ IsBelow c b) }
+{
+    let _slopes = (a, b, c);
+}
+
+#[cfg(test)]
+mod tests {
+    use super::*;
+
+    // Whole bytes would call the first three rows level; 64 bits would not hold the products of the sixth.
+    #[test]
+    fn compares_by_cross_products(rt: HostRuntime) {
+        let rows = [
+            (10, 3, 11, 3, Ordering::Less),
+            (10, 3, 7, 2, Ordering::Less),
+            (7, 2, 10, 3, Ordering::Greater),
+            (0, 1, 0, 9, Ordering::Equal),
+            (
+                4_398_046_511_104,
+                1_000_000,
+                4_398_046_511_103,
+                999_999,
+                Ordering::Less,
+            ),
+            (u64::MAX, 1, u64::MAX, u64::MAX, Ordering::Greater),
+            (6, 4, 9, 6, Ordering::Equal),
+        ];
+        for (bytes, slots, other_bytes, other_slots, want) in rows {
+            let a = Slope { bytes, slots };
+            let b = Slope {
+                bytes: other_bytes,
+                slots: other_slots,
+            };
+            assert_eq!(rt; compare(a, b), want, "{a:?} against {b:?}");
+            law_total(a, b);
+        }
+    }
+
+    #[test]
+    fn laws_run() {
+        let half = Slope { bytes: 1, slots: 2 };
+        let same = Slope { bytes: 2, slots: 4 };
+        let whole = Slope { bytes: 1, slots: 1 };
+        law_transitive(half, same, whole);
+        law_level(half, same, whole);
+    }
+}
