@@ -1,0 +1,46 @@
+-- Looking for a file by its name, from the front on.
+use Rattle.std.proofs.Common.{◌≡◌, ℕ, suc, ◌+◌, ◌<◌, ◌≤◌, List, length, map, drop, get_or, Some, None, if◌then◌else◌, true, false, refl, subst, sym, ap, ◌∙◌, add-one, drop-cons, String, Vec, Global, string_bytes}
+use Rattle.std.proofs.Math.ListN.{get_or-map}
+use Rattle.std.proofs.lemmas.List.{length-map, drop_all}
+use Rattle.std.specs.Str.{bytes_eq}
+use Rattle.vod_base.specs.Outside.{File, file_named}
+
+-- a name and bytes as a file
+abbrev pub file_of : String Global × Vec ℕ Global → File
+file_of f = record { name = string_bytes f.0; bytes = f.1.items }
+
+-- one file more: it is the one, or the search goes on behind it
+named_step : (files : List File) (name : List ℕ) (i : ℕ) (file : File) → i < length files → get_or files i file ≡ file →
+    file_named (drop i files) name ≡ (if bytes_eq file.name name then Some file.bytes else file_named (drop (i + 1) files) name)
+named_step files name i file h e =
+    rw (add-one, drop-cons files i file)
+    (subst (λ (f : File). (if bytes_eq f.name name then Some f.bytes else file_named (drop (suc i) files) name)
+    ≡ (if bytes_eq file.name name then Some file.bytes else file_named (drop (suc i) files) name)) (sym e) refl)
+
+-- the same over the stored pairs, where the name is equal, and where it isn't
+stored_step : (items : List (String Global × Vec ℕ Global)) (name : List ℕ) (i : ℕ) (item : String Global × Vec ℕ Global) →
+    i < length items → item ≡ get_or items i item →
+    file_named (drop i (map file_of items)) name
+    ≡ (if bytes_eq (string_bytes item.0) name then Some item.1.items else file_named (drop (i + 1) (map file_of items)) name)
+stored_step items name i item h e =
+    named_step (map file_of items) name i (file_of item) (rw length-map h)
+    (get_or-map file_of items i item ∙ ap file_of (sym e))
+
+pub stored_here : (files : List File) (items : List (String Global × Vec ℕ Global)) (name : List ℕ) (i : ℕ) (item : String Global × Vec ℕ Global) →
+    files ≡ map file_of items → i < length items → item ≡ get_or items i item → bytes_eq (string_bytes item.0) name ≡ true →
+    file_named (drop i files) name ≡ Some item.1.items
+stored_here files items name i item are h e same =
+    let step = stored_step items name i item h e in
+    rw are (step ∙ ap (λ b. if b then Some item.1.items else file_named (drop (i + 1) (map file_of items)) name) same)
+
+pub stored_behind : (files : List File) (items : List (String Global × Vec ℕ Global)) (name : List ℕ) (i : ℕ) (item : String Global × Vec ℕ Global) →
+    files ≡ map file_of items → i < length items → item ≡ get_or items i item → bytes_eq (string_bytes item.0) name ≡ false →
+    file_named (drop i files) name ≡ file_named (drop (i + 1) files) name
+stored_behind files items name i item are h e other =
+    let step = stored_step items name i item h e in
+    rw are (step ∙ ap (λ b. if b then Some item.1.items else file_named (drop (i + 1) (map file_of items)) name) other)
+
+pub stored_none : (files : List File) (items : List (String Global × Vec ℕ Global)) (name : List ℕ) (i : ℕ) →
+    files ≡ map file_of items → length items ≤ i → file_named (drop i files) name ≡ None
+stored_none files items name i are h =
+    rw are (ap (λ (fs : List File). file_named fs name) (drop_all i (map file_of items) (rw length-map h)))

@@ -1,0 +1,35 @@
+-- The objects in memory as contracts see them. A call that is to fail is named by its number, from 1, over all calls of the object.
+use Rattle.std.specs.Prelude.{ℕ, ◌+◌, ◌-◌, ◌^◌, Bool, ◌==◌, if◌then◌else◌, List, nat_lt}
+use Rattle.std.specs.List.{list_any}
+use Rattle.vod_base.specs.Outside.{File}
+
+-- one more, where the count stays at the end of 64 bits
+abbrev pub one_more : ℕ → ℕ
+one_more count = if nat_lt count (2 ^ 64 - 1) then count + 1 else count
+
+-- whether the call of that number is to fail
+abbrev pub fails : List ℕ → ℕ → Bool
+fails failing number = list_any (λ n. n == number) failing
+
+-- a library in memory: its files, the failing calls, and how many calls and faults there were
+pub record LibraryState : Type 0 where
+  pub files : List File
+  pub failing : List ℕ
+  pub calls : ℕ
+  pub faults : ℕ
+
+-- whether the next call fails
+abbrev pub library_fails : LibraryState → Bool
+library_fails s = fails s.failing (one_more s.calls)
+
+-- the state after one call
+abbrev pub library_called : LibraryState → LibraryState
+library_called s = record s { calls = one_more s.calls; faults = if library_fails s then one_more s.faults else s.faults }
+
+-- a sink in memory: its bytes, the most that it keeps, the failing calls, and how many calls and faults there were
+pub record SinkState : Type 0 where
+  pub bytes : List ℕ
+  pub room : ℕ
+  pub failing : List ℕ
+  pub calls : ℕ
+  pub faults : ℕ

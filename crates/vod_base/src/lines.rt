@@ -1,0 +1,35 @@
+ghost use Rattle.std.specs.Prelude.{◌≡◌, ◌≤◌, length, IfSome, IfNone};
+ghost use Rattle.vod_base.specs.Lines.{IsLine, HasNoLine};
+
+/// Where a line ends, in bytes from the text's beginning.
+#[derive(Clone, Copy, Debug, PartialEq, Eq)]
+pub struct Line {
+    /// The place after the last byte of the line's text.
+    pub text_end: usize,
+    /// The place where the next line begins.
+    pub next: usize,
+}
+
+/// Finds the end of the line that begins at `at`. A line ends with LF or CR LF; a lone CR ends none.
+///
+/// None exactly where no LF stands at or after `at`.
+pub fn line_end(bytes: &[u8], at: usize) -> Option<Line>
+    requires { at ≤ length bytes.now }
+    ensures found { IfSome result (λ line. IsLine bytes.now at line.text_end line.next) }
+    ensures none { IfNone result (HasNoLine bytes.now at) }
+{
+    for place in at..bytes.len() {
+        if bytes[place] == b'\n' {
+            let text_end = if place > at && bytes[place - 1] == b'\r' {
+                place - 1
+            } else {
+                place
+            };
+            return Some(Line {
+                text_end,
+                next: place + 1,
+            });
+        }
+    }
+    None
+}

@@ -1,0 +1,119 @@
+ghost use Rattle.std.specs.Prelude.{◌≡◌, ◌≤◌, ℕ, List, Option, Some, length, map, option_map, string_bytes, if◌then◌else◌, IfOk, OnOk, OnErr, is_err};
+ghost use Rattle.vod_base.specs.Outside.{File, HasRisen, file_named, bytes_named, IsRead};
+ghost use Rattle.vod_base.specs.Memory.{LibraryState, library_fails, library_called, one_more, fails};
+
+use crate::outside::{Library, StoreFault};
+use std::marker::Model;
+
+/// A library in memory, whose calls of `find` and `read` fail at given numbers.
+#[derive(Debug, Drop)]
+pub struct MemoryLibrary {
+    files: Vec<(String, Vec<u8>)>,
+    failing: Vec<u64>,
+    calls: u64,
+    faults: u64,
+}
+
+impl Model for MemoryLibrary {
+    ghost use Rattle.std.specs.Prelude.{map, string_bytes};
+    ghost use Rattle.vod_base.specs.Memory.{LibraryState};
+
+    ghost Value = { LibraryState };
+
+    ghost view = { λ l. record { files = map (λ f. record { name = string_bytes f.0; bytes = f.1.items }) l.files.items; failing = l.failing.items; calls = l.calls; faults = l.faults } };
+}
+
+impl MemoryLibrary {
+    /// Makes a library of these files, of which the first of a name counts. `failing` has the
+    /// numbers, from 1, of the calls that are to fail.
+    pub fn new(files: Vec<(String, Vec<u8>)>, failing: Vec<u64>) -> MemoryLibrary
+        ensures { result ≡ record { files = map (λ f. record { name = string_bytes f.0; bytes = f.1.items }) files.items; failing = failing.items; calls = 0; faults = 0 } }
+    {
+        MemoryLibrary {
+            files,
+            failing,
+            calls: 0,
+            faults: 0,
+        }
+    }
+
+    /// Counts a call, and tells whether it fails.
+    fn call(&mut self) -> bool
+        ensures fails { result ≡ library_fails self.old }
+        ensures called { self.new ≡ library_called self.old }
+    {
+        self.calls = self.calls.saturating_add(1);
+        let number = self.calls;
+        let failed = is_listed(&self.failing, number);
+        if failed {
+            self.faults = self.faults.saturating_add(1);
+        }
+        failed
+    }
+
+    /// The bytes of the first file of that name.
+    fn file(&self, name: &str) -> Option<&[u8]>
+        ensures { option_map (λ bytes. bytes.now) result ≡ file_named self.now.files name.now }
+    {
+        for (file_name, bytes) in &self.files {
+            if file_name.as_str() == name {
+                return Some(bytes.as_slice());
+            }
+        }
+        None
+    }
+}
+
+impl Library for MemoryLibrary {
+    ghost use Rattle.std.specs.Prelude.{Some};
+
+    ghost faults = { λ l. l.faults };
+
+    ghost files = { λ l. Some l.files };
+
+    fn find(&mut self, name: &str) -> Result<Option<u64>, StoreFault>
+        ensures kept { self.new.files ≡ self.old.files }
+        ensures called { self.new ≡ library_called self.old }
+        ensures fails { is_err result ≡ library_fails self.old }
+        ensures found { IfOk result (λ size. size ≡ option_map length (file_named self.old.files name.now)) }
+    {
+        if self.call() {
+            return Err(StoreFault);
+        }
+        Ok(self.file(name).map(|bytes| bytes.len() as u64))
+    }
+
+    fn read(&mut self, name: &str, at: u64, into: &mut [u8]) -> Result<usize, StoreFault>
+        ensures called { self.new ≡ library_called self.old }
+        ensures fails { is_err result ≡ library_fails self.old }
+        ensures bytes { IfOk result (λ n. IsRead (bytes_named self.old.files name.now) at n into.new) }
+    {
+        if self.call() {
+            return Err(StoreFault);
+        }
+        match self.file(name) {
+            Some(bytes) => Ok(copy_from(bytes, at, into)),
+            None => Ok(0),
+        }
+    }
+}
+
+/// Whether the numbers of the calls that are to fail have this one.
+pub(crate) fn is_listed(failing: &[u64], number: u64) -> bool
+    ensures { result ≡ fails failing.now number }
+{
+    failing.iter().any(|n| *n == number)
+}
+
+/// Copies what stands at `at` to the front of `into`, as much as fits, and answers how much.
+fn copy_from(bytes: &[u8], at: u64, into: &mut [u8]) -> usize
+    ensures { IsRead bytes.now at result into.new }
+{
+    if at >= bytes.len() as u64 {
+        return 0;
+    }
+    let rest = &bytes[at as usize..];
+    let count = rest.len().min(into.len());
+    into[..count].copy_from_slice(&rest[..count]);
+    count
+}

@@ -1,0 +1,79 @@
+ghost use Rattle.std.specs.Prelude.{◌≡◌, ◌+◌, ◌<◌, ◌++◌, ◌||◌, [], length, nat_lt, if◌then◌else◌, IfOk, is_err};
+ghost use Rattle.vod_base.specs.Memory.{SinkState, one_more, fails};
+
+use crate::memory_libraries::is_listed;
+use crate::outside::{NoMemory, Sink, SinkFault};
+use std::alloc::Global;
+use std::marker::Model;
+
+/// A sink in memory, whose calls fail at given numbers and where its room would be passed.
+#[derive(Debug, Drop)]
+pub struct MemorySink {
+    kept: Vec<u8>,
+    room: usize,
+    failing: Vec<u64>,
+    calls: u64,
+    faults: u64,
+}
+
+impl Model for MemorySink {
+    ghost use Rattle.std.specs.Prelude.{◌≤◌, vec_len, vec_capacity};
+    ghost use Rattle.vod_base.specs.Memory.{SinkState};
+
+    ghost Value = { SinkState };
+
+    ghost view = { λ s. record { bytes = s.kept.items; room = s.room; failing = s.failing.items; calls = s.calls; faults = s.faults } };
+
+    ghost invariant = { λ s. (vec_len s.kept ≤ s.room) × (s.room ≤ vec_capacity s.kept) };
+}
+
+impl MemorySink {
+    /// Makes a sink that keeps up to `room` bytes, all reserved here. `failing` has the numbers,
+    /// from 1, of the calls that are to fail.
+    pub fn new(alloc: Global, room: usize, failing: Vec<u64>) -> Result<MemorySink, NoMemory>
+        ensures { IfOk result (λ sink. sink ≡ record { bytes = []; room = room; failing = failing.items; calls = 0; faults = 0 }) }
+    {
+        match Vec::with_capacity(alloc, room) {
+            Ok(kept) => Ok(MemorySink {
+                kept,
+                room,
+                failing,
+                calls: 0,
+                faults: 0,
+            }),
+            Err(_) => Err(NoMemory),
+        }
+    }
+
+    /// The bytes that were written.
+    pub fn bytes(&self) -> &[u8]
+        ensures { result.now ≡ self.now.bytes }
+    {
+        self.kept.as_slice()
+    }
+}
+
+impl Sink for MemorySink {
+    ghost use Rattle.std.specs.Prelude.{Some};
+
+    ghost faults = { λ s. s.faults };
+
+    ghost written = { λ s. Some s.bytes };
+
+    fn write_all(&mut self, bytes: &[u8]) -> Result<(), SinkFault>
+        ensures fails { is_err result ≡ (fails self.old.failing (one_more self.old.calls) || nat_lt self.old.room (length self.old.bytes + length bytes.now)) }
+        ensures state { self.new ≡ (if is_err result then record self.old { calls = one_more self.old.calls; faults = one_more self.old.faults } else record self.old { calls = one_more self.old.calls; bytes = self.old.bytes ++ bytes.now }) }
+    {
+        self.calls = self.calls.saturating_add(1);
+        let number = self.calls;
+        let failed = is_listed(&self.failing, number);
+        if failed || bytes.len() > self.room - self.kept.len() {
+            self.faults = self.faults.saturating_add(1);
+            return Err(SinkFault);
+        }
+        match self.kept.extend_from_slice(bytes) {
+            Ok(()) => Ok(()),
+            Err(_) => unreachable!(),
+        }
+    }
+}

@@ -1,0 +1,69 @@
+ghost use Rattle.std.specs.Prelude.{◌≡◌, ◌^◌, ◌<◌, ◌≤◌, true, false, length, take, slice_index, IfErr, IfSome, IfNone};
+ghost use Rattle.std.specs.List.{list_all};
+ghost use Rattle.std.specs.Char.{is_ascii_digit};
+ghost use Rattle.std.specs.Result.{result_ok};
+ghost use Rattle.std.specs.Str.Parse.{digits_value};
+ghost use Rattle.vod_base.specs.Numbers.{number_of, IsNumberFault};
+
+/// Why a text is no number that fits 64 bits.
+#[derive(Clone, Copy, Debug, PartialEq, Eq)]
+pub enum NumberFault {
+    /// The text has no byte.
+    Empty,
+    /// The place, from 0, of the first byte that isn't one of the digits `0` to `9`.
+    NotDigit(usize),
+    /// All bytes are digits, and the number is 2^64 or more.
+    TooLarge,
+}
+
+/// The place of the first byte that is no digit.
+fn first_other(text: &[u8]) -> Option<usize>
+    ensures within { IfSome result (λ place. place < length text.now) }
+    ensures before { IfSome result (λ place. list_all is_ascii_digit (take place text.now) ≡ true) }
+    ensures other { IfSome result (λ place. is_ascii_digit (slice_index text.now place) ≡ false) }
+    ensures none { IfNone result (list_all is_ascii_digit text.now ≡ true) }
+{
+    for (place, byte) in text.iter().enumerate() {
+        if !byte.is_ascii_digit() {
+            return Some(place);
+        }
+    }
+    None
+}
+
+#[tactic(auto, using(crate::proofs::Digits::digit_steps))]
+/// The value of the digits of `text`, or None where it is 2^64 or more.
+fn value_of(text: &[u8]) -> Option<u64>
+    requires { list_all is_ascii_digit text.now ≡ true }
+    ensures value { IfSome result (λ value. value ≡ digits_value 10 text.now) }
+    ensures large { IfNone result (2 ^ 64 ≤ digits_value 10 text.now) }
+{
+    let mut value = 0u64;
+    for digit in text {
+        let Some(tens) = value.checked_mul(10) else {
+            return None;
+        };
+        let Some(more) = tens.checked_add(u64::from(*digit - b'0')) else {
+            return None;
+        };
+        value = more;
+    }
+    Some(value)
+}
+
+/// Reads a decimal number: one or more digits `0` to `9`, leading zeros allowed, up to 2^64 - 1.
+pub fn read_number(text: &[u8]) -> Result<u64, NumberFault>
+    ensures number { result_ok result ≡ number_of text.now }
+    ensures fault { IfErr result (IsNumberFault text.now) }
+{
+    if text.is_empty() {
+        return Err(NumberFault::Empty);
+    }
+    if let Some(place) = first_other(text) {
+        return Err(NumberFault::NotDigit(place));
+    }
+    match value_of(text) {
+        Some(value) => Ok(value),
+        None => Err(NumberFault::TooLarge),
+    }
+}
