@@ -1,0 +1,4 @@
+pub mod GeneratorLemmas
+pub mod FilmLemmas
+pub mod TraceLemmas
+pub mod PackLemmas

@@ -1,0 +1,18 @@
+use Rattle.std.proofs.Common.{sym, ◌∙◌}
+use Rattle.film_make.proofs.GeneratorLemmas.{after-zero}
+use Rattle.film_make.proofs.FilmLemmas.{joined-none, after-step}
+use Rattle.film_make.proofs.TraceLemmas.{line-step}
+use Rattle.film_make.proofs.traces.trace_lines.Goals as goal
+
+pub loop-index-init : goal.loop-index-init
+loop-index-init c = record {
+  bytes = c.new-trace.ensures.items ∙ sym (joined-none _);
+  left = c.new-draws.ensures ∙ sym (after-zero _);
+}
+
+pub loop-index-preserved : goal.loop-index-preserved
+loop-index-preserved c = record {
+  bytes = c.in_ok-write_line.ensures
+      ∙ line-step _ _ _ _ _ c.loop-index.invariant.bytes c.loop-index.invariant.left c.next_size.ensures.value;
+  left = c.next_size.ensures.left ∙ after-step _ _ _ c.loop-index.invariant.left;
+}

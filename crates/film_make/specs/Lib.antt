@@ -1,0 +1,4 @@
+pub mod Generator
+pub mod Trace
+pub mod Film
+pub mod System

@@ -1,0 +1,46 @@
+ghost use Rattle.std.specs.Prelude.{◌≡◌, ◌%◌, ◌^◌, ◌<◌, ◌≤◌};
+ghost use Rattle.rand_chacha.specs.ChaCha.{ChaCha};
+ghost use Rattle.film_make.specs.Generator.{words_left, words_of, after};
+
+use rand_chacha::ChaCha8Rng;
+use rand_core::SeedableRng;
+use rand_core::utils::NextWord;
+use std::marker::Model;
+
+/// The draws of a number: ChaCha with eight rounds, seeded with the number's eight bytes, the least
+/// first, and 24 zero bytes. A contract sees the words that are
+/// still to come as `words_left`, from the next one on.
+#[derive(Drop)]
+pub struct Draws {
+    rng: ChaCha8Rng,
+}
+
+impl Model for Draws {
+    ghost Value = { ChaCha };
+
+    ghost view = { λ d. d.rng };
+
+    ghost invariant = { λ d. d.rng.word_pos < 2 ^ 68 };
+}
+
+impl Draws {
+    /// The draws of a number, from the first on.
+    pub fn new(number: u64) -> Draws
+        ensures { words_left result ≡ words_of number }
+    {
+        let mut seed = [0; 32];
+        seed[..8].copy_from_slice(&number.to_le_bytes());
+        Draws {
+            rng: ChaCha8Rng::from_seed(seed),
+        }
+    }
+
+    /// The next word modulo `n`.
+    pub fn draw(&mut self, n: u32) -> u32
+        requires { 1 ≤ n }
+        ensures value { result ≡ words_left self.old 0 % n }
+        ensures left { words_left self.new ≡ after 1 (words_left self.old) }
+    {
+        self.rng.next_word() % n
+    }
+}

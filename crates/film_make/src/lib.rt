@@ -1,0 +1,17 @@
+//! Traces, films and system streams that a number determines, so that everyone has the same test
+//! material: the number seeds a generator, and each size and each byte is one of its draws.
+#![tactic(auto)]
+
+mod draws;
+mod films;
+mod pictures;
+mod systems;
+mod traces;
+
+pub use draws::Draws;
+pub use films::make_film;
+pub use systems::make_system;
+pub use traces::make_trace;
+
+#[cfg(test)]
+mod tests;

@@ -1,0 +1,175 @@
+ghost use Rattle.std.specs.Prelude.{◌≡◌, ℕ, ◌+◌, ◌++◌, ◌%◌, ◌<◌, ◌≤◌, ◌==◌, [], if◌then◌else◌, OnOk};
+ghost use Rattle.film_make.specs.Generator.{after, words_left};
+ghost use Rattle.film_make.specs.Film.{after_slice, body_lengths, body_of, coding_type, in_bytes, least_body, picture_fields, picture_header, picture_of, sequence_and_group, slice_of, slice_words, slices_of, temporal_reference};
+
+use crate::draws::Draws;
+use std::alloc::AllocError;
+
+/// Pictures of a group.
+pub const GROUP: u32 = 12;
+
+// Slices of a picture.
+const SLICES: u8 = 4;
+
+// A sequence header: 352 by 288, square samples, 25 pictures a second, a variable bit rate and a
+// buffer of 20; and the header of a closed group at time 0.
+const SEQUENCE_AND_GROUP: [u8; 20] = [
+    0, 0, 1, 0xb3, 0x16, 0x01, 0x20, 0x13, 0xff, 0xff, 0xe0, 0xa0, 0, 0, 1, 0xb8, 0x00, 0x08, 0x00,
+    0x40,
+];
+
+/// How a picture is coded (ISO/IEC 11172-2, picture_coding_type).
+#[derive(Clone, Copy)]
+pub enum CodingType {
+    Intra,
+    Predicted,
+    Bidirectional,
+}
+
+impl CodingType {
+    // The type of a picture of a group, by its place in the stream.
+    #[tactic(auto, unfolding(crate::specs::Film::coding_type))]
+    fn at(place: u32) -> CodingType
+        requires { place < 12 }
+        ensures { result ≡ coding_type place }
+    {
+        if place == 0 {
+            CodingType::Intra
+        } else if place % 2 == 1 {
+            CodingType::Predicted
+        } else {
+            CodingType::Bidirectional
+        }
+    }
+
+    // The least length of a slice's body.
+    fn least_body(self) -> u32
+        ensures value { result ≡ least_body self }
+        ensures bound { result ≤ 300 }
+    {
+        match self {
+            CodingType::Intra => 300,
+            CodingType::Predicted => 60,
+            CodingType::Bidirectional => 30,
+        }
+    }
+
+    // How many lengths a slice's body can have, from the least on.
+    fn body_lengths(self) -> u32
+        ensures value { result ≡ body_lengths self }
+        ensures some { 1 ≤ result }
+        ensures bound { result ≤ 1200 }
+    {
+        match self {
+            CodingType::Intra => 1200,
+            CodingType::Predicted => 400,
+            CodingType::Bidirectional => 200,
+        }
+    }
+}
+
+// The place in the order of showing of a picture of a group.
+#[tactic(auto, unfolding(crate::specs::Film::temporal_reference))]
+fn temporal_reference_at(place: u32) -> u32
+    requires { place < 12 }
+    ensures value { result ≡ temporal_reference place }
+    ensures bound { result < 12 }
+{
+    match place {
+        0 => 0,
+        11 => 11,
+        _ if place % 2 == 1 => place + 1,
+        _ => place - 1,
+    }
+}
+
+// Appends the fields of a picture header that follow its start code.
+fn write_fields(kind: CodingType, shown: u32, out: &mut Vec<u8>) -> Result<(), AllocError>
+    requires { shown < 1024 }
+    ensures { OnOk result (out.new.items ≡ out.old.items ++ in_bytes (picture_fields kind shown)) }
+{
+    let shown = u64::from(shown);
+    match kind {
+        CodingType::Intra => {
+            let bits = ((shown * 8 + 1) * 65536 + 0xffff) * 8;
+            out.extend_from_slice(&bits.to_be_bytes()[4..])
+        }
+        CodingType::Predicted => {
+            let bits = (((shown * 8 + 2) * 65536 + 0xffff) * 16 + 1) * 128;
+            out.extend_from_slice(&bits.to_be_bytes()[3..])
+        }
+        CodingType::Bidirectional => {
+            let bits = ((((shown * 8 + 3) * 65536 + 0xffff) * 16 + 1) * 16 + 1) * 8;
+            out.extend_from_slice(&bits.to_be_bytes()[3..])
+        }
+    }
+}
+
+// Appends the header of a picture of a group.
+#[tactic(auto, using(std::proofs::lemmas::List::append_assoc), unfolding(crate::specs::Film::picture_header))]
+fn write_picture_header(place: u32, out: &mut Vec<u8>) -> Result<(), AllocError>
+    requires { place < 12 }
+    ensures { OnOk result (out.new.items ≡ out.old.items ++ picture_header place) }
+{
+    out.extend_from_slice(&[0, 0, 1, 0])?;
+    write_fields(CodingType::at(place), temporal_reference_at(place), out)
+}
+
+// Appends the body of a slice, each byte from 128 to 255.
+fn write_body(draws: &mut Draws, length: u32, out: &mut Vec<u8>) -> Result<(), AllocError>
+    ensures bytes { OnOk result (out.new.items ≡ out.old.items ++ body_of (words_left draws.old) length) }
+    ensures left { OnOk result (words_left draws.new ≡ after length (words_left draws.old)) }
+{
+    for i in 0..length {
+        out.push(128 + draws.draw(128) as u8)?;
+    }
+    Ok(())
+}
+
+// Appends a slice, the length of its body drawn before its bytes.
+fn write_slice(
+    draws: &mut Draws,
+    kind: CodingType,
+    code: u8,
+    out: &mut Vec<u8>,
+) -> Result<(), AllocError>
+    ensures bytes { OnOk result (out.new.items ≡ out.old.items ++ slice_of (words_left draws.old) kind code) }
+    ensures left { OnOk result (words_left draws.new ≡ after_slice kind (words_left draws.old)) }
+{
+    out.extend_from_slice(&[0, 0, 1, code])?;
+    let length = kind.least_body() + draws.draw(kind.body_lengths());
+    write_body(draws, length, out)
+}
+
+// Appends the slices of a picture.
+fn write_slices(draws: &mut Draws, kind: CodingType, out: &mut Vec<u8>) -> Result<(), AllocError>
+    ensures bytes { OnOk result (out.new.items ≡ out.old.items ++ slices_of (words_left draws.old) kind 4) }
+    ensures left { OnOk result (words_left draws.new ≡ slice_words kind (words_left draws.old) 4) }
+{
+    for slice in 0..SLICES {
+        write_slice(draws, kind, slice + 1, out)?;
+    }
+    Ok(())
+}
+
+// Appends the sequence and group headers before the first picture of a group.
+fn begin_group(place: u32, out: &mut Vec<u8>) -> Result<(), AllocError>
+    ensures { OnOk result (out.new.items ≡ out.old.items ++ (if place == 0 then sequence_and_group else [])) }
+{
+    if place == 0 {
+        out.extend_from_slice(&SEQUENCE_AND_GROUP)?;
+    }
+    Ok(())
+}
+
+#[tactic(auto, using(std::proofs::lemmas::List::append_assoc), unfolding(crate::specs::Film::picture_of))]
+/// Appends picture `index` of a film, whose draws are the next ones.
+pub fn write_picture(draws: &mut Draws, index: u32, out: &mut Vec<u8>) -> Result<(), AllocError>
+    ensures bytes { OnOk result (out.new.items ≡ out.old.items ++ picture_of (words_left draws.old) index) }
+    ensures left { OnOk result (words_left draws.new ≡ slice_words (coding_type (index % 12)) (words_left draws.old) 4) }
+{
+    let place = index % GROUP;
+    begin_group(place, out)?;
+    write_picture_header(place, out)?;
+    write_slices(draws, CodingType::at(place), out)
+}
