@@ -1,0 +1,4 @@
+pub mod Sums
+pub mod UseLaws
+pub mod SoundLaws
+pub mod Exact

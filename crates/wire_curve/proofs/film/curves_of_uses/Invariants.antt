@@ -1,0 +1,12 @@
+use Rattle.std.proofs.Common.{◌≡◌, ℕ, ◌+◌, ◌<◌, length, slice_index, max, min}
+use Rattle.wire_curve.specs.Uses.{used_by}
+use Rattle.wire_curve.proofs.film.curves_of_uses.Given as goal
+
+abbrev pub invariant-loop-in_slot : goal.invariant-loop-in_slot
+invariant-loop-in_slot l = record {
+  used : l.used ≡ used_by l.timing l.uses.in_slot.items l.in_slot-index;
+  low_slots : length l.low.items ≡ l.in_slot-index;
+  up_slots : length l.up.items ≡ l.in_slot-index;
+  low_is : (t : ℕ) → t < l.in_slot-index → slice_index l.low.items t ≡ max l.timing.sent (used_by l.timing l.uses.in_slot.items (t + 1));
+  up_is : (t : ℕ) → t < l.in_slot-index → slice_index l.up.items t ≡ min l.uses.total (used_by l.timing l.uses.in_slot.items t + l.timing.buffer);
+}

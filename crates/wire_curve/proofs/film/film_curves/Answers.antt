@@ -1,0 +1,22 @@
+use Rattle.std.proofs.Common.{arith}
+use Rattle.std.proofs.lemmas.Grind.{common_steps}
+use Rattle.wire_curve.specs.Refusal.{IsAccepted}
+use Rattle.wire_curve.proofs.SoundLaws.{sum_of_uses, AreFilmCurves-of_uses, IsSound-of_film}
+use Rattle.wire_curve.proofs.film.film_curves.Goals as goal
+
+pub curves_of_uses-requires-clause-total : goal.curves_of_uses-requires-clause-total
+curves_of_uses-requires-clause-total c =
+    let all = sum_of_uses c.args.sizes.now c.args.timing.now c.in_ok-uses.uses.in_slot.items c.requires (omega arith) c.in_ok-uses.ensures.in_slot in
+    omega (arith, all, c.requires.total_fits)
+
+pub returns-clause-curves : goal.returns-clause-curves
+returns-clause-curves c =
+    AreFilmCurves-of_uses c.args.sizes.now c.args.timing.now c.in_ok-uses.uses.in_slot.items c.in_ok-uses.uses.total c.in_ok-curves_of_uses.field-0
+    c.in_ok-uses.ensures.in_slot c.in_ok-uses.ensures.total c.in_ok-curves_of_uses.ensures
+
+pub returns-clause-sound : goal.returns-clause-sound
+returns-clause-sound c =
+    let are = AreFilmCurves-of_uses c.args.sizes.now c.args.timing.now c.in_ok-uses.uses.in_slot.items c.in_ok-uses.uses.total c.in_ok-curves_of_uses.field-0
+    c.in_ok-uses.ensures.in_slot c.in_ok-uses.ensures.total c.in_ok-curves_of_uses.ensures in
+    let ok : IsAccepted c.args.sizes.now c.args.timing.now = grind (arith, common_steps) in
+    IsSound-of_film c.args.sizes.now c.args.timing.now c.in_ok-curves_of_uses.field-0 c.requires ok are

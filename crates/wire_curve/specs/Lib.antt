@@ -1,0 +1,4 @@
+pub mod Sound
+pub mod FilmCurves
+pub mod Refusal
+pub mod Uses

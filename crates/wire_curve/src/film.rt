@@ -1,0 +1,168 @@
+//! The curves of a film, from the sizes of its pictures and the times at which they are used.
+
+ghost use Rattle.std.specs.Prelude.{◌≡◌, ℕ, ◌+◌, ◌-◌, ◌<◌, ◌≤◌, ◌^◌, length, sum, slice_index, vec_len, IfOk, IfErr, IfSome, IfNone, OnOk, All, max, min};
+ghost use Rattle.wire_curve.specs.Sound.{IsSound};
+ghost use Rattle.wire_curve.specs.FilmCurves.{due, used_in, total_of, slot_count, IsWithinLimits, AreFilmCurves};
+ghost use Rattle.wire_curve.specs.Uses.{AreUses, IsFaultOfUses, AreCurvesOfUses};
+ghost use Rattle.wire_curve.specs.Refusal.{IsAccepted, IsOverfull, HasFault, IsRefused};
+
+use crate::curves::Curves;
+use std::alloc::{AllocError, Global};
+
+/// The most slots that a plan may have.
+const MOST_SLOTS: u64 = 1_000_000;
+
+/// When pictures are used and what the client can hold.
+///
+/// Times are in units of 1/360,000 second. Picture k is used in the slot `k * picture_units / slot_units + delay`, rounded
+/// down.
+#[derive(Clone, Copy, Debug)]
+pub struct Timing {
+    /// The time of one picture, 1 to 360,000 units.
+    pub picture_units: u32,
+    /// The time of one slot, 1 to 360,000 units.
+    pub slot_units: u32,
+    /// The bytes that the client's buffer holds, 1 to 2^42.
+    pub buffer: u64,
+    /// The slots before the first picture is used, at most 10,000.
+    pub delay: u64,
+    /// The bytes that were used before slot 0.
+    pub played: u64,
+    /// The bytes that were sent before slot 0.
+    pub sent: u64,
+}
+
+/// Why pictures have no curves, in the order in which the faults are looked for.
+#[derive(Clone, Copy, PartialEq, Eq, Debug)]
+pub enum CurveFault {
+    /// There is no picture.
+    NoPictures,
+    /// The last picture is used after slot 999,999.
+    TooManySlots { slots: u64 },
+    /// Slot `slot` is the first that uses more than the buffer holds: `used` bytes. The greatest use of any slot is
+    /// `least`, so a buffer of that many bytes would do.
+    BufferTooSmall { slot: u64, used: u64, least: u64 },
+}
+
+/// Why `film_curves` gives no curves.
+#[derive(Clone, Copy, PartialEq, Eq, Debug)]
+pub enum CurveRefused {
+    /// The pictures have none.
+    Fault(CurveFault),
+    /// No memory was found.
+    NoMemory,
+}
+
+impl From<AllocError> for CurveRefused {
+    ghost use Rattle.wire_curve.specs.declared.film.CurveRefused.TheVariants.{NoMemory};
+
+    ghost from_gives = { λ _ refusal. refusal ≡ NoMemory };
+
+    fn from(_error: AllocError) -> Self {
+        CurveRefused::NoMemory
+    }
+}
+
+/// The curves of pictures of these sizes. They are sound, and refused exactly where a fault holds; memory may be wanting.
+///
+/// It reads the sizes once and takes time linear in the pictures and the slots.
+pub fn film_curves(alloc: Global, sizes: &[u64], timing: &Timing) -> Result<Curves, CurveRefused>
+    requires { IsWithinLimits sizes.now timing.now }
+    ensures accepted { OnOk result (IsAccepted sizes.now timing.now) }
+    ensures curves { IfOk result (λ curves. AreFilmCurves sizes.now timing.now curves) }
+    ensures sound { IfOk result (λ curves. IsSound curves.from curves.low.items curves.up.items) }
+    ensures refused { IfErr result (λ refusal. IsRefused sizes.now timing.now refusal) }
+{
+    let Some(last) = sizes.len().checked_sub(1) else {
+        return Err(CurveRefused::Fault(CurveFault::NoPictures));
+    };
+    let slots = due_slot(timing, last as u64) + 1;
+    if slots > MOST_SLOTS {
+        return Err(CurveRefused::Fault(CurveFault::TooManySlots { slots }));
+    }
+    let uses = uses_of_slots(alloc, sizes, timing, slots as usize)?;
+    if let Some(fault) = buffer_fault(&uses.in_slot, timing.buffer) {
+        return Err(CurveRefused::Fault(fault));
+    }
+    Ok(curves_of_uses(alloc, timing, &uses)?)
+}
+
+/// The slot in which a picture is used.
+fn due_slot(timing: &Timing, picture: u64) -> u64
+    requires some_slot_units { 1 ≤ timing.now.slot_units }
+    requires picture_units { timing.now.picture_units ≤ 360000 }
+    requires picture { picture < 4194304 }
+    requires delay { timing.now.delay ≤ 10000 }
+    ensures { result ≡ due timing.now picture }
+{
+    picture * u64::from(timing.picture_units) / u64::from(timing.slot_units) + timing.delay
+}
+
+/// What a film's pictures use, slot by slot.
+#[derive(Drop)]
+struct SlotUses {
+    /// The bytes used in each slot.
+    in_slot: Vec<u64>,
+    /// The bytes used in all, those of earlier plays among them.
+    total: u64,
+}
+
+/// Adds up the pictures of each slot, in one pass over the sizes.
+fn uses_of_slots(
+    alloc: Global,
+    sizes: &[u64],
+    timing: &Timing,
+    slots: usize,
+) -> Result<SlotUses, AllocError>
+    requires limits { IsWithinLimits sizes.now timing.now }
+    requires some_picture { 0 < length sizes.now }
+    requires slots { slots ≡ slot_count sizes.now timing.now }
+    ensures in_slot { IfOk result (λ uses. AreUses sizes.now timing.now uses.in_slot.items) }
+    ensures total { IfOk result (λ uses. uses.total ≡ total_of sizes.now timing.now) }
+{
+    let mut in_slot = vec![in alloc; 0u64; slots]?;
+    let mut total = timing.played;
+    for (picture, size) in sizes.iter().enumerate() {
+        let slot = due_slot(timing, picture as u64) as usize;
+        in_slot[slot] += *size;
+        total += *size;
+    }
+    Ok(SlotUses { in_slot, total })
+}
+
+/// The fault of a buffer that doesn't hold what some slot uses.
+fn buffer_fault(in_slot: &[u64], buffer: u64) -> Option<CurveFault>
+    ensures holds { IfNone result (All (λ used. used ≤ buffer) in_slot.now) }
+    ensures overfull { IfSome result (IsFaultOfUses in_slot.now buffer) }
+{
+    let slot = in_slot.iter().position(|used| *used > buffer)?;
+    let used = in_slot[slot];
+    let least = in_slot.iter().copied().max().unwrap_or(used);
+    Some(CurveFault::BufferTooSmall {
+        slot: slot as u64,
+        used,
+        least,
+    })
+}
+
+/// The curves of pictures that use so much in each slot.
+fn curves_of_uses(alloc: Global, timing: &Timing, uses: &SlotUses) -> Result<Curves, AllocError>
+    requires total { timing.now.played + sum uses.now.in_slot.items ≤ 2 ^ 42 }
+    requires buffer { timing.now.buffer ≤ 2 ^ 42 }
+    ensures { IfOk result (AreCurvesOfUses timing.now uses.now.in_slot.items uses.now.total) }
+{
+    let slots = uses.in_slot.len();
+    let mut low = Vec::with_capacity(alloc, slots)?;
+    let mut up = Vec::with_capacity(alloc, slots)?;
+    let mut used = timing.played;
+    for in_slot in &uses.in_slot {
+        up.push(uses.total.min(used + timing.buffer))?;
+        used += *in_slot;
+        low.push(timing.sent.max(used))?;
+    }
+    Ok(Curves {
+        from: timing.sent,
+        low,
+        up,
+    })
+}
