@@ -1,0 +1,4 @@
+pub mod Slots
+pub mod Feasible
+pub mod Plan
+pub mod Text

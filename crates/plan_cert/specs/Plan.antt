@@ -1,0 +1,18 @@
+use Rattle.std.specs.Prelude.{ℕ, ◌≡◌, ◌+◌, ◌^◌, ◌<◌, ◌≤◌, List, All, take, length, slice_index_or}
+use Rattle.plan_cert.specs.Slots.{total_slots, total_bytes}
+use Rattle.plan_cert.specs.declared.Segment.{Segment}
+
+-- The segments of a plan: none is empty, and all together are small.
+pub record IsPlan (segments : List Segment) : Type 0 where
+  pub no_empty : All (λ s. 1 ≤ s.slots) segments
+  pub few_slots : total_slots segments ≤ 1000000
+  pub few_bytes : total_bytes segments ≤ 2 ^ 42
+
+-- Slot `slot` is slot `passed` of this segment of the list, and the segments before it have `before` bytes.
+pub record IsPlace (segments : List Segment) (slot : ℕ) (segment : Segment) (passed before : ℕ) : Type 0 where
+  pub index : ℕ
+  pub inside : index < length segments
+  pub segment_is : segment ≡ slice_index_or segments index segment
+  pub within : passed < segment.slots
+  pub slot_is : slot ≡ total_slots (take index segments) + passed
+  pub before_is : before ≡ total_bytes (take index segments)

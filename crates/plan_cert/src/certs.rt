@@ -1,0 +1,56 @@
+ghost use Rattle.std.specs.Prelude.{◌≡◌, ◌++◌, IfOk, OnOk};
+ghost use Rattle.plan_cert.specs.Text.{cert_text, cert_head, segment_line};
+
+use crate::{Plan, Segment};
+use itoa::Buffer;
+use std::alloc::{AllocError, Global};
+use vod_base::NoMemory;
+
+/// The certificate of a plan: a line `smooth 1`, `slots` and `bytes` with the sums, one line `segment SLOTS BYTES` for each
+/// segment, and a line `end`. Each line ends with LF, and numbers are decimal.
+pub fn write_cert(alloc: Global, plan: &Plan) -> Result<Vec<u8>, NoMemory>
+    ensures { IfOk result (λ text. text.items ≡ cert_text plan.now) }
+{
+    match cert_bytes(alloc, plan) {
+        Ok(text) => Ok(text),
+        Err(_) => Err(NoMemory),
+    }
+}
+
+fn cert_bytes(alloc: Global, plan: &Plan) -> Result<Vec<u8>, AllocError>
+    ensures { IfOk result (λ text. text.items ≡ cert_text plan.now) }
+{
+    let mut text = head_bytes(alloc, plan.slots(), plan.bytes())?;
+    let segments = plan.segments();
+    for segment in segments {
+        push_segment(&mut text, *segment)?;
+    }
+    text.extend_from_slice(b"end\n")?;
+    Ok(text)
+}
+
+/// The three lines before the segments.
+fn head_bytes(alloc: Global, slots: u64, bytes: u64) -> Result<Vec<u8>, AllocError>
+    ensures { IfOk result (λ text. text.items ≡ cert_head slots bytes) }
+{
+    let mut buffer = Buffer::new();
+    let mut text = Vec::from_slice(alloc, b"smooth 1\nslots ")?;
+    text.extend_from_slice(buffer.format(slots).as_bytes())?;
+    text.extend_from_slice(b"\nbytes ")?;
+    text.extend_from_slice(buffer.format(bytes).as_bytes())?;
+    text.extend_from_slice(b"\n")?;
+    Ok(text)
+}
+
+/// Appends the line of one segment.
+fn push_segment(text: &mut Vec<u8>, segment: Segment) -> Result<(), AllocError>
+    ensures { OnOk result (text.new.items ≡ text.old.items ++ segment_line segment) }
+{
+    let mut buffer = Buffer::new();
+    text.extend_from_slice(b"segment ")?;
+    text.extend_from_slice(buffer.format(segment.slots).as_bytes())?;
+    text.extend_from_slice(b" ")?;
+    text.extend_from_slice(buffer.format(segment.bytes).as_bytes())?;
+    text.extend_from_slice(b"\n")?;
+    Ok(())
+}

@@ -1,0 +1,94 @@
+use super::*;
+use std::alloc::{AllocError, Global};
+use std::process::Abort;
+use std::test::Fail;
+
+// A plan of these segments, given as pairs of slots and bytes.
+fn plan_of(rt: &impl Abort, alloc: Global, pairs: &[(u64, u64)]) -> Result<Plan, AllocError> {
+    let mut segments = Vec::new(alloc);
+    for (slots, bytes) in pairs {
+        segments.push(Segment {
+            slots: *slots,
+            bytes: *bytes,
+        })?;
+    }
+    assert!(rt; Plan::is_allowed(segments.as_slice()));
+    Ok(Plan::new(segments))
+}
+
+// Plans worked out by hand: the segments, the slots, and the text.
+#[test]
+fn sends_and_writes(rt: HostRuntime) -> Result<(), Fail> {
+    let rows: [(&[(u64, u64)], &[u64], &str); 7] = [
+        (
+            &[(5, 50)],
+            &[10, 10, 10, 10, 10],
+            "smooth 1\nslots 5\nbytes 50\nsegment 5 50\nend\n",
+        ),
+        (
+            &[(2, 10), (2, 2)],
+            &[5, 5, 1, 1],
+            "smooth 1\nslots 4\nbytes 12\nsegment 2 10\nsegment 2 2\nend\n",
+        ),
+        (
+            &[(3, 7)],
+            &[2, 2, 3],
+            "smooth 1\nslots 3\nbytes 7\nsegment 3 7\nend\n",
+        ),
+        (
+            &[(5, 10), (1, 6)],
+            &[2, 2, 2, 2, 2, 6],
+            "smooth 1\nslots 6\nbytes 16\nsegment 5 10\nsegment 1 6\nend\n",
+        ),
+        (
+            &[(3, 9), (1, 1)],
+            &[3, 3, 3, 1],
+            "smooth 1\nslots 4\nbytes 10\nsegment 3 9\nsegment 1 1\nend\n",
+        ),
+        (
+            &[(2, 12)],
+            &[6, 6],
+            "smooth 1\nslots 2\nbytes 12\nsegment 2 12\nend\n",
+        ),
+        (&[], &[], "smooth 1\nslots 0\nbytes 0\nend\n"),
+    ];
+    for (pairs, want, text) in rows {
+        let plan = plan_of(&rt, rt.alloc(), pairs)?;
+        let mut sum = 0;
+        let mut slot = 0;
+        for bytes in want {
+            assert_eq!(rt; plan.slot_bytes(slot), *bytes, "slot {slot} of {text}");
+            assert!(rt; sum < 100 && *bytes < 100 && slot < 100);
+            sum += *bytes;
+            assert_eq!(rt; plan.sum_at(slot), sum, "through slot {slot} of {text}");
+            slot += 1;
+        }
+        assert_eq!(rt; plan.slot_bytes(slot), 0, "past the end of {text}");
+        assert_eq!(rt; plan.sum_at(u64::MAX), sum, "past the end of {text}");
+        assert_eq!(rt; (plan.slots(), plan.bytes()), (slot, sum), "sums of {text}");
+        let copy = plan.copy().map_err(|_| "no memory for a copy")?;
+        assert_eq!(rt; copy.segments(), plan.segments(), "copy of {text}");
+        let written = write_cert(rt.alloc(), &copy).map_err(|_| "no memory for a text")?;
+        assert_eq!(rt; written.as_slice(), text.as_bytes(), "text of {text}");
+    }
+    Ok(())
+}
+
+#[test]
+fn knows_plans(rt: HostRuntime) {
+    let most = Segment {
+        slots: MOST_SLOTS,
+        bytes: MOST_BYTES,
+    };
+    let one = Segment { slots: 1, bytes: 0 };
+    let byte = Segment {
+        slots: 999_999,
+        bytes: 4_398_046_511_105,
+    };
+    let none = Segment { slots: 0, bytes: 5 };
+    assert!(rt; Plan::is_allowed(&[]));
+    assert!(rt; Plan::is_allowed(&[most]));
+    assert!(rt; !Plan::is_allowed(&[most, one]));
+    assert!(rt; !Plan::is_allowed(&[one, byte]));
+    assert!(rt; !Plan::is_allowed(&[one, none]));
+}
