@@ -1,0 +1,180 @@
+-- A taut line goes over each whole threshold by no more than any list of numbers that keeps between the same curves.
+-- One induction over the segments. A segment is hot where its slope is above the threshold p, else cold. A change from hot to
+-- cold stands on the lower curve, one from cold to hot on the upper one.
+use Rattle.std.proofs.Common.{◌≡◌, ◌<◌, ◌≤◌, ◌+◌, ◌-◌, ◌*◌, ℕ, List, [], ◌∷◌, ◌++◌, inl, inr, length, take, drop, sum, arith, sym, ap, subst, ◌∙◌, add-zero}
+use Rattle.std.proofs.Math.Nat.{mul-le-mul_right}
+use Rattle.std.proofs.Math.Seq.{take-append-add}
+use Rattle.std.proofs.lemmas.Bool.{cases_lt}
+use Rattle.std.proofs.lemmas.List.{take-append-drop, length-take-le, length-drop}
+use Rattle.std.proofs.lemmas.List.Sums.{sum_by-cons, sum_by-append}
+use Rattle.plan_cert.specs.declared.Segment.{Segment}
+use Rattle.plan_cert.specs.Slots.{total_slots, total_bytes}
+use Rattle.cert_check.specs.Taut.{Bends, RunsTaut}
+use Rattle.cert_check.proofs.Over.{over, sum-le-over}
+use Rattle.cert_check.proofs.SlotExcess.{line_over}
+
+-- the numbers ys, in m-ths, keep the running sum between the curves from place k, where it is `held`
+pub record KeepsBetween (m : ℕ) (lo hi : ℕ → ℕ) (k held : ℕ) (ys : List ℕ) : Type 0 where
+  pub above : (j : ℕ) → j ≤ length ys → m * lo (k + j) ≤ held + sum (take j ys)
+  pub below : (j : ℕ) → j ≤ length ys → held + sum (take j ys) ≤ m * hi (k + j)
+
+-- taking j numbers of what is left behind n numbers
+sum-take-drop : (n j : ℕ) (ys : List ℕ) → n + j ≤ length ys → sum (take n ys) + sum (take j (drop n ys)) ≡ sum (take (n + j) ys)
+sum-take-drop n j ys fits =
+    let first : length (take n ys) ≡ n = length-take-le n ys (omega arith) in
+    let joined : take n ys ++ drop n ys ≡ ys = take-append-drop n ys in
+    let seam : take (length (take n ys) + j) (take n ys ++ drop n ys) ≡ take n ys ++ take j (drop n ys) = take-append-add (take n ys) (drop n ys) j in
+    let seam' : take (n + j) ys ≡ take n ys ++ take j (drop n ys) = ap (λ c. take (c + j) ys) (sym first) ∙ ap (λ zs. take (length (take n ys) + j) zs) (sym joined) ∙ seam in
+    sym (ap sum seam' ∙ sum_by-append (λ b. b) (take n ys) (take j (drop n ys)))
+
+-- what is left behind n numbers keeps between the curves from there
+pub keeps_on : (m : ℕ) (lo hi : ℕ → ℕ) (k held n : ℕ) (ys : List ℕ) → n ≤ length ys → KeepsBetween m lo hi k held ys →
+    KeepsBetween m lo hi (k + n) (held + sum (take n ys)) (drop n ys)
+keeps_on m lo hi k held n ys fits keeps = record {
+  above = λ j few.
+      let left : length (drop n ys) ≡ length ys - n = length-drop n ys in
+      let e : sum (take n ys) + sum (take j (drop n ys)) ≡ sum (take (n + j) ys) = sum-take-drop n j ys (omega arith) in
+      let place : k + (n + j) ≡ k + n + j = omega arith in
+      let h : m * lo (k + (n + j)) ≤ held + sum (take (n + j) ys) = keeps.above (n + j) (omega arith) in
+      let h' : m * lo (k + n + j) ≤ held + sum (take (n + j) ys) = subst (λ c. m * lo c ≤ held + sum (take (n + j) ys)) place h in
+      omega (arith, e, h');
+  below = λ j few.
+      let left : length (drop n ys) ≡ length ys - n = length-drop n ys in
+      let e : sum (take n ys) + sum (take j (drop n ys)) ≡ sum (take (n + j) ys) = sum-take-drop n j ys (omega arith) in
+      let place : k + (n + j) ≡ k + n + j = omega arith in
+      let h : held + sum (take (n + j) ys) ≤ m * hi (k + (n + j)) = keeps.below (n + j) (omega arith) in
+      let h' : held + sum (take (n + j) ys) ≤ m * hi (k + n + j) = subst (λ c. held + sum (take (n + j) ys) ≤ m * hi c) place h in
+      omega (arith, e, h');
+}
+
+-- the first segment's slope is above p, or at most p; a list without segments counts as both
+abbrev pub IsHot : ℕ → List Segment → Type 0
+IsHot p [] = Unit {0}
+IsHot p (s ∷ rest) = s.slots * p < s.bytes
+
+abbrev pub IsCold : ℕ → List Segment → Type 0
+IsCold p [] = Unit {0}
+IsCold p (s ∷ rest) = s.bytes ≤ s.slots * p
+
+-- what the induction carries: from place k, where the line is at height v and the running sum is `held`
+pub record Bounds (m p v held : ℕ) (segments : List Segment) (ys : List ℕ) : Type 0 where
+  pub hot : IsHot p segments → m * line_over p segments + m * v ≤ over (m * p) ys + held
+  pub cold : IsCold p segments → m * line_over p segments ≤ over (m * p) ys
+
+-- one hot segment of n slots and b bytes: `a` are the numbers of its slots, `rest_over` and `rest_line` what comes behind it
+hot_step : (m p v held n b sum_a over_a rest_over rest_line : ℕ) → n * p < b → sum_a ≤ over_a + n * (m * p) →
+    m * rest_line + m * (v + b) ≤ rest_over + (held + sum_a) → m * ((b - n * p) + rest_line) + m * v ≤ over_a + rest_over + held
+hot_step m p v held n b sum_a over_a rest_over rest_line is_hot few rest =
+    let d = b - n * p in
+    let split : b ≡ n * p + d = omega arith in
+    let all : m * b ≡ m * (n * p + d) = ap (λ x. m * x) split in
+    omega (arith, all, few, rest)
+
+-- a segment above p that is followed by one at most p doesn't rise
+no_rise : (p n b n' b' : ℕ) → n * p < b → b' ≤ n' * p → b * n' < b' * n → ⊥
+no_rise p n b n' b' is_hot is_cold rises =
+    let one : n * p * n' ≤ b * n' = mul-le-mul_right n' (omega arith) in
+    let two : b' * n ≤ n' * p * n = mul-le-mul_right n is_cold in
+    omega (arith, one, two, rises)
+
+-- a segment at most p that is followed by one above p doesn't fall
+no_fall : (p n b n' b' : ℕ) → b ≤ n * p → n' * p < b' → b' * n < b * n' → ⊥
+no_fall p n b n' b' is_cold is_hot falls =
+    let one : n' * p * n ≤ b' * n = mul-le-mul_right n (omega arith) in
+    let two : b * n' ≤ n * p * n' = mul-le-mul_right n' is_cold in
+    omega (arith, one, two, falls)
+
+-- what comes behind a hot segment, in the form that `hot_step` takes
+behind_hot : (m p : ℕ) (lo hi : ℕ → ℕ) (k v held : ℕ) (s : Segment) (rest : List Segment) (zs : List ℕ) →
+    s.slots * p < s.bytes → Bends lo hi k v s rest → KeepsBetween m lo hi k held zs → Bounds m p v held rest zs →
+    m * line_over p rest + m * v ≤ over (m * p) zs + held
+behind_hot m p lo hi k v held s [] zs is_hot bend keeps bounds = bounds.hot tt
+behind_hot m p lo hi k v held s (next ∷ others) zs is_hot bend keeps bounds =
+    elim (cases_lt (next.slots * p) next.bytes) [
+      | inl next_hot ↦ bounds.hot next_hot
+      | inr next_cold ↦ elim bend [
+        | inl rise ↦ absurd (no_rise p s.slots s.bytes next.slots next.bytes is_hot next_cold rise.0)
+        | inr fall ↦ (
+            let least : m * lo (k + 0) ≤ held + 0 = keeps.above 0 (omega arith) in
+            let here : m * lo (k + 0) ≡ m * lo k = ap (λ c. m * lo c) (add-zero k) in
+            let line : m * line_over p (next ∷ others) ≤ over (m * p) zs = bounds.cold next_cold in
+            let height : m * v ≡ m * lo k = ap (λ x. m * x) fall.1 in
+            omega (arith, least, here, line, height)
+            )
+      ]
+    ]
+
+-- what comes behind a cold segment
+behind_cold : (m p : ℕ) (lo hi : ℕ → ℕ) (k v held : ℕ) (s : Segment) (rest : List Segment) (zs : List ℕ) →
+    s.bytes ≤ s.slots * p → Bends lo hi k v s rest → KeepsBetween m lo hi k held zs → Bounds m p v held rest zs →
+    m * line_over p rest ≤ over (m * p) zs
+behind_cold m p lo hi k v held s [] zs is_cold bend keeps bounds = bounds.cold tt
+behind_cold m p lo hi k v held s (next ∷ others) zs is_cold bend keeps bounds =
+    elim (cases_lt (next.slots * p) next.bytes) [
+      | inr next_cold ↦ bounds.cold next_cold
+      | inl next_hot ↦ elim bend [
+        | inr fall ↦ absurd (no_fall p s.slots s.bytes next.slots next.bytes is_cold next_hot fall.0)
+        | inl rise ↦ (
+            let most : held + 0 ≤ m * hi (k + 0) = keeps.below 0 (omega arith) in
+            let here : m * hi (k + 0) ≡ m * hi k = ap (λ c. m * hi c) (add-zero k) in
+            let line : m * line_over p (next ∷ others) + m * v ≤ over (m * p) zs + held = bounds.hot next_hot in
+            let height : m * v ≡ m * hi k = ap (λ x. m * x) rise.1 in
+            omega (arith, most, here, line, height)
+            )
+      ]
+    ]
+
+-- the induction: the line ends on both curves
+pub bounds : (m p : ℕ) (lo hi : ℕ → ℕ) (k v held : ℕ) (segments : List Segment) (ys : List ℕ) →
+    RunsTaut lo hi k v segments → lo (k + total_slots segments) ≡ v + total_bytes segments → length ys ≡ total_slots segments →
+    KeepsBetween m lo hi k held ys → Bounds m p v held segments ys
+bounds m p lo hi k v held [] ys runs ends same keeps = record {
+  hot = λ _.
+      let least : m * lo (k + 0) ≤ held + 0 = keeps.above 0 (omega arith) in
+      let at : m * lo (k + 0) ≡ m * (v + 0) = ap (λ x. m * x) ends in
+      omega (arith, least, at);
+  cold = λ _. omega arith;
+}
+bounds m p lo hi k v held (s ∷ rest) ys runs ends same keeps =
+    let slots : total_slots (s ∷ rest) ≡ s.slots + total_slots rest = sum_by-cons (λ x. x.slots) s rest in
+    let bytes : total_bytes (s ∷ rest) ≡ s.bytes + total_bytes rest = sum_by-cons (λ x. x.bytes) s rest in
+    let line : line_over p (s ∷ rest) ≡ (s.bytes - s.slots * p) + line_over p rest = sum_by-cons (λ x. x.bytes - x.slots * p) s rest in
+    let fits : s.slots ≤ length ys = omega (arith, same, slots) in
+    let left : length (drop s.slots ys) ≡ length ys - s.slots = length-drop s.slots ys in
+    let same' : length (drop s.slots ys) ≡ total_slots rest = omega (arith, left, same, slots) in
+    let keeps' = keeps_on m lo hi k held s.slots ys fits keeps in
+    let place : k + total_slots (s ∷ rest) ≡ k + s.slots + total_slots rest = omega (arith, slots) in
+    let ends' : lo (k + s.slots + total_slots rest) ≡ v + s.bytes + total_bytes rest = ap lo (sym place) ∙ ends ∙ omega (arith, bytes) in
+    let rest' : Bounds m p (v + s.bytes) (held + sum (take s.slots ys)) rest (drop s.slots ys) =
+    bounds m p lo hi (k + s.slots) (v + s.bytes) (held + sum (take s.slots ys)) rest (drop s.slots ys) runs.2 ends' same' keeps' in
+    let joined : over (m * p) (take s.slots ys ++ drop s.slots ys) ≡ over (m * p) (take s.slots ys) + over (m * p) (drop s.slots ys) =
+    sum_by-append (λ b. b - m * p) (take s.slots ys) (drop s.slots ys) in
+    let whole : over (m * p) ys ≡ over (m * p) (take s.slots ys) + over (m * p) (drop s.slots ys) = ap (over (m * p)) (sym (take-append-drop s.slots ys)) ∙ joined in
+    let count : length (take s.slots ys) ≡ s.slots = length-take-le s.slots ys fits in
+    let few : sum (take s.slots ys) ≤ over (m * p) (take s.slots ys) + length (take s.slots ys) * (m * p) = sum-le-over (m * p) (take s.slots ys) in
+    let few' : sum (take s.slots ys) ≤ over (m * p) (take s.slots ys) + s.slots * (m * p) = subst (λ c. sum (take s.slots ys) ≤ over (m * p) (take s.slots ys) + c * (m * p)) count few in
+    record {
+      hot = λ is_hot. rw (line, whole) (hot_step m p v held s.slots s.bytes (sum (take s.slots ys)) (over (m * p) (take s.slots ys)) (over (m * p) (drop s.slots ys)) (line_over p rest) is_hot few'
+          (behind_hot m p lo hi (k + s.slots) (v + s.bytes) (held + sum (take s.slots ys)) s rest (drop s.slots ys) is_hot runs.1 keeps' rest'));
+      cold = λ is_cold.
+          let behind : m * line_over p rest ≤ over (m * p) (drop s.slots ys) = behind_cold m p lo hi (k + s.slots) (v + s.bytes) (held + sum (take s.slots ys)) s rest (drop s.slots ys) is_cold runs.1 keeps' rest' in
+          let none : s.bytes - s.slots * p ≡ 0 = omega arith in
+          rw (line, whole, none) (omega (arith, behind));
+    }
+
+-- from a place where the curves meet, or where the first segment is cold, the line goes over p by no more than ys
+pub least : (m p : ℕ) (lo hi : ℕ → ℕ) (v : ℕ) (segments : List Segment) (ys : List ℕ) →
+    RunsTaut lo hi 0 v segments → lo (total_slots segments) ≡ v + total_bytes segments → length ys ≡ total_slots segments →
+    KeepsBetween m lo hi 0 (m * v) ys → m * line_over p segments ≤ over (m * p) ys
+least m p lo hi v segments ys runs ends same keeps =
+    let ends' : lo (0 + total_slots segments) ≡ v + total_bytes segments = subst (λ c. lo c ≡ v + total_bytes segments) (omega arith) ends in
+    let both : Bounds m p v (m * v) segments ys = bounds m p lo hi 0 v (m * v) segments ys runs ends' same keeps in
+    from_both segments both
+  where
+    from_both : (segs : List Segment) → Bounds m p v (m * v) segs ys → m * line_over p segs ≤ over (m * p) ys
+    from_both [] both = both.cold tt
+    from_both (s ∷ rest) both =
+        elim (cases_lt (s.slots * p) s.bytes) [
+          | inl is_hot ↦ (let h : m * line_over p (s ∷ rest) + m * v ≤ over (m * p) ys + m * v = both.hot is_hot in omega (arith, h))
+          | inr is_cold ↦ both.cold is_cold
+        ]

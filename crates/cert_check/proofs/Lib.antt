@@ -1,0 +1,13 @@
+pub mod Over
+pub mod SlotExcess
+pub mod LeastExcess
+pub mod Unique
+pub mod OneList
+pub mod LineKeeps
+pub mod LineAt
+pub mod Outside
+pub mod TautForms
+pub mod BestProof
+pub mod Turns
+pub mod Walking
+pub mod Naming

@@ -1,0 +1,86 @@
+ghost use Rattle.std.specs.Prelude.{ℕ, ◌≡◌, ◌+◌, ◌↔◌, IsTrue, MatchOption};
+ghost use Rattle.slope_frac.specs.Order.{IsBelow, IsLevel};
+ghost use Rattle.cert_check.specs.Line.{slope_of};
+ghost use Rattle.cert_check.specs.First.{IsFirst};
+ghost use Rattle.cert_check.specs.Fault.{IsEqualAt, IsRiseOffUpper, IsFallOffLower};
+ghost use Rattle.cert_check.specs.Whole.{IsWhole};
+
+use plan_cert::Segment;
+use slope_frac::{Slope, compare};
+use wire_curve::Curves;
+
+/// The slope of a segment.
+fn slope(segment: Segment) -> Slope
+    ensures { result ≡ slope_of segment }
+{
+    Slope {
+        bytes: segment.bytes,
+        slots: segment.slots,
+    }
+}
+
+/// Whether the first slope is less than the second.
+fn rises(before: Segment, after: Segment) -> bool
+    ensures { IsTrue result ↔ IsBelow (slope_of before) (slope_of after) }
+{
+    compare(slope(before), slope(after)).is_lt()
+}
+
+/// Whether the slopes are equal.
+fn stays_level(before: Segment, after: Segment) -> bool
+    ensures { IsTrue result ↔ IsLevel (slope_of before) (slope_of after) }
+{
+    compare(slope(before), slope(after)).is_eq()
+}
+
+/// The first segment that has the slope of the next one.
+pub fn first_equal(segments: &[Segment]) -> Option<u64>
+    ensures { MatchOption result ((i : ℕ) → ¬ IsEqualAt segments.now i) (IsFirst (IsEqualAt segments.now)) }
+{
+    for i in 0..segments.len().saturating_sub(1) {
+        if stays_level(segments[i], segments[i + 1]) {
+            return Some(i as u64);
+        }
+    }
+    None
+}
+
+/// The first segment after which the slope rises off the upper curve.
+pub fn first_rise_off(curves: &Curves, segments: &[Segment]) -> Option<u64>
+    requires { IsWhole curves.now.from curves.now.low.items curves.now.up.items segments.now }
+    ensures { MatchOption result ((i : ℕ) → ¬ IsRiseOffUpper curves.now.from curves.now.up.items segments.now i)
+        (IsFirst (IsRiseOffUpper curves.now.from curves.now.up.items segments.now)) }
+{
+    let up = curves.up.as_slice();
+    let mut place = 0;
+    let mut height = curves.from;
+    for i in 0..segments.len().saturating_sub(1) {
+        place += segments[i].slots as usize;
+        height += segments[i].bytes;
+        let off = height != up[place - 1];
+        if off && rises(segments[i], segments[i + 1]) {
+            return Some(i as u64);
+        }
+    }
+    None
+}
+
+/// The first segment after which the slope falls off the lower curve.
+pub fn first_fall_off(curves: &Curves, segments: &[Segment]) -> Option<u64>
+    requires { IsWhole curves.now.from curves.now.low.items curves.now.up.items segments.now }
+    ensures { MatchOption result ((i : ℕ) → ¬ IsFallOffLower curves.now.from curves.now.low.items segments.now i)
+        (IsFirst (IsFallOffLower curves.now.from curves.now.low.items segments.now)) }
+{
+    let low = curves.low.as_slice();
+    let mut place = 0;
+    let mut height = curves.from;
+    for i in 0..segments.len().saturating_sub(1) {
+        place += segments[i].slots as usize;
+        height += segments[i].bytes;
+        let off = height != low[place - 1];
+        if off && rises(segments[i + 1], segments[i]) {
+            return Some(i as u64);
+        }
+    }
+    None
+}

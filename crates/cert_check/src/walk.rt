@@ -1,0 +1,89 @@
+ghost use Rattle.std.specs.Prelude.{ℕ, ◌≡◌, ◌+◌, ◌*◌, ◌^◌, ◌<◌, ◌≤◌, length};
+ghost use Rattle.cert_check.specs.Whole.{IsWhole, next_walk, Leaves};
+ghost use Rattle.cert_check.specs.Line.{segment_at};
+
+use plan_cert::Segment;
+use wire_curve::Curves;
+
+/// Where the exact line first leaves the curves.
+#[derive(Clone, Copy)]
+pub enum Outside {
+    /// It is below the lower curve at the end of this slot.
+    Below(u64),
+    /// It is nowhere below the lower curve, and above the upper one at the end of this slot.
+    Above(u64),
+    /// Nowhere.
+    Nowhere,
+}
+
+/// A walk along the line: `passed` slots into segment `index`, which begins at `height`.
+#[derive(Clone, Copy)]
+struct Walk {
+    index: usize,
+    passed: u64,
+    height: u64,
+}
+
+/// One slot further.
+fn next(walk: Walk, segments: &[Segment]) -> Walk
+    requires inside { walk.index < length segments.now }
+    requires more { walk.passed ≡ (segment_at segments.now walk.index).slots → walk.index + 1 < length segments.now }
+    requires within { walk.passed ≤ (segment_at segments.now walk.index).slots }
+    requires fits { walk.height + (segment_at segments.now walk.index).bytes < 2 ^ 64 }
+    ensures { result ≡ next_walk segments.now walk }
+{
+    let segment = segments[walk.index];
+    if walk.passed == segment.slots {
+        Walk {
+            index: walk.index + 1,
+            passed: 1,
+            height: walk.height + segment.bytes,
+        }
+    } else {
+        Walk {
+            index: walk.index,
+            passed: walk.passed + 1,
+            height: walk.height,
+        }
+    }
+}
+
+/// The exact height of the line, times the slots of the segment.
+fn scaled_height(walk: Walk, segment: Segment) -> u128
+    requires within { walk.passed ≤ segment.slots }
+    requires few { segment.slots ≤ 1000000 }
+    ensures { result ≡ walk.height * segment.slots + walk.passed * segment.bytes }
+{
+    u128::from(walk.height) * u128::from(segment.slots)
+        + u128::from(walk.passed) * u128::from(segment.bytes)
+}
+
+/// Where the exact line first leaves the curves, by one pass over the slots.
+pub fn first_outside(curves: &Curves, segments: &[Segment]) -> Outside
+    requires { IsWhole curves.now.from curves.now.low.items curves.now.up.items segments.now }
+    ensures { Leaves curves.now.from curves.now.low.items curves.now.up.items segments.now result }
+{
+    let low = curves.low.as_slice();
+    let up = curves.up.as_slice();
+    let mut walk = Walk {
+        index: 0,
+        passed: 0,
+        height: curves.from,
+    };
+    let mut above = None;
+    for t in 0..low.len() {
+        walk = next(walk, segments);
+        let segment = segments[walk.index];
+        let height = scaled_height(walk, segment);
+        if height < u128::from(low[t]) * u128::from(segment.slots) {
+            return Outside::Below(t as u64);
+        }
+        if above.is_none() && height > u128::from(up[t]) * u128::from(segment.slots) {
+            above = Some(t as u64);
+        }
+    }
+    match above {
+        Some(t) => Outside::Above(t),
+        None => Outside::Nowhere,
+    }
+}
