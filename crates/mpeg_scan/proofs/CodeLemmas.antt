@@ -1,0 +1,51 @@
+-- What a byte more makes of the prefix at the end, of the latest text, and of the codes.
+use Rattle.std.proofs.Common.{ℕ, suc, zero, Bool, true, false, not, cond, eqb, ltb, ◌&&◌, ◌+◌, ◌-◌, ◌<◌, ◌≤◌, ◌≡◌, ◌≢◌, List, [], ◌∷◌, ◌++◌, length, take, set, get_or, sym, ◌∙◌, ap, refl, subst, arith}
+use Rattle.std.proofs.lemmas.List.{take_more_set, length-take-le}
+use Rattle.std.proofs.lemmas.Bool.{false≢true, eqb-true, lt-ltb, le-ltb}
+use Rattle.mpeg_scan.specs.declared.codes.Code.{Code}
+use Rattle.mpeg_scan.specs.declared.codes.Prefix.{Prefix}
+use Rattle.mpeg_scan.specs.declared.codes.Prefix.TheVariants.{Nothing, Zero, Zeros, Whole}
+use Rattle.mpeg_scan.specs.Texts.{noted}
+use Rattle.mpeg_scan.specs.Codes.{read, back, matched, after_one, after_zero, next_prefix, is_whole, note, note_latest, codes_of}
+
+-- p1, p0: the byte is 1, 0; a1, a0: so is the one before it; z1, z2: the two before that are 0
+table : (p1 p0 a1 a0 z1 z2 : Bool) → (p1 ≡ true → p0 ≡ false) → (a1 ≡ true → a0 ≡ false) → cond (p1 && (a0 && z1)) Whole (cond (p0 && a0) Zeros (cond p0 Zero Nothing)) ≡ cond p1 (after_one (cond (a1 && (z1 && z2)) Whole (cond (a0 && z1) Zeros (cond a0 Zero Nothing)))) (cond p0 (after_zero (cond (a1 && (z1 && z2)) Whole (cond (a0 && z1) Zeros (cond a0 Zero Nothing)))) Nothing)
+table true true a1 a0 z1 z2 p a = absurd (false≢true (sym (p refl)))
+table true false true true z1 z2 p a = absurd (false≢true (sym (a refl)))
+table true false true false true true p a = refl
+table true false true false true false p a = refl
+table true false true false false z2 p a = refl
+table true false false true true z2 p a = refl
+table true false false true false z2 p a = refl
+table true false false false z1 z2 p a = refl
+table false true true true z1 z2 p a = absurd (false≢true (sym (a refl)))
+table false true true false true true p a = refl
+table false true true false true false p a = refl
+table false true true false false z2 p a = refl
+table false true false true true z2 p a = refl
+table false true false true false z2 p a = refl
+table false true false false z1 z2 p a = refl
+table false false a1 a0 z1 z2 p a = refl
+
+apart : (x : ℕ) → eqb x 1 ≡ true → eqb x 0 ≡ false
+apart x e = ap (λ n. eqb n 0) (eqb-true x 1 e)
+
+pub matched-more : (x : ℕ) (r : List ℕ) → matched (x ∷ r) ≡ next_prefix (matched r) x
+unfolding matched
+matched-more x r =
+    table (eqb x 1) (eqb x 0) (eqb (back r 0) 1) (eqb (back r 0) 0) (eqb (back r 1) 0) (eqb (back r 2) 0) (apart x) (apart (back r 0))
+
+noted-by : (b : Bool) (text : List ℕ) (x : ℕ) → ltb (length text) 5 ≡ b → noted text x ≡ cond b (text ++ x ∷ []) text
+unfolding noted
+noted-by b text x e = ap (λ v. cond v (text ++ x ∷ []) text) e
+
+-- a text with room, and a full one
+pub noted-room : (bytes : List ℕ) (n x : ℕ) → n < 5 → length bytes ≡ 5 → take (n + 1) (set bytes n x) ≡ noted (take n bytes) x
+noted-room bytes n x room five =
+    let within : n < length bytes = omega arith in
+    let held : n ≤ length bytes = omega arith in
+    let some : ltb (length (take n bytes)) 5 ≡ true = lt-ltb (length (take n bytes)) 5 (omega (arith, length-take-le n bytes held)) in
+    take_more_set bytes n x within ∙ sym (noted-by true (take n bytes) x some)
+
+pub noted-full : (text : List ℕ) (x : ℕ) → 5 ≤ length text → text ≡ noted text x
+noted-full text x full = sym (noted-by false text x (le-ltb (length text) 5 full))

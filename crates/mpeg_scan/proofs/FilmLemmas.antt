@@ -1,0 +1,63 @@
+-- A whole film fed at once.
+use Rattle.std.proofs.Common.{ℕ, suc, zero, Bool, true, false, cond, ltb, ◌+◌, ◌^◌, ◌<◌, ◌≤◌, ◌≡◌, List, [], ◌∷◌, ◌++◌, Option, Some, None, length, sym, ◌∙◌, ap, refl, subst, inl, inr, arith}
+use Rattle.std.proofs.lemmas.Bool.{ne_eqb, le-ltb, lt-ltb}
+use Rattle.mpeg_scan.specs.declared.faults.FilmFault.{FilmFault}
+use Rattle.mpeg_scan.specs.declared.faults.FilmFault.TheVariants.{Empty, TooLong}
+use Rattle.mpeg_scan.specs.declared.units.Unit.{Unit as PictureUnit}
+use Rattle.mpeg_scan.specs.Codes.{read, codes_of}
+use Rattle.mpeg_scan.specs.Faults.{otherwise, first_fault, end_fault, refusal_of}
+use Rattle.mpeg_scan.specs.Calls.{Call, head_call, slice_call, unit_call, told}
+use Rattle.mpeg_scan.specs.Films.{units_in, slices_in, refusal}
+use Rattle.mpeg_scan.proofs.StepLemmas.{codes-none}
+
+pub length-read : (xs r : List ℕ) → length (read r xs) ≡ length r + length xs
+length-read [] r = omega arith
+length-read (x ∷ xs) r = length-read xs (x ∷ r) ∙ omega arith
+
+pub units_in-append : (a b : List Call) → units_in (a ++ b) ≡ units_in a ++ units_in b
+units_in-append [] b = refl
+units_in-append (head_call from to ∷ a) b = units_in-append a b
+units_in-append (slice_call from to ∷ a) b = units_in-append a b
+units_in-append (unit_call unit ∷ a) b = ap (λ (l : List PictureUnit). unit ∷ l) (units_in-append a b)
+
+pub slices_in-append : (a b : List Call) → slices_in (a ++ b) ≡ slices_in a ++ slices_in b
+slices_in-append [] b = refl
+slices_in-append (head_call from to ∷ a) b = slices_in-append a b
+slices_in-append (slice_call from to ∷ a) b = ap (λ (l : List ℕ). from ∷ l) (slices_in-append a b)
+slices_in-append (unit_call unit ∷ a) b = slices_in-append a b
+
+-- nothing is told of no bytes
+pub told-none : told (codes_of []) ≡ []
+unfolding told
+told-none = ap told codes-none
+
+first_fault-none : first_fault (codes_of []) ≡ None
+unfolding first_fault
+first_fault-none = ap first_fault codes-none
+
+-- a refusal at a code is the film's
+refusal-some : (r : List ℕ) (f : FilmFault) → 0 < length r → length r ≤ 2 ^ 40 → first_fault (codes_of r) ≡ Some f → refusal_of r ≡ Some f
+unfolding refusal_of
+refusal-some r f some short is =
+    ap (λ b. cond b (Some Empty) (cond (ltb (2 ^ 40) (length r)) (Some TooLong) (otherwise (first_fault (codes_of r)) (end_fault (codes_of r) (length r))))) (ne_eqb (length r) 0 (λ none. absurd (omega arith)))
+    ∙ ap (λ b. cond b (Some TooLong) (otherwise (first_fault (codes_of r)) (end_fault (codes_of r) (length r)))) (le-ltb (2 ^ 40) (length r) short)
+    ∙ ap (λ (o : Option FilmFault). otherwise o (end_fault (codes_of r) (length r))) is
+
+apart : (f : FilmFault) → first_fault (codes_of []) ≡ Some f → ⊥
+apart f is = let none = first_fault-none in cc
+
+refusal-at : (r : List ℕ) (f : FilmFault) → length r ≤ 2 ^ 40 → first_fault (codes_of r) ≡ Some f → refusal_of r ≡ Some f
+refusal-at [] f short is = absurd (apart f is)
+refusal-at (x ∷ r) f short is = refusal-some (x ∷ r) f (omega arith) short is
+
+pub refusal-at_code : (bytes : List ℕ) (f : FilmFault) → length bytes ≤ 2 ^ 40 → first_fault (codes_of (read [] bytes)) ≡ Some f → refusal bytes ≡ Some f
+refusal-at_code bytes f short is = refusal-at (read [] bytes) f (omega (arith, length-read bytes [])) is
+
+too_long : (r : List ℕ) → 2 ^ 40 < length r → refusal_of r ≡ Some TooLong
+unfolding refusal_of
+too_long r long =
+    ap (λ b. cond b (Some Empty) (cond (ltb (2 ^ 40) (length r)) (Some TooLong) (otherwise (first_fault (codes_of r)) (end_fault (codes_of r) (length r))))) (ne_eqb (length r) 0 (λ none. absurd (omega arith)))
+    ∙ ap (λ b. cond b (Some TooLong) (otherwise (first_fault (codes_of r)) (end_fault (codes_of r) (length r)))) (lt-ltb (2 ^ 40) (length r) long)
+
+pub refusal-too_long : (bytes : List ℕ) → 2 ^ 40 < length bytes → refusal bytes ≡ Some TooLong
+refusal-too_long bytes long = too_long (read [] bytes) (omega (arith, length-read bytes []))

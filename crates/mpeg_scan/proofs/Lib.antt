@@ -1,0 +1,4 @@
+pub mod CodeLemmas
+pub mod StepLemmas
+pub mod ReadLemmas
+pub mod FilmLemmas

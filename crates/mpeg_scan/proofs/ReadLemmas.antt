@@ -1,0 +1,118 @@
+-- Bytes read one after another, runs that change nothing but the place, and what stays refused.
+use Rattle.std.proofs.Common.{ℕ, suc, zero, Bool, true, false, not, cond, eqb, ltb, ◌+◌, ◌-◌, ◌^◌, ◌<◌, ◌≤◌, ◌≡◌, ◌≢◌, List, [], ◌∷◌, ◌++◌, Option, Some, None, length, take, drop, get_or, sym, ◌∙◌, ap, refl, subst, inl, inr, arith}
+use Rattle.std.proofs.lemmas.Bool.{cases_Bool, ltb-false, not-true, ne_eqb}
+use Rattle.std.proofs.lemmas.List.{take_more, take_rest, get_or-take, length-take-le, length-drop, take-append-drop}
+use Rattle.std.proofs.Math.Seq.{take-add}
+use Rattle.mpeg_scan.specs.declared.codes.Code.{Code}
+use Rattle.mpeg_scan.specs.declared.codes.Prefix.{Prefix}
+use Rattle.mpeg_scan.specs.declared.codes.Prefix.TheVariants.{Nothing, Zero, Zeros, Whole}
+use Rattle.mpeg_scan.specs.declared.faults.FilmFault.{FilmFault}
+use Rattle.mpeg_scan.specs.declared.scanner.Scanner.{Scanner}
+use Rattle.mpeg_scan.specs.Texts.{noted}
+use Rattle.mpeg_scan.specs.Codes.{read, matched, next_prefix, is_whole, note, note_latest, codes_of}
+use Rattle.mpeg_scan.specs.Faults.{otherwise, fault_at, first_fault}
+use Rattle.mpeg_scan.specs.Calls.{Call, told}
+use Rattle.mpeg_scan.specs.Steps.{latest_of, older_of}
+use Rattle.mpeg_scan.specs.Words.{tally_of}
+use Rattle.mpeg_scan.specs.Scans.{Fed, skipped_scan, is_text_full}
+use Rattle.mpeg_scan.proofs.CodeLemmas.{matched-more, noted-full}
+use Rattle.mpeg_scan.proofs.StepLemmas.{codes-plain, codes-code, first_fault-note}
+
+pub read-append : (r xs ys : List ℕ) → read r (xs ++ ys) ≡ read (read r xs) ys
+read-append r [] ys = refl
+read-append r (x ∷ xs) ys = read-append (x ∷ r) xs ys
+
+-- a run of a piece after its front, and one byte after it
+pub read-run : (r piece : List ℕ) (a n : ℕ) → read (read r (take a piece)) (take n (take (length piece - a) (drop a piece))) ≡ read r (take (a + n) piece)
+read-run r piece a n =
+    ap (λ (l : List ℕ). read (read r (take a piece)) (take n l)) (take_rest piece a)
+    ∙ sym (read-append r (take a piece) (take n (drop a piece))) ∙ ap (read r) (sym (take-add a n piece))
+
+pub read-byte : (r piece : List ℕ) (b : ℕ) → b < length piece → get_or piece b 0 ∷ read r (take b piece) ≡ read r (take (b + 1) piece)
+read-byte r piece b within =
+    sym (read-append r (take b piece) (get_or piece b 0 ∷ [])) ∙ ap (read r) (sym (take_more piece b 0 within))
+
+pub read-rest : (r piece : List ℕ) (a : ℕ) → read (read r (take a piece)) (drop a piece) ≡ read r piece
+read-rest r piece a = sym (read-append r (take a piece) (drop a piece)) ∙ ap (read r) (take-append-drop a piece)
+
+-- ---- runs
+
+note-full : (past : List Code) (x : ℕ) → is_text_full (latest_of past) ≡ true → note_latest past x ≡ past
+note-full [] x full = refl
+note-full (c ∷ past) x full =
+    let room : 5 ≤ length c.text = ltb-false (length c.text) 5 (not-true (ltb (length c.text) 5) full) in
+    ap (λ (t : List ℕ). record c { text = t } ∷ past) (sym (noted-full c.text x room))
+
+next-other : (b : Bool) (x : ℕ) → (x ≡ 0 → ⊥) → eqb x 1 ≡ b → next_prefix Nothing x ≡ Nothing
+next-other true x other is = ap (λ t. cond t Nothing (cond (eqb x 0) Zero Nothing)) is
+next-other false x other is =
+    ap (λ t. cond t Nothing (cond (eqb x 0) Zero Nothing)) is ∙ ap (λ t. cond t Zero Nothing) (ne_eqb x 0 other)
+
+record Quiet (r q : List ℕ) (n : ℕ) : Type 0 where
+  same : codes_of q ≡ codes_of r
+  none : matched q ≡ Nothing
+  more : length q ≡ length r + n
+
+quiet-run : (xs r : List ℕ) → ((k : ℕ) → k < length xs → get_or xs k 0 ≡ 0 → ⊥) → matched r ≡ Nothing → is_text_full (latest_of (codes_of r)) ≡ true → Quiet r (read r xs) (length xs)
+quiet-run [] r nonzero none full = record { same = refl; none = none; more = omega arith }
+quiet-run (x ∷ xs) r nonzero none full =
+    let same : codes_of (x ∷ r) ≡ codes_of r = codes-plain x r (ap is_whole none) ∙ note-full (codes_of r) x full in
+    let still : matched (x ∷ r) ≡ Nothing = matched-more x r ∙ ap (λ p. next_prefix p x) none ∙ next-other (eqb x 1) x (nonzero 0 (omega arith)) refl in
+    let rest = quiet-run xs (x ∷ r) (λ k within. nonzero (suc k) (omega arith)) still (ap (λ (l : List Code). is_text_full (latest_of l)) same ∙ full) in
+    record { same = rest.same ∙ same; none = rest.none; more = omega (arith, rest.more) }
+
+front-nonzero : (xs : List ℕ) (n : ℕ) → n ≤ length xs → ((k : ℕ) → k < n → get_or xs k 0 ≡ 0 → ⊥) → (k : ℕ) → k < length (take n xs) → get_or (take n xs) k 0 ≡ 0 → ⊥
+front-nonzero xs n bound nonzero k within zero_there =
+    let below : k < n = omega (arith, length-take-le n xs bound) in
+    nonzero k below (sym (get_or-take n xs k 0 below) ∙ zero_there)
+
+skipped : (s : Scanner) (r xs : List ℕ) (n : ℕ) → n ≤ length xs → ((k : ℕ) → k < n → get_or xs k 0 ≡ 0 → ⊥) → (s.prefix ≡ Nothing) × (is_text_full s.latest ≡ true) → Fed s r → Quiet r (read r (take n xs)) (length (take n xs))
+skipped s r xs n bound nonzero quiet kept =
+    quiet-run (take n xs) r (front-nonzero xs n bound nonzero) (sym kept.prefix ∙ quiet.0)
+    (sym (ap is_text_full kept.latest) ∙ quiet.1)
+
+pub skipped-same : (s : Scanner) (r xs : List ℕ) (n : ℕ) → n ≤ length xs → ((k : ℕ) → k < n → get_or xs k 0 ≡ 0 → ⊥) → (s.prefix ≡ Nothing) × (is_text_full s.latest ≡ true) → Fed s r → codes_of (read r (take n xs)) ≡ codes_of r
+skipped-same s r xs n bound nonzero quiet kept = (skipped s r xs n bound nonzero quiet kept).same
+
+pub skipped-kept : (s : Scanner) (r xs : List ℕ) (n : ℕ) → n ≤ length xs → ((k : ℕ) → k < n → get_or xs k 0 ≡ 0 → ⊥) → (s.prefix ≡ Nothing) × (is_text_full s.latest ≡ true) → Fed s r → Fed (skipped_scan s n) (read r (take n xs))
+skipped-kept s r xs n bound nonzero quiet kept =
+    let run = skipped s r xs n bound nonzero quiet kept in record {
+      fed = omega (arith, run.more, length-take-le n xs bound, kept.fed);
+      prefix = quiet.0 ∙ sym run.none;
+      latest = kept.latest ∙ ap latest_of (sym run.same);
+      tally = kept.tally ∙ ap (λ (l : List Code). tally_of (older_of l)) (sym run.same);
+      accepted = ap first_fault run.same ∙ kept.accepted;
+      unrefused = kept.unrefused;
+    }
+
+-- ---- what is refused stays refused
+
+fault-stays-code : (c : Code) (past : List Code) (f : FilmFault) → first_fault past ≡ Some f → first_fault (c ∷ past) ≡ Some f
+unfolding first_fault
+fault-stays-code c past f is = ap (λ (o : Option FilmFault). otherwise o (fault_at past c.place c.kind)) is
+
+fault-stays-byte : (x : ℕ) (r : List ℕ) (f : FilmFault) → first_fault (codes_of r) ≡ Some f → first_fault (codes_of (x ∷ r)) ≡ Some f
+fault-stays-byte x r f is = elim (cases_Bool (is_whole (matched r))) [
+  | inl e ↦ ap first_fault (codes-code x r e) ∙ fault-stays-code _ (note_latest (codes_of r) x) f (first_fault-note (codes_of r) x ∙ is)
+  | inr e ↦ ap first_fault (codes-plain x r e) ∙ first_fault-note (codes_of r) x ∙ is
+]
+
+pub fault-stays : (xs r : List ℕ) (f : FilmFault) → first_fault (codes_of r) ≡ Some f → first_fault (codes_of (read r xs)) ≡ Some f
+fault-stays [] r f is = is
+fault-stays (x ∷ xs) r f is = fault-stays xs (x ∷ r) f (fault-stays-byte x r f is)
+
+-- ---- as the code takes a piece
+
+pub length-rest : (piece : List ℕ) (a : ℕ) → length (take (length piece - a) (drop a piece)) ≡ length piece - a
+length-rest piece a = ap (λ (l : List ℕ). length l) (take_rest piece a) ∙ length-drop a piece
+
+pub told-run : (r piece : List ℕ) (a n : ℕ) (calls : List Call) → codes_of (read (read r (take a piece)) (take n (take (length piece - a) (drop a piece)))) ≡ codes_of (read r (take a piece)) → calls ++ told (codes_of (read r (take a piece))) ≡ calls ++ told (codes_of (read r (take (a + n) piece)))
+told-run r piece a n calls same =
+    ap (λ (l : List Code). calls ++ told l) (sym same ∙ ap codes_of (read-run r piece a n))
+
+pub fault-rest : (r piece : List ℕ) (b : ℕ) (f : FilmFault) → b < length piece → first_fault (codes_of (get_or piece b 0 ∷ read r (take b piece))) ≡ Some f → first_fault (codes_of (read r piece)) ≡ Some f
+fault-rest r piece b f within is =
+    let there : first_fault (codes_of (read r (take (b + 1) piece))) ≡ Some f =
+    ap (λ (q : List ℕ). first_fault (codes_of q)) (sym (read-byte r piece b within)) ∙ is in
+    ap (λ (q : List ℕ). first_fault (codes_of q)) (sym (read-rest r piece (b + 1)))
+    ∙ fault-stays (drop (b + 1) piece) (read r (take (b + 1) piece)) f there

@@ -1,0 +1,299 @@
+-- A byte more, and a code more: what the scanner keeps stays what the bytes say.
+use Rattle.std.proofs.Common.{ℕ, suc, zero, Bool, true, false, not, cond, eqb, ltb, leb, ◌&&◌, ◌||◌, ◌+◌, ◌-◌, ◌^◌, min, ◌<◌, ◌≤◌, ◌≡◌, ◌≢◌, List, [], ◌∷◌, ◌++◌, Option, Some, None, length, sym, ◌∙◌, ap, refl, subst, inl, inr, arith}
+use Rattle.std.specs.Option.{option_map}
+use Rattle.std.proofs.lemmas.Bool.{cases_Bool, leb-false, ne_eqb, eq-eqb, le-ltb, lt-ltb}
+use Rattle.std.proofs.lemmas.List.{append_assoc}
+use Rattle.mpeg_scan.specs.declared.codes.Code.{Code}
+use Rattle.mpeg_scan.specs.declared.faults.FilmFault.{FilmFault}
+use Rattle.mpeg_scan.specs.declared.faults.FilmFault.TheVariants.{Empty, GroupTooLong, TooLong}
+use Rattle.mpeg_scan.specs.declared.scanner.Scanner.{Scanner}
+use Rattle.mpeg_scan.specs.declared.tallies.Tally.{Tally}
+use Rattle.mpeg_scan.specs.Codes.{matched, next_prefix, is_whole, note, note_latest, codes_of}
+use Rattle.mpeg_scan.specs.Words.{is_head, is_slice, is_none_yet, tally_of, slices_of, all_slices_of, pictures_of, before_group_of, rate_of}
+use Rattle.mpeg_scan.specs.Faults.{otherwise, latest_fault, kind_fault, second_fault, first_slice_fault, count_fault, code_fault, fault_at, first_fault, end_fault, last_fault, refusal_of}
+use Rattle.mpeg_scan.specs.Calls.{Call, calls_at, told}
+use Rattle.mpeg_scan.specs.Steps.{one_more, one_picture, next, next_by, tally_with, latest_header_fault, judged, ended, latest_of, older_of}
+use Rattle.mpeg_scan.specs.Scans.{Fed, noted_scan, coded_scan}
+use Rattle.mpeg_scan.proofs.CodeLemmas.{matched-more}
+
+-- ---- the codes of a byte more
+
+pub codes-plain : (x : ℕ) (r : List ℕ) → is_whole (matched r) ≡ false → codes_of (x ∷ r) ≡ note_latest (codes_of r) x
+unfolding codes_of
+codes-plain x r e =
+    let new : List Code = record { place = length r - 3; kind = x; text = [] } ∷ note_latest (codes_of r) x in
+    ap (λ b. cond b new (note_latest (codes_of r) x)) e
+
+pub codes-code : (x : ℕ) (r : List ℕ) → is_whole (matched r) ≡ true → codes_of (x ∷ r) ≡ record { place = length r - 3; kind = x; text = [] } ∷ note_latest (codes_of r) x
+unfolding codes_of
+codes-code x r e =
+    let new : List Code = record { place = length r - 3; kind = x; text = [] } ∷ note_latest (codes_of r) x in
+    ap (λ b. cond b new (note_latest (codes_of r) x)) e
+
+pub latest-note : (past : List Code) (x : ℕ) → latest_of (note_latest past x) ≡ option_map (λ c. note c x) (latest_of past)
+latest-note [] x = refl
+latest-note (c ∷ past) x = refl
+
+pub older-note : (past : List Code) (x : ℕ) → older_of (note_latest past x) ≡ older_of past
+older-note [] x = refl
+older-note (c ∷ past) x = refl
+
+length-note : (past : List Code) (x : ℕ) → length (note_latest past x) ≡ length past
+length-note [] x = refl
+length-note (c ∷ past) x = refl
+
+pub first_fault-note : (past : List Code) (x : ℕ) → first_fault (note_latest past x) ≡ first_fault past
+unfolding first_fault
+first_fault-note [] x = refl
+first_fault-note (c ∷ past) x = refl
+
+pub told-note : (past : List Code) (x : ℕ) → told (note_latest past x) ≡ told past
+unfolding told
+told-note [] x = refl
+told-note (c ∷ past) x = refl
+
+pub codes-none : codes_of [] ≡ []
+unfolding codes_of
+codes-none = refl
+
+pub length-codes : (r : List ℕ) → length (codes_of r) ≤ length r
+length-codes [] = omega (arith, ap (λ (l : List Code). length l) codes-none)
+length-codes (x ∷ r) = elim (cases_Bool (is_whole (matched r))) [
+  | inl e ↦ omega (arith, ap (λ (l : List Code). length l) (codes-code x r e), length-note (codes_of r) x, length-codes r)
+  | inr e ↦ omega (arith, ap (λ (l : List Code). length l) (codes-plain x r e), length-note (codes_of r) x, length-codes r)
+]
+
+-- ---- bounds
+
+cond-bound : (b : Bool) (m n k : ℕ) → m ≤ k → n ≤ k → cond b m n ≤ k
+cond-bound true m n k h i = h
+cond-bound false m n k h i = i
+
+slices-bound : (past : List Code) → slices_of past ≤ length past
+slices-bound [] = omega arith
+slices-bound (c ∷ past) =
+    cond-bound (is_head c.kind) 0 (cond (is_slice c.kind) (slices_of past + 1) (slices_of past)) (suc (length past)) (omega arith)
+    (cond-bound (is_slice c.kind) (slices_of past + 1) (slices_of past) (suc (length past)) (omega (arith, slices-bound past)) (omega (arith, slices-bound past)))
+
+all_slices-bound : (past : List Code) → all_slices_of past ≤ length past
+all_slices-bound [] = omega arith
+all_slices-bound (c ∷ past) =
+    cond-bound (is_slice c.kind) (all_slices_of past + 1) (all_slices_of past) (suc (length past)) (omega (arith, all_slices-bound past)) (omega (arith, all_slices-bound past))
+
+otherwise-first : (f g : Option FilmFault) → otherwise f g ≡ None → f ≡ None
+otherwise-first None g e = refl
+otherwise-first (Some f) g e = e
+
+otherwise-second : (f g : Option FilmFault) → otherwise f g ≡ None → g ≡ None
+otherwise-second None g e = e
+otherwise-second (Some f) g e = absurd (cc)
+
+pub accepted-older : (c : Code) (past : List Code) → first_fault (c ∷ past) ≡ None → first_fault past ≡ None
+unfolding first_fault
+accepted-older c past e = otherwise-first (first_fault past) (fault_at past c.place c.kind) e
+
+code_fault-older : (c : Code) (past : List Code) → first_fault (c ∷ past) ≡ None → count_fault (tally_of past) c.place c.kind ≡ None
+unfolding first_fault fault_at
+code_fault-older c past e =
+    let t = tally_of past in
+    let at_code = otherwise-second (first_fault past) (otherwise (latest_fault past c.place) (code_fault t c.place c.kind)) e in
+    let of_code = otherwise-second (latest_fault past c.place) (code_fault t c.place c.kind) at_code in
+    let rest = otherwise-second (kind_fault t c.place c.kind) (otherwise (second_fault t c.kind) (otherwise (first_slice_fault t c.place c.kind) (count_fault t c.place c.kind))) of_code in
+    let last = otherwise-second (second_fault t c.kind) (otherwise (first_slice_fault t c.place c.kind) (count_fault t c.place c.kind)) rest in
+    otherwise-second (first_slice_fault t c.place c.kind) (count_fault t c.place c.kind) last
+
+counted : (b g q : Bool) (p place : ℕ) → leb 4194304 p ≡ q → cond b (cond g (Some (GroupTooLong place)) (cond q (Some TooLong) None)) None ≡ None → p ≤ 4194304 → cond b (p + 1) p ≤ 4194304
+counted false g q p place test none bound = bound
+counted true true q p place test none bound = absurd (cc)
+counted true false true p place test none bound = absurd (cc)
+counted true false false p place test none bound = omega (arith, leb-false 4194304 p test)
+
+pub pictures-bound : (past : List Code) → first_fault past ≡ None → pictures_of past ≤ 4194304
+pictures-bound [] e = omega arith
+pictures-bound (c ∷ past) e =
+    counted (eqb c.kind 0) (leb 1024 (pictures_of past - before_group_of past)) (leb 4194304 (pictures_of past)) (pictures_of past) c.place refl (code_fault-older c past e)
+    (pictures-bound past (accepted-older c past e))
+
+-- ---- the tally with the latest code
+
+next-plain : (past : List Code) (c : Code) → next_by (pictures_of past + 1) (slices_of past + 1) (all_slices_of past + 1) (tally_of past) c ≡ tally_of (c ∷ past)
+next-plain [] c = refl
+next-plain (d ∷ past) c = refl
+
+pub next-tally : (past : List Code) (c : Code) → first_fault past ≡ None → length past < 2 ^ 63 → next (tally_of past) c ≡ tally_of (c ∷ past)
+unfolding next
+next-tally past c accepted short =
+    let pictures : one_picture (pictures_of past) ≡ pictures_of past + 1 = omega (arith, pictures-bound past accepted) in
+    let slices : one_more (slices_of past) ≡ slices_of past + 1 = omega (arith, slices-bound past, short) in
+    let all : one_more (all_slices_of past) ≡ all_slices_of past + 1 = omega (arith, all_slices-bound past, short) in
+    ap (λ n. next_by n (one_more (slices_of past)) (one_more (all_slices_of past)) (tally_of past) c) pictures
+    ∙ ap (λ n. next_by (pictures_of past + 1) n (one_more (all_slices_of past)) (tally_of past) c) slices
+    ∙ ap (λ n. next_by (pictures_of past + 1) (slices_of past + 1) n (tally_of past) c) all
+    ∙ next-plain past c
+
+pub tally_now-is : (past : List Code) → first_fault past ≡ None → length past < 2 ^ 63 → tally_with (latest_of past) (tally_of (older_of past)) ≡ tally_of past
+tally_now-is [] accepted short = refl
+tally_now-is (c ∷ past) accepted short = next-tally past c (accepted-older c past accepted) (omega arith)
+
+pub judged-is : (past : List Code) (place kind : ℕ) → first_fault past ≡ None → length past < 2 ^ 63 → judged (latest_of past) (tally_of (older_of past)) place kind ≡ fault_at past place kind
+unfolding judged fault_at
+judged-is [] place kind accepted short = refl
+judged-is (c ∷ past) place kind accepted short =
+    ap (λ (t : Tally). otherwise (latest_fault (c ∷ past) place) (code_fault t place kind)) (next-tally past c (accepted-older c past accepted) (omega arith))
+
+-- ---- a byte
+
+-- the codes before the latest one are as many, and the scanner's are accepted too
+pub note-accepted : (r : List ℕ) (x : ℕ) → first_fault (codes_of r) ≡ None → first_fault (note_latest (codes_of r) x) ≡ None
+note-accepted r x accepted = first_fault-note (codes_of r) x ∙ accepted
+
+pub note-short : (r : List ℕ) (x : ℕ) → length r < 2 ^ 42 → length (note_latest (codes_of r) x) < 2 ^ 63
+note-short r x short = omega (arith, length-note (codes_of r) x, length-codes r)
+
+pub fed-plain : (s : Scanner) (r : List ℕ) (x : ℕ) → Fed s r → is_whole (matched r) ≡ false → Fed (noted_scan s x) (x ∷ r)
+fed-plain s r x kept plain =
+    let codes = codes-plain x r plain in record {
+      fed = omega (arith, kept.fed);
+      prefix = ap (λ p. next_prefix p x) kept.prefix ∙ sym (matched-more x r);
+      latest = ap (option_map (λ c. note c x)) kept.latest ∙ sym (latest-note (codes_of r) x) ∙ ap latest_of (sym codes);
+      tally = kept.tally ∙ ap tally_of (sym (older-note (codes_of r) x) ∙ ap older_of (sym codes));
+      accepted = ap first_fault codes ∙ note-accepted r x kept.accepted;
+      unrefused = kept.unrefused;
+    }
+
+-- what the scanner judges a code by, once its byte is noted
+pub judged-noted : (s : Scanner) (r : List ℕ) (x place kind : ℕ) → Fed s r → length r < 2 ^ 42 → judged (noted_scan s x).latest s.tally place kind ≡ fault_at (note_latest (codes_of r) x) place kind
+judged-noted s r x place kind kept short =
+    let past = note_latest (codes_of r) x in
+    ap (λ (l : Option Code). judged l s.tally place kind) (ap (option_map (λ c. note c x)) kept.latest ∙ sym (latest-note (codes_of r) x))
+    ∙ ap (λ (t : Tally). judged (latest_of past) t place kind) (kept.tally ∙ ap tally_of (sym (older-note (codes_of r) x)))
+    ∙ judged-is past place kind (note-accepted r x kept.accepted) (note-short r x short)
+
+pub tally-noted : (s : Scanner) (r : List ℕ) (x : ℕ) → Fed s r → length r < 2 ^ 42 → tally_with (noted_scan s x).latest s.tally ≡ tally_of (note_latest (codes_of r) x)
+tally-noted s r x kept short =
+    let past = note_latest (codes_of r) x in
+    ap (λ (l : Option Code). tally_with l s.tally) (ap (option_map (λ c. note c x)) kept.latest ∙ sym (latest-note (codes_of r) x))
+    ∙ ap (λ (t : Tally). tally_with (latest_of past) t) (kept.tally ∙ ap tally_of (sym (older-note (codes_of r) x)))
+    ∙ tally_now-is past (note-accepted r x kept.accepted) (note-short r x short)
+
+first_fault-code : (past : List Code) (place kind : ℕ) → first_fault past ≡ None → first_fault (record { place = place; kind = kind; text = [] } ∷ past) ≡ fault_at past place kind
+unfolding first_fault
+first_fault-code past place kind accepted = ap (λ (f : Option FilmFault). otherwise f (fault_at past place kind)) accepted
+
+-- the refusal at a code, and that there is none
+pub first_fault-at : (s : Scanner) (r : List ℕ) (x : ℕ) → Fed s r → length r < 2 ^ 42 → is_whole (matched r) ≡ true → first_fault (codes_of (x ∷ r)) ≡ judged (noted_scan s x).latest s.tally (s.fed - 3) x
+first_fault-at s r x kept short whole =
+    let past = note_latest (codes_of r) x in
+    ap first_fault (codes-code x r whole) ∙ first_fault-code past (length r - 3) x (note-accepted r x kept.accepted)
+    ∙ ap (λ n. fault_at past (n - 3) x) (sym kept.fed) ∙ sym (judged-noted s r x (s.fed - 3) x kept short)
+
+pub fed-code : (s : Scanner) (r : List ℕ) (x : ℕ) → Fed s r → length r < 2 ^ 42 → is_whole (matched r) ≡ true → judged (noted_scan s x).latest s.tally (s.fed - 3) x ≡ None → Fed (coded_scan (noted_scan s x) (s.fed - 3) x) (x ∷ r)
+fed-code s r x kept short whole none =
+    let codes = codes-code x r whole in
+    let past = note_latest (codes_of r) x in record {
+      fed = omega (arith, kept.fed);
+      prefix = ap (λ p. next_prefix p x) kept.prefix ∙ sym (matched-more x r);
+      latest = ap (λ n. latest_of (record { place = n - 3; kind = x; text = [] } ∷ past)) kept.fed ∙ ap latest_of (sym codes);
+      tally = tally-noted s r x kept short ∙ ap (λ (l : List Code). tally_of (older_of l)) (sym codes);
+      accepted = first_fault-at s r x kept short whole ∙ none;
+      unrefused = kept.unrefused;
+    }
+
+told-code : (c : Code) (past : List Code) → told (c ∷ past) ≡ told past ++ calls_at (tally_of past) c.place c.kind
+unfolding told
+told-code c past = refl
+
+-- what is told at a byte
+pub told-plain : (x : ℕ) (r : List ℕ) → is_whole (matched r) ≡ false → told (codes_of (x ∷ r)) ≡ told (codes_of r)
+told-plain x r plain = ap told (codes-plain x r plain) ∙ told-note (codes_of r) x
+
+pub told-at : (s : Scanner) (r : List ℕ) (x : ℕ) → Fed s r → length r < 2 ^ 42 → is_whole (matched r) ≡ true → told (codes_of (x ∷ r)) ≡ told (codes_of r) ++ calls_at (tally_with (noted_scan s x).latest s.tally) (s.fed - 3) x
+told-at s r x kept short whole =
+    let past = note_latest (codes_of r) x in
+    ap told (codes-code x r whole) ∙ told-code (record { place = length r - 3; kind = x; text = [] }) past
+    ∙ ap (λ (l : List Call). l ++ calls_at (tally_of past) (length r - 3) x) (told-note (codes_of r) x)
+    ∙ ap (λ (t : Tally). told (codes_of r) ++ calls_at t (length r - 3) x) (sym (tally-noted s r x kept short))
+    ∙ ap (λ n. told (codes_of r) ++ calls_at (tally_with (noted_scan s x).latest s.tally) (n - 3) x) (sym kept.fed)
+
+-- ---- as the code takes a byte
+
+whole-read : (s : Scanner) (r : List ℕ) (b w : Bool) → Fed s r → w ≡ b → w ≡ is_whole s.prefix → is_whole (matched r) ≡ b
+whole-read s r b w kept test is = sym (is ∙ ap is_whole kept.prefix) ∙ test
+
+short-read : (s : Scanner) (r : List ℕ) → Fed s r → s.fed < 2 ^ 41 → length r < 2 ^ 42
+short-read s r kept short = omega (arith, kept.fed)
+
+pub taken-plain : (s n : Scanner) (r : List ℕ) (x : ℕ) (w : Bool) → w ≡ false → w ≡ is_whole s.prefix → n ≡ noted_scan s x → Fed s r → Fed n (x ∷ r)
+taken-plain s n r x w test is noted kept =
+    subst (λ (v : Scanner). Fed v (x ∷ r)) (sym noted) (fed-plain s r x kept (whole-read s r false w kept test is))
+
+pub taken-code : (s n m : Scanner) (r : List ℕ) (x place : ℕ) (w : Bool) → s.fed < 2 ^ 41 → w ≡ true → w ≡ is_whole s.prefix → n ≡ noted_scan s x → place ≡ s.fed - 3 → (judged n.latest n.tally place x ≡ None) × (m ≡ coded_scan n place x) → Fed s r → Fed m (x ∷ r)
+taken-code s n m r x place w short test is noted at h kept =
+    let none : judged (noted_scan s x).latest s.tally (s.fed - 3) x ≡ None =
+    sym (ap (λ (v : Scanner). judged v.latest v.tally place x) noted ∙ ap (λ p. judged (noted_scan s x).latest s.tally p x) at) ∙ h.0 in
+    let became : m ≡ coded_scan (noted_scan s x) (s.fed - 3) x =
+    h.1 ∙ ap (λ (v : Scanner). coded_scan v place x) noted ∙ ap (λ p. coded_scan (noted_scan s x) p x) at in
+    subst (λ (v : Scanner). Fed v (x ∷ r)) (sym became) (fed-code s r x kept (short-read s r kept short) (whole-read s r true w kept test is) none)
+
+pub taken-fault : (s n : Scanner) (r : List ℕ) (x place : ℕ) (w : Bool) (f : FilmFault) → s.fed < 2 ^ 41 → w ≡ true → w ≡ is_whole s.prefix → n ≡ noted_scan s x → place ≡ s.fed - 3 → judged n.latest n.tally place x ≡ Some f → Fed s r → first_fault (codes_of (x ∷ r)) ≡ Some f
+taken-fault s n r x place w f short test is noted at h kept =
+    first_fault-at s r x kept (short-read s r kept short) (whole-read s r true w kept test is)
+    ∙ sym (ap (λ (v : Scanner). judged v.latest v.tally place x) noted ∙ ap (λ p. judged (noted_scan s x).latest s.tally p x) at) ∙ h
+
+pub taken-calls : (s n : Scanner) (r : List ℕ) (x place : ℕ) (w : Bool) → s.fed < 2 ^ 41 → w ≡ true → w ≡ is_whole s.prefix → n ≡ noted_scan s x → place ≡ s.fed - 3 → Fed s r → (calls : List Call) → (calls ++ told (codes_of r)) ++ calls_at (tally_with n.latest n.tally) place x ≡ calls ++ told (codes_of (x ∷ r))
+taken-calls s n r x place w short test is noted at kept calls =
+    append_assoc calls (told (codes_of r)) (calls_at (tally_with n.latest n.tally) place x)
+    ∙ ap (λ (v : Scanner). calls ++ (told (codes_of r) ++ calls_at (tally_with v.latest v.tally) place x)) noted
+    ∙ ap (λ p. calls ++ (told (codes_of r) ++ calls_at (tally_with (noted_scan s x).latest s.tally) p x)) at
+    ∙ ap (λ (l : List Call). calls ++ l) (sym (told-at s r x kept (short-read s r kept short) (whole-read s r true w kept test is)))
+
+pub taken-none : (s : Scanner) (r : List ℕ) (x : ℕ) (w : Bool) → w ≡ false → w ≡ is_whole s.prefix → Fed s r → (calls : List Call) → calls ++ told (codes_of r) ≡ calls ++ told (codes_of (x ∷ r))
+taken-none s r x w test is kept calls =
+    ap (λ (l : List Call). calls ++ l) (sym (told-plain x r (whole-read s r false w kept test is)))
+
+-- ---- the film's end
+
+end_fault-is : (past : List Code) (end : ℕ) → first_fault past ≡ None → length past < 2 ^ 63 → ended (latest_of past) (tally_of (older_of past)) end ≡ end_fault past end
+unfolding ended end_fault
+end_fault-is [] end accepted short = refl
+end_fault-is (c ∷ past) end accepted short =
+    ap (λ (t : Tally). otherwise (latest_fault (c ∷ past) end) (last_fault t)) (next-tally past c (accepted-older c past accepted) (omega arith))
+
+codes-short : (s : Scanner) (r : List ℕ) → Fed s r → s.fed ≤ 2 ^ 40 → length (codes_of r) < 2 ^ 63
+codes-short s r kept short = omega (arith, kept.fed, length-codes r)
+
+ended-is : (s : Scanner) (r : List ℕ) → Fed s r → s.fed ≤ 2 ^ 40 → ended s.latest s.tally s.fed ≡ end_fault (codes_of r) (length r)
+ended-is s r kept short =
+    ap (λ (l : Option Code). ended l s.tally s.fed) kept.latest
+    ∙ ap (λ (t : Tally). ended (latest_of (codes_of r)) t s.fed) kept.tally
+    ∙ ap (ended (latest_of (codes_of r)) (tally_of (older_of (codes_of r)))) kept.fed
+    ∙ end_fault-is (codes_of r) (length r) kept.accepted (codes-short s r kept short)
+
+refusal-by : (r : List ℕ) → 0 < length r → length r ≤ 2 ^ 40 → first_fault (codes_of r) ≡ None → refusal_of r ≡ end_fault (codes_of r) (length r)
+unfolding refusal_of
+refusal-by r some short accepted =
+    ap (λ b. cond b (Some Empty) (cond (ltb (2 ^ 40) (length r)) (Some TooLong) (otherwise (first_fault (codes_of r)) (end_fault (codes_of r) (length r))))) (ne_eqb (length r) 0 (λ none. absurd (omega arith)))
+    ∙ ap (λ b. cond b (Some TooLong) (otherwise (first_fault (codes_of r)) (end_fault (codes_of r) (length r)))) (le-ltb (2 ^ 40) (length r) short)
+    ∙ ap (λ (f : Option FilmFault). otherwise f (end_fault (codes_of r) (length r))) accepted
+
+pub refusal-empty : (s : Scanner) (r : List ℕ) → s.fed ≡ 0 → Fed s r → refusal_of r ≡ Some Empty
+unfolding refusal_of
+refusal-empty s r none kept =
+    ap (λ b. cond b (Some Empty) (cond (ltb (2 ^ 40) (length r)) (Some TooLong) (otherwise (first_fault (codes_of r)) (end_fault (codes_of r) (length r))))) (eq-eqb (length r) 0 (sym kept.fed ∙ none))
+
+pub refusal-long : (s : Scanner) (r : List ℕ) → 2 ^ 40 < s.fed → Fed s r → refusal_of r ≡ Some TooLong
+unfolding refusal_of
+refusal-long s r long kept =
+    let far : 2 ^ 40 < length r = omega (arith, kept.fed) in
+    ap (λ b. cond b (Some Empty) (cond (ltb (2 ^ 40) (length r)) (Some TooLong) (otherwise (first_fault (codes_of r)) (end_fault (codes_of r) (length r))))) (ne_eqb (length r) 0 (λ none. absurd (omega arith)))
+    ∙ ap (λ b. cond b (Some TooLong) (otherwise (first_fault (codes_of r)) (end_fault (codes_of r) (length r)))) (lt-ltb (2 ^ 40) (length r) far)
+
+pub refusal-is : (s : Scanner) (r : List ℕ) → 0 < s.fed → s.fed ≤ 2 ^ 40 → Fed s r → refusal_of r ≡ ended s.latest s.tally s.fed
+refusal-is s r some short kept =
+    refusal-by r (omega (arith, kept.fed)) (omega (arith, kept.fed)) kept.accepted ∙ sym (ended-is s r kept short)
+
+pub tally-ended : (s : Scanner) (r : List ℕ) → s.fed ≤ 2 ^ 40 → Fed s r → tally_with s.latest s.tally ≡ tally_of (codes_of r)
+tally-ended s r short kept =
+    ap (λ (l : Option Code). tally_with l s.tally) kept.latest
+    ∙ ap (λ (t : Tally). tally_with (latest_of (codes_of r)) t) kept.tally
+    ∙ tally_now-is (codes_of r) kept.accepted (codes-short s r kept short)

@@ -1,0 +1,13 @@
+use Rattle.std.proofs.Common.{[], ◌∷◌, ◌++◌, sym, ◌∙◌}
+use Rattle.std.proofs.lemmas.List.{append-nil}
+use Rattle.mpeg_scan.specs.Calls.{head_call}
+use Rattle.mpeg_scan.specs.Films.{units_in, slices_in}
+use Rattle.mpeg_scan.proofs.FilmLemmas.{units_in-append, slices_in-append}
+use Rattle.mpeg_scan.proofs.collector.CollectorFound.head.Goals as goal
+
+pub returns : goal.returns
+returns c =
+    λ calls h. (
+      h.0 ∙ sym (units_in-append calls (head_call c.args._from c.args._to ∷ []) ∙ append-nil (units_in calls)),
+      h.1 ∙ sym (slices_in-append calls (head_call c.args._from c.args._to ∷ []) ∙ append-nil (slices_in calls)),
+    )

@@ -1,0 +1,14 @@
+use Rattle.std.proofs.Common.{ℕ, List, [], ◌∷◌, ◌++◌, sym, ap, ◌∙◌}
+use Rattle.std.proofs.lemmas.List.{append-nil}
+use Rattle.mpeg_scan.specs.Calls.{slice_call}
+use Rattle.mpeg_scan.specs.Films.{units_in, slices_in}
+use Rattle.mpeg_scan.proofs.FilmLemmas.{units_in-append, slices_in-append}
+use Rattle.mpeg_scan.proofs.collector.CollectorFound.slice.Goals as goal
+
+pub returns-in-Ok : goal.returns-in-Ok
+returns-in-Ok c =
+    λ calls h. (
+      h.0 ∙ sym (units_in-append calls (slice_call c.args.from c.args._to ∷ []) ∙ append-nil (units_in calls)),
+      c.in-Ok.ensures.items ∙ ap (λ (l : List ℕ). l ++ c.args.from ∷ []) h.1
+          ∙ sym (slices_in-append calls (slice_call c.args.from c.args._to ∷ [])),
+    )

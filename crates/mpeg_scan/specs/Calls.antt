@@ -1,0 +1,61 @@
+-- What is found in a film: heads, slices and units, each told where the code, or the film's end, stands
+-- that ends it.
+use Rattle.std.specs.Prelude.{ℕ, ◌+◌, ◌-◌, ◌==◌, ◌&&◌, Bool, true, false, List, [], ◌∷◌, ◌++◌, Option, Some, None, if◌then◌else◌, length, nat_lt, unwrap_or}
+use Rattle.mpeg_scan.specs.declared.codes.Code.{Code}
+use Rattle.mpeg_scan.specs.declared.tallies.Header.{Header}
+use Rattle.mpeg_scan.specs.declared.tallies.Tally.{Tally}
+use Rattle.mpeg_scan.specs.declared.units.Kind.{Kind}
+use Rattle.mpeg_scan.specs.declared.units.Kind.TheVariants.{I, P, B, D}
+use Rattle.mpeg_scan.specs.declared.units.Unit.{Unit as PictureUnit}
+use Rattle.mpeg_scan.specs.Codes.{codes_of}
+use Rattle.mpeg_scan.specs.Words.{is_head, is_slice, tally_of}
+
+pub data Call : Type 0 where
+  head_call : ℕ → ℕ → Call
+  slice_call : ℕ → ℕ → Call
+  unit_call : PictureUnit → Call
+
+-- the kind of a picture of type 1 to 4
+abbrev pub kind_of : ℕ → Kind
+kind_of coding = if coding == 1 then I else (if coding == 2 then P else (if coding == 3 then B else D))
+
+abbrev pub no_header : Header
+no_header = record { place = 0; temporal = 0; coding = 0; vectors = 0 }
+
+-- the latest unit, with its picture's header, where it ends at a place
+abbrev pub unit_with : Tally → Header → ℕ → PictureUnit
+unit_with t picture to = record {
+  from = t.unit;
+  head_end = t.head_end;
+  to = to;
+  first_slice = t.all_slices - t.slices;
+  slices = t.slices;
+  temporal = picture.temporal;
+  presentation = t.before_group + picture.temporal;
+  kind = kind_of picture.coding;
+  vectors = picture.vectors;
+  has_sequence = t.has_sequence;
+  starts_group = t.starts_group;
+}
+
+abbrev pub unit_at : Tally → ℕ → PictureUnit
+unit_at t to = unit_with t (unwrap_or t.picture no_header) to
+
+-- the end of the latest unit: its last slice and it itself
+abbrev pub unit_end : Tally → ℕ → List Call
+unit_end t to = slice_call t.slice to ∷ unit_call (unit_at t to) ∷ []
+
+-- what ends at a code: at a slice the head or slice before it, at a head code the unit
+unfoldable pub calls_at : Tally → ℕ → ℕ → List Call
+calls_at t place kind =
+    if is_slice kind then (if t.slices == 0 then head_call t.unit place ∷ [] else slice_call t.slice place ∷ [])
+    else (if is_head kind && nat_lt 0 t.slices then unit_end t place else [])
+
+-- what ends at the codes of a film, which are given the latest first
+unfoldable pub told : List Code → List Call
+told [] = []
+told (c ∷ past) = told past ++ calls_at (tally_of past) c.place c.kind
+
+-- what a whole film has, its bytes given the latest first
+abbrev pub all_told : List ℕ → List Call
+all_told r = told (codes_of r) ++ unit_end (tally_of (codes_of r)) (length r)

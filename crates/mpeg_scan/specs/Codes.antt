@@ -1,0 +1,60 @@
+-- The start codes of MPEG-1 video (ISO/IEC 11172-2, 2.4.2.1).
+use Rattle.std.specs.Prelude.{ℕ, ◌+◌, ◌-◌, ◌==◌, ◌&&◌, Bool, true, false, List, [], ◌∷◌, ◌++◌, if◌then◌else◌, length, nat_lt, nat_le, slice_index_or}
+use Rattle.mpeg_scan.specs.Texts.{noted}
+use Rattle.mpeg_scan.specs.declared.codes.Code.{Code}
+use Rattle.mpeg_scan.specs.declared.codes.Prefix.{Prefix}
+use Rattle.mpeg_scan.specs.declared.codes.Prefix.TheVariants.{Nothing, Zero, Zeros, Whole}
+
+-- the bytes in xs read after those in r, the latest first
+abbrev pub read : List ℕ → List ℕ → List ℕ
+read r [] = r
+read r (x ∷ xs) = read (x ∷ r) xs
+
+-- the bytes before the latest one: byte i back, or 256 where there is none
+abbrev pub back : List ℕ → ℕ → ℕ
+back r i = slice_index_or r i 256
+
+-- how much of the prefix 00 00 01 stands at the end of the bytes, which are given the latest first
+unfoldable pub matched : List ℕ → Prefix
+matched r =
+    if back r 0 == 1 && (back r 1 == 0 && back r 2 == 0) then Whole
+    else (if back r 0 == 0 && back r 1 == 0 then Zeros else (if back r 0 == 0 then Zero else Nothing))
+
+-- the same once a byte 1, or a byte 0, or any byte is read
+abbrev pub after_one : Prefix → Prefix
+after_one Nothing = Nothing
+after_one Zero = Nothing
+after_one Zeros = Whole
+after_one Whole = Nothing
+
+abbrev pub after_zero : Prefix → Prefix
+after_zero Nothing = Zero
+after_zero Zero = Zeros
+after_zero Zeros = Zeros
+after_zero Whole = Zero
+
+abbrev pub next_prefix : Prefix → ℕ → Prefix
+next_prefix p x = if x == 1 then after_one p else (if x == 0 then after_zero p else Nothing)
+
+abbrev pub is_whole : Prefix → Bool
+is_whole Whole = true
+is_whole Nothing = false
+is_whole Zero = false
+is_whole Zeros = false
+
+-- a byte more for the text of a code
+abbrev pub note : Code → ℕ → Code
+note c x = record c { text = noted c.text x }
+
+-- a byte more, for the text of the latest code
+abbrev pub note_latest : List Code → ℕ → List Code
+note_latest [] x = []
+note_latest (c ∷ past) x = note c x ∷ past
+
+-- the start codes, the latest first: each byte before which 00 00 01 stands is the kind of a code,
+-- whose place is that of these three
+unfoldable pub codes_of : List ℕ → List Code
+codes_of [] = []
+codes_of (x ∷ r) =
+    if is_whole (matched r) then record { place = length r - 3; kind = x; text = [] } ∷ note_latest (codes_of r) x
+    else note_latest (codes_of r) x

@@ -1,0 +1,9 @@
+pub mod Texts
+pub mod Codes
+pub mod Words
+pub mod Faults
+pub mod Calls
+pub mod Steps
+pub mod Scans
+pub mod Films
+pub mod Rates

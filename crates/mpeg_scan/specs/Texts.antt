@@ -1,0 +1,6 @@
+-- The text of a start code: the bytes after it that its header's fields are read from.
+use Rattle.std.specs.Prelude.{ℕ, List, [], ◌∷◌, ◌++◌, if◌then◌else◌, length, nat_lt}
+
+-- a byte more: a text is the first five bytes after a code, as far as they are read
+unfoldable pub noted : List ℕ → ℕ → List ℕ
+noted text x = if nat_lt (length text) 5 then text ++ x ∷ [] else text

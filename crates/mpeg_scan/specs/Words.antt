@@ -1,0 +1,135 @@
+-- What the start codes of a film say of its latest unit and of the units before it. The codes are given
+-- the latest first. A code of kind 00, B3 or B8 belongs to a head (ISO/IEC 11172-2, 2.4.2): a unit begins
+-- at the first code, and at each such code that is the first after a slice.
+use Rattle.std.specs.Prelude.{ℕ, ◌+◌, ◌-◌, ◌*◌, ◌/◌, ◌%◌, ◌==◌, ◌&&◌, ◌||◌, Bool, true, false, not, List, [], ◌∷◌, Option, Some, None, if◌then◌else◌, nat_lt, nat_le, slice_index, option_map}
+use Rattle.mpeg_scan.specs.declared.codes.Code.{Code}
+use Rattle.mpeg_scan.specs.declared.tallies.Header.{Header}
+use Rattle.mpeg_scan.specs.declared.tallies.Tally.{Tally}
+
+abbrev pub is_none_yet : List Code → Bool
+is_none_yet [] = true
+is_none_yet (c ∷ past) = false
+
+-- the kinds of a head: a picture, a sequence header, a group header
+abbrev pub is_head : ℕ → Bool
+is_head kind = kind == 0 || (kind == 0xb3 || kind == 0xb8)
+
+-- the kinds of slices
+abbrev pub is_slice : ℕ → Bool
+is_slice kind = nat_le 1 kind && nat_le kind 0xaf
+
+-- the slices of the latest unit
+abbrev pub slices_of : List Code → ℕ
+slices_of [] = 0
+slices_of (c ∷ past) =
+    if is_head c.kind then 0 else (if is_slice c.kind then slices_of past + 1 else slices_of past)
+
+-- whether the code c begins a unit after these
+abbrev pub begins_unit : Code → List Code → Bool
+begins_unit c past = is_none_yet past || (is_head c.kind && nat_lt 0 (slices_of past))
+
+-- the place of the latest unit
+abbrev pub unit_of : List Code → ℕ
+unit_of [] = 0
+unit_of (c ∷ past) = if begins_unit c past then c.place else unit_of past
+
+-- the pictures of the film
+abbrev pub pictures_of : List Code → ℕ
+pictures_of [] = 0
+pictures_of (c ∷ past) = if c.kind == 0 then pictures_of past + 1 else pictures_of past
+
+-- the pictures before the latest group: a group begins with the film and at each group header
+abbrev pub before_group_of : List Code → ℕ
+before_group_of [] = 0
+before_group_of (c ∷ past) = if c.kind == 0xb8 then pictures_of past else before_group_of past
+
+-- the slices of the film
+abbrev pub all_slices_of : List Code → ℕ
+all_slices_of [] = 0
+all_slices_of (c ∷ past) = if is_slice c.kind then all_slices_of past + 1 else all_slices_of past
+
+-- the place of the latest unit's first slice
+abbrev pub head_end_of : List Code → ℕ
+head_end_of [] = 0
+head_end_of (c ∷ past) =
+    if is_slice c.kind && slices_of past == 0 then c.place else head_end_of past
+
+-- the place of the latest slice
+abbrev pub slice_of : List Code → ℕ
+slice_of [] = 0
+slice_of (c ∷ past) = if is_slice c.kind then c.place else slice_of past
+
+-- whether the latest unit has a sequence header
+abbrev pub has_sequence : List Code → Bool
+has_sequence [] = false
+has_sequence (c ∷ past) =
+    if c.kind == 0xb3 then true else (if begins_unit c past then false else has_sequence past)
+
+-- whether the latest unit starts a group: it is the film's first, or has a group header
+abbrev pub starts_group : List Code → Bool
+starts_group [] = false
+starts_group (c ∷ past) =
+    if c.kind == 0xb8 || is_none_yet past then true
+    else (if begins_unit c past then false else starts_group past)
+
+-- the picture rate code of a sequence header: the low four bits of its eighth byte
+abbrev pub rate_code : Code → ℕ
+rate_code c = slice_index c.text 3 % 16
+
+-- the rate code of the first sequence header, or 0 where there is none
+abbrev pub rate_of : List Code → ℕ
+rate_of [] = 0
+rate_of (c ∷ past) = if rate_of past == 0 && c.kind == 0xb3 then rate_code c else rate_of past
+
+-- the fields of a picture header (2.4.2.5): temporal_reference is its first 10 bits,
+-- picture_coding_type the next 3; vbv_delay has 16; then, for types 2 and 3, full_pel_forward 1 and
+-- forward_f_code 3, and for type 3 full_pel_backward 1 and backward_f_code 3
+abbrev pub temporal_of : Code → ℕ
+temporal_of c = slice_index c.text 0 * 4 + slice_index c.text 1 / 64
+
+abbrev pub type_of : Code → ℕ
+type_of c = slice_index c.text 1 / 8 % 8
+
+abbrev pub forward_of : Code → ℕ
+forward_of c = slice_index c.text 3 % 8 * 2 + slice_index c.text 4 / 128
+
+abbrev pub backward_of : Code → ℕ
+backward_of c = slice_index c.text 4 / 8 % 16
+
+-- the four fields of its vectors as a byte: the backward ones in the high half, and 0 for those that
+-- its type lacks
+abbrev pub vectors_of : Code → ℕ
+vectors_of c =
+    if type_of c == 3 then backward_of c * 16 + forward_of c
+    else (if type_of c == 2 then forward_of c else 0)
+
+abbrev pub header_of : Code → Header
+header_of c = record {
+  place = c.place;
+  temporal = temporal_of c;
+  coding = type_of c;
+  vectors = vectors_of c;
+}
+
+-- the picture header of the latest unit
+abbrev pub picture_of : List Code → Option Header
+picture_of [] = None
+picture_of (c ∷ past) =
+    if c.kind == 0 then Some (header_of c) else (if begins_unit c past then None else picture_of past)
+
+-- all of these together
+abbrev pub tally_of : List Code → Tally
+tally_of past = record {
+  begun = not (is_none_yet past);
+  rate = rate_of past;
+  unit = unit_of past;
+  picture = picture_of past;
+  pictures = pictures_of past;
+  before_group = before_group_of past;
+  slices = slices_of past;
+  all_slices = all_slices_of past;
+  head_end = head_end_of past;
+  slice = slice_of past;
+  has_sequence = has_sequence past;
+  starts_group = starts_group past;
+}

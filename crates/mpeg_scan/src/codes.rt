@@ -1,0 +1,64 @@
+ghost use Rattle.std.specs.Prelude.{◌≡◌, IsTrue};
+ghost use Rattle.mpeg_scan.specs.Codes.{is_whole, next_prefix};
+
+use crate::texts::Text;
+
+/// How much of the start code prefix 00 00 01 the bytes so far end with.
+#[derive(Clone, Copy)]
+pub enum Prefix {
+    /// Nothing of it.
+    Nothing,
+    /// One zero byte.
+    Zero,
+    /// Two zero bytes or more.
+    Zeros,
+    /// All of it: the next byte is the kind of a code.
+    Whole,
+}
+
+impl Prefix {
+    /// The same, once `byte` is read.
+    pub fn then(self, byte: u8) -> Prefix
+        ensures { result ≡ next_prefix self byte }
+    {
+        match byte {
+            1 => match self {
+                Prefix::Zeros => Prefix::Whole,
+                _ => Prefix::Nothing,
+            },
+            0 => match self {
+                Prefix::Zero | Prefix::Zeros => Prefix::Zeros,
+                Prefix::Nothing | Prefix::Whole => Prefix::Zero,
+            },
+            _ => Prefix::Nothing,
+        }
+    }
+
+    /// Whether the next byte is the kind of a code.
+    pub fn is_whole(self) -> bool
+        ensures { result ≡ is_whole self }
+    {
+        match self {
+            Prefix::Whole => true,
+            _ => false,
+        }
+    }
+
+    /// Whether nothing of the prefix stands there.
+    pub fn is_nothing(self) -> bool
+        ensures { IsTrue result → self ≡ Prefix.Nothing }
+    {
+        match self {
+            Prefix::Nothing => true,
+            _ => false,
+        }
+    }
+}
+
+/// A start code: the place of its prefix in the film, its kind, and the bytes after it.
+#[derive(Drop)]
+pub struct Code {
+    pub place: u64,
+    pub kind: u8,
+    pub text: Text,
+}

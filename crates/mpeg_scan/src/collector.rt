@@ -1,0 +1,50 @@
+ghost use Rattle.std.specs.Prelude.{◌≡◌, [], List};
+ghost use Rattle.mpeg_scan.specs.Calls.{Call};
+ghost use Rattle.mpeg_scan.specs.Films.{slices_in, units_in};
+
+use crate::found::Found;
+use crate::units::Unit;
+use std::alloc::Global;
+use vod_base::NoMemory;
+
+/// Keeps a film's units and the places of its slices.
+#[derive(Drop)]
+pub struct Collector {
+    pub units: Vec<Unit>,
+    pub slices: Vec<u64>,
+}
+
+impl Collector {
+    /// Without any.
+    pub fn new(alloc: Global) -> Collector
+        ensures units { result.units.items ≡ [] }
+        ensures slices { result.slices.items ≡ [] }
+    {
+        Collector {
+            units: Vec::new(alloc),
+            slices: Vec::new(alloc),
+        }
+    }
+}
+
+impl Found for Collector {
+    ghost heard = { λ c calls. (c.units.items ≡ units_in calls) × (c.slices.items ≡ slices_in calls) };
+
+    fn head(&mut self, _from: u64, _to: u64) -> Result<(), NoMemory> {
+        Ok(())
+    }
+
+    fn slice(&mut self, from: u64, _to: u64) -> Result<(), NoMemory> {
+        match self.slices.push(from) {
+            Ok(()) => Ok(()),
+            Err(_) => Err(NoMemory),
+        }
+    }
+
+    fn unit(&mut self, unit: Unit) -> Result<(), NoMemory> {
+        match self.units.push(unit) {
+            Ok(()) => Ok(()),
+            Err(_) => Err(NoMemory),
+        }
+    }
+}

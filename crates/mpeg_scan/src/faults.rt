@@ -1,0 +1,205 @@
+ghost use Rattle.std.specs.Prelude.{◌≡◌};
+ghost use Rattle.mpeg_scan.specs.Faults.{header_fault, kind_fault, second_fault, first_slice_fault, count_fault, code_fault, last_fault, picture_fault, rate_fault};
+
+use crate::codes::Code;
+use crate::tallies::{
+    EXTENSION, FIRST_SYSTEM, GROUP, PICTURE, SEQUENCE, Tally, is_head, is_slice, rate_code, type_of,
+};
+
+/// Why a film is refused. Places are those of start codes, in bytes from the film's first.
+#[derive(Clone, Copy, Debug, PartialEq, Eq)]
+pub enum FilmFault {
+    /// There is no byte.
+    Empty,
+    /// The first start code isn't that of a sequence header, or there is none.
+    NoSequence,
+    /// A system code.
+    SystemCode(u64),
+    /// An extension, which MPEG-1 video hasn't.
+    Mpeg2(u64),
+    /// A header with fewer bytes than its fields have.
+    ShortHeader(u64),
+    /// A picture rate code outside 1 to 8, or another than the film's first.
+    BadRate(u64, u8),
+    /// A picture type outside 1 to 4.
+    BadType(u64),
+    /// A picture without slices.
+    PictureWithoutSlices(u64),
+    /// A unit whose head has more than 1,380 bytes.
+    HeadTooLong(u64),
+    /// The 1,025th picture of a group.
+    GroupTooLong(u64),
+    /// More than 2^40 bytes, or the 4,194,305th picture.
+    TooLong,
+    /// A unit whose head has no picture.
+    HeadWithoutPicture(u64),
+}
+
+/// Why a film isn't scanned.
+#[derive(Clone, Copy, Debug, PartialEq, Eq)]
+pub enum ScanRefused {
+    /// The film is refused.
+    Fault(FilmFault),
+    /// Memory was wanted.
+    NoMemory,
+}
+
+// Bytes of a sequence header, of a group header, and of a picture header without and with the fields of
+// its vectors, each with the start code.
+const SEQUENCE_HEADER: u64 = 12;
+
+const GROUP_HEADER: u64 = 8;
+
+const PICTURE_HEADER: u64 = 8;
+
+const VECTORS_HEADER: u64 = 9;
+
+// Bytes of a head.
+const HEAD: u64 = 1380;
+
+// Pictures of a group, and of a film.
+const GROUP_PICTURES: u32 = 1024;
+
+const FILM_PICTURES: u32 = 4_194_304;
+
+fn rate_fault(rate: u8, code: &Code) -> Option<FilmFault>
+    ensures { result ≡ rate_fault rate code.now }
+{
+    let own = rate_code(code);
+    if own == 0 || 8 < own || (0 < rate && own != rate) {
+        Some(FilmFault::BadRate(code.place, own))
+    } else {
+        None
+    }
+}
+
+fn picture_fault(code: &Code, end: u64) -> Option<FilmFault>
+    ensures { result ≡ picture_fault code.now end }
+{
+    let kind = type_of(code);
+    let length = end.saturating_sub(code.place);
+    if length < PICTURE_HEADER || ((kind == 2 || kind == 3) && length < VECTORS_HEADER) {
+        Some(FilmFault::ShortHeader(code.place))
+    } else if 1 <= kind && kind <= 4 {
+        None
+    } else {
+        Some(FilmFault::BadType(code.place))
+    }
+}
+
+/// The refusal of the header that `code` begins, where the next code, or the film's end, stands at `end`.
+/// `rate` is the rate code of the film, or 0 before its first sequence header.
+pub fn header_fault(rate: u8, code: &Code, end: u64) -> Option<FilmFault>
+    ensures { result ≡ header_fault rate code.now end }
+{
+    let length = end.saturating_sub(code.place);
+    if code.kind == SEQUENCE {
+        if length < SEQUENCE_HEADER {
+            Some(FilmFault::ShortHeader(code.place))
+        } else {
+            rate_fault(rate, code)
+        }
+    } else if code.kind == GROUP {
+        if length < GROUP_HEADER {
+            Some(FilmFault::ShortHeader(code.place))
+        } else {
+            None
+        }
+    } else if code.kind == PICTURE {
+        picture_fault(code, end)
+    } else {
+        None
+    }
+}
+
+fn kind_fault(tally: &Tally, place: u64, kind: u8) -> Option<FilmFault>
+    ensures { result ≡ kind_fault tally.now place kind }
+{
+    if kind >= FIRST_SYSTEM {
+        Some(FilmFault::SystemCode(place))
+    } else if kind == EXTENSION {
+        Some(FilmFault::Mpeg2(place))
+    } else if !tally.begun && kind != SEQUENCE {
+        Some(FilmFault::NoSequence)
+    } else {
+        None
+    }
+}
+
+fn second_fault(tally: &Tally, kind: u8) -> Option<FilmFault>
+    ensures { result ≡ second_fault tally.now kind }
+{
+    if is_head(kind) && tally.slices == 0 {
+        match tally.picture {
+            None => None,
+            Some(picture) => Some(FilmFault::PictureWithoutSlices(picture.place)),
+        }
+    } else {
+        None
+    }
+}
+
+fn first_slice_fault(tally: &Tally, place: u64, kind: u8) -> Option<FilmFault>
+    ensures { result ≡ first_slice_fault tally.now place kind }
+{
+    if is_slice(kind) && tally.slices == 0 {
+        match tally.picture {
+            None => Some(FilmFault::HeadWithoutPicture(tally.unit)),
+            Some(_) => {
+                if HEAD < place.saturating_sub(tally.unit) {
+                    Some(FilmFault::HeadTooLong(tally.unit))
+                } else {
+                    None
+                }
+            }
+        }
+    } else {
+        None
+    }
+}
+
+fn count_fault(tally: &Tally, place: u64, kind: u8) -> Option<FilmFault>
+    ensures { result ≡ count_fault tally.now place kind }
+{
+    if kind != PICTURE {
+        None
+    } else if tally.pictures.saturating_sub(tally.before_group) >= GROUP_PICTURES {
+        Some(FilmFault::GroupTooLong(place))
+    } else if tally.pictures >= FILM_PICTURES {
+        Some(FilmFault::TooLong)
+    } else {
+        None
+    }
+}
+
+/// The refusal of a code after those of `tally`, once the headers before it are judged.
+pub fn code_fault(tally: &Tally, place: u64, kind: u8) -> Option<FilmFault>
+    ensures { result ≡ code_fault tally.now place kind }
+{
+    if let Some(fault) = kind_fault(tally, place, kind) {
+        return Some(fault);
+    }
+    if let Some(fault) = second_fault(tally, kind) {
+        return Some(fault);
+    }
+    if let Some(fault) = first_slice_fault(tally, place, kind) {
+        return Some(fault);
+    }
+    count_fault(tally, place, kind)
+}
+
+/// The refusal at a film's end, once the headers are judged.
+pub fn last_fault(tally: &Tally) -> Option<FilmFault>
+    ensures { result ≡ last_fault tally.now }
+{
+    if !tally.begun {
+        Some(FilmFault::NoSequence)
+    } else if 0 < tally.slices {
+        None
+    } else {
+        match tally.picture {
+            None => Some(FilmFault::HeadWithoutPicture(tally.unit)),
+            Some(picture) => Some(FilmFault::PictureWithoutSlices(picture.place)),
+        }
+    }
+}

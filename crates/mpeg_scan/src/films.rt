@@ -1,0 +1,50 @@
+ghost use Rattle.std.specs.Prelude.{◌≡◌, Some, Err, IfOk};
+ghost use Rattle.mpeg_scan.specs.Films.{IsFilm, refusal};
+
+use crate::collector::Collector;
+use crate::faults::{FilmFault, ScanRefused};
+use crate::scanner::Scanner;
+use crate::units::Unit;
+use std::alloc::Global;
+
+/// An accepted film, with what the grammar says of its bytes.
+#[derive(Drop)]
+pub struct Film {
+    /// Its bytes.
+    pub bytes: Vec<u8>,
+    /// The rate code of its first sequence header, from 1 to 8.
+    pub rate: u8,
+    /// Its units, in order.
+    pub units: Vec<Unit>,
+    /// The places of its slices, in order.
+    pub slice_starts: Vec<u64>,
+    pub ghost grammar: { IsFilm bytes.items rate units.items slice_starts.items },
+}
+
+// The most bytes of a film.
+const FILM: usize = 1 << 40;
+
+/// Scans a whole film.
+pub fn scan(alloc: Global, bytes: Vec<u8>) -> Result<Film, ScanRefused>
+    ensures film { IfOk result (λ film. film.bytes.items ≡ bytes.items) }
+    ensures fault { (f : FilmFault) → result ≡ Err (ScanRefused.Fault f) → refusal bytes.items ≡ Some f }
+{
+    if FILM < bytes.len() {
+        return Err(ScanRefused::Fault(FilmFault::TooLong));
+    }
+    let mut scanner = Scanner::new();
+    let mut found = Collector::new(alloc);
+    match scanner.feed(&bytes, &mut found) {
+        Ok(()) => {}
+        Err(refused) => return Err(refused),
+    }
+    match scanner.finish(&mut found) {
+        Ok(ending) => Ok(Film {
+            bytes,
+            rate: ending.rate,
+            units: found.units,
+            slice_starts: found.slices,
+        }),
+        Err(refused) => Err(refused),
+    }
+}

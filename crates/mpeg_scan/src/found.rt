@@ -1,0 +1,91 @@
+ghost use Rattle.std.specs.Prelude.{◌≡◌, ◌++◌, ◌∷◌, [], List, OnOk};
+ghost use Rattle.mpeg_scan.specs.Calls.{Call, calls_at, head_call, slice_call, unit_at, unit_call, unit_end, kind_of};
+
+use crate::tallies::{Header, Tally, is_head, is_slice};
+use crate::units::{Kind, Unit};
+use vod_base::NoMemory;
+
+/// What hears of a film's parts while it is scanned: of each unit its head, its slices in order, and
+/// then the unit itself, each when it has ended.
+pub trait Found {
+    ghost heard: { Self → List Call → Type 0 };
+
+    /// A head, from its unit's first start code to its first slice.
+    fn head(&mut self, from: u64, to: u64) -> Result<(), NoMemory>
+        ensures { OnOk result ((calls : List Call) → heard self.old calls → heard self.new (calls ++ head_call from to ∷ [])) };
+
+    /// A slice, from its start code to the next slice of its unit or to its unit's end.
+    fn slice(&mut self, from: u64, to: u64) -> Result<(), NoMemory>
+        ensures { OnOk result ((calls : List Call) → heard self.old calls → heard self.new (calls ++ slice_call from to ∷ [])) };
+
+    /// A unit.
+    fn unit(&mut self, unit: Unit) -> Result<(), NoMemory>
+        ensures { OnOk result ((calls : List Call) → heard self.old calls → heard self.new (calls ++ unit_call unit ∷ [])) };
+}
+
+// The kind of a picture of type 1 to 4.
+fn kind_of(coding: u8) -> Kind
+    ensures { result ≡ kind_of coding }
+{
+    if coding == 1 {
+        Kind::I
+    } else if coding == 2 {
+        Kind::P
+    } else if coding == 3 {
+        Kind::B
+    } else {
+        Kind::D
+    }
+}
+
+// The latest unit, where it ends at `to`.
+fn unit_at(tally: &Tally, to: u64) -> Unit
+    ensures { result ≡ unit_at tally.now to }
+{
+    let picture = tally.picture.unwrap_or(Header {
+        place: 0,
+        temporal: 0,
+        coding: 0,
+        vectors: 0,
+    });
+    Unit {
+        from: tally.unit,
+        head_end: tally.head_end,
+        to,
+        first_slice: tally.all_slices.saturating_sub(tally.slices),
+        slices: tally.slices,
+        temporal: picture.temporal,
+        presentation: u64::from(tally.before_group) + u64::from(picture.temporal),
+        kind: kind_of(picture.coding),
+        vectors: picture.vectors,
+        has_sequence: tally.has_sequence,
+        starts_group: tally.starts_group,
+    }
+}
+
+/// Tells of the latest unit's last slice and of the unit, which end at `to`.
+#[tactic(auto, using(std::proofs::lemmas::List::append_assoc))]
+pub fn tell_unit<F: Found>(tally: &Tally, to: u64, found: &mut F) -> Result<(), NoMemory>
+    ensures { OnOk result ((calls : List Call) → F.heard found.old calls → F.heard found.new (calls ++ unit_end tally.now to)) }
+{
+    found.slice(tally.slice, to)?;
+    found.unit(unit_at(tally, to))
+}
+
+#[tactic(auto, unfolding(crate::specs::Calls::calls_at))]
+/// Tells of what ends at a code after those of `tally`.
+pub fn tell<F: Found>(tally: &Tally, place: u64, kind: u8, found: &mut F) -> Result<(), NoMemory>
+    ensures { OnOk result ((calls : List Call) → F.heard found.old calls → F.heard found.new (calls ++ calls_at tally.now place kind)) }
+{
+    if is_slice(kind) {
+        if tally.slices == 0 {
+            found.head(tally.unit, place)
+        } else {
+            found.slice(tally.slice, place)
+        }
+    } else if is_head(kind) && 0 < tally.slices {
+        tell_unit(tally, place, found)
+    } else {
+        Ok(())
+    }
+}

@@ -1,0 +1,22 @@
+//! The pictures of an MPEG-1 video elementary stream (ISO/IEC 11172-2), read once from the front, whole
+//! or in pieces.
+#![tactic(auto)]
+
+mod codes;
+mod collector;
+mod faults;
+mod films;
+mod found;
+mod scanner;
+mod tallies;
+mod texts;
+mod units;
+
+pub use faults::{FilmFault, ScanRefused};
+pub use films::{Film, scan};
+pub use found::Found;
+pub use scanner::{Ending, Scanner};
+pub use units::{Kind, Unit, picture_units};
+
+#[cfg(test)]
+mod tests;

@@ -1,0 +1,251 @@
+ghost use Rattle.std.specs.Prelude.{◌≡◌, ℕ, List, []};
+ghost use Rattle.mpeg_scan.specs.Words.{header_of, is_head, is_slice, rate_code, tally_of, type_of};
+ghost use Rattle.mpeg_scan.specs.Steps.{next, next_all_slices, next_before_group, next_begins, next_has_sequence, next_head_end, next_picture, next_pictures, next_rate, next_slice, next_slices, next_starts_group, next_unit};
+
+use crate::codes::Code;
+
+// Kinds of start codes (ISO/IEC 11172-2, table 2-D.1).
+pub const PICTURE: u8 = 0x00;
+
+pub const SEQUENCE: u8 = 0xb3;
+
+pub const EXTENSION: u8 = 0xb5;
+
+pub const GROUP: u8 = 0xb8;
+
+pub const FIRST_SYSTEM: u8 = 0xb9;
+
+const LAST_SLICE: u8 = 0xaf;
+
+/// Whether a code of this kind begins a header of a head.
+pub fn is_head(kind: u8) -> bool
+    ensures { result ≡ is_head kind }
+{
+    kind == PICTURE || kind == SEQUENCE || kind == GROUP
+}
+
+/// Whether a code of this kind begins a slice.
+pub fn is_slice(kind: u8) -> bool
+    ensures { result ≡ is_slice kind }
+{
+    1 <= kind && kind <= LAST_SLICE
+}
+
+/// The picture rate code of a sequence header.
+pub fn rate_code(code: &Code) -> u8
+    ensures { result ≡ rate_code code.now }
+{
+    code.text.byte(3) % 16
+}
+
+/// The type in a picture header.
+pub fn type_of(code: &Code) -> u8
+    ensures { result ≡ type_of code.now }
+{
+    code.text.byte(1) / 8 % 8
+}
+
+/// What a unit's picture header says.
+#[derive(Clone, Copy)]
+pub struct Header {
+    pub place: u64,
+    pub temporal: u16,
+    pub coding: u8,
+    pub vectors: u8,
+}
+
+impl Header {
+    fn read(code: &Code) -> Header
+        ensures { result ≡ header_of code.now }
+    {
+        let forward = code.text.byte(3) % 8 * 2 + code.text.byte(4) / 128;
+        let backward = code.text.byte(4) / 8 % 16;
+        let coding = type_of(code);
+        Header {
+            place: code.place,
+            temporal: u16::from(code.text.byte(0)) * 4 + u16::from(code.text.byte(1) / 64),
+            coding,
+            vectors: if coding == 3 {
+                backward * 16 + forward
+            } else if coding == 2 {
+                forward
+            } else {
+                0
+            },
+        }
+    }
+}
+
+/// What the start codes so far say of the latest unit, and of the units before it.
+#[derive(Clone, Copy)]
+pub struct Tally {
+    pub begun: bool,
+    pub rate: u8,
+    pub unit: u64,
+    pub picture: Option<Header>,
+    pub pictures: u32,
+    pub before_group: u32,
+    pub slices: u64,
+    pub all_slices: u64,
+    pub head_end: u64,
+    pub slice: u64,
+    pub has_sequence: bool,
+    pub starts_group: bool,
+}
+
+impl Tally {
+    /// Of no codes.
+    pub fn new() -> Tally
+        ensures { result ≡ tally_of [] }
+    {
+        Tally {
+            begun: false,
+            rate: 0,
+            unit: 0,
+            picture: None,
+            pictures: 0,
+            before_group: 0,
+            slices: 0,
+            all_slices: 0,
+            head_end: 0,
+            slice: 0,
+            has_sequence: false,
+            starts_group: false,
+        }
+    }
+
+    /// The same with one code more, whose text is complete. Counts stop at the greatest numbers of their
+    /// types, which no film reaches.
+    #[tactic(auto, unfolding(crate::specs::Steps::next))]
+    pub fn then(&self, code: &Code) -> Tally
+        ensures { result ≡ next self.now code.now }
+    {
+        Tally {
+            begun: true,
+            rate: self.next_rate(code),
+            unit: self.next_unit(code),
+            picture: self.next_picture(code),
+            pictures: self.next_pictures(code),
+            before_group: self.next_before_group(code),
+            slices: self.next_slices(code),
+            all_slices: self.next_all_slices(code),
+            head_end: self.next_head_end(code),
+            slice: self.next_slice(code),
+            has_sequence: self.next_has_sequence(code),
+            starts_group: self.next_starts_group(code),
+        }
+    }
+
+    // Whether a code of this kind begins a unit.
+    fn begins_unit(&self, kind: u8) -> bool
+        ensures { result ≡ next_begins self.now kind }
+    {
+        !self.begun || (is_head(kind) && 0 < self.slices)
+    }
+
+    fn next_rate(&self, code: &Code) -> u8
+        ensures { result ≡ next_rate self.now code.now }
+    {
+        if self.rate == 0 && code.kind == SEQUENCE {
+            rate_code(code)
+        } else {
+            self.rate
+        }
+    }
+
+    fn next_unit(&self, code: &Code) -> u64
+        ensures { result ≡ next_unit self.now code.now }
+    {
+        if self.begins_unit(code.kind) {
+            code.place
+        } else {
+            self.unit
+        }
+    }
+
+    fn next_picture(&self, code: &Code) -> Option<Header>
+        ensures { result ≡ next_picture self.now code.now }
+    {
+        if code.kind == PICTURE {
+            Some(Header::read(code))
+        } else if self.begins_unit(code.kind) {
+            None
+        } else {
+            self.picture
+        }
+    }
+
+    fn next_pictures(&self, code: &Code) -> u32
+        ensures { result ≡ next_pictures self.now code.now }
+    {
+        if code.kind == PICTURE {
+            self.pictures.saturating_add(1)
+        } else {
+            self.pictures
+        }
+    }
+
+    fn next_before_group(&self, code: &Code) -> u32
+        ensures { result ≡ next_before_group self.now code.now }
+    {
+        if code.kind == GROUP {
+            self.pictures
+        } else {
+            self.before_group
+        }
+    }
+
+    fn next_slices(&self, code: &Code) -> u64
+        ensures { result ≡ next_slices self.now code.now }
+    {
+        if is_head(code.kind) {
+            0
+        } else if is_slice(code.kind) {
+            self.slices.saturating_add(1)
+        } else {
+            self.slices
+        }
+    }
+
+    fn next_all_slices(&self, code: &Code) -> u64
+        ensures { result ≡ next_all_slices self.now code.now }
+    {
+        if is_slice(code.kind) {
+            self.all_slices.saturating_add(1)
+        } else {
+            self.all_slices
+        }
+    }
+
+    fn next_head_end(&self, code: &Code) -> u64
+        ensures { result ≡ next_head_end self.now code.now }
+    {
+        if is_slice(code.kind) && self.slices == 0 {
+            code.place
+        } else {
+            self.head_end
+        }
+    }
+
+    fn next_slice(&self, code: &Code) -> u64
+        ensures { result ≡ next_slice self.now code.now }
+    {
+        if is_slice(code.kind) {
+            code.place
+        } else {
+            self.slice
+        }
+    }
+
+    fn next_has_sequence(&self, code: &Code) -> bool
+        ensures { result ≡ next_has_sequence self.now code.now }
+    {
+        code.kind == SEQUENCE || (!self.begins_unit(code.kind) && self.has_sequence)
+    }
+
+    fn next_starts_group(&self, code: &Code) -> bool
+        ensures { result ≡ next_starts_group self.now code.now }
+    {
+        code.kind == GROUP || !self.begun || (!self.begins_unit(code.kind) && self.starts_group)
+    }
+}

@@ -1,0 +1,437 @@
+//! Expected values are worked out by hand from ISO/IEC 11172-2; film A is a sequence header, a group
+//! header, an I picture and one slice, and film B is film A, a P picture and one slice.
+
+ghost use Rattle.std.specs.Prelude.{⊤, ◌<◌};
+
+use crate::{FilmFault, Found, Kind, ScanRefused, Scanner, Unit, picture_units, scan};
+use std::alloc::{AllocError, Global};
+use std::process::Abort;
+use std::test::Fail;
+use vod_base::NoMemory;
+
+const SEQUENCE: [u8; 12] = [
+    0, 0, 1, 0xb3, 0x16, 0x01, 0x20, 0x13, 0xff, 0xff, 0xe0, 0xa0,
+];
+
+const GROUP: [u8; 8] = [0, 0, 1, 0xb8, 0x00, 0x08, 0x00, 0x40];
+
+const PICTURE_I: [u8; 8] = [0, 0, 1, 0, 0x00, 0x0f, 0xff, 0xf8];
+
+const PICTURE_P: [u8; 9] = [0, 0, 1, 0, 0x00, 0x57, 0xff, 0xf8, 0x80];
+
+const SLICE: [u8; 6] = [0, 0, 1, 1, 0x12, 0x34];
+
+const UNIT_A: Unit = Unit {
+    from: 0,
+    head_end: 28,
+    to: 34,
+    first_slice: 0,
+    slices: 1,
+    temporal: 0,
+    presentation: 0,
+    kind: Kind::I,
+    vectors: 0,
+    has_sequence: true,
+    starts_group: true,
+};
+
+const UNIT_B: Unit = Unit {
+    from: 34,
+    head_end: 43,
+    to: 49,
+    first_slice: 1,
+    slices: 1,
+    temporal: 1,
+    presentation: 1,
+    kind: Kind::P,
+    vectors: 1,
+    has_sequence: false,
+    starts_group: false,
+};
+
+#[derive(Debug, PartialEq, Eq, Clone, Copy)]
+enum Told {
+    Head(u64, u64),
+    Slice(u64, u64),
+    Unit(Unit),
+}
+
+#[derive(Drop)]
+struct Listener {
+    told: Vec<Told>,
+    pictures: u64,
+    keeps: bool,
+}
+
+impl Listener {
+    fn new(alloc: Global, keeps: bool) -> Listener {
+        Listener {
+            told: Vec::new(alloc),
+            pictures: 0,
+            keeps,
+        }
+    }
+
+    fn hear(&mut self, told: Told) -> Result<(), NoMemory> {
+        if !self.keeps {
+            return Ok(());
+        }
+        match self.told.push(told) {
+            Ok(()) => Ok(()),
+            Err(_) => Err(NoMemory),
+        }
+    }
+}
+
+impl Found for Listener {
+    ghost heard = { λ _ _. ⊤ };
+
+    fn head(&mut self, from: u64, to: u64) -> Result<(), NoMemory> {
+        self.hear(Told::Head(from, to))
+    }
+
+    fn slice(&mut self, from: u64, to: u64) -> Result<(), NoMemory> {
+        self.hear(Told::Slice(from, to))
+    }
+
+    fn unit(&mut self, unit: Unit) -> Result<(), NoMemory> {
+        self.pictures = self.pictures.saturating_add(1);
+        self.hear(Told::Unit(unit))
+    }
+}
+
+fn joined(alloc: Global, parts: &[&[u8]]) -> Result<Vec<u8>, AllocError> {
+    let mut film = Vec::new(alloc);
+    for part in parts {
+        film.extend_from_slice(part)?;
+    }
+    Ok(film)
+}
+
+fn refused(
+    rt: &impl Abort,
+    alloc: Global,
+    parts: &[&[u8]],
+    fault: FilmFault,
+) -> Result<(), AllocError> {
+    let film = joined(alloc, parts)?;
+    match scan(alloc, film) {
+        Ok(_) => assert!(rt; false, "accepted instead of {fault:?}"),
+        Err(refused) => assert_eq!(rt; refused, ScanRefused::Fault(fault)),
+    }
+    Ok(())
+}
+
+fn sequence_of(rate: u8) -> [u8; 12]
+    requires { rate < 16 }
+{
+    [
+        0,
+        0,
+        1,
+        0xb3,
+        0x16,
+        0x01,
+        0x20,
+        0x10 + rate,
+        0xff,
+        0xff,
+        0xe0,
+        0xa0,
+    ]
+}
+
+fn picture_of(kind: u8) -> [u8; 8]
+    requires { kind < 8 }
+{
+    [0, 0, 1, 0, 0x00, 0x07 + 8 * kind, 0xff, 0xf8]
+}
+
+#[test]
+fn units_of_films(rt: HostRuntime) -> Result<(), Fail> {
+    let bytes = joined(rt.alloc(), &[&SEQUENCE, &GROUP, &PICTURE_I, &SLICE])?;
+    match scan(rt.alloc(), bytes) {
+        Ok(film) => {
+            assert_eq!(rt; film.rate, 3);
+            assert_eq!(rt; film.bytes.len(), 34);
+            assert_eq!(rt; film.units.as_slice(), [UNIT_A].as_slice());
+            assert_eq!(rt; film.slice_starts.as_slice(), [28].as_slice());
+        }
+        Err(refused) => assert!(rt; false, "{refused:?}"),
+    }
+    let bytes = joined(
+        rt.alloc(),
+        &[&SEQUENCE, &GROUP, &PICTURE_I, &SLICE, &PICTURE_P, &SLICE],
+    )?;
+    match scan(rt.alloc(), bytes) {
+        Ok(film) => {
+            assert_eq!(rt; film.units.as_slice(), [UNIT_A, UNIT_B].as_slice());
+            assert_eq!(rt; film.slice_starts.as_slice(), [28, 43].as_slice());
+        }
+        Err(refused) => assert!(rt; false, "{refused:?}"),
+    }
+    Ok(())
+}
+
+#[test]
+fn refusals(rt: HostRuntime) -> Result<(), Fail> {
+    let alloc = rt.alloc();
+    let mpeg2 = [0, 0, 1, 0xb5];
+    let system = [0, 0, 1, 0xba];
+    refused(&rt, alloc, &[], FilmFault::Empty)?;
+    refused(&rt, alloc, &[&[0]], FilmFault::NoSequence)?;
+    refused(
+        &rt,
+        alloc,
+        &[&GROUP, &PICTURE_I, &SLICE],
+        FilmFault::NoSequence,
+    )?;
+    refused(&rt, alloc, &[&SLICE], FilmFault::NoSequence)?;
+    refused(&rt, alloc, &[&system], FilmFault::SystemCode(0))?;
+    refused(&rt, alloc, &[&SEQUENCE, &mpeg2], FilmFault::Mpeg2(12))?;
+    refused(
+        &rt,
+        alloc,
+        &[&SEQUENCE, &GROUP, &PICTURE_I[..6]],
+        FilmFault::ShortHeader(20),
+    )?;
+    refused(
+        &rt,
+        alloc,
+        &[&SEQUENCE, &GROUP, &PICTURE_P[..8]],
+        FilmFault::ShortHeader(20),
+    )?;
+    refused(
+        &rt,
+        alloc,
+        &[&SEQUENCE, &GROUP[..7]],
+        FilmFault::ShortHeader(12),
+    )?;
+    refused(&rt, alloc, &[&SEQUENCE[..11]], FilmFault::ShortHeader(0))?;
+    refused(
+        &rt,
+        alloc,
+        &[&sequence_of(0), &GROUP],
+        FilmFault::BadRate(0, 0),
+    )?;
+    refused(
+        &rt,
+        alloc,
+        &[&sequence_of(9), &GROUP],
+        FilmFault::BadRate(0, 9),
+    )?;
+    refused(
+        &rt,
+        alloc,
+        &[&SEQUENCE, &GROUP, &PICTURE_I, &SLICE, &sequence_of(4)],
+        FilmFault::BadRate(34, 4),
+    )?;
+    refused(
+        &rt,
+        alloc,
+        &[&SEQUENCE, &picture_of(0), &SLICE],
+        FilmFault::BadType(12),
+    )?;
+    refused(
+        &rt,
+        alloc,
+        &[&SEQUENCE, &picture_of(5), &SLICE],
+        FilmFault::BadType(12),
+    )?;
+    refused(
+        &rt,
+        alloc,
+        &[&SEQUENCE, &GROUP, &PICTURE_I],
+        FilmFault::PictureWithoutSlices(20),
+    )?;
+    refused(
+        &rt,
+        alloc,
+        &[&SEQUENCE, &PICTURE_I, &PICTURE_P, &SLICE],
+        FilmFault::PictureWithoutSlices(12),
+    )?;
+    refused(&rt, alloc, &[&SEQUENCE], FilmFault::HeadWithoutPicture(0))?;
+    refused(
+        &rt,
+        alloc,
+        &[&SEQUENCE, &SLICE],
+        FilmFault::HeadWithoutPicture(0),
+    )?;
+    Ok(())
+}
+
+#[test]
+fn limits_of_heads_and_groups(rt: HostRuntime) -> Result<(), Fail> {
+    let alloc = rt.alloc();
+    let stuffing = [0; 1353];
+    refused(
+        &rt,
+        alloc,
+        &[&SEQUENCE, &GROUP, &PICTURE_I, &stuffing, &SLICE],
+        FilmFault::HeadTooLong(0),
+    )?;
+    let bytes = joined(
+        alloc,
+        &[&SEQUENCE, &GROUP, &PICTURE_I, &stuffing[1..], &SLICE],
+    )?;
+    assert!(rt; scan(alloc, bytes).is_ok());
+    let mut bytes = joined(alloc, &[&SEQUENCE])?;
+    for _ in 0..1024 {
+        bytes.extend_from_slice(&PICTURE_I)?;
+        bytes.extend_from_slice(&SLICE)?;
+    }
+    assert!(rt; scan(alloc, bytes.clone()?).is_ok());
+    refused(
+        &rt,
+        alloc,
+        &[&bytes, &PICTURE_I],
+        FilmFault::GroupTooLong(14348),
+    )?;
+    refused(
+        &rt,
+        alloc,
+        &[&bytes[..bytes.len().saturating_sub(6)], &PICTURE_I],
+        FilmFault::PictureWithoutSlices(14334),
+    )?;
+    Ok(())
+}
+
+#[test]
+fn earlier_points_go_first(rt: HostRuntime) -> Result<(), Fail> {
+    let alloc = rt.alloc();
+    let mpeg2 = [0, 0, 1, 0xb5];
+    let system = [0, 0, 1, 0xba];
+    let bad_type = [0, 0, 1, 0, 0x00, 0x07, 0xff, 0xf8];
+    let bad_rate = [
+        0, 0, 1, 0xb3, 0x16, 0x01, 0x20, 0x10, 0xff, 0xff, 0xe0, 0xa0,
+    ];
+    let stuffing = [0; 1400];
+    refused(
+        &rt,
+        alloc,
+        &[&SEQUENCE[..11], &system],
+        FilmFault::ShortHeader(0),
+    )?;
+    refused(&rt, alloc, &[&bad_rate, &mpeg2], FilmFault::BadRate(0, 0))?;
+    refused(
+        &rt,
+        alloc,
+        &[&SEQUENCE, &bad_type, &system],
+        FilmFault::BadType(12),
+    )?;
+    refused(
+        &rt,
+        alloc,
+        &[&SEQUENCE, &PICTURE_P[..8], &PICTURE_I],
+        FilmFault::ShortHeader(12),
+    )?;
+    refused(
+        &rt,
+        alloc,
+        &[&SEQUENCE, &bad_type, &PICTURE_I],
+        FilmFault::BadType(12),
+    )?;
+    refused(
+        &rt,
+        alloc,
+        &[&SEQUENCE[..11], &SLICE],
+        FilmFault::ShortHeader(0),
+    )?;
+    refused(&rt, alloc, &[&bad_rate, &SLICE], FilmFault::BadRate(0, 0))?;
+    refused(
+        &rt,
+        alloc,
+        &[&SEQUENCE, &bad_type, &stuffing, &SLICE],
+        FilmFault::BadType(12),
+    )?;
+    refused(&rt, alloc, &[&system, &SEQUENCE], FilmFault::SystemCode(0))?;
+    refused(&rt, alloc, &[&mpeg2, &SEQUENCE], FilmFault::Mpeg2(0))?;
+    refused(&rt, alloc, &[&PICTURE_I, &SLICE], FilmFault::NoSequence)?;
+    refused(
+        &rt,
+        alloc,
+        &[&[0, 0, 1, 0, 0, 1, 0xb3], &SEQUENCE],
+        FilmFault::NoSequence,
+    )?;
+    Ok(())
+}
+
+// What a film tells when it is fed in two pieces, or byte by byte.
+fn told_in_pieces(
+    alloc: Global,
+    film: &[u8],
+    cut: Option<usize>,
+) -> Result<Vec<Told>, ScanRefused> {
+    if 1000 < film.len() {
+        return Err(ScanRefused::NoMemory);
+    }
+    let mut found = Listener::new(alloc, true);
+    let mut scanner = Scanner::new();
+    match cut {
+        Some(at) => {
+            let (front, back) = film.split_at(at.min(film.len()));
+            scanner.feed(front, &mut found)?;
+            scanner.feed(back, &mut found)?;
+        }
+        None => {
+            for byte in film {
+                scanner.feed(&[*byte], &mut found)?;
+            }
+        }
+    }
+    scanner.finish(&mut found)?;
+    Ok(found.told)
+}
+
+#[test]
+fn cuts_change_nothing(rt: HostRuntime) -> Result<(), Fail> {
+    let film = joined(
+        rt.alloc(),
+        &[&SEQUENCE, &GROUP, &PICTURE_I, &SLICE, &PICTURE_P, &SLICE],
+    )?;
+    let want = [
+        Told::Head(0, 28),
+        Told::Slice(28, 34),
+        Told::Unit(UNIT_A),
+        Told::Head(34, 43),
+        Told::Slice(43, 49),
+        Told::Unit(UNIT_B),
+    ];
+    for cut in 0..=film.len() {
+        match told_in_pieces(rt.alloc(), &film, Some(cut)) {
+            Ok(got) => assert_eq!(rt; got.as_slice(), want.as_slice(), "cut at {cut}"),
+            Err(refused) => assert!(rt; false, "{refused:?}"),
+        }
+    }
+    match told_in_pieces(rt.alloc(), &film, None) {
+        Ok(got) => assert_eq!(rt; got.as_slice(), want.as_slice()),
+        Err(refused) => assert!(rt; false, "{refused:?}"),
+    }
+    Ok(())
+}
+
+#[test]
+fn a_refusal_is_answered_again(rt: HostRuntime) {
+    let mut found = Listener::new(rt.alloc(), true);
+    let mut scanner = Scanner::new();
+    let fault = Err(ScanRefused::Fault(FilmFault::SystemCode(0)));
+    assert_eq!(rt; scanner.feed(&[0, 0, 1, 0xba], &mut found), fault);
+    assert_eq!(rt; scanner.feed(&SEQUENCE, &mut found), fault);
+    assert!(rt; scanner.finish(&mut found).is_err());
+}
+
+#[test]
+fn times_of_pictures(rt: HostRuntime) {
+    for (rate, units) in [
+        (1, 15015),
+        (2, 15000),
+        (3, 14400),
+        (4, 12012),
+        (5, 12000),
+        (6, 7200),
+        (7, 6006),
+        (8, 6000),
+    ] {
+        assert_eq!(rt; picture_units(rate), units);
+    }
+}

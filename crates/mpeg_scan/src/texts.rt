@@ -1,0 +1,63 @@
+ghost use Rattle.std.specs.Prelude.{◌≡◌, ℕ, ◌<◌, ◌≤◌, List, [], length, take, slice_index, not, nat_lt};
+ghost use Rattle.mpeg_scan.specs.Texts.{noted};
+
+use std::marker::Model;
+
+/// The bytes of a text that the headers of this standard's films are read from.
+pub const TEXT: u8 = 5;
+
+/// The first bytes after a start code, as far as they are read.
+#[derive(Drop)]
+pub struct Text {
+    bytes: [u8; 5],
+    len: u8,
+}
+
+impl Model for Text {
+    ghost Value = { List ℕ };
+
+    ghost view = { λ t. take t.len t.bytes };
+
+    ghost invariant = { λ t. t.len ≤ 5 };
+}
+
+impl Text {
+    // No bytes.
+    pub fn new() -> Text
+        ensures { result ≡ [] }
+    {
+        Text {
+            bytes: [0; 5],
+            len: 0,
+        }
+    }
+
+    // Whether it takes no further byte.
+    pub fn is_full(&self) -> bool
+        ensures full { result ≡ not (nat_lt (length self.now) 5) }
+        ensures bound { length self.now ≤ 5 }
+    {
+        self.len == TEXT
+    }
+
+    // Adds a byte, where there is room.
+    pub fn note(&mut self, byte: u8)
+        ensures { self.new ≡ noted self.old byte }
+    {
+        if self.len < TEXT {
+            self.bytes[usize::from(self.len)] = byte;
+            self.len += 1;
+        }
+    }
+
+    // The byte at an index, or 0 where it isn't read.
+    pub fn byte(&self, index: u8) -> u8
+        ensures { result ≡ slice_index self.now index }
+    {
+        if index < self.len {
+            self.bytes[usize::from(index)]
+        } else {
+            0
+        }
+    }
+}
