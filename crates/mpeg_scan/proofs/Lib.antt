@@ -2,3 +2,4 @@ pub mod CodeLemmas
 pub mod StepLemmas
 pub mod ReadLemmas
 pub mod FilmLemmas
+pub mod TileLemmas

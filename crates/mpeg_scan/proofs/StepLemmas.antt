@@ -80,11 +80,11 @@ all_slices-bound [] = omega arith
 all_slices-bound (c ∷ past) =
     cond-bound (is_slice c.kind) (all_slices_of past + 1) (all_slices_of past) (suc (length past)) (omega (arith, all_slices-bound past)) (omega (arith, all_slices-bound past))
 
-otherwise-first : (f g : Option FilmFault) → otherwise f g ≡ None → f ≡ None
+pub otherwise-first : (f g : Option FilmFault) → otherwise f g ≡ None → f ≡ None
 otherwise-first None g e = refl
 otherwise-first (Some f) g e = e
 
-otherwise-second : (f g : Option FilmFault) → otherwise f g ≡ None → g ≡ None
+pub otherwise-second : (f g : Option FilmFault) → otherwise f g ≡ None → g ≡ None
 otherwise-second None g e = e
 otherwise-second (Some f) g e = absurd (cc)
 
@@ -92,13 +92,18 @@ pub accepted-older : (c : Code) (past : List Code) → first_fault (c ∷ past) 
 unfolding first_fault
 accepted-older c past e = otherwise-first (first_fault past) (fault_at past c.place c.kind) e
 
-code_fault-older : (c : Code) (past : List Code) → first_fault (c ∷ past) ≡ None → count_fault (tally_of past) c.place c.kind ≡ None
+-- a code of an accepted list is refused by none of its points
+pub code-accepted : (c : Code) (past : List Code) → first_fault (c ∷ past) ≡ None → code_fault (tally_of past) c.place c.kind ≡ None
 unfolding first_fault fault_at
-code_fault-older c past e =
+code-accepted c past e =
     let t = tally_of past in
     let at_code = otherwise-second (first_fault past) (otherwise (latest_fault past c.place) (code_fault t c.place c.kind)) e in
-    let of_code = otherwise-second (latest_fault past c.place) (code_fault t c.place c.kind) at_code in
-    let rest = otherwise-second (kind_fault t c.place c.kind) (otherwise (second_fault t c.kind) (otherwise (first_slice_fault t c.place c.kind) (count_fault t c.place c.kind))) of_code in
+    otherwise-second (latest_fault past c.place) (code_fault t c.place c.kind) at_code
+
+code_fault-older : (c : Code) (past : List Code) → first_fault (c ∷ past) ≡ None → count_fault (tally_of past) c.place c.kind ≡ None
+code_fault-older c past e =
+    let t = tally_of past in
+    let rest = otherwise-second (kind_fault t c.place c.kind) (otherwise (second_fault t c.kind) (otherwise (first_slice_fault t c.place c.kind) (count_fault t c.place c.kind))) (code-accepted c past e) in
     let last = otherwise-second (second_fault t c.kind) (otherwise (first_slice_fault t c.place c.kind) (count_fault t c.place c.kind)) rest in
     otherwise-second (first_slice_fault t c.place c.kind) (count_fault t c.place c.kind) last
 

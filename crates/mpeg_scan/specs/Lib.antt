@@ -7,3 +7,4 @@ pub mod Steps
 pub mod Scans
 pub mod Films
 pub mod Rates
+pub mod Tiles

@@ -36,3 +36,7 @@ pub returns-in-Err-finish-clause-fault : goal.returns-in-Err-finish-clause-fault
 returns-in-Err-finish-clause-fault c = λ f is.
     let same : c.in-Err-finish.refused ≡ Fault f = cc in
     c.finish.ensures.fault f (cc) (read [] c.args.bytes.items) (subst (λ (l : List ℕ). Fed c.feed.new.self (read [] l)) c.deref.ensures.value (c.in-Ok.ensures.kept [] c.new-scanner.ensures))
+
+pub returns-in-Ok-finish-clause-tiled : goal.returns-in-Ok-finish-clause-tiled
+returns-in-Ok-finish-clause-tiled c =
+    c.in-Ok-finish.ensures.tiled (read [] c.args.bytes.items) (subst (λ (l : List ℕ). Fed c.feed.new.self (read [] l)) c.deref.ensures.value (c.in-Ok.ensures.kept [] c.new-scanner.ensures))

@@ -1,0 +1,378 @@
+-- The parts that are told of lie one after another.
+use Rattle.std.proofs.Common.{ℕ, suc, zero, Bool, true, false, not, cond, eqb, ltb, leb, ◌&&◌, ◌||◌, ◌+◌, ◌-◌, ◌<◌, ◌≤◌, ◌≡◌, ◌≢◌, ◌⊎◌, ◌^◌, List, [], ◌∷◌, ◌++◌, Option, Some, None, length, sym, ◌∙◌, ap, refl, subst, inl, inr, arith}
+use Rattle.std.proofs.lemmas.Bool.{cases_Bool, ltb-true, ltb-false, leb-true, eqb-true, eqb-false, ne_eqb, eq-eqb, lt-ltb, le-ltb, le-leb, lt-leb, false≢true, true≢false, and_parts, and_from}
+use Rattle.mpeg_scan.specs.declared.codes.Code.{Code}
+use Rattle.mpeg_scan.specs.declared.faults.FilmFault.{FilmFault}
+use Rattle.mpeg_scan.specs.declared.faults.FilmFault.TheVariants.{Empty, TooLong, SystemCode, Mpeg2, NoSequence, HeadWithoutPicture, HeadTooLong}
+use Rattle.mpeg_scan.specs.declared.tallies.Header.{Header}
+use Rattle.mpeg_scan.specs.declared.tallies.Tally.{Tally}
+use Rattle.mpeg_scan.specs.declared.units.Unit.{Unit as PictureUnit}
+use Rattle.mpeg_scan.specs.declared.codes.Prefix.{Prefix}
+use Rattle.mpeg_scan.specs.declared.codes.Prefix.TheVariants.{Nothing, Zero, Zeros, Whole}
+use Rattle.mpeg_scan.specs.Codes.{matched, next_prefix, after_one, after_zero, is_whole, note_latest, codes_of}
+use Rattle.mpeg_scan.specs.Words.{is_head, is_slice, is_none_yet, begins_unit, tally_of, slices_of, unit_of, head_end_of, slice_of}
+use Rattle.mpeg_scan.specs.Faults.{otherwise, latest_fault, kind_fault, second_fault, first_slice_fault, count_fault, code_fault, head_fault, open_fault, last_fault, first_fault, end_fault, refusal_of}
+use Rattle.mpeg_scan.specs.Calls.{Call, head_call, slice_call, unit_call, unit_at, unit_end, calls_at, told, all_told}
+use Rattle.mpeg_scan.specs.Tiles.{Part, between, within, next_part, parts_after, first_of, Tiles}
+use Rattle.mpeg_scan.proofs.CodeLemmas.{matched-more}
+use Rattle.mpeg_scan.proofs.StepLemmas.{codes-none, codes-plain, codes-code, accepted-older, code-accepted, otherwise-first, otherwise-second}
+
+-- ---- how far codes stand apart: a kind that isn't 0 can't begin the next prefix
+
+abbrev pub span : Code → ℕ
+span d = cond (eqb d.kind 0) 3 4
+
+abbrev pub After : ℕ → List Code → Type 0
+After at [] = Unit {0}
+After at (d ∷ past) = d.place + span d ≤ at
+
+abbrev pub Spaced : List Code → Type 0
+Spaced [] = Unit {0}
+Spaced (c ∷ past) = After c.place past × Spaced past
+
+three : (b : Bool) → 3 ≤ cond b 3 4
+three true = omega arith
+three false = omega arith
+
+either-before : (b : Bool) (m n at : ℕ) → m + 3 ≤ at → n + 3 ≤ at → cond b m n + 3 ≤ at
+either-before true m n at h i = h
+either-before false m n at h i = i
+
+pub unit-before : (d : Code) (past : List Code) (at : ℕ) → Spaced (d ∷ past) → After at (d ∷ past) → unit_of (d ∷ past) + 3 ≤ at
+unit-before d [] at spaced after = omega (arith, three (eqb d.kind 0), after)
+unit-before d (e ∷ past) at spaced after =
+    either-before (begins_unit d (e ∷ past)) d.place (unit_of (e ∷ past)) at (omega (arith, three (eqb d.kind 0), after))
+    (omega (arith, three (eqb d.kind 0), after, unit-before e past d.place spaced.1 spaced.0))
+
+span-slice : (d : Code) → is_slice d.kind ≡ true → span d ≡ 4
+span-slice d slice =
+    let low : 1 ≤ d.kind = leb-true 1 d.kind (and_parts (leb 1 d.kind) (leb d.kind 0xaf) slice).0 in
+    ap (λ b. cond b 3 4) (ne_eqb d.kind 0 (λ none. absurd (omega arith)))
+
+slice-case : (h s : Bool) (n p q at : ℕ) → (s ≡ true → p + 4 ≤ at) → (0 < n → q + 4 ≤ at) → 0 < cond h 0 (cond s (n + 1) n) → cond s p q + 4 ≤ at
+slice-case true s n p q at here before some = absurd (omega arith)
+slice-case false true n p q at here before some = here refl
+slice-case false false n p q at here before some = before some
+
+pub slice-before : (past : List Code) (at : ℕ) → Spaced past → After at past → 0 < slices_of past → slice_of past + 4 ≤ at
+slice-before [] at spaced after some = absurd (omega arith)
+slice-before (d ∷ past) at spaced after some =
+    slice-case (is_head d.kind) (is_slice d.kind) (slices_of past) d.place (slice_of past) at (λ slice. omega (arith, span-slice d slice, after))
+    (λ more. omega (arith, three (eqb d.kind 0), after, slice-before past d.place spaced.1 spaced.0 more)) some
+
+-- ---- one code
+
+-- where the parts told of codes end
+pub part_by : ℕ → ℕ → ℕ → ℕ → Part
+part_by n unit head_end slice = cond (eqb n 0) (between unit) (within unit head_end slice (n - 1))
+
+part_by-none : (n unit head_end slice : ℕ) → n ≡ 0 → part_by n unit head_end slice ≡ between unit
+unfolding part_by
+part_by-none n unit head_end slice none =
+    ap (λ b. cond b (between unit) (within unit head_end slice (n - 1))) (eq-eqb n 0 none)
+
+part_by-some : (n m unit head_end slice : ℕ) → n ≡ m + 1 → part_by n unit head_end slice ≡ within unit head_end slice m
+unfolding part_by
+part_by-some n m unit head_end slice some =
+    ap (λ b. cond b (between unit) (within unit head_end slice (n - 1))) (ne_eqb n 0 (λ none. absurd (omega arith)))
+    ∙ ap (within unit head_end slice) (omega arith)
+
+takes-head : (unit place : ℕ) → unit < place → place - unit ≤ 1380 → parts_after (Some (between unit)) (head_call unit place ∷ []) ≡ Some (within unit place place 0)
+takes-head unit place below short =
+    ap (λ b. parts_after (cond b (Some (within unit place place 0)) None) []) (and_from (eqb unit unit) (ltb unit place && leb (place - unit) 1380) (eq-eqb unit unit refl) (and_from (ltb unit place) (leb (place - unit) 1380) (lt-ltb unit place below) (le-leb (place - unit) 1380 short)))
+
+takes-slice : (unit head_end slice m place : ℕ) (calls : List Call) → slice + 4 ≤ place → parts_after (Some (within unit head_end slice m)) (slice_call slice place ∷ calls) ≡ parts_after (Some (within unit head_end place (m + 1))) calls
+takes-slice unit head_end slice m place calls apart =
+    ap (λ b. parts_after (cond b (Some (within unit head_end place (m + 1))) None) calls) (and_from (eqb slice slice) (leb (slice + 4) place) (eq-eqb slice slice refl) (le-leb (slice + 4) place apart))
+
+takes-unit : (unit head_end m place n : ℕ) (u : PictureUnit) → u.from ≡ unit → u.head_end ≡ head_end → u.to ≡ place → u.slices ≡ n → n ≡ m + 1 → parts_after (Some (within unit head_end place (m + 1))) (unit_call u ∷ []) ≡ Some (between place)
+takes-unit unit head_end m place n u from head to slices some =
+    ap (λ b. parts_after (cond b (Some (between place)) None) []) (and_from ((eqb u.from unit && (eqb u.head_end head_end && eqb u.to place))) (eqb u.slices (m + 1) && ltb 0 (m + 1))
+    (and_from (eqb u.from unit) (eqb u.head_end head_end && eqb u.to place) (eq-eqb u.from unit from) (and_from (eqb u.head_end head_end) (eqb u.to place) (eq-eqb u.head_end head_end head) (eq-eqb u.to place to)))
+    (and_from (eqb u.slices (m + 1)) (ltb 0 (m + 1)) (eq-eqb u.slices (m + 1) (slices ∙ some)) (lt-ltb 0 (m + 1) (omega arith))))
+
+-- the part after the calls at a code, over plain values: s, h: it is a slice, a head code; n slices so far
+raw_calls : Bool → Bool → ℕ → ℕ → ℕ → ℕ → PictureUnit → List Call
+raw_calls s h n unit slice place u =
+    cond s (cond (eqb n 0) (head_call unit place ∷ []) (slice_call slice place ∷ []))
+    (cond (h && ltb 0 n) (slice_call slice place ∷ unit_call u ∷ []) [])
+
+raw-step : (s h : Bool) (n unit head_end slice place : ℕ) (u : PictureUnit) → (s ≡ true → h ≡ false) → (s ≡ true → n ≡ 0 → (unit < place) × (place - unit ≤ 1380)) → (0 < n → slice + 4 ≤ place) → u.from ≡ unit → u.head_end ≡ head_end → u.to ≡ place → u.slices ≡ n
+    → (n ≡ 0) ⊎ ((m : ℕ) × (n ≡ m + 1))
+    → parts_after (Some (part_by n unit head_end slice)) (raw_calls s h n unit slice place u) ≡ Some (part_by (cond h 0 (cond s (n + 1) n)) (cond (h && ltb 0 n) place unit) (cond (s && eqb n 0) place head_end) (cond s place slice))
+unfolding raw_calls
+raw-step true true n unit head_end slice place u apart head spaced from head_at to slices count = absurd (true≢false (apart refl))
+raw-step true false n unit head_end slice place u apart head spaced from head_at to slices (inl none) =
+    ap (λ (p : Part). parts_after (Some p) (cond (eqb n 0) (head_call unit place ∷ []) (slice_call slice place ∷ []))) (part_by-none n unit head_end slice none)
+    ∙ ap (λ b. parts_after (Some (between unit)) (cond b (head_call unit place ∷ []) (slice_call slice place ∷ []))) (eq-eqb n 0 none)
+    ∙ takes-head unit place (head refl none).0 (head refl none).1
+    ∙ sym (ap (λ b. Some (part_by (n + 1) unit (cond b place head_end) place)) (eq-eqb n 0 none) ∙ ap (λ (p : Part). Some p) (part_by-some (n + 1) 0 unit place place (omega arith)))
+raw-step true false n unit head_end slice place u apart head spaced from head_at to slices (inr some) =
+    ap (λ (p : Part). parts_after (Some p) (cond (eqb n 0) (head_call unit place ∷ []) (slice_call slice place ∷ []))) (part_by-some n some.0 unit head_end slice some.1)
+    ∙ ap (λ b. parts_after (Some (within unit head_end slice some.0)) (cond b (head_call unit place ∷ []) (slice_call slice place ∷ []))) (ne_eqb n 0 (λ none. absurd (omega (arith, some.1))))
+    ∙ takes-slice unit head_end slice some.0 place [] (spaced (omega (arith, some.1)))
+    ∙ sym (ap (λ b. Some (part_by (n + 1) unit (cond b place head_end) place)) (ne_eqb n 0 (λ none. absurd (omega (arith, some.1)))) ∙ ap (λ (p : Part). Some p) (part_by-some (n + 1) (some.0 + 1) unit head_end place (omega (arith, some.1))))
+raw-step false true n unit head_end slice place u apart head spaced from head_at to slices (inl none) =
+    ap (λ (p : Part). parts_after (Some p) (cond (ltb 0 n) (slice_call slice place ∷ unit_call u ∷ []) [])) (part_by-none n unit head_end slice none)
+    ∙ ap (λ b. parts_after (Some (between unit)) (cond b (slice_call slice place ∷ unit_call u ∷ []) [])) (le-ltb 0 n (omega arith))
+    ∙ sym (ap (λ b. Some (part_by 0 (cond b place unit) head_end slice)) (le-ltb 0 n (omega arith)) ∙ ap (λ (p : Part). Some p) (part_by-none 0 unit head_end slice refl))
+raw-step false true n unit head_end slice place u apart head spaced from head_at to slices (inr some) =
+    ap (λ (p : Part). parts_after (Some p) (cond (ltb 0 n) (slice_call slice place ∷ unit_call u ∷ []) [])) (part_by-some n some.0 unit head_end slice some.1)
+    ∙ ap (λ b. parts_after (Some (within unit head_end slice some.0)) (cond b (slice_call slice place ∷ unit_call u ∷ []) [])) (lt-ltb 0 n (omega (arith, some.1)))
+    ∙ takes-slice unit head_end slice some.0 place (unit_call u ∷ []) (spaced (omega (arith, some.1)))
+    ∙ takes-unit unit head_end some.0 place n u from head_at to slices some.1
+    ∙ sym (ap (λ b. Some (part_by 0 (cond b place unit) head_end slice)) (lt-ltb 0 n (omega (arith, some.1))) ∙ ap (λ (p : Part). Some p) (part_by-none 0 place head_end slice refl))
+raw-step false false n unit head_end slice place u apart head spaced from head_at to slices count = refl
+
+-- ---- all codes
+
+parts-none : (calls : List Call) → parts_after None calls ≡ None
+parts-none [] = refl
+parts-none (call ∷ calls) = refl
+
+parts-append : (o : Option Part) (a b : List Call) → parts_after o (a ++ b) ≡ parts_after (parts_after o a) b
+parts-append None a b = parts-none (a ++ b) ∙ sym (parts-none b) ∙ ap (λ (o : Option Part). parts_after o b) (sym (parts-none a))
+parts-append (Some part) [] b = refl
+parts-append (Some part) (call ∷ a) b = parts-append (next_part part call) a b
+
+abbrev pub part_of : List Code → Part
+part_of past = part_by (slices_of past) (unit_of past) (head_end_of past) (slice_of past)
+
+slice-apart : (kind : ℕ) → is_slice kind ≡ true → is_head kind ≡ false
+slice-apart kind slice =
+    let parts = and_parts (leb 1 kind) (leb kind 0xaf) slice in
+    let low : 1 ≤ kind = leb-true 1 kind parts.0 in
+    let high : kind ≤ 0xaf = leb-true kind 0xaf parts.1 in
+    ap (λ b. b || (eqb kind 0xb3 || eqb kind 0xb8)) (ne_eqb kind 0 (λ e. absurd (omega arith)))
+    ∙ ap (λ b. b || eqb kind 0xb8) (ne_eqb kind 0xb3 (λ e. absurd (omega arith)))
+    ∙ ne_eqb kind 0xb8 (λ e. absurd (omega arith))
+
+count-cases : (n : ℕ) → (n ≡ 0) ⊎ ((m : ℕ) × (n ≡ m + 1))
+count-cases zero = inl refl
+count-cases (suc m) = inr (m, omega arith)
+
+head-short : (t : Tally) (place : ℕ) (o : Option Header) → head_fault t place o ≡ None → place - t.unit ≤ 1380
+head-short t place None e = absurd (cc)
+head-short t place (Some p) e = elim (cases_Bool (ltb 1380 (place - t.unit))) [
+  | inl far ↦ (let left : Some (HeadTooLong t.unit) ≡ None = sym (ap (λ b. cond b (Some (HeadTooLong t.unit)) None) far) ∙ e in absurd (cc))
+  | inr near ↦ ltb-false 1380 (place - t.unit) near
+]
+
+first_slice-head : (t : Tally) (place kind : ℕ) → first_slice_fault t place kind ≡ None → is_slice kind ≡ true → t.slices ≡ 0 → place - t.unit ≤ 1380
+first_slice-head t place kind e slice none =
+    head-short t place t.picture (sym (ap (λ b. cond b (head_fault t place t.picture) None) (and_from (is_slice kind) (eqb t.slices 0) slice (eq-eqb t.slices 0 none))) ∙ e)
+
+-- what a code that isn't refused tells
+first_slice-accepted : (t : Tally) (place kind : ℕ) → code_fault t place kind ≡ None → first_slice_fault t place kind ≡ None
+first_slice-accepted t place kind e =
+    let rest = otherwise-second (kind_fault t place kind) (otherwise (second_fault t kind) (otherwise (first_slice_fault t place kind) (count_fault t place kind))) e in
+    let last = otherwise-second (second_fault t kind) (otherwise (first_slice_fault t place kind) (count_fault t place kind)) rest in
+    otherwise-first (first_slice_fault t place kind) (count_fault t place kind) last
+
+code-step : (c d : Code) (past : List Code) → code_fault (tally_of (d ∷ past)) c.place c.kind ≡ None → Spaced (c ∷ (d ∷ past)) → parts_after (Some (part_of (d ∷ past))) (calls_at (tally_of (d ∷ past)) c.place c.kind) ≡ Some (part_of (c ∷ (d ∷ past)))
+unfolding calls_at raw_calls
+code-step c d past e spaced =
+    let older : List Code = d ∷ past in
+    raw-step (is_slice c.kind) (is_head c.kind) (slices_of older) (unit_of older) (head_end_of older) (slice_of older) c.place (unit_at (tally_of older) c.place) (slice-apart c.kind)
+    (λ slice none. (omega (arith, unit-before d past c.place spaced.1 spaced.0), first_slice-head (tally_of older) c.place c.kind (first_slice-accepted (tally_of older) c.place c.kind e) slice none))
+    (slice-before older c.place spaced.1 spaced.0) refl refl refl refl (count-cases (slices_of older))
+
+first-kind : (a b q : Bool) (place : ℕ) → cond a (Some (SystemCode place)) (cond b (Some (Mpeg2 place)) (cond (not q) (Some NoSequence) None)) ≡ None → q ≡ true
+first-kind true b q place e = absurd (cc)
+first-kind false true q place e = absurd (cc)
+first-kind false false true place e = refl
+first-kind false false false place e = absurd (cc)
+
+first-step : (place kind : ℕ) → kind ≡ 0xb3 → parts_after (Some (between place)) (calls_at (tally_of []) place kind) ≡ Some (part_by (cond (is_head kind) 0 (cond (is_slice kind) (0 + 1) 0)) place (cond (is_slice kind && eqb 0 0) place 0) (cond (is_slice kind) place 0))
+unfolding calls_at part_by
+first-step place kind is =
+    subst (λ k. parts_after (Some (between place)) (calls_at (tally_of []) place k) ≡ Some (part_by (cond (is_head k) 0 (cond (is_slice k) (0 + 1) 0)) place (cond (is_slice k && eqb 0 0) place 0) (cond (is_slice k) place 0))) (sym is) refl
+
+told-cons : (c : Code) (past : List Code) → told (c ∷ past) ≡ told past ++ calls_at (tally_of past) c.place c.kind
+unfolding told
+told-cons c past = refl
+
+told-nil : told [] ≡ []
+unfolding told
+told-nil = refl
+
+pub told-parts : (c : Code) (past : List Code) → first_fault (c ∷ past) ≡ None → Spaced (c ∷ past) → parts_after (Some (between (first_of (c ∷ past)))) (told (c ∷ past)) ≡ Some (part_of (c ∷ past))
+told-parts c [] accepted spaced =
+    let kind = first-kind (leb 0xb9 c.kind) (eqb c.kind 0xb5) (eqb c.kind 0xb3) c.place (otherwise-first (kind_fault (tally_of []) c.place c.kind) (otherwise (second_fault (tally_of []) c.kind) (otherwise (first_slice_fault (tally_of []) c.place c.kind) (count_fault (tally_of []) c.place c.kind))) (code-accepted c [] accepted)) in
+    ap (parts_after (Some (between c.place))) (told-cons c [] ∙ ap (λ (l : List Call). l ++ calls_at (tally_of []) c.place c.kind) told-nil)
+    ∙ first-step c.place c.kind (eqb-true c.kind 0xb3 kind)
+told-parts c (d ∷ past) accepted spaced =
+    let start : Option Part = Some (between (first_of (d ∷ past))) in
+    ap (parts_after start) (told-cons c (d ∷ past))
+    ∙ parts-append start (told (d ∷ past)) (calls_at (tally_of (d ∷ past)) c.place c.kind)
+    ∙ ap (λ (o : Option Part). parts_after o (calls_at (tally_of (d ∷ past)) c.place c.kind)) (told-parts d past (accepted-older c (d ∷ past) accepted) spaced.1)
+    ∙ code-step c d past (code-accepted c (d ∷ past) accepted) spaced
+
+-- ---- the codes of bytes stand apart
+
+abbrev pub need : Bool → Prefix → ℕ
+need b Nothing = 4
+need b Zero = cond b 4 5
+need b Zeros = cond b 5 6
+need b Whole = cond b 6 7
+
+abbrev pub least : Prefix → ℕ
+least Nothing = 0
+least Zero = 1
+least Zeros = 2
+least Whole = 3
+
+abbrev pub Room : List Code → Prefix → ℕ → Type 0
+Room [] p n = least p ≤ n
+Room (d ∷ past) p n = d.place + need (eqb d.kind 0) p ≤ n
+
+next-need : (b1 b0 b : Bool) (p : Prefix) (k n : ℕ) → is_whole p ≡ false → k + need b p ≤ n → k + need b (cond b1 (after_one p) (cond b0 (after_zero p) Nothing)) ≤ suc n
+next-need true b0 true Nothing k n w h = omega arith
+next-need false true true Nothing k n w h = omega arith
+next-need false false true Nothing k n w h = omega arith
+next-need true b0 false Nothing k n w h = omega arith
+next-need false true false Nothing k n w h = omega arith
+next-need false false false Nothing k n w h = omega arith
+next-need true b0 true Zero k n w h = omega arith
+next-need false true true Zero k n w h = omega arith
+next-need false false true Zero k n w h = omega arith
+next-need true b0 false Zero k n w h = omega arith
+next-need false true false Zero k n w h = omega arith
+next-need false false false Zero k n w h = omega arith
+next-need true b0 true Zeros k n w h = omega arith
+next-need false true true Zeros k n w h = omega arith
+next-need false false true Zeros k n w h = omega arith
+next-need true b0 false Zeros k n w h = omega arith
+next-need false true false Zeros k n w h = omega arith
+next-need false false false Zeros k n w h = omega arith
+next-need b1 b0 b Whole k n w h = absurd (true≢false w)
+
+next-least : (b1 b0 : Bool) (p : Prefix) (n : ℕ) → is_whole p ≡ false → least p ≤ n → least (cond b1 (after_one p) (cond b0 (after_zero p) Nothing)) ≤ suc n
+next-least true b0 Nothing n w h = omega arith
+next-least false true Nothing n w h = omega arith
+next-least false false Nothing n w h = omega arith
+next-least true b0 Zero n w h = omega arith
+next-least false true Zero n w h = omega arith
+next-least false false Zero n w h = omega arith
+next-least true b0 Zeros n w h = omega arith
+next-least false true Zeros n w h = omega arith
+next-least false false Zeros n w h = omega arith
+next-least b1 b0 Whole n w h = absurd (true≢false w)
+
+room-byte : (past : List Code) (p : Prefix) (n x : ℕ) → is_whole p ≡ false → Room past p n → Room (note_latest past x) (next_prefix p x) (suc n)
+room-byte [] p n x plain room = next-least (eqb x 1) (eqb x 0) p n plain room
+room-byte (d ∷ past) p n x plain room = next-need (eqb x 1) (eqb x 0) (eqb d.kind 0) p d.place n plain room
+
+spaced-note : (past : List Code) (x : ℕ) → Spaced past → Spaced (note_latest past x)
+spaced-note [] x spaced = spaced
+spaced-note (d ∷ past) x spaced = spaced
+
+whole-is : (p : Prefix) → is_whole p ≡ true → p ≡ Whole
+whole-is Nothing e = absurd (false≢true e)
+whole-is Zero e = absurd (false≢true e)
+whole-is Zeros e = absurd (false≢true e)
+whole-is Whole e = refl
+
+apart-code : (b : Bool) (k n : ℕ) → k + need b Whole ≤ n → (k + cond b 3 4 ≤ n - 3) × (3 ≤ n)
+apart-code true k n room = (omega arith, omega arith)
+apart-code false k n room = (omega arith, omega arith)
+
+after-code : (past : List Code) (n x : ℕ) → Room past Whole n → After (n - 3) (note_latest past x) × (3 ≤ n)
+after-code [] n x room = (tt, room)
+after-code (d ∷ past) n x room = apart-code (eqb d.kind 0) d.place n room
+
+first-need : (b1 b0 : Bool) → need b0 (cond b1 Nothing (cond b0 Zero Nothing)) ≤ 4
+first-need true b0 = omega arith
+first-need false true = omega arith
+first-need false false = omega arith
+
+pub record Placed (past : List Code) (p : Prefix) (n : ℕ) : Type 0 where
+  pub spaced : Spaced past
+  pub room : Room past p n
+
+placed-plain : (past : List Code) (p : Prefix) (n x : ℕ) → is_whole p ≡ false → Placed past p n → Placed (note_latest past x) (next_prefix p x) (suc n)
+placed-plain past p n x plain placed =
+    record { spaced = spaced-note past x placed.spaced; room = room-byte past p n x plain placed.room }
+
+placed-code : (past : List Code) (n x : ℕ) → Placed past Whole n → Placed (record { place = n - 3; kind = x; text = [] } ∷ note_latest past x) (next_prefix Whole x) (suc n)
+placed-code past n x placed =
+    let after = after-code past n x placed.room in record {
+      spaced = (after.0, spaced-note past x placed.spaced);
+      room = omega (arith, first-need (eqb x 1) (eqb x 0), after.1);
+    }
+
+matched-none : matched [] ≡ Nothing
+unfolding matched
+matched-none = refl
+
+pub placed-codes : (r : List ℕ) → Placed (codes_of r) (matched r) (length r)
+placed-codes [] =
+    subst (λ (past : List Code). Placed past (matched []) 0) (sym codes-none) (subst (λ (p : Prefix). Placed [] p 0) (sym matched-none) (record { spaced = tt; room = omega arith }))
+placed-codes (x ∷ r) =
+    let rest = placed-codes r in elim (cases_Bool (is_whole (matched r))) [
+      | inl e ↦ (let at_whole = subst (λ (p : Prefix). Placed (codes_of r) p (length r)) (whole-is (matched r) e) rest in
+          subst (λ (past : List Code). Placed past (matched (x ∷ r)) (suc (length r))) (sym (codes-code x r e)) (subst (λ (p : Prefix). Placed (record { place = length r - 3; kind = x; text = [] } ∷ note_latest (codes_of r) x) p (suc (length r))) (sym (matched-more x r ∙ ap (λ (p : Prefix). next_prefix p x) (whole-is (matched r) e))) (placed-code (codes_of r) (length r) x at_whole)))
+      | inr e ↦ subst (λ (past : List Code). Placed past (matched (x ∷ r)) (suc (length r))) (sym (codes-plain x r e)) (subst (λ (p : Prefix). Placed (note_latest (codes_of r) x) p (suc (length r))) (sym (matched-more x r)) (placed-plain (codes_of r) (matched r) (length r) x e rest))
+    ]
+
+need-span : (b : Bool) (p : Prefix) → cond b 3 4 ≤ need b p
+need-span true Nothing = omega arith
+need-span true Zero = omega arith
+need-span true Zeros = omega arith
+need-span true Whole = omega arith
+need-span false Nothing = omega arith
+need-span false Zero = omega arith
+need-span false Zeros = omega arith
+need-span false Whole = omega arith
+
+room-after : (past : List Code) (p : Prefix) (n : ℕ) → Room past p n → After n past
+room-after [] p n room = tt
+room-after (d ∷ past) p n room = omega (arith, need-span (eqb d.kind 0) p)
+
+-- ---- the film's end
+
+unsliced : (b : Bool) (t : Tally) → ltb 0 t.slices ≡ false → cond b (Some NoSequence) (cond (ltb 0 t.slices) None (Some (open_fault t t.picture))) ≡ None → ⊥
+unsliced true t none e = cc
+unsliced false t none e =
+    let left : Some (open_fault t t.picture) ≡ None = sym (ap (λ b. cond b None (Some (open_fault t t.picture))) none) ∙ e in cc
+
+ended-none : (t : Tally) → last_fault t ≡ None → 0 < t.slices
+ended-none t e = elim (cases_Bool (ltb 0 t.slices)) [
+  | inl some ↦ ltb-true 0 t.slices some
+  | inr none ↦ absurd (unsliced (not t.begun) t none e)
+]
+
+end-step : (past : List Code) (n : ℕ) → 0 < slices_of past → slice_of past + 4 ≤ n → parts_after (Some (part_of past)) (unit_end (tally_of past) n) ≡ Some (between n)
+end-step past n some apart = elim (count-cases (slices_of past)) [
+  | inl none ↦ absurd (omega arith)
+  | inr more ↦ ap (λ (p : Part). parts_after (Some p) (unit_end (tally_of past) n)) (part_by-some (slices_of past) more.0 (unit_of past) (head_end_of past) (slice_of past) more.1)
+      ∙ takes-slice (unit_of past) (head_end_of past) (slice_of past) more.0 n (unit_call (unit_at (tally_of past) n) ∷ []) apart
+      ∙ takes-unit (unit_of past) (head_end_of past) more.0 n (slices_of past) (unit_at (tally_of past) n) refl refl refl refl more.1
+]
+
+whole-tiles : (past : List Code) (n : ℕ) → first_fault past ≡ None → end_fault past n ≡ None → Spaced past → After n past → parts_after (Some (between (first_of past))) (told past ++ unit_end (tally_of past) n) ≡ Some (between n)
+unfolding end_fault
+whole-tiles [] n accepted ended spaced after = absurd (omega (arith, ended-none (tally_of []) ended))
+whole-tiles (c ∷ past) n accepted ended spaced after =
+    let some = ended-none (tally_of (c ∷ past)) (otherwise-second (latest_fault (c ∷ past) n) (last_fault (tally_of (c ∷ past))) ended) in
+    parts-append (Some (between (first_of (c ∷ past)))) (told (c ∷ past)) (unit_end (tally_of (c ∷ past)) n)
+    ∙ ap (λ (o : Option Part). parts_after o (unit_end (tally_of (c ∷ past)) n)) (told-parts c past accepted spaced)
+    ∙ end-step (c ∷ past) n some (slice-before (c ∷ past) n spaced after some)
+
+accepted-whole : (r : List ℕ) → refusal_of r ≡ None → otherwise (first_fault (codes_of r)) (end_fault (codes_of r) (length r)) ≡ None
+unfolding refusal_of
+accepted-whole r e = elim (cases_Bool (eqb (length r) 0)) [
+  | inl none ↦ (let left : Some Empty ≡ None = sym (ap (λ b. cond b (Some Empty) (cond (ltb (2 ^ 40) (length r)) (Some TooLong) (otherwise (first_fault (codes_of r)) (end_fault (codes_of r) (length r))))) none) ∙ e in absurd (cc))
+  | inr some ↦ (let past = sym (ap (λ b. cond b (Some Empty) (cond (ltb (2 ^ 40) (length r)) (Some TooLong) (otherwise (first_fault (codes_of r)) (end_fault (codes_of r) (length r))))) some) ∙ e in
+      elim (cases_Bool (ltb (2 ^ 40) (length r))) [
+        | inl far ↦ (let left : Some TooLong ≡ None = sym (ap (λ b. cond b (Some TooLong) (otherwise (first_fault (codes_of r)) (end_fault (codes_of r) (length r)))) far) ∙ past in absurd (cc))
+        | inr near ↦ sym (ap (λ b. cond b (Some TooLong) (otherwise (first_fault (codes_of r)) (end_fault (codes_of r) (length r)))) near) ∙ past
+      ])
+]
+
+-- an accepted film is its units, one after another
+pub film-tiles : (r : List ℕ) → refusal_of r ≡ None → Tiles r (all_told r)
+film-tiles r e =
+    let none = accepted-whole r e in
+    let placed = placed-codes r in
+    whole-tiles (codes_of r) (length r) (otherwise-first (first_fault (codes_of r)) (end_fault (codes_of r) (length r)) none) (otherwise-second (first_fault (codes_of r)) (end_fault (codes_of r) (length r)) none) placed.spaced (room-after (codes_of r) (matched r) (length r) placed.room)
