@@ -1,0 +1,104 @@
+-- One step of the funnel: the point joins, the other chain gives way, and the curves stand apart again.
+use Rattle.std.proofs.Common.{◌≡◌, ℕ, ◌+◌, ◌≤◌, List, [], ◌∷◌, ◌++◌, drop, arith, sym, subst, ap, ◌∙◌}
+use Rattle.plan_cert.specs.declared.Segment.{Segment}
+use Rattle.taut_plan.specs.declared.points.Point.{Point}
+use Rattle.taut_plan.specs.declared.points.Side.{Side}
+use Rattle.taut_plan.specs.declared.points.Side.TheVariants.{Lower, Upper}
+use Rattle.taut_plan.specs.Slopes.{IsWithin, IsInside, other_side}
+use Rattle.taut_plan.specs.Chain.{on_curve, IsChain}
+use Rattle.taut_plan.specs.Funnel.{IsBand, IsCrossing, IsCrossed, IsUncrossed, FirstIsBetween, IsFunnel, curve_on, others_known}
+use Rattle.taut_plan.specs.Path.{IsPath, segment_to}
+use Rattle.taut_plan.proofs.BendLaws.{IsOrdered, corner_of, crossing_moves, apart_again}
+use Rattle.taut_plan.proofs.CornerLaws.{corner_rises, path_bends}
+
+pub known_least : (side : Side) (slot : ℕ) → slot ≤ others_known side slot
+known_least Lower slot = omega arith
+known_least Upper slot = omega arith
+
+pub known_most : (side : Side) (slot : ℕ) → others_known side slot ≤ slot + 1
+known_most Lower slot = omega arith
+known_most Upper slot = omega arith
+
+chain_behind : (side : Side) (curve : ℕ → ℕ) (t : ℕ) (o : Point) (chain : List Point) → IsChain side curve t o chain → o.place ≤ t
+chain_behind side curve t o [] at_end = omega (arith, at_end)
+chain_behind side curve t o (p ∷ rest) chain = let later = chain.0.later in let near = chain.0.near in omega (arith, later, near)
+
+pub crossing_starts : (side : Side) (curve other : ℕ → ℕ) (slot : ℕ) (o : Point) (own joined others : List Point)
+    → IsFunnel side curve other slot (others_known side slot) o own others → IsChain side curve (slot + 1) o joined
+    → IsCrossing side curve other (slot + 1) (others_known side slot) o joined others
+crossing_starts side curve other slot o own joined others funnel chain = record {
+  newest = let le = known_least side slot in omega (arith, le);
+  not_past = known_most side slot;
+  behind = let le = chain_behind side curve slot o own funnel.own in omega (arith, le);
+  own = chain;
+  others = funnel.others;
+  apart = funnel.keeps;
+}
+
+pub first_is_between : (side : Side) (curve other : ℕ → ℕ) (t s : ℕ) (o : Point) (own others : List Point) (point : Point) → point ≡ on_curve curve t
+    → IsCrossing side curve other t s o own others → FirstIsBetween o others point
+first_is_between side curve other t s o own [] point is state = tt
+first_is_between side curve other t s o own (b ∷ rest) point is state =
+    let edge = state.others.0 in
+    let later = edge.later in
+    let near = edge.near in
+    let most = state.not_past in
+    (omega (arith, later), subst (λ (p : Point). b.place ≤ p.place) (sym is) (let le : b.place ≤ t = omega (arith, near, most) in le))
+
+ordered_on : (side : Side) (lo hi : ℕ → ℕ) (t : ℕ) → lo t ≤ hi t → IsOrdered side (curve_on lo hi side t) (curve_on lo hi (other_side side) t)
+ordered_on Lower lo hi t le = le
+ordered_on Upper lo hi t le = le
+
+-- what a bend keeps and gives
+pub record IsBent (side : Side) (lo hi : ℕ → ℕ) (from t s : ℕ) (o corner : Point) (segments : List Segment) (own others : List Point) : Type 0 where
+  pub later : o.place ≤ corner.place
+  pub higher : o.height ≤ corner.height
+  pub path : IsPath lo hi from corner (segments ++ segment_to o corner ∷ [])
+  pub crossing : IsCrossing side (curve_on lo hi side) (curve_on lo hi (other_side side)) t s corner own others
+
+pub bends_at : (side : Side) (lo hi : ℕ → ℕ) (from n t s : ℕ) (o corner : Point) (segments : List Segment) (own others left : List Point) (point : Point)
+    → IsBand lo hi from n → t ≤ n → point ≡ on_curve (curve_on lo hi side) t → IsPath lo hi from o segments
+    → IsCrossing side (curve_on lo hi side) (curve_on lo hi (other_side side)) t s o own others → IsCrossed side o others point corner → left ≡ drop 1 others
+    → IsBent side lo hi from t s o corner segments own left
+bends_at side lo hi from n t s o corner segments own others left point band fits is path state crossed gone =
+    let state' : IsCrossing side (curve_on lo hi side) (curve_on lo hi (other_side side)) t s o own (corner ∷ crossed.rest) =
+    subst (IsCrossing side (curve_on lo hi side) (curve_on lo hi (other_side side)) t s o own) crossed.is state in
+    let out : IsInside side o corner (on_curve (curve_on lo hi side) t) = subst (λ p. IsInside side o corner p) is crossed.crossed in
+    let there = corner_of side (curve_on lo hi side) (curve_on lo hi (other_side side)) t s o own corner crossed.rest state' (ordered_on side lo hi t (band.ordered t fits)) out in
+    let e : left ≡ crossed.rest = gone ∙ ap (drop 1) crossed.is in
+    let later = there.later in
+    record {
+      later = omega (arith, later);
+      higher = corner_rises side lo hi from n t s o corner band fits state.not_past state.behind path.below there;
+      path = path_bends side lo hi from n t s o corner segments band fits state.newest state.not_past state.behind path there;
+      crossing = subst (IsCrossing side (curve_on lo hi side) (curve_on lo hi (other_side side)) t s corner own) (sym e)
+          (crossing_moves side (curve_on lo hi side) (curve_on lo hi (other_side side)) t s o own corner crossed.rest state' there);
+    }
+
+pub crossing_ends : (side : Side) (curve other : ℕ → ℕ) (t s : ℕ) (o : Point) (own others : List Point) (point : Point) → point ≡ on_curve curve t
+    → IsCrossing side curve other t s o own others → IsUncrossed side o others point → IsFunnel side curve other t s o own others
+crossing_ends side curve other t s o own others point is state un = record {
+  own = state.own;
+  others = state.others;
+  keeps = apart_again side curve other t s o own others state (subst (IsUncrossed side o others) is un);
+}
+
+-- Seen from the other side.
+other_of_within : (side : Side) (o a b : Point) → IsWithin side o b a → IsWithin (other_side side) o a b
+other_of_within Lower o a b h = h
+other_of_within Upper o a b h = h
+
+other_twice : (side : Side) (curve : ℕ → ℕ) (t : ℕ) (o : Point) (chain : List Point) → IsChain side curve t o chain → IsChain (other_side (other_side side)) curve t o chain
+other_twice Lower curve t o chain h = h
+other_twice Upper curve t o chain h = h
+
+pub funnel_turns : (side : Side) (curve other : ℕ → ℕ) (t s : ℕ) (o : Point) (own others : List Point) → IsFunnel side curve other t s o own others
+    → IsFunnel (other_side side) other curve s t o others own
+funnel_turns side curve other t s o own others funnel = record {
+  own = funnel.others;
+  others = other_twice side curve t o own funnel.own;
+  keeps = record {
+    apart = λ i j i_after i_before j_after j_upto.
+        other_of_within side o (on_curve other i) (on_curve curve j) (funnel.keeps.apart j i j_after (omega (arith, j_upto)) i_after (omega (arith, i_before)));
+  };
+}

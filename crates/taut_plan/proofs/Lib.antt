@@ -1,0 +1,10 @@
+pub mod SlopeLaws
+pub mod ChainLaws
+pub mod BendLaws
+pub mod PathLaws
+pub mod CornerLaws
+pub mod PointLaws
+pub mod EdgeLaws
+pub mod FunnelLaws
+pub mod BandLaws
+pub mod WholeLaws

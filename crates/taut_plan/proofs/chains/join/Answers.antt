@@ -1,0 +1,25 @@
+use Rattle.std.proofs.Common.{◌+◌, ◌-◌, ap, sym, ◌∙◌, take, rules, subst}
+use Rattle.taut_plan.specs.Chain.{IsChain}
+use Rattle.taut_plan.specs.Sides.{side_of}
+use Rattle.taut_plan.proofs.ChainLaws.{chain_opens}
+use Rattle.taut_plan.proofs.EdgeLaws.{edges_ascend, pop_step, join_step}
+use Rattle.taut_plan.proofs.chains.join.Goals as goal
+
+pub loop-side-init : goal.loop-side-init
+loop-side-init c = chain_opens c.args.side (side_of c.args.curves.now c.args.side) c.args.slot c.args.apex _ c.requires.chain
+
+pub is_passed-requires : goal.is_passed-requires
+is_passed-requires c =
+    edges_ascend c.args.side (side_of c.args.curves.now c.args.side) c.args.slot c.args.apex c.loop-side.chain.items c.point_at-point.result c.point_at-point.ensures c.loop-side.invariant
+
+pub loop-side-preserved : goal.loop-side-preserved
+loop-side-preserved c =
+    let old = c.loop-side.chain.items in
+    pop_step c.args.side (side_of c.args.curves.now c.args.side) c.args.slot c.args.apex old _ c.point_at-point.result c.point_at-point.ensures c.loop-side.invariant
+    c.loop-side-test.ensures (c.pop_back.ensures.rest ∙ ap (λ n. take (n - 1) old) (search rules))
+
+pub returns-clause-chain : goal.returns-clause-chain
+returns-clause-chain c =
+    let curve = side_of c.args.curves.now c.args.side in
+    subst (IsChain c.args.side curve (c.args.slot + 1) c.args.apex) (sym c.in_ok-push_back.ensures.items)
+    (join_step c.args.side curve c.args.slot c.args.apex c.loop-side.chain.items c.point_at-point.result c.point_at-point.ensures c.loop-side.invariant c.loop-side-test.ensures)

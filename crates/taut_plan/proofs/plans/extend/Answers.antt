@@ -1,0 +1,46 @@
+use Rattle.std.proofs.Common.{◌+◌, arith, sym, subst}
+use Rattle.taut_plan.specs.Slopes.{other_side}
+use Rattle.taut_plan.specs.Funnel.{IsCrossing, others_known}
+use Rattle.taut_plan.specs.Path.{IsPath}
+use Rattle.taut_plan.specs.Sides.{lower_of, upper_of, side_of}
+use Rattle.taut_plan.proofs.BandLaws.{band_of_sound}
+use Rattle.taut_plan.proofs.FunnelLaws.{crossing_starts, bends_at, crossing_ends}
+use Rattle.taut_plan.proofs.plans.extend.Goals as goal
+
+pub loop-corner-init : goal.loop-corner-init
+loop-corner-init c =
+    let curves = c.args.curves.now in
+    record {
+      path = c.requires.path;
+      crossing = crossing_starts c.args.side (side_of curves c.args.side) (side_of curves (other_side c.args.side)) c.args.slot c.args.path.now.apex c.args.own.now.items _ c.args.others.now.items
+          c.requires.funnel c.in_ok-point.ensures.chain;
+    }
+
+pub bend_at-requires-clause-higher : goal.bend_at-requires-clause-higher
+bend_at-requires-clause-higher c =
+    let curves = c.args.curves.now in
+    let bent = bends_at c.args.side (lower_of curves) (upper_of curves) curves.from _ (c.args.slot + 1) (others_known c.args.side c.args.slot) c.loop-corner.path.apex c.in-Some.corner
+    c.loop-corner.path.segments.items _ c.loop-corner.others.items _ c.in_ok-point.point (band_of_sound curves.from curves.low.items curves.up.items c.requires.sound) (omega arith)
+    c.in_ok-point.ensures.point c.loop-corner.invariant.path c.loop-corner.invariant.crossing c.in-Some.ensures c.pop_front.ensures.rest in
+    bent.higher
+
+pub loop-corner-preserved : goal.loop-corner-preserved
+loop-corner-preserved c =
+    let curves = c.args.curves.now in
+    let bent = bends_at c.args.side (lower_of curves) (upper_of curves) curves.from _ (c.args.slot + 1) (others_known c.args.side c.args.slot) c.loop-corner.path.apex c.in-Some.corner
+    c.loop-corner.path.segments.items _ c.loop-corner.others.items _ c.in_ok-point.point (band_of_sound curves.from curves.low.items curves.up.items c.requires.sound) (omega arith)
+    c.in_ok-point.ensures.point c.loop-corner.invariant.path c.loop-corner.invariant.crossing c.in-Some.ensures c.pop_front.ensures.rest in
+    let corner = c.in-Some.corner in
+    let known = others_known c.args.side c.args.slot in
+    record {
+      path = subst (λ o. IsPath (lower_of curves) (upper_of curves) curves.from o c.bend_at.new.self.segments.items) (sym c.in_ok-bend_at.ensures.apex)
+          (subst (λ segments. IsPath (lower_of curves) (upper_of curves) curves.from corner segments) (sym c.in_ok-bend_at.ensures.segments) bent.path);
+      crossing = subst (λ o. IsCrossing c.args.side (side_of curves c.args.side) (side_of curves (other_side c.args.side)) (c.args.slot + 1) known o c.join.new.chain.items c.pop_front.new.self.items)
+          (sym c.in_ok-bend_at.ensures.apex) bent.crossing;
+    }
+
+pub returns-clause-funnel : goal.returns-clause-funnel
+returns-clause-funnel c =
+    let curves = c.args.curves.now in
+    crossing_ends c.args.side (side_of curves c.args.side) (side_of curves (other_side c.args.side)) (c.args.slot + 1) (others_known c.args.side c.args.slot) _ _ _ c.in_ok-point.point c.in_ok-point.ensures.point
+    c.loop-corner.invariant.crossing c.in_default.ensures

@@ -1,0 +1,5 @@
+pub mod Slopes
+pub mod Chain
+pub mod Funnel
+pub mod Path
+pub mod Sides

@@ -1,0 +1,12 @@
+//! The planner: the taut line between two curves, which is the plan whose sending rate varies least.
+#![tactic(auto)]
+
+mod chains;
+mod paths;
+mod plans;
+mod points;
+
+pub use plans::plan;
+
+#[cfg(test)]
+mod tests;

@@ -1,0 +1,106 @@
+//! The planner: the funnel between the two curves.
+
+ghost use Rattle.std.specs.Prelude.{◌≡◌, ℕ, ◌+◌, ◌<◌, ◌≤◌, ◌∷◌, length, MatchBool, MatchOption, IfOk, OnOk};
+ghost use Rattle.wire_curve.specs.Sound.{IsSound};
+ghost use Rattle.cert_check.specs.Fault.{IsTaut};
+ghost use Rattle.cert_check.specs.Best.{IsBestPlan};
+ghost use Rattle.taut_plan.specs.Slopes.{other_side};
+ghost use Rattle.taut_plan.specs.Funnel.{IsFunnel, IsCrossed, IsUncrossed, FirstIsBetween, others_known};
+ghost use Rattle.taut_plan.specs.Path.{IsPath, IsWhole};
+ghost use Rattle.taut_plan.specs.Sides.{lower_of, upper_of, side_of};
+
+use crate::chains::join;
+use crate::paths::Path;
+use crate::points::{Point, Side, is_inside, point_at};
+use plan_cert::{Plan, Segment};
+use std::alloc::{AllocError, Global};
+use std::collections::VecDeque;
+use vod_base::NoMemory;
+use wire_curve::Curves;
+
+/// The front of the other chain, where `point` stands outside of it.
+fn crossed(side: Side, apex: Point, others: &VecDeque<Point>, point: Point) -> Option<Point>
+    requires { FirstIsBetween apex others.now.items point }
+    ensures { MatchOption result
+        (IsUncrossed side apex others.now.items point)
+        (λ corner. IsCrossed side apex others.now.items point corner) }
+{
+    let corner = *others.front()?;
+    if is_inside(side, apex, corner, point) {
+        Some(corner)
+    } else {
+        None
+    }
+}
+
+/// Takes in the next slot's end on one side, and bends along the other chain while the new point stands outside of it.
+fn extend(
+    curves: &Curves,
+    side: Side,
+    path: &mut Path,
+    own: &mut VecDeque<Point>,
+    others: &mut VecDeque<Point>,
+    slot: usize,
+) -> Result<(), AllocError>
+    requires sound { IsSound curves.now.from curves.now.low.items curves.now.up.items }
+    requires slot { slot < length curves.now.low.items }
+    requires path { IsPath (lower_of curves.now) (upper_of curves.now) curves.now.from
+        path.old.apex path.old.segments.items }
+    requires funnel { IsFunnel side (side_of curves.now side) (side_of curves.now (other_side side))
+        slot (others_known side slot) path.old.apex own.old.items others.old.items }
+    ensures path { OnOk result (IsPath (lower_of curves.now) (upper_of curves.now) curves.now.from
+        path.new.apex path.new.segments.items) }
+    ensures funnel { OnOk result (IsFunnel side (side_of curves.now side) (side_of curves.now (other_side side))
+        (slot + 1) (others_known side slot) path.new.apex own.new.items others.new.items) }
+    ensures behind { OnOk result (path.new.apex.place ≤ slot) }
+{
+    let point = join(curves, side, path.apex, own, slot)?;
+    while let Some(corner) = crossed(side, path.apex, others, point) {
+        others.pop_front();
+        path.bend_at(corner)?;
+    }
+    Ok(())
+}
+
+/// The segments of the taut line.
+fn taut_segments(alloc: Global, curves: &Curves) -> Result<Vec<Segment>, AllocError>
+    requires { IsSound curves.now.from curves.now.low.items curves.now.up.items }
+    ensures { IfOk result (λ segments. IsWhole (lower_of curves.now) (upper_of curves.now) curves.now.from
+        (length curves.now.low.items) segments.items) }
+{
+    let slots = curves.low.len();
+    let mut path = Path::new(
+        alloc,
+        Point {
+            place: 0,
+            height: curves.from,
+        },
+    );
+    let mut lower = VecDeque::new(alloc);
+    let mut upper = VecDeque::new(alloc);
+    for slot in 0..slots {
+        extend(curves, Side::Lower, &mut path, &mut lower, &mut upper, slot)?;
+        extend(curves, Side::Upper, &mut path, &mut upper, &mut lower, slot)?;
+    }
+    path.bend_at(point_at(curves, Side::Upper, slots - 1))?;
+    Ok(path.segments)
+}
+
+/// The plan between sound curves: the one list of segments that `check` finds no fault in. Memory may be wanting.
+///
+/// It reads the curves once. Each slot joins and leaves each of the two chains at most once, so the work is linear in the
+/// slots, whatever the curves; the memory is that of the two chains and the segments.
+pub fn plan(alloc: Global, curves: &Curves) -> Result<Plan, NoMemory>
+    requires { IsSound curves.now.from curves.now.low.items curves.now.up.items }
+    ensures taut { IfOk result (λ plan.
+        IsTaut curves.now.from curves.now.low.items curves.now.up.items plan) }
+
+    // It is feasible, no feasible plan sends less above any rate, and no other list of segments is taut.
+    ensures best { IfOk result (λ plan.
+        IsBestPlan curves.now.from curves.now.low.items curves.now.up.items plan) }
+{
+    match taut_segments(alloc, curves) {
+        Ok(segments) => Ok(Plan::new(segments)),
+        Err(_) => Err(NoMemory),
+    }
+}

@@ -1,0 +1,104 @@
+//! Points of the curves, and the order of the slopes at which one point sees others.
+
+ghost use Rattle.std.specs.Prelude.{◌≡◌, ◌+◌, ◌-◌, ◌*◌, ◌<◌, ◌≤◌, ◌↔◌, IsTrue, MatchBool, length};
+ghost use Rattle.taut_plan.specs.Slopes.{IsWithin, IsInside, other_side};
+ghost use Rattle.taut_plan.specs.Chain.{on_curve};
+ghost use Rattle.taut_plan.specs.Sides.{side_of};
+
+use wire_curve::Curves;
+
+/// A point in the plane of slots and bytes. Place k is the end of slot k - 1, and place 0 the start.
+#[derive(Clone, Copy, Debug)]
+pub(crate) struct Point {
+    pub(crate) place: u64,
+    pub(crate) height: u64,
+}
+
+/// One of the two curves.
+#[derive(Clone, Copy, Debug)]
+pub(crate) enum Side {
+    Lower,
+    Upper,
+}
+
+impl Side {
+    /// The other one.
+    pub(crate) fn other(self) -> Side
+        ensures { result ≡ other_side self }
+    {
+        match self {
+            Side::Lower => Side::Upper,
+            Side::Upper => Side::Lower,
+        }
+    }
+}
+
+/// The point of a curve at the end of a slot.
+pub(crate) fn point_at(curves: &Curves, side: Side, slot: usize) -> Point
+    requires low { slot < length curves.now.low.items }
+    requires up { slot < length curves.now.up.items }
+    ensures { result ≡ on_curve (side_of curves.now side) (slot + 1) }
+{
+    let height = match side {
+        Side::Lower => curves.low[slot],
+        Side::Upper => curves.up[slot],
+    };
+    Point {
+        place: slot as u64 + 1,
+        height,
+    }
+}
+
+/// Whether, seen from the first point, the middle one stands strictly inside the last one: below the line to it on the
+/// lower side, and above the line to it on the upper side.
+pub(crate) fn is_inside(side: Side, first: Point, middle: Point, last: Point) -> bool
+    requires begins { first.place ≤ middle.place }
+    requires ends { middle.place ≤ last.place }
+    ensures { MatchBool result (IsInside side first middle last) (IsWithin side first last middle) }
+{
+    match side {
+        Side::Lower => is_below(first, middle, last),
+        Side::Upper => is_above(first, middle, last),
+    }
+}
+
+/// Whether the middle point stands strictly above the straight line from the first point to the last.
+fn is_above(first: Point, middle: Point, last: Point) -> bool
+    requires begins { first.place ≤ middle.place }
+    requires ends { middle.place ≤ last.place }
+    ensures { IsTrue result
+        ↔ ((last.place - middle.place) * first.height + (middle.place - first.place) * last.height
+        < (last.place - first.place) * middle.height) }
+{
+    let (line, point) = weights(first, middle, last);
+    line < point
+}
+
+/// Whether the middle point stands strictly below the straight line from the first point to the last.
+fn is_below(first: Point, middle: Point, last: Point) -> bool
+    requires begins { first.place ≤ middle.place }
+    requires ends { middle.place ≤ last.place }
+    ensures { IsTrue result
+        ↔ ((last.place - first.place) * middle.height
+        < (last.place - middle.place) * first.height + (middle.place - first.place) * last.height) }
+{
+    let (line, point) = weights(first, middle, last);
+    point < line
+}
+
+/// The heights at the middle place of the straight line from the first point to the last, and of the middle point, both
+/// times the places from the first to the last.
+fn weights(first: Point, middle: Point, last: Point) -> (u128, u128)
+    requires begins { first.place ≤ middle.place }
+    requires ends { middle.place ≤ last.place }
+    ensures line { result.0
+        ≡ (last.place - middle.place) * first.height + (middle.place - first.place) * last.height }
+    ensures point { result.1 ≡ (last.place - first.place) * middle.height }
+{
+    let before = u128::from(middle.place - first.place);
+    let behind = u128::from(last.place - middle.place);
+    (
+        behind * u128::from(first.height) + before * u128::from(last.height),
+        (before + behind) * u128::from(middle.height),
+    )
+}
