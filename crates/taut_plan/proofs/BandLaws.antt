@@ -22,7 +22,8 @@ rises_by f n step i (suc d) fits =
     let e : (i + d) + 1 ≡ i + suc d = omega arith in
     subst (λ t. f i ≤ f t) e le
 
-pub band_of_sound : (from : ℕ) (low up : List ℕ) → IsSound from low up → IsBand (bound_at from low) (bound_at from up) from (length low)
+pub band_of_sound : (from : ℕ) (low up : List ℕ) → IsSound from low up
+    → IsBand (bound_at from low) (bound_at from up) from (length low)
 band_of_sound from low up sound =
     let start = sound.starts_within in
     let some = sound.some_slot in
@@ -40,7 +41,8 @@ band_of_sound from low up sound =
       meet = bound_end from low (length low) some ∙ (sound.meet_at_end ∙ sym (bound_end from up (length low) some));
     }
   where
-    step : (from : ℕ) (low up : List ℕ) → IsSound from low up → (t : ℕ) → t + 1 ≤ length low → bound_at from up t ≤ bound_at from up (t + 1)
+    step : (from : ℕ) (low up : List ℕ) → IsSound from low up → (t : ℕ) → t + 1 ≤ length low
+        → bound_at from up t ≤ bound_at from up (t + 1)
     step from low up sound t fits = elim (cases_lt 0 t) [
       | inl past ↦ (let e : t - 1 + 1 ≡ t = omega (arith, past) in
           let le : slice_index up (t - 1) ≤ slice_index up t = subst (λ k. slice_index up (t - 1) ≤ slice_index up k) e (sound.up_never_falls (t - 1) (omega (arith, past, fits))) in

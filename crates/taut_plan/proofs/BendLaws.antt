@@ -27,7 +27,8 @@ abbrev pub IsOrdered : Side → ℕ → ℕ → Type 0
 IsOrdered Lower a b = a ≤ b
 IsOrdered Upper a b = b ≤ a
 
-pub ordered_within : (side : Side) (o a b : Point) → a.place ≡ b.place → IsOrdered side a.height b.height → IsWithin side o a b
+pub ordered_within : (side : Side) (o a b : Point) → a.place ≡ b.place → IsOrdered side a.height b.height
+    → IsWithin side o a b
 ordered_within Lower o a b same le =
     let e : b.place - o.place ≡ a.place - o.place = omega (arith, same) in
     let up : (a.place - o.place) * a.height ≤ (a.place - o.place) * b.height = mul-le-mul_left (a.place - o.place) le in
@@ -49,7 +50,8 @@ pub record IsCorner (side : Side) (curve other : ℕ → ℕ) (t s : ℕ) (o b :
   pub crossed : IsInside side o b (on_curve curve t)
 
 pub corner_of : (side : Side) (curve other : ℕ → ℕ) (t s : ℕ) (o : Point) (own : List Point) (b : Point) (rest : List Point)
-    → IsCrossing side curve other t s o own (b ∷ rest) → IsOrdered side (curve t) (other t) → IsInside side o b (on_curve curve t)
+    → IsCrossing side curve other t s o own (b ∷ rest) → IsOrdered side (curve t) (other t)
+    → IsInside side o b (on_curve curve t)
     → IsCorner side curve other t s o b
 corner_of side curve other t s o own b rest state ordered crossed =
     let edge = state.others.0 in
@@ -111,7 +113,8 @@ own_moves side curve other t s o (p ∷ rest) b chain corner =
 
 -- the corner becomes the point that the chains begin at
 pub crossing_moves : (side : Side) (curve other : ℕ → ℕ) (t s : ℕ) (o : Point) (own : List Point) (b : Point) (rest : List Point)
-    → IsCrossing side curve other t s o own (b ∷ rest) → IsCorner side curve other t s o b → IsCrossing side curve other t s b own rest
+    → IsCrossing side curve other t s o own (b ∷ rest) → IsCorner side curve other t s o b
+    → IsCrossing side curve other t s b own rest
 crossing_moves side curve other t s o own b rest state corner =
     let first = corner.later in
     record {
@@ -129,8 +132,10 @@ crossing_moves side curve other t s o own b rest state corner =
     }
 
 -- The new point stands within the other chain: so the curves stand apart with it.
-uncrossed_within : (side : Side) (curve other : ℕ → ℕ) (t s : ℕ) (o : Point) (chain : List Point) → IsChain (other_side side) other s o chain
-    → IsUncrossed side o chain (on_curve curve t) → (j : ℕ) → o.place < j → j ≤ s → IsWithin side o (on_curve curve t) (on_curve other j)
+uncrossed_within : (side : Side) (curve other : ℕ → ℕ) (t s : ℕ) (o : Point) (chain : List Point)
+    → IsChain (other_side side) other s o chain
+    → IsUncrossed side o chain (on_curve curve t) → (j : ℕ) → o.place < j → j ≤ s
+    → IsWithin side o (on_curve curve t) (on_curve other j)
 uncrossed_within side curve other t s o [] at_end un j after upto = absurd (omega (arith, at_end, after, upto))
 uncrossed_within side curve other t s o (b ∷ rest) chain un j after upto =
     let edge = chain.0 in
@@ -141,7 +146,8 @@ uncrossed_within side curve other t s o (b ∷ rest) chain un j after upto =
       | inr before ↦ other_within side o (on_curve other j) b (edge.before j after before)
     ])
 
-pub apart_again : (side : Side) (curve other : ℕ → ℕ) (t s : ℕ) (o : Point) (own others : List Point) → IsCrossing side curve other t s o own others
+pub apart_again : (side : Side) (curve other : ℕ → ℕ) (t s : ℕ) (o : Point) (own others : List Point)
+    → IsCrossing side curve other t s o own others
     → IsUncrossed side o others (on_curve curve t) → KeepsApart side curve other (t + 1) s o
 apart_again side curve other t s o own others state un = record {
   apart = λ i j i_after i_before j_after j_upto.

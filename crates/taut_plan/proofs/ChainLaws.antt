@@ -12,13 +12,15 @@ abbrev pub IsOpen : Side → (ℕ → ℕ) → ℕ → Point → List Point → 
 IsOpen side curve s o [] = (o.place ≤ s) × ((j : ℕ) → o.place < j → j ≤ s → IsWithin side o (on_curve curve j) (on_curve curve (s + 1)))
 IsOpen side curve s o (p ∷ rest) = IsFurthest side curve s o p × IsOpen side curve s p rest
 
-pub chain_opens : (side : Side) (curve : ℕ → ℕ) (s : ℕ) (o : Point) (chain : List Point) → IsChain side curve s o chain → IsOpen side curve s o chain
+pub chain_opens : (side : Side) (curve : ℕ → ℕ) (s : ℕ) (o : Point) (chain : List Point)
+    → IsChain side curve s o chain → IsOpen side curve s o chain
 chain_opens side curve s o [] at_end = (omega (arith, at_end), λ j later near. absurd (omega (arith, at_end, later, near)))
 chain_opens side curve s o (p ∷ rest) chain = (chain.0, chain_opens side curve s p rest chain.1)
 
 -- the last point leaves, since place s + 1 stands at least as far out as it
 pub open_pops : (side : Side) (curve : ℕ → ℕ) (s : ℕ) (o : Point) (front : List Point) (q : Point)
-    → IsOpen side curve s o (front ++ q ∷ []) → IsWithin side (last_point o front) q (on_curve curve (s + 1)) → IsOpen side curve s o front
+    → IsOpen side curve s o (front ++ q ∷ []) → IsWithin side (last_point o front) q (on_curve curve (s + 1))
+    → IsOpen side curve s o front
 open_pops side curve s o [] q open_ out =
     let edge = open_.0 in
     let later = edge.later in
@@ -32,7 +34,8 @@ open_pops side curve s o [] q open_ out =
 open_pops side curve s o (p ∷ front) q open_ out = (open_.0, open_pops side curve s p front q open_.1 out)
 
 -- where nothing is left, place s + 1 is the whole chain
-pub open_joins_alone : (side : Side) (curve : ℕ → ℕ) (s : ℕ) (o : Point) → IsOpen side curve s o [] → IsChain side curve (s + 1) o (on_curve curve (s + 1) ∷ [])
+pub open_joins_alone : (side : Side) (curve : ℕ → ℕ) (s : ℕ) (o : Point) → IsOpen side curve s o []
+    → IsChain side curve (s + 1) o (on_curve curve (s + 1) ∷ [])
 open_joins_alone side curve s o open_ =
     let near = open_.0 in (
       record {
@@ -54,7 +57,8 @@ FirstTurns side curve s p [] = ⊥
 FirstTurns side curve s p (x ∷ rest) = IsInside side p (on_curve curve (s + 1)) x
 
 -- so it stands inside the edge to p
-turns_before : (side : Side) (curve : ℕ → ℕ) (s : ℕ) (o p : Point) (rest : List Point) → IsFurthest side curve s o p → IsOpen side curve s p rest
+turns_before : (side : Side) (curve : ℕ → ℕ) (s : ℕ) (o p : Point) (rest : List Point)
+    → IsFurthest side curve s o p → IsOpen side curve s p rest
     → FirstTurns side curve s p rest → IsInside side o (on_curve curve (s + 1)) p
 turns_before side curve s o p [] edge open_ turns = absurd turns
 turns_before side curve s o p (x ∷ rest) edge open_ turns =
@@ -67,7 +71,8 @@ turns_before side curve s o p (x ∷ rest) edge open_ turns =
     turns_on side o p x (on_curve curve (s + 1)) one two (omega (arith, two, three)) (subst (λ y. IsInside side o (record { place = x.place; height = y }) p) (sym same) behind) turns
 
 -- the edge of a point that place s + 1 stands inside of goes on
-longer : (side : Side) (curve : ℕ → ℕ) (s : ℕ) (o p : Point) → IsFurthest side curve s o p → IsInside side o (on_curve curve (s + 1)) p → IsFurthest side curve (s + 1) o p
+longer : (side : Side) (curve : ℕ → ℕ) (s : ℕ) (o p : Point) → IsFurthest side curve s o p
+    → IsInside side o (on_curve curve (s + 1)) p → IsFurthest side curve (s + 1) o p
 longer side curve s o p edge turns = record {
   later = edge.later;
   near = let near = edge.near in omega (arith, near);
@@ -85,7 +90,8 @@ pub record Joined (side : Side) (curve : ℕ → ℕ) (s : ℕ) (o : Point) (cha
 
 -- where place s + 1 stands inside the last edge, it joins
 pub open_joins : (side : Side) (curve : ℕ → ℕ) (s : ℕ) (o : Point) (front : List Point) (q : Point)
-    → IsOpen side curve s o (front ++ q ∷ []) → IsInside side (last_point o front) (on_curve curve (s + 1)) q → Joined side curve s o (front ++ q ∷ [])
+    → IsOpen side curve s o (front ++ q ∷ []) → IsInside side (last_point o front) (on_curve curve (s + 1)) q
+    → Joined side curve s o (front ++ q ∷ [])
 open_joins side curve s o [] q open_ turns = record {
   first_turns = turns;
   joined = (longer side curve s o q open_.0 turns, open_joins_alone side curve s q open_.1);

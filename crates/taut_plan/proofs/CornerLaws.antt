@@ -28,28 +28,32 @@ ray_gt : (v n h b i y : ℕ) → h ≡ v + b → slope_lt v i y n h → y * n < 
 ray_gt v n h b i y is lt = let e : i * h ≡ i * (v + b) = ap (λ x. i * x) is in omega (arith, lt, e)
 
 -- The same over points, at an offset from the first one.
-line_below : (curve : ℕ → ℕ) (o b : Point) (i : ℕ) → o.height ≤ b.height → IsWithin Lower o b (on_curve curve (o.place + i))
+line_below : (curve : ℕ → ℕ) (o b : Point) (i : ℕ) → o.height ≤ b.height
+    → IsWithin Lower o b (on_curve curve (o.place + i))
     → o.height * (b.place - o.place) + i * (b.height - o.height) ≤ curve (o.place + i) * (b.place - o.place)
 line_below curve o b i up h =
     let e : (o.place + i) - o.place ≡ i = omega arith in
     ray_le o.height (b.place - o.place) b.height (b.height - o.height) i (curve (o.place + i)) (omega (arith, up))
     (subst (λ d. slope_le o.height (b.place - o.place) b.height d (curve (o.place + i))) e h)
 
-line_under : (curve : ℕ → ℕ) (o b : Point) (i : ℕ) → o.height ≤ b.height → IsInside Lower o b (on_curve curve (o.place + i))
+line_under : (curve : ℕ → ℕ) (o b : Point) (i : ℕ) → o.height ≤ b.height
+    → IsInside Lower o b (on_curve curve (o.place + i))
     → o.height * (b.place - o.place) + i * (b.height - o.height) < curve (o.place + i) * (b.place - o.place)
 line_under curve o b i up h =
     let e : (o.place + i) - o.place ≡ i = omega arith in
     ray_lt o.height (b.place - o.place) b.height (b.height - o.height) i (curve (o.place + i)) (omega (arith, up))
     (subst (λ d. slope_lt o.height (b.place - o.place) b.height d (curve (o.place + i))) e h)
 
-line_above : (curve : ℕ → ℕ) (o b : Point) (i : ℕ) → o.height ≤ b.height → IsWithin Lower o (on_curve curve (o.place + i)) b
+line_above : (curve : ℕ → ℕ) (o b : Point) (i : ℕ) → o.height ≤ b.height
+    → IsWithin Lower o (on_curve curve (o.place + i)) b
     → curve (o.place + i) * (b.place - o.place) ≤ o.height * (b.place - o.place) + i * (b.height - o.height)
 line_above curve o b i up h =
     let e : (o.place + i) - o.place ≡ i = omega arith in
     ray_ge o.height (b.place - o.place) b.height (b.height - o.height) i (curve (o.place + i)) (omega (arith, up))
     (subst (λ d. slope_le o.height d (curve (o.place + i)) (b.place - o.place) b.height) e h)
 
-line_over : (curve : ℕ → ℕ) (o b : Point) (i : ℕ) → o.height ≤ b.height → IsInside Lower o (on_curve curve (o.place + i)) b
+line_over : (curve : ℕ → ℕ) (o b : Point) (i : ℕ) → o.height ≤ b.height
+    → IsInside Lower o (on_curve curve (o.place + i)) b
     → curve (o.place + i) * (b.place - o.place) < o.height * (b.place - o.place) + i * (b.height - o.height)
 line_over curve o b i up h =
     let e : (o.place + i) - o.place ≡ i = omega arith in
@@ -71,7 +75,8 @@ starts_below curve k v n b i none le =
     subst (λ p. v * n + i * b ≤ curve p * n) e (subst (λ j. v * n + j * b ≤ curve k * n) z (omega (arith, up)))
 
 -- a corner of the upper chain
-pub rise_of_corner : (lo hi : ℕ → ℕ) (t s : ℕ) (o b : Point) → IsCorner Lower lo hi t s o b → t ≤ s + 1 → lo o.place ≤ o.height → o.height ≤ hi o.place
+pub rise_of_corner : (lo hi : ℕ → ℕ) (t s : ℕ) (o b : Point) → IsCorner Lower lo hi t s o b → t ≤ s + 1
+    → lo o.place ≤ o.height → o.height ≤ hi o.place
     → o.height ≤ b.height → lo t ≤ hi t → IsRise lo hi o.place o.height (segment_to o b)
 rise_of_corner lo hi t s o b corner newest above below up ordered =
     let later = corner.later in
@@ -108,7 +113,8 @@ rise_of_corner lo hi t s o b corner newest above below up ordered =
     }
 
 -- a corner of the lower chain
-pub fall_of_corner : (lo hi : ℕ → ℕ) (t s : ℕ) (o b : Point) → IsCorner Upper hi lo t s o b → t ≤ s + 1 → lo o.place ≤ o.height → o.height ≤ hi o.place
+pub fall_of_corner : (lo hi : ℕ → ℕ) (t s : ℕ) (o b : Point) → IsCorner Upper hi lo t s o b → t ≤ s + 1
+    → lo o.place ≤ o.height → o.height ≤ hi o.place
     → o.height ≤ b.height → lo t ≤ hi t → IsFall lo hi o.place o.height (segment_to o b)
 fall_of_corner lo hi t s o b corner newest above below up ordered =
     let later = corner.later in
@@ -151,7 +157,8 @@ above_start v t z n h lt le =
     lt_of_mul-lt-mul_left t all
 
 -- the line never falls to a corner
-pub corner_rises : (side : Side) (lo hi : ℕ → ℕ) (from n t s : ℕ) (o b : Point) → IsBand lo hi from n → t ≤ n → s ≤ t → o.place < t → o.height ≤ hi o.place
+pub corner_rises : (side : Side) (lo hi : ℕ → ℕ) (from n t s : ℕ) (o b : Point) → IsBand lo hi from n → t ≤ n
+    → s ≤ t → o.place < t → o.height ≤ hi o.place
     → IsCorner side (curve_on lo hi side) (curve_on lo hi (other_side side)) t s o b → o.height ≤ b.height
 corner_rises Lower lo hi from n t s o b band fits most past below corner =
     let later = corner.later in
@@ -165,7 +172,8 @@ corner_rises Upper lo hi from n t s o b band fits most past below corner =
     omega (arith, lt)
 
 -- the path goes on to a corner
-pub path_bends : (side : Side) (lo hi : ℕ → ℕ) (from n t s : ℕ) (o b : Point) (segments : List Segment) → IsBand lo hi from n → t ≤ n → t ≤ s + 1 → s ≤ t → o.place < t
+pub path_bends : (side : Side) (lo hi : ℕ → ℕ) (from n t s : ℕ) (o b : Point) (segments : List Segment)
+    → IsBand lo hi from n → t ≤ n → t ≤ s + 1 → s ≤ t → o.place < t
     → IsPath lo hi from o segments → IsCorner side (curve_on lo hi side) (curve_on lo hi (other_side side)) t s o b
     → IsPath lo hi from b (segments ++ segment_to o b ∷ [])
 path_bends side lo hi from n t s o b segments band fits newest most past path corner =
@@ -198,7 +206,8 @@ path_bends side lo hi from n t s o b segments band fits newest most past path co
     stands_below Upper lo hi from n t s o b band fits most corner =
         let near = corner.near in let on = corner.on in let le = band.ordered b.place (omega (arith, near, most, fits)) in omega (arith, on, le)
 
-    goes : (side : Side) (lo hi : ℕ → ℕ) (from t s : ℕ) (o b : Point) (segments : List Segment) → t ≤ s + 1 → IsPath lo hi from o segments → lo t ≤ hi t → o.height ≤ b.height
+    goes : (side : Side) (lo hi : ℕ → ℕ) (from t s : ℕ) (o b : Point) (segments : List Segment) → t ≤ s + 1
+        → IsPath lo hi from o segments → lo t ≤ hi t → o.height ≤ b.height
         → IsCorner side (curve_on lo hi side) (curve_on lo hi (other_side side)) t s o b
         → GoesOn lo hi from (o.place + (b.place - o.place)) (o.height + (b.height - o.height)) (segments ++ segment_to o b ∷ [])
     goes Lower lo hi from t s o b segments newest path ordered up corner =
@@ -206,14 +215,16 @@ path_bends side lo hi from n t s o b segments band fits newest most past path co
     goes Upper lo hi from t s o b segments newest path ordered up corner =
         goes_on_fall lo hi from o.place o.height segments (segment_to o b) path.goes_on (fall_of_corner lo hi t s o b corner newest path.above path.below up ordered)
 
-pub path_rises : (lo hi : ℕ → ℕ) (from n : ℕ) (o : Point) (segments : List Segment) → IsBand lo hi from n → o.place < n → IsPath lo hi from o segments → o.height ≤ hi n
+pub path_rises : (lo hi : ℕ → ℕ) (from n : ℕ) (o : Point) (segments : List Segment) → IsBand lo hi from n
+    → o.place < n → IsPath lo hi from o segments → o.height ≤ hi n
 path_rises lo hi from n o segments band past path =
     let up = band.high_rises o.place n (omega (arith, past)) (omega arith) in
     let below = path.below in
     omega (arith, up, below)
 
 -- the segments with the last one, to where the curves meet
-pub path_ends : (lo hi : ℕ → ℕ) (from n : ℕ) (o : Point) (segments : List Segment) → IsBand lo hi from n → o.place < n → IsPath lo hi from o segments
+pub path_ends : (lo hi : ℕ → ℕ) (from n : ℕ) (o : Point) (segments : List Segment) → IsBand lo hi from n
+    → o.place < n → IsPath lo hi from o segments
     → KeepsApart Upper hi lo (n + 1) n o → IsWhole lo hi from n (segments ++ segment_to o (on_curve hi n) ∷ [])
 path_ends lo hi from n o segments band past path keeps =
     let up = band.high_rises o.place n (omega (arith, past)) (omega arith) in

@@ -11,14 +11,16 @@ last_point-push : (o : Point) (chain : List Point) (p : Point) → last_point o 
 last_point-push o [] p = refl
 last_point-push o (q ∷ rest) p = last_point-push q rest p
 
-pub edge_of_one : (o : Point) (chain : List Point) (second : Point) → length chain ≡ 1 → second ≡ get_or chain 0 second → IsLastEdge o chain o second
+pub edge_of_one : (o : Point) (chain : List Point) (second : Point) → length chain ≡ 1
+    → second ≡ get_or chain 0 second → IsLastEdge o chain o second
 edge_of_one o chain second one is = record {
   front = [];
   is = sym (take_all 1 chain (omega (arith, one))) ∙ (take_more chain 0 second (omega (arith, one)) ∙ ap (λ (p : Point). p ∷ []) (sym is));
   begins = refl;
 }
 
-pub edge_of_more : (o : Point) (chain : List Point) (b : ℕ) (first second : Point) → length chain ≡ b + 2 → first ≡ get_or chain b first → second ≡ get_or chain (b + 1) second
+pub edge_of_more : (o : Point) (chain : List Point) (b : ℕ) (first second : Point) → length chain ≡ b + 2
+    → first ≡ get_or chain b first → second ≡ get_or chain (b + 1) second
     → IsLastEdge o chain first second
 edge_of_more o chain b first second many is_first is_second = record {
   front = take (b + 1) chain;
@@ -27,25 +29,29 @@ edge_of_more o chain b first second many is_first is_second = record {
 }
 
 -- the edges of a chain that is open for place s + 1
-open_ascends : (side : Side) (curve : ℕ → ℕ) (s : ℕ) (o : Point) (front : List Point) (q : Point) → IsOpen side curve s o (front ++ q ∷ [])
+open_ascends : (side : Side) (curve : ℕ → ℕ) (s : ℕ) (o : Point) (front : List Point) (q : Point)
+    → IsOpen side curve s o (front ++ q ∷ [])
     → ((last_point o front).place ≤ q.place) × (q.place ≤ s + 1)
 open_ascends side curve s o [] q open_ = let later = open_.0.later in let near = open_.0.near in (omega (arith, later), omega (arith, near))
 open_ascends side curve s o (p ∷ front) q open_ = open_ascends side curve s p front q open_.1
 
-pub edges_ascend : (side : Side) (curve : ℕ → ℕ) (s : ℕ) (o : Point) (chain : List Point) (point : Point) → point ≡ on_curve curve (s + 1) → IsOpen side curve s o chain
+pub edges_ascend : (side : Side) (curve : ℕ → ℕ) (s : ℕ) (o : Point) (chain : List Point) (point : Point)
+    → point ≡ on_curve curve (s + 1) → IsOpen side curve s o chain
     → EdgesAscend o chain point
 edges_ascend side curve s o chain point is open_ first second edge =
     let up = open_ascends side curve s o edge.front second (subst (IsOpen side curve s o) edge.is open_) in
     (subst (λ (p : Point). p.place ≤ second.place) (sym edge.begins) up.0, subst (λ (p : Point). second.place ≤ p.place) (sym is) up.1)
 
 -- what is left without the last point
-pub without_last : (chain front : List Point) (q : Point) → chain ≡ front ++ q ∷ [] → take (length chain - 1) chain ≡ front
+pub without_last : (chain front : List Point) (q : Point) → chain ≡ front ++ q ∷ []
+    → take (length chain - 1) chain ≡ front
 without_last chain front q is =
     let n : length front ≡ length (front ++ q ∷ []) - 1 = omega (arith, length-append front (q ∷ [])) in
     subst (λ c. take (length c - 1) c ≡ front) (sym is) (take_at front (q ∷ []) (length (front ++ q ∷ []) - 1) n)
 
 -- a point that is passed leaves
-pub pop_step : (side : Side) (curve : ℕ → ℕ) (s : ℕ) (o : Point) (old new : List Point) (point : Point) → point ≡ on_curve curve (s + 1) → IsOpen side curve s o old
+pub pop_step : (side : Side) (curve : ℕ → ℕ) (s : ℕ) (o : Point) (old new : List Point) (point : Point)
+    → point ≡ on_curve curve (s + 1) → IsOpen side curve s o old
     → IsPassed side o old point → new ≡ take (length old - 1) old → IsOpen side curve s o new
 pop_step side curve s o old new point is open_ passed left =
     let edge = passed.edge in
@@ -55,7 +61,8 @@ pop_step side curve s o old new point is open_ passed left =
     subst (IsOpen side curve s o) (sym e) (open_pops side curve s o edge.front passed.second (subst (IsOpen side curve s o) edge.is open_) out)
 
 -- the new point joins
-pub join_step : (side : Side) (curve : ℕ → ℕ) (s : ℕ) (o : Point) (old : List Point) (point : Point) → point ≡ on_curve curve (s + 1) → IsOpen side curve s o old
+pub join_step : (side : Side) (curve : ℕ → ℕ) (s : ℕ) (o : Point) (old : List Point) (point : Point)
+    → point ≡ on_curve curve (s + 1) → IsOpen side curve s o old
     → IsReady side o old point → IsChain side curve (s + 1) o (old ++ point ∷ [])
 join_step side curve s o old point is open_ ready = subst (λ (p : Point). IsChain side curve (s + 1) o (old ++ p ∷ [])) (sym is)
     (elim ready [
@@ -63,7 +70,8 @@ join_step side curve s o old point is open_ ready = subst (λ (p : Point). IsCha
       | inr held ↦ join_held side curve s o old point is open_ held
     ])
   where
-    join_held : (side : Side) (curve : ℕ → ℕ) (s : ℕ) (o : Point) (old : List Point) (point : Point) → point ≡ on_curve curve (s + 1) → IsOpen side curve s o old
+    join_held : (side : Side) (curve : ℕ → ℕ) (s : ℕ) (o : Point) (old : List Point) (point : Point)
+        → point ≡ on_curve curve (s + 1) → IsOpen side curve s o old
         → IsHeld side o old point → IsChain side curve (s + 1) o (old ++ on_curve curve (s + 1) ∷ [])
     join_held side curve s o old point is open_ held =
         let edge = held.edge in

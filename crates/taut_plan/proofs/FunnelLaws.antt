@@ -19,7 +19,8 @@ pub known_most : (side : Side) (slot : ℕ) → others_known side slot ≤ slot 
 known_most Lower slot = omega arith
 known_most Upper slot = omega arith
 
-chain_behind : (side : Side) (curve : ℕ → ℕ) (t : ℕ) (o : Point) (chain : List Point) → IsChain side curve t o chain → o.place ≤ t
+chain_behind : (side : Side) (curve : ℕ → ℕ) (t : ℕ) (o : Point) (chain : List Point)
+    → IsChain side curve t o chain → o.place ≤ t
 chain_behind side curve t o [] at_end = omega (arith, at_end)
 chain_behind side curve t o (p ∷ rest) chain = let later = chain.0.later in let near = chain.0.near in omega (arith, later, near)
 
@@ -35,7 +36,8 @@ crossing_starts side curve other slot o own joined others funnel chain = record 
   apart = funnel.keeps;
 }
 
-pub first_is_between : (side : Side) (curve other : ℕ → ℕ) (t s : ℕ) (o : Point) (own others : List Point) (point : Point) → point ≡ on_curve curve t
+pub first_is_between : (side : Side) (curve other : ℕ → ℕ) (t s : ℕ) (o : Point) (own others : List Point) (point : Point)
+    → point ≡ on_curve curve t
     → IsCrossing side curve other t s o own others → FirstIsBetween o others point
 first_is_between side curve other t s o own [] point is state = tt
 first_is_between side curve other t s o own (b ∷ rest) point is state =
@@ -45,7 +47,8 @@ first_is_between side curve other t s o own (b ∷ rest) point is state =
     let most = state.not_past in
     (omega (arith, later), subst (λ (p : Point). b.place ≤ p.place) (sym is) (let le : b.place ≤ t = omega (arith, near, most) in le))
 
-ordered_on : (side : Side) (lo hi : ℕ → ℕ) (t : ℕ) → lo t ≤ hi t → IsOrdered side (curve_on lo hi side t) (curve_on lo hi (other_side side) t)
+ordered_on : (side : Side) (lo hi : ℕ → ℕ) (t : ℕ) → lo t ≤ hi t
+    → IsOrdered side (curve_on lo hi side t) (curve_on lo hi (other_side side) t)
 ordered_on Lower lo hi t le = le
 ordered_on Upper lo hi t le = le
 
@@ -58,7 +61,8 @@ pub record IsBent (side : Side) (lo hi : ℕ → ℕ) (from t s : ℕ) (o corner
 
 pub bends_at : (side : Side) (lo hi : ℕ → ℕ) (from n t s : ℕ) (o corner : Point) (segments : List Segment) (own others left : List Point) (point : Point)
     → IsBand lo hi from n → t ≤ n → point ≡ on_curve (curve_on lo hi side) t → IsPath lo hi from o segments
-    → IsCrossing side (curve_on lo hi side) (curve_on lo hi (other_side side)) t s o own others → IsCrossed side o others point corner → left ≡ drop 1 others
+    → IsCrossing side (curve_on lo hi side) (curve_on lo hi (other_side side)) t s o own others
+    → IsCrossed side o others point corner → left ≡ drop 1 others
     → IsBent side lo hi from t s o corner segments own left
 bends_at side lo hi from n t s o corner segments own others left point band fits is path state crossed gone =
     let state' : IsCrossing side (curve_on lo hi side) (curve_on lo hi (other_side side)) t s o own (corner ∷ crossed.rest) =
@@ -75,8 +79,10 @@ bends_at side lo hi from n t s o corner segments own others left point band fits
           (crossing_moves side (curve_on lo hi side) (curve_on lo hi (other_side side)) t s o own corner crossed.rest state' there);
     }
 
-pub crossing_ends : (side : Side) (curve other : ℕ → ℕ) (t s : ℕ) (o : Point) (own others : List Point) (point : Point) → point ≡ on_curve curve t
-    → IsCrossing side curve other t s o own others → IsUncrossed side o others point → IsFunnel side curve other t s o own others
+pub crossing_ends : (side : Side) (curve other : ℕ → ℕ) (t s : ℕ) (o : Point) (own others : List Point) (point : Point)
+    → point ≡ on_curve curve t
+    → IsCrossing side curve other t s o own others → IsUncrossed side o others point
+    → IsFunnel side curve other t s o own others
 crossing_ends side curve other t s o own others point is state un = record {
   own = state.own;
   others = state.others;
@@ -88,11 +94,13 @@ other_of_within : (side : Side) (o a b : Point) → IsWithin side o b a → IsWi
 other_of_within Lower o a b h = h
 other_of_within Upper o a b h = h
 
-other_twice : (side : Side) (curve : ℕ → ℕ) (t : ℕ) (o : Point) (chain : List Point) → IsChain side curve t o chain → IsChain (other_side (other_side side)) curve t o chain
+other_twice : (side : Side) (curve : ℕ → ℕ) (t : ℕ) (o : Point) (chain : List Point)
+    → IsChain side curve t o chain → IsChain (other_side (other_side side)) curve t o chain
 other_twice Lower curve t o chain h = h
 other_twice Upper curve t o chain h = h
 
-pub funnel_turns : (side : Side) (curve other : ℕ → ℕ) (t s : ℕ) (o : Point) (own others : List Point) → IsFunnel side curve other t s o own others
+pub funnel_turns : (side : Side) (curve other : ℕ → ℕ) (t s : ℕ) (o : Point) (own others : List Point)
+    → IsFunnel side curve other t s o own others
     → IsFunnel (other_side side) other curve s t o others own
 funnel_turns side curve other t s o own others funnel = record {
   own = funnel.others;

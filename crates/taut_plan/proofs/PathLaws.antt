@@ -31,7 +31,8 @@ pub record IsFall (lo hi : ℕ → ℕ) (k v : ℕ) (s : Segment) : Type 0 where
   pub free : (i : ℕ) → s.slots < i → i ≤ far → lo (k + i) * s.slots < v * s.slots + i * s.bytes
 
 -- a point above the first ray and on or below the second shows the second to be steeper
-steeper_by : (v n b n' b' i y : ℕ) → 1 ≤ n' → v * n + (n + i) * b < y * n → y * n' ≤ (v + b) * n' + i * b' → b * n' < b' * n
+steeper_by : (v n b n' b' i y : ℕ) → 1 ≤ n' → v * n + (n + i) * b < y * n → y * n' ≤ (v + b) * n' + i * b'
+    → b * n' < b' * n
 steeper_by v n b n' b' i y some above below =
     let pos : 0 < n' = omega arith in
     let one : (v * n + (n + i) * b) * n' < y * n * n' = mul-lt-mul_of_pos_right above pos in
@@ -39,7 +40,8 @@ steeper_by v n b n' b' i y some above below =
     let all : i * (b * n') < i * (b' * n) = omega (arith, one, two) in
     lt_of_mul-lt-mul_left i all
 
-flatter_by : (v n b n' b' i y : ℕ) → 1 ≤ n' → y * n < v * n + (n + i) * b → (v + b) * n' + i * b' ≤ y * n' → b' * n < b * n'
+flatter_by : (v n b n' b' i y : ℕ) → 1 ≤ n' → y * n < v * n + (n + i) * b → (v + b) * n' + i * b' ≤ y * n'
+    → b' * n < b * n'
 flatter_by v n b n' b' i y some below above =
     let pos : 0 < n' = omega arith in
     let one : y * n * n' < (v * n + (n + i) * b) * n' = mul-lt-mul_of_pos_right below pos in
@@ -53,19 +55,22 @@ offsets curve k n i = ap curve (omega arith)
 
 steeper_at : (lo hi : ℕ → ℕ) (k v : ℕ) (s next : Segment) → IsRise lo hi k v s → 1 ≤ next.slots → (i : ℕ) → 1 ≤ i
     → hi (k + s.slots + i) * next.slots ≤ (v + s.bytes) * next.slots + i * next.bytes → (far : ℕ) → s.slots + i ≤ far
-    → ((j : ℕ) → s.slots < j → j ≤ far → v * s.slots + j * s.bytes < hi (k + j) * s.slots) → IsBelow (slope_of s) (slope_of next)
+    → ((j : ℕ) → s.slots < j → j ≤ far → v * s.slots + j * s.bytes < hi (k + j) * s.slots)
+    → IsBelow (slope_of s) (slope_of next)
 steeper_at lo hi k v s next rise some i later touches far within free =
     steeper_by v s.slots s.bytes next.slots next.bytes i (hi (k + (s.slots + i))) some (free (s.slots + i) (omega (arith, later)) within)
     (subst (λ h. h * next.slots ≤ (v + s.bytes) * next.slots + i * next.bytes) (offsets hi k s.slots i) touches)
 
 flatter_at : (lo hi : ℕ → ℕ) (k v : ℕ) (s next : Segment) → IsFall lo hi k v s → 1 ≤ next.slots → (i : ℕ) → 1 ≤ i
     → (v + s.bytes) * next.slots + i * next.bytes ≤ lo (k + s.slots + i) * next.slots → (far : ℕ) → s.slots + i ≤ far
-    → ((j : ℕ) → s.slots < j → j ≤ far → lo (k + j) * s.slots < v * s.slots + j * s.bytes) → IsBelow (slope_of next) (slope_of s)
+    → ((j : ℕ) → s.slots < j → j ≤ far → lo (k + j) * s.slots < v * s.slots + j * s.bytes)
+    → IsBelow (slope_of next) (slope_of s)
 flatter_at lo hi k v s next fall some i later touches far within free =
     flatter_by v s.slots s.bytes next.slots next.bytes i (lo (k + (s.slots + i))) some (free (s.slots + i) (omega (arith, later)) within)
     (subst (λ h. (v + s.bytes) * next.slots + i * next.bytes ≤ h * next.slots) (offsets lo k s.slots i) touches)
 
-rise_bends : (lo hi : ℕ → ℕ) (k v : ℕ) (s : Segment) (rest : List Segment) → IsRise lo hi k v s → HasOneSlope lo hi (k + s.slots) (v + s.bytes) rest
+rise_bends : (lo hi : ℕ → ℕ) (k v : ℕ) (s : Segment) (rest : List Segment) → IsRise lo hi k v s
+    → HasOneSlope lo hi (k + s.slots) (v + s.bytes) rest
     → Bends lo hi (k + s.slots) (v + s.bytes) s rest
 rise_bends lo hi k v s [] rise one = tt
 rise_bends lo hi k v s (next ∷ rest) rise one =
@@ -83,7 +88,8 @@ rise_bends lo hi k v s (next ∷ rest) rise one =
       rise.on,
     )
 
-fall_bends : (lo hi : ℕ → ℕ) (k v : ℕ) (s : Segment) (rest : List Segment) → IsFall lo hi k v s → HasOneSlope lo hi (k + s.slots) (v + s.bytes) rest
+fall_bends : (lo hi : ℕ → ℕ) (k v : ℕ) (s : Segment) (rest : List Segment) → IsFall lo hi k v s
+    → HasOneSlope lo hi (k + s.slots) (v + s.bytes) rest
     → Bends lo hi (k + s.slots) (v + s.bytes) s rest
 fall_bends lo hi k v s [] fall one = tt
 fall_bends lo hi k v s (next ∷ rest) fall one =
@@ -102,7 +108,8 @@ fall_bends lo hi k v s (next ∷ rest) fall one =
     )
 
 -- a rise's own ray meets the lower curve where that leaves the ray, and the upper curve at the corner
-rise_slope : (lo hi : ℕ → ℕ) (k v : ℕ) (s : Segment) (rest : List Segment) → IsRise lo hi k v s → HasOneSlope lo hi k v (s ∷ rest)
+rise_slope : (lo hi : ℕ → ℕ) (k v : ℕ) (s : Segment) (rest : List Segment) → IsRise lo hi k v s
+    → HasOneSlope lo hi k v (s ∷ rest)
 rise_slope lo hi k v s rest rise =
     let later = rise.later in (
       rise.some,
@@ -120,7 +127,8 @@ rise_slope lo hi k v s rest rise =
       },
     )
 
-fall_slope : (lo hi : ℕ → ℕ) (k v : ℕ) (s : Segment) (rest : List Segment) → IsFall lo hi k v s → HasOneSlope lo hi k v (s ∷ rest)
+fall_slope : (lo hi : ℕ → ℕ) (k v : ℕ) (s : Segment) (rest : List Segment) → IsFall lo hi k v s
+    → HasOneSlope lo hi k v (s ∷ rest)
 fall_slope lo hi k v s rest fall =
     let later = fall.later in (
       fall.some,
@@ -138,12 +146,14 @@ fall_slope lo hi k v s rest fall =
       },
     )
 
-regroup : (lo hi : ℕ → ℕ) (from : ℕ) (segments rest : List Segment) (s : Segment) → RunsTaut lo hi 0 from (segments ++ (s ∷ rest))
+regroup : (lo hi : ℕ → ℕ) (from : ℕ) (segments rest : List Segment) (s : Segment)
+    → RunsTaut lo hi 0 from (segments ++ (s ∷ rest))
     → RunsTaut lo hi 0 from ((segments ++ s ∷ []) ++ rest)
 regroup lo hi from segments rest s runs = let e : (segments ++ s ∷ []) ++ rest ≡ segments ++ (s ∷ rest) = append_assoc segments (s ∷ []) rest in
     subst (λ segs. RunsTaut lo hi 0 from segs) (sym e) runs
 
-pub goes_on_rise : (lo hi : ℕ → ℕ) (from k v : ℕ) (segments : List Segment) (s : Segment) → GoesOn lo hi from k v segments → IsRise lo hi k v s
+pub goes_on_rise : (lo hi : ℕ → ℕ) (from k v : ℕ) (segments : List Segment) (s : Segment)
+    → GoesOn lo hi from k v segments → IsRise lo hi k v s
     → GoesOn lo hi from (k + s.slots) (v + s.bytes) (segments ++ s ∷ [])
 goes_on_rise lo hi from k v segments s goes rise = record {
   on = λ rest one runs.
@@ -151,7 +161,8 @@ goes_on_rise lo hi from k v segments s goes rise = record {
       (record { some = rise.some; above = rise.above; below = rise.below }, rise_bends lo hi k v s rest rise one, runs));
 }
 
-pub goes_on_fall : (lo hi : ℕ → ℕ) (from k v : ℕ) (segments : List Segment) (s : Segment) → GoesOn lo hi from k v segments → IsFall lo hi k v s
+pub goes_on_fall : (lo hi : ℕ → ℕ) (from k v : ℕ) (segments : List Segment) (s : Segment)
+    → GoesOn lo hi from k v segments → IsFall lo hi k v s
     → GoesOn lo hi from (k + s.slots) (v + s.bytes) (segments ++ s ∷ [])
 goes_on_fall lo hi from k v segments s goes fall = record {
   on = λ rest one runs.

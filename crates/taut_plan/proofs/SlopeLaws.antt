@@ -29,14 +29,16 @@ lt_le v i y p h r z pos a b =
 
 -- Three points ahead of v, at offsets p, p + x and p + t. Where the second stands below the ray to the first, and the third
 -- below the ray from the first to the second, the third stands below the ray to the first.
-falls_on : (v p x t h y z : ℕ) → 0 < p → 0 < t → slope_lt v (p + x) y p h → slope_lt h t z x y → slope_lt v (p + t) z p h
+falls_on : (v p x t h y z : ℕ) → 0 < p → 0 < t → slope_lt v (p + x) y p h → slope_lt h t z x y
+    → slope_lt v (p + t) z p h
 falls_on v p x t h y z pos some a b =
     let one : t * (p * y + (p + x) * v) < t * (p * v + (p + x) * h) = mul-lt-mul_of_pos_left a some in
     let two : p * (x * z + t * h) < p * (x * h + t * y) = mul-lt-mul_of_pos_left b pos in
     let all : x * (p * z + (p + t) * v) < x * (p * v + (p + t) * h) = omega (arith, one, two) in
     lt_of_mul-lt-mul_left x all
 
-rises_on : (v p x t h y z : ℕ) → 0 < p → 0 < t → slope_lt v p h (p + x) y → slope_lt h x y t z → slope_lt v p h (p + t) z
+rises_on : (v p x t h y z : ℕ) → 0 < p → 0 < t → slope_lt v p h (p + x) y → slope_lt h x y t z
+    → slope_lt v p h (p + t) z
 rises_on v p x t h y z pos some a b =
     let one : t * ((p + x) * h + p * v) < t * ((p + x) * v + p * y) = mul-lt-mul_of_pos_left a some in
     let two : p * (t * y + x * h) < p * (t * h + x * z) = mul-lt-mul_of_pos_left b pos in
@@ -53,15 +55,18 @@ turns_at v p j t h y z pos a b =
 
 -- The same laws over points
 
-pub within_within : (side : Side) (o a b c : Point) → o.place < b.place → IsWithin side o a b → IsWithin side o b c → IsWithin side o a c
+pub within_within : (side : Side) (o a b c : Point) → o.place < b.place → IsWithin side o a b
+    → IsWithin side o b c → IsWithin side o a c
 within_within Lower o a b c later p q = le_le o.height (a.place - o.place) a.height (b.place - o.place) b.height (c.place - o.place) c.height (omega arith) p q
 within_within Upper o a b c later p q = le_le o.height (c.place - o.place) c.height (b.place - o.place) b.height (a.place - o.place) a.height (omega arith) q p
 
-pub within_inside : (side : Side) (o a b c : Point) → o.place < a.place → IsWithin side o a b → IsInside side o b c → IsInside side o a c
+pub within_inside : (side : Side) (o a b c : Point) → o.place < a.place → IsWithin side o a b
+    → IsInside side o b c → IsInside side o a c
 within_inside Lower o a b c later p q = le_lt o.height (a.place - o.place) a.height (b.place - o.place) b.height (c.place - o.place) c.height (omega arith) p q
 within_inside Upper o a b c later p q = lt_le o.height (c.place - o.place) c.height (b.place - o.place) b.height (a.place - o.place) a.height (omega arith) q p
 
-pub inside_within : (side : Side) (o a b c : Point) → o.place < c.place → IsInside side o a b → IsWithin side o b c → IsInside side o a c
+pub inside_within : (side : Side) (o a b c : Point) → o.place < c.place → IsInside side o a b
+    → IsWithin side o b c → IsInside side o a c
 inside_within Lower o a b c later p q = lt_le o.height (a.place - o.place) a.height (b.place - o.place) b.height (c.place - o.place) c.height (omega arith) p q
 inside_within Upper o a b c later p q = le_lt o.height (c.place - o.place) c.height (b.place - o.place) b.height (a.place - o.place) a.height (omega arith) q p
 

@@ -22,8 +22,10 @@ pub record IsEnding (lo hi : ℕ → ℕ) (from n : ℕ) (o point : Point) (segm
   pub higher : o.height ≤ point.height
   pub whole : IsWhole lo hi from n (segments ++ segment_to o point ∷ [])
 
-pub ends_at : (lo hi : ℕ → ℕ) (from n slot : ℕ) (o : Point) (segments : List Segment) (lower upper : List Point) (point : Point) → IsBand lo hi from n → slot ≡ n
-    → IsPath lo hi from o segments → IsFunnel Lower lo hi slot slot o lower upper → o.place < slot → point ≡ on_curve hi n → IsEnding lo hi from n o point segments
+pub ends_at : (lo hi : ℕ → ℕ) (from n slot : ℕ) (o : Point) (segments : List Segment) (lower upper : List Point) (point : Point)
+    → IsBand lo hi from n → slot ≡ n
+    → IsPath lo hi from o segments → IsFunnel Lower lo hi slot slot o lower upper → o.place < slot
+    → point ≡ on_curve hi n → IsEnding lo hi from n o point segments
 ends_at lo hi from n slot o segments lower upper point band same path funnel past is =
     let past' : o.place < n = omega (arith, same, past) in
     let funnel' : IsFunnel Lower lo hi n n o lower upper = subst (λ t. IsFunnel Lower lo hi t t o lower upper) same funnel in
@@ -33,11 +35,13 @@ ends_at lo hi from n slot o segments lower upper point band same path funnel pas
       whole = subst (λ p. IsWhole lo hi from n (segments ++ segment_to o p ∷ [])) (sym is) (path_ends lo hi from n o segments band past' path turned.keeps);
     }
 
-none_empty : (lo hi : ℕ → ℕ) (k v : ℕ) (segments : List Segment) → RunsTaut lo hi k v segments → All (λ s. 1 ≤ s.slots) segments
+none_empty : (lo hi : ℕ → ℕ) (k v : ℕ) (segments : List Segment) → RunsTaut lo hi k v segments
+    → All (λ s. 1 ≤ s.slots) segments
 none_empty lo hi k v [] runs = All-nil (λ (s : Segment). 1 ≤ s.slots)
 none_empty lo hi k v (s ∷ rest) runs = All-cons (λ (x : Segment). 1 ≤ x.slots) s rest runs.0.some (none_empty lo hi (k + s.slots) (v + s.bytes) rest runs.2)
 
-pub plan_of_whole : (from : ℕ) (low up : List ℕ) (segments : List Segment) → IsSound from low up → IsWhole (bound_at from low) (bound_at from up) from (length low) segments → IsPlan segments
+pub plan_of_whole : (from : ℕ) (low up : List ℕ) (segments : List Segment) → IsSound from low up
+    → IsWhole (bound_at from low) (bound_at from up) from (length low) segments → IsPlan segments
 plan_of_whole from low up segments sound whole =
     let slots = whole.slots in
     let bytes = whole.bytes in
@@ -54,11 +58,13 @@ plan_of_whole from low up segments sound whole =
 closed_of_sound : (from : ℕ) (low up : List ℕ) → IsSound from low up → AreClosed low up
 closed_of_sound from low up sound = record { some_slot = sound.some_slot; same_length = sound.same_length; meet = sound.meet_at_end }
 
-pub taut_of_whole : (from : ℕ) (low up : List ℕ) (segments : List Segment) → IsSound from low up → IsWhole (bound_at from low) (bound_at from up) from (length low) segments
+pub taut_of_whole : (from : ℕ) (low up : List ℕ) (segments : List Segment) → IsSound from low up
+    → IsWhole (bound_at from low) (bound_at from up) from (length low) segments
     → IsTaut from low up segments
 taut_of_whole from low up segments sound whole =
     taut_from_runs from low up segments (closed_of_sound from low up sound) whole.runs whole.slots (whole.bytes ∙ bound_end from up (length low) sound.some_slot)
 
-pub best_of_whole : (from : ℕ) (low up : List ℕ) (segments : List Segment) → IsSound from low up → IsWhole (bound_at from low) (bound_at from up) from (length low) segments
+pub best_of_whole : (from : ℕ) (low up : List ℕ) (segments : List Segment) → IsSound from low up
+    → IsWhole (bound_at from low) (bound_at from up) from (length low) segments
     → IsBestPlan from low up segments
 best_of_whole from low up segments sound whole = best from low up segments (closed_of_sound from low up sound) (taut_of_whole from low up segments sound whole)

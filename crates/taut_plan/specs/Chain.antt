@@ -51,4 +51,5 @@ IsReady side o chain point = (chain ≡ []) ⊎ IsHeld side o chain point
 
 -- the last edge leads on, and the new point is behind it
 abbrev pub EdgesAscend : Point → List Point → Point → Type 0
-EdgesAscend o chain point = (first second : Point) → IsLastEdge o chain first second → (first.place ≤ second.place) × (second.place ≤ point.place)
+EdgesAscend o chain point =
+    (first second : Point) → IsLastEdge o chain first second → (first.place ≤ second.place) × (second.place ≤ point.place)

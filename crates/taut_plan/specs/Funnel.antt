@@ -24,11 +24,13 @@ pub record IsBand (lo hi : ℕ → ℕ) (from n : ℕ) : Type 0 where
 
 -- seen from o, each place of the one curve from o to before t stands within each place of the other curve from o up to s
 pub record KeepsApart (side : Side) (curve other : ℕ → ℕ) (t s : ℕ) (o : Point) : Type 0 where
-  pub apart : (i j : ℕ) → o.place < i → i < t → o.place < j → j ≤ s → IsWithin side o (on_curve curve i) (on_curve other j)
+  pub apart : (i j : ℕ) → o.place < i → i < t → o.place < j → j ≤ s
+      → IsWithin side o (on_curve curve i) (on_curve other j)
 
 -- While the point of place t gives the other chain its corners: the one chain has that point, and the other one ends at s,
 -- which is t or t - 1.
-pub record IsCrossing (side : Side) (curve other : ℕ → ℕ) (t s : ℕ) (o : Point) (own_chain other_chain : List Point) : Type 0 where
+pub record IsCrossing (side : Side) (curve other : ℕ → ℕ) (t s : ℕ) (o : Point)
+    (own_chain other_chain : List Point) : Type 0 where
   pub newest : t ≤ s + 1
   pub not_past : s ≤ t
   pub behind : o.place < t
@@ -52,7 +54,8 @@ FirstIsBetween o [] point = Unit {0}
 FirstIsBetween o (first ∷ rest) point = (o.place ≤ first.place) × (first.place ≤ point.place)
 
 -- The whole funnel, seen from one side: that side's chain reaches to place t, the other one to s.
-pub record IsFunnel (side : Side) (curve other : ℕ → ℕ) (t s : ℕ) (o : Point) (own_chain other_chain : List Point) : Type 0 where
+pub record IsFunnel (side : Side) (curve other : ℕ → ℕ) (t s : ℕ) (o : Point)
+    (own_chain other_chain : List Point) : Type 0 where
   pub own : IsChain side curve t o own_chain
   pub others : IsChain (other_side side) other s o other_chain
   pub keeps : KeepsApart side curve other (t + 1) s o

@@ -27,7 +27,8 @@ HasOneSlope lo hi k v (s ∷ rest) = (1 ≤ s.slots) × MeetsLower lo hi k v s �
 
 -- What runs taut on from place k and height v by that slope, runs taut behind these segments.
 pub record GoesOn (lo hi : ℕ → ℕ) (from k v : ℕ) (segments : List Segment) : Type 0 where
-  pub on : (rest : List Segment) → HasOneSlope lo hi k v rest → RunsTaut lo hi k v rest → RunsTaut lo hi 0 from (segments ++ rest)
+  pub on : (rest : List Segment) → HasOneSlope lo hi k v rest → RunsTaut lo hi k v rest
+      → RunsTaut lo hi 0 from (segments ++ rest)
 
 -- the segment from one point to another
 abbrev pub segment_to : Point → Point → Segment
