@@ -1,12 +1,10 @@
 -- What a byte more makes of the prefix at the end, of the latest text, and of the codes.
-use Rattle.std.proofs.Common.{ℕ, suc, zero, Bool, true, false, not, cond, eqb, ltb, ◌&&◌, ◌+◌, ◌-◌, ◌<◌, ◌≤◌, ◌≡◌, ◌≢◌, List, [], ◌∷◌, ◌++◌, length, take, set, get_or, sym, ◌∙◌, ap, refl, subst, arith}
+use Rattle.std.proofs.Common.{ℕ, Bool, true, false, cond, eqb, ltb, ◌&&◌, ◌+◌, ◌<◌, ◌≤◌, ◌≡◌, List, [], ◌∷◌, ◌++◌, length, take, set, sym, ◌∙◌, ap, refl, arith}
 use Rattle.std.proofs.lemmas.List.{take_more_set, length-take-le}
 use Rattle.std.proofs.lemmas.Bool.{false≢true, eqb-true, lt-ltb, le-ltb}
-use Rattle.mpeg_scan.specs.declared.codes.Code.{Code}
-use Rattle.mpeg_scan.specs.declared.codes.Prefix.{Prefix}
 use Rattle.mpeg_scan.specs.declared.codes.Prefix.TheVariants.{Nothing, Zero, Zeros, Whole}
 use Rattle.mpeg_scan.specs.Texts.{noted}
-use Rattle.mpeg_scan.specs.Codes.{read, back, matched, after_one, after_zero, next_prefix, is_whole, note, note_latest, codes_of}
+use Rattle.mpeg_scan.specs.Codes.{back, matched, after_one, after_zero, next_prefix}
 
 -- p1, p0: the byte is 1, 0; a1, a0: so is the one before it; z1, z2: the two before that are 0
 table : (p1 p0 a1 a0 z1 z2 : Bool) → (p1 ≡ true → p0 ≡ false) → (a1 ≡ true → a0 ≡ false) → cond (p1 && (a0 && z1)) Whole (cond (p0 && a0) Zeros (cond p0 Zero Nothing)) ≡ cond p1 (after_one (cond (a1 && (z1 && z2)) Whole (cond (a0 && z1) Zeros (cond a0 Zero Nothing)))) (cond p0 (after_zero (cond (a1 && (z1 && z2)) Whole (cond (a0 && z1) Zeros (cond a0 Zero Nothing)))) Nothing)

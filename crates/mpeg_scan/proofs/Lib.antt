@@ -3,3 +3,4 @@ pub mod StepLemmas
 pub mod ReadLemmas
 pub mod FilmLemmas
 pub mod TileLemmas
+pub mod CountLemmas

@@ -1,15 +1,13 @@
 -- Bytes read one after another, runs that change nothing but the place, and what stays refused.
-use Rattle.std.proofs.Common.{ℕ, suc, zero, Bool, true, false, not, cond, eqb, ltb, ◌+◌, ◌-◌, ◌^◌, ◌<◌, ◌≤◌, ◌≡◌, ◌≢◌, List, [], ◌∷◌, ◌++◌, Option, Some, None, length, take, drop, get_or, sym, ◌∙◌, ap, refl, subst, inl, inr, arith}
+use Rattle.std.proofs.Common.{ℕ, suc, Bool, true, false, cond, eqb, ltb, ◌+◌, ◌-◌, ◌<◌, ◌≤◌, ◌≡◌, List, [], ◌∷◌, ◌++◌, Option, Some, length, take, drop, get_or, sym, ◌∙◌, ap, refl, inl, inr, arith}
 use Rattle.std.proofs.lemmas.Bool.{cases_Bool, ltb-false, not-true, ne_eqb}
 use Rattle.std.proofs.lemmas.List.{take_more, take_rest, get_or-take, length-take-le, length-drop, take-append-drop}
 use Rattle.std.proofs.Math.Seq.{take-add}
 use Rattle.mpeg_scan.specs.declared.codes.Code.{Code}
-use Rattle.mpeg_scan.specs.declared.codes.Prefix.{Prefix}
-use Rattle.mpeg_scan.specs.declared.codes.Prefix.TheVariants.{Nothing, Zero, Zeros, Whole}
+use Rattle.mpeg_scan.specs.declared.codes.Prefix.TheVariants.{Nothing, Zero}
 use Rattle.mpeg_scan.specs.declared.faults.FilmFault.{FilmFault}
 use Rattle.mpeg_scan.specs.declared.scanner.Scanner.{Scanner}
-use Rattle.mpeg_scan.specs.Texts.{noted}
-use Rattle.mpeg_scan.specs.Codes.{read, matched, next_prefix, is_whole, note, note_latest, codes_of}
+use Rattle.mpeg_scan.specs.Codes.{read, matched, next_prefix, is_whole, note_latest, codes_of}
 use Rattle.mpeg_scan.specs.Faults.{otherwise, fault_at, first_fault}
 use Rattle.mpeg_scan.specs.Calls.{Call, told}
 use Rattle.mpeg_scan.specs.Steps.{latest_of, older_of}

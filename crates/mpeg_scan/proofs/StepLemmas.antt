@@ -1,5 +1,5 @@
 -- A byte more, and a code more: what the scanner keeps stays what the bytes say.
-use Rattle.std.proofs.Common.{ℕ, suc, zero, Bool, true, false, not, cond, eqb, ltb, leb, ◌&&◌, ◌||◌, ◌+◌, ◌-◌, ◌^◌, min, ◌<◌, ◌≤◌, ◌≡◌, ◌≢◌, List, [], ◌∷◌, ◌++◌, Option, Some, None, length, sym, ◌∙◌, ap, refl, subst, inl, inr, arith}
+use Rattle.std.proofs.Common.{ℕ, suc, Bool, true, false, cond, eqb, ltb, leb, ◌+◌, ◌-◌, ◌^◌, ◌<◌, ◌≤◌, ◌≡◌, List, [], ◌∷◌, ◌++◌, Option, Some, None, length, sym, ◌∙◌, ap, refl, subst, inl, inr, arith}
 use Rattle.std.specs.Option.{option_map}
 use Rattle.std.proofs.lemmas.Bool.{cases_Bool, leb-false, ne_eqb, eq-eqb, le-ltb, lt-ltb}
 use Rattle.std.proofs.lemmas.List.{append_assoc}
@@ -9,10 +9,10 @@ use Rattle.mpeg_scan.specs.declared.faults.FilmFault.TheVariants.{Empty, GroupTo
 use Rattle.mpeg_scan.specs.declared.scanner.Scanner.{Scanner}
 use Rattle.mpeg_scan.specs.declared.tallies.Tally.{Tally}
 use Rattle.mpeg_scan.specs.Codes.{matched, next_prefix, is_whole, note, note_latest, codes_of}
-use Rattle.mpeg_scan.specs.Words.{is_head, is_slice, is_none_yet, tally_of, slices_of, all_slices_of, pictures_of, before_group_of, rate_of}
+use Rattle.mpeg_scan.specs.Words.{is_head, is_slice, tally_of, slices_of, all_slices_of, pictures_of, before_group_of}
 use Rattle.mpeg_scan.specs.Faults.{otherwise, latest_fault, kind_fault, second_fault, first_slice_fault, count_fault, code_fault, fault_at, first_fault, end_fault, last_fault, refusal_of}
 use Rattle.mpeg_scan.specs.Calls.{Call, calls_at, told}
-use Rattle.mpeg_scan.specs.Steps.{one_more, one_picture, next, next_by, tally_with, latest_header_fault, judged, ended, latest_of, older_of}
+use Rattle.mpeg_scan.specs.Steps.{one_more, one_picture, next, next_by, tally_with, judged, ended, latest_of, older_of}
 use Rattle.mpeg_scan.specs.Scans.{Fed, noted_scan, coded_scan}
 use Rattle.mpeg_scan.proofs.CodeLemmas.{matched-more}
 

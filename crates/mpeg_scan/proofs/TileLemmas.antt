@@ -1,16 +1,15 @@
 -- The parts that are told of lie one after another.
-use Rattle.std.proofs.Common.{ℕ, suc, zero, Bool, true, false, not, cond, eqb, ltb, leb, ◌&&◌, ◌||◌, ◌+◌, ◌-◌, ◌<◌, ◌≤◌, ◌≡◌, ◌≢◌, ◌⊎◌, ◌^◌, List, [], ◌∷◌, ◌++◌, Option, Some, None, length, sym, ◌∙◌, ap, refl, subst, inl, inr, arith}
-use Rattle.std.proofs.lemmas.Bool.{cases_Bool, ltb-true, ltb-false, leb-true, eqb-true, eqb-false, ne_eqb, eq-eqb, lt-ltb, le-ltb, le-leb, lt-leb, false≢true, true≢false, and_parts, and_from}
+use Rattle.std.proofs.Common.{ℕ, suc, zero, Bool, true, false, not, cond, eqb, ltb, leb, ◌&&◌, ◌||◌, ◌+◌, ◌-◌, ◌<◌, ◌≤◌, ◌≡◌, ◌⊎◌, ◌^◌, List, [], ◌∷◌, ◌++◌, Option, Some, None, length, sym, ◌∙◌, ap, refl, subst, inl, inr, arith}
+use Rattle.std.proofs.lemmas.Bool.{cases_Bool, ltb-true, ltb-false, leb-true, eqb-true, ne_eqb, eq-eqb, lt-ltb, le-ltb, le-leb, false≢true, true≢false, and_parts, and_from}
 use Rattle.mpeg_scan.specs.declared.codes.Code.{Code}
-use Rattle.mpeg_scan.specs.declared.faults.FilmFault.{FilmFault}
-use Rattle.mpeg_scan.specs.declared.faults.FilmFault.TheVariants.{Empty, TooLong, SystemCode, Mpeg2, NoSequence, HeadWithoutPicture, HeadTooLong}
+use Rattle.mpeg_scan.specs.declared.faults.FilmFault.TheVariants.{Empty, TooLong, SystemCode, Mpeg2, NoSequence, HeadTooLong}
 use Rattle.mpeg_scan.specs.declared.tallies.Header.{Header}
 use Rattle.mpeg_scan.specs.declared.tallies.Tally.{Tally}
 use Rattle.mpeg_scan.specs.declared.units.Unit.{Unit as PictureUnit}
 use Rattle.mpeg_scan.specs.declared.codes.Prefix.{Prefix}
 use Rattle.mpeg_scan.specs.declared.codes.Prefix.TheVariants.{Nothing, Zero, Zeros, Whole}
 use Rattle.mpeg_scan.specs.Codes.{matched, next_prefix, after_one, after_zero, is_whole, note_latest, codes_of}
-use Rattle.mpeg_scan.specs.Words.{is_head, is_slice, is_none_yet, begins_unit, tally_of, slices_of, unit_of, head_end_of, slice_of}
+use Rattle.mpeg_scan.specs.Words.{is_head, is_slice, begins_unit, tally_of, slices_of, unit_of, head_end_of, slice_of}
 use Rattle.mpeg_scan.specs.Faults.{otherwise, latest_fault, kind_fault, second_fault, first_slice_fault, count_fault, code_fault, head_fault, open_fault, last_fault, first_fault, end_fault, refusal_of}
 use Rattle.mpeg_scan.specs.Calls.{Call, head_call, slice_call, unit_call, unit_at, unit_end, calls_at, told, all_told}
 use Rattle.mpeg_scan.specs.Tiles.{Part, between, within, next_part, parts_after, first_of, Tiles}
@@ -138,7 +137,7 @@ parts-append (Some part) (call ∷ a) b = parts-append (next_part part call) a b
 abbrev pub part_of : List Code → Part
 part_of past = part_by (slices_of past) (unit_of past) (head_end_of past) (slice_of past)
 
-slice-apart : (kind : ℕ) → is_slice kind ≡ true → is_head kind ≡ false
+pub slice-apart : (kind : ℕ) → is_slice kind ≡ true → is_head kind ≡ false
 slice-apart kind slice =
     let parts = and_parts (leb 1 kind) (leb kind 0xaf) slice in
     let low : 1 ≤ kind = leb-true 1 kind parts.0 in
@@ -163,7 +162,7 @@ first_slice-head t place kind e slice none =
     head-short t place t.picture (sym (ap (λ b. cond b (head_fault t place t.picture) None) (and_from (is_slice kind) (eqb t.slices 0) slice (eq-eqb t.slices 0 none))) ∙ e)
 
 -- what a code that isn't refused tells
-first_slice-accepted : (t : Tally) (place kind : ℕ) → code_fault t place kind ≡ None → first_slice_fault t place kind ≡ None
+pub first_slice-accepted : (t : Tally) (place kind : ℕ) → code_fault t place kind ≡ None → first_slice_fault t place kind ≡ None
 first_slice-accepted t place kind e =
     let rest = otherwise-second (kind_fault t place kind) (otherwise (second_fault t kind) (otherwise (first_slice_fault t place kind) (count_fault t place kind))) e in
     let last = otherwise-second (second_fault t kind) (otherwise (first_slice_fault t place kind) (count_fault t place kind)) rest in
@@ -188,19 +187,24 @@ unfolding calls_at part_by
 first-step place kind is =
     subst (λ k. parts_after (Some (between place)) (calls_at (tally_of []) place k) ≡ Some (part_by (cond (is_head k) 0 (cond (is_slice k) (0 + 1) 0)) place (cond (is_slice k && eqb 0 0) place 0) (cond (is_slice k) place 0))) (sym is) refl
 
-told-cons : (c : Code) (past : List Code) → told (c ∷ past) ≡ told past ++ calls_at (tally_of past) c.place c.kind
+pub told-cons : (c : Code) (past : List Code) → told (c ∷ past) ≡ told past ++ calls_at (tally_of past) c.place c.kind
 unfolding told
 told-cons c past = refl
 
-told-nil : told [] ≡ []
+pub told-nil : told [] ≡ []
 unfolding told
 told-nil = refl
 
+-- the first code is a sequence header's
+pub first-is : (c : Code) → first_fault (c ∷ []) ≡ None → c.kind ≡ 0xb3
+first-is c accepted =
+    let kind = first-kind (leb 0xb9 c.kind) (eqb c.kind 0xb5) (eqb c.kind 0xb3) c.place (otherwise-first (kind_fault (tally_of []) c.place c.kind) (otherwise (second_fault (tally_of []) c.kind) (otherwise (first_slice_fault (tally_of []) c.place c.kind) (count_fault (tally_of []) c.place c.kind))) (code-accepted c [] accepted)) in
+    eqb-true c.kind 0xb3 kind
+
 pub told-parts : (c : Code) (past : List Code) → first_fault (c ∷ past) ≡ None → Spaced (c ∷ past) → parts_after (Some (between (first_of (c ∷ past)))) (told (c ∷ past)) ≡ Some (part_of (c ∷ past))
 told-parts c [] accepted spaced =
-    let kind = first-kind (leb 0xb9 c.kind) (eqb c.kind 0xb5) (eqb c.kind 0xb3) c.place (otherwise-first (kind_fault (tally_of []) c.place c.kind) (otherwise (second_fault (tally_of []) c.kind) (otherwise (first_slice_fault (tally_of []) c.place c.kind) (count_fault (tally_of []) c.place c.kind))) (code-accepted c [] accepted)) in
     ap (parts_after (Some (between c.place))) (told-cons c [] ∙ ap (λ (l : List Call). l ++ calls_at (tally_of []) c.place c.kind) told-nil)
-    ∙ first-step c.place c.kind (eqb-true c.kind 0xb3 kind)
+    ∙ first-step c.place c.kind (first-is c accepted)
 told-parts c (d ∷ past) accepted spaced =
     let start : Option Part = Some (between (first_of (d ∷ past))) in
     ap (parts_after start) (told-cons c (d ∷ past))
@@ -336,7 +340,7 @@ unsliced true t none e = cc
 unsliced false t none e =
     let left : Some (open_fault t t.picture) ≡ None = sym (ap (λ b. cond b None (Some (open_fault t t.picture))) none) ∙ e in cc
 
-ended-none : (t : Tally) → last_fault t ≡ None → 0 < t.slices
+pub ended-none : (t : Tally) → last_fault t ≡ None → 0 < t.slices
 ended-none t e = elim (cases_Bool (ltb 0 t.slices)) [
   | inl some ↦ ltb-true 0 t.slices some
   | inr none ↦ absurd (unsliced (not t.begun) t none e)
@@ -359,7 +363,7 @@ whole-tiles (c ∷ past) n accepted ended spaced after =
     ∙ ap (λ (o : Option Part). parts_after o (unit_end (tally_of (c ∷ past)) n)) (told-parts c past accepted spaced)
     ∙ end-step (c ∷ past) n some (slice-before (c ∷ past) n spaced after some)
 
-accepted-whole : (r : List ℕ) → refusal_of r ≡ None → otherwise (first_fault (codes_of r)) (end_fault (codes_of r) (length r)) ≡ None
+pub accepted-whole : (r : List ℕ) → refusal_of r ≡ None → otherwise (first_fault (codes_of r)) (end_fault (codes_of r) (length r)) ≡ None
 unfolding refusal_of
 accepted-whole r e = elim (cases_Bool (eqb (length r) 0)) [
   | inl none ↦ (let left : Some Empty ≡ None = sym (ap (λ b. cond b (Some Empty) (cond (ltb (2 ^ 40) (length r)) (Some TooLong) (otherwise (first_fault (codes_of r)) (end_fault (codes_of r) (length r))))) none) ∙ e in absurd (cc))

@@ -8,3 +8,4 @@ pub mod Scans
 pub mod Films
 pub mod Rates
 pub mod Tiles
+pub mod Counts

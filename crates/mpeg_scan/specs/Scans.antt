@@ -1,9 +1,8 @@
 -- A scanner that was fed some bytes, which are given the latest first.
-use Rattle.std.specs.Prelude.{ℕ, ◌+◌, ◌≡◌, ◌<◌, ◌≤◌, ◌^◌, Bool, true, List, [], ◌∷◌, Option, Some, None, length, not, nat_lt, option_map}
+use Rattle.std.specs.Prelude.{ℕ, ◌+◌, ◌≡◌, Bool, true, List, [], Option, Some, None, length, not, nat_lt, option_map}
 use Rattle.mpeg_scan.specs.declared.codes.Code.{Code}
 use Rattle.mpeg_scan.specs.declared.faults.ScanRefused.{ScanRefused}
 use Rattle.mpeg_scan.specs.declared.scanner.Scanner.{Scanner}
-use Rattle.mpeg_scan.specs.declared.tallies.Tally.{Tally}
 use Rattle.mpeg_scan.specs.Codes.{matched, next_prefix, note, codes_of}
 use Rattle.mpeg_scan.specs.Words.{tally_of}
 use Rattle.mpeg_scan.specs.Faults.{first_fault}

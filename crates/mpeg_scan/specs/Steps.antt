@@ -1,14 +1,11 @@
 -- What one code more makes of each word on the codes, and what the scanner keeps.
-use Rattle.std.specs.Prelude.{ℕ, ◌+◌, ◌-◌, ◌^◌, ◌≡◌, ◌==◌, ◌&&◌, ◌||◌, Bool, true, false, not, List, [], ◌∷◌, ◌++◌, Option, Some, None, if◌then◌else◌, length, nat_lt, min, option_map}
+use Rattle.std.specs.Prelude.{ℕ, ◌+◌, ◌-◌, ◌^◌, ◌==◌, ◌&&◌, ◌||◌, Bool, true, false, not, List, [], ◌∷◌, Option, Some, None, if◌then◌else◌, nat_lt, min}
 use Rattle.mpeg_scan.specs.declared.codes.Code.{Code}
-use Rattle.mpeg_scan.specs.declared.codes.Prefix.{Prefix}
 use Rattle.mpeg_scan.specs.declared.faults.FilmFault.{FilmFault}
-use Rattle.mpeg_scan.specs.declared.faults.ScanRefused.{ScanRefused}
 use Rattle.mpeg_scan.specs.declared.tallies.Header.{Header}
 use Rattle.mpeg_scan.specs.declared.tallies.Tally.{Tally}
-use Rattle.mpeg_scan.specs.Codes.{matched, next_prefix, note, codes_of}
-use Rattle.mpeg_scan.specs.Words.{is_head, is_slice, rate_code, header_of, tally_of}
-use Rattle.mpeg_scan.specs.Faults.{otherwise, header_fault, code_fault, first_fault, last_fault}
+use Rattle.mpeg_scan.specs.Words.{is_head, is_slice, rate_code, header_of}
+use Rattle.mpeg_scan.specs.Faults.{otherwise, header_fault, code_fault, last_fault}
 
 -- one more, as 64 bits hold it
 abbrev pub one_more : ℕ → ℕ

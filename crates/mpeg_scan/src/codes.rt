@@ -1,4 +1,4 @@
-ghost use Rattle.std.specs.Prelude.{◌≡◌, IsTrue};
+ghost use Rattle.std.specs.Prelude.{◌≡◌, ◌↔◌, IsTrue};
 ghost use Rattle.mpeg_scan.specs.Codes.{is_whole, next_prefix};
 
 use crate::texts::Text;
@@ -46,7 +46,7 @@ impl Prefix {
 
     /// Whether nothing of the prefix stands there.
     pub fn is_nothing(self) -> bool
-        ensures { IsTrue result → self ≡ Prefix.Nothing }
+        ensures { IsTrue result ↔ self ≡ Prefix.Nothing }
     {
         match self {
             Prefix::Nothing => true,

@@ -1,6 +1,7 @@
 ghost use Rattle.std.specs.Prelude.{◌≡◌, [], Some, Err, IfOk};
 ghost use Rattle.mpeg_scan.specs.Films.{IsFilm, refusal, told_of};
 ghost use Rattle.mpeg_scan.specs.Codes.{read};
+ghost use Rattle.mpeg_scan.specs.Counts.{AreNumbered};
 ghost use Rattle.mpeg_scan.specs.Tiles.{Tiles};
 
 use crate::collector::Collector;
@@ -29,6 +30,7 @@ const FILM: usize = 1 << 40;
 /// Scans a whole film.
 pub fn scan(alloc: Global, bytes: Vec<u8>) -> Result<Film, ScanRefused>
     ensures film { IfOk result (λ film. film.bytes.items ≡ bytes.items) }
+    ensures numbered { IfOk result (λ film. AreNumbered (told_of film.bytes.items)) }
     ensures tiled { IfOk result (λ film. Tiles (read [] film.bytes.items) (told_of film.bytes.items)) }
     ensures fault { (f : FilmFault) → result ≡ Err (ScanRefused.Fault f) → refusal bytes.items ≡ Some f }
 {

@@ -1,7 +1,5 @@
-use Rattle.std.proofs.Common.{◌≡◌, ◌∷◌, ◌++◌, [], ℕ, List, subst, Some, None, Err, refl, sym, ap, ◌∙◌, arith}
-use Rattle.mpeg_scan.specs.declared.faults.FilmFault.{FilmFault}
+use Rattle.std.proofs.Common.{◌≡◌, [], ℕ, List, subst, Some, sym, ap, ◌∙◌, arith}
 use Rattle.mpeg_scan.specs.declared.faults.FilmFault.TheVariants.{TooLong}
-use Rattle.mpeg_scan.specs.declared.faults.ScanRefused.{ScanRefused}
 use Rattle.mpeg_scan.specs.declared.faults.ScanRefused.TheVariants.{Fault}
 use Rattle.mpeg_scan.specs.Codes.{read, codes_of}
 use Rattle.mpeg_scan.specs.Calls.{told}
@@ -40,3 +38,7 @@ returns-in-Err-finish-clause-fault c = λ f is.
 pub returns-in-Ok-finish-clause-tiled : goal.returns-in-Ok-finish-clause-tiled
 returns-in-Ok-finish-clause-tiled c =
     c.in-Ok-finish.ensures.tiled (read [] c.args.bytes.items) (subst (λ (l : List ℕ). Fed c.feed.new.self (read [] l)) c.deref.ensures.value (c.in-Ok.ensures.kept [] c.new-scanner.ensures))
+
+pub returns-in-Ok-finish-clause-numbered : goal.returns-in-Ok-finish-clause-numbered
+returns-in-Ok-finish-clause-numbered c =
+    c.in-Ok-finish.ensures.numbered (read [] c.args.bytes.items) (subst (λ (l : List ℕ). Fed c.feed.new.self (read [] l)) c.deref.ensures.value (c.in-Ok.ensures.kept [] c.new-scanner.ensures))

@@ -1,7 +1,7 @@
 use Rattle.std.proofs.Common.{ℕ, List, [], ◌∷◌, ◌++◌, sym, ap, ◌∙◌}
 use Rattle.std.proofs.lemmas.List.{append-nil}
 use Rattle.mpeg_scan.specs.Calls.{slice_call}
-use Rattle.mpeg_scan.specs.Films.{units_in, slices_in}
+use Rattle.mpeg_scan.specs.Films.{units_in}
 use Rattle.mpeg_scan.proofs.FilmLemmas.{units_in-append, slices_in-append}
 use Rattle.mpeg_scan.proofs.collector.CollectorFound.slice.Goals as goal
 

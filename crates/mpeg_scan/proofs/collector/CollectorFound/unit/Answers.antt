@@ -1,8 +1,8 @@
-use Rattle.std.proofs.Common.{ℕ, List, [], ◌∷◌, ◌++◌, sym, ap, ◌∙◌}
+use Rattle.std.proofs.Common.{List, [], ◌∷◌, ◌++◌, sym, ap, ◌∙◌}
 use Rattle.std.proofs.lemmas.List.{append-nil}
 use Rattle.mpeg_scan.specs.declared.units.Unit.{Unit as PictureUnit}
 use Rattle.mpeg_scan.specs.Calls.{unit_call}
-use Rattle.mpeg_scan.specs.Films.{units_in, slices_in}
+use Rattle.mpeg_scan.specs.Films.{slices_in}
 use Rattle.mpeg_scan.proofs.FilmLemmas.{units_in-append, slices_in-append}
 use Rattle.mpeg_scan.proofs.collector.CollectorFound.unit.Goals as goal
 

@@ -1,4 +1,4 @@
-use Rattle.std.proofs.Common.{sym, ◌∙◌, ◌≡◌, ◌<◌, ◌≤◌, arith}
+use Rattle.std.proofs.Common.{◌∙◌, arith}
 use Rattle.std.proofs.lemmas.Result.{MatchResult-weaker}
 use Rattle.mpeg_scan.proofs.StepLemmas.{refusal-empty, refusal-long, refusal-is, tally-ended}
 use Rattle.mpeg_scan.proofs.scanner.Scanner.judge_film.Goals as goal

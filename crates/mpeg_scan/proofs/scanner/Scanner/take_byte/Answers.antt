@@ -1,4 +1,4 @@
-use Rattle.std.proofs.Common.{◌≡◌, List, ℕ, subst, sym, ap, ◌∙◌}
+use Rattle.std.proofs.Common.{List, subst}
 use Rattle.std.proofs.lemmas.Result.{on_ok_weaker}
 use Rattle.mpeg_scan.specs.Calls.{Call}
 use Rattle.mpeg_scan.proofs.StepLemmas.{taken-plain, taken-code, taken-fault, taken-calls, taken-none}

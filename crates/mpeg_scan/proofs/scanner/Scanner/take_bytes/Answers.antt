@@ -1,7 +1,6 @@
-use Rattle.std.proofs.Common.{◌≡◌, ◌+◌, ◌++◌, List, ℕ, Option, take, drop, get_or, subst, sym, ap, ◌∙◌, arith}
+use Rattle.std.proofs.Common.{◌+◌, ◌++◌, List, ℕ, take, subst, ◌∙◌, arith}
 use Rattle.mpeg_scan.specs.Calls.{Call, told}
 use Rattle.mpeg_scan.specs.Codes.{codes_of, read}
-use Rattle.mpeg_scan.specs.Faults.{first_fault}
 use Rattle.mpeg_scan.specs.Scans.{Fed}
 use Rattle.mpeg_scan.proofs.ReadLemmas.{read-run, read-byte, told-run, fault-rest, length-rest}
 use Rattle.mpeg_scan.proofs.scanner.Scanner.take_bytes.Goals as goal
