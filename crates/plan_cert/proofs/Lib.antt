@@ -1,2 +1,4 @@
 pub mod Floors
 pub mod SlotSums
+pub mod Decimals
+pub mod Grammar

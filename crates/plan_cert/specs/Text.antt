@@ -3,9 +3,13 @@ use Rattle.std.specs.Prelude.{ℕ, List, ◌++◌, codes, decimal, flat_map}
 use Rattle.plan_cert.specs.Slots.{total_slots, total_bytes}
 use Rattle.plan_cert.specs.declared.Segment.{Segment}
 
--- the line of one segment
+-- the words of one segment
+abbrev pub segment_words : Segment → List ℕ
+segment_words s = codes "segment " ++ decimal s.slots ++ codes " " ++ decimal s.bytes
+
+-- its line
 abbrev pub segment_line : Segment → List ℕ
-segment_line s = codes "segment " ++ decimal s.slots ++ codes " " ++ decimal s.bytes ++ codes "\n"
+segment_line s = segment_words s ++ codes "\n"
 
 -- the three lines at the head: what the text is, and what the segments sum up to
 abbrev pub cert_head : ℕ → ℕ → List ℕ

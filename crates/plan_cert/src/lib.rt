@@ -3,9 +3,11 @@
 
 mod certs;
 mod plans;
+mod reading;
 
 pub use certs::write_cert;
 pub use plans::{MOST_BYTES, MOST_SLOTS, Plan};
+pub use reading::{CertRead, CertText, read_cert};
 
 /// A straight piece of a plan: `bytes` bytes sent evenly over `slots` slots.
 ///

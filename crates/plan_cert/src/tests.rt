@@ -3,8 +3,8 @@ use std::alloc::{AllocError, Global};
 use std::process::Abort;
 use std::test::Fail;
 
-// A plan of these segments, given as pairs of slots and bytes.
-fn plan_of(rt: &impl Abort, alloc: Global, pairs: &[(u64, u64)]) -> Result<Plan, AllocError> {
+// Segments, given as pairs of slots and bytes.
+fn segments_of(alloc: Global, pairs: &[(u64, u64)]) -> Result<Vec<Segment>, AllocError> {
     let mut segments = Vec::new(alloc);
     for (slots, bytes) in pairs {
         segments.push(Segment {
@@ -12,6 +12,11 @@ fn plan_of(rt: &impl Abort, alloc: Global, pairs: &[(u64, u64)]) -> Result<Plan,
             bytes: *bytes,
         })?;
     }
+    Ok(segments)
+}
+
+fn plan_of(rt: &impl Abort, alloc: Global, pairs: &[(u64, u64)]) -> Result<Plan, AllocError> {
+    let segments = segments_of(alloc, pairs)?;
     assert!(rt; Plan::is_allowed(segments.as_slice()));
     Ok(Plan::new(segments))
 }
@@ -91,4 +96,79 @@ fn knows_plans(rt: HostRuntime) {
     assert!(rt; !Plan::is_allowed(&[most, one]));
     assert!(rt; !Plan::is_allowed(&[one, byte]));
     assert!(rt; !Plan::is_allowed(&[one, none]));
+}
+
+type Reading<'a> = (&'a str, Result<(u64, u64, &'a [(u64, u64)]), u64>);
+
+// Texts, with what they say or the line that is bad.
+#[test]
+fn reads(rt: HostRuntime) -> Result<(), Fail> {
+    let rows: [Reading; 28] = [
+        (
+            "smooth 1\nslots 4\nbytes 12\nsegment 2 10\nsegment 2 2\nend\n",
+            Ok((4, 12, &[(2, 10), (2, 2)])),
+        ),
+        (
+            "smooth 1\nslots 3\nbytes 7\nsegment 3 7\nend\n",
+            Ok((3, 7, &[(3, 7)])),
+        ),
+        ("smooth 1\nslots 0\nbytes 0\nend\n", Ok((0, 0, &[]))),
+        (
+            "smooth 1\nslots 0\nbytes 4398046511104\nsegment 0 4398046511104\nend\n",
+            Ok((0, 4_398_046_511_104, &[(0, 4_398_046_511_104)])),
+        ),
+        ("smooth 1\nslots 3\nbytes 7\nsegment 3 7\n", Err(5)),
+        ("", Err(1)),
+        ("smooth 1", Err(1)),
+        ("smooth 1\n", Err(2)),
+        ("smooth 1\r\nslots 0\nbytes 0\nend\n", Err(1)),
+        ("smooth 01\nslots 0\nbytes 0\nend\n", Err(1)),
+        ("smooth 1\nslots 03\nbytes 7\nsegment 3 7\nend\n", Err(2)),
+        ("smooth 1\nslots 3\nbytes\nsegment 3 7\nend\n", Err(3)),
+        (
+            "smooth 1\nslots 3\nslots 3\nbytes 7\nsegment 3 7\nend\n",
+            Err(3),
+        ),
+        ("smooth 1\nslots 3\nbytes 7\nsegment 03 7\nend\n", Err(4)),
+        ("smooth 1\nslots 3\nbytes 7\nsegment 3 07\nend\n", Err(4)),
+        ("smooth 1\nslots 3\nbytes 7\nsegment 3  7\nend\n", Err(4)),
+        ("smooth 1\nslots 3\nbytes 7\nsegment 3 7 \nend\n", Err(4)),
+        ("smooth 1\nslots 3\nbytes 7\nsegment 3\nend\n", Err(4)),
+        ("smooth 1\nslots 3\nbytes 7\n\nsegment 3 7\nend\n", Err(4)),
+        (
+            "smooth 1\nslots 3\nbytes 4398046511105\nsegment 3 4398046511105\nend\n",
+            Err(3),
+        ),
+        ("smooth 1\nslots 3\nbytes 7\nsegment 3 7\nend", Err(5)),
+        ("smooth 1\nslots 3\nbytes 7\nsegment 3 7\nend\nx", Err(6)),
+        ("smooth 1\nslots 3\nbytes 7\nsegment 3 7\nend\n\n", Err(6)),
+        (
+            "smooth 1\nslots 3\nbytes 7\nsegment 3 7\nend\nend\n",
+            Err(6),
+        ),
+        ("smooth 1\nslots 4\nbytes 7\nsegment 3 7\nend\n", Err(2)),
+        ("smooth 1\nslots 3\nbytes 8\nsegment 3 7\nend\n", Err(3)),
+        ("smooth 1\nslots 4\nbytes 8\nsegment 3 7\nend\n", Err(2)),
+        ("smooth 1\nslots 4\nbytes 8\nsegment 3 x\nend\n", Err(4)),
+    ];
+    for (text, want) in rows {
+        match (read_cert(rt.alloc(), text.as_bytes()), want) {
+            (Ok(cert), Ok((slots, bytes, pairs))) => {
+                assert_eq!(rt; (cert.slots, cert.bytes), (slots, bytes), "sums of {text}");
+                let plan = segments_of(rt.alloc(), pairs)?;
+                assert_eq!(rt;
+                    cert.segments.as_slice(),
+                    plan.as_slice(),
+                    "segments of {text}"
+                );
+            }
+            (Err(refusal), Err(line)) => assert_eq!(rt;
+                refusal,
+                CertRead::BadCert { line },
+                "refusal of {text}"
+            ),
+            (read, _) => assert!(rt; false, "{text} gave {read:?}"),
+        }
+    }
+    Ok(())
 }

@@ -1,0 +1,132 @@
+-- Numbers in text: what the decimal form of a number is made of, and that it is the only one without leading zeros.
+use Rattle.std.proofs.Common.{◌≡◌, ◌≢◌, ◌<◌, ◌≤◌, ◌+◌, ◌^◌, ◌&&◌, ℕ, Bool, true, false, List, [], ◌∷◌, ◌++◌, All, length, slice_index, decimal, codes, take, drop, nat_eq, MatchOption, Option, Some, None, nat_lt, inl, inr, arith, rules, refl, sym, ap, ◌∙◌, lt-ltb, ltb-true}
+use Rattle.std.specs.List.{list_all}
+use Rattle.std.specs.Char.{is_ascii_digit}
+use Rattle.std.specs.Int.{IsInRange}
+use Rattle.std.specs.Str.Parse.{digits_value}
+use Rattle.std.specs.Cmp.Lexicographic.{pointwise, same_text, other_text}
+use Rattle.std.proofs.lemmas.Bool.{cases_Bool, cases_lt, cond-true, cond-false, and_from, and_parts, both_ways}
+use Rattle.std.proofs.lemmas.List.{append_cancel_left, append_assoc, take_at, take-append-drop}
+use Rattle.std.proofs.lemmas.List.Elements.{All-from_get_or, All-head, All-tail}
+use Rattle.std.proofs.lemmas.Fmt.{digits_decimal, digits_value-decimal, decimal_nonempty, decimal-digits_value, first_decimal, decimal_digit}
+use Rattle.std.proofs.lemmas.Str.Parse.{IsNumeralModel, numerals_by_value, not_in_digits}
+use Rattle.vod_base.specs.Numbers.{is_decimal, number_of}
+use Rattle.plan_cert.specs.declared.Segment.{Segment}
+use Rattle.plan_cert.specs.Reading.{IsCut, IsNumberLine, AreNumbers}
+
+own : IsNumeralModel (λ ds. list_all is_ascii_digit ds ≡ true) (digits_value 10)
+own = numerals_by_value (λ ds. list_all is_ascii_digit ds ≡ true) (search rules)
+
+-- a decimal form is read as its number
+pub number_of-decimal : (n : ℕ) → n < 2 ^ 64 → number_of (decimal n) ≡ Some n
+number_of-decimal n small =
+    let all : list_all is_ascii_digit (decimal n) ≡ true = digits_decimal own n small in
+    let value : digits_value 10 (decimal n) ≡ n = digits_value-decimal own n small in
+    let some : nat_lt 0 (length (decimal n)) ≡ true = lt-ltb 0 (length (decimal n)) (decimal_nonempty n small) in
+    let fits : nat_lt (digits_value 10 (decimal n)) (2 ^ 64) ≡ true = lt-ltb (digits_value 10 (decimal n)) (2 ^ 64) (omega (arith, value, small)) in
+    let test : (is_decimal (decimal n) && nat_lt (digits_value 10 (decimal n)) (2 ^ 64)) ≡ true =
+    and_from (is_decimal (decimal n)) (nat_lt (digits_value 10 (decimal n)) (2 ^ 64)) (and_from (nat_lt 0 (length (decimal n))) (list_all is_ascii_digit (decimal n)) some all) fits in
+    cond-true (is_decimal (decimal n) && nat_lt (digits_value 10 (decimal n)) (2 ^ 64)) (Some (digits_value 10 (decimal n))) None test ∙ ap (λ v. Some v) value
+
+-- digits without a leading zero are the decimal form of the number that is read
+pub decimal_from_number : (ds : List ℕ) (n : ℕ) → number_of ds ≡ Some n → (slice_index ds 0 ≡ 48 → length ds ≡ 1) → ds ≡ decimal n
+decimal_from_number ds n read lead =
+    let test = is_decimal ds && nat_lt (digits_value 10 ds) (2 ^ 64) in
+    elim (cases_Bool (is_decimal ds && nat_lt (digits_value 10 ds) (2 ^ 64))) [
+      | inl good ↦ (
+          let found : number_of ds ≡ Some (digits_value 10 ds) = cond-true (is_decimal ds && nat_lt (digits_value 10 ds) (2 ^ 64)) (Some (digits_value 10 ds)) None good in
+          let same : digits_value 10 ds ≡ n = some_same (digits_value 10 ds) n (sym found ∙ read) in
+          let parts = and_parts (is_decimal ds) (nat_lt (digits_value 10 ds) (2 ^ 64)) good in
+          let digits = and_parts (nat_lt 0 (length ds)) (list_all is_ascii_digit ds) parts.0 in
+          let whole : decimal (digits_value 10 ds) ≡ ds = decimal-digits_value own ds digits.1 (ltb-true 0 (length ds) digits.0) lead (ltb-true (digits_value 10 ds) (2 ^ 64) parts.1) in
+          sym whole ∙ ap decimal same
+          )
+      | inr wrong ↦ (
+          let none : number_of ds ≡ None = cond-false (is_decimal ds && nat_lt (digits_value 10 ds) (2 ^ 64)) (Some (digits_value 10 ds)) None wrong in
+          absurd (none_isn't_some n (sym none ∙ read))
+          )
+    ]
+  where
+    some_same : (a b : ℕ) → Some a ≡ Some b → a ≡ b
+    some_same a b e = cc
+
+    none_isn't_some : (b : ℕ) → None ≡ Some b → ⊥
+    none_isn't_some b e = cc
+
+-- a decimal form has no leading zero
+pub no_leading_zero : (n : ℕ) → n < 2 ^ 64 → 1 < length (decimal n) → slice_index (decimal n) 0 ≡ 48 → ⊥
+no_leading_zero n small long first =
+    elim (cases_lt 0 n) [
+      | inl some ↦ (let h = first_decimal n some small in omega (arith, h, first))
+      | inr none ↦ (
+          let is : n ≡ 0 = omega arith in
+          let zero_is : decimal n ≡ 48 ∷ [] = ap decimal is ∙ decimal_digit 0 (omega arith) in
+          let one : length (decimal n) ≡ 1 = ap length zero_is in
+          omega (arith, one, long)
+          )
+    ]
+
+-- nor any byte but digits
+pub not_in_decimal : (c n : ℕ) → n < 2 ^ 64 → ¬ (IsInRange 48 57 c) → All (λ b. b ≢ c) (decimal n)
+not_in_decimal c n small other = All-from_get_or (λ b. b ≢ c) (decimal n) 0 (λ i inside. not_in_digits own (decimal n) c (digits_decimal own n small) other i inside)
+
+-- a text has one first place of a byte
+pub same_cut : (c : ℕ) (xs ys ws bs : List ℕ) → xs ++ c ∷ ws ≡ ys ++ c ∷ bs → All (λ b. b ≢ c) xs → All (λ b. b ≢ c) ys → (xs ≡ ys) × (ws ≡ bs)
+same_cut c [] [] ws bs e none none' = (refl, cc)
+same_cut c [] (y ∷ ys) ws bs e none none' = absurd (All-head (λ b. b ≢ c) y ys none' (cc))
+same_cut c (x ∷ xs) [] ws bs e none none' = absurd (All-head (λ b. b ≢ c) x xs none (cc))
+same_cut c (x ∷ xs) (y ∷ ys) ws bs e none none' =
+    let first : x ≡ y = cc in
+    let others : xs ++ c ∷ ws ≡ ys ++ c ∷ bs = cc in
+    let rest = same_cut c xs ys ws bs others (All-tail (λ b. b ≢ c) x xs none) (All-tail (λ b. b ≢ c) y ys none') in
+    let same : xs ≡ ys = rest.0 in
+    (cc, rest.1)
+
+-- a text without a byte can't be cut at it
+pub no_cut : (c : ℕ) (text xs ws : List ℕ) → All (λ b. b ≢ c) text → text ≡ xs ++ c ∷ ws → ⊥
+no_cut c [] [] ws none e = cc
+no_cut c [] (x ∷ xs) ws none e = cc
+no_cut c (t ∷ text) [] ws none e = All-head (λ b. b ≢ c) t text none (cc)
+no_cut c (t ∷ text) (x ∷ xs) ws none e = no_cut c text xs ws (All-tail (λ b. b ≢ c) t text none) (cc)
+
+-- the two numbers of a text, by its first space
+pub numbers_cut : (text front behind : List ℕ) (s : Segment) → IsCut 32 text front behind → AreNumbers text s → (front ≡ decimal s.slots) × (behind ≡ decimal s.bytes)
+numbers_cut text front behind s cut numbers =
+    let not_digit : ¬ (IsInRange 48 57 32) = λ within. omega (arith, within.0) in
+    let small : s.slots < 2 ^ 64 = omega (arith, numbers.few_slots) in
+    let whole : front ++ 32 ∷ behind ≡ decimal s.slots ++ 32 ∷ decimal s.bytes = sym cut.text_is ∙ numbers.words ∙ append_assoc (decimal s.slots) (codes " ") (decimal s.bytes) in
+    same_cut 32 front (decimal s.slots) behind (decimal s.bytes) whole cut.not_in_front (not_in_decimal 32 s.slots small not_digit)
+
+-- a first digit 0 stands alone, where no more digits stand behind it
+pub lead_one : (ds : List ℕ) (b : Bool) → b ≡ false → ((1 < length ds) × (slice_index ds 0 ≡ 48) → b ≡ true) → slice_index ds 0 ≡ 48 → length ds ≡ 1
+lead_one [] b off test first = absurd (omega (arith, first))
+lead_one (d ∷ ds) b off test first =
+    elim (cases_lt 1 (length (d ∷ ds))) [
+      | inl more ↦ absurd (both_ways b off (test (more, first)))
+      | inr one ↦ omega (arith, one)
+    ]
+
+pub some_same : (a b : ℕ) → Some a ≡ Some b → a ≡ b
+some_same a b e = cc
+
+pub none_some : (b : ℕ) → None ≡ Some b → ⊥
+none_some b e = cc
+
+-- what stands behind a word
+pub behind_from : {X : Type 0} (now : X → List ℕ) (r : Option X) (line word : List ℕ) →
+    MatchOption r (pointwise nat_eq (take (length word) line) word ≡ false)
+    (λ x. (pointwise nat_eq (take (length word) line) word ≡ true) × (now x ≡ drop (length word) line) × (length (now x) + length word ≡ length line)) →
+    MatchOption r ((ds : List ℕ) → line ≢ word ++ ds) (λ x. line ≡ word ++ now x)
+behind_from now None line word none = λ ds e.
+    let front : take (length word) line ≡ word = ap (take (length word)) e ∙ take_at word ds (length word) refl in
+    other_text (take (length word) line) word (sym none) front
+behind_from now (Some x) line word found =
+    let front : take (length word) line ≡ word = same_text (take (length word) line) word (sym found.0) in
+    let rest : drop (length word) line ≡ now x = sym found.1 in
+    sym (take-append-drop (length word) line) ∙ ap (λ a. a ++ drop (length word) line) front ∙ ap (λ b. word ++ b) rest
+
+pub number_from : (o : Option ℕ) (word line ds : List ℕ) → line ≡ word ++ ds →
+    MatchOption o ((n : ℕ) → n ≤ 2 ^ 42 → ds ≢ decimal n) (λ n. (n ≤ 2 ^ 42) × (ds ≡ decimal n)) →
+    MatchOption o ((n : ℕ) → ¬ IsNumberLine word line n) (IsNumberLine word line)
+number_from None word line ds is none = λ n number. none n number.small (append_cancel_left word ds (decimal n) (sym is ∙ number.words))
+number_from (Some n) word line ds is found = record { small = found.0; words = is ∙ ap (λ x. word ++ x) found.1 }

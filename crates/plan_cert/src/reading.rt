@@ -1,0 +1,230 @@
+ghost use Rattle.std.specs.Prelude.{ℕ, ◌≡◌, ◌≢◌, ◌+◌, ◌^◌, ◌<◌, ◌≤◌, ◌++◌, ◌↔◌, List, IsTrue, length, slice_index, codes, decimal, flat_map, All, IfOk, IfErr, MatchOption, MatchResult};
+ghost use Rattle.plan_cert.specs.declared.Segment.{Segment};
+ghost use Rattle.plan_cert.specs.Slots.{total_slots, total_bytes};
+ghost use Rattle.plan_cert.specs.Reading.{IsCut, IsNumberLine, IsSegmentLine, AreNumbers, IsCertificate, IsRefused, IsBadLine, HasRead, IsHead, IsBody};
+
+use crate::Segment;
+use std::alloc::Global;
+use vod_base::read_number;
+
+/// What a certificate says.
+#[derive(Debug, Drop)]
+pub struct CertText {
+    /// The slots that its head gives, which are those of its segments.
+    pub slots: u64,
+    /// The bytes that its head gives, which are those of its segments.
+    pub bytes: u64,
+    /// The segments, in order. One may have no slots.
+    pub segments: Vec<Segment>,
+}
+
+/// Why a text isn't read as a certificate.
+#[derive(Clone, Copy, Debug, PartialEq, Eq)]
+pub enum CertRead {
+    /// This line, from 1, is the first that breaks the grammar, or the one after the last where the text ends early; or, where
+    /// all lines are well formed, the first of the lines `slots` and `bytes` that doesn't agree with the segments.
+    BadCert { line: u64 },
+    /// Want of memory.
+    NoMemory,
+}
+
+/// The greatest number of a certificate.
+const MOST: u64 = 1 << 42;
+
+/// The part before the first byte `c`, and the part behind it.
+fn cut(text: &[u8], c: u8) -> Option<(&[u8], &[u8])>
+    ensures { MatchOption result (All (λ b. b ≢ c) text.now) (λ parts. IsCut c text.now parts.0.now parts.1.now) }
+{
+    for at in 0..text.len() {
+        if text[at] == c {
+            return Some((&text[..at], &text[at + 1..]));
+        }
+    }
+    None
+}
+
+/// Whether more digits stand behind a first digit 0.
+fn has_leading_zero(digits: &[u8]) -> bool
+    ensures { IsTrue result ↔ ((1 < length digits.now) × (slice_index digits.now 0 ≡ 48)) }
+{
+    digits.len() > 1 && digits[0] == b'0'
+}
+
+/// A number up to 2^42, without leading zeros.
+fn cert_number(digits: &[u8]) -> Option<u64>
+    ensures { MatchOption result ((n : ℕ) → n ≤ 2 ^ 42 → digits.now ≢ decimal n) (λ n. (n ≤ 2 ^ 42) × (digits.now ≡ decimal n)) }
+{
+    if has_leading_zero(digits) {
+        return None;
+    }
+    match read_number(digits) {
+        Ok(n) if n <= MOST => Some(n),
+        _ => None,
+    }
+}
+
+/// What stands behind a word.
+fn behind<'a>(line: &'a [u8], word: &[u8]) -> Option<&'a [u8]>
+    ensures { MatchOption result ((ds : List ℕ) → line.now ≢ word.now ++ ds) (λ ds. line.now ≡ word.now ++ ds.now) }
+{
+    line.strip_prefix(word)
+}
+
+/// The number behind a word.
+fn number_behind(line: &[u8], word: &[u8]) -> Option<u64>
+    ensures { MatchOption result ((n : ℕ) → ¬ IsNumberLine word.now line.now n) (IsNumberLine word.now line.now) }
+{
+    match behind(line, word) {
+        Some(digits) => cert_number(digits),
+        None => None,
+    }
+}
+
+/// The two numbers with a space between them.
+fn two_numbers(text: &[u8]) -> Option<Segment>
+    ensures { MatchOption result ((s : Segment) → ¬ AreNumbers text.now s) (AreNumbers text.now) }
+{
+    let Some((first, second)) = cut(text, b' ') else {
+        return None;
+    };
+    let Some(slots) = cert_number(first) else {
+        return None;
+    };
+    let Some(bytes) = cert_number(second) else {
+        return None;
+    };
+    Some(Segment { slots, bytes })
+}
+
+/// The segment of a line.
+fn segment_in(line: &[u8]) -> Option<Segment>
+    ensures { MatchOption result ((s : Segment) → ¬ IsSegmentLine line.now s) (IsSegmentLine line.now) }
+{
+    match behind(line, b"segment ") {
+        Some(numbers) => two_numbers(numbers),
+        None => None,
+    }
+}
+
+/// Whether the line is this text.
+fn is_text(line: &[u8], text: &[u8]) -> bool
+    ensures { IsTrue result ↔ (line.now ≡ text.now) }
+{
+    line == text
+}
+
+/// The head of a certificate and what stands behind it.
+#[derive(Clone, Copy)]
+struct Head<'a> {
+    slots: u64,
+    bytes: u64,
+    rest: &'a [u8],
+}
+
+/// Reads the three lines of the head, or names the first bad one.
+fn read_head(text: &[u8]) -> Result<Head<'_>, u64>
+    ensures { MatchResult result (λ head. IsHead text.now head.slots head.bytes head.rest.now) (IsBadLine text.now) }
+{
+    let Some((title, rest)) = cut(text, b'\n') else {
+        return Err(1);
+    };
+    if !is_text(title, b"smooth 1") {
+        return Err(1);
+    }
+    let Some((slots_line, rest)) = cut(rest, b'\n') else {
+        return Err(2);
+    };
+    let Some(slots) = number_behind(slots_line, b"slots ") else {
+        return Err(2);
+    };
+    let Some((bytes_line, rest)) = cut(rest, b'\n') else {
+        return Err(3);
+    };
+    let Some(bytes) = number_behind(bytes_line, b"bytes ") else {
+        return Err(3);
+    };
+    Ok(Head { slots, bytes, rest })
+}
+
+/// Reads the lines of the segments and the end, which are the lines from the fourth on.
+fn read_body(alloc: Global, text: &[u8]) -> Result<Vec<Segment>, CertRead>
+    ensures read { IfOk result (λ segments. IsBody text.now segments.items) }
+    ensures refused { IfErr result (λ refusal. (whole : List ℕ) → HasRead whole 3 text.now → IsRefused whole refusal) }
+{
+    let mut segments = Vec::new(alloc);
+    let mut rest = text;
+    for count in 0..1_000_001u64 {
+        let Some((line, behind)) = cut(rest, b'\n') else {
+            return Err(CertRead::BadCert { line: count + 4 });
+        };
+        if is_text(line, b"end") {
+            if behind.is_empty() {
+                return Ok(segments);
+            }
+            return Err(CertRead::BadCert { line: count + 5 });
+        }
+        let Some(segment) = segment_in(line) else {
+            return Err(CertRead::BadCert { line: count + 4 });
+        };
+        if count == 1_000_000 {
+            return Err(CertRead::BadCert { line: count + 4 });
+        }
+        if segments.push(segment).is_err() {
+            return Err(CertRead::NoMemory);
+        }
+        rest = behind;
+    }
+    unreachable!()
+}
+
+/// Whether the segments have this many slots.
+fn has_slots(segments: &[Segment], slots: u64) -> bool
+    ensures { IsTrue result ↔ (total_slots segments.now ≡ slots) }
+{
+    let mut left = slots;
+    for segment in segments {
+        if segment.slots > left {
+            return false;
+        }
+        left -= segment.slots;
+    }
+    left == 0
+}
+
+/// Whether the segments have this many bytes.
+fn has_bytes(segments: &[Segment], bytes: u64) -> bool
+    ensures { IsTrue result ↔ (total_bytes segments.now ≡ bytes) }
+{
+    let mut left = bytes;
+    for segment in segments {
+        if segment.bytes > left {
+            return false;
+        }
+        left -= segment.bytes;
+    }
+    left == 0
+}
+
+/// Reads a certificate: the text that [`crate::write_cert`] gives of a plan, and of any segments with numbers up to 2^42, at
+/// most 1,000,000 of them.
+pub fn read_cert(alloc: Global, text: &[u8]) -> Result<CertText, CertRead>
+    ensures read { IfOk result (λ cert. IsCertificate text.now cert.slots cert.bytes cert.segments.items) }
+    ensures refused { IfErr result (IsRefused text.now) }
+{
+    let head = match read_head(text) {
+        Ok(head) => head,
+        Err(line) => return Err(CertRead::BadCert { line }),
+    };
+    let segments = read_body(alloc, head.rest)?;
+    if !has_slots(segments.as_slice(), head.slots) {
+        return Err(CertRead::BadCert { line: 2 });
+    }
+    if !has_bytes(segments.as_slice(), head.bytes) {
+        return Err(CertRead::BadCert { line: 3 });
+    }
+    Ok(CertText {
+        slots: head.slots,
+        bytes: head.bytes,
+        segments,
+    })
+}
