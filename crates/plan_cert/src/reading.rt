@@ -206,8 +206,18 @@ fn has_bytes(segments: &[Segment], bytes: u64) -> bool
 }
 
 /// Reads a certificate: the text that [`crate::write_cert`] gives of a plan, and of any segments with numbers up to 2^42, at
-/// most 1,000,000 of them.
+/// most 1,000,000 of them. Such a text is read as its own segments, or there is no memory; any other is refused.
 pub fn read_cert(alloc: Global, text: &[u8]) -> Result<CertText, CertRead>
+    ensures read { IfOk result (λ cert. IsCertificate text.now cert.slots cert.bytes cert.segments.items) }
+    ensures refused { IfErr result (IsRefused text.now) }
+    ensures certificates { (slots bytes : ℕ) (segments : List Segment) → IsCertificate text.now slots bytes segments →
+        MatchResult result (λ cert. cert.segments.items ≡ segments) (λ refusal. refusal ≡ CertRead.NoMemory) }
+{
+    read_lines(alloc, text)
+}
+
+/// Reads the head and the body, and compares the sums.
+fn read_lines(alloc: Global, text: &[u8]) -> Result<CertText, CertRead>
     ensures read { IfOk result (λ cert. IsCertificate text.now cert.slots cert.bytes cert.segments.items) }
     ensures refused { IfErr result (IsRefused text.now) }
 {

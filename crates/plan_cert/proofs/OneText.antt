@@ -1,0 +1,217 @@
+-- A certificate is the text of one list of segments, and has no bad line.
+use Rattle.std.proofs.Common.{◌≡◌, ◌≢◌, ◌<◌, ◌≤◌, ◌+◌, ◌^◌, ℕ, zero, suc, true, not, ◌==◌, List, [], ◌∷◌, ◌++◌, All, length, get_or, drop, map, decimal, codes, flat_map, Result, Ok, Err, MatchResult, IfOk, IfErr, inl, inr, arith, refl, sym, ap, subst, ◌∙◌}
+use Rattle.std.specs.List.{list_all}
+use Rattle.std.proofs.lemmas.Bool.{cases_lt, and_parts, not-true, eqb-false}
+use Rattle.std.proofs.lemmas.Fmt.{decimal_injective}
+use Rattle.std.proofs.lemmas.List.{append_assoc, append_cancel_left, append_cancel_right, length-append, length-map, get_or_append_left, get_or-map, get_or_at}
+use Rattle.std.proofs.lemmas.List.Elements.{All-nil, All-cons, All-head, All-tail, All-append, All-get_or}
+use Rattle.plan_cert.specs.declared.Segment.{Segment}
+use Rattle.plan_cert.specs.declared.reading.CertText.{CertText}
+use Rattle.plan_cert.specs.declared.reading.CertRead.{CertRead}
+use Rattle.plan_cert.specs.declared.reading.CertRead.TheVariants.{BadCert, NoMemory}
+use Rattle.plan_cert.specs.Slots.{total_slots, total_bytes}
+use Rattle.plan_cert.specs.Text.{segment_words, segment_line, cert_head}
+use Rattle.plan_cert.specs.Reading.{Lines, lines_of, line_at, MayStand, BreaksAt, IsBehindEnd, AreSmall, IsCertificate, IsBadLine, IsRefused}
+use Rattle.plan_cert.specs.Reading.MayStand.{Title, Slots, Bytes, Piece}
+use Rattle.plan_cert.proofs.Decimals.{not_in_decimal, same_cut}
+use Rattle.plan_cert.proofs.Grammar.{lines-cut, head_text}
+
+-- ---- lines without LF
+no_lf_by : (xs : List ℕ) → list_all (λ b. not (b == 10)) xs ≡ true → All (λ b. b ≢ 10) xs
+no_lf_by [] test = All-nil (λ b. b ≢ 10)
+no_lf_by (x ∷ xs) test =
+    let parts = and_parts (not (x == 10)) (list_all (λ b. not (b == 10)) xs) test in
+    All-cons (λ b. b ≢ 10) x xs (eqb-false x 10 (not-true (x == 10) parts.0)) (no_lf_by xs parts.1)
+
+number_clean : (n : ℕ) → n ≤ 2 ^ 42 → All (λ b. b ≢ 10) (decimal n)
+number_clean n small = not_in_decimal 10 n (omega arith) (λ within. omega (arith, within.0))
+
+words_clean : (s : Segment) → s.slots ≤ 2 ^ 42 → s.bytes ≤ 2 ^ 42 → All (λ b. b ≢ 10) (segment_words s)
+words_clean s few_slots few_bytes =
+    All-append (λ b. b ≢ 10) (codes "segment " ++ decimal s.slots ++ codes " ") (decimal s.bytes)
+    (All-append (λ b. b ≢ 10) (codes "segment " ++ decimal s.slots) (codes " ")
+    (All-append (λ b. b ≢ 10) (codes "segment ") (decimal s.slots) (no_lf_by (codes "segment ") refl) (number_clean s.slots few_slots))
+    (no_lf_by (codes " ") refl))
+    (number_clean s.bytes few_bytes)
+
+-- ---- the lines of a certificate
+abbrev body_of : List Segment → List (List ℕ)
+body_of segments = map segment_words segments ++ codes "end" ∷ []
+
+abbrev pub lines_are : ℕ → ℕ → List Segment → Lines
+lines_are slots bytes segments =
+    record { whole = codes "smooth 1" ∷ (codes "slots " ++ decimal slots) ∷ (codes "bytes " ++ decimal bytes) ∷ body_of segments; rest = [] }
+
+abbrev IsFew : Segment → Type 0
+IsFew s = (s.slots ≤ 2 ^ 42) × (s.bytes ≤ 2 ^ 42)
+
+lines-body : (segments : List Segment) → All IsFew segments → lines_of (flat_map segment_line segments ++ codes "end\n") ≡ record { whole = body_of segments; rest = [] }
+lines-body [] small = refl
+lines-body (s ∷ rest) small =
+    let few : IsFew s = All-head IsFew s rest small in
+    let others = lines-body rest (All-tail IsFew s rest small) in
+    let shape : (segment_line s ++ flat_map segment_line rest) ++ codes "end\n" ≡ segment_words s ++ 10 ∷ (flat_map segment_line rest ++ codes "end\n") =
+    append_assoc (segment_line s) (flat_map segment_line rest) (codes "end\n") ∙ append_assoc (segment_words s) (10 ∷ []) (flat_map segment_line rest ++ codes "end\n") in
+    ap lines_of shape ∙ lines-cut (segment_words s) (flat_map segment_line rest ++ codes "end\n") (words_clean s few.0 few.1)
+    ∙ ap (λ ls. record { whole = segment_words s ∷ ls.whole; rest = ls.rest }) others
+
+pub lines-certificate : (slots bytes : ℕ) (segments : List Segment) → slots ≤ 2 ^ 42 → bytes ≤ 2 ^ 42 → All IsFew segments →
+    lines_of (cert_head slots bytes ++ flat_map segment_line segments ++ codes "end\n") ≡ lines_are slots bytes segments
+lines-certificate slots bytes segments small_slots small_bytes small =
+    let body = flat_map segment_line segments ++ codes "end\n" in
+    let third = (codes "bytes " ++ decimal bytes) ++ 10 ∷ body in
+    let second = (codes "slots " ++ decimal slots) ++ 10 ∷ third in
+    let shape : codes "smooth 1" ++ 10 ∷ second ≡ cert_head slots bytes ++ body =
+    head_text (codes "smooth 1" ++ 10 ∷ second) (codes "smooth 1") second (codes "slots " ++ decimal slots) third (codes "bytes " ++ decimal bytes) body slots bytes refl refl refl refl refl refl in
+    let whole : cert_head slots bytes ++ flat_map segment_line segments ++ codes "end\n" ≡ codes "smooth 1" ++ 10 ∷ second =
+    append_assoc (cert_head slots bytes) (flat_map segment_line segments) (codes "end\n") ∙ sym shape in
+    let clean_slots = All-append (λ b. b ≢ 10) (codes "slots ") (decimal slots) (no_lf_by (codes "slots ") refl) (number_clean slots small_slots) in
+    let clean_bytes = All-append (λ b. b ≢ 10) (codes "bytes ") (decimal bytes) (no_lf_by (codes "bytes ") refl) (number_clean bytes small_bytes) in
+    ap lines_of whole
+    ∙ lines-cut (codes "smooth 1") second (no_lf_by (codes "smooth 1") refl)
+    ∙ ap (λ ls. record { whole = codes "smooth 1" ∷ ls.whole; rest = ls.rest })
+    (lines-cut (codes "slots " ++ decimal slots) third clean_slots
+    ∙ ap (λ ls. record { whole = (codes "slots " ++ decimal slots) ∷ ls.whole; rest = ls.rest })
+    (lines-cut (codes "bytes " ++ decimal bytes) body clean_bytes
+    ∙ ap (λ ls. record { whole = (codes "bytes " ++ decimal bytes) ∷ ls.whole; rest = ls.rest }) (lines-body segments small)))
+
+-- ---- one text, one list
+abbrev pair : ℕ → ℕ → Segment
+pair n b = record { slots = n; bytes = b }
+
+same_words : (s t : Segment) → IsFew s → IsFew t → segment_words s ≡ segment_words t → s ≡ t
+same_words s t few few' e =
+    let shape : (x : Segment) → segment_words x ≡ codes "segment " ++ (decimal x.slots ++ 32 ∷ decimal x.bytes) = λ (x : Segment). simp append_assoc in
+    let rest : decimal s.slots ++ 32 ∷ decimal s.bytes ≡ decimal t.slots ++ 32 ∷ decimal t.bytes =
+    append_cancel_left (codes "segment ") (decimal s.slots ++ 32 ∷ decimal s.bytes) (decimal t.slots ++ 32 ∷ decimal t.bytes) (sym (shape s) ∙ e ∙ shape t) in
+    let no_space : (n : ℕ) → n ≤ 2 ^ 42 → All (λ b. b ≢ 32) (decimal n) = λ (n : ℕ) small. not_in_decimal 32 n (omega arith) (λ within. omega (arith, within.0)) in
+    let parts = same_cut 32 (decimal s.slots) (decimal t.slots) (decimal s.bytes) (decimal t.bytes) rest (no_space s.slots few.0) (no_space t.slots few'.0) in
+    let slots : s.slots ≡ t.slots = decimal_injective s.slots t.slots (omega (arith, few.0)) (omega (arith, few'.0)) parts.0 in
+    let bytes : s.bytes ≡ t.bytes = decimal_injective s.bytes t.bytes (omega (arith, few.1)) (omega (arith, few'.1)) parts.1 in
+    ap (λ n. pair n s.bytes) slots ∙ ap (λ b. pair t.slots b) bytes
+
+same_list : (xs ys : List Segment) → All IsFew xs → All IsFew ys → map segment_words xs ≡ map segment_words ys → xs ≡ ys
+same_list [] [] few few' e = refl
+same_list [] (y ∷ ys) few few' e = cc
+same_list (x ∷ xs) [] few few' e = cc
+same_list (x ∷ xs) (y ∷ ys) few few' e =
+    let first : segment_words x ≡ segment_words y = cc in
+    let others : map segment_words xs ≡ map segment_words ys = cc in
+    let same : x ≡ y = same_words x y (All-head IsFew x xs few) (All-head IsFew y ys few') first in
+    let rest : xs ≡ ys = same_list xs ys (All-tail IsFew x xs few) (All-tail IsFew y ys few') others in
+    cc
+
+pub record IsSame (slots bytes : ℕ) (xs : List Segment) (slots' bytes' : ℕ) (ys : List Segment) : Type 0 where
+  pub slots_are : slots ≡ slots'
+  pub bytes_are : bytes ≡ bytes'
+  pub segments_are : xs ≡ ys
+
+pub one_text : (slots bytes : ℕ) (xs : List Segment) (slots' bytes' : ℕ) (ys : List Segment) →
+    slots ≤ 2 ^ 42 → bytes ≤ 2 ^ 42 → All IsFew xs → slots' ≤ 2 ^ 42 → bytes' ≤ 2 ^ 42 → All IsFew ys →
+    cert_head slots bytes ++ flat_map segment_line xs ++ codes "end\n" ≡ cert_head slots' bytes' ++ flat_map segment_line ys ++ codes "end\n" →
+    IsSame slots bytes xs slots' bytes' ys
+one_text slots bytes xs slots' bytes' ys small_slots small_bytes few small_slots' small_bytes' few' e =
+    let lines : lines_are slots bytes xs ≡ lines_are slots' bytes' ys =
+    sym (lines-certificate slots bytes xs small_slots small_bytes few) ∙ ap lines_of e ∙ lines-certificate slots' bytes' ys small_slots' small_bytes' few' in
+    let second : codes "slots " ++ decimal slots ≡ codes "slots " ++ decimal slots' = ap (λ ls. get_or ls.whole 1 []) lines in
+    let third : codes "bytes " ++ decimal bytes ≡ codes "bytes " ++ decimal bytes' = ap (λ ls. get_or ls.whole 2 []) lines in
+    let rest : body_of xs ≡ body_of ys = ap (λ ls. drop 3 ls.whole) lines in
+    record {
+      slots_are = decimal_injective slots slots' (omega (arith, small_slots)) (omega (arith, small_slots')) (append_cancel_left (codes "slots ") (decimal slots) (decimal slots') second);
+      bytes_are = decimal_injective bytes bytes' (omega (arith, small_bytes)) (omega (arith, small_bytes')) (append_cancel_left (codes "bytes ") (decimal bytes) (decimal bytes') third);
+      segments_are = same_list xs ys few few' (append_cancel_right (map segment_words xs) (map segment_words ys) (codes "end" ∷ []) rest);
+    }
+
+-- ---- no bad line
+end_is_no_piece : (i : ℕ) (line : List ℕ) → 3 ≤ i → line ≡ codes "end" → MayStand i line → ⊥
+end_is_no_piece i line behind words (Title at title) = omega (arith, at, behind)
+end_is_no_piece i line behind words (Slots n at number) = omega (arith, at, behind)
+end_is_no_piece i line behind words (Bytes n at number) = omega (arith, at, behind)
+end_is_no_piece i line behind words (Piece s from few piece) =
+    let e : codes "end" ≡ segment_words s = sym words ∙ piece.words in
+    let first : 101 ≡ 115 = ap (λ l. get_or l 0 0) e in
+    omega (arith, first)
+
+length-body : (segments : List Segment) → length (body_of segments) ≡ length segments + 1
+length-body segments = length-append (map segment_words segments) (codes "end" ∷ []) ∙ ap (λ n. n + 1) (length-map segments segment_words)
+
+stands : (slots bytes : ℕ) (segments : List Segment) → slots ≤ 2 ^ 42 → bytes ≤ 2 ^ 42 → AreSmall segments →
+    (i : ℕ) → i < 3 + length segments → MayStand i (line_at (lines_are slots bytes segments) i)
+stands slots bytes segments small_slots small_bytes small zero few = Title refl refl
+stands slots bytes segments small_slots small_bytes small (suc zero) few = Slots slots refl (record { small = small_slots; words = refl })
+stands slots bytes segments small_slots small_bytes small (suc (suc zero)) few = Bytes bytes refl (record { small = small_bytes; words = refl })
+stands slots bytes segments small_slots small_bytes small (suc (suc (suc j))) few =
+    let s : Segment = get_or segments j (pair 0 0) in
+    let inside : j < length segments = omega (arith, few) in
+    let inside' : j < length (map segment_words segments) = omega (arith, inside, length-map segments segment_words) in
+    let words : get_or (body_of segments) j [] ≡ segment_words s =
+    get_or_append_left (map segment_words segments) (codes "end" ∷ []) [] j inside' ∙ get_or-map segment_words segments j (pair 0 0) [] inside in
+    let one : IsFew s = All-get_or IsFew segments j (pair 0 0) inside small.small in
+    Piece s (omega arith) (omega (arith, inside, small.few)) (record { few_slots = one.0; few_bytes = one.1; words = words })
+
+ends : (slots bytes : ℕ) (segments : List Segment) (i : ℕ) → i ≡ 3 + length segments → line_at (lines_are slots bytes segments) i ≡ codes "end"
+ends slots bytes segments i is =
+    let front = codes "smooth 1" ∷ (codes "slots " ++ decimal slots) ∷ (codes "bytes " ++ decimal bytes) ∷ map segment_words segments in
+    let count : length front ≡ i = omega (arith, is, length-map segments segment_words) in
+    get_or_at front (codes "end") [] [] i count
+
+no_break : (slots bytes : ℕ) (segments : List Segment) → slots ≤ 2 ^ 42 → bytes ≤ 2 ^ 42 → AreSmall segments → (i : ℕ) → BreaksAt (lines_are slots bytes segments) i → ⊥
+no_break slots bytes segments small_slots small_bytes small i breaks =
+    let last = 3 + length segments in
+    let at_last : line_at (lines_are slots bytes segments) last ≡ codes "end" = ends slots bytes segments last refl in
+    elim breaks.here [
+      | inl over ↦ end_is_no_piece last (line_at (lines_are slots bytes segments) last) (omega arith) at_last (breaks.before last (omega (arith, over, length-body segments)))
+      | inr bad ↦ elim (cases_lt i (3 + length segments)) [
+        | inl inside ↦ bad.1 (stands slots bytes segments small_slots small_bytes small i inside)
+        | inr behind ↦ (
+            let is : i ≡ 3 + length segments = omega (arith, behind, bad.0, length-body segments) in
+            bad.2 (record { behind_head = omega (arith, is); words = ends slots bytes segments i is })
+            )
+      ]
+    ]
+
+nothing_behind : (slots bytes : ℕ) (segments : List Segment) → slots ≤ 2 ^ 42 → bytes ≤ 2 ^ 42 → AreSmall segments → (i : ℕ) → IsBehindEnd (lines_are slots bytes segments) i → ⊥
+nothing_behind slots bytes segments small_slots small_bytes small i behind =
+    elim (cases_lt behind.last (3 + length segments)) [
+      | inl inside ↦ end_is_no_piece behind.last (line_at (lines_are slots bytes segments) behind.last) behind.ends.behind_head behind.ends.words
+          (stands slots bytes segments small_slots small_bytes small behind.last inside)
+      | inr over ↦ elim behind.more [
+        | inl more ↦ omega (arith, more, over, behind.last_is, length-body segments)
+        | inr some ↦ some refl
+      ]
+    ]
+
+pub certificate_has_no_bad_line : (text : List ℕ) (slots bytes : ℕ) (segments : List Segment) (line : ℕ) → IsCertificate text slots bytes segments → IsBadLine text line → ⊥
+certificate_has_no_bad_line text slots bytes segments line cert bad =
+    let s = total_slots segments in
+    let b = total_bytes segments in
+    let small_slots : s ≤ 2 ^ 42 = omega (arith, cert.slots_are, cert.small_slots) in
+    let small_bytes : b ≤ 2 ^ 42 = omega (arith, cert.bytes_are, cert.small_bytes) in
+    let lines : lines_of text ≡ lines_are s b segments = ap lines_of cert.text_is ∙ lines-certificate s b segments small_slots small_bytes cert.small.small in
+    elim bad.2 [
+      | inl breaks ↦ no_break s b segments small_slots small_bytes cert.small bad.0 (subst (λ ls. BreaksAt ls bad.0) lines breaks)
+      | inr other ↦ elim other [
+        | inl behind ↦ nothing_behind s b segments small_slots small_bytes cert.small bad.0 (subst (λ ls. IsBehindEnd ls bad.0) lines behind)
+        | inr wrong ↦ (
+            let same : IsSame wrong.slots wrong.bytes wrong.segments s b segments =
+            one_text wrong.slots wrong.bytes wrong.segments s b segments wrong.small_slots wrong.small_bytes wrong.small.small small_slots small_bytes cert.small.small
+            (sym wrong.text_is ∙ cert.text_is) in
+            let slots_are : total_slots wrong.segments ≡ wrong.slots = ap total_slots same.segments_are ∙ sym same.slots_are in
+            let bytes_are : total_bytes wrong.segments ≡ wrong.bytes = ap total_bytes same.segments_are ∙ sym same.bytes_are in
+            elim wrong.wrong [ inl slots ↦ slots.1 slots_are | inr bytes ↦ bytes.2 bytes_are ]
+            )
+      ]
+    ]
+
+-- so a certificate is read, and as its own segments
+pub exact_reading : (text : List ℕ) (read : Result CertText CertRead) → IfOk read (λ cert. IsCertificate text cert.slots cert.bytes cert.segments.items) →
+    IfErr read (IsRefused text) → (slots bytes : ℕ) (segments : List Segment) → IsCertificate text slots bytes segments →
+    MatchResult read (λ cert. cert.segments.items ≡ segments) (λ refusal. refusal ≡ NoMemory)
+exact_reading text (Ok cert) good bad slots bytes segments certificate =
+    let same = one_text (total_slots cert.segments.items) (total_bytes cert.segments.items) cert.segments.items (total_slots segments) (total_bytes segments) segments
+    (omega (arith, good.slots_are, good.small_slots)) (omega (arith, good.bytes_are, good.small_bytes)) good.small.small
+    (omega (arith, certificate.slots_are, certificate.small_slots)) (omega (arith, certificate.bytes_are, certificate.small_bytes)) certificate.small.small
+    (sym good.text_is ∙ certificate.text_is) in
+    same.segments_are
+exact_reading text (Err (BadCert line)) good bad slots bytes segments certificate = absurd (certificate_has_no_bad_line text slots bytes segments line certificate bad)
+exact_reading text (Err NoMemory) good bad slots bytes segments certificate = refl
