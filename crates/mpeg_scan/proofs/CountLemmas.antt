@@ -147,7 +147,7 @@ raw-count false false false false q pictures all n before has starts k unit slic
 
 -- ---- all codes
 
-some-cond : (t b : Bool) (h : Header) (o : Option Header) → is_some (cond t (Some h) (cond b None o)) ≡ cond t true (cond b false (is_some o))
+pub some-cond : (t b : Bool) (h : Header) (o : Option Header) → is_some (cond t (Some h) (cond b None o)) ≡ cond t true (cond b false (is_some o))
 some-cond true b h o = refl
 some-cond false true h o = refl
 some-cond false false h o = refl
@@ -168,15 +168,15 @@ a-picture : (t : Tally) (place : ℕ) (o : Option Header) → head_fault t place
 a-picture t place None e = absurd (cc)
 a-picture t place (Some p) e = refl
 
-second-none : (t : Tally) (kind : ℕ) → second_fault t kind ≡ None → is_head kind ≡ true → t.slices ≡ 0 → is_some t.picture ≡ false
+pub second-none : (t : Tally) (kind : ℕ) → second_fault t kind ≡ None → is_head kind ≡ true → t.slices ≡ 0 → is_some t.picture ≡ false
 second-none t kind e head none =
     no-picture t.picture (sym (ap (λ b. cond b (option_map left_without_slices t.picture) None) (and_from (is_head kind) (eqb t.slices 0) head (eq-eqb t.slices 0 none))) ∙ e)
 
-first-some : (t : Tally) (place kind : ℕ) → first_slice_fault t place kind ≡ None → is_slice kind ≡ true → t.slices ≡ 0 → is_some t.picture ≡ true
+pub first-some : (t : Tally) (place kind : ℕ) → first_slice_fault t place kind ≡ None → is_slice kind ≡ true → t.slices ≡ 0 → is_some t.picture ≡ true
 first-some t place kind e slice none =
     a-picture t place t.picture (sym (ap (λ b. cond b (head_fault t place t.picture) None) (and_from (is_slice kind) (eqb t.slices 0) slice (eq-eqb t.slices 0 none))) ∙ e)
 
-second-accepted : (t : Tally) (place kind : ℕ) → code_fault t place kind ≡ None → second_fault t kind ≡ None
+pub second-accepted : (t : Tally) (place kind : ℕ) → code_fault t place kind ≡ None → second_fault t kind ≡ None
 second-accepted t place kind e =
     otherwise-first (second_fault t kind) (otherwise (first_slice_fault t place kind) (count_fault t place kind))
     (otherwise-second (kind_fault t place kind) (otherwise (second_fault t kind) (otherwise (first_slice_fault t place kind) (count_fault t place kind))) e)
@@ -186,7 +186,7 @@ abbrev CountedBy : Count → List Call → List Code → Type 0
 CountedBy k calls past =
     Counted k calls (pictures_of past) (is_some (picture_of past)) (all_slices_of past) (slices_of past) (before_group_of past) (starts_group past)
 
-empty-count : (n : ℕ) → ltb 0 n ≡ false → n ≡ 0
+pub empty-count : (n : ℕ) → ltb 0 n ≡ false → n ≡ 0
 empty-count n h = let none = ltb-false 0 n h in omega arith
 
 code-count : (c d : Code) (past : List Code) (k : Count) → code_fault (tally_of (d ∷ past)) c.place c.kind ≡ None → Agrees (pictures_of (d ∷ past)) (is_some (picture_of (d ∷ past))) (all_slices_of (d ∷ past)) (slices_of (d ∷ past)) (before_group_of (d ∷ past)) (starts_group (d ∷ past)) k → CountedBy k (calls_at (tally_of (d ∷ past)) c.place c.kind) (c ∷ (d ∷ past))

@@ -4,3 +4,5 @@ pub mod ReadLemmas
 pub mod FilmLemmas
 pub mod TileLemmas
 pub mod CountLemmas
+pub mod PlaceLemmas
+pub mod GrammarLemmas

@@ -9,3 +9,5 @@ pub mod Films
 pub mod Rates
 pub mod Tiles
 pub mod Counts
+pub mod Places
+pub mod Grammar

@@ -1,6 +1,8 @@
-ghost use Rattle.std.specs.Prelude.{◌≡◌, [], Some, Err, IfOk};
+ghost use Rattle.std.specs.Prelude.{◌≡◌, ℕ, ◌↔◌, [], Some, Err, IfOk};
 ghost use Rattle.mpeg_scan.specs.Films.{IsFilm, refusal, told_of};
-ghost use Rattle.mpeg_scan.specs.Codes.{read};
+ghost use Rattle.mpeg_scan.specs.Codes.{codes_of, read};
+ghost use Rattle.mpeg_scan.specs.Places.{HasCode, StandsAt};
+ghost use Rattle.mpeg_scan.specs.Grammar.{IsGrammatical};
 ghost use Rattle.mpeg_scan.specs.Counts.{AreNumbered};
 ghost use Rattle.mpeg_scan.specs.Tiles.{Tiles};
 
@@ -30,6 +32,7 @@ const FILM: usize = 1 << 40;
 /// Scans a whole film.
 pub fn scan(alloc: Global, bytes: Vec<u8>) -> Result<Film, ScanRefused>
     ensures film { IfOk result (λ film. film.bytes.items ≡ bytes.items) }
+    ensures grammatical { IfOk result (λ film. IsGrammatical (read [] film.bytes.items)) }
     ensures numbered { IfOk result (λ film. AreNumbered (told_of film.bytes.items)) }
     ensures tiled { IfOk result (λ film. Tiles (read [] film.bytes.items) (told_of film.bytes.items)) }
     ensures fault { (f : FilmFault) → result ≡ Err (ScanRefused.Fault f) → refusal bytes.items ≡ Some f }
@@ -52,4 +55,12 @@ pub fn scan(alloc: Global, bytes: Vec<u8>) -> Result<Film, ScanRefused>
         }),
         Err(refused) => Err(refused),
     }
+}
+
+/// A law on the definitions: the start codes of a film's bytes are those that stand in them, 00 00 01 and
+/// a kind, each at its place.
+pub fn start_codes_stand(bytes: &[u8])
+    ensures { (place : ℕ) (kind : ℕ) → HasCode place kind (codes_of (read [] bytes.now)) ↔ StandsAt bytes.now place kind }
+{
+    let _ = bytes;
 }

@@ -13,7 +13,7 @@ mod texts;
 mod units;
 
 pub use faults::{FilmFault, ScanRefused};
-pub use films::{Film, scan};
+pub use films::{Film, scan, start_codes_stand};
 pub use found::Found;
 pub use scanner::{Ending, Scanner};
 pub use units::{Kind, Unit, picture_units};

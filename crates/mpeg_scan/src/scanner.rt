@@ -3,6 +3,7 @@ ghost use Rattle.mpeg_scan.specs.Calls.{Call, all_told, calls_at, told};
 ghost use Rattle.mpeg_scan.specs.Codes.{codes_of, read};
 ghost use Rattle.mpeg_scan.specs.Faults.{first_fault, refusal_of};
 ghost use Rattle.mpeg_scan.specs.Steps.{ended, judged, latest_header_fault, tally_with};
+ghost use Rattle.mpeg_scan.specs.Grammar.{IsGrammatical};
 ghost use Rattle.mpeg_scan.specs.Counts.{AreNumbered};
 ghost use Rattle.mpeg_scan.specs.Tiles.{Tiles};
 ghost use Rattle.mpeg_scan.specs.Words.{rate_of, tally_of};
@@ -256,6 +257,7 @@ impl Scanner {
         ensures ended { IfOk result (λ e. (r : List ℕ) → Fed self r
             → (refusal_of r ≡ None) × (e.rate ≡ rate_of (codes_of r)) × (e.bytes ≡ length r)) }
         ensures tiled { OnOk result ((r : List ℕ) → Fed self r → Tiles r (all_told r)) }
+        ensures grammatical { OnOk result ((r : List ℕ) → Fed self r → IsGrammatical r) }
         ensures numbered { OnOk result ((r : List ℕ) → Fed self r → AreNumbered (all_told r)) }
         ensures told { OnOk result ((r : List ℕ) (calls : List Call) → Fed self r → F.heard found.old (calls ++ told (codes_of r))
             → F.heard found.new (calls ++ all_told r)) }

@@ -3,7 +3,9 @@
 
 ghost use Rattle.std.specs.Prelude.{⊤, ◌<◌};
 
-use crate::{FilmFault, Found, Kind, ScanRefused, Scanner, Unit, picture_units, scan};
+use crate::{
+    FilmFault, Found, Kind, ScanRefused, Scanner, Unit, picture_units, scan, start_codes_stand,
+};
 use std::alloc::{AllocError, Global};
 use std::process::Abort;
 use std::test::Fail;
@@ -150,6 +152,7 @@ fn picture_of(kind: u8) -> [u8; 8]
 #[test]
 fn units_of_films(rt: HostRuntime) -> Result<(), Fail> {
     let bytes = joined(rt.alloc(), &[&SEQUENCE, &GROUP, &PICTURE_I, &SLICE])?;
+    start_codes_stand(&bytes);
     match scan(rt.alloc(), bytes) {
         Ok(film) => {
             assert_eq!(rt; film.rate, 3);

@@ -42,3 +42,7 @@ returns-in-Ok-finish-clause-tiled c =
 pub returns-in-Ok-finish-clause-numbered : goal.returns-in-Ok-finish-clause-numbered
 returns-in-Ok-finish-clause-numbered c =
     c.in-Ok-finish.ensures.numbered (read [] c.args.bytes.items) (subst (λ (l : List ℕ). Fed c.feed.new.self (read [] l)) c.deref.ensures.value (c.in-Ok.ensures.kept [] c.new-scanner.ensures))
+
+pub returns-in-Ok-finish-clause-grammatical : goal.returns-in-Ok-finish-clause-grammatical
+returns-in-Ok-finish-clause-grammatical c =
+    c.in-Ok-finish.ensures.grammatical (read [] c.args.bytes.items) (subst (λ (l : List ℕ). Fed c.feed.new.self (read [] l)) c.deref.ensures.value (c.in-Ok.ensures.kept [] c.new-scanner.ensures))

@@ -1,0 +1,83 @@
+-- The codes of an accepted film stand in their order.
+use Rattle.std.proofs.Common.{ℕ, Bool, true, false, cond, eqb, ltb, ◌&&◌, ◌||◌, ◌+◌, ◌≡◌, List, [], ◌∷◌, Option, Some, None, length, sym, ◌∙◌, ap, refl, subst, arith}
+use Rattle.std.specs.Option.{is_some}
+use Rattle.std.proofs.lemmas.Bool.{lt-ltb, false≢true, true≢false}
+use Rattle.mpeg_scan.specs.declared.codes.Code.{Code}
+use Rattle.mpeg_scan.specs.Codes.{codes_of}
+use Rattle.mpeg_scan.specs.Words.{is_head, is_slice, tally_of, slices_of, picture_of, header_of}
+use Rattle.mpeg_scan.specs.Faults.{code_fault, first_fault, end_fault, last_fault, latest_fault, refusal_of}
+use Rattle.mpeg_scan.specs.Grammar.{Phase, nowhere, in_head, after_picture, in_slices, next_phase, then_phase, phase_after, IsGrammatical}
+use Rattle.mpeg_scan.proofs.StepLemmas.{accepted-older, code-accepted, otherwise-first, otherwise-second}
+use Rattle.mpeg_scan.proofs.TileLemmas.{slice-apart, first_slice-accepted, first-is, ended-none, accepted-whole}
+use Rattle.mpeg_scan.proofs.CountLemmas.{some-cond, empty-count, second-none, second-accepted, first-some}
+
+-- the phase that the words on codes tell: q: there are slices, has: there is a picture
+abbrev pub phase_by : Bool → Bool → Phase
+phase_by q has = cond q in_slices (cond has after_picture in_head)
+
+-- a code after these, by the tests on its kind
+abbrev pub raw_next : Phase → Bool → Bool → Bool → Option Phase
+raw_next nowhere t0 h s = None
+raw_next in_head t0 h s = cond t0 (Some after_picture) (cond s None (Some in_head))
+raw_next after_picture t0 h s = cond h None (cond s (Some in_slices) (Some after_picture))
+raw_next in_slices t0 h s = cond t0 (Some after_picture) (cond h (Some in_head) (Some in_slices))
+
+-- next_phase at a phase that isn't the first, by those tests
+next-raw : (q has : Bool) (kind : ℕ) → next_phase (phase_by q has) kind ≡ raw_next (phase_by q has) (eqb kind 0) (is_head kind) (is_slice kind)
+next-raw true has kind = refl
+next-raw false true kind = refl
+next-raw false false kind = refl
+
+raw-phase : (t0 x s q has : Bool) (n : ℕ) → ltb 0 n ≡ q → (s ≡ true → (t0 || x) ≡ false) → ((t0 || x) ≡ true → q ≡ false → has ≡ false) → (s ≡ true → q ≡ false → has ≡ true)
+    → raw_next (phase_by q has) t0 (t0 || x) s ≡ Some (phase_by (ltb 0 (cond (t0 || x) 0 (cond s (n + 1) n))) (cond t0 true (cond ((t0 || x) && q) false has)))
+raw-phase true x true q has n is apart alone held = absurd (true≢false (apart refl))
+raw-phase false true true q has n is apart alone held = absurd (true≢false (apart refl))
+raw-phase false false true true has n is apart alone held = ap (λ b. Some (phase_by b has)) (sym (lt-ltb 0 (n + 1) (omega arith)))
+raw-phase false false true false true n is apart alone held = ap (λ b. Some (phase_by b true)) (sym (lt-ltb 0 (n + 1) (omega arith)))
+raw-phase false false true false false n is apart alone held = absurd (false≢true (held refl refl))
+raw-phase true x false true has n is apart alone held = refl
+raw-phase true x false false true n is apart alone held = absurd (true≢false (alone refl refl))
+raw-phase true x false false false n is apart alone held = refl
+raw-phase false true false true has n is apart alone held = refl
+raw-phase false true false false true n is apart alone held = absurd (true≢false (alone refl refl))
+raw-phase false true false false false n is apart alone held = refl
+raw-phase false false false true has n is apart alone held = ap (λ b. Some (phase_by b has)) (sym is)
+raw-phase false false false false true n is apart alone held = ap (λ b. Some (phase_by b true)) (sym is)
+raw-phase false false false false false n is apart alone held = ap (λ b. Some (phase_by b false)) (sym is)
+
+abbrev pub phase_of : List Code → Phase
+phase_of past = phase_by (ltb 0 (slices_of past)) (is_some (picture_of past))
+
+phase-step : (c d : Code) (past : List Code) → code_fault (tally_of (d ∷ past)) c.place c.kind ≡ None → next_phase (phase_of (d ∷ past)) c.kind ≡ Some (phase_of (c ∷ (d ∷ past)))
+phase-step c d past e =
+    let older : List Code = d ∷ past in
+    let t = tally_of older in
+    let n = slices_of older in
+    let q = ltb 0 n in
+    next-raw q (is_some (picture_of older)) c.kind
+    ∙ raw-phase (eqb c.kind 0) (eqb c.kind 0xb3 || eqb c.kind 0xb8) (is_slice c.kind) q (is_some (picture_of older)) n refl (slice-apart c.kind)
+    (λ head bare. second-none t c.kind (second-accepted t c.place c.kind e) head (empty-count n bare)) (λ slice bare. first-some t c.place c.kind (first_slice-accepted t c.place c.kind e) slice (empty-count n bare))
+    ∙ ap (λ b. Some (phase_by (ltb 0 (slices_of (c ∷ older))) b)) (sym (some-cond (eqb c.kind 0) (is_head c.kind && q) (header_of c) (picture_of older)))
+
+first-phase : (c : Code) → c.kind ≡ 0xb3 → next_phase nowhere c.kind ≡ Some (phase_of (c ∷ []))
+first-phase c is =
+    subst (λ m. next_phase nowhere m ≡ Some (phase_by (ltb 0 (cond (is_head m) 0 (cond (is_slice m) (0 + 1) 0))) (is_some (cond (eqb m 0) (Some (header_of c)) (cond (true || (is_head m && ltb 0 0)) None None))))) (sym is) refl
+
+phase-is : (c : Code) (past : List Code) → first_fault (c ∷ past) ≡ None → phase_after (c ∷ past) ≡ Some (phase_of (c ∷ past))
+phase-is c [] accepted = first-phase c (first-is c accepted)
+phase-is c (d ∷ past) accepted =
+    ap (λ (o : Option Phase). then_phase o c.kind) (phase-is d past (accepted-older c (d ∷ past) accepted))
+    ∙ phase-step c d past (code-accepted c (d ∷ past) accepted)
+
+whole-phase : (past : List Code) (n : ℕ) → first_fault past ≡ None → end_fault past n ≡ None → phase_after past ≡ Some in_slices
+unfolding end_fault
+whole-phase [] n accepted ended = absurd (omega (arith, ended-none (tally_of []) ended))
+whole-phase (c ∷ past) n accepted ended =
+    let some = ended-none (tally_of (c ∷ past)) (otherwise-second (latest_fault (c ∷ past) n) (last_fault (tally_of (c ∷ past))) ended) in
+    phase-is c past accepted ∙ ap (λ b. Some (phase_by b (is_some (picture_of (c ∷ past))))) (lt-ltb 0 (slices_of (c ∷ past)) some)
+
+-- the codes of an accepted film stand in their order
+pub film-grammatical : (r : List ℕ) → refusal_of r ≡ None → IsGrammatical r
+film-grammatical r e =
+    let none = accepted-whole r e in
+    whole-phase (codes_of r) (length r) (otherwise-first (first_fault (codes_of r)) (end_fault (codes_of r) (length r)) none) (otherwise-second (first_fault (codes_of r)) (end_fault (codes_of r) (length r)) none)
