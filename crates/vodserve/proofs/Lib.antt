@@ -1,0 +1,5 @@
+pub mod CommandLemmas
+pub mod ReadLemmas
+pub mod SaidLemmas
+pub mod Tokens
+pub mod WordLemmas

@@ -1,0 +1,26 @@
+use Rattle.std.proofs.Common.{◌∙◌, ◌++◌, ap, sym}
+use Rattle.std.specs.Prelude.{codes}
+use Rattle.std.proofs.lemmas.List.{append_assoc}
+use Rattle.vodserve.specs.Said.{number_text}
+use Rattle.vodserve.specs.Report.{fault_text}
+use Rattle.vodserve.specs.declared.report.Fault.{Fault}
+use Rattle.vodserve.proofs.SaidLemmas.{said_as}
+use Rattle.vodserve.proofs.report.add_fault.Goals as goal
+
+pub returns-in-NotFound : goal.returns-in-NotFound
+returns-in-NotFound g c = λ faults told text said.
+    said_as (ap (λ (f : Fault). text ++ fault_text f) (sym c.in-NotFound.is)) (c.add.ensures faults told text said)
+
+pub returns-in-BadTrace : goal.returns-in-BadTrace
+returns-in-BadTrace g c = λ faults told text said.
+    said_as (append_assoc text (codes "BadTrace") (number_text c.in-BadTrace.place) ∙ ap (λ (f : Fault). text ++ fault_text f) (sym c.in-BadTrace.is))
+    (c.add_number.ensures faults told (text ++ codes "BadTrace") (c.add-named.ensures faults told text said))
+
+pub returns-in-Curves : goal.returns-in-Curves
+returns-in-Curves g c = λ faults told text said.
+    said_as (ap (λ (f : Fault). text ++ fault_text f) (sym c.in-Curves.is)) (c.add_curve_fault.ensures faults told text said)
+
+pub returns-in-BadCert : goal.returns-in-BadCert
+returns-in-BadCert g c = λ faults told text said.
+    said_as (append_assoc text (codes "BadCert") (number_text c.in-BadCert.line) ∙ ap (λ (f : Fault). text ++ fault_text f) (sym c.in-BadCert.is))
+    (c.add_number-in-BadCert.ensures faults told (text ++ codes "BadCert") (c.add-named-in-BadCert.ensures faults told text said))

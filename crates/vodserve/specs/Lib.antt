@@ -1,0 +1,15 @@
+pub mod Carrying
+pub mod Commands
+pub mod Given
+pub mod Orders
+pub mod Ranges
+pub mod Reading
+pub mod Report
+pub mod Run
+pub mod Said
+pub mod Texts
+pub mod Trace
+pub mod TraceRefusal
+pub mod Trouble
+pub mod Verdict
+pub mod Words

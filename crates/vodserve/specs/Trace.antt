@@ -1,0 +1,57 @@
+-- Traces of picture sizes: decimal numbers with blanks between them.
+use Rattle.std.specs.Prelude.{◌≡◌, ℕ, ◌+◌, ◌<◌, ◌≤◌, ◌^◌, Bool, true, false, not, ◌||◌, ◌==◌, if◌then◌else◌, List, [], ◌∷◌, ◌++◌, length, map, sum, Some, All}
+use Rattle.vod_base.specs.Numbers.{number_of}
+
+-- space, tab, CR or LF
+abbrev pub is_blank : ℕ → Bool
+is_blank b = (b == 32) || (b == 9) || (b == 13) || (b == 10)
+
+-- bytes of a text without a blank, with a blank or the text's end on each side, and the place of the first of them
+pub record Token : Type 0 where
+  pub from : ℕ
+  pub bytes : List ℕ
+
+-- a byte that is no blank stands in front
+abbrev pub begins_token : List ℕ → Bool
+begins_token [] = false
+begins_token (b ∷ rest) = not (is_blank b)
+
+-- a byte that is no blank in front of the tokens: it belongs to the first of them, or is a token by itself
+abbrev pub joined : ℕ → ℕ → Bool → List Token → List Token
+joined at b false tokens = (record { from = at; bytes = b ∷ [] }) ∷ tokens
+joined at b true [] = (record { from = at; bytes = b ∷ [] }) ∷ []
+joined at b true (token ∷ tokens) = (record { from = at; bytes = b ∷ token.bytes }) ∷ tokens
+
+-- the tokens of a text that stands at `at`
+abbrev pub tokens_from : ℕ → List ℕ → List Token
+tokens_from at [] = []
+tokens_from at (b ∷ rest) = if is_blank b then tokens_from (at + 1) rest else joined at b (begins_token rest) (tokens_from (at + 1) rest)
+
+-- the tokens write these sizes: each up to 2^32, 2^40 together, and at most 1,000,000 of them
+pub record IsTrace (tokens : List Token) (sizes : List ℕ) : Type 0 where
+  pub numbers : map (λ token. number_of token.bytes) tokens ≡ map (λ size. Some size) sizes
+  pub small : All (λ size. size ≤ 2 ^ 32) sizes
+  pub few_bytes : sum sizes ≤ 2 ^ 40
+  pub few : length sizes ≤ 1000000
+
+-- a text is a trace of these sizes
+abbrev pub IsTraceText : List ℕ → List ℕ → Type 0
+IsTraceText text sizes = IsTrace (tokens_from 0 text) sizes
+
+-- no trace: the first token with which the tokens so far write no sizes begins at `place`
+pub record IsBadTrace (text : List ℕ) (place : ℕ) : Type 0 where
+  pub good : List Token
+  pub bad : Token
+  pub rest : List Token
+  pub sizes : List ℕ
+  pub tokens : tokens_from 0 text ≡ good ++ bad ∷ rest
+  pub written : IsTrace good sizes
+  pub ends : (more : List ℕ) → IsTrace (good ++ bad ∷ []) more → ⊥
+  pub starts : place ≡ bad.from
+
+-- a token may add a size to a trace of `count` sizes with `total` bytes
+pub record AddsSize (token : List ℕ) (count total size : ℕ) : Type 0 where
+  pub number : number_of token ≡ Some size
+  pub small : size ≤ 2 ^ 32
+  pub few_bytes : total + size ≤ 2 ^ 40
+  pub few : count < 1000000
