@@ -177,6 +177,74 @@ fn units_of_films(rt: HostRuntime) -> Result<(), Fail> {
 }
 
 #[test]
+fn fields_of_headers(rt: HostRuntime) -> Result<(), Fail> {
+    // temporal_reference 2, type 3, vbv_delay FFFF, full-pel 1 and f-code 5 forward, 1 and 6 backward.
+    let picture_b = [0, 0, 1, 0, 0x00, 0x9f, 0xff, 0xfe, 0xf0];
+    // temporal_reference 1, type 4.
+    let picture_d = [0, 0, 1, 0, 0x00, 0x67, 0xff, 0xf8];
+    let bytes = joined(
+        rt.alloc(),
+        &[
+            &SEQUENCE, &GROUP, &PICTURE_I, &SLICE, &PICTURE_P, &SLICE, &picture_b, &SLICE, &SLICE,
+            &GROUP, &PICTURE_I, &SLICE, &picture_d, &SLICE,
+        ],
+    )?;
+    let unit_2 = Unit {
+        from: 49,
+        head_end: 58,
+        to: 70,
+        first_slice: 2,
+        slices: 2,
+        temporal: 2,
+        presentation: 2,
+        kind: Kind::B,
+        vectors: 0xed,
+        has_sequence: false,
+        starts_group: false,
+    };
+    let unit_3 = Unit {
+        from: 70,
+        head_end: 86,
+        to: 92,
+        first_slice: 4,
+        slices: 1,
+        temporal: 0,
+        presentation: 3,
+        kind: Kind::I,
+        vectors: 0,
+        has_sequence: false,
+        starts_group: true,
+    };
+    let unit_4 = Unit {
+        from: 92,
+        head_end: 100,
+        to: 106,
+        first_slice: 5,
+        slices: 1,
+        temporal: 1,
+        presentation: 4,
+        kind: Kind::D,
+        vectors: 0,
+        has_sequence: false,
+        starts_group: false,
+    };
+    match scan(rt.alloc(), bytes) {
+        Ok(film) => {
+            assert_eq!(rt;
+                film.units.as_slice(),
+                [UNIT_A, UNIT_B, unit_2, unit_3, unit_4].as_slice()
+            );
+            assert_eq!(rt;
+                film.slice_starts.as_slice(),
+                [28, 43, 58, 64, 86, 100].as_slice()
+            );
+        }
+        Err(refused) => assert!(rt; false, "{refused:?}"),
+    }
+    Ok(())
+}
+
+#[test]
 fn refusals(rt: HostRuntime) -> Result<(), Fail> {
     let alloc = rt.alloc();
     let mpeg2 = [0, 0, 1, 0xb5];
