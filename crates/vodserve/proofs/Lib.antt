@@ -1,4 +1,5 @@
 pub mod CommandLemmas
+pub mod OneAnswer
 pub mod ReadLemmas
 pub mod SaidLemmas
 pub mod Tokens

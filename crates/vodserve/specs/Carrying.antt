@@ -4,7 +4,7 @@ use Rattle.vod_base.specs.Outside.{File, file_named}
 use Rattle.wire_curve.specs.declared.film.Timing.{Timing}
 use Rattle.wire_curve.specs.declared.curves.Curves.{Curves as CurvePair}
 use Rattle.wire_curve.specs.FilmCurves.{AreFilmCurves}
-use Rattle.wire_curve.specs.Refusal.{HasFault}
+use Rattle.wire_curve.specs.Refusal.{IsAccepted, HasFault}
 use Rattle.wire_curve.specs.Sound.{IsSound}
 use Rattle.plan_cert.specs.declared.Segment.{Segment}
 use Rattle.plan_cert.specs.Text.{cert_text}
@@ -38,6 +38,7 @@ pub record HoldsTrace (held : List File) (name sizes : List ℕ) : Type 0 where
 pub record HasCurves (held : List File) (viewer : Viewer) (curves : CurvePair) : Type 0 where
   pub sizes : List ℕ
   pub holds : HoldsTrace held viewer.trace sizes
+  pub accepted : IsAccepted sizes (trace_timing viewer)
   pub curves_are : AreFilmCurves sizes (trace_timing viewer) curves
   pub sound : IsSound curves.from curves.low.items curves.up.items
 

@@ -6,6 +6,8 @@ mod reading;
 mod real;
 mod report;
 mod run;
+#[cfg(test)]
+mod tests;
 mod traces;
 mod words;
 

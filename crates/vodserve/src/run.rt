@@ -1,7 +1,11 @@
-ghost use Rattle.std.specs.Prelude.{◌≡◌, None, Bool};
+ghost use Rattle.std.specs.Prelude.{◌≡◌, None, Bool, ℕ, List, Option};
 ghost use Rattle.vodserve.specs.Said.{IsSaid};
 ghost use Rattle.vodserve.specs.Report.{trouble_text};
-ghost use Rattle.vodserve.specs.Words.{meaning, texts};
+ghost use Rattle.vod_base.specs.Outside.{File};
+ghost use Rattle.plan_cert.specs.declared.Segment.{Segment};
+ghost use Rattle.vodserve.specs.declared.report.Fault.{Fault};
+ghost use Rattle.vodserve.specs.Carrying.{IsPlanned, IsViewerRefused};
+ghost use Rattle.vodserve.specs.Words.{Viewer, meaning, texts};
 ghost use Rattle.vodserve.specs.Run.{Ran, status_of};
 
 use crate::commands::carry_out;
@@ -43,6 +47,13 @@ fn end_with<E: Sink>(err: &mut E, trouble: Trouble<'_>) -> Ended
     let _ = say(err, trouble);
     Ended { status, plan: None }
 }
+
+/// A law: a trace that a library holds has one plan and one text of it, and isn't refused besides.
+/// So the output is a function of the input, and status 3 comes only where there is no plan.
+pub fn law_one_plan()
+    ensures once { (held : List File) → (viewer : Viewer) → (text text' : List ℕ) → (plan plan' : Option (List Segment)) → IsPlanned held viewer text plan → IsPlanned held viewer text' plan' → (text ≡ text') × (plan ≡ plan') }
+    ensures not_refused { (held : List File) → (viewer : Viewer) → (text : List ℕ) → (plan : Option (List Segment)) → (fault : Fault) → IsPlanned held viewer text plan → IsViewerRefused held viewer fault → ⊥ }
+{}
 
 /// Carries out the words of the command line, which come without the program's name.
 pub fn run<L: Library, O: Sink, E: Sink>(
