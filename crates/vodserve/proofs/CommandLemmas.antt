@@ -8,7 +8,10 @@ use Rattle.plan_cert.specs.Reading.{IsCertificate}
 use Rattle.cert_check.specs.Best.{IsBestPlan}
 use Rattle.cert_check.specs.Fault.{IsFirstFault}
 use Rattle.cert_check.specs.declared.CertFault.{CertFault}
-use Rattle.vodserve.specs.Words.{Viewer, check_of}
+use Rattle.mpeg_scan.specs.declared.units.Unit.{Unit as PictureUnit}
+use Rattle.vodserve.specs.Scanning.{HoldsFilm}
+use Rattle.vodserve.specs.ScanText.{scan_text}
+use Rattle.vodserve.specs.Words.{Viewer, check_of, scan_of}
 use Rattle.vodserve.specs.Carrying.{HasCurves, IsDone}
 use Rattle.vodserve.specs.Verdict.{cert_fault_text}
 use Rattle.vodserve.specs.Trouble.{IsInputTrouble}
@@ -81,3 +84,10 @@ fault_checked held viewer cert curves segments read fault first r text done is =
   },
   is.2,
 )
+
+pub film_done : {E : Type 0} (held : List File) (film : List ℕ) (size rate : ℕ) (units : List PictureUnit) → HoldsFilm held film size rate units →
+    (r : Result (Vec ℕ Global) E) → IfOk r (λ v. v.items ≡ scan_text size rate units) →
+    (done : Done) → (done.status ≡ 0) × (r ≡ Ok done.text) × (done.plan ≡ None) →
+    IsDone held (scan_of film) done.status done.text.items done.plan
+film_done held film size rate units holds r text done is =
+    (is.0, record { size = size; rate = rate; units = units; holds = holds; printed = text_of (scan_text size rate units) r done.text text is.1 }, is.2)

@@ -17,7 +17,7 @@ use Rattle.vodserve.specs.Trace.{Token, tokens_from, IsTrace, IsTraceText, IsBad
 use Rattle.vodserve.specs.Words.{Viewer}
 use Rattle.vodserve.specs.Carrying.{trace_timing, HoldsTrace, HasCurves, IsPlanned, IsViewerRefused}
 use Rattle.vodserve.specs.declared.report.Fault.{Fault}
-use Rattle.vodserve.specs.declared.report.Fault.TheVariants.{NotFound, BadTrace, Curves, BadCert}
+use Rattle.vodserve.specs.declared.report.Fault.TheVariants.{NotFound, BadTrace, Curves, BadCert, Film}
 
 some_once : (xs ys : List ℕ) → map (λ (x : ℕ). Some x) xs ≡ map (λ (x : ℕ). Some x) ys → xs ≡ ys
 some_once [] [] e = refl
@@ -97,3 +97,4 @@ curves_not_refused held viewer curves (Curves fault) has refused =
     accepted-no_fault refused.0 (trace_timing viewer) fault
     (subst (λ (s : List ℕ). IsAccepted s (trace_timing viewer)) (holds_once held viewer.trace has.sizes refused.0 has.holds refused.1.0) has.accepted) refused.1.1
 curves_not_refused held viewer curves (BadCert line) has refused = refused
+curves_not_refused held viewer curves (Film fault) has refused = refused

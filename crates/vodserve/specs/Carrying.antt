@@ -19,10 +19,13 @@ use Rattle.film_make.specs.Trace.{trace_of}
 use Rattle.film_make.specs.Film.{film_of}
 use Rattle.film_make.specs.System.{system_of}
 use Rattle.vodserve.specs.Trace.{IsTraceText, IsBadTrace as IsBadTraceText}
-use Rattle.vodserve.specs.Words.{Viewer, Made, Wanted, help, version, plan_of, check_of, make_of, made_film, made_trace, made_system}
+use Rattle.vodserve.specs.Words.{Viewer, Made, Wanted, help, version, plan_of, check_of, make_of, scan_of, made_film, made_trace, made_system}
+use Rattle.vodserve.specs.Scanning.{HoldsFilm, IsNamedFilmRefused}
+use Rattle.vodserve.specs.ScanText.{scan_text}
+use Rattle.mpeg_scan.specs.declared.units.Unit.{Unit as PictureUnit}
 use Rattle.vodserve.specs.Texts.{help_text, version_text}
 use Rattle.vodserve.specs.declared.report.Fault.{Fault}
-use Rattle.vodserve.specs.declared.report.Fault.TheVariants.{NotFound, BadTrace, Curves, BadCert}
+use Rattle.vodserve.specs.declared.report.Fault.TheVariants.{NotFound, BadTrace, Curves, BadCert, Film}
 
 -- a trace has one picture a slot; nothing of it was sent or played before
 abbrev pub trace_timing : Viewer → Timing
@@ -57,6 +60,7 @@ IsViewerRefused held viewer NotFound = file_named held viewer.trace ≡ None
 IsViewerRefused held viewer (BadTrace place) = (text : List ℕ) × ((file_named held viewer.trace ≡ Some text) × IsBadTraceText text place)
 IsViewerRefused held viewer (Curves fault) = (sizes : List ℕ) × (HoldsTrace held viewer.trace sizes × HasFault sizes (trace_timing viewer) fault)
 IsViewerRefused held viewer (BadCert line) = ⊥
+IsViewerRefused held viewer (Film fault) = ⊥
 
 -- the verdict on the certificate that the library holds: status 0 where its segments are the best plan of the curves, and 1
 -- where a fault is there, of which the first is named
@@ -80,6 +84,15 @@ IsCertRefused held viewer cert (Curves fault) = ⊥
 IsCertRefused held viewer cert (BadCert line) =
     ((curves : CurvePair) × HasCurves held viewer curves)
     × ((written : List ℕ) × ((file_named held cert ≡ Some written) × IsCertTextRefused written (BadCertLine line)))
+IsCertRefused held viewer cert (Film fault) = ⊥
+
+-- the film that the library holds is accepted, and its size, rate and units are printed
+pub record IsScanned (held : List File) (film text : List ℕ) : Type 0 where
+  pub size : ℕ
+  pub rate : ℕ
+  pub units : List PictureUnit
+  pub holds : HoldsFilm held film size rate units
+  pub printed : text ≡ scan_text size rate units
 
 -- the text of a number
 abbrev pub made_text : Made → ℕ → ℕ → List ℕ
@@ -94,6 +107,7 @@ IsDone held version status text plan = (status ≡ 0) × (text ≡ version_text)
 IsDone held (plan_of viewer) status text plan = (status ≡ 0) × IsPlanned held viewer text plan
 IsDone held (check_of viewer cert) status text plan = IsChecked held viewer cert status text × (plan ≡ None)
 IsDone held (make_of kind seed pictures) status text plan = (status ≡ 0) × (text ≡ made_text kind seed pictures)
+IsDone held (scan_of film) status text plan = (status ≡ 0) × IsScanned held film text × (plan ≡ None)
 
 -- the input that is refused, and why
 abbrev pub IsInputRefused : List File → Wanted → List ℕ → Fault → Type 0
@@ -103,3 +117,4 @@ IsInputRefused held (plan_of viewer) name fault = (name ≡ viewer.trace) × IsV
 IsInputRefused held (check_of viewer cert) name fault =
     ((name ≡ viewer.trace) × IsViewerRefused held viewer fault) ⊎ ((name ≡ cert) × IsCertRefused held viewer cert fault)
 IsInputRefused held (make_of kind seed pictures) name fault = ⊥
+IsInputRefused held (scan_of film) name fault = IsNamedFilmRefused held film name fault

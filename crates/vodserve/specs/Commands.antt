@@ -1,10 +1,11 @@
 -- The words that a command takes.
 use Rattle.std.specs.Prelude.{ℕ, Bool, List}
-use Rattle.vodserve.specs.Words.{is_viewer_word, is_check_word, is_make_word}
+use Rattle.vodserve.specs.Words.{is_viewer_word, is_check_word, is_make_word, is_scan_word}
 use Rattle.vodserve.specs.declared.words.Command.{Command}
-use Rattle.vodserve.specs.declared.words.Command.TheVariants.{Plan, Check, Make}
+use Rattle.vodserve.specs.declared.words.Command.TheVariants.{Plan, Check, Make, Scan}
 
 abbrev pub is_word_of : Command → List ℕ → Bool
 is_word_of Plan = is_viewer_word
 is_word_of Check = is_check_word
 is_word_of Make = is_make_word
+is_word_of Scan = is_scan_word

@@ -7,6 +7,8 @@ pub mod Reading
 pub mod Report
 pub mod Run
 pub mod Said
+pub mod ScanText
+pub mod Scanning
 pub mod Texts
 pub mod Trace
 pub mod TraceRefusal

@@ -1,7 +1,7 @@
 -- The ranges of the numbers in an order.
 use Rattle.std.specs.Prelude.{◌≤◌, ◌^◌}
 use Rattle.vodserve.specs.declared.words.Order.{Order}
-use Rattle.vodserve.specs.declared.words.Order.TheVariants.{Help, Version, Plan, Check, Make}
+use Rattle.vodserve.specs.declared.words.Order.TheVariants.{Help, Version, Plan, Check, Make, Scan}
 use Rattle.vodserve.specs.declared.words.Client.{Client}
 
 pub record IsClientInRange (client : Client) : Type 0 where
@@ -15,3 +15,4 @@ IsOrderInRange Version = Unit {0}
 IsOrderInRange (Plan client) = IsClientInRange client
 IsOrderInRange (Check client cert) = IsClientInRange client
 IsOrderInRange (Make kind seed pictures) = Unit {0}
+IsOrderInRange (Scan film) = Unit {0}

@@ -2,9 +2,11 @@
 use Rattle.std.specs.Prelude.{ℕ, List, ◌++◌, codes}
 use Rattle.wire_curve.specs.declared.film.CurveFault.{CurveFault}
 use Rattle.wire_curve.specs.declared.film.CurveFault.TheVariants.{NoPictures, TooManySlots, BufferTooSmall}
+use Rattle.mpeg_scan.specs.declared.faults.FilmFault.{FilmFault}
+use Rattle.mpeg_scan.specs.declared.faults.FilmFault.TheVariants.{Empty, NoSequence, SystemCode, Mpeg2, ShortHeader, BadRate, BadType, PictureWithoutSlices, HeadTooLong, GroupTooLong, TooLong, HeadWithoutPicture}
 use Rattle.vodserve.specs.Said.{number_text}
 use Rattle.vodserve.specs.declared.report.Fault.{Fault}
-use Rattle.vodserve.specs.declared.report.Fault.TheVariants.{NotFound, BadTrace, Curves, BadCert}
+use Rattle.vodserve.specs.declared.report.Fault.TheVariants.{NotFound, BadTrace, Curves, BadCert, Film}
 use Rattle.vodserve.specs.declared.report.Trouble.{Trouble}
 use Rattle.vodserve.specs.declared.report.Trouble.TheVariants.{Usage, Refused, StoreFault, SinkFault, NoMemory}
 
@@ -13,12 +15,27 @@ curve_fault_text NoPictures = codes "NoPictures"
 curve_fault_text (TooManySlots slots) = codes "TooManySlots" ++ number_text slots
 curve_fault_text (BufferTooSmall slot used least) = codes "BufferTooSmall" ++ number_text slot ++ number_text used ++ number_text least
 
+abbrev pub film_fault_text : FilmFault → List ℕ
+film_fault_text Empty = codes "Empty"
+film_fault_text NoSequence = codes "NoSequence"
+film_fault_text (SystemCode place) = codes "SystemCode" ++ number_text place
+film_fault_text (Mpeg2 place) = codes "Mpeg2" ++ number_text place
+film_fault_text (ShortHeader place) = codes "ShortHeader" ++ number_text place
+film_fault_text (BadRate place code) = codes "BadRate" ++ number_text place ++ number_text code
+film_fault_text (BadType place) = codes "BadType" ++ number_text place
+film_fault_text (PictureWithoutSlices place) = codes "PictureWithoutSlices" ++ number_text place
+film_fault_text (HeadTooLong place) = codes "HeadTooLong" ++ number_text place
+film_fault_text (GroupTooLong place) = codes "GroupTooLong" ++ number_text place
+film_fault_text TooLong = codes "TooLong"
+film_fault_text (HeadWithoutPicture place) = codes "HeadWithoutPicture" ++ number_text place
+
 -- a refusal's name followed by its numbers
 abbrev pub fault_text : Fault → List ℕ
 fault_text NotFound = codes "NotFound"
 fault_text (BadTrace place) = codes "BadTrace" ++ number_text place
 fault_text (Curves fault) = curve_fault_text fault
 fault_text (BadCert line) = codes "BadCert" ++ number_text line
+fault_text (Film fault) = film_fault_text fault
 
 abbrev pub trouble_text : Trouble → List ℕ
 trouble_text Usage = codes "vodserve: usage\n"

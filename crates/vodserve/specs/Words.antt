@@ -71,6 +71,7 @@ pub data Wanted : Type 0 where
   plan_of : Viewer → Wanted
   check_of : Viewer → (cert : List ℕ) → Wanted
   make_of : Made → (seed pictures : ℕ) → Wanted
+  scan_of : (film : List ℕ) → Wanted
 
 -- `trace` once; `buffer` from 1 to 2^42, by default 1,048,576; `startup` up to 10,000, by default 25
 abbrev pub viewer_given : List (List ℕ) → Option Viewer
@@ -109,6 +110,12 @@ make_wanted words =
     (one_kind (given (codes "kind") words))
     else None
 
+abbrev pub is_scan_word : List ℕ → Bool
+is_scan_word word = is_some (setting_value (codes "film") word)
+
+abbrev pub scan_wanted : List (List ℕ) → Option Wanted
+scan_wanted words = if list_all is_scan_word words then option_map scan_of (one_name (given (codes "film") words)) else None
+
 -- what stands alone
 abbrev pub alone : Wanted → List (List ℕ) → Option Wanted
 alone wanted [] = Some wanted
@@ -123,4 +130,5 @@ meaning (command ∷ words) =
     else if bytes_eq command (codes "plan") then plan_wanted words
     else if bytes_eq command (codes "check") then check_wanted words
     else if bytes_eq command (codes "make") then make_wanted words
+    else if bytes_eq command (codes "scan") then scan_wanted words
     else None

@@ -1,7 +1,7 @@
 ghost use Rattle.std.specs.Prelude.{◌≡◌, ◌≤◌, ◌++◌, Some, None, Ok, List, IfOk, IfErr, codes};
 ghost use Rattle.vod_base.specs.Outside.{File, HasRisen, file_named};
 ghost use Rattle.wire_curve.specs.Sound.{IsSound};
-ghost use Rattle.vodserve.specs.Words.{plan_of, check_of};
+ghost use Rattle.vodserve.specs.Words.{plan_of, check_of, scan_of};
 ghost use Rattle.vodserve.specs.Orders.{viewer_of, wanted_of};
 ghost use Rattle.vodserve.specs.Ranges.{IsClientInRange, IsOrderInRange};
 ghost use Rattle.vodserve.specs.Carrying.{HasCurves, IsViewerRefused, IsDone, IsInputRefused, made_text};
@@ -12,6 +12,8 @@ ghost use Rattle.vodserve.specs.Trouble.{IsInputTrouble, IsOfStore, IsOfInput};
 
 use crate::reading::{ReadRefused, read_file};
 use crate::report::{Fault, Trouble};
+use crate::scan_text::scan_text;
+use crate::scanning::scan_file;
 use crate::traces::{TraceRefused, read_trace};
 use crate::words::{Client, Kind, Order};
 use cert_check::{CertFault, check};
@@ -25,7 +27,7 @@ use wire_curve::{CurveRefused, Curves, Timing, film_curves};
 const VERSION: &[u8] = b"vodserve 0.1.0\n";
 
 const HELP: &[u8] =
-    b"usage: vodserve plan trace=NAME [buffer=BYTES] [startup=SLOTS]\n       vodserve make kind=film|trace|system seed=NUMBER pictures=NUMBER\n       vodserve --help | --version\n";
+    b"usage: vodserve plan trace=NAME [buffer=BYTES] [startup=SLOTS]\n       vodserve scan film=NAME\n       vodserve make kind=film|trace|system seed=NUMBER pictures=NUMBER\n       vodserve --help | --version\n";
 
 /// What was done, before it is written.
 #[derive(Debug, Drop)]
@@ -219,6 +221,30 @@ fn check_trace<'a, L: Library>(
     }
 }
 
+/// The text of a film's units.
+fn scan_film<'a, L: Library>(
+    alloc: Global,
+    library: &mut L,
+    film: &'a str,
+) -> Result<Done, Trouble<'a>>
+    ensures kept { L.files library.new ≡ L.files library.old }
+    ensures count { L.faults library.old ≤ L.faults library.new }
+    ensures store { IfErr result (λ trouble. IsOfStore trouble → HasRisen (L.faults library.old) (L.faults library.new)) }
+    ensures input { IfErr result IsOfInput }
+    ensures done { (held : List File) → L.files library.old ≡ Some held → IfOk result (λ done. IsDone held (scan_of film.entry.now) done.status done.text.items done.plan) }
+    ensures refused { (held : List File) → L.files library.old ≡ Some held → IfErr result (IsInputTrouble (IsInputRefused held (scan_of film.entry.now))) }
+    ensures status { IfOk result (λ done. done.status ≤ 1) }
+{
+    let scanned = match scan_file(alloc, library, film) {
+        Ok(scanned) => scanned,
+        Err(trouble) => return Err(trouble),
+    };
+    finish(
+        0,
+        scan_text(alloc, scanned.bytes, scanned.rate, &scanned.units),
+    )
+}
+
 /// The trace, film or system stream of a number.
 fn made(alloc: Global, kind: Kind, seed: u64, pictures: u32) -> Result<Vec<u8>, NoMemory>
     ensures { IfOk result (λ text. text.items ≡ made_text (made_of kind) seed pictures) }
@@ -265,5 +291,6 @@ pub fn carry_out<'a, L: Library>(
         Order::Plan(client) => plan_trace(alloc, library, client),
         Order::Check(client, cert) => check_trace(alloc, library, client, cert),
         Order::Make(kind, seed, pictures) => finish(0, made(alloc, kind, seed, pictures)),
+        Order::Scan(film) => scan_film(alloc, library, film),
     }
 }

@@ -6,6 +6,8 @@ mod reading;
 mod real;
 mod report;
 mod run;
+mod scan_text;
+mod scanning;
 #[cfg(test)]
 mod tests;
 mod traces;

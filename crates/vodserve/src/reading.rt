@@ -6,7 +6,7 @@ use std::alloc::{AllocError, Global};
 use vod_base::Library;
 
 /// The most bytes that one read asks for.
-const PIECE: usize = 65_536;
+pub const PIECE: usize = 65_536;
 
 /// Why a file could not be read.
 #[derive(Clone, Copy, Debug, PartialEq, Eq)]
@@ -19,7 +19,8 @@ pub enum ReadRefused {
     NoMemory,
 }
 
-fn zeros(alloc: Global, len: usize) -> Result<Vec<u8>, AllocError>
+/// That many zero bytes.
+pub fn zeros(alloc: Global, len: usize) -> Result<Vec<u8>, AllocError>
     ensures { IfOk result (λ zeros. vec_len zeros ≡ len) }
 {
     vec![in alloc; 0u8; len]

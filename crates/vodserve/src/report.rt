@@ -1,7 +1,8 @@
 ghost use Rattle.std.specs.Prelude.{◌++◌, ℕ, List, Option};
 ghost use Rattle.vodserve.specs.Said.{IsSaid, number_text};
-ghost use Rattle.vodserve.specs.Report.{curve_fault_text, fault_text, trouble_text};
+ghost use Rattle.vodserve.specs.Report.{curve_fault_text, film_fault_text, fault_text, trouble_text};
 
+use mpeg_scan::FilmFault;
 use vod_base::Sink;
 use wire_curve::CurveFault;
 
@@ -16,6 +17,8 @@ pub enum Fault {
     Curves(CurveFault),
     /// The first line, from 1, at which the text is no certificate.
     BadCert(u64),
+    /// The film is refused.
+    Film(FilmFault),
 }
 
 /// Why the words weren't carried out, as the line on the error stream says it.
@@ -74,6 +77,41 @@ fn add_curve_fault<S: Sink>(sink: &mut S, going: bool, fault: CurveFault) -> boo
     }
 }
 
+/// Writes a name and the number that goes with it.
+fn add_named<S: Sink>(sink: &mut S, going: bool, name: &[u8], number: u64) -> bool
+    ensures { (faults : ℕ) → (told : Option (List ℕ)) → (text : List ℕ) → IsSaid faults (S.faults sink.old) told (S.written sink.old) text going → IsSaid faults (S.faults sink.new) told (S.written sink.new) (text ++ (name.now ++ number_text number)) result }
+{
+    let named = add(sink, going, name);
+    add_number(sink, named, number)
+}
+
+/// Writes the name of the film's refusal and its numbers.
+fn add_film_fault<S: Sink>(sink: &mut S, going: bool, fault: FilmFault) -> bool
+    ensures { (faults : ℕ) → (told : Option (List ℕ)) → (text : List ℕ) → IsSaid faults (S.faults sink.old) told (S.written sink.old) text going → IsSaid faults (S.faults sink.new) told (S.written sink.new) (text ++ film_fault_text fault) result }
+{
+    match fault {
+        FilmFault::Empty => add(sink, going, b"Empty"),
+        FilmFault::NoSequence => add(sink, going, b"NoSequence"),
+        FilmFault::SystemCode(place) => add_named(sink, going, b"SystemCode", place),
+        FilmFault::Mpeg2(place) => add_named(sink, going, b"Mpeg2", place),
+        FilmFault::ShortHeader(place) => add_named(sink, going, b"ShortHeader", place),
+        FilmFault::BadRate(place, code) => {
+            let named = add_named(sink, going, b"BadRate", place);
+            add_number(sink, named, u64::from(code))
+        }
+        FilmFault::BadType(place) => add_named(sink, going, b"BadType", place),
+        FilmFault::PictureWithoutSlices(place) => {
+            add_named(sink, going, b"PictureWithoutSlices", place)
+        }
+        FilmFault::HeadTooLong(place) => add_named(sink, going, b"HeadTooLong", place),
+        FilmFault::GroupTooLong(place) => add_named(sink, going, b"GroupTooLong", place),
+        FilmFault::TooLong => add(sink, going, b"TooLong"),
+        FilmFault::HeadWithoutPicture(place) => {
+            add_named(sink, going, b"HeadWithoutPicture", place)
+        }
+    }
+}
+
 /// Writes a refusal's name and its numbers.
 fn add_fault<S: Sink>(sink: &mut S, going: bool, fault: Fault) -> bool
     ensures { (faults : ℕ) → (told : Option (List ℕ)) → (text : List ℕ) → IsSaid faults (S.faults sink.old) told (S.written sink.old) text going → IsSaid faults (S.faults sink.new) told (S.written sink.new) (text ++ fault_text fault) result }
@@ -89,6 +127,7 @@ fn add_fault<S: Sink>(sink: &mut S, going: bool, fault: Fault) -> bool
             let named = add(sink, going, b"BadCert");
             add_number(sink, named, line)
         }
+        Fault::Film(fault) => add_film_fault(sink, going, fault),
     }
 }
 

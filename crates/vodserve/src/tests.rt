@@ -142,6 +142,9 @@ fn names_every_refusal(rt: HostRuntime) -> Result<(), Fail> {
         ("plan trace=.even", 2, "vodserve: usage\n"),
         ("plan trace", 2, "vodserve: usage\n"),
         ("check trace=fall", 2, "vodserve: usage\n"),
+        ("scan", 2, "vodserve: usage\n"),
+        ("scan film=a film=b", 2, "vodserve: usage\n"),
+        ("scan film=none", 3, "vodserve: none: NotFound\n"),
         ("make kind=song seed=1 pictures=1", 2, "vodserve: usage\n"),
         ("make kind=film seed=1 pictures=0", 2, "vodserve: usage\n"),
         ("--help plan", 2, "vodserve: usage\n"),
@@ -287,5 +290,125 @@ fn says_what_failed(rt: HostRuntime) -> Result<(), Fail> {
     let got = ran(alloc, "plan trace=none", &files, failing)?;
     assert_eq!(rt; got.status, 3);
     assert!(rt; got.err.is_empty());
+    Ok(())
+}
+
+/// The bytes of hexadecimal digits, blanks between them passed over.
+fn hex(alloc: Global, text: &str) -> Result<Vec<u8>, Fail> {
+    let mut bytes = Vec::new(alloc);
+    let mut high = None;
+    for digit in text.bytes() {
+        let value = match digit {
+            b'0'..=b'9' => digit - b'0',
+            b'a'..=b'f' => digit - b'a' + 10,
+            _ => continue,
+        };
+        match high {
+            None => high = Some(value),
+            Some(first) => {
+                bytes.push(16 * (first & 15) + (value & 15))?;
+                high = None;
+            }
+        }
+    }
+    Ok(bytes)
+}
+
+const SEQUENCE: &str = "000001b316012013ffffe0a0";
+
+const FIRST_PICTURE: &str = "000001b800080040 00000100000ffff8 000001011234";
+
+/// The output and the error line of `scan` on a film of these bytes.
+fn scanned(alloc: Global, film: Vec<u8>) -> Result<Outcome, Fail> {
+    let mut held = Vec::new(alloc);
+    held.push((String::from_str(alloc, "a.mpg")?, film))?;
+    let mut library = MemoryLibrary::new(held, Vec::new(alloc));
+    let mut out = sink(alloc, Vec::new(alloc))?;
+    let mut err = sink(alloc, Vec::new(alloc))?;
+    let mut words = Vec::new(alloc);
+    words.push(String::from_str(alloc, "scan")?)?;
+    words.push(String::from_str(alloc, "film=a.mpg")?)?;
+    let ended = run(alloc, &words, &mut library, &mut out, &mut err);
+    Ok(Outcome {
+        status: ended.status,
+        planned: ended.plan.is_some(),
+        out: Vec::from_slice(alloc, out.bytes())?,
+        err: Vec::from_slice(alloc, err.bytes())?,
+    })
+}
+
+#[test]
+fn scans_films(rt: HostRuntime) -> Result<(), Fail> {
+    let alloc = rt.alloc();
+    let first = "0 I show=0 from=0 head=28 to=34 slices=1 sequence group\n";
+    let second = "1 P show=1 from=34 head=43 to=49 slices=1\n";
+    let film = hex(alloc, &format!(in alloc; "{SEQUENCE}{FIRST_PICTURE}")?)?;
+    let got = scanned(alloc, film)?;
+    let want = format!(in alloc; "film bytes=34 rate=3 pictures=1\n{first}end\n")?;
+    assert_eq!(rt; got.out.as_slice(), want.as_bytes());
+    assert_eq!(rt; got.status, 0);
+    let film = hex(
+        alloc,
+        &format!(in alloc; "{SEQUENCE}{FIRST_PICTURE}000001000057fff880000001011234")?,
+    )?;
+    let got = scanned(alloc, film)?;
+    let want = format!(in alloc; "film bytes=49 rate=3 pictures=2\n{first}{second}end\n")?;
+    assert_eq!(rt; got.out.as_slice(), want.as_bytes());
+    assert_eq!(rt; got.status, 0);
+    Ok(())
+}
+
+#[test]
+fn names_a_film_s_refusal(rt: HostRuntime) -> Result<(), Fail> {
+    let alloc = rt.alloc();
+    let whole = format!(in alloc; "{SEQUENCE}{FIRST_PICTURE}")?;
+    let other = format!(in alloc; "{SEQUENCE}000001b5")?;
+    let system = format!(in alloc; "{SEQUENCE}000001ba")?;
+    for (film, front, err) in [
+        ("", 0, "vodserve: a.mpg: Empty\n"),
+        (
+            whole.as_str(),
+            28,
+            "vodserve: a.mpg: PictureWithoutSlices 20\n",
+        ),
+        (whole.as_str(), 26, "vodserve: a.mpg: ShortHeader 20\n"),
+        (
+            whole.as_str(),
+            12,
+            "vodserve: a.mpg: HeadWithoutPicture 0\n",
+        ),
+        (other.as_str(), 16, "vodserve: a.mpg: Mpeg2 12\n"),
+        (system.as_str(), 16, "vodserve: a.mpg: SystemCode 12\n"),
+        (
+            "000001b316012010ffffe0a0000001b8",
+            16,
+            "vodserve: a.mpg: BadRate 0 0\n",
+        ),
+        (FIRST_PICTURE, 22, "vodserve: a.mpg: NoSequence\n"),
+    ] {
+        let mut bytes = hex(alloc, film)?;
+        bytes.truncate(front);
+        let got = scanned(alloc, bytes)?;
+        assert_eq!(rt; got.err.as_slice(), err.as_bytes(), "at {film}");
+        assert_eq!(rt; got.status, 3, "at {film}");
+        assert!(rt; got.out.is_empty(), "at {film}");
+    }
+    Ok(())
+}
+
+#[test]
+fn scans_what_it_makes(rt: HostRuntime) -> Result<(), Fail> {
+    let alloc = rt.alloc();
+    let made = ran(
+        alloc,
+        "make kind=film seed=1 pictures=250",
+        &[],
+        no_failing(alloc),
+    )?;
+    let got = scanned(alloc, made.out)?;
+    assert_eq!(rt; got.status, 0);
+    assert!(rt;
+        got.out.as_slice().starts_with(b"film bytes=268101 rate=3 pictures=250\n0 I show=0 from=0 ")
+    );
     Ok(())
 }

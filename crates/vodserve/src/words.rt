@@ -3,7 +3,7 @@ ghost use Rattle.vodserve.specs.Ranges.{IsClientInRange, IsOrderInRange};
 ghost use Rattle.std.specs.List.{list_all};
 ghost use Rattle.std.specs.Option.{option_copied};
 ghost use Rattle.vod_base.specs.Numbers.{number_of};
-ghost use Rattle.vodserve.specs.Words.{texts, setting_value, given, one_name, within, one_number, number_or, one_kind, is_viewer_word, viewer_given, plan_wanted, check_wanted, make_wanted, alone, meaning};
+ghost use Rattle.vodserve.specs.Words.{texts, setting_value, given, one_name, within, one_number, number_or, one_kind, is_viewer_word, viewer_given, plan_wanted, check_wanted, make_wanted, scan_wanted, alone, meaning};
 ghost use Rattle.vodserve.specs.Orders.{viewer_of, made_of, wanted_of};
 ghost use Rattle.vodserve.specs.Given.{IsGiven};
 ghost use Rattle.vodserve.specs.Commands.{is_word_of};
@@ -23,6 +23,8 @@ pub enum Order<'a> {
     Check(Client<'a>, &'a str),
     /// `make`: a trace, film or system stream from a number.
     Make(Kind, u64, u32),
+    /// `scan`: the units of a film.
+    Scan(&'a str),
 }
 
 /// A trace and the client that it is planned for.
@@ -50,6 +52,7 @@ enum Command {
     Plan,
     Check,
     Make,
+    Scan,
 }
 
 /// How often words give a value to a key.
@@ -167,6 +170,7 @@ fn is_word_of(command: Command, word: &str) -> bool
         Command::Make => setting(word, "kind").is_some()
             || setting(word, "seed").is_some()
             || setting(word, "pictures").is_some(),
+        Command::Scan => setting(word, "film").is_some(),
     }
 }
 
@@ -231,6 +235,17 @@ fn make_wanted<'a>(words: &'a [String]) -> Option<Order<'a>>
     Some(Order::Make(kind, seed, pictures as u32))
 }
 
+fn scan_wanted<'a>(words: &'a [String]) -> Option<Order<'a>>
+    ensures order { option_map wanted_of result ≡ scan_wanted (texts words.entry.now) }
+    ensures range { IfSome result IsOrderInRange }
+{
+    if !are_words_of(Command::Scan, words) {
+        return None;
+    }
+    let film = one_name(words, "film")?;
+    Some(Order::Scan(film))
+}
+
 /// The order, where no word follows.
 fn alone<'a>(order: Order<'a>, rest: &[String]) -> Option<Order<'a>>
     requires { IsOrderInRange order }
@@ -265,6 +280,8 @@ pub fn read_words<'a>(words: &'a [String]) -> Option<Order<'a>>
         check_wanted(rest)
     } else if command == "make" {
         make_wanted(rest)
+    } else if command == "scan" {
+        scan_wanted(rest)
     } else {
         None
     }

@@ -24,3 +24,7 @@ pub returns-in-BadCert : goal.returns-in-BadCert
 returns-in-BadCert g c = λ faults told text said.
     said_as (append_assoc text (codes "BadCert") (number_text c.in-BadCert.line) ∙ ap (λ (f : Fault). text ++ fault_text f) (sym c.in-BadCert.is))
     (c.add_number-in-BadCert.ensures faults told (text ++ codes "BadCert") (c.add-named-in-BadCert.ensures faults told text said))
+
+pub returns-in-Film : goal.returns-in-Film
+returns-in-Film g c = λ faults told text said.
+    said_as (ap (λ (f : Fault). text ++ fault_text f) (sym c.in-Film.is)) (c.add_film_fault.ensures faults told text said)

@@ -1,0 +1,15 @@
+use Rattle.std.proofs.Common.{◌≡◌, None, Ok}
+use Rattle.vodserve.specs.Words.{scan_of}
+use Rattle.vodserve.specs.Carrying.{IsDone}
+use Rattle.vodserve.specs.Scanning.{HoldsFilm}
+use Rattle.vodserve.proofs.CommandLemmas.{ok_map, film_done}
+use Rattle.vodserve.proofs.commands.scan_film.Goals as goal
+
+pub returns-clause-done : goal.returns-clause-done
+returns-clause-done g c = λ held told.
+    let holds : HoldsFilm held c.args.film.now c.in-Ok.scanned.bytes c.in-Ok.scanned.rate c.deref.result.now =
+    rw c.deref.ensures.value ((c.in-Ok.ensures {u = tt}).film held told) in
+    ok_map (λ done. (done.status ≡ 0) × (c.scan_text.result ≡ Ok done.text) × (done.plan ≡ None))
+    (λ done. IsDone held (scan_of c.args.film.now) done.status done.text.items done.plan) c.finish.result
+    (film_done held c.args.film.now c.in-Ok.scanned.bytes c.in-Ok.scanned.rate c.deref.result.now holds c.scan_text.result c.scan_text.ensures)
+    c.finish.ensures.done
