@@ -1,0 +1,61 @@
+-- What a search of the head found, as the definitions say it.
+use Rattle.std.proofs.Common.{◌≡◌, ℕ, ◌+◌, ◌-◌, ◌<◌, ◌≤◌, List, Option, Some, None, length, take, refl, ap, arith, inl, true, MatchOption, slice_range}
+use Rattle.std.proofs.lemmas.List.{length-map, length-take, length-drop}
+use Rattle.vod_base.specs.Lines.{IsLine}
+use Rattle.interleave.specs.Heads.{empty_line_ends, HasNoHead, IsHead}
+use Rattle.interleave.specs.Lengths.{trimmed, written_length, IsLengthLine, IsWrittenAt, IsLongAt, IsBodyLength, IsLongBody}
+use Rattle.interleave.specs.Pieces.{IsRequestLength, IsBodyTooLong}
+
+-- the first empty line ends with the byte at `k`
+pub found_head : (w : List ℕ) (k : ℕ) → k < length w → empty_line_ends w k ≡ true → HasNoHead w k → IsHead w (k + 1)
+found_head w k h e none = record {
+  some = omega arith;
+  within = omega arith;
+  ends = let same : k + 1 - 1 ≡ k = omega arith in rw same e;
+  first = λ j below. none j (omega (arith, below));
+}
+
+-- a length that was read from the text at `at`
+pub read_value : (o : Option ℕ) (head text : List ℕ) (at text_end next : ℕ) → IsLine head at text_end next →
+    text ≡ trimmed (slice_range head at text_end) →
+    MatchOption o (65536 < written_length text) (λ n. (n ≤ 65536) × (n ≡ written_length text)) →
+    MatchOption o (IsLongAt head at) (λ n. (n ≤ 65536) × IsWrittenAt head at n)
+read_value None head text at text_end next line same h =
+    (written_length text, (h, inl (record { text_end = text_end; next = next; line = line; written = ap written_length same })))
+read_value (Some n) head text at text_end next line same h =
+    (h.0, inl (record { text_end = text_end; next = next; line = line; written = rw (← same) (h.1) }))
+
+-- a line of that name has all its bytes of the name
+pub name_within : (head : List ℕ) (at : ℕ) → IsLengthLine head at → at + 15 ≤ length head
+name_within head at h =
+    let e = simp (length-map, length-take, length-drop) at (ap length h.name) in omega (arith, e)
+
+-- the first line of that name gives the length of the body
+pub given_body : (o : Option ℕ) (head : List ℕ) (at : ℕ) → IsLengthLine head at → ((k : ℕ) → k < at → ¬ IsLengthLine head k) →
+    MatchOption o (IsLongAt head (at + 15)) (λ n. (n ≤ 65536) × IsWrittenAt head (at + 15) n) →
+    MatchOption o (IsLongBody head) (λ n. (n ≤ 65536) × IsBodyLength head n)
+given_body None head at line first h =
+    (h.0, (h.1.0, inl (record { at = at; is_line = line; first = first; value = h.1.1 })))
+given_body (Some n) head at line first h =
+    (h.0, inl (record { at = at; is_line = line; first = first; value = h.1 }))
+
+-- no line of that name begins anywhere
+pub no_line : (head : List ℕ) → ((k : ℕ) → k < length head → ¬ IsLengthLine head k) → (k : ℕ) → ¬ IsLengthLine head k
+no_line head none k = λ h. none k (omega (arith, name_within head k h)) h
+
+-- a request with a head and a body has their length
+pub whole_length : (w : List ℕ) (head body : ℕ) → IsHead w head → head ≤ 16384 → IsBodyLength (take head w) body → body ≤ 65536 → IsRequestLength w (head + body)
+whole_length w head body is_head fits is_body small = record {
+  head = head;
+  body = body;
+  is_head = is_head;
+  fits = fits;
+  is_body = is_body;
+  small = small;
+  total_is = refl;
+}
+
+pub long_body : (w : List ℕ) (head : ℕ) → IsHead w head → head ≤ 16384 → IsLongBody (take head w) → IsBodyTooLong w
+long_body w head is_head fits long = record { head = head; is_head = is_head; fits = fits; long = long }
+
+pub ruleset request_steps = (whole_length, long_body)

@@ -1,0 +1,73 @@
+-- What is known of the waiting bytes stays true as more bytes come.
+use Rattle.std.proofs.Common.{◌≡◌, ℕ, ◌-◌, ◌<◌, ◌≤◌, ◌++◌, List, length, take, drop, refl, sym, ◌∙◌, subst, arith}
+use Rattle.std.proofs.lemmas.List.{get_or_append_left, drop-append-le, take-append-le, take_all, length-append, length-drop}
+use Rattle.interleave.specs.Heads.{empty_line_ends, HasNoHead, IsHead}
+use Rattle.interleave.specs.Lengths.{IsBodyLength, IsLongBody}
+use Rattle.interleave.specs.Pieces.{IsRequestLength, IsBodyTooLong}
+use Rattle.interleave.specs.Known.{IsKnown, IsSettled}
+use Rattle.interleave.specs.declared.requests.Known.{Known}
+use Rattle.interleave.specs.declared.requests.Known.TheVariants.{Searched, Length}
+
+-- an empty line ends at the same places
+pub empty_line_ends-append : (w v : List ℕ) (k : ℕ) → k < length w → empty_line_ends (w ++ v) k ≡ empty_line_ends w k
+empty_line_ends-append w v k h =
+    rw (get_or_append_left w v 0 k h, get_or_append_left w v 0 (k - 1) (omega arith), get_or_append_left w v 0 (k - 2) (omega arith)) refl
+
+pub HasNoHead-append : (w v : List ℕ) (n : ℕ) → n ≤ length w → HasNoHead w n → HasNoHead (w ++ v) n
+HasNoHead-append w v n within none = λ k h. empty_line_ends-append w v k (omega arith) ∙ none k h
+
+pub IsHead-append : (w v : List ℕ) (head : ℕ) → IsHead w head → IsHead (w ++ v) head
+IsHead-append w v head h = record {
+  some = h.some;
+  within = omega (arith, length-append w v, h.within);
+  ends = empty_line_ends-append w v (head - 1) (omega (arith, h.some, h.within)) ∙ h.ends;
+  first = λ k below. empty_line_ends-append w v k (omega (arith, h.within)) ∙ h.first k below;
+}
+
+-- a head's bytes stay
+pub front_stays : (w v : List ℕ) (head : ℕ) → IsHead w head → take head (w ++ v) ≡ take head w
+front_stays w v head h = take-append-le head w v h.within
+
+pub IsRequestLength-append : (w v : List ℕ) (total : ℕ) → IsRequestLength w total → IsRequestLength (w ++ v) total
+IsRequestLength-append w v total r =
+    let P : List ℕ → Type 0 = λ l. IsBodyLength l r.body in
+    record {
+      head = r.head;
+      body = r.body;
+      is_head = IsHead-append w v r.head r.is_head;
+      fits = r.fits;
+      is_body = subst P (sym (front_stays w v r.head r.is_head)) r.is_body;
+      small = r.small;
+      total_is = r.total_is;
+    }
+
+pub IsBodyTooLong-append : (w v : List ℕ) → IsBodyTooLong w → IsBodyTooLong (w ++ v)
+IsBodyTooLong-append w v r =
+    record {
+      head = r.head;
+      is_head = IsHead-append w v r.head r.is_head;
+      fits = r.fits;
+      long = subst IsLongBody (sym (front_stays w v r.head r.is_head)) r.long;
+    }
+
+pub IsKnown-append : (w v : List ℕ) (known : Known) → IsKnown w known → IsKnown (w ++ v) known
+IsKnown-append w v (Searched to) h = (omega (arith, length-append w v, h.0), h.1, HasNoHead-append w v to h.0 h.2)
+IsKnown-append w v (Length total) h = IsRequestLength-append w v total h
+
+-- the same, where the bytes are kept behind others and were moved before more came
+pub kept_known : (items old more : List ℕ) (start from : ℕ) (known : Known) →
+    start ≤ length items → drop start items ≡ drop from old → IsKnown (drop from old) known → IsKnown (drop start (items ++ more)) known
+kept_known items old more start from known within same h =
+    let P : List ℕ → Type 0 = λ l. IsKnown l known in
+    rw (drop-append-le start items more within) (IsKnown-append (drop start items) more known (subst P (sym same) h))
+
+-- what is settled is known
+pub settled_known : (w : List ℕ) (known : Known) → IsSettled w known → IsKnown w known
+settled_known w (Searched to) h = (omega (arith, h.0), omega (arith, h.1), h.2)
+settled_known w (Length total) h = h
+
+-- the same of the bytes that are kept behind others
+pub settled_rest : (items : List ℕ) (start : ℕ) (known : Known) → IsSettled (take (length items - start) (drop start items)) known → IsKnown (drop start items) known
+settled_rest items start known h =
+    let whole : take (length items - start) (drop start items) ≡ drop start items = take_all (length items - start) (drop start items) (omega (arith, length-drop start items)) in
+    settled_known (drop start items) known (rw whole at h)

@@ -1,0 +1,5 @@
+pub mod Heads
+pub mod Lengths
+pub mod Pieces
+pub mod Known
+pub mod Buffer

@@ -1,0 +1,168 @@
+ghost use Rattle.std.specs.Prelude.{◌≡◌, ◌+◌, ◌-◌, ◌*◌, ◌<◌, ◌≤◌, ◌++◌, [], length, drop, nat_lt, slice_index, if◌then◌else◌, vec_capacity, IfOk, MatchResult, is_err, Ok, Err};
+ghost use Rattle.interleave.specs.Pieces.{IsFirst, AreLineEnds, StartsBlock, StartsRequest, block_length};
+ghost use Rattle.interleave.specs.Heads.{is_line_end};
+
+use crate::pieces::{DemuxFault, Step, is_line_end};
+use crate::requests::{Known, learn, request_step};
+use std::alloc::Global;
+use std::marker::Model;
+use vod_base::NoMemory;
+
+/// More than 131,072 bytes would wait.
+#[derive(Clone, Copy, Debug, PartialEq, Eq)]
+pub struct TooMuchInput;
+
+/// The bytes of a connection that wait, and the first piece of them (RFC 2326 sections 4, 6 and 10.12).
+///
+/// Contracts see the list of the waiting bytes.
+#[derive(Debug, Drop)]
+pub struct Demux {
+    bytes: Vec<u8>,
+    start: usize,
+    known: Known,
+}
+
+/// The most bytes that wait.
+const ROOM: usize = 131_072;
+
+impl Model for Demux {
+    ghost use Rattle.std.specs.Prelude.{ℕ, List, drop};
+
+    ghost Value = { List ℕ };
+
+    ghost use Rattle.interleave.specs.Buffer.{IsBuffer};
+
+    ghost view = { λ d. drop d.start d.bytes.items };
+
+    ghost invariant = { IsBuffer };
+}
+
+/// How many bytes CR and LF stand in front.
+fn line_ends(bytes: &[u8]) -> usize
+    ensures { AreLineEnds bytes.now result }
+{
+    for (place, byte) in bytes.iter().enumerate() {
+        if !is_line_end(*byte) {
+            return place;
+        }
+    }
+    bytes.len()
+}
+
+/// The block in front, where it is whole.
+fn block_step(bytes: &[u8]) -> Step
+    requires { StartsBlock bytes.now }
+    ensures { IsFirst bytes.now (Ok result) }
+{
+    if bytes.len() < 4 {
+        return Step::More;
+    }
+    let length = 4 + usize::from(bytes[2]) * 256 + usize::from(bytes[3]);
+    if length <= bytes.len() {
+        Step::Block(bytes[1], length)
+    } else {
+        Step::More
+    }
+}
+
+/// Moves what stands from `start` on to the front, and leaves nothing else.
+fn move_to_front(bytes: &mut Vec<u8>, start: usize)
+    requires { start ≤ length bytes.old.items }
+    ensures items { bytes.new.items ≡ drop start bytes.old.items }
+    ensures capacity { vec_capacity bytes.new ≡ vec_capacity bytes.old }
+{
+    let left = bytes.len() - start;
+    bytes.copy_within(start.., 0);
+    bytes.truncate(left);
+}
+
+/// Makes room for more bytes, and answers where those that wait begin now.
+fn make_room(bytes: &mut Vec<u8>, start: usize, more: usize) -> usize
+    requires start { start ≤ length bytes.old.items }
+    requires most { length bytes.old.items ≤ 131072 }
+    requires fits { length bytes.old.items + more ≤ 131072 + start }
+    ensures waiting { drop result bytes.new.items ≡ drop start bytes.old.items }
+    ensures start { result ≤ length bytes.new.items }
+    ensures room { length bytes.new.items + more ≤ 131072 }
+    ensures capacity { vec_capacity bytes.new ≡ vec_capacity bytes.old }
+{
+    if more <= ROOM - bytes.len() {
+        return start;
+    }
+    move_to_front(bytes, start);
+    0
+}
+
+impl Demux {
+    /// Reserves room for 131,072 bytes; no other call takes memory.
+    pub fn new(alloc: Global) -> Result<Demux, NoMemory>
+        ensures { IfOk result (λ demux. demux ≡ []) }
+    {
+        match Vec::with_capacity(alloc, ROOM) {
+            Ok(bytes) => Ok(Demux {
+                bytes,
+                start: 0,
+                known: Known::Searched(0),
+            }),
+            Err(_) => Err(NoMemory),
+        }
+    }
+
+    /// The bytes that wait.
+    pub fn waiting(&self) -> &[u8]
+        ensures { result.now ≡ self.now }
+    {
+        &self.bytes[self.start..]
+    }
+
+    /// Appends bytes, or changes nothing where more than 131,072 would wait.
+    pub fn put(&mut self, bytes: &[u8]) -> Result<(), TooMuchInput>
+        ensures fault { is_err result ≡ nat_lt 131072 (length self.old + length bytes.now) }
+        ensures waiting { self.new ≡ (if is_err result then self.old else self.old ++ bytes.now) }
+    {
+        let waiting = self.bytes.len() - self.start;
+        if bytes.len() > ROOM - waiting {
+            return Err(TooMuchInput);
+        }
+        self.start = make_room(&mut self.bytes, self.start, bytes.len());
+        match self.bytes.extend_from_slice(bytes) {
+            Ok(()) => Ok(()),
+            Err(_) => unreachable!(),
+        }
+    }
+
+    /// What stands in front of the waiting bytes, which stay.
+    ///
+    /// The answer follows from the waiting bytes alone. What was read of a request is remembered, so that
+    /// a call reads on where the last one ended.
+    pub fn look(&mut self) -> Result<Step, DemuxFault>
+        ensures waiting { self.new ≡ self.old }
+        ensures first { IsFirst self.old result }
+    {
+        let waiting = &self.bytes[self.start..];
+        let Some(front) = waiting.first() else {
+            return Ok(Step::More);
+        };
+        if is_line_end(*front) {
+            return Ok(Step::Skip(line_ends(waiting)));
+        }
+        if *front == b'$' {
+            return Ok(block_step(waiting));
+        }
+        let known = learn(waiting, self.known)?;
+        let step = request_step(waiting, known);
+        self.known = known;
+        Ok(step)
+    }
+
+    /// Drops the first `count` waiting bytes.
+    pub fn drop_front(&mut self, count: usize)
+        requires { count ≤ length self.old }
+        ensures { self.new ≡ drop count self.old }
+    {
+        self.start += count;
+        if count > 0 {
+            self.known = Known::Searched(0);
+        }
+    }
+}

@@ -1,0 +1,77 @@
+ghost use Rattle.std.specs.Prelude.{◌≡◌, ◌<◌, ◌≤◌, ◌↔◌, IsTrue, length, MatchOption, reverse};
+ghost use Rattle.interleave.specs.Lengths.{without_front_blanks, trimmed, written_length, IsLengthLine, IsWrittenAt, IsLongAt, IsBodyLength, IsLongBody};
+
+use vod_base::{NumberFault, line_end, read_number};
+
+/// The name of the header field, with the colon behind it.
+const CONTENT_LENGTH: &[u8; 15] = b"Content-Length:";
+
+/// The most bytes of a body.
+const LONGEST_BODY: u64 = 65_536;
+
+/// The text without the blanks in front.
+fn front_trimmed(text: &[u8]) -> &[u8]
+    ensures { result.now ≡ without_front_blanks text.now }
+{
+    let mut rest = text;
+    while let [b' ' | b'\t', behind @ ..] = rest {
+        rest = behind;
+    }
+    rest
+}
+
+/// The text without the blanks at its end.
+fn back_trimmed(text: &[u8]) -> &[u8]
+    ensures { result.now ≡ reverse (without_front_blanks (reverse text.now)) }
+{
+    let mut rest = text;
+    while let [before @ .., b' ' | b'\t'] = rest {
+        rest = before;
+    }
+    rest
+}
+
+/// The length that a value writes, or None where it is above 65,536.
+fn length_of_value(value: &[u8]) -> Option<usize>
+    ensures { MatchOption result (65536 < written_length value.now) (λ n. (n ≤ 65536) × (n ≡ written_length value.now)) }
+{
+    match read_number(value) {
+        Ok(length) if length <= LONGEST_BODY => Some(length as usize),
+        Ok(_) | Err(NumberFault::TooLarge) => None,
+        Err(_) => Some(0),
+    }
+}
+
+/// Whether a header line of that name begins at `at`.
+fn is_length_line(head: &[u8], at: usize) -> bool
+    requires { at ≤ length head.now }
+    ensures { IsTrue result ↔ IsLengthLine head.now at }
+{
+    at > 0
+        && head[at - 1] == b'\n'
+        && head.len() - at >= CONTENT_LENGTH.len()
+        && head[at..at + CONTENT_LENGTH.len()].eq_ignore_ascii_case(CONTENT_LENGTH)
+}
+
+/// The length that stands at `at`, behind the name, or None where it is above 65,536.
+fn length_at(head: &[u8], at: usize) -> Option<usize>
+    requires { at ≤ length head.now }
+    ensures { MatchOption result (IsLongAt head.now at) (λ n. (n ≤ 65536) × IsWrittenAt head.now at n) }
+{
+    match line_end(head, at) {
+        Some(line) => length_of_value(back_trimmed(front_trimmed(&head[at..line.text_end]))),
+        None => Some(0),
+    }
+}
+
+/// The length of the body of a message with this head, or None where it is above 65,536.
+pub(crate) fn body_length(head: &[u8]) -> Option<usize>
+    ensures { MatchOption result (IsLongBody head.now) (λ n. (n ≤ 65536) × IsBodyLength head.now n) }
+{
+    for at in 0..head.len() {
+        if is_length_line(head, at) {
+            return length_at(head, at + CONTENT_LENGTH.len());
+        }
+    }
+    Some(0)
+}

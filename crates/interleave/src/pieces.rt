@@ -1,0 +1,39 @@
+ghost use Rattle.std.specs.Prelude.{◌≡◌, ◌/◌, ◌%◌, [], ◌∷◌};
+ghost use Rattle.interleave.specs.Heads.{is_line_end};
+
+/// What stands in front of the waiting bytes.
+#[derive(Clone, Copy, Debug, PartialEq, Eq)]
+pub enum Step {
+    /// A whole request of this many bytes, head and body.
+    Request(usize),
+    /// A whole interleaved block on this channel, of this many bytes with its head of four.
+    Block(u8, usize),
+    /// This many bytes CR or LF, all that wait before the next piece.
+    Skip(usize),
+    /// No whole piece, and no fault.
+    More,
+}
+
+/// Why the waiting bytes can't begin a request.
+#[derive(Clone, Copy, Debug, PartialEq, Eq)]
+pub enum DemuxFault {
+    /// The first 16,384 bytes of a request have no empty line.
+    HeadTooLong,
+    /// The first Content-Length of a request is all digits and above 65,536.
+    BodyTooLong,
+}
+
+/// The head of an interleaved block (RFC 2326 section 10.12): `$`, the channel, and the number of the
+/// bytes that follow, the high byte first.
+pub fn frame_head(channel: u8, length: u16) -> [u8; 4]
+    ensures { result ≡ 36 ∷ channel ∷ (length / 256) ∷ (length % 256) ∷ [] }
+{
+    [b'$', channel, (length / 256) as u8, (length % 256) as u8]
+}
+
+/// Whether the byte is CR or LF.
+pub(crate) fn is_line_end(byte: u8) -> bool
+    ensures { result ≡ is_line_end byte }
+{
+    byte == b'\r' || byte == b'\n'
+}

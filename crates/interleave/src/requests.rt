@@ -1,0 +1,94 @@
+ghost use Rattle.std.specs.Prelude.{◌≡◌, ◌+◌, ◌<◌, ◌≤◌, true, false, ℕ, length, MatchOption, MatchResult, Ok, Err};
+ghost use Rattle.interleave.specs.declared.pieces.DemuxFault.{DemuxFault};
+ghost use Rattle.interleave.specs.Heads.{empty_line_ends, HasNoHead, IsHead};
+ghost use Rattle.interleave.specs.Pieces.{IsFirst, StartsRequest};
+ghost use Rattle.interleave.specs.Known.{IsKnown, IsSettled};
+
+use crate::lengths::body_length;
+use crate::pieces::{DemuxFault, Step};
+
+/// What is kept about the request in front of the waiting bytes.
+#[derive(Clone, Copy, Debug, PartialEq, Eq)]
+pub(crate) enum Known {
+    /// No empty line ends among this many bytes.
+    Searched(usize),
+    /// The request has this length, head and body.
+    Length(usize),
+}
+
+/// The most bytes of a head, with its empty line.
+const LONGEST_HEAD: usize = 16_384;
+
+/// Whether an empty line ends with the byte at `at`.
+fn empty_line_ends(bytes: &[u8], at: usize) -> bool
+    requires { at < length bytes.now }
+    ensures { result ≡ empty_line_ends bytes.now at }
+{
+    bytes[at] == b'\n'
+        && ((at > 0 && bytes[at - 1] == b'\n')
+            || (at > 1 && bytes[at - 1] == b'\r' && bytes[at - 2] == b'\n'))
+}
+
+/// The head's length, where an empty line ends before `to`; none ends before `from`.
+fn find_head(bytes: &[u8], from: usize, to: usize) -> Option<usize>
+    requires order { from ≤ to }
+    requires within { to ≤ length bytes.now }
+    requires searched { HasNoHead bytes.now from }
+    ensures { MatchOption result (HasNoHead bytes.now to) (λ head. (head ≤ to) × IsHead bytes.now head) }
+{
+    for at in from..to {
+        if empty_line_ends(bytes, at) {
+            return Some(at + 1);
+        }
+    }
+    None
+}
+
+/// The length of the request with this head in front.
+#[tactic(auto, using(crate::proofs::Found::request_steps))]
+fn length_with_head(bytes: &[u8], head: usize) -> Result<Known, DemuxFault>
+    requires request { StartsRequest bytes.now }
+    requires is_head { IsHead bytes.now head }
+    requires fits { head ≤ 16384 }
+    ensures { MatchResult result (IsSettled bytes.now) (λ f. IsFirst bytes.now (Err f)) }
+{
+    match body_length(&bytes[..head]) {
+        Some(body) => Ok(Known::Length(head + body)),
+        None => Err(DemuxFault::BodyTooLong),
+    }
+}
+
+/// Learns what the waiting bytes tell of the request in front.
+pub(crate) fn learn(bytes: &[u8], known: Known) -> Result<Known, DemuxFault>
+    requires request { StartsRequest bytes.now }
+    requires known { IsKnown bytes.now known }
+    ensures { MatchResult result (IsSettled bytes.now) (λ f. IsFirst bytes.now (Err f)) }
+{
+    let Known::Searched(from) = known else {
+        return Ok(known);
+    };
+    let to = bytes.len().min(LONGEST_HEAD);
+    match find_head(bytes, from, to) {
+        Some(head) => length_with_head(bytes, head),
+        None if to == LONGEST_HEAD => Err(DemuxFault::HeadTooLong),
+        None => Ok(Known::Searched(to)),
+    }
+}
+
+/// The step that all that can be known of the request in front leads to.
+pub(crate) fn request_step(bytes: &[u8], known: Known) -> Step
+    requires request { StartsRequest bytes.now }
+    requires known { IsSettled bytes.now known }
+    ensures { IsFirst bytes.now (Ok result) }
+{
+    match known {
+        Known::Length(total) => {
+            if total <= bytes.len() {
+                Step::Request(total)
+            } else {
+                Step::More
+            }
+        }
+        Known::Searched(_) => Step::More,
+    }
+}
