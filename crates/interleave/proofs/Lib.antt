@@ -2,4 +2,5 @@ pub mod Cuts
 pub mod Found
 pub mod More
 pub mod Skips
+pub mod Streams
 pub mod Unique

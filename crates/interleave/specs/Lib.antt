@@ -3,3 +3,4 @@ pub mod Lengths
 pub mod Pieces
 pub mod Known
 pub mod Buffer
+pub mod Streams

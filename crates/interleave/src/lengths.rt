@@ -31,6 +31,13 @@ fn back_trimmed(text: &[u8]) -> &[u8]
     rest
 }
 
+/// The text without the blanks (spaces and tabs) around it.
+pub fn trimmed(text: &[u8]) -> &[u8]
+    ensures { result.now ≡ trimmed text.now }
+{
+    back_trimmed(front_trimmed(text))
+}
+
 /// The length that a value writes, or None where it is above 65,536.
 fn length_of_value(value: &[u8]) -> Option<usize>
     ensures { MatchOption result (65536 < written_length value.now) (λ n. (n ≤ 65536) × (n ≡ written_length value.now)) }
@@ -59,7 +66,7 @@ fn length_at(head: &[u8], at: usize) -> Option<usize>
     ensures { MatchOption result (IsLongAt head.now at) (λ n. (n ≤ 65536) × IsWrittenAt head.now at n) }
 {
     match line_end(head, at) {
-        Some(line) => length_of_value(back_trimmed(front_trimmed(&head[at..line.text_end]))),
+        Some(line) => length_of_value(trimmed(&head[at..line.text_end])),
         None => Some(0),
     }
 }

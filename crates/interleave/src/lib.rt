@@ -9,7 +9,10 @@ mod pieces;
 mod requests;
 
 pub use demux::{Demux, TooMuchInput};
-pub use laws::{law_cutting, law_one_answer, law_skipping};
+pub use laws::{
+    law_cutting, law_next_pieces, law_one_answer, law_one_stream, law_skipping, law_stream_grows,
+};
+pub use lengths::trimmed;
 pub use pieces::{DemuxFault, Step, frame_head};
 
 #[cfg(test)]

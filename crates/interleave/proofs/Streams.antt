@@ -1,0 +1,124 @@
+-- The pieces of a stream, however its bytes come.
+use Rattle.std.proofs.Common.{◌≡◌, ℕ, zero, suc, ◌<◌, ◌≤◌, List, [], ◌∷◌, ◌++◌, Result, Ok, Err, length, take, drop, map, get_or, refl, sym, ◌∙◌, ap, subst, arith, inl, inr, true, false}
+use Rattle.std.proofs.lemmas.List.{take-append-le, drop-append-le, get_or_append_left, length-append, append_assoc, append-nil}
+use Rattle.interleave.specs.Heads.{is_line_end}
+use Rattle.interleave.specs.Pieces.{StartsBlock, IsFirst}
+use Rattle.interleave.specs.Streams.{IsPieceLength, LineEnd, WholeBlock, WholeRequest, AreCut, IsStream, told_pieces, told_length, TellsNone}
+use Rattle.interleave.specs.declared.pieces.Step.{Step}
+use Rattle.interleave.specs.declared.pieces.Step.TheVariants.{Request, Block, Skip, More}
+use Rattle.interleave.specs.declared.pieces.DemuxFault.{DemuxFault}
+use Rattle.interleave.specs.declared.pieces.DemuxFault.TheVariants.{HeadTooLong, BodyTooLong}
+use Rattle.interleave.proofs.Cuts.{StartsBlock-append, StartsRequest-append, block_length-append}
+use Rattle.interleave.proofs.More.{IsRequestLength-append}
+use Rattle.interleave.proofs.Unique.{not_both, total_once, clash_block_request, clash_head, not_long, more_block, more_request}
+
+pub piece_within : (w : List ℕ) (n : ℕ) → IsPieceLength w n → n ≤ length w
+piece_within w n (LineEnd one some end) = omega (arith, one, some)
+piece_within w n (WholeBlock starts four size inside) = inside
+piece_within w n (WholeRequest starts size inside) = inside
+
+-- a whole piece stays in front as more bytes come
+pub piece_stays : (w v : List ℕ) (n : ℕ) → IsPieceLength w n → IsPieceLength (w ++ v) n
+piece_stays w v n (LineEnd one some end) = LineEnd one (omega (arith, length-append w v, some)) (rw (get_or_append_left w v 0 0 some) end)
+piece_stays w v n (WholeBlock starts four size inside) =
+    WholeBlock (StartsBlock-append w v starts) (omega (arith, length-append w v, four)) (rw (block_length-append w v four) size) (omega (arith, length-append w v, inside))
+piece_stays w v n (WholeRequest starts size inside) =
+    WholeRequest (StartsRequest-append w v starts) (IsRequestLength-append w v n size) (omega (arith, length-append w v, inside))
+
+no_line_block : (w : List ℕ) → is_line_end (get_or w 0 0) ≡ true → StartsBlock w → ⊥
+no_line_block w end b = let other : is_line_end (get_or w 0 0) ≡ false = rw b.1 refl in not_both (is_line_end (get_or w 0 0)) end other
+
+-- a whole piece has one length
+pub piece_once : (w : List ℕ) (a b : ℕ) → IsPieceLength w a → IsPieceLength w b → a ≡ b
+piece_once w a b (LineEnd one some end) (LineEnd one' some' end') = one ∙ sym one'
+piece_once w a b (LineEnd one some end) (WholeBlock starts four size inside) = absurd (no_line_block w end starts)
+piece_once w a b (LineEnd one some end) (WholeRequest starts size inside) = absurd (not_both (is_line_end (get_or w 0 0)) end starts.1)
+piece_once w a b (WholeBlock starts four size inside) (LineEnd one some end) = absurd (no_line_block w end starts)
+piece_once w a b (WholeBlock starts four size inside) (WholeBlock starts' four' size' inside') = size ∙ sym size'
+piece_once w a b (WholeBlock starts four size inside) (WholeRequest starts' size' inside') = absurd (clash_block_request w starts starts')
+piece_once w a b (WholeRequest starts size inside) (LineEnd one some end) = absurd (not_both (is_line_end (get_or w 0 0)) end starts.1)
+piece_once w a b (WholeRequest starts size inside) (WholeBlock starts' four' size' inside') = absurd (clash_block_request w starts' starts)
+piece_once w a b (WholeRequest starts size inside) (WholeRequest starts' size' inside') = total_once w a b size size'
+
+-- the pieces stay, and the rest grows
+pub cut_grows : (w v : List ℕ) (pieces : List (List ℕ)) (rest : List ℕ) → AreCut w pieces rest → AreCut (w ++ v) pieces (rest ++ v)
+cut_grows w v [] rest same = ap (λ (xs : List ℕ). xs ++ v) same
+cut_grows w v (piece ∷ pieces) rest (n, cut) =
+    let inside : n ≤ length w = piece_within w n cut.0 in
+    let front : take n (w ++ v) ≡ take n w = take-append-le n w v inside in
+    let behind : drop n (w ++ v) ≡ drop n w ++ v = drop-append-le n w v inside in
+    let P : List ℕ → Type 0 = λ xs. AreCut xs pieces (rest ++ v) in
+    (n, (piece_stays w v n cut.0, cut.1 ∙ sym front, subst P (sym behind) (cut_grows (drop n w) v pieces rest cut.2)))
+
+-- one piece more
+pub cut_more : (w : List ℕ) (pieces : List (List ℕ)) (rest : List ℕ) (n : ℕ) → AreCut w pieces rest → IsPieceLength rest n →
+    AreCut w (pieces ++ take n rest ∷ []) (drop n rest)
+cut_more w [] rest n same piece =
+    let P : List ℕ → Type 0 = λ xs. AreCut xs (take n rest ∷ []) (drop n rest) in subst P (sym same) (n, (piece, refl, refl))
+cut_more w (first ∷ pieces) rest n (m, cut) piece = (m, (cut.0, cut.1, cut_more (drop m w) pieces rest n cut.2 piece))
+
+-- the pieces and the rest of all bytes are the only ones
+pub stream_once : (w : List ℕ) (ps qs : List (List ℕ)) (r t : List ℕ) → IsStream w ps r → IsStream w qs t → (ps ≡ qs) × (r ≡ t)
+stream_once w [] [] r t x y = (refl, sym x.0 ∙ y.0)
+stream_once w [] (q ∷ qs) r t x (cut, none) =
+    let P : List ℕ → Type 0 = λ xs. IsPieceLength xs cut.0 in absurd (x.1 cut.0 (subst P x.0 cut.1.0))
+stream_once w (p ∷ ps) [] r t (cut, none) y =
+    let P : List ℕ → Type 0 = λ xs. IsPieceLength xs cut.0 in absurd (y.1 cut.0 (subst P y.0 cut.1.0))
+stream_once w (p ∷ ps) (q ∷ qs) r t ((n, cut), none) ((m, cut'), none') =
+    let same : n ≡ m = piece_once w n m cut.0 cut'.0 in
+    let P : ℕ → Type 0 = λ k. AreCut (drop k w) ps r in
+    let rest = stream_once (drop m w) ps qs r t (subst P same cut.2, none) (cut'.2, none') in
+    let first : p ≡ q = cut.1 ∙ ap (λ k. take k w) same ∙ sym cut'.1 in
+    (ap (λ (x : List ℕ). x ∷ ps) first ∙ ap (λ (xs : List (List ℕ)). q ∷ xs) rest.0, rest.1)
+
+-- each byte CR or LF in front is a piece
+skips : (w : List ℕ) (ps : List (List ℕ)) (rest : List ℕ) (n : ℕ) → AreCut w ps rest → n ≤ length rest →
+    ((k : ℕ) → k < n → is_line_end (get_or rest k 0) ≡ true) → AreCut w (ps ++ map (λ c. c ∷ []) (take n rest)) (drop n rest)
+skips w ps rest zero cut h all =
+    let P : List (List ℕ) → Type 0 = λ xs. AreCut w xs rest in subst P (sym (append-nil ps)) cut
+skips w ps [] (suc n) cut h all = let bad : ⊥ = omega (arith, h) in absurd bad
+skips w ps (c ∷ cs) (suc n) cut h all =
+    let next : AreCut w (ps ++ (c ∷ []) ∷ []) cs = cut_more w ps (c ∷ cs) 1 cut (LineEnd refl (omega arith) (all 0 (omega arith))) in
+    let more = skips w (ps ++ (c ∷ []) ∷ []) cs n next (omega (arith, h)) (λ k below. all (suc k) (omega (arith, below))) in
+    let P : List (List ℕ) → Type 0 = λ xs. AreCut w xs (drop n cs) in
+    subst P (append_assoc ps ((c ∷ []) ∷ []) (map (λ x. x ∷ []) (take n cs))) more
+
+no_more : (w : List ℕ) (ps : List (List ℕ)) (rest : List ℕ) → AreCut w ps rest → AreCut w (ps ++ []) (drop 0 rest)
+no_more w ps rest cut = let P : List (List ℕ) → Type 0 = λ xs. AreCut w xs rest in subst P (sym (append-nil ps)) cut
+
+-- what an answer tells are the next pieces
+pub next_pieces : (rest : List ℕ) (answer : Result Step DemuxFault) → IsFirst rest answer → (w : List ℕ) (ps : List (List ℕ)) → AreCut w ps rest →
+    AreCut w (ps ++ told_pieces rest answer) (drop (told_length answer) rest)
+next_pieces rest (Ok (Skip n)) h w ps cut = skips w ps rest n cut h.1.within h.1.line_ends
+next_pieces rest (Ok (Block channel n)) h w ps cut = cut_more w ps rest n cut (WholeBlock h.0 h.1 h.3 h.4)
+next_pieces rest (Ok (Request n)) h w ps cut = cut_more w ps rest n cut (WholeRequest h.0 h.1 h.2)
+next_pieces rest (Ok More) h w ps cut = no_more w ps rest cut
+next_pieces rest (Err fault) h w ps cut = no_more w ps rest cut
+
+no_line_end : (w : List ℕ) → 0 < length w → is_line_end (get_or w 0 0) ≡ true → IsFirst w (Ok More) → ⊥
+no_line_end w some end (inl e) = omega (arith, some, e)
+no_line_end w some end (inr (inl b)) = no_line_block w end b.0
+no_line_end w some end (inr (inr r)) = not_both (is_line_end (get_or w 0 0)) end r.0.1
+
+none_waits : (w : List ℕ) → IsFirst w (Ok More) → (n : ℕ) → IsPieceLength w n → ⊥
+none_waits w h n (LineEnd one some end) = no_line_end w some end h
+none_waits w h n (WholeBlock starts four size inside) = more_block w (get_or w 1 0) n (starts, four, refl, size, inside) h
+none_waits w h n (WholeRequest starts size inside) = more_request w n (starts, size, inside) h
+
+none_headless : (w : List ℕ) → IsFirst w (Err HeadTooLong) → (n : ℕ) → IsPieceLength w n → ⊥
+none_headless w h n (LineEnd one some end) = not_both (is_line_end (get_or w 0 0)) end h.0.1
+none_headless w h n (WholeBlock starts four size inside) = clash_block_request w starts h.0
+none_headless w h n (WholeRequest starts size inside) = clash_head w size.head size.is_head size.fits h.2
+
+none_long : (w : List ℕ) → IsFirst w (Err BodyTooLong) → (n : ℕ) → IsPieceLength w n → ⊥
+none_long w h n (LineEnd one some end) = not_both (is_line_end (get_or w 0 0)) end h.0.1
+none_long w h n (WholeBlock starts four size inside) = clash_block_request w starts h.0
+none_long w h n (WholeRequest starts size inside) = not_long w n size h.1
+
+pub tells_none : (w : List ℕ) (answer : Result Step DemuxFault) → IsFirst w answer → TellsNone w answer
+tells_none w (Ok (Skip n)) h = tt
+tells_none w (Ok (Block channel n)) h = tt
+tells_none w (Ok (Request n)) h = tt
+tells_none w (Ok More) h = none_waits w h
+tells_none w (Err HeadTooLong) h = none_headless w h
+tells_none w (Err BodyTooLong) h = none_long w h

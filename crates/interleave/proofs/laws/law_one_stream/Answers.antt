@@ -1,0 +1,5 @@
+use Rattle.interleave.proofs.Streams.{stream_once}
+use Rattle.interleave.proofs.laws.law_one_stream.Goals as goal
+
+pub returns : goal.returns
+returns c = λ one other rest end x y. stream_once c.args.heard.now one other rest end x y

@@ -1,0 +1,119 @@
+-- Clock times and fractions of a second, at the places where they are cut.
+use Rattle.std.proofs.Common.{◌≡◌, ℕ, ◌+◌, ◌*◌, ◌^◌, ◌<◌, ◌≤◌, ◌⊎◌, List, length, take, refl, sym, ◌∙◌, subst, arith, inl, inr, slice_range, MatchOption, Option, Some, None}
+use Rattle.std.proofs.lemmas.Bool.{cases_order}
+use Rattle.rtsp_fields.specs.Pieces.{IsEnd}
+use Rattle.rtsp_fields.specs.Times.{IsDigits, IsClock, AreSeconds, IsFraction, IsTime}
+use Rattle.rtsp_fields.proofs.Places.{end_once}
+
+-- a clock time, cut at its colons
+pub record IsClockAt (text : List ℕ) (first second seconds : ℕ) : Type 0 where
+  pub inside : second < length text
+  pub hours : ℕ
+  pub minutes : ℕ
+  pub rest : ℕ
+  pub are_hours : IsDigits 5 (take first text) hours
+  pub are_minutes : IsDigits 2 (slice_range text (first + 1) second) minutes
+  pub are_seconds : IsDigits 2 (slice_range text (second + 1) (length text)) rest
+  pub small_minutes : minutes ≤ 59
+  pub small_seconds : rest ≤ 59
+
+pub first_colon : (text : List ℕ) (first seconds : ℕ) (clock : IsClock text seconds) → IsEnd 58 text 0 first → clock.first ≡ first
+first_colon text first seconds clock e = end_once 58 text 0 clock.first first clock.hours_end e
+
+pub clock_at : (text : List ℕ) (first second seconds : ℕ) → IsEnd 58 text 0 first → IsEnd 58 text (first + 1) second → IsClock text seconds → IsClockAt text first second seconds
+clock_at text first second seconds e f clock =
+    let same : clock.first ≡ first = first_colon text first seconds clock e in
+    let E : ℕ → Type 0 = λ n. IsEnd 58 text (n + 1) clock.second in
+    let same_second : clock.second ≡ second = end_once 58 text (first + 1) clock.second second (subst E same clock.minutes_end) f in
+    let C : ℕ → Type 0 = λ n. IsClockAt text n clock.second seconds in
+    subst (λ (n : ℕ). IsClockAt text first n seconds) same_second
+    (subst C same (record {
+      inside = clock.inside;
+      hours = clock.hours;
+      minutes = clock.minutes;
+      rest = clock.rest;
+      are_hours = clock.are_hours;
+      are_minutes = clock.are_minutes;
+      are_seconds = clock.are_seconds;
+      small_minutes = clock.small_minutes;
+      small_seconds = clock.small_seconds;
+    }))
+
+pub no_colon : (text : List ℕ) (first seconds : ℕ) → IsEnd 58 text 0 first → first ≡ length text → IsClock text seconds → ⊥
+no_colon text first seconds e past clock =
+    omega (arith, first_colon text first seconds clock e, past, clock.minutes_end.after, clock.inside)
+
+-- the piece ends before the text does
+pub inside_text : (text : List ℕ) (from to : ℕ) → IsEnd 58 text from to → (to ≡ length text → ⊥) → to < length text
+inside_text text from to e other =
+    elim (cases_order to (length text)) [
+      | inl same ↦ absurd (other same)
+      | inr (inl less) ↦ less
+      | inr (inr more) ↦ omega (arith, more, e.within)
+    ]
+
+-- a text writes one number
+pub value_once : (most : ℕ) (text : List ℕ) (a b : ℕ) → IsDigits most text a → IsDigits most text b → a ≡ b
+value_once most text a b x y = x.value ∙ sym y.value
+
+-- the clock time that was read
+pub whole_clock : (text : List ℕ) (first second hours minutes seconds : ℕ) → IsEnd 58 text 0 first → IsEnd 58 text (first + 1) second → second < length text →
+    IsDigits 5 (take first text) hours × (hours < 10 ^ 9) → IsDigits 2 (slice_range text (first + 1) second) minutes × (minutes < 10 ^ 9) →
+    IsDigits 2 (slice_range text (second + 1) (length text)) seconds × (seconds < 10 ^ 9) → minutes ≤ 59 → seconds ≤ 59 →
+    IsClock text (hours * 3600 + minutes * 60 + seconds) × (hours * 3600 + minutes * 60 + seconds < 10 ^ 13)
+whole_clock text first second hours minutes seconds e f inside h m s small_minutes small_seconds = (
+  record {
+    first = first;
+    second = second;
+    hours_end = e;
+    minutes_end = f;
+    inside = inside;
+    hours = hours;
+    minutes = minutes;
+    rest = seconds;
+    are_hours = h.0;
+    are_minutes = m.0;
+    are_seconds = s.0;
+    small_minutes = small_minutes;
+    small_seconds = small_seconds;
+    seconds_are = refl;
+  },
+  omega (arith, h.1, small_minutes, small_seconds),
+)
+
+-- not short enough for a clock
+pub long_minutes : (text : List ℕ) (first second minutes n : ℕ) → IsEnd 58 text 0 first → IsEnd 58 text (first + 1) second →
+    IsDigits 2 (slice_range text (first + 1) second) minutes → 59 < minutes → IsClock text n → ⊥
+long_minutes text first second minutes n e f m large clock =
+    let at : IsClockAt text first second n = clock_at text first second n e f clock in
+    omega (arith, value_once 2 (slice_range text (first + 1) second) minutes at.minutes m at.are_minutes, at.small_minutes, large)
+
+pub long_seconds : (text : List ℕ) (first second seconds n : ℕ) → IsEnd 58 text 0 first → IsEnd 58 text (first + 1) second →
+    IsDigits 2 (slice_range text (second + 1) (length text)) seconds → 59 < seconds → IsClock text n → ⊥
+long_seconds text first second seconds n e f s large clock =
+    let at : IsClockAt text first second n = clock_at text first second n e f clock in
+    omega (arith, value_once 2 (slice_range text (second + 1) (length text)) seconds at.rest s at.are_seconds, at.small_seconds, large)
+
+-- no seconds as such, and a clock time or not
+pub digits_or_clock : (o : Option ℕ) (text : List ℕ) → ((n : ℕ) → ¬ IsDigits 9 text n) → MatchOption o ((n : ℕ) → ¬ IsClock text n) (λ n. IsClock text n × (n < 10 ^ 13)) →
+    MatchOption o ((n : ℕ) → ¬ AreSeconds text n) (λ n. AreSeconds text n × (n < 10 ^ 13))
+digits_or_clock None text none h = λ n are. elim are [ inl digits ↦ none n digits | inr clock ↦ h n clock ]
+digits_or_clock (Some n) text none h = (inr h.0, h.1)
+
+-- a time, cut at its point
+pub record IsTimeAt (text : List ℕ) (point : ℕ) : Type 0 where
+  pub seconds : ℕ
+  pub fraction : ℕ
+  pub whole : AreSeconds (take point text) seconds
+  pub part : ((point ≡ length text) × (fraction ≡ 0)) ⊎ ((point < length text) × IsFraction (slice_range text (point + 1) (length text)) fraction)
+
+pub time_at : (text : List ℕ) (point n : ℕ) → IsEnd 46 text 0 point → IsTime text n → IsTimeAt text point
+time_at text point n e t =
+    subst (IsTimeAt text) (end_once 46 text 0 t.point point t.point_is e)
+    (record { seconds = t.seconds; fraction = t.fraction; whole = t.whole; part = t.part })
+
+pub no_fraction : (text : List ℕ) (point n : ℕ) → IsEnd 46 text 0 point → point < length text →
+    ((f : ℕ) → ¬ IsFraction (slice_range text (point + 1) (length text)) f) → IsTime text n → ⊥
+no_fraction text point n e inside none t =
+    let at : IsTimeAt text point = time_at text point n e t in
+    elim at.part [ inl whole ↦ omega (arith, inside, whole.0) | inr part ↦ none at.fraction part.1 ]

@@ -1,0 +1,95 @@
+-- Short numbers and their values.
+use Rattle.std.proofs.Common.{◌≡◌, ◌<◌, ◌≤◌, ◌+◌, ◌-◌, ◌*◌, ◌^◌, ◌&&◌, ℕ, true, List, length, Option, Some, None, nat_lt, inl, inr, arith, rules, refl, sym, ap, ◌∙◌, lt-ltb, [], ◌++◌, take, drop, MatchOption, min}
+use Rattle.std.specs.Option.{unwrap_or}
+use Rattle.std.proofs.Math.Nat.{mul-lt-mul_of_pos_right, min_comm, one-le-pow}
+use Rattle.std.proofs.lemmas.List.Folds.{list_all-append}
+use Rattle.std.proofs.lemmas.Nat.{pow-add}
+use Rattle.std.proofs.lemmas.List.{take_min, length-take, nil_from_length, take-append-drop}
+use Rattle.std.specs.List.{list_all}
+use Rattle.std.specs.Char.{is_ascii_digit}
+use Rattle.std.specs.Str.Parse.{digits_value}
+use Rattle.std.proofs.lemmas.Bool.{cases_Bool, cases_lt, cond-true, cond-false, and_from, and_parts}
+use Rattle.std.proofs.lemmas.Str.Parse.{IsNumeralModel, numerals_by_value, digits_value_short}
+use Rattle.vod_base.specs.Numbers.{is_decimal, number_of}
+use Rattle.rtsp_fields.specs.Times.{IsDigits, IsFraction}
+
+own : IsNumeralModel (λ ds. list_all is_ascii_digit ds ≡ true) (digits_value 10)
+own = numerals_by_value (λ ds. list_all is_ascii_digit ds ≡ true) (search rules)
+
+some_same : (a b : ℕ) → Some a ≡ Some b → a ≡ b
+some_same a b e = cc
+
+none_isn't_some : (b : ℕ) → None ≡ Some b → ⊥
+none_isn't_some b e = cc
+
+-- a text that is read as a number is decimal, and that is its value
+pub number_read : (text : List ℕ) (n : ℕ) → number_of text ≡ Some n → (is_decimal text ≡ true) × (n ≡ digits_value 10 text)
+number_read text n read =
+    let value = digits_value 10 text in
+    elim (cases_Bool (is_decimal text && nat_lt (digits_value 10 text) (2 ^ 64))) [
+      | inl good ↦ (
+          let found : number_of text ≡ Some (digits_value 10 text) = cond-true (is_decimal text && nat_lt (digits_value 10 text) (2 ^ 64)) (Some (digits_value 10 text)) None good in
+          ((and_parts (is_decimal text) (nat_lt (digits_value 10 text) (2 ^ 64)) good).0, some_same n (digits_value 10 text) (sym read ∙ found))
+          )
+      | inr wrong ↦ (
+          let none : number_of text ≡ None = cond-false (is_decimal text && nat_lt (digits_value 10 text) (2 ^ 64)) (Some (digits_value 10 text)) None wrong in
+          absurd (none_isn't_some n (sym none ∙ read))
+          )
+    ]
+
+-- at most nine digits are below 10^9
+pub below_billion : (text : List ℕ) → is_decimal text ≡ true → length text ≤ 9 → digits_value 10 text < 10 ^ 9
+below_billion text decimal short =
+    digits_value_short own text 9 (and_parts (nat_lt 0 (length text)) (list_all is_ascii_digit text) decimal).1 short
+
+-- such digits are read
+pub short_is_read : (most : ℕ) (text : List ℕ) (n : ℕ) → most ≤ 9 → IsDigits most text n → number_of text ≡ Some (digits_value 10 text)
+short_is_read most text n few d =
+    let small : digits_value 10 text < 10 ^ 9 = below_billion text d.decimal (omega (arith, few, d.short)) in
+    let fits : nat_lt (digits_value 10 text) (2 ^ 64) ≡ true = lt-ltb (digits_value 10 text) (2 ^ 64) (omega (arith, small)) in
+    cond-true (is_decimal text && nat_lt (digits_value 10 text) (2 ^ 64)) (Some (digits_value 10 text)) None (and_from (is_decimal text) (nat_lt (digits_value 10 text) (2 ^ 64)) d.decimal fits)
+
+pub digits_read : (most : ℕ) (text : List ℕ) (n : ℕ) → most ≤ 9 → length text ≤ most → number_of text ≡ Some n → IsDigits most text n × (n < 10 ^ 9)
+digits_read most text n few short read =
+    let found = number_read text n read in
+    let small : digits_value 10 text < 10 ^ 9 = below_billion text found.0 (omega (arith, few, short)) in
+    (record { decimal = found.0; short = short; value = found.1 }, omega (arith, small, found.1))
+
+pub digits_not_read : (most : ℕ) (text : List ℕ) (n : ℕ) → most ≤ 9 → number_of text ≡ None → IsDigits most text n → ⊥
+digits_not_read most text n few none d = none_isn't_some (digits_value 10 text) (sym none ∙ short_is_read most text n few d)
+
+digits_take : (n : ℕ) (text : List ℕ) → list_all is_ascii_digit text ≡ true → list_all is_ascii_digit (take n text) ≡ true
+digits_take n text all =
+    let whole : list_all is_ascii_digit (take n text ++ drop n text) ≡ true = rw (take-append-drop n text) all in
+    (and_parts (list_all is_ascii_digit (take n text)) (list_all is_ascii_digit (drop n text)) (sym (list_all-append is_ascii_digit (take n text) (drop n text)) ∙ whole)).0
+
+-- the first nine digits, where they were read or there are none
+pub counted_value : (o : Option ℕ) (text : List ℕ) → list_all is_ascii_digit text ≡ true → length text ≤ 9 →
+    MatchOption o ((n : ℕ) → ¬ IsDigits 9 text n) (λ n. IsDigits 9 text n × (n < 10 ^ 9)) → unwrap_or o 0 ≡ digits_value 10 text
+counted_value None text all short h =
+    elim (cases_lt 0 (length text)) [
+      | inl some ↦ (
+          let decimal : is_decimal text ≡ true = and_from (nat_lt 0 (length text)) (list_all is_ascii_digit text) (lt-ltb 0 (length text) some) all in
+          absurd (h (digits_value 10 text) (record { decimal = decimal; short = short; value = refl }))
+          )
+      | inr none ↦ let empty : text ≡ [] = nil_from_length text (omega (arith, none)) in sym (ap (digits_value 10) empty)
+    ]
+counted_value (Some n) text all short h = h.0.value
+
+pub fraction_read : (o : Option ℕ) (text : List ℕ) (k power : ℕ) → list_all is_ascii_digit text ≡ true → k ≡ min (length text) 9 →
+    MatchOption o ((n : ℕ) → ¬ IsDigits 9 (take k text) n) (λ n. IsDigits 9 (take k text) n × (n < 10 ^ 9)) →
+    power ≡ 10 ^ (9 - length (take k text)) → IsFraction text (unwrap_or o 0 * power) × (unwrap_or o 0 * power < 10 ^ 9)
+fraction_read o text k power all cut read is_power =
+    let nine : take k text ≡ take 9 text = ap (λ n. take n text) (cut ∙ min_comm (length text) 9) ∙ take_min 9 text in
+    let digits : list_all is_ascii_digit (take k text) ≡ true = digits_take k text all in
+    let short : length (take k text) ≤ 9 = rw (length-take k text, cut) (omega arith) in
+    let value : unwrap_or o 0 ≡ digits_value 10 (take k text) = counted_value o (take k text) digits short read in
+    let small : digits_value 10 (take k text) < 10 ^ length (take k text) = digits_value_short own (take k text) (length (take k text)) digits (omega arith) in
+    let sum : length (take k text) + (9 - length (take k text)) ≡ 9 = omega (arith, short) in
+    let whole : 10 ^ length (take k text) * 10 ^ (9 - length (take k text)) ≡ 10 ^ 9 = sym (pow-add 10 (length (take k text)) (9 - length (take k text))) ∙ ap (λ n. 10 ^ n) sum in
+    let positive : 0 < 10 ^ (9 - length (take k text)) = one-le-pow (9 - length (take k text)) 10 (omega arith) in
+    let below : digits_value 10 (take k text) * 10 ^ (9 - length (take k text)) < 10 ^ 9 = rw (← whole) (mul-lt-mul_of_pos_right small positive) in
+    let total : unwrap_or o 0 * power ≡ digits_value 10 (take k text) * 10 ^ (9 - length (take k text)) = rw (value, is_power) refl in (
+      record { digits = all; value = total ∙ ap (λ (t : List ℕ). digits_value 10 t * 10 ^ (9 - length t)) nine },
+      rw total below,
+    )

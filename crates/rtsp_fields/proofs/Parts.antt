@@ -1,0 +1,80 @@
+-- What the parts of a Transport header come to.
+use Rattle.std.proofs.Common.{◌≡◌, ◌≢◌, ℕ, ◌+◌, ◌<◌, ◌≤◌, List, length, take, refl, sym, ◌∙◌, ap, subst, arith, inl, inr, slice_range, codes, MatchOption, Option, Some, None}
+use Rattle.std.proofs.lemmas.List.{length-map, length-take}
+use Rattle.interleave.specs.Lengths.{trimmed}
+use Rattle.rtsp_fields.specs.Pieces.{IsEnd, IsPiece, NoneBefore, NoPiece, Begins, lower}
+use Rattle.rtsp_fields.specs.Values.{IsWithin}
+use Rattle.rtsp_fields.specs.Transports.{IsPair, IsSingle, AreChannels, word, IsOther, NamesChannels, HasChannels, IsTaken, CanBeTaken, IsTransport, behind_name}
+use Rattle.rtsp_fields.specs.declared.transports.Channels.{Channels}
+use Rattle.rtsp_fields.proofs.Places.{end_once, first_once}
+
+-- a pair, cut at its dash
+pub record IsPairAt (text : List ℕ) (dash : ℕ) (channels : Channels) : Type 0 where
+  pub media : IsWithin 0 255 (take dash text) channels.media
+  pub control : IsWithin 0 255 (slice_range text (dash + 1) (length text)) channels.control
+  pub inside : dash < length text
+  pub differ : channels.media ≢ channels.control
+
+pub pair_at : (text : List ℕ) (dash : ℕ) (channels : Channels) → IsEnd 45 text 0 dash → IsPair text channels → IsPairAt text dash channels
+pair_at text dash channels e p =
+    let same : p.dash ≡ dash = end_once 45 text 0 p.dash dash p.is_dash e in
+    subst (λ (d : ℕ). IsPairAt text d channels) same (record { media = p.media; control = p.control; inside = p.inside; differ = p.differ })
+
+-- one text writes one number
+pub within_once : (low high : ℕ) (text : List ℕ) (a b : ℕ) → IsWithin low high text a → IsWithin low high text b → a ≡ b
+within_once low high text a b x y = some_same a b (sym x.is_number ∙ y.is_number)
+  where
+    some_same : (a b : ℕ) → Some a ≡ Some b → a ≡ b
+    some_same a b e = cc
+
+pub not_pair_equal : (text : List ℕ) (dash a b : ℕ) (channels : Channels) → IsEnd 45 text 0 dash → IsWithin 0 255 (take dash text) a →
+    IsWithin 0 255 (slice_range text (dash + 1) (length text)) b → a ≡ b → IsPair text channels → ⊥
+not_pair_equal text dash a b channels e x y same p =
+    let at : IsPairAt text dash channels = pair_at text dash channels e p in
+    at.differ (within_once 0 255 (take dash text) channels.media a at.media x ∙ same ∙ within_once 0 255 (slice_range text (dash + 1) (length text)) b channels.control y at.control)
+
+-- no pair, and one number or not
+pub pair_or_single : (o : Option Channels) (text : List ℕ) → ((channels : Channels) → ¬ IsPair text channels) →
+    MatchOption o ((channels : Channels) → ¬ IsSingle text channels) (IsSingle text) → MatchOption o ((channels : Channels) → ¬ AreChannels text channels) (AreChannels text)
+pair_or_single None text none h = λ channels are. elim are [ inl pair ↦ none channels pair | inr single ↦ h channels single ]
+pair_or_single (Some channels) text none h = inr h
+
+-- a text that begins with the name has its bytes
+pub name_within : (part : List ℕ) → Begins (codes "interleaved=") (lower part) → 12 ≤ length part
+name_within part b = let e = simp (length-map, length-take) at (ap length b) in omega (arith, e)
+
+-- the first part that names channels tells them
+pub named_channels : (o : Option Channels) (text : List ℕ) (from to : ℕ) → IsPiece 59 text from to → NamesChannels (slice_range text from to) →
+    NoneBefore 59 text from NamesChannels →
+    MatchOption o ((channels : Channels) → ¬ AreChannels (behind_name (trimmed (slice_range text from to))) channels) (AreChannels (behind_name (trimmed (slice_range text from to)))) →
+    MatchOption o ((channels : Channels) → ¬ HasChannels text channels) (HasChannels text)
+named_channels None text from to piece names first h = λ channels has. elim has [
+  | inl named ↦
+      let same = first_once 59 text NamesChannels named.from named.to from to named.piece named.names named.first piece names first in
+      let P : ℕ → Type 0 = λ n. AreChannels (behind_name (trimmed (slice_range text n named.to))) channels in
+      let Q : ℕ → Type 0 = λ n. AreChannels (behind_name (trimmed (slice_range text from n))) channels in
+      h channels (subst Q same.1 (subst P same.0 named.are))
+  | inr default ↦ default.none from to piece names
+]
+named_channels (Some channels) text from to piece names first h =
+    inl (record { from = from; to = to; piece = piece; names = names; first = first; are = h })
+
+-- no alternative with another first part can be taken
+pub other_protocol : (text : List ℕ) (end : ℕ) (channels : Channels) → IsEnd 59 text 0 end → (word (take end text) ≢ codes "rtp/avp/tcp") → IsTaken text channels → ⊥
+other_protocol text end channels e other t =
+    let same : t.end ≡ end = end_once 59 text 0 t.end end t.first.end e in
+    let P : ℕ → Type 0 = λ n. word (take n text) ≡ codes "rtp/avp/tcp" in
+    other (subst P same t.protocol)
+
+-- an alternative with that first part and no other part is taken with its channels
+pub taken_channels : (o : Option Channels) (text : List ℕ) (end : ℕ) → IsEnd 59 text 0 end → word (take end text) ≡ codes "rtp/avp/tcp" → NoPiece 59 text IsOther →
+    MatchOption o ((channels : Channels) → ¬ HasChannels text channels) (HasChannels text) → MatchOption o ((channels : Channels) → ¬ IsTaken text channels) (IsTaken text)
+taken_channels None text end e protocol plain h = λ channels t. h channels t.has
+taken_channels (Some channels) text end e protocol plain h =
+    record { end = end; first = record { start = inl refl; end = e }; protocol = protocol; plain = plain; has = h }
+
+pub not_taken : (text : List ℕ) → ((channels : Channels) → ¬ IsTaken text channels) → ¬ CanBeTaken text
+not_taken text none = λ t. none t.0 t.1
+
+pub no_transport : (value : List ℕ) (channels : Channels) → NoPiece 44 value CanBeTaken → IsTransport value channels → ⊥
+no_transport value channels none t = none t.from t.to t.piece (channels, t.taken)

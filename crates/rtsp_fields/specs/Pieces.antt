@@ -1,0 +1,39 @@
+-- Texts that a separator cuts into pieces, and words in any case.
+use Rattle.std.specs.Prelude.{◌≡◌, ◌≢◌, ℕ, ◌-◌, ◌<◌, ◌≤◌, ◌⊎◌, List, length, take, map, slice_index, slice_range}
+use Rattle.std.specs.Char.{to_ascii_lowercase}
+
+-- none of the bytes from `from` up to `to` is `c`
+abbrev pub HasNone : ℕ → List ℕ → ℕ → ℕ → Type 0
+HasNone c text from to = (k : ℕ) → from ≤ k → k < to → slice_index text k ≢ c
+
+-- a piece may begin at `at`: the text does, or the separator `c` stands directly before
+abbrev pub IsStart : ℕ → List ℕ → ℕ → Type 0
+IsStart c text at = (at ≡ 0) ⊎ ((0 < at) × (slice_index text (at - 1) ≡ c))
+
+-- `to` is the first place from `from` on where `c` stands, or the end of the text
+pub record IsEnd (c : ℕ) (text : List ℕ) (from to : ℕ) : Type 0 where
+  pub after : from ≤ to
+  pub within : to ≤ length text
+  pub none : HasNone c text from to
+  pub ends : to < length text → slice_index text to ≡ c
+
+-- the bytes from `from` up to `to` are a piece of the text that the separator `c` cuts
+pub record IsPiece (c : ℕ) (text : List ℕ) (from to : ℕ) : Type 0 where
+  pub start : IsStart c text from
+  pub end : IsEnd c text from to
+
+-- no piece that begins before `at` is such a text
+abbrev pub NoneBefore : ℕ → List ℕ → ℕ → (List ℕ → Type 0) → Type 0
+NoneBefore c text at P = (k end : ℕ) → k < at → IsPiece c text k end → ¬ P (slice_range text k end)
+
+-- no piece is such a text
+abbrev pub NoPiece : ℕ → List ℕ → (List ℕ → Type 0) → Type 0
+NoPiece c text P = (k end : ℕ) → IsPiece c text k end → ¬ P (slice_range text k end)
+
+-- a text in lower case
+abbrev pub lower : List ℕ → List ℕ
+lower text = map to_ascii_lowercase text
+
+-- the text begins with these bytes
+abbrev pub Begins : List ℕ → List ℕ → Type 0
+Begins start text = take (length start) text ≡ start

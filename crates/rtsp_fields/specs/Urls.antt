@@ -1,0 +1,35 @@
+-- RTSP URLs (RFC 2326 section 3.2), and the film that a URL's path names.
+use Rattle.std.specs.Prelude.{◌≡◌, ℕ, ◌<◌, ◌⊎◌, List, [], codes, true, length, slice_index, slice_range, Option, MatchOption}
+use Rattle.vod_base.specs.Names.{is_good_name}
+use Rattle.rtsp_fields.specs.Pieces.{IsEnd, Begins, lower}
+
+-- `rtsp://` in any case, an authority of one or more bytes without `/`, and nothing or a path that begins with `/`; the authority
+-- ends at `path`
+pub record IsUrl (url : List ℕ) (path : ℕ) : Type 0 where
+  pub scheme : Begins (codes "rtsp://") (lower url)
+  pub authority : 7 < path
+  pub end : IsEnd 47 url 7 path
+
+-- the name of a film's one stream, with `/` behind it or not
+abbrev pub IsStream : List ℕ → Type 0
+IsStream tail = (tail ≡ codes "/video") ⊎ (tail ≡ codes "/video/")
+
+-- what may stand behind the name of a film: nothing, `/`, or the name of its stream
+abbrev pub IsTail : List ℕ → Type 0
+IsTail tail = (tail ≡ []) ⊎ ((tail ≡ codes "/") ⊎ IsStream tail)
+
+-- a path names a film: `/`, a good name up to the next `/` or the end, and such a tail
+pub record NamesFilm (path name : List ℕ) : Type 0 where
+  pub slash : slice_index path 0 ≡ 47
+  pub end : ℕ
+  pub is_end : IsEnd 47 path 1 end
+  pub name_is : name ≡ slice_range path 1 end
+  pub good : is_good_name name ≡ true
+  pub tail : IsTail (slice_range path end (length path))
+
+-- what a URL says: its authority, and the film that its path names, if any
+pub record IsRead (url authority : List ℕ) (name : Option (List ℕ)) : Type 0 where
+  pub path : ℕ
+  pub is_url : IsUrl url path
+  pub authority_is : authority ≡ slice_range url 7 path
+  pub name_is : MatchOption name ((any : List ℕ) → ¬ NamesFilm (slice_range url path (length url)) any) (NamesFilm (slice_range url path (length url)))

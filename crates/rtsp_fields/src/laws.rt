@@ -1,0 +1,53 @@
+ghost use Rattle.std.specs.Prelude.{◌≡◌, ◌++◌, codes, true};
+ghost use Rattle.vod_base.specs.Names.{is_good_name};
+ghost use Rattle.rtsp_fields.specs.Ranges.{IsSpan};
+ghost use Rattle.rtsp_fields.specs.Transports.{IsTransport};
+ghost use Rattle.rtsp_fields.specs.Urls.{IsTail, IsUrl, NamesFilm};
+
+use crate::ranges::Span;
+use crate::transports::Channels;
+
+/// A Range value gives one span.
+pub fn law_one_range(value: &[u8], one: Span, other: Span)
+    requires one { IsSpan value.now one }
+    requires other { IsSpan value.now other }
+    ensures { one ≡ other }
+{
+    let _read = (value.len(), one, other);
+}
+
+/// A Transport value gives one pair of channels.
+pub fn law_one_transport(value: &[u8], one: Channels, other: Channels)
+    requires one { IsTransport value.now one }
+    requires other { IsTransport value.now other }
+    ensures { one ≡ other }
+{
+    let _read = (value.len(), one, other);
+}
+
+/// The authority of a URL ends at one place.
+pub fn law_one_authority(url: &[u8], one: usize, other: usize)
+    requires one { IsUrl url.now one }
+    requires other { IsUrl url.now other }
+    ensures { one ≡ other }
+{
+    let _read = (url.len(), one, other);
+}
+
+/// A path names one film.
+pub fn law_one_name(path: &[u8], one: &[u8], other: &[u8])
+    requires one { NamesFilm path.now one.now }
+    requires other { NamesFilm path.now other.now }
+    ensures { one.now ≡ other.now }
+{
+    let _read = (path.len(), one.len(), other.len());
+}
+
+/// The path of a film is `/`, its good name, and nothing, `/`, or `/video` with `/` behind it or not.
+pub fn law_film_path(name: &[u8], tail: &[u8])
+    requires good { is_good_name name.now ≡ true }
+    requires tail { IsTail tail.now }
+    ensures { NamesFilm (codes "/" ++ name.now ++ tail.now) name.now }
+{
+    let _read = (name.len(), tail.len());
+}

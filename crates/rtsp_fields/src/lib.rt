@@ -1,0 +1,24 @@
+//! The fields of RTSP 1.0 requests (RFC 2326) that a server of stored video reads: URLs, Transport, Range, Session and numbers;
+//! and the description of a film (RFC 4566).
+#![tactic(auto)]
+
+mod descriptions;
+mod laws;
+mod pieces;
+mod ranges;
+mod sessions;
+mod times;
+mod transports;
+mod urls;
+mod values;
+
+pub use descriptions::description;
+pub use laws::{law_film_path, law_one_authority, law_one_name, law_one_range, law_one_transport};
+pub use ranges::{Origin, Span, read_range};
+pub use sessions::{session_id, session_matches};
+pub use transports::{Channels, read_transport};
+pub use urls::{Url, read_url};
+pub use values::{read_buffer, read_startup, read_wait};
+
+#[cfg(test)]
+mod tests;

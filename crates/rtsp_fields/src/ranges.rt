@@ -1,0 +1,69 @@
+ghost use Rattle.std.specs.Prelude.{◌≡◌, ℕ, Option, MatchOption};
+ghost use Rattle.rtsp_fields.specs.declared.ranges.Origin.{Origin};
+ghost use Rattle.rtsp_fields.specs.declared.ranges.Span.{Span};
+ghost use Rattle.rtsp_fields.specs.Ranges.{IsLimit, IsOrigin, IsSpan};
+
+use crate::pieces::{piece_end, starts_with};
+use crate::times::read_time;
+
+/// Where play begins.
+#[derive(Clone, Copy, Debug, PartialEq, Eq)]
+pub enum Origin {
+    /// Where the last play ended.
+    Now,
+    /// At this time, in nanoseconds from the film's beginning.
+    At(u128),
+}
+
+/// From where and how far a film is to be played.
+#[derive(Clone, Copy, Debug, PartialEq, Eq)]
+pub struct Span {
+    /// Where play begins.
+    pub from: Origin,
+    /// Where it ends, in nanoseconds from the film's beginning; None for the film's end.
+    pub to: Option<u128>,
+}
+
+fn read_origin(text: &[u8]) -> Option<Origin>
+    ensures { MatchOption result ((origin : Origin) → ¬ IsOrigin text.now origin) (IsOrigin text.now) }
+{
+    if text == b"now".as_slice() {
+        return Some(Origin::Now);
+    }
+    match read_time(text) {
+        Some(time) => Some(Origin::At(time)),
+        None => None,
+    }
+}
+
+fn read_limit(text: &[u8]) -> Option<Option<u128>>
+    ensures { MatchOption result ((limit : Option ℕ) → ¬ IsLimit text.now limit) (IsLimit text.now) }
+{
+    if text.is_empty() {
+        return Some(None);
+    }
+    match read_time(text) {
+        Some(time) => Some(Some(time)),
+        None => None,
+    }
+}
+
+/// Reads the value of a Range header in normal play time (RFC 2326 sections 3.6 and 12.29): `npt=FROM-` or `npt=FROM-TO`.
+///
+/// `npt` is in any case. FROM is `now`, in lower case, or a time, TO a time. A time is 1 to 9 digits, or 1 to 5 digits for hours
+/// and twice one or two digits up to 59 for minutes and seconds, with `:` between them; a point and any digits may follow, of
+/// which nine count. None exactly where the value is of no such form. Whether TO is behind FROM isn't judged here.
+pub fn read_range(value: &[u8]) -> Option<Span>
+    ensures { MatchOption result ((span : Span) → ¬ IsSpan value.now span) (IsSpan value.now) }
+{
+    if !starts_with(value, b"npt=") {
+        return None;
+    }
+    let dash = piece_end(value, 4, b'-');
+    if dash == value.len() {
+        return None;
+    }
+    let from = read_origin(&value[4..dash])?;
+    let to = read_limit(&value[dash + 1..])?;
+    Some(Span { from, to })
+}

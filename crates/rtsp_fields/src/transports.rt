@@ -1,0 +1,140 @@
+ghost use Rattle.std.specs.Prelude.{◌≡◌, ◌↔◌, IsTrue, ◌⊎◌, MatchOption};
+ghost use Rattle.rtsp_fields.specs.Pieces.{NoPiece, NoneBefore};
+ghost use Rattle.rtsp_fields.specs.declared.transports.Channels.{Channels};
+ghost use Rattle.rtsp_fields.specs.Transports.{AreChannels, HasChannels, IsOther, IsPair, IsSingle, IsTaken, IsTransport, NamesChannels};
+
+use crate::pieces::{piece_end, starts_with};
+use crate::values::number_within;
+use interleave::trimmed;
+
+/// The channels of interleaved delivery (RFC 2326 section 10.12).
+#[derive(Clone, Copy, Debug, PartialEq, Eq)]
+pub struct Channels {
+    /// The channel of the RTP packets.
+    pub media: u8,
+    /// The channel of the RTCP reports.
+    pub control: u8,
+}
+
+/// Two different channels with `-` between them.
+fn read_pair(text: &[u8]) -> Option<Channels>
+    ensures { MatchOption result ((channels : Channels) → ¬ IsPair text.now channels) (IsPair text.now) }
+{
+    let dash = piece_end(text, 0, b'-');
+    if dash == text.len() {
+        return None;
+    }
+    let media = number_within(&text[..dash], 0, 255)?;
+    let control = number_within(&text[dash + 1..], 0, 255)?;
+    if media == control {
+        return None;
+    }
+    Some(Channels {
+        media: media as u8,
+        control: control as u8,
+    })
+}
+
+/// One channel, which means itself and the next.
+fn read_single(text: &[u8]) -> Option<Channels>
+    ensures { MatchOption result ((channels : Channels) → ¬ IsSingle text.now channels) (IsSingle text.now) }
+{
+    let media = number_within(text, 0, 254)?;
+    Some(Channels {
+        media: media as u8,
+        control: media as u8 + 1,
+    })
+}
+
+/// The channels that stand behind `interleaved=`.
+fn read_channels(text: &[u8]) -> Option<Channels>
+    ensures { MatchOption result ((channels : Channels) → ¬ AreChannels text.now channels) (AreChannels text.now) }
+{
+    match read_pair(text) {
+        Some(channels) => Some(channels),
+        None => read_single(text),
+    }
+}
+
+/// Whether a part asks for another thing than unicast delivery to a player.
+fn is_other(part: &[u8]) -> bool
+    ensures { IsTrue result ↔ IsOther part.now }
+{
+    let word = trimmed(part);
+    word.eq_ignore_ascii_case(b"multicast")
+        || (starts_with(word, b"mode=")
+            && !word.eq_ignore_ascii_case(b"mode=play")
+            && !word.eq_ignore_ascii_case(b"mode=\"play\""))
+}
+
+/// Whether no part of an alternative asks for another thing.
+#[tactic(auto, using(crate::proofs::Places::steps))]
+fn is_plain(text: &[u8]) -> bool
+    ensures { IsTrue result ↔ NoPiece 59 text.now IsOther }
+{
+    let mut from = 0;
+    while from <= text.len() {
+        let end = piece_end(text, from, b';');
+        if is_other(&text[from..end]) {
+            return false;
+        }
+        from = end + 1;
+    }
+    true
+}
+
+/// The channels that an alternative names, or 0 and 1.
+#[tactic(auto, using(crate::proofs::Places::steps, crate::proofs::Parts::name_within))]
+fn channels_of(text: &[u8]) -> Option<Channels>
+    ensures { MatchOption result ((channels : Channels) → ¬ HasChannels text.now channels) (HasChannels text.now) }
+{
+    let mut from = 0;
+    while from <= text.len() {
+        let end = piece_end(text, from, b';');
+        let part = trimmed(&text[from..end]);
+        if starts_with(part, b"interleaved=") {
+            return read_channels(&part[12..]);
+        }
+        from = end + 1;
+    }
+    Some(Channels {
+        media: 0,
+        control: 1,
+    })
+}
+
+/// The channels of an alternative, where it can be taken.
+fn read_alternative(text: &[u8]) -> Option<Channels>
+    ensures { MatchOption result ((channels : Channels) → ¬ IsTaken text.now channels) (IsTaken text.now) }
+{
+    let end = piece_end(text, 0, b';');
+    if !trimmed(&text[..end]).eq_ignore_ascii_case(b"RTP/AVP/TCP") {
+        return None;
+    }
+    if !is_plain(text) {
+        return None;
+    }
+    channels_of(text)
+}
+
+/// Reads the value of a Transport header (RFC 2326 section 12.39): the channels of the first alternative that asks for unicast
+/// delivery on the connection itself (section 10.12).
+///
+/// An alternative, between commas, can be taken where its first part, between `;`, is `RTP/AVP/TCP`, no part is `multicast` or
+/// a `mode` other than `play`, and its first part that begins `interleaved=`, if any, is two different channels, or one
+/// channel up to 254, which means itself and the next. Without one the channels are 0 and 1. Letters are in any case, and blanks
+/// may stand around each part. None exactly where no alternative can be taken.
+#[tactic(auto, using(crate::proofs::Places::steps))]
+pub fn read_transport(value: &[u8]) -> Option<Channels>
+    ensures { MatchOption result ((channels : Channels) → ¬ IsTransport value.now channels) (IsTransport value.now) }
+{
+    let mut from = 0;
+    while from <= value.len() {
+        let end = piece_end(value, from, b',');
+        if let Some(channels) = read_alternative(&value[from..end]) {
+            return Some(channels);
+        }
+        from = end + 1;
+    }
+    None
+}
