@@ -1,0 +1,283 @@
+-- What the packets say of their pieces is so: where a piece begins with a slice, and where it ends with one.
+use Rattle.std.proofs.Common.{◌≡◌, ℕ, zero, suc, ◌+◌, ◌-◌, ◌*◌, ◌<◌, ◌≤◌, ◌≢◌, Bool, true, false, cond, eqb, leb, ltb, ◌&&◌, ◌||◌, List, [], ◌∷◌, ◌++◌, refl, sym, ap, subst, ◌∙◌, arith}
+use Rattle.std.proofs.lemmas.Bool.{eq-eqb, ne_eqb, le-ltb, leb-true, leb-false, lt-ltb, ltb-true, true≢false}
+use Rattle.mpeg_scan.specs.declared.units.Unit.{Unit as PictureUnit}
+use Rattle.rtp_pack.specs.declared.filling.Filling.{Filling}
+use Rattle.rtp_pack.specs.declared.filling.Holds.{Holds}
+use Rattle.rtp_pack.specs.declared.filling.Holds.TheVariants.{HeadAlone, Slices, LastFragment}
+use Rattle.rtp_pack.specs.declared.payloads.Packet.{Packet}
+use Rattle.rtp_pack.specs.Cutting.{first_piece, full_before, full_ends, goes_in, goes_in_cut, goes_in_whole, next_filling, start_of}
+use Rattle.rtp_pack.specs.Packets.{AreInOrder, among, before_slice, begins_slice, closed, ends_slice, ends_to, full_packets, lengths_to, next_place, packet, packets_from, piece_packet, piece_packets}
+use Rattle.rtp_pack.proofs.SizeLemmas.{whole-fits}
+use Rattle.rtp_pack.proofs.CutLemmas.{ends, ends-append, ends-full, full_before-less, full_before-within, start-less}
+
+-- ---- tests
+
+pub or-left : (a b : Bool) → a ≡ true → (a || b) ≡ true
+or-left true b e = refl
+or-left false b e = absurd (true≢false (sym e))
+
+pub or-right : (a b : Bool) → b ≡ true → (a || b) ≡ true
+or-right true b e = refl
+or-right false b e = e
+
+or-neither : (a b : Bool) → a ≡ false → b ≡ false → (a || b) ≡ false
+or-neither true b e d = absurd (true≢false e)
+or-neither false b e d = d
+
+or-rest : (a b : Bool) → a ≡ false → (a || b) ≡ b
+or-rest true b e = absurd (true≢false e)
+or-rest false b e = refl
+
+and-first : (a b : Bool) → a ≡ false → (a && b) ≡ false
+and-first true b e = absurd (true≢false e)
+and-first false b e = refl
+
+and-second : (a b : Bool) → b ≡ false → (a && b) ≡ false
+and-second true b e = e
+and-second false b e = refl
+
+and-both : (a b : Bool) → a ≡ true → b ≡ true → (a && b) ≡ true
+and-both true b e d = d
+and-both false b e d = e
+
+later : (a e l m : Bool) → (a || (e && l)) ≡ true → (l ≡ true → m ≡ true) → (a || (e && m)) ≡ true
+later true e l m is more = refl
+later false true l m is more = more is
+later false false l m is more = absurd (true≢false (sym is))
+
+-- ---- the places of slices
+
+among-below : (starts : List ℕ) (at to x : ℕ) → AreInOrder at starts to → x < at → among x starts ≡ false
+among-below [] at to x order less = refl
+among-below (s ∷ starts) at to x order less =
+    or-neither (eqb x s) (among x starts) (ne_eqb x s (λ e. absurd (omega (arith, e, order.0, less)))) (among-below starts (next_place to starts) to x order.1.1 (omega (arith, order.1.0)))
+
+ends-below : (starts : List ℕ) (at to x : ℕ) → AreInOrder at starts to → x ≤ at → among x (ends_to to starts) ≡ false
+ends-below [] at to x order less = refl
+ends-below (s ∷ starts) at to x order less =
+    or-neither (eqb x (next_place to starts)) (among x (ends_to to starts)) (ne_eqb x (next_place to starts) (λ e. absurd (omega (arith, e, order.1.0, less))))
+    (ends-below starts (next_place to starts) to x order.1.1 (omega (arith, order.1.0)))
+
+-- from a place on, all slices are those that are left
+pub record Agrees (to : ℕ) (all : List ℕ) (at : ℕ) (left : List ℕ) : Type 0 where
+  pub starts : (x : ℕ) → at ≤ x → among x all ≡ among x left
+  pub ends : (x : ℕ) → at < x → among x (ends_to to all) ≡ among x (ends_to to left)
+
+-- what is known of a slice from `at` to `next`
+pub record Slice (to : ℕ) (all : List ℕ) (at next : ℕ) : Type 0 where
+  pub starts : among at all ≡ true
+  pub ends : among next (ends_to to all) ≡ true
+  pub no_start : (x : ℕ) → at < x → x < next → among x all ≡ false
+  pub no_end : (x : ℕ) → at < x → x < next → among x (ends_to to all) ≡ false
+
+slice-known : (to : ℕ) (all : List ℕ) (s : ℕ) (left : List ℕ) (at : ℕ) → Agrees to all at (s ∷ left) → AreInOrder at (s ∷ left) to → Slice to all at (next_place to left)
+slice-known to all s left at agrees order =
+    let next = next_place to left in
+    record {
+      starts = agrees.starts at (omega arith) ∙ or-left (eqb at s) (among at left) (eq-eqb at s (sym order.0));
+      ends = agrees.ends next (omega (arith, order.1.0)) ∙ or-left (eqb next next) (among next (ends_to to left)) (eq-eqb next next refl);
+      no_start = λ x above below. agrees.starts x (omega (arith, above))
+          ∙ or-neither (eqb x s) (among x left) (ne_eqb x s (λ e. absurd (omega (arith, e, order.0, above)))) (among-below left next to x order.1.1 below);
+      no_end = λ x above below. agrees.ends x above
+          ∙ or-neither (eqb x next) (among x (ends_to to left)) (ne_eqb x next (λ e. absurd (omega (arith, e, below)))) (ends-below left next to x order.1.1 (omega (arith, below)));
+    }
+
+agrees-next : (to : ℕ) (all : List ℕ) (s : ℕ) (left : List ℕ) (at : ℕ) → Agrees to all at (s ∷ left) → AreInOrder at (s ∷ left) to → Agrees to all (next_place to left) left
+agrees-next to all s left at agrees order =
+    let next = next_place to left in
+    record {
+      starts = λ x above. agrees.starts x (omega (arith, above, order.1.0)) ∙ or-rest (eqb x s) (among x left) (ne_eqb x s (λ e. absurd (omega (arith, e, order.0, order.1.0, above))));
+      ends = λ x above. agrees.ends x (omega (arith, above, order.1.0)) ∙ or-rest (eqb x next) (among x (ends_to to left)) (ne_eqb x next (λ e. absurd (omega (arith, e, above))));
+    }
+
+-- ---- pieces
+
+abbrev pub begins : PictureUnit → List ℕ → ℕ → ℕ → Bool
+begins unit all from to = among from all || (eqb from unit.from && ltb unit.head_end to)
+
+-- what is known of a piece that is being filled
+pub record Right (unit : PictureUnit) (all : List ℕ) (f : Filling) : Type 0 where
+  pub first : unit.from < unit.head_end
+  pub behind : unit.head_end ≤ f.at
+  pub begin : begins unit all f.from f.at ≡ begins_slice f.holds
+  pub end : among f.at (ends_to unit.to all) ≡ ends_slice f.holds
+  pub alone : f.holds ≡ HeadAlone → (f.from ≡ unit.from) × (f.at ≡ unit.head_end)
+  pub order : f.from ≤ f.at
+
+closed-right : (unit : PictureUnit) (all : List ℕ) (f : Filling) → Right unit all f → closed unit f ≡ piece_packet unit all f.from f.at
+closed-right unit all f right =
+    ap (λ b. packet unit f.from f.at b (ends_slice f.holds)) (sym right.begin)
+    ∙ ap (λ b. packet unit f.from f.at (begins unit all f.from f.at) b) (sym right.end)
+
+-- a piece that lies in a slice but for its first byte at most
+no-begin : (unit : PictureUnit) (all : List ℕ) (at next x to : ℕ) → Slice unit.to all at next → unit.from < at → at < x → x < next → begins unit all x to ≡ false
+no-begin unit all at next x to slice before above below =
+    or-neither (among x all) (eqb x unit.from && ltb unit.head_end to) (slice.no_start x above below) (and-first (eqb x unit.from) (ltb unit.head_end to) (ne_eqb x unit.from (λ e. absurd (omega (arith, e, before, above)))))
+
+full-pieces : (unit : PictureUnit) (all : List ℕ) (at next : ℕ) (begin : Bool) (start count : ℕ) → Slice unit.to all at next → unit.from < at
+    → (0 < count → begins unit all start (start + 1380) ≡ begin) → (0 < count → at < start + 1380) → start + 1380 * count < next
+    → full_packets unit begin start count ≡ piece_packets unit all start (full_ends start count)
+full-pieces unit all at next begin start zero slice before first above below = refl
+full-pieces unit all at next begin start (suc count) slice before first above below =
+    let some : 0 < suc count = omega arith in
+    let inside : start + 1380 < next = omega (arith, below) in
+    let behind : at < start + 1380 = above some in
+    let one : packet unit start (start + 1380) begin false ≡ piece_packet unit all start (start + 1380) =
+    ap (λ b. packet unit start (start + 1380) b false) (sym (first some))
+    ∙ ap (λ b. packet unit start (start + 1380) (begins unit all start (start + 1380)) b) (sym (slice.no_end (start + 1380) behind inside)) in
+    ap (λ (p : Packet). p ∷ full_packets unit false (start + 1380) count) one
+    ∙ ap (λ (l : List Packet). piece_packet unit all start (start + 1380) ∷ l)
+    (full-pieces unit all at next false (start + 1380) count slice before (λ _. no-begin unit all at next (start + 1380) (start + 1380 + 1380) slice before behind inside) (λ _. omega (arith, behind)) (omega (arith, below)))
+
+abbrev pub last_cut : ℕ → List ℕ → ℕ
+last_cut from [] = from
+last_cut from (cut ∷ cuts) = last_cut cut cuts
+
+last_cut-full : (start count : ℕ) → last_cut start (full_ends start count) ≡ start + 1380 * count
+last_cut-full start zero = omega arith
+last_cut-full start (suc count) = last_cut-full (start + 1380) count ∙ omega arith
+
+pieces-append : (unit : PictureUnit) (all : List ℕ) (cuts more : List ℕ) (from : ℕ) → piece_packets unit all from (cuts ++ more) ≡ piece_packets unit all from cuts ++ piece_packets unit all (last_cut from cuts) more
+pieces-append unit all [] more from = refl
+pieces-append unit all (cut ∷ cuts) more from = ap (λ (l : List Packet). piece_packet unit all from cut ∷ l) (pieces-append unit all cuts more cut)
+
+-- full pieces, then the rest
+full-rest : (unit : PictureUnit) (all : List ℕ) (start count : ℕ) (rest : List Packet) → full_packets unit true start count ≡ piece_packets unit all start (full_ends start count)
+    → rest ≡ piece_packets unit all (start + 1380 * count) (ends rest)
+    → full_packets unit true start count ++ rest ≡ piece_packets unit all start (ends (full_packets unit true start count ++ rest))
+full-rest unit all start count rest full is =
+    ap (λ (l : List Packet). l ++ rest) full
+    ∙ ap (λ (l : List Packet). piece_packets unit all start (full_ends start count) ++ l) (is ∙ ap (λ s. piece_packets unit all s (ends rest)) (sym (last_cut-full start count)))
+    ∙ sym (pieces-append unit all (full_ends start count) (ends rest) start)
+    ∙ sym (ap (λ (l : List ℕ). piece_packets unit all start l) (ends-append (full_packets unit true start count) rest ∙ ap (λ (l : List ℕ). l ++ ends rest) (ends-full unit true start count)))
+
+slice-rest : (unit : PictureUnit) (all : List ℕ) (f : Filling) (goes : Bool) (count : ℕ) (rest : List Packet) → Right unit all f
+    → full_packets unit true (start_of goes f) count ≡ piece_packets unit all (start_of goes f) (full_ends (start_of goes f) count)
+    → rest ≡ piece_packets unit all (start_of goes f + 1380 * count) (ends rest)
+    → (before_slice goes unit f ++ full_packets unit true (start_of goes f) count) ++ rest ≡ piece_packets unit all f.from (ends ((before_slice goes unit f ++ full_packets unit true (start_of goes f) count) ++ rest))
+slice-rest unit all f true count rest right full is = full-rest unit all f.from count rest full is
+slice-rest unit all f false count rest right full is =
+    ap (λ (p : Packet). p ∷ (full_packets unit true f.at count ++ rest)) (closed-right unit all f right)
+    ∙ ap (λ (l : List Packet). piece_packet unit all f.from f.at ∷ l) (full-rest unit all f.at count rest full is)
+
+-- ---- where a slice begins
+
+-- a piece that goes on with a slice begins with it, or with a slice before it, or with the head
+begins-here : (unit : PictureUnit) (all : List ℕ) (from at x : ℕ) (holds : Holds) → unit.head_end ≤ at → begins unit all from at ≡ begins_slice holds → (holds ≡ HeadAlone → (from ≡ unit.from) × (at ≡ unit.head_end))
+    → (holds ≢ LastFragment) → at < x → begins unit all from x ≡ true
+begins-here unit all from at x HeadAlone behind begin alone other above =
+    or-right (among from all) (eqb from unit.from && ltb unit.head_end x)
+    (and-both (eqb from unit.from) (ltb unit.head_end x) (eq-eqb from unit.from (alone refl).0) (lt-ltb unit.head_end x (omega (arith, behind, above))))
+begins-here unit all from at x Slices behind begin alone other above =
+    later (among from all) (eqb from unit.from) (ltb unit.head_end at) (ltb unit.head_end x) begin (λ _. lt-ltb unit.head_end x (omega (arith, behind, above)))
+begins-here unit all from at x LastFragment behind begin alone other above = absurd (other refl)
+
+not-last : (from at n : ℕ) (holds : Holds) (short : Bool) → cond short (goes_in_whole from at holds n) (goes_in_cut from at holds) ≡ true → holds ≢ LastFragment
+not-last from at n HeadAlone short e is = cc
+not-last from at n Slices short e is = cc
+not-last from at n LastFragment true e is = true≢false (sym e)
+not-last from at n LastFragment false e is = true≢false (sym e)
+
+begins-start : (unit : PictureUnit) (all : List ℕ) (f : Filling) (n x : ℕ) (goes : Bool) → Right unit all f → among f.at all ≡ true → goes_in f n ≡ goes → f.at < x → begins unit all (start_of goes f) x ≡ true
+begins-start unit all f n x true right here e above =
+    begins-here unit all f.from f.at x f.holds right.behind right.begin right.alone (not-last f.from f.at n f.holds (leb n 1380) e) above
+begins-start unit all f n x false right here e above = or-left (among f.at all) (eqb f.at unit.from && ltb unit.head_end x) here
+
+room-whole : (from at n count : ℕ) (holds : Holds) → goes_in_whole from at holds n ≡ true → from + 1380 * count < at + n → 0 < count → at < from + 1380
+room-whole from at n count HeadAlone e before some = absurd (omega (arith, leb-true (at + n) (from + 1380) e, before, some))
+room-whole from at n count Slices e before some = absurd (omega (arith, leb-true (at + n) (from + 1380) e, before, some))
+room-whole from at n count LastFragment e before some = absurd (true≢false (sym e))
+
+room-cut : (from at : ℕ) (holds : Holds) → goes_in_cut from at holds ≡ true → at < from + 1380
+room-cut from at HeadAlone e = ltb-true at (from + 1380) e
+room-cut from at Slices e = absurd (true≢false (sym e))
+room-cut from at LastFragment e = absurd (true≢false (sym e))
+
+room-here : (from at n count : ℕ) (holds : Holds) (short : Bool) → cond short (goes_in_whole from at holds n) (goes_in_cut from at holds) ≡ true → from + 1380 * count < at + n → 0 < count → at < from + 1380
+room-here from at n count holds true e before some = room-whole from at n count holds e before some
+room-here from at n count holds false e before some = room-cut from at holds e
+
+pub start-room : (f : Filling) (n count : ℕ) (goes : Bool) → goes_in f n ≡ goes → start_of goes f + 1380 * count < f.at + n → 0 < count → f.at < start_of goes f + 1380
+start-room f n count true e before some = room-here f.from f.at n count f.holds (leb n 1380) e before some
+start-room f n count false e before some = omega arith
+
+-- ---- one slice, and all
+
+-- a short slice fills no piece, a longer one some
+pub none-full : (f : Filling) (n count : ℕ) (goes : Bool) → leb n 1380 ≡ true → goes_in f n ≡ goes → start_of goes f + 1380 * count < f.at + n → count ≡ 0
+none-full f n count true short e before =
+    let fits = whole-fits f.from f.at n f.holds (sym (ap (λ b. cond b (goes_in_whole f.from f.at f.holds n) (goes_in_cut f.from f.at f.holds)) short) ∙ e) in
+    omega (arith, fits, before)
+none-full f n count false short e before = omega (arith, leb-true n 1380 short, before)
+
+some-full : (f : Filling) (n count : ℕ) (goes : Bool) → f.from ≤ f.at → leb n 1380 ≡ false → f.at + n ≤ start_of goes f + 1380 * count + 1380 → 0 < count
+some-full f n count true order long within = omega (arith, order, leb-false n 1380 long, within)
+some-full f n count false order long within = omega (arith, leb-false n 1380 long, within)
+
+next-begin : (unit : PictureUnit) (all : List ℕ) (f : Filling) (n count : ℕ) (goes short : Bool) → Right unit all f → Slice unit.to all f.at (f.at + n) → 0 < n → leb n 1380 ≡ short → goes_in f n ≡ goes
+    → start_of goes f + 1380 * count < f.at + n → f.at + n ≤ start_of goes f + 1380 * count + 1380
+    → begins unit all (start_of goes f + 1380 * count) (f.at + n) ≡ begins_slice (cond short Slices LastFragment)
+next-begin unit all f n count goes true right slice some is e before within =
+    let none : count ≡ 0 = none-full f n count goes is e before in
+    let start : start_of goes f + 1380 * count ≡ start_of goes f = omega (arith, none) in
+    ap (λ s. begins unit all s (f.at + n)) start ∙ begins-start unit all f n (f.at + n) goes right slice.starts e (omega (arith, some))
+next-begin unit all f n count goes false right slice some is e before within =
+    let full : 0 < count = some-full f n count goes right.order is within in
+    let room = start-room f n count goes e before full in
+    no-begin unit all f.at (f.at + n) (start_of goes f + 1380 * count) (f.at + n) slice (omega (arith, right.first, right.behind)) (omega (arith, room, full)) before
+
+held-ends : (short : Bool) → true ≡ ends_slice (cond short Slices LastFragment)
+held-ends true = refl
+held-ends false = refl
+
+held-not_alone : (short : Bool) → cond short Slices LastFragment ≡ HeadAlone → ⊥
+held-not_alone true e = cc
+held-not_alone false e = cc
+
+next-right : (unit : PictureUnit) (all : List ℕ) (f : Filling) (n : ℕ) → Right unit all f → Slice unit.to all f.at (f.at + n) → 0 < n → Right unit all (next_filling f n)
+next-right unit all f n right slice some =
+    let goes = goes_in f n in
+    let start = start_of goes f in
+    let less = start-less f n goes right.order some in
+    let before = full_before-less start (f.at + n) less in
+    record {
+      first = right.first;
+      behind = omega (arith, right.behind);
+      begin = next-begin unit all f n (full_before start (f.at + n)) goes (leb n 1380) right slice some refl refl before (full_before-within start (f.at + n) less);
+      end = slice.ends ∙ held-ends (leb n 1380);
+      alone = λ e. absurd (held-not_alone (leb n 1380) e);
+      order = omega (arith, before);
+    }
+
+pub flags : (unit : PictureUnit) (all left : List ℕ) (f : Filling) → Right unit all f → Agrees unit.to all f.at left → AreInOrder f.at left unit.to
+    → packets_from unit f (lengths_to unit.to left) ≡ piece_packets unit all f.from (ends (packets_from unit f (lengths_to unit.to left)))
+flags unit all [] f right agrees order = ap (λ (p : Packet). p ∷ []) (closed-right unit all f right)
+flags unit all (s ∷ left) f right agrees order =
+    let next = next_place unit.to left in
+    let n = next - s in
+    let end : f.at + n ≡ next = omega (arith, order.0, order.1.0) in
+    let some : 0 < n = omega (arith, order.0, order.1.0) in
+    let known : Slice unit.to all f.at (f.at + n) = subst (λ e. Slice unit.to all f.at e) (sym end) (slice-known unit.to all s left f.at agrees order) in
+    let after : Agrees unit.to all (f.at + n) left = subst (λ e. Agrees unit.to all e left) (sym end) (agrees-next unit.to all s left f.at agrees order) in
+    let ordered : AreInOrder (f.at + n) left unit.to = subst (λ e. AreInOrder e left unit.to) (sym end) order.1.1 in
+    let goes = goes_in f n in
+    let start = start_of goes f in
+    let before = full_before-less start (f.at + n) (start-less f n goes right.order some) in
+    let full = full-pieces unit all f.at (f.at + n) true start (full_before start (f.at + n)) known (omega (arith, right.first, right.behind))
+    (λ more. begins-start unit all f n (start + 1380) goes right known.starts refl (start-room f n (full_before start (f.at + n)) goes refl before more))
+    (λ more. start-room f n (full_before start (f.at + n)) goes refl before more) before in
+    slice-rest unit all f goes (full_before start (f.at + n)) (packets_from unit (next_filling f n) (lengths_to unit.to left)) right full
+    (flags unit all left (next_filling f n) (next-right unit all f n right known some) after ordered)
+
+-- the first piece
+pub first-right : (unit : PictureUnit) (all : List ℕ) → unit.from < unit.head_end → AreInOrder unit.head_end all unit.to → Right unit all (first_piece unit.from unit.head_end)
+first-right unit all first order = record {
+  first = first;
+  behind = omega arith;
+  begin = or-neither (among unit.from all) (eqb unit.from unit.from && ltb unit.head_end unit.head_end) (among-below all unit.head_end unit.to unit.from order first)
+      (and-second (eqb unit.from unit.from) (ltb unit.head_end unit.head_end) (le-ltb unit.head_end unit.head_end (omega arith)));
+  end = ends-below all unit.head_end unit.to unit.head_end order (omega arith);
+  alone = λ e. (refl, refl);
+  order = omega (arith, first);
+}

@@ -1,0 +1,174 @@
+-- The units of an accepted film have their slices in order.
+use Rattle.std.proofs.Common.{◌≡◌, ℕ, zero, suc, ◌+◌, ◌-◌, ◌<◌, ◌≤◌, Bool, true, false, cond, eqb, ltb, leb, ◌&&◌, List, [], ◌∷◌, ◌++◌, append_assoc, Some, None, IsSome, length, take, drop, slice_get, refl, sym, ap, subst, ◌∙◌, arith, length-append}
+use Rattle.std.proofs.lemmas.List.{append-nil}
+use Rattle.std.proofs.Math.Seq.{drop-append_seam, take-append_seam}
+use Rattle.std.proofs.lemmas.Bool.{and_parts, false≢true, eqb-true, ltb-true, leb-true}
+use Rattle.mpeg_scan.specs.declared.units.Unit.{Unit as PictureUnit}
+use Rattle.mpeg_scan.specs.Calls.{Call, head_call, slice_call, unit_call, all_told}
+use Rattle.mpeg_scan.specs.Codes.{read, codes_of}
+use Rattle.mpeg_scan.specs.Counts.{Count, counts_after, group_of, no_count}
+use Rattle.mpeg_scan.specs.Films.{IsFilm, slices_in, units_in}
+use Rattle.mpeg_scan.specs.Tiles.{Part, between, within, first_of, parts_after}
+use Rattle.mpeg_scan.proofs.FilmLemmas.{length-read}
+use Rattle.mpeg_scan.proofs.CountLemmas.{film-numbered}
+use Rattle.mpeg_scan.proofs.TileLemmas.{film-tiles}
+use Rattle.rtp_pack.specs.Packets.{AreInOrder, IsLaid, unit_starts}
+
+-- each unit is laid out so, and ends at a place or before it
+abbrev pub AreLaid : ℕ → List ℕ → List PictureUnit → Type 0
+AreLaid end starts [] = Unit {0}
+AreLaid end starts (unit ∷ units) = ((unit.to ≤ end) × IsLaid starts unit) × AreLaid end starts units
+
+pub laid-at : (end : ℕ) (starts : List ℕ) (units : List PictureUnit) (k : ℕ) (unit : PictureUnit) → slice_get units k ≡ Some unit → AreLaid end starts units → (unit.to ≤ end) × IsLaid starts unit
+laid-at end starts [] k unit is laid = cc
+laid-at end starts (first ∷ units) zero unit is laid =
+    let P : PictureUnit → Type 0 = λ u. (u.to ≤ end) × IsLaid starts u in
+    let same : first ≡ unit = cc in subst P same laid.0
+laid-at end starts (first ∷ units) (suc k) unit is laid = laid-at end starts units k unit is laid.1
+
+-- one slice more
+in_order-more : (cur : List ℕ) (head at b : ℕ) → AreInOrder head cur at → at + 4 ≤ b → AreInOrder head (cur ++ at ∷ []) b
+in_order-more [] head at b order least = (sym order, (omega (arith, order, least), refl))
+in_order-more (s ∷ []) head at b order least = (order.0, (order.1.0, (refl, (least, refl))))
+in_order-more (s ∷ (next ∷ cur)) head at b order least = (order.0, (order.1.0, in_order-more (next ∷ cur) next at b order.1.1 least))
+
+-- the slices of a unit, behind those before it
+own-slices : (before cur rest : List ℕ) (first n : ℕ) → first ≡ length before → n ≡ length cur → take n (drop first ((before ++ cur) ++ rest)) ≡ cur
+own-slices before cur rest first n f m =
+    ap (λ (l : List ℕ). take n (drop first l)) (append_assoc before cur rest)
+    ∙ ap (λ i. take n (drop i (before ++ (cur ++ rest)))) f
+    ∙ ap (λ (l : List ℕ). take n l) (drop-append_seam before (cur ++ rest))
+    ∙ ap (λ i. take i (cur ++ rest)) m
+    ∙ take-append_seam cur rest
+
+-- what the parts so far say: `past` are the places of all slices so far
+pub record Inside (from head_end at n : ℕ) (past : List ℕ) : Type 0 where
+  pub before : List ℕ
+  pub cur : List ℕ
+  pub past_is : past ≡ before ++ cur
+  pub count : n ≡ length cur
+  pub head : from < head_end
+  pub short : head_end ≤ from + 1380
+  pub in_order : AreInOrder head_end cur at
+
+abbrev pub Stands : Part → List ℕ → Type 0
+Stands (between at) past = Unit {0}
+Stands (within from head_end at n) past = Inside from head_end at n past
+
+part-fits : (b : Bool) (p : Part) (calls : List Call) (to : ℕ) → parts_after (cond b (Some p) None) calls ≡ Some (between to) → (b ≡ true) × (parts_after (Some p) calls ≡ Some (between to))
+part-fits true p calls to e = (refl, e)
+part-fits false p [] to e = cc
+part-fits false p (call ∷ calls) to e = cc
+
+-- the parts come to their end from the front
+place_of : Part → ℕ
+place_of (between at) = at
+place_of (within from head_end at n) = at
+
+part-below : (calls : List Call) (part : Part) (to : ℕ) → parts_after (Some part) calls ≡ Some (between to) → place_of part ≤ to
+unfolding place_of
+part-below [] (between at) to parts = let same : at ≡ to = cc in omega (arith, same)
+part-below [] (within from head_end at n) to parts = cc
+part-below (head_call a b ∷ calls) (between at) to parts =
+    let fits = part-fits (eqb a at && (ltb a b && leb (b - a) 1380)) (within a b b 0) calls to parts in
+    let first = and_parts (eqb a at) (ltb a b && leb (b - a) 1380) fits.0 in
+    omega (arith, eqb-true a at first.0, ltb-true a b (and_parts (ltb a b) (leb (b - a) 1380) first.1).0, part-below calls (within a b b 0) to fits.1)
+part-below (slice_call a b ∷ calls) (between at) to parts = absurd (false≢true (part-fits false (between at) calls to parts).0)
+part-below (unit_call unit ∷ calls) (between at) to parts = absurd (false≢true (part-fits false (between at) calls to parts).0)
+part-below (head_call a b ∷ calls) (within from head_end at n) to parts = absurd (false≢true (part-fits false (between at) calls to parts).0)
+part-below (slice_call a b ∷ calls) (within from head_end at n) to parts =
+    let fits = part-fits (eqb a at && leb (a + 4) b) (within from head_end b (n + 1)) calls to parts in
+    let first = and_parts (eqb a at) (leb (a + 4) b) fits.0 in
+    omega (arith, eqb-true a at first.0, leb-true (a + 4) b first.1, part-below calls (within from head_end b (n + 1)) to fits.1)
+part-below (unit_call unit ∷ calls) (within from head_end at n) to parts =
+    let fits = part-fits ((eqb unit.from from && (eqb unit.head_end head_end && eqb unit.to at)) && (eqb unit.slices n && ltb 0 n)) (between at) calls to parts in
+    part-below calls (between at) to fits.1
+
+count-fits : (b : Bool) (k : Count) (calls : List Call) → IsSome (counts_after (cond b (Some k) None) calls) → (b ≡ true) × IsSome (counts_after (Some k) calls)
+count-fits true k calls e = (refl, e)
+count-fits false k [] e = cc
+count-fits false k (call ∷ calls) e = cc
+
+pub record UnitFits (unit : PictureUnit) (from head_end at n : ℕ) : Type 0 where
+  pub begin : unit.from ≡ from
+  pub head : unit.head_end ≡ head_end
+  pub end : unit.to ≡ at
+  pub slices : unit.slices ≡ n
+  pub some : 0 < n
+
+unit-fits : (unit : PictureUnit) (from head_end at n : ℕ) → ((eqb unit.from from && (eqb unit.head_end head_end && eqb unit.to at)) && (eqb unit.slices n && ltb 0 n)) ≡ true → UnitFits unit from head_end at n
+unit-fits unit from head_end at n e =
+    let both = and_parts (eqb unit.from from && (eqb unit.head_end head_end && eqb unit.to at)) (eqb unit.slices n && ltb 0 n) e in
+    let first = and_parts (eqb unit.from from) (eqb unit.head_end head_end && eqb unit.to at) both.0 in
+    let places = and_parts (eqb unit.head_end head_end) (eqb unit.to at) first.1 in
+    let counts = and_parts (eqb unit.slices n) (ltb 0 n) both.1 in
+    record {
+      begin = eqb-true unit.from from first.0;
+      head = eqb-true unit.head_end head_end places.0;
+      end = eqb-true unit.to at places.1;
+      slices = eqb-true unit.slices n counts.0;
+      some = ltb-true 0 n counts.1;
+    }
+
+unit-laid : (unit : PictureUnit) (from head_end at n : ℕ) (past rest : List ℕ) → UnitFits unit from head_end at n → unit.first_slice + unit.slices ≡ length past → Inside from head_end at n past → IsLaid (past ++ rest) unit
+unit-laid unit from head_end at n past rest fits count inside =
+    let all : length past ≡ length inside.before + length inside.cur = ap length inside.past_is ∙ length-append inside.before inside.cur in
+    let cur : unit.slices ≡ length inside.cur = fits.slices ∙ inside.count in
+    let first : unit.first_slice ≡ length inside.before = omega (arith, all, cur, count) in
+    let starts : inside.cur ≡ unit_starts (past ++ rest) unit =
+    sym (ap (λ (l : List ℕ). take unit.slices (drop unit.first_slice (l ++ rest))) inside.past_is ∙ own-slices inside.before inside.cur rest unit.first_slice unit.slices first cur) in
+    let order : AreInOrder unit.head_end inside.cur unit.to =
+    subst (λ h. AreInOrder h inside.cur unit.to) (sym fits.head) (subst (λ t. AreInOrder head_end inside.cur t) (sym fits.end) inside.in_order) in
+    record {
+      fits = omega (arith, count, length-append past rest);
+      head = omega (arith, fits.begin, fits.head, inside.head);
+      short = omega (arith, fits.begin, fits.head, inside.short);
+      some = omega (arith, fits.slices, fits.some);
+      in_order = subst (λ (l : List ℕ). AreInOrder unit.head_end l unit.to) starts order;
+    }
+
+part-laid : (calls : List Call) (part : Part) (k : Count) (to : ℕ) (past : List ℕ) → parts_after (Some part) calls ≡ Some (between to) → IsSome (counts_after (Some k) calls) → k.slices ≡ length past → Stands part past → AreLaid to (past ++ slices_in calls) (units_in calls)
+unfolding place_of
+part-laid [] part k to past parts counts slices stands = tt
+part-laid (head_call a b ∷ calls) (between at) k to past parts counts slices stands =
+    let fits = part-fits (eqb a at && (ltb a b && leb (b - a) 1380)) (within a b b 0) calls to parts in
+    let head = and_parts (ltb a b) (leb (b - a) 1380) (and_parts (eqb a at) (ltb a b && leb (b - a) 1380) fits.0).1 in
+    let less = ltb-true a b head.0 in
+    let short = leb-true (b - a) 1380 head.1 in
+    part-laid calls (within a b b 0) k to past fits.1 counts slices
+    (record { before = past; cur = []; past_is = sym (append-nil past); count = refl; head = less; short = omega (arith, less, short); in_order = refl })
+part-laid (slice_call a b ∷ calls) (between at) k to past parts counts slices stands = absurd (false≢true (part-fits false (between at) calls to parts).0)
+part-laid (unit_call unit ∷ calls) (between at) k to past parts counts slices stands = absurd (false≢true (part-fits false (between at) calls to parts).0)
+part-laid (head_call a b ∷ calls) (within from head_end at n) k to past parts counts slices stands = absurd (false≢true (part-fits false (between at) calls to parts).0)
+part-laid (slice_call a b ∷ calls) (within from head_end at n) k to past parts counts slices stands =
+    let fits = part-fits (eqb a at && leb (a + 4) b) (within from head_end b (n + 1)) calls to parts in
+    let slice = and_parts (eqb a at) (leb (a + 4) b) fits.0 in
+    let here = eqb-true a at slice.0 in
+    let least = leb-true (a + 4) b slice.1 in
+    subst (λ (l : List ℕ). AreLaid to l (units_in calls)) (append_assoc past (a ∷ []) (slices_in calls))
+    (part-laid calls (within from head_end b (n + 1)) (record k { slices = k.slices + 1 }) to (past ++ a ∷ []) fits.1 counts (omega (arith, slices, length-append past (a ∷ [])))
+    (record {
+      before = stands.before;
+      cur = stands.cur ++ a ∷ [];
+      past_is = ap (λ (l : List ℕ). l ++ a ∷ []) stands.past_is ∙ append_assoc stands.before stands.cur (a ∷ []);
+      count = omega (arith, stands.count, length-append stands.cur (a ∷ []));
+      head = stands.head;
+      short = stands.short;
+      in_order = subst (λ s. AreInOrder head_end (stands.cur ++ s ∷ []) b) (sym here) (in_order-more stands.cur head_end at b stands.in_order (omega (arith, here, least)));
+    }))
+part-laid (unit_call unit ∷ calls) (within from head_end at n) k to past parts counts slices stands =
+    let fits = part-fits ((eqb unit.from from && (eqb unit.head_end head_end && eqb unit.to at)) && (eqb unit.slices n && ltb 0 n)) (between at) calls to parts in
+    let agrees = count-fits (eqb (unit.first_slice + unit.slices) k.slices && eqb unit.presentation (group_of k unit + unit.temporal))
+    (record { units = k.units + 1; slices = k.slices; before_group = group_of k unit }) calls counts in
+    let count = eqb-true (unit.first_slice + unit.slices) k.slices (and_parts (eqb (unit.first_slice + unit.slices) k.slices) (eqb unit.presentation (group_of k unit + unit.temporal)) agrees.0).0 in (
+      (subst (λ p. p ≤ to) (sym (unit-fits unit from head_end at n fits.0).end) (part-below calls (between at) to fits.1), unit-laid unit from head_end at n past (slices_in calls) (unit-fits unit from head_end at n fits.0) (count ∙ slices) stands),
+      part-laid calls (between at) (record { units = k.units + 1; slices = k.slices; before_group = group_of k unit }) to past fits.1 agrees.1 slices tt,
+    )
+
+pub film-laid : (bytes : List ℕ) (rate : ℕ) (units : List PictureUnit) (starts : List ℕ) → IsFilm bytes rate units starts → AreLaid (length bytes) starts units
+film-laid bytes rate units starts film =
+    let calls = all_told (read [] bytes) in
+    let end : length (read [] bytes) ≡ length bytes = length-read bytes [] ∙ omega arith in
+    let laid = part-laid calls (between (first_of (codes_of (read [] bytes)))) no_count (length (read [] bytes)) [] (film-tiles (read [] bytes) film.accepted) (film-numbered (read [] bytes) film.accepted) refl tt in
+    subst (λ e. AreLaid e starts units) end
+    (subst (λ (l : List ℕ). AreLaid (length (read [] bytes)) l units) (sym film.slices) (subst (λ (l : List PictureUnit). AreLaid (length (read [] bytes)) (slices_in calls) l) (sym film.units) laid))

@@ -1,0 +1,7 @@
+pub mod PackLemmas
+pub mod CutLemmas
+pub mod LaidLemmas
+pub mod SizeLemmas
+pub mod FlagLemmas
+pub mod UnitLemmas
+pub mod LawLemmas

@@ -1,0 +1,71 @@
+-- What the packer keeps: the packets that are out, and those that the rest of the unit gives.
+use Rattle.std.proofs.Common.{◌≡◌, ℕ, suc, ◌+◌, ◌-◌, ◌<◌, ◌≤◌, Bool, List, [], ◌∷◌, ◌++◌, append_assoc, drop, length, get_or, refl, sym, ap, subst, ◌∙◌, arith, false}
+use Rattle.std.proofs.Common.{drop-cons, add-one}
+use Rattle.std.proofs.Math.ListN.{drop_of_length-le}
+use Rattle.mpeg_scan.specs.declared.units.Unit.{Unit as PictureUnit}
+use Rattle.rtp_pack.specs.declared.filling.Filling.{Filling}
+use Rattle.rtp_pack.specs.declared.payloads.Packet.{Packet}
+use Rattle.rtp_pack.specs.Cutting.{next_filling}
+use Rattle.rtp_pack.specs.Packets.{AreInOrder, closed, full_packets, lengths_to, next_place, packet, packets_from, slice_packets}
+
+-- one more full piece of those that are left
+pub put-full_packet : (unit : PictureUnit) (begin : Bool) (start count i : ℕ) (out : List Packet) → i < count
+    → (out ++ packet unit start (start + 1380) begin false ∷ []) ++ full_packets unit false (start + 1380) (count - (i + 1)) ≡ out ++ full_packets unit begin start (count - i)
+put-full_packet unit begin start count i out less =
+    let left : count - i ≡ suc (count - (i + 1)) = omega arith in
+    append_assoc out (packet unit start (start + 1380) begin false ∷ []) (full_packets unit false (start + 1380) (count - (i + 1)))
+    ∙ sym (ap (λ n. out ++ full_packets unit begin start n) left)
+
+-- the slices from a place of the list on
+pub from-place : (starts : List ℕ) (i : ℕ) → i < length starts → drop i starts ≡ get_or starts i 0 ∷ drop (i + 1) starts
+from-place starts i less = rw (add-one, drop-cons starts i 0) refl
+
+-- what the order of the slices says of the one at a place
+pub record AtSlice (to : ℕ) (starts : List ℕ) (i at : ℕ) : Type 0 where
+  pub least : at + 4 ≤ next_place to (drop (i + 1) starts)
+  pub after : AreInOrder (next_place to (drop (i + 1) starts)) (drop (i + 1) starts) to
+  pub lengths : lengths_to to (drop i starts) ≡ (next_place to (drop (i + 1) starts) - at) ∷ lengths_to to (drop (i + 1) starts)
+
+pub at-slice : (to : ℕ) (starts : List ℕ) (i at : ℕ) → i < length starts → AreInOrder at (drop i starts) to → AtSlice to starts i at
+at-slice to starts i at less order =
+    let place = from-place starts i less in
+    let first = subst (λ (rest : List ℕ). AreInOrder at rest to) place order in
+    record {
+      least = first.1.0;
+      after = first.1.1;
+      lengths = ap (λ (rest : List ℕ). lengths_to to rest) place ∙ ap (λ here. (next_place to (drop (i + 1) starts) - here) ∷ lengths_to to (drop (i + 1) starts)) first.0;
+    }
+
+-- the packets of one more slice
+put-next : (unit : PictureUnit) (f : Filling) (n : ℕ) (rest lengths : List ℕ) (out : List Packet) → lengths ≡ n ∷ rest
+    → (out ++ slice_packets unit f n) ++ packets_from unit (next_filling f n) rest ≡ out ++ packets_from unit f lengths
+put-next unit f n rest lengths out is =
+    append_assoc out (slice_packets unit f n) (packets_from unit (next_filling f n) rest) ∙ sym (ap (λ (l : List ℕ). out ++ packets_from unit f l) is)
+
+-- once they are out, the slices behind it follow
+pub record Put (unit : PictureUnit) (starts : List ℕ) (i : ℕ) (next : Filling) (out whole : List Packet) : Type 0 where
+  pub in_order : AreInOrder next.at (drop (i + 1) starts) unit.to
+  pub packets : out ++ packets_from unit next (lengths_to unit.to (drop (i + 1) starts)) ≡ whole
+
+pub put-slice : (unit : PictureUnit) (starts : List ℕ) (i : ℕ) (f next : Filling) (end : ℕ) (before out whole : List Packet) → i < length starts → AreInOrder f.at (drop i starts) unit.to
+    → end ≡ next_place unit.to (drop (i + 1) starts) → next ≡ next_filling f (end - f.at) → out ≡ before ++ slice_packets unit f (end - f.at)
+    → before ++ packets_from unit f (lengths_to unit.to (drop i starts)) ≡ whole → Put unit starts i next out whole
+put-slice unit starts i f next end before out whole less order at_end at_next more is =
+    let here = at-slice unit.to starts i f.at less order in
+    let ends : next.at ≡ f.at + (end - f.at) = ap (λ (g : Filling). g.at) at_next in
+    let there : next_place unit.to (drop (i + 1) starts) ≡ next.at = omega (arith, here.least, at_end, ends) in
+    let rest = lengths_to unit.to (drop (i + 1) starts) in
+    let lengths : lengths_to unit.to (drop i starts) ≡ (end - f.at) ∷ rest = here.lengths ∙ ap (λ e. (e - f.at) ∷ rest) (sym at_end) in
+    record {
+      in_order = subst (λ at. AreInOrder at (drop (i + 1) starts) unit.to) there here.after;
+      packets = ap (λ (o : List Packet). o ++ packets_from unit next rest) more
+          ∙ ap (λ (g : Filling). (before ++ slice_packets unit f (end - f.at)) ++ packets_from unit g rest) at_next
+          ∙ put-next unit f (end - f.at) rest (lengths_to unit.to (drop i starts)) before lengths
+          ∙ is;
+    }
+
+-- behind the last slice the piece in hand is the last packet
+pub put-last : (unit : PictureUnit) (starts : List ℕ) (i : ℕ) (f : Filling) (before out whole : List Packet) → length starts ≤ i → out ≡ before ++ closed unit f ∷ []
+    → before ++ packets_from unit f (lengths_to unit.to (drop i starts)) ≡ whole → out ≡ whole
+put-last unit starts i f before out whole past is all =
+    is ∙ ap (λ (l : List ℕ). before ++ packets_from unit f (lengths_to unit.to l)) (sym (drop_of_length-le starts past)) ∙ all

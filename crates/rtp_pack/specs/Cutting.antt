@@ -1,0 +1,92 @@
+-- How a unit, a picture with its headers, is cut into the payloads of RTP packets of at most 1,380 bytes. RFC
+-- 2250 section 3.1 wants that headers begin a packet and that a slice begins one too, or follows headers or
+-- whole slices. Of the ways that it leaves this is one:
+-- * the first piece begins with the whole head;
+-- * a slice of at most 1,380 bytes is never cut: it goes into the piece that is being filled where all of it
+--   fits, and else begins the next;
+-- * a longer slice begins in the piece that has nothing but the head, where that leaves room, and else begins
+--   the next; it fills each piece to 1,380 bytes, and no slice goes behind its last fragment;
+-- * a piece ends only where this says so, or with the unit.
+-- A unit's cut points are the places where its pieces end, the last of them the unit's end.
+use Rattle.std.specs.Prelude.{ℕ, zero, suc, ◌+◌, ◌-◌, ◌*◌, ◌/◌, ◌<◌, ◌≤◌, ◌≡◌, ◌⊎◌, Bool, true, false, nat_le, nat_lt, if◌then◌else◌, List, [], ◌∷◌, ◌++◌}
+use Rattle.rtp_pack.specs.declared.filling.Filling.{Filling}
+use Rattle.rtp_pack.specs.declared.filling.Holds.{Holds}
+use Rattle.rtp_pack.specs.declared.filling.Holds.TheVariants.{HeadAlone, Slices, LastFragment}
+
+-- a slice of at most 1,380 bytes goes into the piece that has the bytes `from` to `at` where all of it fits,
+-- and never behind a longer slice's last fragment
+abbrev pub goes_in_whole : ℕ → ℕ → Holds → ℕ → Bool
+goes_in_whole from at HeadAlone length = nat_le (at + length) (from + 1380)
+goes_in_whole from at Slices length = nat_le (at + length) (from + 1380)
+goes_in_whole from at LastFragment length = false
+
+-- a longer slice begins in the piece where nothing but the head stands in it and leaves room
+abbrev pub goes_in_cut : ℕ → ℕ → Holds → Bool
+goes_in_cut from at HeadAlone = nat_lt at (from + 1380)
+goes_in_cut from at Slices = false
+goes_in_cut from at LastFragment = false
+
+abbrev pub goes_in : Filling → ℕ → Bool
+goes_in f length =
+    if nat_le length 1380 then goes_in_whole f.from f.at f.holds length else goes_in_cut f.from f.at f.holds
+
+-- what the piece with the end of a slice of `length` bytes holds
+abbrev pub held : ℕ → Holds
+held length = if nat_le length 1380 then Slices else LastFragment
+
+-- the piece in which a slice of `length` bytes ends, that begins at `start`
+abbrev pub filled : Filling → ℕ → ℕ → Filling
+filled f length start = record { from = start; at = f.at + length; holds = held length }
+
+-- the ends of so many full pieces of 1,380 bytes
+abbrev pub full_ends : ℕ → ℕ → List ℕ
+full_ends start zero = []
+full_ends start (suc count) = (start + 1380) ∷ full_ends (start + 1380) count
+
+-- a slice that ends at `end`, in a piece from `start` on: where it doesn't end in that piece it fills it, and
+-- each further one, to 1,380 bytes; the rest of the unit goes on from the piece in which it ends
+pub record Fills (GoesOn : ℕ → List ℕ → Type 0) (start end : ℕ) (cuts : List ℕ) : Type 0 where
+  pub full : ℕ
+  pub rest : List ℕ
+  pub before : start + 1380 * full < end
+  pub within : end ≤ start + 1380 * full + 1380
+  pub filled : cuts ≡ full_ends start full ++ rest
+  pub goes_on : GoesOn (start + 1380 * full) rest
+
+-- a slice that goes into the piece makes no cut before it; any other makes a cut where it begins, and begins
+-- the next piece
+abbrev pub Begins : (ℕ → List ℕ → Type 0) → Bool → ℕ → ℕ → List ℕ → Type 0
+Begins Goes goes from at cuts =
+    ((goes ≡ true) × Goes from cuts) ⊎ ((goes ≡ false) × ((rest : List ℕ) × ((cuts ≡ at ∷ rest) × Goes at rest)))
+
+-- the cut points behind a piece that is being filled, where slices of these lengths follow
+abbrev pub Cuts : Filling → List ℕ → List ℕ → Type 0
+Cuts f [] cuts = cuts ≡ f.at ∷ []
+Cuts f (length ∷ slices) cuts =
+    let end = f.at + length in
+    Begins (λ start left. Fills (λ last rest. Cuts (filled f length last) slices rest) start end left)
+    (goes_in f length) f.from f.at cuts
+
+-- the first piece of a unit begins with its whole head
+abbrev pub first_piece : ℕ → ℕ → Filling
+first_piece from head_end = record { from = from; at = head_end; holds = HeadAlone }
+
+-- the cut points of a unit at place `from` with a head to `head_end` and slices of these lengths
+abbrev pub IsCutting : ℕ → ℕ → List ℕ → List ℕ → Type 0
+IsCutting from head_end slices cuts = Cuts (first_piece from head_end) slices cuts
+
+-- how many full pieces from `start` on end before `end`
+abbrev pub full_before : ℕ → ℕ → ℕ
+full_before start end = (end - start - 1) / 1380
+
+-- where the piece begins in which a slice begins
+abbrev pub start_of : Bool → Filling → ℕ
+start_of goes f = if goes then f.from else f.at
+
+-- where the piece begins in which a slice ends, if the piece in which it begins is from `start` on
+abbrev pub last_start : ℕ → ℕ → ℕ
+last_start start end = start + 1380 * full_before start end
+
+-- the piece in which the next slice ends, of `length` bytes
+abbrev pub next_filling : Filling → ℕ → Filling
+next_filling f length = filled f length (last_start (start_of (goes_in f length) f) (f.at + length))

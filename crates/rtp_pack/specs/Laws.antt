@@ -1,0 +1,25 @@
+-- What follows from the rules for cutting, in a reader's words.
+use Rattle.std.specs.Prelude.{ℕ, ◌+◌, ◌<◌, ◌≤◌, ◌≡◌, ◌⊎◌, true, List, [], ◌∷◌}
+use Rattle.rtp_pack.specs.Packets.{among}
+
+-- pieces of 1 to 1,380 bytes cover the bytes from a place to another in order, without gap or overlap
+abbrev pub ArePieces : ℕ → List ℕ → ℕ → Type 0
+ArePieces from [] to = from ≡ to
+ArePieces from (cut ∷ cuts) to = (from < cut) × ((cut ≤ from + 1380) × ArePieces cut cuts to)
+
+-- no cut lies strictly between these places
+abbrev pub IsUncut : ℕ → ℕ → List ℕ → Type 0
+IsUncut from to [] = Unit {0}
+IsUncut from to (cut ∷ cuts) = ((cut ≤ from) ⊎ (to ≤ cut)) × IsUncut from to cuts
+
+-- no slice of at most 1,380 bytes is cut, of slices of these lengths from a place on
+abbrev pub AreShortUncut : ℕ → List ℕ → List ℕ → Type 0
+AreShortUncut at [] cuts = Unit {0}
+AreShortUncut at (length ∷ slices) cuts =
+    (length ≤ 1380 → IsUncut at (at + length) cuts) × AreShortUncut (at + length) slices cuts
+
+-- each slice of more than 1,380 bytes ends with a piece, of slices of these lengths from a place on
+abbrev pub DoLongEndPieces : ℕ → List ℕ → List ℕ → Type 0
+DoLongEndPieces at [] cuts = Unit {0}
+DoLongEndPieces at (length ∷ slices) cuts =
+    (1380 < length → among (at + length) cuts ≡ true) × DoLongEndPieces (at + length) slices cuts

@@ -1,0 +1,6 @@
+pub mod Cutting
+pub mod Packets
+pub mod Heads
+pub mod Reports
+pub mod Sizes
+pub mod Laws

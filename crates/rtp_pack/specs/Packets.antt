@@ -1,0 +1,139 @@
+-- The packets of a unit.
+use Rattle.std.specs.Prelude.{ℕ, zero, suc, ◌+◌, ◌-◌, ◌==◌, ◌&&◌, ◌||◌, ◌<◌, ◌≤◌, ◌≡◌, Bool, true, false, nat_lt, if◌then◌else◌, List, [], ◌∷◌, ◌++◌, length, take, drop, slice_get, Some}
+use Rattle.mpeg_scan.specs.declared.units.Unit.{Unit as PictureUnit}
+use Rattle.rtp_pack.specs.declared.filling.Filling.{Filling}
+use Rattle.rtp_pack.specs.declared.filling.Holds.{Holds}
+use Rattle.rtp_pack.specs.declared.filling.Holds.TheVariants.{HeadAlone, Slices, LastFragment}
+use Rattle.rtp_pack.specs.declared.payloads.Packet.{Packet}
+use Rattle.rtp_pack.specs.Cutting.{IsCutting, goes_in, start_of, full_before, next_filling, first_piece}
+
+-- ---- the slices of a unit
+
+-- the place of the next slice, or the unit's end
+abbrev pub next_place : ℕ → List ℕ → ℕ
+next_place to [] = to
+next_place to (start ∷ starts) = start
+
+-- the lengths of slices that begin at these places, the last of which ends at `to`
+abbrev pub lengths_to : ℕ → List ℕ → List ℕ
+lengths_to to [] = []
+lengths_to to (start ∷ starts) = (next_place to starts - start) ∷ lengths_to to starts
+
+-- the places of a unit's slices, among those of the film's
+abbrev pub unit_starts : List ℕ → PictureUnit → List ℕ
+unit_starts slice_starts unit = take unit.slices (drop unit.first_slice slice_starts)
+
+-- the lengths of a unit's slices
+abbrev pub unit_lengths : List ℕ → PictureUnit → List ℕ
+unit_lengths slice_starts unit = lengths_to unit.to (unit_starts slice_starts unit)
+
+-- slices of at least 4 bytes each begin at these places, the first at `at`, and the last ends at `to`
+abbrev pub AreInOrder : ℕ → List ℕ → ℕ → Type 0
+AreInOrder at [] to = at ≡ to
+AreInOrder at (start ∷ starts) to =
+    (start ≡ at) × ((at + 4 ≤ next_place to starts) × AreInOrder (next_place to starts) starts to)
+
+-- a unit has a head of 1 to 1,380 bytes, and at least one slice
+pub record IsLaid (slice_starts : List ℕ) (unit : PictureUnit) : Type 0 where
+  pub fits : unit.first_slice + unit.slices ≤ length slice_starts
+  pub head : unit.from < unit.head_end
+  pub short : unit.head_end ≤ unit.from + 1380
+  pub some : 0 < unit.slices
+  pub in_order : AreInOrder unit.head_end (unit_starts slice_starts unit) unit.to
+
+-- a fact of a unit of a film, by its number
+abbrev pub OfUnit : List PictureUnit → ℕ → (PictureUnit → Type 0) → Type 0
+OfUnit units number Fact = (unit : PictureUnit) → slice_get units number ≡ Some unit → Fact unit
+
+-- ---- the packets, from the front
+
+-- the packet of a piece, where it is known whether it begins and ends with a slice
+abbrev pub packet : PictureUnit → ℕ → ℕ → Bool → Bool → Packet
+packet unit from to begin end = record {
+  from = from;
+  to = to;
+  marker = to == unit.to;
+  begin = begin;
+  end = end;
+  sequence_header = unit.has_sequence && (from == unit.from);
+}
+
+-- so many full pieces of a slice; the first of them begins with its code, or with the head and its code
+abbrev pub full_packets : PictureUnit → Bool → ℕ → ℕ → List Packet
+full_packets unit begin start zero = []
+full_packets unit begin start (suc count) =
+    packet unit start (start + 1380) begin false ∷ full_packets unit false (start + 1380) count
+
+abbrev pub begins_slice : Holds → Bool
+begins_slice HeadAlone = false
+begins_slice Slices = true
+begins_slice LastFragment = false
+
+abbrev pub ends_slice : Holds → Bool
+ends_slice HeadAlone = false
+ends_slice Slices = true
+ends_slice LastFragment = true
+
+-- the packet of a piece that ends before a slice or with the unit
+abbrev pub closed : PictureUnit → Filling → Packet
+closed unit f = packet unit f.from f.at (begins_slice f.holds) (ends_slice f.holds)
+
+-- the packet that ends where a slice begins that doesn't go in
+abbrev pub before_slice : Bool → PictureUnit → Filling → List Packet
+before_slice goes unit f = if goes then [] else closed unit f ∷ []
+
+-- the packets that end before or in the next slice, of `length` bytes
+abbrev pub slice_packets : PictureUnit → Filling → ℕ → List Packet
+slice_packets unit f length =
+    let start = start_of (goes_in f length) f in
+    before_slice (goes_in f length) unit f ++ full_packets unit true start (full_before start (f.at + length))
+
+-- the packets from the piece that is being filled on, where slices of these lengths follow
+abbrev pub packets_from : PictureUnit → Filling → List ℕ → List Packet
+packets_from unit f [] = closed unit f ∷ []
+packets_from unit f (length ∷ slices) =
+    slice_packets unit f length ++ packets_from unit (next_filling f length) slices
+
+-- the packets of a unit, by the places of its film's slices
+abbrev pub unit_packets : List ℕ → PictureUnit → List Packet
+unit_packets slice_starts unit = packets_from unit (first_piece unit.from unit.head_end) (unit_lengths slice_starts unit)
+
+-- the bytes of packets in their frames: an interleaved head of 4 bytes, the packet's of 16, and the payload
+abbrev pub frames_size : List Packet → ℕ
+frames_size [] = 0
+frames_size (p ∷ packets) = 20 + (p.to - p.from) + frames_size packets
+
+-- payloads of 1 to 1,380 bytes cover the bytes from a place to another in order, without gap or overlap
+abbrev pub DoCover : ℕ → List Packet → ℕ → Type 0
+DoCover from [] to = from ≡ to
+DoCover from (p ∷ packets) to = (p.from ≡ from) × ((from < p.to) × ((p.to ≤ from + 1380) × DoCover p.to packets to))
+
+-- ---- what they are
+
+-- a place is among these
+abbrev pub among : ℕ → List ℕ → Bool
+among place [] = false
+among place (other ∷ others) = place == other || among place others
+
+-- the ends of slices that begin at these places, the last of which ends at `to`
+abbrev pub ends_to : ℕ → List ℕ → List ℕ
+ends_to to [] = []
+ends_to to (start ∷ starts) = next_place to starts ∷ ends_to to starts
+
+-- the packet of a piece of a unit (RFC 2250 section 3.4): B where it begins with a slice, or with the head
+-- and a slice behind it; E where its last byte is a slice's last byte; S where it begins with a sequence
+-- header; the marker where it ends with the unit
+abbrev pub piece_packet : PictureUnit → List ℕ → ℕ → ℕ → Packet
+piece_packet unit starts from to =
+    packet unit from to (among from starts || (from == unit.from && nat_lt unit.head_end to)) (among to (ends_to unit.to starts))
+
+-- the packets of the pieces from a place on that end at these cut points
+abbrev pub piece_packets : PictureUnit → List ℕ → ℕ → List ℕ → List Packet
+piece_packets unit starts from [] = []
+piece_packets unit starts from (cut ∷ cuts) = piece_packet unit starts from cut ∷ piece_packets unit starts cut cuts
+
+-- these are the packets of a unit: the pieces of a cutting of it, in order
+pub record ArePackets (slice_starts : List ℕ) (unit : PictureUnit) (packets : List Packet) : Type 0 where
+  pub cuts : List ℕ
+  pub cutting : IsCutting unit.from unit.head_end (unit_lengths slice_starts unit) cuts
+  pub pieces : packets ≡ piece_packets unit (unit_starts slice_starts unit) unit.from cuts

@@ -1,0 +1,62 @@
+ghost use Rattle.std.specs.Prelude.{◌≡◌, ◌+◌, ◌*◌, ◌<◌, ◌≤◌};
+ghost use Rattle.rtp_pack.specs.Cutting.{full_before, goes_in, held};
+
+/// What stands in the piece of a unit that is being filled.
+#[derive(Clone, Copy, Debug, PartialEq, Eq)]
+pub(crate) enum Holds {
+    /// The unit's head alone.
+    HeadAlone,
+    /// Whole slices, behind the head in the unit's first piece.
+    Slices,
+    /// The last fragment of a slice that is longer than a piece.
+    LastFragment,
+}
+
+/// The piece of a unit that is being filled: its bytes so far, and what they are.
+#[derive(Clone, Copy, Debug, PartialEq, Eq)]
+pub(crate) struct Filling {
+    /// The place of its first byte.
+    pub from: u64,
+    /// The place behind its last byte so far.
+    pub at: u64,
+    /// What stands in it.
+    pub holds: Holds,
+}
+
+/// The most bytes of a unit in one packet.
+pub(crate) const PAYLOAD: u64 = 1380;
+
+/// Whether a slice of `length` bytes begins in the piece that is being filled, or else begins the next.
+pub(crate) fn goes_in(filling: Filling, length: u64) -> bool
+    requires { filling.from ≤ filling.at }
+    ensures { result ≡ goes_in filling length }
+{
+    let used = filling.at - filling.from;
+    match filling.holds {
+        Holds::HeadAlone if length > PAYLOAD => used < PAYLOAD,
+        Holds::Slices if length > PAYLOAD => false,
+        Holds::LastFragment => false,
+        _ => used <= PAYLOAD && length <= PAYLOAD - used,
+    }
+}
+
+/// What the piece with the end of a slice of `length` bytes holds.
+pub(crate) fn held(length: u64) -> Holds
+    ensures { result ≡ held length }
+{
+    if length > PAYLOAD {
+        Holds::LastFragment
+    } else {
+        Holds::Slices
+    }
+}
+
+/// How many full pieces from `start` on end before `end`.
+pub(crate) fn full_before(start: u64, end: u64) -> u64
+    requires { start < end }
+    ensures count { result ≡ full_before start end }
+    ensures before { start + 1380 * result < end }
+    ensures within { end ≤ start + 1380 * result + 1380 }
+{
+    (end - start - 1) / PAYLOAD
+}

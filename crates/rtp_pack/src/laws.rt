@@ -1,0 +1,47 @@
+ghost use Rattle.std.specs.Prelude.{◌≡◌, ◌+◌, ◌<◌, ◌≤◌, ◌++◌, length, sum, Ok};
+ghost use Rattle.rtp_pack.specs.Cutting.{IsCutting};
+ghost use Rattle.rtp_pack.specs.Heads.{head_bytes, head_of};
+ghost use Rattle.rtp_pack.specs.Laws.{ArePieces, AreShortUncut, DoLongEndPieces, IsUncut};
+ghost use Rattle.rtp_pack.specs.Packets.{IsLaid, OfUnit};
+
+use crate::heads::Head;
+use mpeg_scan::Film;
+
+/// The rules for cutting leave one list: two lists of cut points that meet them for one unit are equal.
+pub fn law_one_cutting(from: u64, head_end: u64, slices: &[u64], one: &[u64], other: &[u64])
+    requires one { IsCutting from head_end slices.now one.now }
+    requires other { IsCutting from head_end slices.now other.now }
+    ensures { one.now ≡ other.now }
+{
+    let _read = (from, head_end, slices.len(), one.len(), other.len());
+}
+
+/// What the rules for cutting come to. The pieces have 1 to 1,380 bytes and cover the unit in order. The
+/// head is never cut, nor is a slice of at most 1,380 bytes. A longer slice ends with its last piece.
+pub fn law_cutting(from: u64, head_end: u64, slices: &[u64], cuts: &[u64])
+    requires head { from < head_end }
+    requires short { head_end ≤ from + 1380 }
+    requires cutting { IsCutting from head_end slices.now cuts.now }
+    ensures pieces { ArePieces from cuts.now (head_end + sum slices.now) }
+    ensures head { IsUncut from head_end cuts.now }
+    ensures short_slices { AreShortUncut head_end slices.now cuts.now }
+    ensures long_slices { DoLongEndPieces head_end slices.now cuts.now }
+{
+    let _read = (from, head_end, slices.len(), cuts.len());
+}
+
+/// The units of a film lie in its bytes. Each has a head of 1 to 1,380 bytes and at least one slice, and its
+/// slices, of at least 4 bytes each, lie one behind another to its end.
+pub fn law_unit_laid(film: &Film, unit: usize)
+    ensures within { OfUnit film.now.units.items unit (λ u. u.to ≤ length film.now.bytes.items) }
+    ensures laid { OfUnit film.now.units.items unit (λ u. IsLaid film.now.slice_starts.items u) }
+{
+    let _read = (film.bytes.len(), unit);
+}
+
+/// A head is read back from what is written of it, whatever follows.
+pub fn law_head_read_back(head: Head, payload: &[u8])
+    ensures { head_of (head_bytes head ++ payload.now) ≡ Ok head }
+{
+    let _read = (head, payload.len());
+}

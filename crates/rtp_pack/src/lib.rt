@@ -1,0 +1,22 @@
+//! The RTP packets of MPEG-1 video (RFC 3550, RFC 2250): how a picture with its headers is cut into
+//! packets, the heads of the packets, the RTCP sender reports, and the size of all that on the wire.
+#![tactic(auto)]
+
+mod filling;
+mod heads;
+mod laws;
+mod packer;
+mod payloads;
+mod reports;
+mod sizes;
+
+pub use heads::{
+    Head, HeadFault, media_timestamp, packet_head, read_head, video_header, write_head,
+};
+pub use laws::{law_cutting, law_head_read_back, law_one_cutting, law_unit_laid};
+pub use payloads::{Packet, packets};
+pub use reports::{Identity, Report, unit_report, write_report};
+pub use sizes::UnitSize;
+
+#[cfg(test)]
+mod tests;

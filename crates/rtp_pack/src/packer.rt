@@ -1,0 +1,129 @@
+ghost use Rattle.std.specs.Prelude.{◌≡◌, ◌+◌, ◌-◌, ◌*◌, ◌<◌, ◌≤◌, ◌++◌, [], ◌∷◌, true, drop, length, IfOk, OnOk};
+ghost use Rattle.rtp_pack.specs.Cutting.{full_before, goes_in, last_start, next_filling, start_of};
+ghost use Rattle.rtp_pack.specs.Packets.{ArePackets, DoCover, IsLaid, before_slice, closed, frames_size, full_packets, next_place, packet, slice_packets, unit_packets};
+ghost use Rattle.rtp_pack.specs.Sizes.{unit_size};
+
+use crate::filling::{Filling, Holds, PAYLOAD, full_before, goes_in, held};
+use crate::payloads::Packet;
+use mpeg_scan::Unit;
+use std::alloc::Global;
+use vod_base::NoMemory;
+
+/// The packet of a piece, where it is known whether it begins and ends with a slice.
+fn packet(unit: &Unit, from: u64, to: u64, begin: bool, end: bool) -> Packet
+    ensures { result ≡ packet unit.now from to begin end }
+{
+    Packet {
+        from,
+        to,
+        marker: to == unit.to,
+        begin,
+        end,
+        sequence_header: unit.has_sequence && from == unit.from,
+    }
+}
+
+/// Appends a packet.
+fn put(packets: &mut Vec<Packet>, packet: Packet) -> Result<(), NoMemory>
+    ensures { OnOk result (packets.new.items ≡ packets.old.items ++ packet ∷ []) }
+{
+    match packets.push(packet) {
+        Ok(()) => Ok(()),
+        Err(_) => Err(NoMemory),
+    }
+}
+
+/// Appends the packet of a piece that ends before a slice or with the unit.
+fn close(packets: &mut Vec<Packet>, unit: &Unit, filling: Filling) -> Result<(), NoMemory>
+    ensures { OnOk result (packets.new.items ≡ packets.old.items ++ closed unit.now filling ∷ []) }
+{
+    let begin = matches!(filling.holds, Holds::Slices);
+    let end = !matches!(filling.holds, Holds::HeadAlone);
+    put(packets, packet(unit, filling.from, filling.at, begin, end))
+}
+
+/// Appends the full pieces from `start` on of a slice that ends at `end`, and answers where the piece
+/// with its end begins.
+fn put_full(packets: &mut Vec<Packet>, unit: &Unit, start: u64, end: u64) -> Result<u64, NoMemory>
+    requires { start < end }
+    ensures start { IfOk result (λ last. last ≡ last_start start end) }
+    ensures before { IfOk result (λ last. last < end) }
+    ensures packets { OnOk result (packets.new.items ≡ packets.old.items ++ full_packets unit.now true start (full_before start end)) }
+{
+    let mut last = start;
+    let mut begin = true;
+    for piece in 0..full_before(start, end) {
+        put(packets, packet(unit, last, last + PAYLOAD, begin, false))?;
+        last += PAYLOAD;
+        begin = false;
+    }
+    Ok(last)
+}
+
+/// Appends the packets that end before or in the slice to `end`, and answers the piece that is being
+/// filled then.
+fn put_slice(
+    packets: &mut Vec<Packet>,
+    unit: &Unit,
+    filling: Filling,
+    end: u64,
+) -> Result<Filling, NoMemory>
+    requires order { filling.from ≤ filling.at }
+    requires some { filling.at < end }
+    ensures filling { IfOk result (λ next. next ≡ next_filling filling (end - filling.at)) }
+    ensures order { IfOk result (λ next. next.from ≤ next.at) }
+    ensures packets { OnOk result (packets.new.items ≡ packets.old.items ++ slice_packets unit.now filling (end - filling.at)) }
+{
+    let length = end - filling.at;
+    let mut start = filling.from;
+    if !goes_in(filling, length) {
+        close(packets, unit, filling)?;
+        start = filling.at;
+    }
+    let last = put_full(packets, unit, start, end)?;
+    Ok(Filling {
+        from: last,
+        at: end,
+        holds: held(length),
+    })
+}
+
+/// The end of a slice: the place of the next one, or the unit's end.
+fn slice_end(starts: &[u64], index: usize, to: u64) -> u64
+    requires { index < length starts.now }
+    ensures { result ≡ next_place to (drop (index + 1) starts.now) }
+{
+    match starts.get(index + 1) {
+        Some(next) => *next,
+        None => to,
+    }
+}
+
+/// The packets of a unit, by the places of its film's slices.
+pub(crate) fn pack(
+    alloc: Global,
+    unit: &Unit,
+    slice_starts: &[u64],
+) -> Result<Vec<Packet>, NoMemory>
+    requires { IsLaid slice_starts.now unit.now }
+    ensures list { IfOk result (λ packets. packets.items ≡ unit_packets slice_starts.now unit.now) }
+    ensures rules { IfOk result (λ packets. ArePackets slice_starts.now unit.now packets.items) }
+    ensures cover { IfOk result (λ packets. DoCover unit.now.from packets.items unit.now.to) }
+    ensures size { IfOk result (λ packets. frames_size packets.items ≡ unit_size slice_starts.now unit.now) }
+    ensures bound { IfOk result (λ packets. frames_size packets.items + 52 ≤ 2 * (unit.now.to - unit.now.from) + 112) }
+{
+    let first = unit.first_slice as usize;
+    let starts = &slice_starts[first..first + unit.slices as usize];
+    let mut packets = Vec::new(alloc);
+    let mut filling = Filling {
+        from: unit.from,
+        at: unit.head_end,
+        holds: Holds::HeadAlone,
+    };
+    for index in 0..starts.len() {
+        let end = slice_end(starts, index, unit.to);
+        filling = put_slice(&mut packets, unit, filling, end)?;
+    }
+    close(&mut packets, unit, filling)?;
+    Ok(packets)
+}

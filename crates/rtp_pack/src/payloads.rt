@@ -1,0 +1,37 @@
+ghost use Rattle.std.specs.Prelude.{◌≡◌, ◌+◌, ◌-◌, ◌*◌, ◌<◌, ◌≤◌, length, IfOk};
+ghost use Rattle.rtp_pack.specs.Packets.{ArePackets, DoCover, OfUnit, frames_size, unit_packets};
+ghost use Rattle.rtp_pack.specs.Sizes.{unit_size};
+
+use crate::packer::pack;
+use mpeg_scan::Film;
+use std::alloc::Global;
+use vod_base::NoMemory;
+
+/// A packet of a unit: a piece of the film's bytes, with what its heads say of it (RFC 2250 section 3).
+#[derive(Clone, Copy, Debug, PartialEq, Eq)]
+pub struct Packet {
+    /// The place of its first byte in the film.
+    pub from: u64,
+    /// The place behind its last byte: 1 to 1,380 bytes more.
+    pub to: u64,
+    /// The RTP marker: it is the unit's last packet.
+    pub marker: bool,
+    /// B: it begins with a slice code, or with the unit's head and a slice behind it.
+    pub begin: bool,
+    /// E: its last byte is a slice's last byte.
+    pub end: bool,
+    /// S: it begins with a sequence header.
+    pub sequence_header: bool,
+}
+
+/// The packets of a unit of the film, in order.
+pub fn packets(alloc: Global, film: &Film, unit: usize) -> Result<Vec<Packet>, NoMemory>
+    requires { unit < length film.now.units.items }
+    ensures list { OfUnit film.now.units.items unit (λ u. IfOk result (λ p. p.items ≡ unit_packets film.now.slice_starts.items u)) }
+    ensures rules { OfUnit film.now.units.items unit (λ u. IfOk result (λ p. ArePackets film.now.slice_starts.items u p.items)) }
+    ensures cover { OfUnit film.now.units.items unit (λ u. IfOk result (λ p. DoCover u.from p.items u.to)) }
+    ensures size { OfUnit film.now.units.items unit (λ u. IfOk result (λ p. frames_size p.items ≡ unit_size film.now.slice_starts.items u)) }
+    ensures bound { OfUnit film.now.units.items unit (λ u. IfOk result (λ p. frames_size p.items + 52 ≤ 2 * (u.to - u.from) + 112)) }
+{
+    pack(alloc, &film.units[unit], &film.slice_starts)
+}

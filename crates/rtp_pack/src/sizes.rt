@@ -1,0 +1,79 @@
+ghost use Rattle.std.specs.Prelude.{◌≡◌, ◌+◌, ◌*◌, ◌^◌, ◌≤◌, []};
+ghost use Rattle.rtp_pack.specs.Sizes.{HasSlice, IsSize, begun, bytes_of, frames_of, measured, with_slice};
+
+use crate::filling::{Filling, Holds, PAYLOAD, full_before, goes_in, held};
+use std::marker::Model;
+
+/// The size of a unit's frames, counted while the lengths of its head and slices come in. It takes no
+/// memory.
+///
+/// Contracts see how many pieces ended so far, and the one that is being filled.
+#[derive(Debug, Drop)]
+pub struct UnitSize {
+    pieces: u64,
+    filling: Filling,
+}
+
+impl Model for UnitSize {
+    ghost use Rattle.rtp_pack.specs.Sizes.{IsMeasure, Measure, measure};
+
+    ghost Value = { Measure };
+
+    ghost view = { λ m. measure m.pieces m.filling };
+
+    ghost invariant = { λ m. IsMeasure (measure m.pieces m.filling) };
+}
+
+/// The bytes of the heads of a frame: 4 of the interleaved block and 16 of the packet.
+const HEADS: u64 = 20;
+
+impl UnitSize {
+    /// Begins a unit by the length of its head.
+    pub fn begin(head: u64) -> UnitSize
+        requires some { 1 ≤ head }
+        requires most { head ≤ 1380 }
+        ensures begun { result ≡ begun head }
+        ensures measured { result ≡ measured head [] }
+    {
+        UnitSize {
+            pieces: 0,
+            filling: Filling {
+                from: 0,
+                at: head,
+                holds: Holds::HeadAlone,
+            },
+        }
+    }
+
+    /// Adds a slice by its length.
+    pub fn slice(&mut self, length: u64)
+        requires least { 4 ≤ length }
+        requires most { bytes_of self.old + length ≤ 2 ^ 40 }
+        ensures slice { self.new ≡ with_slice self.old length }
+        ensures bytes { bytes_of self.new ≡ bytes_of self.old + length }
+        ensures measured { HasSlice length self.old self.new }
+    {
+        let end = self.filling.at + length;
+        let mut start = self.filling.from;
+        if !goes_in(self.filling, length) {
+            self.pieces += 1;
+            start = self.filling.at;
+        }
+        let full = full_before(start, end);
+        self.pieces += full;
+        self.filling = Filling {
+            from: start + PAYLOAD * full,
+            at: end,
+            holds: held(length),
+        };
+    }
+
+    /// The bytes of the unit's frames, each with its interleaved head of 4 bytes and its packet's of 16.
+    pub fn end(self) -> u64
+        ensures size { result ≡ frames_of self }
+        ensures bound { result + 52 ≤ 2 * bytes_of self + 112 }
+        ensures frames { IsSize self result }
+    {
+        self.filling.at + HEADS * (self.pieces + 1)
+    }
+}
