@@ -1,0 +1,61 @@
+-- A text is cut at its first byte of a kind in one way.
+use Rattle.std.proofs.Common.{◌≡◌, ◌≢◌, ℕ, ◌+◌, ◌<◌, ◌&&◌, ◌==◌, Bool, true, false, not, List, [], ◌∷◌, ◌++◌, length, get_or, take, drop, refl, sym, ap, ◌∙◌, ne_eqb, eq-eqb}
+use Rattle.std.specs.List.{list_all}
+use Rattle.std.proofs.lemmas.Bool.{both_ways}
+use Rattle.std.proofs.lemmas.List.{take-append-drop, drop_more}
+use Rattle.std.proofs.lemmas.List.Folds.{list_all-append}
+use Rattle.rtsp_text.specs.Grammar.{IsCut}
+
+pub and_left : (a b : Bool) → (a && b) ≡ true → a ≡ true
+and_left true b h = refl
+and_left false b h = h
+
+pub and_right : (a b : Bool) → (a && b) ≡ true → b ≡ true
+and_right true b h = h
+and_right false b h = let bad : false ≡ true = h in cc
+
+pub and_both : (a b : Bool) → a ≡ true → b ≡ true → (a && b) ≡ true
+and_both a b x y = rw (x, y) refl
+
+pub is_other : (x c : ℕ) → not (x == c) ≡ true → x ≢ c
+is_other x c h e = both_ways (not (x == c)) (ap not (eq-eqb x c e)) h
+
+pub other_is : (x c : ℕ) → x ≢ c → not (x == c) ≡ true
+other_is x c other = ap not (ne_eqb x c other)
+
+pub cut_found : (c : ℕ) (text : List ℕ) (at : ℕ) → at < length text → get_or text at 0 ≡ c → list_all (λ b. not (b == c)) (take at text) ≡ true → IsCut c text (take at text) (drop (at + 1) text)
+cut_found c text at within is none = record {
+  parts = sym (take-append-drop at text) ∙ ap (λ l. take at text ++ l) (drop_more text at 0 within ∙ ap (λ b. b ∷ drop (at + 1) text) is);
+  first = none;
+}
+
+pub cut_none : (c : ℕ) (text front behind : List ℕ) → list_all (λ b. not (b == c)) text ≡ true → text ≡ front ++ c ∷ behind → ⊥
+cut_none c text front behind none e =
+    let all : (list_all (λ b. not (b == c)) front && (not (c == c) && list_all (λ b. not (b == c)) behind)) ≡ true =
+    sym (list_all-append (λ b. not (b == c)) front (c ∷ behind)) ∙ ap (list_all (λ b. not (b == c))) (sym e) ∙ none in
+    is_other c c (and_left (not (c == c)) (list_all (λ b. not (b == c)) behind) (and_right (list_all (λ b. not (b == c)) front) (not (c == c) && list_all (λ b. not (b == c)) behind) all)) refl
+
+pub record AreSame (a b c d : List ℕ) : Type 0 where
+  pub front : a ≡ b
+  pub behind : c ≡ d
+
+parts_once : (c : ℕ) (a b a' b' : List ℕ) → list_all (λ b. not (b == c)) a ≡ true → list_all (λ b. not (b == c)) a' ≡ true → a ++ c ∷ b ≡ a' ++ c ∷ b' → AreSame a a' b b'
+parts_once c [] b [] b' h h' e = record { front = refl; behind = let s : c ∷ b ≡ c ∷ b' = e in cc }
+parts_once c [] b (x ∷ a') b' h h' e = absurd (is_other x c (and_left (not (x == c)) (list_all (λ b. not (b == c)) a') h') (let s : c ∷ b ≡ x ∷ (a' ++ c ∷ b') = e in cc))
+parts_once c (x ∷ a) b [] b' h h' e = absurd (is_other x c (and_left (not (x == c)) (list_all (λ b. not (b == c)) a) h) (let s : x ∷ (a ++ c ∷ b) ≡ c ∷ b' = e in cc))
+parts_once c (x ∷ a) b (y ∷ a') b' h h' e =
+    let s : x ∷ (a ++ c ∷ b) ≡ y ∷ (a' ++ c ∷ b') = e in
+    let rest = parts_once c a b a' b' (and_right (not (x == c)) (list_all (λ b. not (b == c)) a) h) (and_right (not (y == c)) (list_all (λ b. not (b == c)) a') h') (let t : a ++ c ∷ b ≡ a' ++ c ∷ b' = cc in t) in
+    record { front = (let f = rest.front in cc); behind = rest.behind }
+
+-- a text is cut in one way
+pub cut_once : (c : ℕ) (text front behind a b : List ℕ) → IsCut c text front behind → text ≡ a ++ c ∷ b → list_all (λ b. not (b == c)) a ≡ true → AreSame front a behind b
+cut_once c text front behind a b cut e none = parts_once c front behind a b cut.first none (sym cut.parts ∙ e)
+
+-- bytes of another kind
+pub all_other : (q : ℕ → Bool) (c : ℕ) → q c ≡ false → (text : List ℕ) → list_all q text ≡ true → list_all (λ b. not (b == c)) text ≡ true
+all_other q c fails [] all = refl
+all_other q c fails (x ∷ text) all =
+    and_both (not (x == c)) (list_all (λ b. not (b == c)) text)
+    (other_is x c (λ e. both_ways (q x) (ap q e ∙ fails) (and_left (q x) (list_all q text) all)))
+    (all_other q c fails text (and_right (q x) (list_all q text) all))

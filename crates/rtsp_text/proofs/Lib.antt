@@ -1,0 +1,9 @@
+pub mod Walks
+pub mod Heads
+pub mod Cuts
+pub mod Words
+pub mod Values
+pub mod Once
+pub mod Texts
+pub mod Whole
+pub mod FirstField

@@ -1,0 +1,131 @@
+-- A message has one answer.
+use Rattle.std.proofs.Common.{◌≡◌, ℕ, ◌+◌, ◌<◌, List, [], ◌∷◌, ◌++◌, All, codes, Some, None, Result, Ok, Err, length, get_or, take, drop, refl, sym, ap, subst, ◌∙◌, arith, inl, inr}
+use Rattle.std.specs.Prelude.{IfOk, IfErr, IsOkAnd}
+use Rattle.std.proofs.lemmas.Bool.{cases_order}
+use Rattle.std.proofs.lemmas.List.{take_at, drop_at, length-drop, get_or-drop, drop-drop}
+use Rattle.std.proofs.lemmas.List.Elements.{All-from_get_or}
+use Rattle.interleave.proofs.Unique.{head_once}
+use Rattle.rtsp_text.specs.Lines.{first_line, header_lines}
+use Rattle.rtsp_text.specs.Grammar.{IsRequestLine, IsHeaderLine}
+use Rattle.rtsp_text.specs.Requests.{HasVersion, IsRequest, IsFirstBad, IsFault}
+use Rattle.rtsp_text.specs.declared.requests.RequestFault.{RequestFault}
+use Rattle.rtsp_text.specs.declared.requests.RequestFault.TheVariants.{BadLine, BadVersion, BadHeader, NoSequenceNumber, BadLength}
+use Rattle.rtsp_text.proofs.Words.{AreLineParts, line_parts, method_cut, url_cut}
+
+-- a request line has one method, one URL and one version
+line_once : (text m u v m' u' v' : List ℕ) → IsRequestLine text m u v → IsRequestLine text m' u' v' → AreLineParts m u v m' u' v'
+line_once text m u v m' u' v' a b = line_parts text m (u ++ 32 ∷ v) u v m' u' v' (method_cut text m u v a) (url_cut text m u v a) b
+
+version_once : (message v w : List ℕ) → HasVersion message v → HasVersion message w → v ≡ w
+version_once message v w a b = (line_once (first_line message) a.0 a.1.0 v b.0 b.1.0 w a.1.1 b.1.1).version_is
+
+none_some : {X : Type 0} (x : X) → None ≡ Some x → ⊥
+none_some x e = cc
+
+-- the first bad line
+pub bad_once : (lines : List (List ℕ)) (n m : ℕ) → IsFirstBad lines n → IsFirstBad lines m → n ≡ m
+bad_once lines n m a b =
+    elim (cases_order a.index b.index) [
+      | inl same ↦ omega (arith, a.number_is, b.number_is, same)
+      | inr (inl less) ↦ absurd (a.bad (b.before a.index less))
+      | inr (inr less) ↦ absurd (b.bad (a.before b.index less))
+    ]
+
+no_bad : (lines : List (List ℕ)) (n : ℕ) → All IsHeaderLine lines → IsFirstBad lines n → ⊥
+no_bad lines n all bad = bad.bad (all bad.index [] bad.inside)
+
+pub fault_once : (message : List ℕ) (f g : RequestFault) → IsFault message f → IsFault message g → f ≡ g
+fault_once message BadLine BadLine a b = refl
+fault_once message BadLine BadVersion a b = absurd (a b.0 b.1.0)
+fault_once message BadLine (BadHeader m) a b = absurd (a (codes "RTSP/1.0") b.0)
+fault_once message BadLine NoSequenceNumber a b = absurd (a (codes "RTSP/1.0") b.0)
+fault_once message BadLine BadLength a b = absurd (a (codes "RTSP/1.0") b.0)
+fault_once message BadVersion BadLine a b = absurd (b a.0 a.1.0)
+fault_once message BadVersion BadVersion a b = refl
+fault_once message BadVersion (BadHeader m) a b = absurd (a.1.1 (version_once message a.0 (codes "RTSP/1.0") a.1.0 b.0))
+fault_once message BadVersion NoSequenceNumber a b = absurd (a.1.1 (version_once message a.0 (codes "RTSP/1.0") a.1.0 b.0))
+fault_once message BadVersion BadLength a b = absurd (a.1.1 (version_once message a.0 (codes "RTSP/1.0") a.1.0 b.0))
+fault_once message (BadHeader n) BadLine a b = absurd (b (codes "RTSP/1.0") a.0)
+fault_once message (BadHeader n) BadVersion a b = absurd (b.1.1 (version_once message b.0 (codes "RTSP/1.0") b.1.0 a.0))
+fault_once message (BadHeader n) (BadHeader m) a b = ap BadHeader (bad_once (header_lines message) n m a.1 b.1)
+fault_once message (BadHeader n) NoSequenceNumber a b = absurd (no_bad (header_lines message) n b.1 a.1)
+fault_once message (BadHeader n) BadLength a b = absurd (no_bad (header_lines message) n b.1 a.1)
+fault_once message NoSequenceNumber BadLine a b = absurd (b (codes "RTSP/1.0") a.0)
+fault_once message NoSequenceNumber BadVersion a b = absurd (b.1.1 (version_once message b.0 (codes "RTSP/1.0") b.1.0 a.0))
+fault_once message NoSequenceNumber (BadHeader m) a b = absurd (no_bad (header_lines message) m a.1 b.1)
+fault_once message NoSequenceNumber NoSequenceNumber a b = refl
+fault_once message NoSequenceNumber BadLength a b = absurd (none_some b.2.0 (sym a.2 ∙ b.2.1))
+fault_once message BadLength BadLine a b = absurd (b (codes "RTSP/1.0") a.0)
+fault_once message BadLength BadVersion a b = absurd (b.1.1 (version_once message b.0 (codes "RTSP/1.0") b.1.0 a.0))
+fault_once message BadLength (BadHeader m) a b = absurd (no_bad (header_lines message) m a.1 b.1)
+fault_once message BadLength NoSequenceNumber a b = absurd (none_some a.2.0 (sym b.2 ∙ a.2.1))
+fault_once message BadLength BadLength a b = refl
+
+-- a request has no fault
+pub no_fault : (message method url : List ℕ) (sequence : ℕ) (head body : List ℕ) (f : RequestFault) → IsRequest message method url sequence head body → IsFault message f → ⊥
+no_fault message method url sequence head body BadLine r f = f (codes "RTSP/1.0") (method, (url, r.line))
+no_fault message method url sequence head body BadVersion r f = f.1.1 (version_once message f.0 (codes "RTSP/1.0") f.1.0 (method, (url, r.line)))
+no_fault message method url sequence head body (BadHeader n) r f = no_bad (header_lines message) n r.headers f.1
+no_fault message method url sequence head body NoSequenceNumber r f = none_some sequence (sym f.2 ∙ r.sequence_is)
+no_fault message method url sequence head body BadLength r f = f.3 r.length_is
+
+-- a request has one list of parts
+pub record AreSameParts (m u : List ℕ) (s : ℕ) (h b m' u' : List ℕ) (s' : ℕ) (h' b' : List ℕ) : Type 0 where
+  pub method_is : m ≡ m'
+  pub url_is : u ≡ u'
+  pub sequence_is : s ≡ s'
+  pub head_is : h ≡ h'
+  pub body_is : b ≡ b'
+
+same_some : (a b : ℕ) → Some a ≡ Some b → a ≡ b
+same_some a b e = cc
+
+pub request_once : (message m u : List ℕ) (s : ℕ) (h b m' u' : List ℕ) (s' : ℕ) (h' b' : List ℕ) → IsRequest message m u s h b → IsRequest message m' u' s' h' b' → AreSameParts m u s h b m' u' s' h' b'
+request_once message m u s h b m' u' s' h' b' x y =
+    let line = line_once (first_line message) m u (codes "RTSP/1.0") m' u' (codes "RTSP/1.0") x.line y.line in
+    let len : length h ≡ length h' = head_once message (length h) (length h') x.split.is_head y.split.is_head in
+    let front : h ≡ h' =
+    sym (take_at h b (length h) refl) ∙ ap (take (length h)) (sym x.split.parts) ∙ ap (λ n. take n message) len ∙ ap (take (length h')) y.split.parts ∙ take_at h' b' (length h') refl in
+    let behind : b ≡ b' =
+    sym (drop_at h b (length h) refl) ∙ ap (drop (length h)) (sym x.split.parts) ∙ ap (λ n. drop n message) len ∙ ap (drop (length h')) y.split.parts ∙ drop_at h' b' (length h') refl in
+    record {
+      method_is = line.method_is;
+      url_is = line.url_is;
+      sequence_is = same_some s s' (sym x.sequence_is ∙ y.sequence_is);
+      head_is = front;
+      body_is = behind;
+    }
+
+-- from what an answer says to the answer
+pub ok_and : {X E : Type 0} (r : Result X E) (P Q : X → Type 0) (R : E → Type 0) → IfOk r P → IfErr r R → ((x : X) → P x → Q x) → ((e : E) → R e → ⊥) → IsOkAnd r Q
+ok_and (Ok x) P Q R read refused read_is refused_is = read_is x read
+ok_and (Err e) P Q R read refused read_is refused_is = absurd (refused_is e refused)
+
+pub err_is : {X E : Type 0} (r : Result X E) (P : X → Type 0) (R : E → Type 0) (f : E) → IfOk r P → IfErr r R → ((x : X) → P x → ⊥) → ((e : E) → R e → e ≡ f) → r ≡ Err f
+err_is (Ok x) P R f read refused refused_is read_is = absurd (refused_is x read)
+err_is (Err e) P R f read refused refused_is read_is = ap Err (read_is e refused)
+
+-- one header line more
+pub record IsAt (lines : List (List ℕ)) (n : ℕ) (line : List ℕ) (more : List (List ℕ)) : Type 0 where
+  pub inside : n < length lines
+  pub line_is : get_or lines n [] ≡ line
+  pub left : drop (n + 1) lines ≡ more
+
+pub line_at : (lines : List (List ℕ)) (n : ℕ) (line : List ℕ) (more : List (List ℕ)) → drop n lines ≡ line ∷ more → IsAt lines n line more
+line_at lines n line more e =
+    let count : length (drop n lines) ≡ length more + 1 = ap length e ∙ omega arith in
+    record {
+      inside = omega (arith, count, length-drop n lines);
+      line_is = ap (λ k. get_or lines k []) (let k : n ≡ n + 0 = omega arith in k) ∙ sym (get_or-drop n lines 0 []) ∙ ap (λ l. get_or l 0 []) e;
+      left = sym (drop-drop 1 n lines) ∙ ap (drop 1) e;
+    }
+
+pub bad_here : (lines : List (List ℕ)) (n : ℕ) (line : List ℕ) (more : List (List ℕ)) → drop n lines ≡ line ∷ more → ((k : ℕ) → k < n → IsHeaderLine (get_or lines k [])) → (¬ IsHeaderLine line) → IsFirstBad lines (n + 1)
+bad_here lines n line more e before bad =
+    let at = line_at lines n line more e in
+    record { index = n; number_is = refl; inside = at.inside; before = before; bad = λ good. bad (subst IsHeaderLine at.line_is good) }
+
+pub all_good : (lines : List (List ℕ)) (n : ℕ) → drop n lines ≡ [] → ((k : ℕ) → k < n → IsHeaderLine (get_or lines k [])) → All IsHeaderLine lines
+all_good lines n e before =
+    let count : length (drop n lines) ≡ 0 = ap length e in
+    All-from_get_or IsHeaderLine lines [] (λ k inside. before k (omega (arith, inside, count, length-drop n lines)))

@@ -1,0 +1,120 @@
+-- The value of a header line, and the first of a name among a list of lines.
+use Rattle.std.proofs.Common.{◌≡◌, ℕ, ◌+◌, ◌&&◌, ◌||◌, ◌==◌, ◌↔◌, IsTrue, Bool, true, false, not, List, [], ◌∷◌, ◌++◌, Option, Some, None, map, length, take, drop, refl, sym, ap, ◌∙◌, arith}
+use Rattle.std.specs.Prelude.{slice_get, option_and_then}
+use Rattle.std.specs.List.{list_all, list_any, filter_map, cons_option, prefix_len, before_first, after_first}
+use Rattle.std.specs.Str.{str_eq_ignore_ascii_case}
+use Rattle.std.specs.Char.{to_ascii_lowercase}
+use Rattle.std.specs.Cmp.Lexicographic.{bytes_decides}
+use Rattle.std.proofs.lemmas.Bool.{cond-true, cond-false}
+use Rattle.std.proofs.lemmas.Bool.Decides.{same_from_decides}
+use Rattle.std.proofs.lemmas.List.{take_at, drop_at, drop-drop}
+use Rattle.vod_base.specs.Numbers.{number_of}
+use Rattle.interleave.specs.Lengths.{trimmed}
+use Rattle.rtsp_text.specs.Grammar.{IsCut}
+use Rattle.rtsp_text.specs.Fields.{has_name, value_in, first_value, first_number}
+use Rattle.rtsp_text.proofs.Cuts.{and_left, and_right}
+
+pub same_name : (r : Bool) (a b : List ℕ) → (IsTrue r ↔ (map to_ascii_lowercase a ≡ map to_ascii_lowercase b)) → r ≡ str_eq_ignore_ascii_case a b
+same_name r a b h = same_from_decides r (str_eq_ignore_ascii_case a b) h (bytes_decides (map to_ascii_lowercase a) (map to_ascii_lowercase b))
+
+-- the first colon
+any_colon : (front behind : List ℕ) → list_any (λ byte. byte == 58) (front ++ 58 ∷ behind) ≡ true
+any_colon [] behind = refl
+any_colon (x ∷ front) behind = rw (any_colon front behind) (or_true (x == 58))
+  where
+    or_true : (b : Bool) → (b || true) ≡ true
+    or_true true = refl
+    or_true false = refl
+
+no_colon : (line : List ℕ) → list_all (λ byte. not (byte == 58)) line ≡ true → list_any (λ byte. byte == 58) line ≡ false
+no_colon [] none = refl
+no_colon (x ∷ line) none =
+    rw (
+      not_so (x == 58) (and_left (not (x == 58)) (list_all (λ byte. not (byte == 58)) line) none),
+      no_colon line (and_right (not (x == 58)) (list_all (λ byte. not (byte == 58)) line) none),
+    ) refl
+  where
+    not_so : (b : Bool) → not b ≡ true → b ≡ false
+    not_so true h = sym h
+    not_so false h = refl
+
+colon_place : (front behind : List ℕ) → list_all (λ byte. not (byte == 58)) front ≡ true → prefix_len (λ byte. not (byte == 58)) (front ++ 58 ∷ behind) ≡ length front
+colon_place [] behind none = refl
+colon_place (x ∷ front) behind none =
+    rw (
+      and_left (not (x == 58)) (list_all (λ byte. not (byte == 58)) front) none,
+      colon_place front behind (and_right (not (x == 58)) (list_all (λ byte. not (byte == 58)) front) none),
+    ) (omega arith)
+
+before_colon : (line front behind : List ℕ) → IsCut 58 line front behind → before_first (λ byte. byte == 58) line ≡ front
+before_colon line front behind cut =
+    ap (before_first (λ byte. byte == 58)) cut.parts
+    ∙ ap (λ n. take n (front ++ 58 ∷ behind)) (colon_place front behind cut.first)
+    ∙ take_at front (58 ∷ behind) (length front) refl
+
+after_colon : (line front behind : List ℕ) → IsCut 58 line front behind → after_first (λ byte. byte == 58) line ≡ behind
+after_colon line front behind cut =
+    ap (after_first (λ byte. byte == 58)) cut.parts
+    ∙ ap (λ n. drop (n + 1) (front ++ 58 ∷ behind)) (colon_place front behind cut.first)
+    ∙ sym (drop-drop 1 (length front) (front ++ 58 ∷ behind))
+    ∙ ap (drop 1) (drop_at front (58 ∷ behind) (length front) refl)
+
+cut_named : (name line front behind : List ℕ) → IsCut 58 line front behind → has_name name line ≡ str_eq_ignore_ascii_case front name
+cut_named name line front behind cut =
+    ap (λ b. b && str_eq_ignore_ascii_case (before_first (λ byte. byte == 58) line) name) (ap (list_any (λ byte. byte == 58)) cut.parts ∙ any_colon front behind)
+    ∙ ap (λ t. str_eq_ignore_ascii_case t name) (before_colon line front behind cut)
+
+pub value_some : (name line front behind : List ℕ) → IsCut 58 line front behind → str_eq_ignore_ascii_case front name ≡ true → value_in name line ≡ Some (trimmed behind)
+unfolding value_in
+value_some name line front behind cut same =
+    cond-true (has_name name line) (Some (trimmed (after_first (λ byte. byte == 58) line))) None (cut_named name line front behind cut ∙ same)
+    ∙ ap (λ t. Some (trimmed t)) (after_colon line front behind cut)
+
+pub value_other : (name line front behind : List ℕ) → IsCut 58 line front behind → str_eq_ignore_ascii_case front name ≡ false → value_in name line ≡ None
+unfolding value_in
+value_other name line front behind cut other =
+    cond-false (has_name name line) (Some (trimmed (after_first (λ byte. byte == 58) line))) None (cut_named name line front behind cut ∙ other)
+
+pub value_none : (name line : List ℕ) → list_all (λ byte. not (byte == 58)) line ≡ true → value_in name line ≡ None
+unfolding value_in
+value_none name line none =
+    cond-false (has_name name line) (Some (trimmed (after_first (λ byte. byte == 58) line))) None
+    (ap (λ b. b && str_eq_ignore_ascii_case (before_first (λ byte. byte == 58) line) name) (no_colon line none))
+
+-- the first line of a name, one line on
+pub first_value-nil : (name : List ℕ) (lines : List (List ℕ)) → lines ≡ [] → first_value name lines ≡ None
+unfolding first_value
+first_value-nil name lines none = ap (λ ls. slice_get (filter_map (value_in name) ls) 0) none
+
+pub first_value_some : (name line value : List ℕ) (lines more : List (List ℕ)) → lines ≡ line ∷ more → value_in name line ≡ Some value → first_value name lines ≡ Some value
+unfolding first_value
+first_value_some name line value lines more are is =
+    ap (λ ls. slice_get (filter_map (value_in name) ls) 0) are ∙ ap (λ o. slice_get (cons_option o (filter_map (value_in name) more)) 0) is
+
+pub first_value_more : (name line : List ℕ) (lines more : List (List ℕ)) → lines ≡ line ∷ more → value_in name line ≡ None → first_value name lines ≡ first_value name more
+unfolding first_value
+first_value_more name line lines more are is =
+    ap (λ ls. slice_get (filter_map (value_in name) ls) 0) are ∙ ap (λ o. slice_get (cons_option o (filter_map (value_in name) more)) 0) is
+
+-- the same of numbers
+pub first_number-nil : (name : List ℕ) (lines : List (List ℕ)) → lines ≡ [] → first_number name lines ≡ None
+unfolding first_number
+first_number-nil name lines none = ap (λ ls. slice_get (filter_map number_of (filter_map (value_in name) ls)) 0) none
+
+number_some : (o : Option (List ℕ)) (values : List (List ℕ)) (n : ℕ) → option_and_then number_of o ≡ Some n → slice_get (filter_map number_of (cons_option o values)) 0 ≡ Some n
+number_some None values n is = let bad : None ≡ Some n = is in cc
+number_some (Some value) values n is = ap (λ p. slice_get (cons_option p (filter_map number_of values)) 0) is
+
+number_none : (o : Option (List ℕ)) (values : List (List ℕ)) → option_and_then number_of o ≡ None → slice_get (filter_map number_of (cons_option o values)) 0 ≡ slice_get (filter_map number_of values) 0
+number_none None values is = refl
+number_none (Some value) values is = ap (λ p. slice_get (cons_option p (filter_map number_of values)) 0) is
+
+pub first_number_some : (name line : List ℕ) (n : ℕ) (lines more : List (List ℕ)) → lines ≡ line ∷ more → option_and_then number_of (value_in name line) ≡ Some n → first_number name lines ≡ Some n
+unfolding first_number
+first_number_some name line n lines more are is =
+    ap (λ ls. slice_get (filter_map number_of (filter_map (value_in name) ls)) 0) are ∙ number_some (value_in name line) (filter_map (value_in name) more) n is
+
+pub first_number_more : (name line : List ℕ) (lines more : List (List ℕ)) → lines ≡ line ∷ more → option_and_then number_of (value_in name line) ≡ None → first_number name lines ≡ first_number name more
+unfolding first_number
+first_number_more name line lines more are is =
+    ap (λ ls. slice_get (filter_map number_of (filter_map (value_in name) ls)) 0) are ∙ number_none (value_in name line) (filter_map (value_in name) more) is

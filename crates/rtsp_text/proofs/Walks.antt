@@ -1,0 +1,148 @@
+-- Going through a text line by line, against its lines as a whole.
+use Rattle.std.proofs.Common.{◌≡◌, ◌≢◌, ℕ, ◌+◌, ◌-◌, ◌<◌, ◌&&◌, ◌==◌, Bool, true, false, nat_lt, List, [], ◌∷◌, ◌++◌, All, length, get_or, take, drop, suc, refl, sym, ap, subst, ◌∙◌, arith, inl, inr, ne_eqb}
+use Rattle.std.specs.Prelude.{take_while}
+use Rattle.std.specs.List.{slice_split, prefix_len}
+use Rattle.std.specs.Str.Lines.{lines, lines_of_parts, strip_carriage_return}
+use Rattle.std.proofs.lemmas.Bool.{cases_Bool, cases_lt, cond-true, cond-false}
+use Rattle.std.proofs.lemmas.Bool.Decides.{nat_tests}
+use Rattle.std.proofs.lemmas.List.{take-append-drop, drop_more, take-take, length-take, length-take-le, length-drop, get_or-take}
+use Rattle.std.proofs.lemmas.List.Elements.{All-from_get_or}
+use Rattle.std.proofs.lemmas.List.Splits.{slice_split_none, slice_split_at, length-slice_split}
+use Rattle.vod_base.specs.Lines.{IsLine, HasNoLine}
+use Rattle.rtsp_text.specs.Lines.{before_empty, first_line, lines_before_empty, header_lines, IsNextLine, IsNextHeaderLine}
+
+-- a part before a newline is a line
+parts_more : (x : List ℕ) (parts : List (List ℕ)) → 0 < length parts → lines_of_parts (x ∷ parts) ≡ strip_carriage_return x ∷ lines_of_parts parts
+parts_more x [] some = absurd (omega (arith, some))
+parts_more x (y ∷ parts) some = refl
+
+-- a text that begins with a whole line
+lines-at : (front behind : List ℕ) → All (λ b. (b == 10) ≡ false) front → lines (front ++ 10 ∷ behind) ≡ strip_carriage_return front ∷ lines behind
+lines-at front behind none =
+    ap lines_of_parts (slice_split_at (λ b. b == 10) front 10 behind none refl)
+    ∙ parts_more front (slice_split (λ b. b == 10) behind) (omega (arith, length-slice_split (λ b. b == 10) behind))
+
+-- the text of a line's part before its LF
+strip-take : (bytes : List ℕ) (e n : ℕ) → IsLine bytes 0 e n → strip_carriage_return (take (n - 1) bytes) ≡ take e bytes
+strip-take bytes e n line =
+    let len : length (take (n - 1) bytes) ≡ n - 1 = length-take-le (n - 1) bytes (omega (arith, line.within)) in
+    elim (cases_lt 1 n) [
+      | inl more ↦ (
+          let last : get_or (take (n - 1) bytes) (length (take (n - 1) bytes) - 1) 0 ≡ get_or bytes (n - 2) 0 =
+          ap (λ k. get_or (take (n - 1) bytes) (k - 1) 0) len ∙ get_or-take (n - 1) bytes (n - 1 - 1) 0 (omega arith) ∙ ap (λ k. get_or bytes k 0) (let e' : n - 1 - 1 ≡ n - 2 = omega arith in e') in
+          elim (cases_Bool (get_or bytes (n - 2) 0 == 13)) [
+            | inl cr ↦ (
+                let text_end : e ≡ n - 2 = line.text ∙ cond-true (nat_lt 1 n && (get_or bytes (n - 2) 0 == 13)) (n - 2) (n - 1) (grind (arith, nat_tests)) in
+                cond-true (get_or (take (n - 1) bytes) (length (take (n - 1) bytes) - 1) 0 == 13) (take (length (take (n - 1) bytes) - 1) (take (n - 1) bytes)) (take (n - 1) bytes) (ap (λ b. b == 13) last ∙ cr)
+                ∙ ap (λ k. take (k - 1) (take (n - 1) bytes)) len
+                ∙ take-take (n - 1 - 1) (n - 1) bytes (omega arith)
+                ∙ ap (λ k. take k bytes) (let k' : n - 1 - 1 ≡ e = omega (arith, text_end) in k')
+                )
+            | inr other ↦ (
+                let text_end : e ≡ n - 1 = line.text ∙ cond-false (nat_lt 1 n && (get_or bytes (n - 2) 0 == 13)) (n - 2) (n - 1) (grind (arith, nat_tests)) in
+                cond-false (get_or (take (n - 1) bytes) (length (take (n - 1) bytes) - 1) 0 == 13) (take (length (take (n - 1) bytes) - 1) (take (n - 1) bytes)) (take (n - 1) bytes) (ap (λ b. b == 13) last ∙ other)
+                ∙ ap (λ k. take k bytes) (sym text_end)
+                )
+          ]
+          )
+      | inr less ↦ (
+          let one : n - 1 ≡ 0 = omega (arith, less) in
+          let text_end : e ≡ 0 = line.text ∙ cond-false (nat_lt 1 n && (get_or bytes (n - 2) 0 == 13)) (n - 2) (n - 1) (grind (arith, nat_tests)) ∙ one in
+          let P : ℕ → Type 0 = λ k. strip_carriage_return (take k bytes) ≡ take e bytes in
+          let Q : ℕ → Type 0 = λ k. strip_carriage_return (take 0 bytes) ≡ take k bytes in
+          subst P (sym one) (subst Q (sym text_end) refl)
+          )
+    ]
+
+-- the first line ends here
+pub next_here : (bytes : List ℕ) (e n : ℕ) → IsLine bytes 0 e n → IsNextLine bytes (take e bytes) (drop n bytes)
+next_here bytes e n line =
+    let back : n - 1 + 1 ≡ n = omega (arith, line.after) in
+    let cut : bytes ≡ take (n - 1) bytes ++ 10 ∷ drop n bytes =
+    sym (take-append-drop (n - 1) bytes)
+    ∙ ap (λ l. take (n - 1) bytes ++ l) (drop_more bytes (n - 1) 0 (omega (arith, line.after, line.within)) ∙ rw (line.feed, back) refl) in
+    let none : All (λ b. (b == 10) ≡ false) (take (n - 1) bytes) = All-from_get_or (λ b. (b == 10) ≡ false) (take (n - 1) bytes) 0 (λ i within.
+    let few : i < n - 1 = omega (arith, within, length-take (n - 1) bytes) in
+    rw (get_or-take (n - 1) bytes i 0 few) (ne_eqb (get_or bytes i 0) 10 (line.first i (omega arith) (omega (arith, few))))) in
+    record {
+      lines_are = ap lines cut ∙ lines-at (take (n - 1) bytes) (drop n bytes) none ∙ ap (λ x. x ∷ lines (drop n bytes)) (strip-take bytes e n line);
+      shorter = omega (arith, length-drop n bytes, line.after, line.within);
+    }
+
+-- the first line has no end
+pub next_open : (bytes : List ℕ) → bytes ≢ [] → HasNoLine bytes 0 → IsNextLine bytes bytes []
+next_open [] some none = absurd (some refl)
+next_open (x ∷ bytes) some none =
+    let all : All (λ b. (b == 10) ≡ false) (x ∷ bytes) = All-from_get_or (λ b. (b == 10) ≡ false) (x ∷ bytes) 0 (λ i within. ne_eqb (get_or (x ∷ bytes) i 0) 10 (none i (omega arith) within)) in
+    record {
+      lines_are = ap lines_of_parts (slice_split_none (λ b. b == 10) (x ∷ bytes) all)
+          ∙ cond-false (length (x ∷ bytes) == 0) [] ((x ∷ bytes) ∷ []) (ne_eqb (length (x ∷ bytes)) 0 (λ e. omega (arith, e)));
+      shorter = omega arith;
+    }
+
+pub first_line-next : (bytes line rest : List ℕ) → IsNextLine bytes line rest → first_line bytes ≡ line
+unfolding first_line
+first_line-next bytes line rest h = ap (λ ls. get_or ls 0 []) h.lines_are
+
+pub first_line-nil : (bytes : List ℕ) → bytes ≡ [] → bytes ≡ first_line bytes
+unfolding first_line
+first_line-nil bytes none = none ∙ ap (λ b. first_line b) (sym none)
+
+pub header_lines-next : (bytes line rest : List ℕ) → IsNextLine bytes line rest → lines_before_empty rest ≡ header_lines bytes
+unfolding header_lines lines_before_empty
+header_lines-next bytes line rest h = ap (λ ls. before_empty (drop 1 ls)) (sym h.lines_are)
+
+pub header_lines-nil : (bytes : List ℕ) → bytes ≡ [] → lines_before_empty bytes ≡ header_lines bytes
+unfolding header_lines lines_before_empty
+header_lines-nil bytes none = let P : List ℕ → Type 0 = λ b. lines_before_empty b ≡ header_lines b in subst P (sym none) refl
+
+-- one element more, or none
+pub while_yes : (p : List ℕ → Bool) (x : List ℕ) (xs : List (List ℕ)) → p x ≡ true → take_while p (x ∷ xs) ≡ x ∷ take_while p xs
+while_yes p x xs holds =
+    let more : prefix_len p (x ∷ xs) ≡ suc (prefix_len p xs) = rw holds (omega arith) in
+    ap (λ n. take n (x ∷ xs)) more
+
+pub while_no : (p : List ℕ → Bool) (x : List ℕ) (xs : List (List ℕ)) → p x ≡ false → take_while p (x ∷ xs) ≡ []
+while_no p x xs fails =
+    let none : prefix_len p (x ∷ xs) ≡ 0 = rw fails refl in
+    ap (λ n. take n (x ∷ xs)) none
+
+pub next_header : (bytes line rest : List ℕ) → IsNextLine bytes line rest → 0 < length line → IsNextHeaderLine bytes line rest
+unfolding lines_before_empty
+next_header bytes line rest h some = record {
+  lines_are = ap before_empty h.lines_are ∙ while_yes (λ text. nat_lt 0 (length text)) line (lines rest) (grind (arith, nat_tests));
+  shorter = h.shorter;
+}
+
+pub next_empty : (bytes line rest : List ℕ) → IsNextLine bytes line rest → length line ≡ 0 → lines_before_empty bytes ≡ []
+unfolding lines_before_empty
+next_empty bytes line rest h none =
+    ap before_empty h.lines_are ∙ while_no (λ text. nat_lt 0 (length text)) line (lines rest) (grind (arith, nat_tests))
+
+pub lines_before_empty-nil : (bytes : List ℕ) → bytes ≡ [] → lines_before_empty bytes ≡ []
+unfolding lines_before_empty
+lines_before_empty-nil bytes none = let P : List ℕ → Type 0 = λ b. lines_before_empty b ≡ [] in subst P (sym none) refl
+
+-- what stands before the first empty line has no empty line
+pub before_empty-closed : (xs : List (List ℕ)) → before_empty (before_empty xs ++ [] ∷ []) ≡ before_empty xs
+before_empty-closed [] = refl
+before_empty-closed (x ∷ xs) =
+    elim (cases_Bool (nat_lt 0 (length x))) [
+      | inl some ↦ (
+          let front : before_empty (x ∷ xs) ≡ x ∷ before_empty xs = while_yes (λ text. nat_lt 0 (length text)) x xs some in
+          ap (λ l. before_empty (l ++ [] ∷ [])) front
+          ∙ while_yes (λ text. nat_lt 0 (length text)) x (before_empty xs ++ [] ∷ []) some
+          ∙ ap (λ l. x ∷ l) (before_empty-closed xs) ∙ sym front
+          )
+      | inr none ↦ (
+          let front : before_empty (x ∷ xs) ≡ [] = while_no (λ text. nat_lt 0 (length text)) x xs none in
+          ap (λ l. before_empty (l ++ [] ∷ [])) front ∙ sym front
+          )
+    ]
+
+-- what the test of an empty text says
+pub some_bytes : (text : List ℕ) → (length text == 0) ≡ false → 0 < length text
+some_bytes text h = grind (arith, nat_tests)
+
+pub no_bytes : (text : List ℕ) → (length text == 0) ≡ true → length text ≡ 0
+no_bytes text h = grind (arith, nat_tests)

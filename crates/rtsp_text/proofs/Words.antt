@@ -1,0 +1,153 @@
+-- The words of a request line and of a header line, from where the line is cut.
+use Rattle.std.proofs.Common.{◌≡◌, ◌≢◌, ℕ, ◌+◌, ◌<◌, ◌==◌, true, false, not, nat_lt, List, [], ◌∷◌, ◌++◌, codes, map, length, get_or, take, drop, nat_eq, MatchOption, Option, Some, None, refl, sym, ap, subst, ◌∙◌, arith, inl, inr}
+use Rattle.std.specs.List.{list_all}
+use Rattle.std.specs.Char.{is_ascii_digit, to_ascii_lowercase}
+use Rattle.std.specs.Cmp.Lexicographic.{pointwise, same_text, other_text}
+use Rattle.std.proofs.lemmas.Bool.{cases_eq}
+use Rattle.std.proofs.lemmas.List.{take-append-drop, take_at, drop_at, length-map, length-append}
+use Rattle.vod_base.specs.Numbers.{is_decimal}
+use Rattle.rtsp_text.specs.Grammar.{is_token_byte, is_token, is_url_byte, is_value_byte, IsRtspUrl, IsUrl, IsVersion, AreVersionNumbers, IsRequestLine, IsHeaderLine, IsCut}
+use Rattle.rtsp_text.proofs.Cuts.{and_left, and_right, and_both, is_other, other_is, cut_once, all_other}
+
+token_without : (c : ℕ) → is_token_byte c ≡ false → (text : List ℕ) → is_token text ≡ true → list_all (λ b. not (b == c)) text ≡ true
+token_without c fails text token = all_other is_token_byte c fails text (and_right (nat_lt 0 (length text)) (list_all is_token_byte text) token)
+
+pub record AreHeaderParts (name value : List ℕ) : Type 0 where
+  pub name_is : is_token name ≡ true
+  pub value_is : list_all is_value_byte value ≡ true
+
+pub header_parts : (text name value : List ℕ) → IsCut 58 text name value → IsHeaderLine text → AreHeaderParts name value
+header_parts text name value cut line =
+    let same = cut_once 58 text name value line.name line.value cut line.parts (token_without 58 refl line.name line.name_is) in
+    record { name_is = ap is_token same.front ∙ line.name_is; value_is = ap (list_all is_value_byte) same.behind ∙ line.value_is }
+
+pub header_line : (text name value : List ℕ) → IsCut 58 text name value → is_token name ≡ true → list_all is_value_byte value ≡ true → IsHeaderLine text
+header_line text name value cut name_is value_is = record { name = name; value = value; parts = cut.parts; name_is = name_is; value_is = value_is }
+
+pub record AreNumberParts (major minor : List ℕ) : Type 0 where
+  pub major_is : is_decimal major ≡ true
+  pub minor_is : is_decimal minor ≡ true
+
+pub number_parts : (text major minor : List ℕ) → IsCut 46 text major minor → AreVersionNumbers text → AreNumberParts major minor
+number_parts text major minor cut numbers =
+    let none = all_other is_ascii_digit 46 refl numbers.major (and_right (nat_lt 0 (length numbers.major)) (list_all is_ascii_digit numbers.major) numbers.major_is) in
+    let same = cut_once 46 text major minor numbers.major numbers.minor cut numbers.parts none in
+    record { major_is = ap is_decimal same.front ∙ numbers.major_is; minor_is = ap is_decimal same.behind ∙ numbers.minor_is }
+
+-- the words of a request line are the parts at its first two spaces
+pub record AreLineParts (method url version m u v : List ℕ) : Type 0 where
+  pub method_is : method ≡ m
+  pub url_is : url ≡ u
+  pub version_is : version ≡ v
+
+pub line_parts : (text method rest url version m u v : List ℕ) → IsCut 32 text method rest → IsCut 32 rest url version → IsRequestLine text m u v → AreLineParts method url version m u v
+line_parts text method rest url version m u v first second line =
+    let one = cut_once 32 text method rest m (u ++ 32 ∷ v) first line.parts (token_without 32 refl m line.method_is) in
+    let two = cut_once 32 rest url version u v second one.behind (all_other is_url_byte 32 refl u line.url_is.bytes) in
+    record { method_is = one.front; url_is = two.front; version_is = two.behind }
+
+pub line_rest : (text method rest m u v : List ℕ) → IsCut 32 text method rest → IsRequestLine text m u v → rest ≡ u ++ 32 ∷ v
+line_rest text method rest m u v first line = (cut_once 32 text method rest m (u ++ 32 ∷ v) first line.parts (token_without 32 refl m line.method_is)).behind
+
+pub whole_line : (text method rest url version : List ℕ) → IsCut 32 text method rest → IsCut 32 rest url version → is_token method ≡ true → IsUrl url → IsVersion version → IsRequestLine text method url version
+whole_line text method rest url version first second method_is url_is version_is = record {
+  parts = first.parts ∙ ap (λ r. method ++ 32 ∷ r) second.parts;
+  method_is = method_is;
+  url_is = url_is;
+  version_is = version_is;
+}
+
+-- what stands behind the scheme
+record IsSlashSplit (rest authority path : List ℕ) : Type 0 where
+  parts : rest ≡ authority ++ path
+  no_slash : list_all (λ byte. not (byte == 47)) authority ≡ true
+  path_begins : 0 < length path → get_or path 0 0 ≡ 47
+
+slash_split : (rest : List ℕ) → (authority : List ℕ) × ((path : List ℕ) × IsSlashSplit rest authority path)
+slash_split [] = ([], ([], record { parts = refl; no_slash = refl; path_begins = λ some. absurd (omega (arith, some)) }))
+slash_split (x ∷ rest) =
+    elim (cases_eq x 47) [
+      | inl slash ↦ ([], (x ∷ rest, record { parts = refl; no_slash = refl; path_begins = λ some. slash }))
+      | inr other ↦ (
+          let more = slash_split rest in (
+            x ∷ more.0,
+            (
+              more.1.0,
+              record {
+                parts = ap (λ l. x ∷ l) more.1.1.parts;
+                no_slash = and_both (not (x == 47)) (list_all (λ byte. not (byte == 47)) more.0) (other_is x 47 other) more.1.1.no_slash;
+                path_begins = more.1.1.path_begins;
+              },
+            ),
+          )
+          )
+    ]
+
+some_authority : (authority path rest : List ℕ) → IsSlashSplit rest authority path → 0 < length rest → get_or rest 0 0 ≢ 47 → 0 < length authority
+some_authority [] path rest split some other =
+    absurd (other (ap (λ l. get_or l 0 0) split.parts ∙ split.path_begins (subst (λ l. 0 < length l) split.parts some)))
+some_authority (x ∷ authority) path rest split some other = omega arith
+
+pub rtsp_url : (url scheme rest : List ℕ) → url ≡ scheme ++ rest → map to_ascii_lowercase scheme ≡ map to_ascii_lowercase (codes "rtsp://") → 0 < length rest → get_or rest 0 0 ≢ 47 → IsRtspUrl url
+rtsp_url url scheme rest parts scheme_is some other =
+    let split = slash_split rest in
+    record {
+      scheme = scheme;
+      authority = split.0;
+      path = split.1.0;
+      parts = parts ∙ ap (λ l. scheme ++ l) split.1.1.parts;
+      scheme_is = scheme_is;
+      some = some_authority split.0 split.1.0 rest split.1.1 some other;
+      no_slash = split.1.1.no_slash;
+      path_begins = split.1.1.path_begins;
+    }
+
+pub record AreUrlParts (scheme rest : List ℕ) : Type 0 where
+  pub scheme_is : map to_ascii_lowercase scheme ≡ map to_ascii_lowercase (codes "rtsp://")
+  pub some : 0 < length rest
+  pub no_slash : get_or rest 0 0 ≢ 47
+
+first_other : (authority path : List ℕ) → 0 < length authority → list_all (λ byte. not (byte == 47)) authority ≡ true → get_or (authority ++ path) 0 0 ≢ 47
+first_other [] path some none = absurd (omega (arith, some))
+first_other (x ∷ authority) path some none = is_other x 47 (and_left (not (x == 47)) (list_all (λ byte. not (byte == 47)) authority) none)
+
+-- a URL's scheme has seven bytes
+pub url_parts : (url : List ℕ) → IsRtspUrl url → AreUrlParts (take 7 url) (drop 7 url)
+url_parts url u =
+    let seven : length u.scheme ≡ 7 = sym (length-map u.scheme to_ascii_lowercase) ∙ ap length u.scheme_is in
+    let front : take 7 url ≡ u.scheme = ap (take 7) u.parts ∙ take_at u.scheme (u.authority ++ u.path) 7 seven in
+    let rest : drop 7 url ≡ u.authority ++ u.path = ap (drop 7) u.parts ∙ drop_at u.scheme (u.authority ++ u.path) 7 seven in
+    let P : List ℕ → Type 0 = λ l. get_or l 0 0 ≢ 47 in
+    record {
+      scheme_is = ap (map to_ascii_lowercase) front ∙ u.scheme_is;
+      some = omega (arith, ap length rest, length-append u.authority u.path, u.some);
+      no_slash = subst P (sym rest) (first_other u.authority u.path u.some u.no_slash);
+    }
+
+pub url_long : (url : List ℕ) → IsRtspUrl url → 7 < length url
+url_long url u =
+    let seven : length u.scheme ≡ 7 = sym (length-map u.scheme to_ascii_lowercase) ∙ ap length u.scheme_is in
+    omega (arith, ap length u.parts, length-append u.scheme (u.authority ++ u.path), length-append u.authority u.path, u.some)
+
+pub numbers : (text major minor : List ℕ) → IsCut 46 text major minor → is_decimal major ≡ true → is_decimal minor ≡ true → AreVersionNumbers text
+numbers text major minor cut major_is minor_is = record { major = major; minor = minor; parts = cut.parts; major_is = major_is; minor_is = minor_is }
+
+-- what stands behind a word
+pub behind_from : {X : Type 0} (now : X → List ℕ) (r : Option X) (line word : List ℕ) →
+    MatchOption r (pointwise nat_eq (take (length word) line) word ≡ false)
+    (λ x. (pointwise nat_eq (take (length word) line) word ≡ true) × (now x ≡ drop (length word) line) × (length (now x) + length word ≡ length line)) →
+    MatchOption r ((ds : List ℕ) → line ≢ word ++ ds) (λ x. line ≡ word ++ now x)
+behind_from now None line word none = λ ds e.
+    let front : take (length word) line ≡ word = ap (take (length word)) e ∙ take_at word ds (length word) refl in
+    other_text (take (length word) line) word (sym none) front
+behind_from now (Some x) line word found =
+    let front : take (length word) line ≡ word = same_text (take (length word) line) word (sym found.0) in
+    let rest : drop (length word) line ≡ now x = sym found.1 in
+    sym (take-append-drop (length word) line) ∙ ap (λ a. a ++ drop (length word) line) front ∙ ap (λ b. word ++ b) rest
+
+-- a request line's cuts
+pub method_cut : (text m u v : List ℕ) → IsRequestLine text m u v → IsCut 32 text m (u ++ 32 ∷ v)
+method_cut text m u v line = record { parts = line.parts; first = token_without 32 refl m line.method_is }
+
+pub url_cut : (text m u v : List ℕ) → IsRequestLine text m u v → IsCut 32 (u ++ 32 ∷ v) u v
+url_cut text m u v line = record { parts = refl; first = all_other is_url_byte 32 refl u line.url_is.bytes }

@@ -1,0 +1,9 @@
+use Rattle.rtsp_text.specs.Lines.{header_lines}
+use Rattle.rtsp_text.proofs.FirstField.{found_first, found_none}
+use Rattle.rtsp_text.proofs.requests.header.Goals as goal
+
+pub returns-clause-first : goal.returns-clause-first
+returns-clause-first c = found_first (λ x. x.now) c.header_value.result c.args.name.now (header_lines c.args.request.now.head.now) c.header_value.ensures
+
+pub returns-clause-none : goal.returns-clause-none
+returns-clause-none c = found_none (λ x. x.now) c.header_value.result c.args.name.now (header_lines c.args.request.now.head.now) c.header_value.ensures

@@ -1,0 +1,16 @@
+use Rattle.rtsp_text.proofs.Once.{fault_once, no_fault, request_once, ok_and, err_is}
+use Rattle.rtsp_text.proofs.requests.read_request.Goals as goal
+
+pub returns-clause-requests : goal.returns-clause-requests
+returns-clause-requests c = λ method url sequence head body request.
+    ok_and c.read_parts.result _ _ _ c.read_parts.ensures.read c.read_parts.ensures.refused
+    (λ r read.
+    let same = request_once c.args.message.now r.method.now r.url.now r.sequence r.head.now r.body.now method url sequence head body read request in
+    (same.method_is, same.url_is, same.sequence_is, same.head_is, same.body_is))
+    (λ fault refused. no_fault c.args.message.now method url sequence head body fault request refused)
+
+pub returns-clause-faults : goal.returns-clause-faults
+returns-clause-faults c = λ fault refused.
+    err_is c.read_parts.result _ _ fault c.read_parts.ensures.read c.read_parts.ensures.refused
+    (λ r read. no_fault c.args.message.now r.method.now r.url.now r.sequence r.head.now r.body.now fault read refused)
+    (λ other found. fault_once c.args.message.now other fault found refused)

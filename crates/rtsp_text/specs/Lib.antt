@@ -1,0 +1,5 @@
+pub mod Lines
+pub mod Grammar
+pub mod Fields
+pub mod Requests
+pub mod Replies

@@ -1,0 +1,52 @@
+-- The text of a reply (RFC 2326 section 7): a status line, CSeq, fields, an empty line and a body. Lines end with CR LF.
+use Rattle.std.specs.Prelude.{ℕ, ◌++◌, ◌==◌, ◌||◌, Bool, if◌then◌else◌, List, [], Option, Some, None, codes, decimal, flat_map}
+
+-- the codes that a reply may have
+abbrev pub is_code : ℕ → Bool
+is_code code =
+    (code == 200) || (code == 400) || (code == 404) || (code == 451) || (code == 453) || (code == 454) || (code == 455)
+    || (code == 457) || (code == 461) || (code == 500) || (code == 501) || (code == 503) || (code == 505) || (code == 551)
+
+-- the reason of each code (RFC 2326 section 7.1.1 recommends such phrases)
+abbrev pub reason : ℕ → List ℕ
+reason code =
+    if code == 200 then codes "OK"
+    else (if code == 400 then codes "Bad Request"
+    else (if code == 404 then codes "Not Found"
+    else (if code == 451 then codes "Parameter Not Understood"
+    else (if code == 453 then codes "Not Enough Bandwidth"
+    else (if code == 454 then codes "Session Not Found"
+    else (if code == 455 then codes "Method Not Valid In This State"
+    else (if code == 457 then codes "Invalid Range"
+    else (if code == 461 then codes "Unsupported Transport"
+    else (if code == 500 then codes "Internal Server Error"
+    else (if code == 501 then codes "Not Implemented"
+    else (if code == 503 then codes "Service Unavailable"
+    else (if code == 505 then codes "RTSP Version Not Supported"
+    else codes "Option Not Supported"))))))))))))
+
+-- a field: its name and its value
+pub record Field : Type 0 where
+  pub name : List ℕ
+  pub value : List ℕ
+
+-- its line
+abbrev pub field_line : Field → List ℕ
+field_line field = field.name ++ codes ": " ++ field.value ++ codes "\r\n"
+
+-- the line of the sequence number, where there is one
+unfoldable pub sequence_line : Option ℕ → List ℕ
+sequence_line None = []
+sequence_line (Some sequence) = field_line (record { name = codes "CSeq"; value = decimal sequence })
+
+-- the status line
+unfoldable pub status_line : ℕ → List ℕ
+status_line code = codes "RTSP/1.0 " ++ decimal code ++ codes " " ++ reason code ++ codes "\r\n"
+
+-- a reply up to its last field
+unfoldable pub reply_front : ℕ → Option ℕ → List Field → List ℕ
+reply_front code sequence fields = status_line code ++ sequence_line sequence ++ flat_map field_line fields
+
+-- a whole reply
+unfoldable pub reply_text : ℕ → Option ℕ → List Field → List ℕ → List ℕ
+reply_text code sequence fields body = reply_front code sequence fields ++ codes "\r\n" ++ body

@@ -1,0 +1,75 @@
+ghost use Rattle.std.specs.Prelude.{◌≡◌, option_map, option_and_then};
+ghost use Rattle.std.specs.Str.{str_eq_ignore_ascii_case};
+ghost use Rattle.vod_base.specs.Numbers.{number_of};
+ghost use Rattle.rtsp_text.specs.Lines.{header_lines};
+ghost use Rattle.rtsp_text.specs.Fields.{value_in, header_value, sequence_number, first_sequence};
+
+use crate::grammar::cut;
+use crate::lines::{behind_first_line, next_header_line};
+use interleave::trimmed;
+use vod_base::read_number;
+
+/// The name of the field that has the sequence number.
+const SEQUENCE: &[u8; 4] = b"CSeq";
+
+/// Whether the names are the same, in any case.
+fn is_same_name(one: &[u8], other: &[u8]) -> bool
+    ensures { result ≡ str_eq_ignore_ascii_case one.now other.now }
+{
+    one.eq_ignore_ascii_case(other)
+}
+
+/// The value of a line of that name.
+fn value_in<'a>(name: &[u8], line: &'a [u8]) -> Option<&'a [u8]>
+    ensures { option_map (λ value. value.now) result ≡ value_in name.now line.now }
+{
+    match cut(line, b':') {
+        Some((front, value)) if is_same_name(front, name) => Some(trimmed(value)),
+        _ => None,
+    }
+}
+
+/// The value that a head gives the field of that name.
+pub(crate) fn header_value<'a>(head: &'a [u8], name: &[u8]) -> Option<&'a [u8]>
+    ensures { option_map (λ value. value.now) result ≡ header_value head.now name.now }
+{
+    let mut rest = behind_first_line(head);
+    while let Some((line, behind)) = next_header_line(rest) {
+        if let Some(value) = value_in(name, line) {
+            return Some(value);
+        }
+        rest = behind;
+    }
+    None
+}
+
+/// The number that a value is.
+fn number_in(value: Option<&[u8]>) -> Option<u64>
+    ensures { result ≡ option_and_then number_of (option_map (λ text. text.now) value.entry) }
+{
+    match value {
+        Some(text) => read_number(text).ok(),
+        None => None,
+    }
+}
+
+/// The sequence number that a head gives its request.
+pub(crate) fn sequence_number(head: &[u8]) -> Option<u64>
+    ensures { result ≡ sequence_number head.now }
+{
+    number_in(header_value(head, SEQUENCE))
+}
+
+/// The first number that a CSeq of a head has.
+pub(crate) fn first_sequence(head: &[u8]) -> Option<u64>
+    ensures { result ≡ first_sequence head.now }
+{
+    let mut rest = behind_first_line(head);
+    while let Some((line, behind)) = next_header_line(rest) {
+        if let Some(number) = number_in(value_in(SEQUENCE, line)) {
+            return Some(number);
+        }
+        rest = behind;
+    }
+    None
+}

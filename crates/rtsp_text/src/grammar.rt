@@ -1,0 +1,181 @@
+ghost use Rattle.std.specs.Prelude.{◌≡◌, ◌≢◌, ◌++◌, ◌==◌, ◌↔◌, ℕ, List, IsTrue, true, codes, map, not, MatchOption};
+ghost use Rattle.std.specs.List.{list_all};
+ghost use Rattle.std.specs.Char.{is_ascii_digit, to_ascii_lowercase};
+ghost use Rattle.vod_base.specs.Numbers.{is_decimal};
+ghost use Rattle.rtsp_text.specs.Grammar.{is_token_byte, is_token, is_url_byte, is_value_byte, IsRtspUrl, IsUrl, IsVersion, AreVersionNumbers, IsRequestLine, IsHeaderLine, IsCut};
+
+/// The part before the first byte `c`, and the part behind that byte.
+pub(crate) fn cut(text: &[u8], c: u8) -> Option<(&[u8], &[u8])>
+    ensures { MatchOption result (list_all (λ byte. not (byte == c)) text.now ≡ true) (λ parts. IsCut c text.now parts.0.now parts.1.now) }
+{
+    for at in 0..text.len() {
+        if text[at] == c {
+            return Some((&text[..at], &text[at + 1..]));
+        }
+    }
+    None
+}
+
+fn is_token_byte(byte: u8) -> bool
+    ensures { result ≡ is_token_byte byte }
+{
+    byte.is_ascii_alphanumeric() || byte == b'_' || byte == b'-'
+}
+
+fn has_token_bytes(text: &[u8]) -> bool
+    ensures { result ≡ list_all is_token_byte text.now }
+{
+    text.iter().all(|byte| is_token_byte(*byte))
+}
+
+/// Whether the text is one or more letters, digits, `_` and `-`.
+fn is_token(text: &[u8]) -> bool
+    ensures { result ≡ is_token text.now }
+{
+    !text.is_empty() && has_token_bytes(text)
+}
+
+fn has_digits(text: &[u8]) -> bool
+    ensures { result ≡ list_all is_ascii_digit text.now }
+{
+    text.iter().all(|byte| byte.is_ascii_digit())
+}
+
+/// Whether the text is one or more digits.
+pub(crate) fn is_decimal(text: &[u8]) -> bool
+    ensures { result ≡ is_decimal text.now }
+{
+    !text.is_empty() && has_digits(text)
+}
+
+fn is_url_byte(byte: u8) -> bool
+    ensures { result ≡ is_url_byte byte }
+{
+    33 <= byte && byte <= 126
+}
+
+fn has_url_bytes(text: &[u8]) -> bool
+    ensures { result ≡ list_all is_url_byte text.now }
+{
+    text.iter().all(|byte| is_url_byte(*byte))
+}
+
+fn is_value_byte(byte: u8) -> bool
+    ensures { result ≡ is_value_byte byte }
+{
+    (32 <= byte || byte == b'\t') && byte != 127
+}
+
+fn has_value_bytes(text: &[u8]) -> bool
+    ensures { result ≡ list_all is_value_byte text.now }
+{
+    text.iter().all(|byte| is_value_byte(*byte))
+}
+
+/// The scheme of a URL, with what parts it from the authority.
+const SCHEME: &[u8; 7] = b"rtsp://";
+
+/// Whether the text is `rtsp://` in any case.
+fn is_scheme(text: &[u8]) -> bool
+    ensures { IsTrue result ↔ (map to_ascii_lowercase text.now ≡ map to_ascii_lowercase (codes "rtsp://")) }
+{
+    text.eq_ignore_ascii_case(SCHEME)
+}
+
+/// Whether the text is `rtsp://` in any case, an authority, and no path or one that begins with `/`.
+fn is_rtsp_url(url: &[u8]) -> bool
+    ensures { IsTrue result ↔ IsRtspUrl url.now }
+{
+    if url.len() <= SCHEME.len() {
+        return false;
+    }
+    let (scheme, rest) = url.split_at(SCHEME.len());
+    is_scheme(scheme) && rest[0] != b'/'
+}
+
+fn is_star(url: &[u8]) -> bool
+    ensures { IsTrue result ↔ (url.now ≡ codes "*") }
+{
+    url == b"*".as_slice()
+}
+
+/// Whether the text is `*` or an absolute URL.
+fn is_url(url: &[u8]) -> bool
+    ensures { IsTrue result ↔ IsUrl url.now }
+{
+    has_url_bytes(url) && (is_star(url) || is_rtsp_url(url))
+}
+
+/// What stands behind a word.
+fn behind<'a>(text: &'a [u8], word: &[u8]) -> Option<&'a [u8]>
+    ensures { MatchOption result ((rest : List ℕ) → text.now ≢ word.now ++ rest) (λ rest. text.now ≡ word.now ++ rest.now) }
+{
+    text.strip_prefix(word)
+}
+
+/// Whether the text is digits, `.` and digits.
+fn are_version_numbers(text: &[u8]) -> bool
+    ensures { IsTrue result ↔ AreVersionNumbers text.now }
+{
+    match cut(text, b'.') {
+        Some((major, minor)) => is_decimal(major) && is_decimal(minor),
+        None => false,
+    }
+}
+
+/// Whether the text is `RTSP/`, digits, `.` and digits.
+fn is_version(text: &[u8]) -> bool
+    ensures { IsTrue result ↔ IsVersion text.now }
+{
+    match behind(text, b"RTSP/") {
+        Some(numbers) => are_version_numbers(numbers),
+        None => false,
+    }
+}
+
+/// The three words of a request line.
+#[derive(Clone, Copy)]
+pub(crate) struct RequestLine<'a> {
+    pub(crate) method: &'a [u8],
+    pub(crate) url: &'a [u8],
+    pub(crate) version: &'a [u8],
+}
+
+/// Reads a request line of any version.
+pub(crate) fn request_line(text: &[u8]) -> Option<RequestLine<'_>>
+    ensures { MatchOption result ((method url version : List ℕ) → ¬ IsRequestLine text.now method url version)
+        (λ line. IsRequestLine text.now line.method.now line.url.now line.version.now) }
+{
+    let Some((method, rest)) = cut(text, b' ') else {
+        return None;
+    };
+    let Some((url, version)) = cut(rest, b' ') else {
+        return None;
+    };
+    if is_token(method) && is_url(url) && is_version(version) {
+        Some(RequestLine {
+            method,
+            url,
+            version,
+        })
+    } else {
+        None
+    }
+}
+
+/// Whether the text is a name, `:` and a value.
+pub(crate) fn is_header_line(text: &[u8]) -> bool
+    ensures { IsTrue result ↔ IsHeaderLine text.now }
+{
+    match cut(text, b':') {
+        Some((name, value)) => is_token(name) && has_value_bytes(value),
+        None => false,
+    }
+}
+
+/// Whether the text is the version of RTSP 1.0.
+pub(crate) fn is_rtsp_1_0(version: &[u8]) -> bool
+    ensures { IsTrue result ↔ (version.now ≡ codes "RTSP/1.0") }
+{
+    version == b"RTSP/1.0".as_slice()
+}

@@ -1,0 +1,76 @@
+ghost use Rattle.std.specs.Prelude.{◌≡◌, ◌≤◌, [], length, take, drop, MatchOption};
+ghost use Rattle.interleave.specs.Pieces.{IsRequestLength};
+ghost use Rattle.rtsp_text.specs.Lines.{first_line, lines_before_empty, header_lines, IsNextLine, IsNextHeaderLine, IsSplit};
+
+use vod_base::line_end;
+
+/// The text of the first line, and what stands behind that line's end. The last line may have no end.
+fn next_line(bytes: &[u8]) -> Option<(&[u8], &[u8])>
+    ensures { MatchOption result (bytes.now ≡ []) (λ parts. IsNextLine bytes.now parts.0.now parts.1.now) }
+{
+    if bytes.is_empty() {
+        return None;
+    }
+    match line_end(bytes, 0) {
+        Some(line) => Some((&bytes[..line.text_end], &bytes[line.next..])),
+        None => Some((bytes, &bytes[bytes.len()..])),
+    }
+}
+
+/// The text of a message's first line.
+pub(crate) fn first_line(message: &[u8]) -> &[u8]
+    ensures { result.now ≡ first_line message.now }
+{
+    match next_line(message) {
+        Some((line, _)) => line,
+        None => message,
+    }
+}
+
+/// What stands behind a head's first line.
+pub(crate) fn behind_first_line(head: &[u8]) -> &[u8]
+    ensures lines { lines_before_empty result.now ≡ header_lines head.now }
+    ensures shorter { length result.now ≤ length head.now }
+{
+    match next_line(head) {
+        Some((_, rest)) => rest,
+        None => head,
+    }
+}
+
+/// The text of the first line, where that isn't empty, and what stands behind that line's end.
+pub(crate) fn next_header_line(bytes: &[u8]) -> Option<(&[u8], &[u8])>
+    ensures { MatchOption result (lines_before_empty bytes.now ≡ []) (λ parts. IsNextHeaderLine bytes.now parts.0.now parts.1.now) }
+{
+    match next_line(bytes) {
+        Some((line, rest)) if !line.is_empty() => Some((line, rest)),
+        _ => None,
+    }
+}
+
+/// Where the head of a whole request ends, behind its empty line.
+fn head_end(message: &[u8]) -> usize
+    requires { IsRequestLength message.now (length message.now) }
+    ensures within { result ≤ length message.now }
+    ensures split { IsSplit message.now (take result message.now) (drop result message.now) }
+{
+    let Some(first) = line_end(message, 0) else {
+        unreachable!()
+    };
+    let mut at = first.next;
+    while let Some(line) = line_end(message, at) {
+        if line.text_end == at {
+            return line.next;
+        }
+        at = line.next;
+    }
+    unreachable!()
+}
+
+/// The head and the body of a whole request.
+pub(crate) fn split(message: &[u8]) -> (&[u8], &[u8])
+    requires { IsRequestLength message.now (length message.now) }
+    ensures { IsSplit message.now result.0.now result.1.now }
+{
+    message.split_at(head_end(message))
+}

@@ -1,0 +1,165 @@
+ghost use Rattle.std.specs.Prelude.{◌≡◌, ◌+◌, ◌≤◌, ◌++◌, ℕ, IsTrue, Option, List, [], ◌∷◌, length, decimal, codes, IfOk};
+ghost use Rattle.rtsp_text.specs.Replies.{is_code, reason, Field, field_line, sequence_line, status_line, reply_front, reply_text};
+
+use itoa::Buffer;
+use std::alloc::Global;
+use std::marker::Model;
+use vod_base::NoMemory;
+
+/// The text of a reply (RFC 2326 section 7), in a buffer of 65,536 bytes.
+///
+/// Contracts see the text so far as a list of bytes. Only `new` takes memory.
+#[derive(Debug, Drop)]
+pub struct Reply {
+    text: Vec<u8>,
+}
+
+/// The most bytes of a reply.
+const ROOM: usize = 65_536;
+
+impl Model for Reply {
+    ghost use Rattle.std.specs.Prelude.{ℕ, List, ◌≤◌, vec_capacity};
+
+    ghost Value = { List ℕ };
+
+    ghost view = { λ r. r.text.items };
+
+    ghost invariant = { λ r. 65536 ≤ vec_capacity r.text };
+}
+
+/// The reason of a code.
+fn reason(code: u16) -> &'static [u8]
+    requires { IsTrue (is_code code) }
+    ensures text { result.now ≡ reason code }
+    ensures short { length result.now ≤ 30 }
+{
+    match code {
+        200 => b"OK",
+        400 => b"Bad Request",
+        404 => b"Not Found",
+        451 => b"Parameter Not Understood",
+        453 => b"Not Enough Bandwidth",
+        454 => b"Session Not Found",
+        455 => b"Method Not Valid In This State",
+        457 => b"Invalid Range",
+        461 => b"Unsupported Transport",
+        500 => b"Internal Server Error",
+        501 => b"Not Implemented",
+        503 => b"Service Unavailable",
+        505 => b"RTSP Version Not Supported",
+        _ => b"Option Not Supported",
+    }
+}
+
+impl Reply {
+    /// Reserves room for 65,536 bytes; no other call takes memory.
+    pub fn new(alloc: Global) -> Result<Reply, NoMemory>
+        ensures { IfOk result (λ reply. reply ≡ []) }
+    {
+        match Vec::with_capacity(alloc, ROOM) {
+            Ok(text) => Ok(Reply { text }),
+            Err(_) => Err(NoMemory),
+        }
+    }
+
+    /// Forgets the text.
+    pub fn clear(&mut self)
+        ensures { self.new ≡ [] }
+    {
+        self.text.clear();
+    }
+
+    /// The text so far.
+    pub fn bytes(&self) -> &[u8]
+        ensures { result.now ≡ self.now }
+    {
+        self.text.as_slice()
+    }
+
+    /// Appends bytes.
+    fn put(&mut self, bytes: &[u8])
+        requires { length self.old + length bytes.now ≤ 65536 }
+        ensures text { self.new ≡ self.old ++ bytes.now }
+        ensures long { length self.new ≡ length self.old + length bytes.now }
+    {
+        match self.text.extend_from_slice(bytes) {
+            Ok(()) => {}
+            Err(_) => unreachable!(),
+        }
+    }
+
+    /// Appends the status line.
+    fn put_status(&mut self, code: u16)
+        requires code { IsTrue (is_code code) }
+        requires fits { length self.old + 47 ≤ 65536 }
+        ensures text { self.new ≡ self.old ++ status_line code }
+        ensures short { length self.new ≤ length self.old + 47 }
+    {
+        self.put(b"RTSP/1.0 ");
+        self.put(Buffer::new().format(code).as_bytes());
+        self.put(b" ");
+        self.put(reason(code));
+        self.put(b"\r\n");
+    }
+
+    /// Appends a field's line.
+    fn put_field(&mut self, name: &[u8], value: &[u8])
+        requires { length self.old + (length name.now + length value.now + 4) ≤ 65536 }
+        ensures text { self.new ≡ self.old ++ field_line (record { name = name.now; value = value.now }) }
+        ensures long { length self.new ≡ length self.old + (length name.now + length value.now + 4) }
+    {
+        self.put(name);
+        self.put(b": ");
+        self.put(value);
+        self.put(b"\r\n");
+    }
+
+    /// Appends the status line `RTSP/1.0 CODE REASON` and, where there is a sequence number, the line `CSeq: N`: at most
+    /// 75 bytes.
+    pub fn start(&mut self, code: u16, sequence: Option<u64>)
+        requires code { IsTrue (is_code code) }
+        requires fits { length self.old + 75 ≤ 65536 }
+        ensures text { self.new ≡ self.old ++ (status_line code ++ sequence_line sequence) }
+        ensures short { length self.new ≤ length self.old + 75 }
+        ensures front { self.old ≡ [] → self.new ≡ reply_front code sequence [] }
+    {
+        self.put_status(code);
+        if let Some(number) = sequence {
+            self.put_field(b"CSeq", Buffer::new().format(number).as_bytes());
+        }
+    }
+
+    /// Appends the line `NAME: VALUE`.
+    pub fn field(&mut self, name: &[u8], value: &[u8])
+        requires { length self.old + (length name.now + length value.now + 4) ≤ 65536 }
+        ensures text { self.new ≡ self.old ++ field_line (record { name = name.now; value = value.now }) }
+        ensures long { length self.new ≡ length self.old + (length name.now + length value.now + 4) }
+        ensures front { (code : ℕ) (sequence : Option ℕ) (fields : List Field) → self.old ≡ reply_front code sequence fields →
+            self.new ≡ reply_front code sequence (fields ++ record { name = name.now; value = value.now } ∷ []) }
+    {
+        self.put_field(name, value);
+    }
+
+    /// Appends the line `NAME: VALUE`, the value in decimal, of at most 20 digits.
+    pub fn number_field(&mut self, name: &[u8], value: u64)
+        requires { length self.old + (length name.now + 24) ≤ 65536 }
+        ensures text { self.new ≡ self.old ++ field_line (record { name = name.now; value = decimal value }) }
+        ensures short { length self.new ≤ length self.old + (length name.now + 24) }
+        ensures front { (code : ℕ) (sequence : Option ℕ) (fields : List Field) → self.old ≡ reply_front code sequence fields →
+            self.new ≡ reply_front code sequence (fields ++ record { name = name.now; value = decimal value } ∷ []) }
+    {
+        self.put_field(name, Buffer::new().format(value).as_bytes());
+    }
+
+    /// Appends the empty line and the body.
+    pub fn finish(&mut self, body: &[u8])
+        requires { length self.old + (2 + length body.now) ≤ 65536 }
+        ensures text { self.new ≡ self.old ++ (codes "\r\n" ++ body.now) }
+        ensures long { length self.new ≡ length self.old + (2 + length body.now) }
+        ensures whole { (code : ℕ) (sequence : Option ℕ) (fields : List Field) → self.old ≡ reply_front code sequence fields →
+            self.new ≡ reply_text code sequence fields body.now }
+    {
+        self.put(b"\r\n"); // the empty line
+        self.put(body);
+    }
+}

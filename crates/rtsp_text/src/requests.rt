@@ -1,0 +1,133 @@
+ghost use Rattle.std.specs.Prelude.{◌≡◌, ℕ, List, All, length, codes, option_map, MatchOption, IsTrue, ◌↔◌, IfOk, IfErr, IfSome, IfNone, IsOkAnd, Err};
+ghost use Rattle.interleave.specs.Pieces.{IsRequestLength};
+ghost use Rattle.rtsp_text.specs.Lines.{lines_before_empty, header_lines};
+ghost use Rattle.rtsp_text.specs.Grammar.{IsHeaderLine};
+ghost use Rattle.rtsp_text.specs.Requests.{HasLength, IsRequest, IsFirstBad, IsFault};
+ghost use Rattle.rtsp_text.specs.declared.requests.RequestFault.{RequestFault};
+ghost use Rattle.rtsp_text.specs.Fields.{header_value, first_sequence, IsFirstField, HasNoField, IsFirstNumber, HasNoNumber};
+
+use crate::fields;
+use crate::grammar::{is_decimal, is_header_line, is_rtsp_1_0, request_line};
+use crate::lines::{behind_first_line, first_line, next_header_line, split};
+
+/// A request of RTSP 1.0 (RFC 2326 section 6).
+#[derive(Clone, Copy, Debug)]
+pub struct Request<'a> {
+    /// The method: one or more letters, digits, `_` and `-`.
+    pub method: &'a [u8],
+    /// What it asks for: `*`, or an absolute URL with the scheme `rtsp`.
+    pub url: &'a [u8],
+    /// The number of its CSeq.
+    pub sequence: u64,
+    /// Its whole head: the request line, the header lines and the empty line, with their ends.
+    pub head: &'a [u8],
+    /// Its body.
+    pub body: &'a [u8],
+}
+
+/// Why a message is no request of RTSP 1.0. Where several causes hold, the first of this list is answered.
+#[derive(Clone, Copy, Debug, PartialEq, Eq)]
+pub enum RequestFault {
+    /// The first line is no request line.
+    BadLine,
+    /// The first line is a request line of another version than `RTSP/1.0`.
+    BadVersion,
+    /// This header line, from 1, is the first one that isn't a name, `:` and a value.
+    BadHeader(u64),
+    /// There is no CSeq, or the first one isn't a number up to 2^64 - 1.
+    NoSequenceNumber,
+    /// The first Content-Length isn't all digits.
+    BadLength,
+}
+
+/// The value of a request's first header line of that name, in any case, without the spaces and tabs around it.
+///
+/// None exactly where the head has no line of that name.
+pub fn header<'a>(request: &Request<'a>, name: &[u8]) -> Option<&'a [u8]>
+    ensures value { option_map (λ value. value.now) result ≡ header_value request.now.head.now name.now }
+    ensures first { IfSome result (λ value. IsFirstField name.now (header_lines request.now.head.now) value.now) }
+    ensures none { IfNone result (HasNoField name.now (header_lines request.now.head.now)) }
+{
+    fields::header_value(request.head, name)
+}
+
+/// The number of a message's first CSeq that is a number, also where the message is no request of RTSP 1.0.
+pub fn sequence_of(message: &[u8]) -> Option<u64>
+    ensures value { result ≡ first_sequence message.now }
+    ensures first { IfSome result (IsFirstNumber (codes "CSeq") (header_lines message.now)) }
+    ensures none { IfNone result (HasNoNumber (codes "CSeq") (header_lines message.now)) }
+{
+    fields::first_sequence(message)
+}
+
+/// The number, from 1, of the first header line that isn't a name, `:` and a value.
+fn first_bad(message: &[u8]) -> Option<u64>
+    ensures { MatchOption result (All IsHeaderLine (header_lines message.now)) (IsFirstBad (header_lines message.now)) }
+{
+    let mut rest = behind_first_line(message);
+    let mut count = 0u64;
+    while let Some((line, behind)) = next_header_line(rest) {
+        count += 1;
+        if !is_header_line(line) {
+            return Some(count);
+        }
+        rest = behind;
+    }
+    None
+}
+
+/// Whether the first Content-Length, where there is one, is all digits.
+fn has_length(message: &[u8]) -> bool
+    ensures { IsTrue result ↔ HasLength message.now }
+{
+    match fields::header_value(message, b"Content-Length") {
+        Some(value) => is_decimal(value),
+        None => true,
+    }
+}
+
+/// Reads a whole request, head and body, as [`interleave::Demux`] cuts it from a connection's bytes.
+///
+/// Ok exactly where the message is a request of RTSP 1.0, with its parts; each fault exactly where its cause holds and none
+/// before it in [`RequestFault`].
+pub fn read_request(message: &[u8]) -> Result<Request<'_>, RequestFault>
+    requires { IsRequestLength message.now (length message.now) }
+    ensures read { IfOk result (λ r. IsRequest message.now r.method.now r.url.now r.sequence r.head.now r.body.now) }
+    ensures refused { IfErr result (IsFault message.now) }
+    ensures requests { (method url : List ℕ) (sequence : ℕ) (head body : List ℕ) → IsRequest message.now method url sequence head body →
+        IsOkAnd result (λ r. (r.method.now ≡ method) × (r.url.now ≡ url) × (r.sequence ≡ sequence) × (r.head.now ≡ head) × (r.body.now ≡ body)) }
+    ensures faults { (fault : RequestFault) → IsFault message.now fault → result ≡ Err fault }
+{
+    read_parts(message)
+}
+
+/// Reads a whole request.
+fn read_parts(message: &[u8]) -> Result<Request<'_>, RequestFault>
+    requires { IsRequestLength message.now (length message.now) }
+    ensures read { IfOk result (λ r. IsRequest message.now r.method.now r.url.now r.sequence r.head.now r.body.now) }
+    ensures refused { IfErr result (IsFault message.now) }
+{
+    let Some(line) = request_line(first_line(message)) else {
+        return Err(RequestFault::BadLine);
+    };
+    if !is_rtsp_1_0(line.version) {
+        return Err(RequestFault::BadVersion);
+    }
+    if let Some(number) = first_bad(message) {
+        return Err(RequestFault::BadHeader(number));
+    }
+    let Some(sequence) = fields::sequence_number(message) else {
+        return Err(RequestFault::NoSequenceNumber);
+    };
+    if !has_length(message) {
+        return Err(RequestFault::BadLength);
+    }
+    let (head, body) = split(message);
+    Ok(Request {
+        method: line.method,
+        url: line.url,
+        sequence,
+        head,
+        body,
+    })
+}

@@ -1,0 +1,332 @@
+-- What plans send slot by slot: a plan's slots are those of its segments, one after the other.
+use Rattle.std.proofs.Common.{◌≡◌, ◌≢◌, ◌<◌, ◌≤◌, ◌+◌, ◌-◌, ◌*◌, ◌/◌, ◌%◌, ℕ, min, List, [], ◌∷◌, ◌++◌, All, length, get_or, take, drop, sum, arith, refl, sym, ap, ◌∙◌, inl, inr}
+use Rattle.std.proofs.Math.Seq.{take-append-add}
+use Rattle.std.proofs.Math.Nat.{add-mul-div_right, mod-lt}
+use Rattle.std.proofs.lemmas.Nat.{div-add-mod'}
+use Rattle.std.proofs.lemmas.Bool.{cases_lt, cases_eq}
+use Rattle.std.proofs.lemmas.List.{take-append-le, take_all, take-take, take_more, take-append-drop, get_or_past}
+use Rattle.std.proofs.lemmas.List.Concat.{flat_map-append}
+use Rattle.std.proofs.lemmas.List.Sums.{sum_by-append, sum_by-take-le, sum_by_more, sum_by_more_le}
+use Rattle.std.proofs.lemmas.List.Elements.{All-nil, All-cons, All-head, All-get_or, All-take}
+use Rattle.plan_cert.specs.declared.Segment.{Segment}
+use Rattle.plan_cert.specs.Slots.{slots_of, plan_slots, total_slots, total_bytes, sum_through}
+use Rattle.plan_cert.specs.Plan.{IsPlan}
+use Rattle.plan_cert.proofs.SlotSums.{length-plan_slots, sum-plan_slots, sum-take-in}
+use Rattle.plan_cert.proofs.Floors.{floor_rises}
+use Rattle.slot_calendar.specs.Plays.{sent_before, asked_at, cut_at}
+
+-- ---- sums of fronts
+pub sum-take-rises : (xs : List ℕ) (j k : ℕ) → j ≤ k → sum (take j xs) ≤ sum (take k xs)
+sum-take-rises xs j k less =
+    let part : sum (take j (take k xs)) ≤ sum (take k xs) = sum_by-take-le (λ x. x) (take k xs) j in
+    let same : sum (take j (take k xs)) ≡ sum (take j xs) = ap sum (take-take j k xs less) in
+    omega (arith, part, same)
+
+pub sum-take-append : (xs ys : List ℕ) (k : ℕ) → sum (take k (xs ++ ys)) ≡ sum (take k xs) + sum (take (k - length xs) ys)
+sum-take-append xs ys k =
+    elim (cases_lt (length xs) k) [
+      | inl past ↦ (
+          let m = k - length xs in
+          let at : length xs + m ≡ k = omega arith in
+          let whole : take k (xs ++ ys) ≡ xs ++ take m ys = ap (λ n. take n (xs ++ ys)) (sym at) ∙ take-append-add xs ys m in
+          let front : take k xs ≡ xs = take_all k xs (omega arith) in
+          ap sum whole ∙ sum_by-append (λ x. x) xs (take m ys) ∙ ap (λ l. sum l + sum (take m ys)) (sym front)
+          )
+      | inr within ↦ (
+          let none : k - length xs ≡ 0 = omega arith in
+          let rest : sum (take (k - length xs) ys) ≡ 0 = ap (λ n. sum (take n ys)) none in
+          let front : sum (take k (xs ++ ys)) ≡ sum (take k xs) = ap sum (take-append-le k xs ys within) in
+          omega (arith, rest, front)
+          )
+    ]
+
+-- ---- the bytes sent before a slot
+pub sent-rises : (segments : List Segment) (start s t : ℕ) → s ≤ t → sent_before segments start s ≤ sent_before segments start t
+sent-rises segments start s t less = sum-take-rises (plan_slots segments) (s - start) (t - start) (omega arith)
+
+pub sent-append : (xs ys : List Segment) (start t : ℕ) →
+    sent_before (xs ++ ys) start t ≡ sent_before xs start t + sent_before ys (start + total_slots xs) t
+sent-append xs ys start t =
+    let rest : t - start - length (plan_slots xs) ≡ t - (start + total_slots xs) = omega (arith, length-plan_slots xs) in
+    ap (λ l. sum (take (t - start) l)) (flat_map-append slots_of xs ys) ∙ sum-take-append (plan_slots xs) (plan_slots ys) (t - start)
+    ∙ ap (λ n. sum (take (t - start) (plan_slots xs)) + sum (take n (plan_slots ys))) rest
+
+pub sent-none : (segments : List Segment) (start t : ℕ) → t ≤ start → sent_before segments start t ≡ 0
+sent-none segments start t before =
+    let none : t - start ≡ 0 = omega arith in
+    ap (λ n. sum (take n (plan_slots segments))) none
+
+pub sent-end : (segments : List Segment) (start t : ℕ) → start + total_slots segments ≤ t → sent_before segments start t ≡ sum (plan_slots segments)
+sent-end segments start t past = ap sum (take_all (t - start) (plan_slots segments) (omega (arith, length-plan_slots segments)))
+
+pub sent-all : (segments : List Segment) (start t : ℕ) → All (λ s. 1 ≤ s.slots) segments → start + total_slots segments ≤ t → sent_before segments start t ≡ total_bytes segments
+sent-all segments start t some past = sent-end segments start t past ∙ sum-plan_slots segments some
+
+pub sent-most : (segments : List Segment) (start t : ℕ) → All (λ s. 1 ≤ s.slots) segments → sent_before segments start t ≤ total_bytes segments
+sent-most segments start t some =
+    let part : sum (take (t - start) (plan_slots segments)) ≤ sum (plan_slots segments) = sum_by-take-le (λ x. x) (plan_slots segments) (t - start) in
+    omega (arith, part, sum-plan_slots segments some)
+
+-- the first j slots of one segment
+pub sent-one : (s : Segment) (from j : ℕ) → 0 < s.slots → j ≤ s.slots → sent_before (s ∷ []) from (from + j) ≡ j * s.bytes / s.slots
+sent-one s from j pos few =
+    let at : from + j - from ≡ j = omega arith in
+    ap (λ n. sum (take n (plan_slots (s ∷ [])))) at ∙ sum-take-in s [] j pos few
+
+pub one-slots : (s : Segment) → total_slots (s ∷ []) ≡ s.slots
+one-slots s = omega arith
+
+pub one-bytes : (s : Segment) → total_bytes (s ∷ []) ≡ s.bytes
+one-bytes s = omega arith
+
+-- ---- the bytes asked in a slot
+pub asked-append : (xs ys : List Segment) (start t : ℕ) →
+    asked_at (xs ++ ys) start t ≡ asked_at xs start t + asked_at ys (start + total_slots xs) t
+asked-append xs ys start t =
+    let from = start + total_slots xs in
+    let x = sent-rises xs start t (t + 1) (omega arith) in
+    let y = sent-rises ys from t (t + 1) (omega arith) in
+    omega (arith, sent-append xs ys start t, sent-append xs ys start (t + 1), x, y)
+
+pub asked-before : (segments : List Segment) (start t : ℕ) → t < start → asked_at segments start t ≡ 0
+asked-before segments start t before = omega (arith, sent-none segments start (t + 1) (omega arith))
+
+pub asked-behind : (segments : List Segment) (start t : ℕ) → start + total_slots segments ≤ t → asked_at segments start t ≡ 0
+asked-behind segments start t past =
+    omega (arith, sent-end segments start t past, sent-end segments start (t + 1) (omega arith))
+
+-- ---- the segments of a plan, one after the other
+pub one-plan : (segments : List Segment) (i : ℕ) (s : Segment) → IsPlan segments → i < length segments → s ≡ get_or segments i s → IsPlan (s ∷ [])
+one-plan segments i s plan inside is =
+    let slots : total_slots (take i segments) + (get_or segments i s).slots ≤ total_slots segments = sum_by_more_le (λ x. x.slots) segments i s inside in
+    let bytes : total_bytes (take i segments) + (get_or segments i s).bytes ≤ total_bytes segments = sum_by_more_le (λ x. x.bytes) segments i s inside in
+    let same_slots : s.slots ≡ (get_or segments i s).slots = ap (λ x. x.slots) is in
+    let same_bytes : s.bytes ≡ (get_or segments i s).bytes = ap (λ x. x.bytes) is in
+    let here : 1 ≤ (get_or segments i s).slots = All-get_or (λ x. 1 ≤ x.slots) segments i s inside plan.no_empty in
+    record {
+      no_empty = All-cons (λ x. 1 ≤ x.slots) s [] (omega (arith, here, same_slots)) (All-nil (λ x. 1 ≤ x.slots));
+      few_slots = omega (arith, one-slots s, slots, same_slots, plan.few_slots);
+      few_bytes = omega (arith, one-bytes s, bytes, same_bytes, plan.few_bytes);
+    }
+
+pub front-next : (segments : List Segment) (i : ℕ) (s : Segment) → i < length segments → s ≡ get_or segments i s → take (i + 1) segments ≡ take i segments ++ s ∷ []
+front-next segments i s inside is = take_more segments i s inside ∙ ap (λ x. take i segments ++ x ∷ []) (sym is)
+
+pub slots-next : (segments : List Segment) (i : ℕ) (s : Segment) → i < length segments → s ≡ get_or segments i s →
+    total_slots (take (i + 1) segments) ≡ total_slots (take i segments) + s.slots
+slots-next segments i s inside is =
+    ap total_slots (front-next segments i s inside is) ∙ sum_by-append (λ x. x.slots) (take i segments) (s ∷ []) ∙ ap (λ n. total_slots (take i segments) + n) (one-slots s)
+
+pub bytes-next : (segments : List Segment) (i : ℕ) (s : Segment) → i < length segments → s ≡ get_or segments i s →
+    total_bytes (take (i + 1) segments) ≡ total_bytes (take i segments) + s.bytes
+bytes-next segments i s inside is =
+    ap total_bytes (front-next segments i s inside is) ∙ sum_by-append (λ x. x.bytes) (take i segments) (s ∷ []) ∙ ap (λ n. total_bytes (take i segments) + n) (one-bytes s)
+
+-- the first i + 1 segments ask for what the first i do and what segment i does
+pub asked-next : (segments : List Segment) (i : ℕ) (s : Segment) (start from t : ℕ) → i < length segments → s ≡ get_or segments i s →
+    from ≡ start + total_slots (take i segments) →
+    asked_at (take (i + 1) segments) start t ≡ asked_at (take i segments) start t + asked_at (s ∷ []) from t
+asked-next segments i s start from t inside is at =
+    ap (λ l. asked_at l start t) (front-next segments i s inside is) ∙ asked-append (take i segments) (s ∷ []) start t
+    ∙ ap (λ n. asked_at (take i segments) start t + asked_at (s ∷ []) n t) (sym at)
+
+-- the front of a plan asks for no more than all of it
+pub asked-front : (segments : List Segment) (i start t : ℕ) →
+    asked_at segments start t ≡ asked_at (take i segments) start t + asked_at (drop i segments) (start + total_slots (take i segments)) t
+asked-front segments i start t =
+    ap (λ l. asked_at l start t) (sym (take-append-drop i segments)) ∙ asked-append (take i segments) (drop i segments) start t
+
+-- a slot of segment i
+pub asked-in : (segments : List Segment) (i : ℕ) (s : Segment) (start from t : ℕ) → i < length segments → s ≡ get_or segments i s →
+    from ≡ start + total_slots (take i segments) → from ≤ t → t < from + s.slots → asked_at segments start t ≡ asked_at (s ∷ []) from t
+asked-in segments i s start from t inside is at begun ends =
+    let split = asked-front segments (i + 1) start t in
+    let front = asked-next segments i s start from t inside is at in
+    let slots = slots-next segments i s inside is in
+    let behind : asked_at (drop (i + 1) segments) (start + total_slots (take (i + 1) segments)) t ≡ 0 =
+    asked-before (drop (i + 1) segments) (start + total_slots (take (i + 1) segments)) t (omega (arith, slots, at, ends)) in
+    let before : asked_at (take i segments) start t ≡ 0 = asked-behind (take i segments) start t (omega (arith, at, begun)) in
+    omega (arith, split, front, behind, before)
+
+-- ---- the bytes behind the first `keep`
+pub all-front : (segments : List Segment) (i : ℕ) → All (λ s. 1 ≤ s.slots) segments → All (λ s. 1 ≤ s.slots) (take i segments)
+all-front segments i some = All-take (λ s. 1 ≤ s.slots) i segments some
+
+pub over-append : (xs ys : List Segment) (start from keep left t : ℕ) → All (λ s. 1 ≤ s.slots) xs → from ≡ start + total_slots xs → left ≡ keep - total_bytes xs →
+    sent_before (xs ++ ys) start t - keep ≡ (sent_before xs start t - keep) + (sent_before ys from t - left)
+over-append xs ys start from keep left t some at rest =
+    let whole : sent_before (xs ++ ys) start t ≡ sent_before xs start t + sent_before ys from t =
+    sent-append xs ys start t ∙ ap (λ n. sent_before xs start t + sent_before ys n t) (sym at) in
+    elim (cases_lt t from) [
+      | inl before ↦ (
+          let none : sent_before ys from t ≡ 0 = sent-none ys from t (omega arith) in
+          omega (arith, whole, none)
+          )
+      | inr past ↦ (
+          let all : sent_before xs start t ≡ total_bytes xs = sent-all xs start t some (omega (arith, at, past)) in
+          omega (arith, whole, all, rest)
+          )
+    ]
+
+pub cut-append : (xs ys : List Segment) (start from keep left t : ℕ) → All (λ s. 1 ≤ s.slots) xs → from ≡ start + total_slots xs → left ≡ keep - total_bytes xs →
+    cut_at (xs ++ ys) start keep t ≡ cut_at xs start keep t + cut_at ys from left t
+cut-append xs ys start from keep left t some at rest =
+    let x = sent-rises xs start t (t + 1) (omega arith) in
+    let y = sent-rises ys from t (t + 1) (omega arith) in
+    let here = over-append xs ys start from keep left t some at rest in
+    let next = over-append xs ys start from keep left (t + 1) some at rest in
+    sum-parts (sent_before (xs ++ ys) start t - keep) (sent_before (xs ++ ys) start (t + 1) - keep)
+    (sent_before xs start t - keep) (sent_before xs start (t + 1) - keep) (sent_before ys from t - left) (sent_before ys from (t + 1) - left)
+    here next (omega (arith, x)) (omega (arith, y))
+  where
+    sum-parts : (a b c d e f : ℕ) → a ≡ c + e → b ≡ d + f → c ≤ d → e ≤ f → b - a ≡ (d - c) + (f - e)
+    sum-parts a b c d e f p q r s = omega arith
+
+pub cut-next : (segments : List Segment) (i : ℕ) (s : Segment) (start from keep left t : ℕ) → All (λ x. 1 ≤ x.slots) segments → i < length segments → s ≡ get_or segments i s →
+    from ≡ start + total_slots (take i segments) → left ≡ keep - total_bytes (take i segments) →
+    cut_at (take (i + 1) segments) start keep t ≡ cut_at (take i segments) start keep t + cut_at (s ∷ []) from left t
+cut-next segments i s start from keep left t some inside is at rest =
+    ap (λ l. cut_at l start keep t) (front-next segments i s inside is)
+    ∙ cut-append (take i segments) (s ∷ []) start from keep left t (all-front segments i some) at rest
+
+pub cut-front : (segments : List Segment) (i start keep t : ℕ) → All (λ x. 1 ≤ x.slots) segments → cut_at (take i segments) start keep t ≤ cut_at segments start keep t
+cut-front segments i start keep t some =
+    let whole : cut_at segments start keep t ≡ cut_at (take i segments) start keep t + cut_at (drop i segments) (start + total_slots (take i segments)) (keep - total_bytes (take i segments)) t =
+    ap (λ l. cut_at l start keep t) (sym (take-append-drop i segments))
+    ∙ cut-append (take i segments) (drop i segments) start (start + total_slots (take i segments)) keep (keep - total_bytes (take i segments)) t (all-front segments i some) refl refl in
+    omega (arith, whole)
+
+pub cut-before : (segments : List Segment) (start keep t : ℕ) → t < start → cut_at segments start keep t ≡ 0
+cut-before segments start keep t before = omega (arith, sent-none segments start (t + 1) (omega arith))
+
+pub cut-behind : (segments : List Segment) (start keep t : ℕ) → start + total_slots segments ≤ t → cut_at segments start keep t ≡ 0
+cut-behind segments start keep t past =
+    omega (arith, sent-end segments start t past, sent-end segments start (t + 1) (omega arith))
+
+-- ---- the greatest slot of a segment
+slot_most : (b n c j : ℕ) → 0 < n → b ≤ c * n → (j + 1) * b / n ≤ j * b / n + c
+slot_most b n c j pos most =
+    let rises : (j + 1) * b / n ≤ (j * b + c * n) / n = floor_rises ((j + 1) * b) (j * b + c * n) n pos (omega (arith, most)) in
+    let split : (j * b + c * n) / n ≡ j * b / n + c = add-mul-div_right (j * b) c pos in
+    omega (arith, rises, split)
+
+pub asked-most : (s : Segment) (from c t : ℕ) → 0 < s.slots → s.bytes ≤ c * s.slots → asked_at (s ∷ []) from t ≤ c
+asked-most s from c t pos most =
+    elim (cases_lt t from) [
+      | inl before ↦ omega (arith, asked-before (s ∷ []) from t before)
+      | inr begun ↦ elim (cases_lt t (from + s.slots)) [
+        | inl inside ↦ (
+            let j = t - from in
+            let at : from + j ≡ t = omega arith in
+            let next : from + (j + 1) ≡ t + 1 = omega arith in
+            let here : sent_before (s ∷ []) from t ≡ j * s.bytes / s.slots = ap (sent_before (s ∷ []) from) (sym at) ∙ sent-one s from j pos (omega (arith, inside)) in
+            let then : sent_before (s ∷ []) from (t + 1) ≡ (j + 1) * s.bytes / s.slots = ap (sent_before (s ∷ []) from) (sym next) ∙ sent-one s from (j + 1) pos (omega (arith, inside)) in
+            omega (arith, here, then, slot_most s.bytes s.slots c j pos most)
+            )
+        | inr past ↦ omega (arith, asked-behind (s ∷ []) from t (omega (arith, one-slots s, past)))
+      ]
+    ]
+
+-- ---- slot after slot of a segment
+pub one-some : (s : Segment) → IsPlan (s ∷ []) → 0 < s.slots
+one-some s plan = All-head (λ x. 1 ≤ x.slots) s [] plan.no_empty
+
+pub asked-here : (segments : List Segment) (from j before sent : ℕ) → before ≡ sent_before segments from (from + j) → sent_before segments from (from + (j + 1)) ≡ sent →
+    asked_at segments from (from + j) ≡ sent - before
+asked-here segments from j before sent was is =
+    let next : sent_before segments from (from + j + 1) ≡ sent = ap (sent_before segments from) (let e : from + j + 1 ≡ from + (j + 1) = omega arith in e) ∙ is in
+    omega (arith, was, next)
+
+pub cut-here : (segments : List Segment) (from keep j before over sent : ℕ) → before ≡ sent_before segments from (from + j) - keep →
+    sent_before segments from (from + (j + 1)) ≡ sent → over ≡ sent - keep → cut_at segments from keep (from + j) ≡ over - before
+cut-here segments from keep j before over sent was is over_is =
+    let next : sent_before segments from (from + j + 1) ≡ sent = ap (sent_before segments from) (let e : from + j + 1 ≡ from + (j + 1) = omega arith in e) ∙ is in
+    omega (arith, was, next, over_is)
+
+-- a sum of totals and bytes asked, one slot further
+pub raised-next : (first place by : ℕ) (old mid new asked : ℕ → ℕ) → asked place ≡ by → new place ≡ mid place + by →
+    ((t : ℕ) → first ≤ t → t ≢ place → new t ≡ mid t) → ((t : ℕ) → first ≤ t → t < place → mid t ≡ old t + asked t) → ((t : ℕ) → first ≤ t → place ≤ t → mid t ≡ old t) →
+    (t : ℕ) → first ≤ t → t < place + 1 → new t ≡ old t + asked t
+raised-next first place by old mid new asked by_is here others done rest t since less =
+    elim (cases_eq t place) [
+      | inl is ↦ (
+          let at : new t ≡ new place = ap new is in
+          let at_old : old t ≡ old place = ap old is in
+          let at_asked : asked t ≡ asked place = ap asked is in
+          let was : mid place ≡ old place = rest place (omega (arith, is)) (omega arith) in
+          omega (arith, at, at_old, at_asked, was, here, by_is)
+          )
+      | inr other ↦ others t since other ∙ done t since (before t place less other)
+    ]
+  where
+    before : (x y : ℕ) → x < y + 1 → x ≢ y → x < y
+    before x y most apart = omega arith
+
+pub lowered-next : (first place by : ℕ) (old mid new cut : ℕ → ℕ) → cut place ≡ by → (first ≤ place → new place + by ≡ mid place) →
+    ((t : ℕ) → first ≤ t → t ≢ place → new t ≡ mid t) → ((t : ℕ) → first ≤ t → t < place → mid t + cut t ≡ old t) → ((t : ℕ) → first ≤ t → place ≤ t → mid t ≡ old t) →
+    (t : ℕ) → first ≤ t → t < place + 1 → new t + cut t ≡ old t
+lowered-next first place by old mid new cut by_is here others done rest t since less =
+    elim (cases_eq t place) [
+      | inl is ↦ (
+          let from : first ≤ place = omega (arith, is, since) in
+          let at : new t ≡ new place = ap new is in
+          let at_old : old t ≡ old place = ap old is in
+          let at_cut : cut t ≡ cut place = ap cut is in
+          let was : mid place ≡ old place = rest place from (omega arith) in
+          omega (arith, at, at_old, at_cut, was, here from, by_is)
+          )
+      | inr other ↦ ap (λ n. n + cut t) (others t since other) ∙ done t since (before t place less other)
+    ]
+  where
+    before : (x y : ℕ) → x < y + 1 → x ≢ y → x < y
+    before x y most apart = omega arith
+
+pub unchanged-next : (first place : ℕ) (old mid new : ℕ → ℕ) → ((t : ℕ) → first ≤ t → t ≢ place → new t ≡ mid t) → ((t : ℕ) → first ≤ t → place ≤ t → mid t ≡ old t) →
+    (t : ℕ) → first ≤ t → place + 1 ≤ t → new t ≡ old t
+unchanged-next first place old mid new others rest t since more =
+    others t since (λ e. omega (arith, e, more)) ∙ rest t since (omega arith)
+
+pub sent-step : (segments : List Segment) (from j before sent : ℕ) → before ≡ sent_before segments from (from + j) → sent_before segments from (from + (j + 1)) ≡ sent → before ≤ sent
+sent-step segments from j before sent was is = omega (arith, was, is, sent-rises segments from (from + j) (from + (j + 1)) (omega arith))
+
+-- no slot of a segment has more than its bytes over its slots, rounded up
+pub ceil_most : (b n c : ℕ) → 0 < n → c ≡ b / n + min 1 (b % n) → b ≤ c * n
+ceil_most b n c pos is =
+    let whole : b / n * n + b % n ≡ b = div-add-mod' b n in
+    let less : b % n < n = mod-lt b pos in
+    elim (cases_eq (b % n) 0) [
+      | inl none ↦ (
+          let same : c ≡ b / n = omega (arith, is, none) in
+          let product : c * n ≡ b / n * n = ap (λ x. x * n) same in
+          omega (arith, whole, none, product)
+          )
+      | inr some ↦ (
+          let more : c ≡ b / n + 1 = omega (arith, is, rounded (b % n) some) in
+          let product : c * n ≡ (b / n + 1) * n = ap (λ x. x * n) more in
+          omega (arith, whole, less, product)
+          )
+    ]
+  where
+    rounded : (x : ℕ) → x ≢ 0 → min 1 x ≡ 1
+    rounded x other = omega arith
+
+-- ---- in the words of the plan
+pub sent-through : (segments : List Segment) (start t : ℕ) → start ≤ t → sent_before segments start (t + 1) ≡ sum_through segments (t - start)
+sent-through segments start t from =
+    let at : t + 1 - start ≡ t - start + 1 = omega arith in
+    ap (λ n. sum (take n (plan_slots segments))) at
+
+pub asked-slot : (segments : List Segment) (start j : ℕ) → asked_at segments start (start + j) ≡ get_or (plan_slots segments) j 0
+asked-slot segments start j =
+    let slots = plan_slots segments in
+    let here : sent_before segments start (start + j) ≡ sum (take j slots) = ap (λ n. sum (take n slots)) (let e : start + j - start ≡ j = omega arith in e) in
+    let next : sent_before segments start (start + j + 1) ≡ sum (take (j + 1) slots) = ap (λ n. sum (take n slots)) (let e : start + j + 1 - start ≡ j + 1 = omega arith in e) in
+    elim (cases_lt j (length slots)) [
+      | inl inside ↦ omega (arith, here, next, sum_by_more (λ x. x) slots j 0 inside)
+      | inr past ↦ (
+          let one : sum (take j slots) ≡ sum slots = ap sum (take_all j slots past) in
+          let two : sum (take (j + 1) slots) ≡ sum slots = ap sum (take_all (j + 1) slots (omega arith)) in
+          let none = get_or_past slots j 0 past in
+          omega (arith, here, next, one, two, none)
+          )
+    ]

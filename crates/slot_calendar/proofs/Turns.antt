@@ -1,0 +1,142 @@
+-- A list that is kept turned: slot t at place t modulo its length.
+use Rattle.std.proofs.Common.{◌≡◌, ◌≢◌, ◌<◌, ◌≤◌, ◌+◌, ◌-◌, ◌*◌, ◌/◌, ◌%◌, ℕ, List, length, get_or, take, drop, set, arith, sym, ap, ◌∙◌, inl, inr}
+use Rattle.std.proofs.Math.Nat.{mod-lt, lt_of_mul-lt-mul_right}
+use Rattle.std.proofs.lemmas.Nat.{div-add-mod', mod-mul-add, field_of}
+use Rattle.std.proofs.lemmas.Bool.{cases_lt, cases_eq}
+use Rattle.std.proofs.lemmas.List.{length-set, get_or-set_same, get_or-set_other, length-drop, length-take-le, length-append, get_or_append_left, get_or-append_right, get_or-drop, get_or-take, get_or_past}
+use Rattle.slot_calendar.specs.Rings.{turned}
+use Rattle.slot_calendar.specs.Totals.{total_at}
+
+-- a remainder, from a quotient
+pub mod_is : (x n q r : ℕ) → x ≡ q * n + r → r < n → x % n ≡ r
+mod_is x n q r is less = ap (λ y. y % n) is ∙ mod-mul-add q n r less
+
+pub mod_below : (x n : ℕ) → 0 < n → x % n < n
+mod_below x n pos = mod-lt x pos
+
+pub length-turned : (xs : List ℕ) (h : ℕ) → h ≤ length xs → length (turned h xs) ≡ length xs
+length-turned xs h within =
+    omega (arith, length-append (drop h xs) (take h xs), length-drop h xs, length-take-le h xs within)
+
+-- the element of slot t
+turned-at : (xs : List ℕ) (n first k : ℕ) → 0 < n → length xs ≡ n → k < n → get_or (turned (first % n) xs) k 0 ≡ get_or xs ((first + k) % n) 0
+turned-at xs n first k pos len inside =
+    let h = first % n in
+    let below : h < n = mod_below first n pos in
+    let whole : first / n * n + h ≡ first = div-add-mod' first n in
+    let front : length (drop h xs) ≡ n - h = length-drop h xs ∙ ap (λ l. l - h) len in
+    elim (cases_lt k (n - h)) [
+      | inl less ↦ (
+          let here : (first + k) % n ≡ h + k = mod_is (first + k) n (first / n) (h + k) (omega arith) (omega arith) in
+          get_or_append_left (drop h xs) (take h xs) 0 k (omega (arith, front)) ∙ get_or-drop h xs k 0 ∙ ap (λ i. get_or xs i 0) (sym here)
+          )
+      | inr more ↦ (
+          let here : (first + k) % n ≡ k - (n - h) = mod_is (first + k) n (first / n + 1) (k - (n - h)) (omega arith) (omega arith) in
+          get_or-append_right (drop h xs) (take h xs) (n - h) k 0 front more ∙ get_or-take h xs (k - (n - h)) 0 (omega arith) ∙ ap (λ i. get_or xs i 0) (sym here)
+          )
+    ]
+
+pub total-in : (xs : List ℕ) (n first t : ℕ) → 0 < n → length xs ≡ n → first ≤ t → t < first + n → total_at first (turned (first % n) xs) t ≡ get_or xs (t % n) 0
+total-in xs n first t pos len from inside =
+    let at : first + (t - first) ≡ t = omega arith in
+    turned-at xs n first (t - first) pos len (omega arith) ∙ ap (λ u. get_or xs (u % n) 0) at
+
+pub total-past : (xs : List ℕ) (n first t : ℕ) → 0 < n → length xs ≡ n → first + n ≤ t → total_at first (turned (first % n) xs) t ≡ 0
+total-past xs n first t pos len past =
+    let below : first % n < n = mod_below first n pos in
+    get_or_past (turned (first % n) xs) (t - first) 0 (omega (arith, length-turned xs (first % n) (omega (arith, len, below)), len, past))
+
+-- two slots of one turn have two places
+pub places_apart : (n first s t : ℕ) → 0 < n → first ≤ s → s < first + n → first ≤ t → t < first + n → s % n ≡ t % n → s ≡ t
+places_apart n first s t pos s_from s_in t_from t_in same =
+    let whole_s : s / n * n + s % n ≡ s = div-add-mod' s n in
+    let whole_t : t / n * n + t % n ≡ t = div-add-mod' t n in
+    let less_s : s / n * n < (t / n + 1) * n = omega (arith, whole_s, whole_t, same) in
+    let less_t : t / n * n < (s / n + 1) * n = omega (arith, whole_s, whole_t, same) in
+    let s_le : s / n < t / n + 1 = lt_of_mul-lt-mul_right n less_s in
+    let t_le : t / n < s / n + 1 = lt_of_mul-lt-mul_right n less_t in
+    let level : s / n ≡ t / n = omega (arith, s_le, t_le) in
+    sym whole_s ∙ ap (λ q. q * n + s % n) level ∙ ap (λ r. t / n * n + r) same ∙ whole_t
+
+-- the block of a slot's place
+pub block_of : (t : ℕ) → t % 1048576 / 1024 ≡ t / 1024 % 1024
+block_of t = field_of t 10 10
+
+-- the slots up to the next multiple of 1,024 are of one block
+pub same_block : (slot t : ℕ) → slot ≤ t → t < slot + (1024 - slot % 1024) → t / 1024 ≡ slot / 1024
+same_block slot t from inside = omega (arith, from, inside)
+
+-- ---- a place that is written
+pub set-here : (xs : List ℕ) (n first slot v : ℕ) → 0 < n → length xs ≡ n → first ≤ slot → slot < first + n →
+    total_at first (turned (first % n) (set xs (slot % n) v)) slot ≡ v
+set-here xs n first slot v pos len from inside =
+    let below : slot % n < n = mod_below slot n pos in
+    total-in (set xs (slot % n) v) n first slot pos (length-set xs (slot % n) v ∙ len) from inside
+    ∙ get_or-set_same xs (slot % n) v 0 (omega (arith, below, len))
+
+pub set-there : (xs : List ℕ) (n first slot t v : ℕ) → 0 < n → length xs ≡ n → first ≤ slot → slot < first + n → first ≤ t → t ≢ slot →
+    total_at first (turned (first % n) (set xs (slot % n) v)) t ≡ total_at first (turned (first % n) xs) t
+set-there xs n first slot t v pos len from inside since other =
+    let len' : length (set xs (slot % n) v) ≡ n = length-set xs (slot % n) v ∙ len in
+    elim (cases_lt t (first + n)) [
+      | inl in_ring ↦ (
+          let apart : t % n ≢ slot % n = λ e. other (places_apart n first t slot pos since in_ring from inside e) in
+          total-in (set xs (slot % n) v) n first t pos len' since in_ring ∙ get_or-set_other xs (slot % n) (t % n) v 0 apart
+          ∙ sym (total-in xs n first t pos len since in_ring)
+          )
+      | inr past ↦ total-past (set xs (slot % n) v) n first t pos len' past ∙ sym (total-past xs n first t pos len past)
+    ]
+
+-- the first slot is forgotten where it holds nothing
+pub total-next : (xs : List ℕ) (n first t : ℕ) → 0 < n → length xs ≡ n → total_at first (turned (first % n) xs) first ≡ 0 → first + 1 ≤ t →
+    total_at (first + 1) (turned ((first + 1) % n) xs) t ≡ total_at first (turned (first % n) xs) t
+total-next xs n first t pos len none since =
+    elim (cases_lt t (first + n)) [
+      | inl inside ↦ total-in xs n (first + 1) t pos len since (omega arith) ∙ sym (total-in xs n first t pos len (omega arith) inside)
+      | inr past ↦ elim (cases_eq t (first + n)) [
+        | inl is ↦ (
+            let same : t % n ≡ first % n = ap (λ u. u % n) is ∙ mod_is (first + n) n (first / n + 1) (first % n) (omega (arith, div-add-mod' first n)) (mod_below first n pos) in
+            total-in xs n (first + 1) t pos len since (omega (arith, is)) ∙ ap (λ i. get_or xs i 0) same
+            ∙ sym (total-in xs n first first pos len (omega arith) (omega arith)) ∙ none
+            ∙ sym (total-past xs n first t pos len past)
+            )
+        | inr other ↦ total-past xs n (first + 1) t pos len (more first n t past other) ∙ sym (total-past xs n first t pos len past)
+      ]
+    ]
+  where
+    more : (a b u : ℕ) → a + b ≤ u → u ≢ a + b → a + 1 + b ≤ u
+    more a b u least other = omega arith
+
+-- nothing is booked where all places are 0
+pub total-zero : (xs : List ℕ) (n first t : ℕ) → 0 < n → length xs ≡ n → ((i : ℕ) → get_or xs i 0 ≡ 0) → first ≤ t → total_at first (turned (first % n) xs) t ≡ 0
+total-zero xs n first t pos len zeros from =
+    elim (cases_lt t (first + n)) [
+      | inl inside ↦ total-in xs n first t pos len from inside ∙ zeros (t % n)
+      | inr past ↦ total-past xs n first t pos len past
+    ]
+
+-- no total of the slots of a block is above the bound of its places
+pub total-bounded : (xs tops : List ℕ) (first slot t : ℕ) → length xs ≡ 1048576 → ((i : ℕ) → i < 1048576 → get_or xs i 0 ≤ get_or tops (i / 1024) 0) →
+    first ≤ slot → slot ≤ t → t / 1024 ≡ slot / 1024 →
+    total_at first (turned (first % 1048576) xs) t ≤ get_or tops (slot % 1048576 / 1024) 0
+total-bounded xs tops first slot t len bounded from since same =
+    elim (cases_lt t (first + 1048576)) [
+      | inl inside ↦ (
+          let here = total-in xs 1048576 first t (omega arith) len (omega arith) inside in
+          let bound = bounded (t % 1048576) (mod_below t 1048576 (omega arith)) in
+          let block : t % 1048576 / 1024 ≡ slot % 1048576 / 1024 = block_of t ∙ ap (λ b. b % 1024) same ∙ sym (block_of slot) in
+          let top : get_or tops (t % 1048576 / 1024) 0 ≡ get_or tops (slot % 1048576 / 1024) 0 = ap (λ b. get_or tops b 0) block in
+          omega (arith, here, bound, top)
+          )
+      | inr past ↦ (let none = total-past xs 1048576 first t (omega arith) len past in omega (arith, none))
+    ]
+
+pub total-zeros : (xs : List ℕ) (n first t : ℕ) → 0 < n → length xs ≡ n → ((i : ℕ) → get_or xs i 0 ≡ 0) → total_at first (turned (first % n) xs) t ≡ 0
+total-zeros xs n first t pos len zeros =
+    elim (cases_lt t first) [
+      | inl before ↦ (
+          let same : t - first ≡ first - first = omega arith in
+          ap (λ k. get_or (turned (first % n) xs) k 0) same ∙ total-zero xs n first first pos len zeros (omega arith)
+          )
+      | inr from ↦ total-zero xs n first t pos len zeros from
+    ]

@@ -1,0 +1,48 @@
+use Rattle.std.proofs.Common.{◌≡◌, ◌<◌, ◌+◌, List, [], ◌∷◌, length, get_or, take, arith, ap, subst, rules}
+use Rattle.std.proofs.lemmas.List.{take_all}
+use Rattle.plan_cert.specs.declared.Segment.{Segment}
+use Rattle.plan_cert.specs.Slots.{total_slots}
+use Rattle.slot_calendar.specs.Profiles.{capacity_at}
+use Rattle.slot_calendar.specs.Calendars.{Entries, booked_at, IsCalendar, FitsIn, HasRoom, IsOverflowIn, IsFirstOverflow}
+use Rattle.slot_calendar.proofs.Sending.{slots-next}
+use Rattle.slot_calendar.proofs.Rooms.{fits-next, first-overflow, room-all}
+use Rattle.slot_calendar.proofs.calendar.Calendar.first_overflow.Goals as goal
+
+pub returns-in-Some : goal.returns-in-Some
+returns-in-Some c =
+    let i = c.loop-segment in
+    let old : Entries = c.args.self.now in
+    let segments = c.segments-segments.result.now in
+    let s : Segment = get_or segments i.segment-index (record { slots = 0; bytes = 0 }) in
+    let over = c.in-Some.over in
+    let Q : Entries → Type 0 = λ e. IsOverflowIn i.from (i.from + s.slots) (booked_at e) (capacity_at e.steps) i.from (s ∷ []) over in
+    let P : List Segment → Type 0 = λ l. IsFirstOverflow old.first (booked_at old) (capacity_at old.steps) c.args.start l over in
+    subst P c.segments-segments.ensures.value
+    (first-overflow old.first (booked_at old) (capacity_at old.steps) segments i.segment-index s c.args.start i.from over (omega arith) (search rules)
+    i.invariant.from_is (omega (arith, i.invariant.from_is, c.requires.after)) i.invariant.fits (subst Q c.self.view_is c.in-Some.ensures))
+
+pub loop-segment-preserved : goal.loop-segment-preserved
+loop-segment-preserved c =
+    let i = c.loop-segment in
+    let old : Entries = c.args.self.now in
+    let segments = c.segments-segments.result.now in
+    let s : Segment = get_or segments i.segment-index (record { slots = 0; bytes = 0 }) in
+    let inside : i.segment-index < length segments = omega arith in
+    let is : s ≡ get_or segments i.segment-index s = search rules in
+    let Q : Entries → Type 0 = λ e. FitsIn i.from (i.from + s.slots) (booked_at e) (capacity_at e.steps) i.from (s ∷ []) in
+    record {
+      from_is = omega (arith, i.invariant.from_is, slots-next segments i.segment-index s inside is);
+      fits = fits-next old.first (booked_at old) (capacity_at old.steps) segments i.segment-index s c.args.start i.from inside is
+          i.invariant.from_is i.invariant.fits (subst Q c.self.view_is c.in_default.ensures);
+    }
+
+pub returns : goal.returns
+returns c =
+    let i = c.loop-segment in
+    let old : Entries = c.args.self.now in
+    let segments = c.segments-segments.result.now in
+    let is : IsCalendar old = subst IsCalendar c.self.view_is c.self.invariant.calendar_is in
+    let all : total_slots (take i.segment-index segments) ≡ total_slots segments = ap total_slots (take_all i.segment-index segments c.loop-segment-test.false) in
+    let P : List Segment → Type 0 = λ l. HasRoom old.first (booked_at old) (capacity_at old.steps) c.args.start l in
+    subst P c.segments-segments.ensures.value
+    (room-all old segments c.args.start i.from is (omega (arith, i.invariant.from_is, all)) i.invariant.fits)

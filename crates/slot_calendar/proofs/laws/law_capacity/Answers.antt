@@ -1,0 +1,5 @@
+use Rattle.std.proofs.Common.{arith}
+use Rattle.slot_calendar.proofs.laws.law_capacity.Goals as goal
+
+pub returns : goal.returns
+returns c = λ plays stands t from. omega (arith, stands.each t from, c.now-read.ensures.calendar.within t from)

@@ -1,0 +1,14 @@
+use Rattle.std.proofs.Common.{arith, ◌∙◌}
+use Rattle.slot_calendar.proofs.Turns.{total-zeros}
+use Rattle.slot_calendar.proofs.Blocks.{topped-zeros}
+use Rattle.slot_calendar.proofs.ring.Ring.clear.Goals as goal
+
+pub invariant_of-self : goal.invariant_of-self
+invariant_of-self c =
+    let xs = c.empty.new.numbers.items in
+    let ys = c.empty-2.new.numbers.items in
+    topped-zeros xs ys (record { count_is = c.empty.ensures.count_is ∙ c.self.invariant.places_are; each = c.empty.ensures.each })
+    (record { count_is = c.empty-2.ensures.count_is ∙ c.self.invariant.tops_are; each = c.empty-2.ensures.each })
+
+pub returns-clause-empty : goal.returns-clause-empty
+returns-clause-empty c = λ t. total-zeros c.empty.new.numbers.items 1048576 c.args.now t (omega arith) (c.empty.ensures.count_is ∙ c.self.invariant.places_are) c.empty.ensures.each

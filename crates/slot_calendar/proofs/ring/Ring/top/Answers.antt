@@ -1,0 +1,18 @@
+use Rattle.std.proofs.Common.{◌≡◌, ◌<◌, ◌/◌, ◌%◌, get_or, arith, ap}
+use Rattle.std.proofs.lemmas.List.{get_or_read}
+use Rattle.slot_calendar.specs.Totals.{total_at}
+use Rattle.slot_calendar.proofs.Turns.{mod_below, total-bounded}
+use Rattle.slot_calendar.proofs.Blocks.{block_in}
+use Rattle.slot_calendar.proofs.ring.Ring.top.Goals as goal
+
+pub returns : goal.returns
+returns c = λ t since same. (
+    let d = c.self.inside in
+    let p = c.args.slot % 1048576 in
+    let inside : p < 1048576 = mod_below c.args.slot 1048576 (omega arith) in
+    let first : d.first ≡ c.args.self.now.first = ap (λ s. s.first) c.self.view_is in
+    let here : total_at d.first _ t ≡ total_at c.args.self.now.first c.args.self.now.totals t = ap (λ s. total_at s.first s.totals t) c.self.view_is in
+    let top : c.index.result.now ≡ get_or d.tops.items (p / 1024) 0 = get_or_read d.tops.items (p / 1024) c.index.result.now (omega (arith, block_in p inside, c.self.invariant.tops_are)) c.index.ensures 0 in
+    let bound = total-bounded d.places.items d.tops.items d.first c.args.slot t c.self.invariant.places_are c.self.invariant.bounded (omega (arith, first, c.requires)) since same in
+    omega (arith, here, top, bound)
+    )

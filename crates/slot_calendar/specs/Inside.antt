@@ -1,0 +1,11 @@
+-- How a calendar is kept: a profile, and a ring whose blocks all have their greatest totals.
+use Rattle.std.specs.Prelude.{◌≡◌, None}
+use Rattle.slot_calendar.specs.Calendars.{Entries, IsCalendar}
+use Rattle.slot_calendar.specs.declared.calendar.Calendar.TheInside.{Inside}
+
+abbrev pub entries_of : Inside → Entries
+entries_of calendar = record { first = calendar.ring.first; steps = calendar.profile; totals = calendar.ring.totals }
+
+pub record IsCalendarInside (calendar : Inside) : Type 0 where
+  pub settled : calendar.ring.stale ≡ None
+  pub calendar_is : IsCalendar (entries_of calendar)

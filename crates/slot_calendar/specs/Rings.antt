@@ -1,0 +1,46 @@
+-- How the totals are kept: 1,048,576 slots at their number modulo 1,048,576, in 1,024 blocks of 1,024 places each.
+use Rattle.std.specs.Prelude.{ℕ, ◌≡◌, ◌≢◌, ◌/◌, ◌%◌, ◌<◌, ◌≤◌, ◌++◌, List, Option, Some, length, take, drop, slice_index}
+use Rattle.slot_calendar.specs.declared.ring.Ring.TheInside.{Inside}
+
+-- the list that begins at place `from` and comes round to it
+abbrev pub turned : ℕ → List ℕ → List ℕ
+turned from places = drop from places ++ take from places
+
+-- a ring: the totals of the slots from `first` on, and the block that was lowered and not read again, if any
+pub record Slots : Type 0 where
+  pub first : ℕ
+  pub totals : List ℕ
+  pub stale : Option ℕ
+
+-- some place of block b holds `top`
+pub record IsReached (places : List ℕ) (b top : ℕ) : Type 0 where
+  pub place : ℕ
+  pub inside : place < 1048576
+  pub of_block : place / 1024 ≡ b
+  pub holds : slice_index places place ≡ top
+
+-- each block has its greatest total, but for the stale one, which has a number that is at least as great
+pub record IsTopped (places tops : List ℕ) (stale : Option ℕ) : Type 0 where
+  pub places_are : length places ≡ 1048576
+  pub tops_are : length tops ≡ 1024
+  pub bounded : (i : ℕ) → i < 1048576 → slice_index places i ≤ slice_index tops (i / 1024)
+  pub reached : (b : ℕ) → b < 1024 → stale ≢ Some b → IsReached places b (slice_index tops b)
+  pub stale_in : (b : ℕ) → stale ≡ Some b → b < 1024
+
+abbrev pub slots_of_ring : Inside → Slots
+slots_of_ring ring = record { first = ring.first; totals = turned (ring.first % 1048576) ring.places.items; stale = ring.stale }
+
+abbrev pub IsRing : Inside → Type 0
+IsRing ring = IsTopped ring.places.items ring.tops.items ring.stale
+
+-- the greatest of some numbers
+pub record IsGreatest (numbers : List ℕ) (top : ℕ) : Type 0 where
+  pub bounded : (i : ℕ) → i < length numbers → slice_index numbers i ≤ top
+  pub index : ℕ
+  pub inside : index < length numbers
+  pub holds : slice_index numbers index ≡ top
+
+-- so many zeros
+pub record AreZeros (numbers : List ℕ) (count : ℕ) : Type 0 where
+  pub count_is : length numbers ≡ count
+  pub each : (i : ℕ) → slice_index numbers i ≡ 0

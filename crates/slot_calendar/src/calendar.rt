@@ -1,0 +1,140 @@
+ghost use Rattle.std.specs.Prelude.{◌≡◌, ◌+◌, ◌^◌, ◌<◌, ◌≤◌, ◌++◌, [], ◌∷◌, ℕ, List, IfOk, MatchOption};
+ghost use Rattle.plan_cert.specs.Slots.{total_slots, total_bytes};
+ghost use Rattle.slot_calendar.specs.Profiles.{capacity_at};
+ghost use Rattle.slot_calendar.specs.Plays.{Play, asked_at, cut_at, whole_play, cut_play};
+
+use crate::booking::{book_segments, overflow_in, release_segments};
+use crate::profiles::Profile;
+use crate::ring::{Ring, SLOTS};
+use plan_cert::Plan;
+use std::alloc::Global;
+use std::marker::Model;
+use vod_base::NoMemory;
+
+/// A slot that has no room for a plan.
+#[derive(Clone, Copy, Debug, PartialEq, Eq)]
+pub struct Overflow {
+    /// The slot.
+    pub slot: u64,
+    /// The bytes that are booked in it.
+    pub booked: u64,
+    /// The bytes that the plan asks for in it.
+    pub asked: u64,
+}
+
+/// The bytes that are booked on a link, slot by slot, from `now` on.
+///
+/// Contracts see `now`, the steps of the capacity and the list of the totals from `now` on.
+#[derive(Debug, Drop)]
+pub struct Calendar {
+    profile: Profile,
+    ring: Ring,
+}
+
+impl Model for Calendar {
+    ghost use Rattle.slot_calendar.specs.Calendars.{Entries};
+
+    ghost Value = { Entries };
+
+    ghost use Rattle.slot_calendar.specs.Inside.{entries_of, IsCalendarInside};
+
+    ghost view = { entries_of };
+
+    ghost invariant = { IsCalendarInside };
+}
+
+impl Calendar {
+    ghost use Rattle.slot_calendar.specs.Calendars.{IsCalendar, StandsFor, HasRoom, IsFirstOverflow, booked_at};
+
+    /// An empty calendar of this capacity, from slot 0 on. No other call takes memory.
+    pub fn new(alloc: Global, profile: Profile) -> Result<Calendar, NoMemory>
+        ensures now { IfOk result (λ calendar. calendar.first ≡ 0) }
+        ensures profile { IfOk result (λ calendar. calendar.steps ≡ profile) }
+        ensures totals { IfOk result (λ calendar. (t : ℕ) → booked_at calendar t ≡ 0) }
+        ensures stands { IfOk result (λ calendar. StandsFor calendar []) }
+    {
+        let ring = Ring::new(alloc)?;
+        Ok(Calendar { profile, ring })
+    }
+
+    /// The first slot that it still knows.
+    pub fn now(&self) -> u64
+        ensures value { result ≡ self.now.first }
+        ensures calendar { IsCalendar self.now }
+    {
+        self.ring.now()
+    }
+
+    /// The bytes booked in a slot, never above its capacity; 0 from `now() + 1,048,576` on.
+    pub fn booked(&self, slot: u64) -> u64
+        requires { self.now.first ≤ slot }
+        ensures value { result ≡ booked_at self.now slot }
+        ensures within { result ≤ capacity_at self.now.steps slot }
+        ensures past { self.now.first + 1048576 ≤ slot → result ≡ 0 }
+    {
+        self.ring.total(slot)
+    }
+
+    /// The first slot where the bytes booked and those that this plan asks for, if it begins at `start`, are together
+    /// above the capacity; None where it fits into every slot.
+    ///
+    /// It passes over the segments once, and over the blocks of 1,024 slots that have room for the greatest slot of a
+    /// segment without reading them.
+    pub fn first_overflow(&self, start: u64, plan: &Plan) -> Option<Overflow>
+        requires after { self.now.first < start }
+        requires small { start ≤ 2 ^ 62 + 256 }
+        ensures { MatchOption result (HasRoom self.now.first (booked_at self.now) (capacity_at self.now.steps) start plan.now) (IsFirstOverflow self.now.first (booked_at self.now) (capacity_at self.now.steps) start plan.now) }
+    {
+        let segments = plan.segments();
+        let mut from = start;
+        for segment in segments {
+            if let Some(over) = overflow_in(&self.ring, &self.profile, from, *segment) {
+                return Some(over);
+            }
+            from += segment.slots;
+        }
+        None
+    }
+
+    /// Books a plan that fits, from `start` on. One pass over the plan's slots.
+    pub fn book(&mut self, start: u64, plan: &Plan)
+        requires after { self.old.first < start }
+        requires within { start + total_slots plan.now ≤ self.old.first + 1048576 }
+        requires room { HasRoom self.old.first (booked_at self.old) (capacity_at self.old.steps) start plan.now }
+        ensures now { self.new.first ≡ self.old.first }
+        ensures profile { self.new.steps ≡ self.old.steps }
+        ensures totals { (t : ℕ) → self.old.first ≤ t → booked_at self.new t ≡ booked_at self.old t + asked_at plan.now start t }
+        ensures stands { (plays : List Play) → StandsFor self.old plays → StandsFor self.new (plays ++ whole_play start plan.now ∷ []) }
+    {
+        book_segments(&mut self.ring, start, plan.segments());
+    }
+
+    /// Gives back what a plan that was booked at `start` has behind its first `keep` bytes in the slots from now on.
+    /// One pass over the plan's slots.
+    pub fn release(&mut self, start: u64, plan: &Plan, keep: u64)
+        requires keep { keep ≤ total_bytes plan.now }
+        requires booked { (t : ℕ) → self.old.first ≤ t → cut_at plan.now start keep t ≤ booked_at self.old t }
+        ensures now { self.new.first ≡ self.old.first }
+        ensures profile { self.new.steps ≡ self.old.steps }
+        ensures totals { (t : ℕ) → self.old.first ≤ t → booked_at self.new t + cut_at plan.now start keep t ≡ booked_at self.old t }
+        ensures stands { (before behind : List Play) → StandsFor self.old (before ++ whole_play start plan.now ∷ behind) → StandsFor self.new (before ++ cut_play start plan.now keep ∷ behind) }
+    {
+        let segments = plan.segments();
+        if start - start.min(self.ring.now()) < SLOTS {
+            release_segments(&mut self.ring, start, segments, keep);
+            self.ring.settle();
+        }
+    }
+
+    /// Forgets the slots before `now`.
+    pub fn advance(&mut self, now: u64)
+        requires from_now { self.old.first ≤ now }
+        requires small { now ≤ 2 ^ 62 }
+        ensures now { self.new.first ≡ now }
+        ensures profile { self.new.steps ≡ self.old.steps }
+        ensures totals { (t : ℕ) → now ≤ t → booked_at self.new t ≡ booked_at self.old t }
+        ensures stands { (plays : List Play) → StandsFor self.old plays → StandsFor self.new plays }
+    {
+        self.ring.advance(now);
+    }
+}

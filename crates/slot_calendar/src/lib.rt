@@ -1,0 +1,16 @@
+//! The calendar of a shared link: how many bytes are booked in each slot of a ring of 1,048,576, and the first slot
+//! where a plan would pass the link's capacity, which may change over the slots.
+#![tactic(auto)]
+
+mod booking;
+mod calendar;
+mod laws;
+mod profiles;
+mod ring;
+
+pub use calendar::{Calendar, Overflow};
+pub use laws::{law_capacity, law_release, law_sending};
+pub use profiles::{CapStep, MOST_CAPACITY, MOST_STEPS, Profile};
+
+#[cfg(test)]
+mod tests;

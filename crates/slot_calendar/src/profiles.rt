@@ -1,0 +1,155 @@
+ghost use Rattle.std.specs.Prelude.{◌≡◌, ◌+◌, ◌^◌, ◌-◌, ◌<◌, ◌≤◌, ◌↔◌, ℕ, [], ◌∷◌, length, IsTrue, IfOk};
+ghost use Rattle.slot_calendar.specs.Profiles.{IsProfile, IsCapacity, IsSpan, capacity_at, step_at};
+
+use std::alloc::Global;
+use std::marker::Model;
+use vod_base::NoMemory;
+
+/// From slot `from` on, up to the next step, each slot has room for `bytes` bytes.
+#[derive(Clone, Copy, Debug, PartialEq, Eq)]
+pub struct CapStep {
+    /// The step's first slot.
+    pub from: u64,
+    /// The capacity in bytes a slot.
+    pub bytes: u64,
+}
+
+/// The most steps of a profile.
+pub const MOST_STEPS: usize = 64;
+
+/// The greatest capacity in bytes a slot.
+pub const MOST_CAPACITY: u64 = 1 << 42;
+
+/// The capacity of a link over its slots: 1 to 64 steps, the first from slot 0, strictly ascending, each of at most
+/// 2^42 bytes a slot.
+///
+/// Contracts see the list of the steps.
+#[derive(Debug, Drop)]
+pub struct Profile {
+    steps: Vec<CapStep>,
+}
+
+impl Model for Profile {
+    ghost use Rattle.std.specs.Prelude.{List};
+    ghost use Rattle.slot_calendar.specs.declared.profiles.CapStep.{CapStep};
+    ghost use Rattle.slot_calendar.specs.Profiles.{IsProfile};
+
+    ghost Value = { List CapStep };
+
+    ghost view = { λ p. p.steps.items };
+
+    ghost invariant = { λ p. IsProfile p.steps.items };
+}
+
+/// The capacity from a slot up to the slot `until`, where it may change.
+#[derive(Clone, Copy)]
+pub(crate) struct Span {
+    pub(crate) bytes: u64,
+    pub(crate) until: u64,
+}
+
+impl Profile {
+    /// Whether these steps make a profile: 1 to [`MOST_STEPS`] of them, the first from slot 0, strictly ascending, each
+    /// of at most [`MOST_CAPACITY`] bytes.
+    pub fn is_allowed(steps: &[CapStep]) -> bool
+        ensures { IsTrue result ↔ IsProfile steps.now }
+    {
+        !steps.is_empty()
+            && steps.len() <= MOST_STEPS
+            && steps[0].from == 0
+            && ascend(steps)
+            && are_small(steps)
+    }
+
+    /// A profile of these steps.
+    pub fn new(steps: Vec<CapStep>) -> Profile
+        requires { IsProfile steps.items }
+        ensures { result ≡ steps.items }
+    {
+        Profile { steps }
+    }
+
+    /// The same capacity in all slots.
+    pub fn flat(alloc: Global, bytes: u64) -> Result<Profile, NoMemory>
+        requires { bytes ≤ 2 ^ 42 }
+        ensures { IfOk result (λ profile. profile ≡ record { from = 0; bytes = bytes } ∷ []) }
+    {
+        let step = CapStep { from: 0, bytes };
+        match Vec::from_slice(alloc, &[step]) {
+            Ok(steps) => Ok(Profile { steps }),
+            Err(_) => Err(NoMemory),
+        }
+    }
+
+    /// The steps.
+    pub fn steps(&self) -> &[CapStep]
+        ensures value { result.now ≡ self.now }
+        ensures profile { IsProfile self.now }
+    {
+        self.steps.as_slice()
+    }
+
+    /// The capacity of a slot in bytes: that of the last step that begins at or before it.
+    pub fn at(&self, slot: u64) -> u64
+        ensures value { result ≡ capacity_at self.now slot }
+        ensures last { IsCapacity self.now slot result }
+    {
+        span_at(self.steps.as_slice(), slot).bytes
+    }
+
+    /// The capacity of a slot, and up to where it stays.
+    pub(crate) fn span(&self, slot: u64) -> Span
+        requires { slot < 2 ^ 64 - 1 }
+        ensures span { IsSpan self.now slot result.bytes result.until }
+        ensures small { result.bytes ≤ 2 ^ 42 }
+    {
+        span_at(self.steps.as_slice(), slot)
+    }
+}
+
+/// Whether each step begins behind the one before it.
+fn ascend(steps: &[CapStep]) -> bool
+    ensures { IsTrue result ↔ ((i : ℕ) → i + 1 < length steps.now → (step_at steps.now i).from < (step_at steps.now (i + 1)).from) }
+{
+    for index in 0..steps.len().saturating_sub(1) {
+        if steps[index + 1].from <= steps[index].from {
+            return false;
+        }
+    }
+    true
+}
+
+/// Whether no step is above the greatest capacity.
+fn are_small(steps: &[CapStep]) -> bool
+    ensures { IsTrue result ↔ ((i : ℕ) → i < length steps.now → (step_at steps.now i).bytes ≤ 2 ^ 42) }
+{
+    for step in steps {
+        if step.bytes > MOST_CAPACITY {
+            return false;
+        }
+    }
+    true
+}
+
+/// The capacity of a slot, and up to where it stays: the next step's first slot, or the greatest number.
+fn span_at(steps: &[CapStep], slot: u64) -> Span
+    requires { IsProfile steps.now }
+    ensures here { IsCapacity steps.now slot result.bytes }
+    ensures some { slot < 2 ^ 64 - 1 → slot < result.until }
+    ensures same { (u : ℕ) → slot ≤ u → u < result.until → IsCapacity steps.now u result.bytes }
+{
+    let mut bytes = 0;
+    for step in steps {
+        if step.from > slot {
+            return Span {
+                bytes,
+                until: step.from,
+            };
+        }
+        bytes = step.bytes;
+    }
+    Span {
+        bytes,
+        until: u64::MAX,
+    }
+}

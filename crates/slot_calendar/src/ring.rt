@@ -1,0 +1,237 @@
+ghost use Rattle.std.specs.Prelude.{◌≡◌, ◌≢◌, ◌+◌, ◌-◌, ◌*◌, ◌/◌, ◌^◌, ◌<◌, ◌≤◌, ℕ, None, Some, length, IfOk};
+ghost use Rattle.slot_calendar.specs.Totals.{total_at};
+ghost use Rattle.slot_calendar.specs.Rings.{AreZeros, IsGreatest, IsTopped};
+
+use std::alloc::Global;
+use std::marker::Model;
+use vod_base::NoMemory;
+
+/// The slots of a ring.
+pub(crate) const SLOTS: u64 = 1_048_576;
+
+/// The places of a block.
+pub(crate) const BLOCK: u64 = 1024;
+
+/// The blocks of a ring.
+const BLOCKS: usize = 1024;
+
+/// The totals of the slots from `now` on, each slot at its number modulo [`SLOTS`], with the greatest total of each block.
+///
+/// Contracts see `now`, the list of the totals from it on, and the block that was lowered and not read again.
+#[derive(Debug, Drop)]
+pub(crate) struct Ring {
+    first: u64,
+    places: Vec<u64>,
+    tops: Vec<u64>,
+    stale: Option<usize>,
+}
+
+impl Model for Ring {
+    ghost use Rattle.slot_calendar.specs.Rings.{Slots};
+
+    ghost Value = { Slots };
+
+    ghost use Rattle.slot_calendar.specs.Rings.{slots_of_ring, IsRing};
+
+    ghost view = { slots_of_ring };
+
+    ghost invariant = { IsRing };
+}
+
+/// The greatest of some numbers.
+fn greatest(numbers: &[u64]) -> u64
+    requires { 0 < length numbers.now }
+    ensures { IsGreatest numbers.now result }
+{
+    let mut top = numbers[0];
+    for number in numbers {
+        if top < *number {
+            top = *number;
+        }
+    }
+    top
+}
+
+/// Reads the stale block again, if there is one.
+fn settle(places: &[u64], tops: &mut Vec<u64>, stale: Option<usize>)
+    requires { IsTopped places.now tops.old.items stale }
+    ensures { IsTopped places.now tops.new.items None }
+{
+    if let Some(block) = stale {
+        let from = block * BLOCK as usize;
+        tops[block] = greatest(&places[from..from + BLOCK as usize]);
+    }
+}
+
+/// Reads the stale block again, unless it is this one, which becomes the stale one.
+fn turn_to(places: &[u64], tops: &mut Vec<u64>, stale: Option<usize>, block: usize)
+    requires topped { IsTopped places.now tops.old.items stale }
+    requires within { block < 1024 }
+    ensures { IsTopped places.now tops.new.items (Some block) }
+{
+    if let Some(other) = stale
+        && other != block
+    {
+        settle(places, tops, stale);
+    }
+}
+
+/// So many zeros.
+fn zeros(alloc: Global, count: usize) -> Result<Vec<u64>, NoMemory>
+    ensures { IfOk result (λ numbers. AreZeros numbers.items count) }
+{
+    match vec![in alloc; 0; count] {
+        Ok(numbers) => Ok(numbers),
+        Err(_) => Err(NoMemory),
+    }
+}
+
+/// Makes all numbers 0.
+fn empty(numbers: &mut Vec<u64>)
+    ensures { AreZeros numbers.new.items (length numbers.old.items) }
+{
+    numbers.fill(0);
+}
+
+impl Ring {
+    /// A ring without bookings, from slot 0 on.
+    pub(crate) fn new(alloc: Global) -> Result<Ring, NoMemory>
+        ensures now { IfOk result (λ ring. ring.first ≡ 0) }
+        ensures empty { IfOk result (λ ring. (t : ℕ) → total_at ring.first ring.totals t ≡ 0) }
+        ensures settled { IfOk result (λ ring. ring.stale ≡ None) }
+    {
+        let places = zeros(alloc, SLOTS as usize)?;
+        let tops = zeros(alloc, BLOCKS)?;
+        Ok(Ring {
+            first: 0,
+            places,
+            tops,
+            stale: None,
+        })
+    }
+
+    /// The first slot.
+    pub(crate) fn now(&self) -> u64
+        ensures value { result ≡ self.now.first }
+        ensures past { (t : ℕ) → self.now.first + 1048576 ≤ t → total_at self.now.first self.now.totals t ≡ 0 }
+    {
+        self.first
+    }
+
+    /// The total of a slot; 0 past the ring.
+    pub(crate) fn total(&self, slot: u64) -> u64
+        requires { self.now.first ≤ slot }
+        ensures value { result ≡ total_at self.now.first self.now.totals slot }
+        ensures past { self.now.first + 1048576 ≤ slot → result ≡ 0 }
+    {
+        if slot - self.first >= SLOTS {
+            return 0;
+        }
+        self.places[(slot % SLOTS) as usize]
+    }
+
+    /// A number that no total is above, from this slot up to the next multiple of 1,024.
+    pub(crate) fn top(&self, slot: u64) -> u64
+        requires { self.now.first ≤ slot }
+        ensures { (t : ℕ) → slot ≤ t → t / 1024 ≡ slot / 1024 → total_at self.now.first self.now.totals t ≤ result }
+    {
+        if slot - self.first >= SLOTS {
+            return 0;
+        }
+        self.tops[(slot % SLOTS) as usize / BLOCK as usize]
+    }
+
+    /// Adds to the total of a slot.
+    pub(crate) fn raise(&mut self, slot: u64, by: u64)
+        requires from_now { self.old.first ≤ slot }
+        requires within { slot < self.old.first + 1048576 }
+        requires fits { total_at self.old.first self.old.totals slot + by < 2 ^ 64 }
+        ensures now { self.new.first ≡ self.old.first }
+        ensures stale { self.new.stale ≡ self.old.stale }
+        ensures at { total_at self.new.first self.new.totals slot ≡ total_at self.old.first self.old.totals slot + by }
+        ensures others { (t : ℕ) → self.old.first ≤ t → t ≢ slot → total_at self.new.first self.new.totals t ≡ total_at self.old.first self.old.totals t }
+    {
+        let place = (slot % SLOTS) as usize;
+        let block = place / BLOCK as usize;
+        let total = self.places[place] + by;
+        self.places[place] = total;
+        self.tops[block] = self.tops[block].max(total);
+    }
+
+    /// Takes from the total of a slot. The greatest total of its block is settled later.
+    pub(crate) fn lower(&mut self, slot: u64, by: u64)
+        requires from_now { self.old.first ≤ slot }
+        requires some { 0 < by }
+        requires booked { by ≤ total_at self.old.first self.old.totals slot }
+        ensures now { self.new.first ≡ self.old.first }
+        ensures at { total_at self.new.first self.new.totals slot + by ≡ total_at self.old.first self.old.totals slot }
+        ensures others { (t : ℕ) → self.old.first ≤ t → t ≢ slot → total_at self.new.first self.new.totals t ≡ total_at self.old.first self.old.totals t }
+    {
+        let place = (slot % SLOTS) as usize;
+        let block = place / BLOCK as usize;
+        turn_to(self.places.as_slice(), &mut self.tops, self.stale, block);
+        self.stale = Some(block);
+        self.places[place] -= by;
+    }
+
+    /// Makes each block's greatest total exact again.
+    pub(crate) fn settle(&mut self)
+        ensures now { self.new.first ≡ self.old.first }
+        ensures settled { self.new.stale ≡ None }
+        ensures totals { self.new.totals ≡ self.old.totals }
+    {
+        settle(self.places.as_slice(), &mut self.tops, self.stale);
+        self.stale = None;
+    }
+
+    /// Empties the first slot.
+    fn forget(&mut self)
+        ensures now { self.new.first ≡ self.old.first }
+        ensures none { total_at self.new.first self.new.totals self.old.first ≡ 0 }
+        ensures others { (t : ℕ) → self.old.first ≤ t → t ≢ self.old.first → total_at self.new.first self.new.totals t ≡ total_at self.old.first self.old.totals t }
+    {
+        let total = self.total(self.first);
+        if total > 0 {
+            self.lower(self.first, total);
+        }
+    }
+
+    /// Empties the first slot, which becomes the last one.
+    fn pass(&mut self)
+        requires { self.old.first + 1 < 2 ^ 64 }
+        ensures now { self.new.first ≡ self.old.first + 1 }
+        ensures totals { (t : ℕ) → self.new.first ≤ t → total_at self.new.first self.new.totals t ≡ total_at self.old.first self.old.totals t }
+    {
+        self.forget();
+        self.first += 1;
+    }
+
+    /// Empties all slots.
+    fn clear(&mut self, now: u64)
+        ensures now { self.new.first ≡ now }
+        ensures settled { self.new.stale ≡ None }
+        ensures empty { (t : ℕ) → total_at self.new.first self.new.totals t ≡ 0 }
+    {
+        empty(&mut self.places);
+        empty(&mut self.tops);
+        self.stale = None;
+        self.first = now;
+    }
+
+    /// Forgets the slots before `now`.
+    pub(crate) fn advance(&mut self, now: u64)
+        requires { self.old.first ≤ now }
+        ensures now { self.new.first ≡ now }
+        ensures settled { self.new.stale ≡ None }
+        ensures totals { (t : ℕ) → now ≤ t → total_at self.new.first self.new.totals t ≡ total_at self.old.first self.old.totals t }
+    {
+        if now - self.first >= SLOTS {
+            self.clear(now);
+            return;
+        }
+        while self.first < now {
+            self.pass();
+        }
+        self.settle();
+    }
+}
