@@ -1,0 +1,11 @@
+-- How an answer is kept: with room for all starts.
+use Rattle.std.specs.Prelude.{◌+◌, ◌≤◌, vec_capacity}
+use Rattle.early_start.specs.Offered.{Found}
+use Rattle.early_start.specs.declared.Offers.TheInside.{Inside}
+
+abbrev pub found_of : Inside → Found
+found_of offers = record { wait = offers.wait; start = offers.start; tried = offers.tried.items }
+
+pub record IsKept (offers : Inside) : Type 0 where
+  pub few : offers.wait ≤ 255
+  pub room : offers.wait + 1 ≤ vec_capacity offers.tried

@@ -1,0 +1,139 @@
+//! The earliest start of a plan on a shared link: from which slot on, within a wait, the plan fits into the link's calendar, with
+//! the first slot without room for each earlier start.
+#![tactic(auto)]
+
+ghost use Rattle.std.specs.Prelude.{◌≡◌, ◌+◌, ◌^◌, ◌<◌, ◌≤◌, None, [], IfOk, MatchOption, length, vec_len, vec_capacity};
+ghost use Rattle.early_start.specs.Offered.{AreRefusals, CanStart, IsOffer, IsStart};
+
+use plan_cert::Plan;
+use slot_calendar::{Calendar, Overflow};
+use std::alloc::Global;
+use std::marker::Model;
+use vod_base::NoMemory;
+
+/// A start that was tried in vain.
+#[derive(Clone, Copy, Debug, PartialEq, Eq)]
+pub struct Tried {
+    /// The slot at which the plan would begin.
+    pub start: u64,
+    /// The first slot without room.
+    pub over: Overflow,
+}
+
+/// The starts from which a plan was tried, and the one that was found.
+///
+/// Contracts see the wait, the start and the list of the starts tried in vain.
+#[derive(Debug, Drop)]
+pub struct Offers {
+    wait: u64,
+    start: Option<u64>,
+    tried: Vec<Tried>,
+}
+
+impl Model for Offers {
+    ghost use Rattle.early_start.specs.Offered.{Found};
+    ghost use Rattle.early_start.specs.Kept.{found_of, IsKept};
+
+    ghost Value = { Found };
+
+    ghost view = { found_of };
+
+    ghost invariant = { IsKept };
+}
+
+/// The most slots that a play may start later than the first one.
+pub const MOST_WAIT: u64 = 255;
+
+/// Tries the starts from `first` on, up to `wait` slots later, until the plan fits.
+fn search(
+    calendar: &Calendar,
+    plan: &Plan,
+    first: u64,
+    wait: u64,
+    tried: &mut Vec<Tried>,
+) -> Option<u64>
+    requires after { calendar.now.first < first }
+    requires small { first ≤ 2 ^ 62 + 1 }
+    requires wait { wait ≤ 255 }
+    requires empty { tried.old.items ≡ [] }
+    requires room { wait + 1 ≤ vec_capacity tried.old }
+    ensures refusals { AreRefusals calendar.now plan.now first tried.new.items }
+    ensures start { IsStart calendar.now plan.now first wait (length tried.new.items) result }
+    ensures room { vec_capacity tried.old ≤ vec_capacity tried.new }
+{
+    for later in 0..wait + 1 {
+        let start = first + later;
+        let Some(over) = calendar.first_overflow(start, plan) else {
+            return Some(start);
+        };
+        tried.push_reserved(Tried { start, over });
+    }
+    None
+}
+
+/// One calendar, plan and first start have one answer within a wait.
+pub fn law_one_offer(calendar: &Calendar, plan: &Plan, first: u64, one: &Offers, other: &Offers)
+    requires wait { one.now.wait ≡ other.now.wait }
+    requires one { IsOffer calendar.now plan.now first one.now }
+    requires other { IsOffer calendar.now plan.now first other.now }
+    ensures start { one.now.start ≡ other.now.start }
+    ensures tried { one.now.tried ≡ other.now.tried }
+{
+    let _read = (calendar.now(), plan.slots(), first, one.wait, other.wait);
+}
+
+impl Offers {
+    /// Reserves room for all starts up to `wait` slots later than the first; no other call takes memory.
+    pub fn new(alloc: Global, wait: u64) -> Result<Offers, NoMemory>
+        requires { wait ≤ 255 }
+        ensures wait { IfOk result (λ offers. offers.wait ≡ wait) }
+        ensures start { IfOk result (λ offers. offers.start ≡ None) }
+        ensures tried { IfOk result (λ offers. offers.tried ≡ []) }
+    {
+        match Vec::with_capacity(alloc, wait as usize + 1) {
+            Ok(tried) => Ok(Offers {
+                wait,
+                start: None,
+                tried,
+            }),
+            Err(_) => Err(NoMemory),
+        }
+    }
+
+    /// How many slots later than the first one the plan may start.
+    pub fn wait(&self) -> u64
+        ensures value { result ≡ self.now.wait }
+        ensures most { result ≤ 255 }
+    {
+        self.wait
+    }
+
+    /// The least start that was found, or None where the plan fits at none.
+    pub fn start(&self) -> Option<u64>
+        ensures { result ≡ self.now.start }
+    {
+        self.start
+    }
+
+    /// The starts before it that were tried in vain, in order; all of them where there is none.
+    pub fn tried(&self) -> &[Tried]
+        ensures { result.now ≡ self.now.tried }
+    {
+        self.tried.as_slice()
+    }
+
+    /// Finds the least start from `first` to `first + wait` where the plan fits into every slot of the calendar, in place of what was
+    /// found before. It books nothing and takes no memory.
+    pub fn find(&mut self, calendar: &Calendar, plan: &Plan, first: u64)
+        requires after { calendar.now.first < first }
+        requires small { first ≤ 2 ^ 62 + 1 }
+        ensures wait { self.new.wait ≡ self.old.wait }
+        ensures offer { IsOffer calendar.now plan.now first self.new }
+    {
+        self.tried.clear();
+        self.start = search(calendar, plan, first, self.wait, &mut self.tried);
+    }
+}
+
+#[cfg(test)]
+mod tests;
