@@ -1,0 +1,138 @@
+-- A trace's sizes and their running sums.
+use Rattle.std.proofs.Common.{◌≡◌, ℕ, zero, suc, ◌+◌, ◌-◌, ◌<◌, ◌≤◌, ◌^◌, List, [], ◌∷◌, length, take, drop, set, get_or, refl, sym, ap, subst, ◌∙◌, arith, inl, inr, Some, slice_get, length-append, sum, replicate}
+use Rattle.std.proofs.lemmas.List.{take-map, length-map, length-replicate, same_lists, get_or_default, get_or-map, get_or_read, length-set, get_or-set_same, get_or-set_other, drop-replicate, take-replicate}
+use Rattle.std.proofs.lemmas.List.Sums.{sum_by-cons, sum_by-take-le, sum_by_more, sum_by_more_le}
+use Rattle.std.proofs.lemmas.Bool.{cases_lt, cases_eq}
+use Rattle.film_frames.proofs.TrackLemmas.{begin-all, begin-none, begin-more, found-begins, next-found}
+use Rattle.film_frames.specs.Tracks.{framed, begin_of, AreEnds, IsNext, IsTrace, zero_frames, differences, running}
+
+pub length-zeros : (sizes : List ℕ) → length (framed (zero_frames sizes)) ≡ sum sizes
+length-zeros [] = refl
+length-zeros (size ∷ sizes) =
+    omega (arith, length-append (replicate size 0) (framed (zero_frames sizes)), length-replicate {A = ℕ} size 0, length-zeros sizes, sum_by-cons (λ x. x) size sizes)
+
+begin-zeros : (sizes : List ℕ) (k : ℕ) → begin_of (zero_frames sizes) k ≡ sum (take k sizes)
+begin-zeros sizes k = ap (λ (l : List (List ℕ)). length (framed l)) (take-map (λ size. replicate size 0) k sizes) ∙ length-zeros (take k sizes)
+
+length-running : (from : ℕ) (sizes : List ℕ) → length (running from sizes) ≡ length sizes
+length-running from [] = refl
+length-running from (size ∷ sizes) = ap suc (length-running (from + size) sizes)
+
+running-at : (from : ℕ) (sizes : List ℕ) (k : ℕ) → k < length sizes → get_or (running from sizes) k 0 ≡ from + sum (take (k + 1) sizes)
+running-at from [] k h = absurd (omega (arith, h))
+running-at from (size ∷ sizes) zero h = omega (arith, sum_by-cons (λ x. x) size [])
+running-at from (size ∷ sizes) (suc k) h =
+    let more : sum (take (suc k + 1) (size ∷ sizes)) ≡ sum (size ∷ take (k + 1) sizes) = ap (λ n. sum (take n (size ∷ sizes))) (let e : suc k + 1 ≡ suc (k + 1) = omega arith in e) in
+    omega (arith, running-at (from + size) sizes k (omega (arith, h)), more, sum_by-cons (λ x. x) size (take (k + 1) sizes))
+
+pub differences-running : (from : ℕ) (sizes : List ℕ) → differences from (running from sizes) ≡ sizes
+differences-running from [] = refl
+differences-running from (size ∷ sizes) =
+    let one : from + size - from ≡ size = omega arith in
+    ap (λ n. n ∷ differences (from + size) (running (from + size) sizes)) one ∙ ap (λ (l : List ℕ). size ∷ l) (differences-running (from + size) sizes)
+
+ends-zeros : (sizes : List ℕ) → AreEnds 0 (zero_frames sizes) (running 0 sizes)
+ends-zeros sizes = record {
+  count = length-running 0 sizes ∙ sym (length-map sizes (λ size. replicate size 0));
+  each = λ k h. omega (arith, running-at 0 sizes k (omega (arith, h, length-running 0 sizes)), begin-zeros sizes (k + 1));
+}
+
+pub trace-ends : (ends : List ℕ) → IsTrace ends → AreEnds 0 (zero_frames (differences 0 ends)) ends
+trace-ends ends is = subst (λ (l : List ℕ). AreEnds 0 (zero_frames (differences 0 ends)) l) is.rising (ends-zeros (differences 0 ends))
+
+-- numbers that are the sums so far are the running sums
+pub running-is : (sizes now : List ℕ) → length now ≡ length sizes → ((k : ℕ) → k < length sizes → get_or now k 0 ≡ sum (take (k + 1) sizes)) → now ≡ running 0 sizes
+running-is sizes now count each = same_lists now (running 0 sizes) (count ∙ sym (length-running 0 sizes)) (λ k d h.
+    get_or_default now k d 0 h ∙ each k (omega (arith, h, count)) ∙ let e : sum (take (k + 1) sizes) ≡ get_or (running 0 sizes) k 0 = omega (arith, running-at 0 sizes k (omega (arith, h, count))) in
+    e ∙ get_or_default (running 0 sizes) k 0 d (omega (arith, h, count, length-running 0 sizes)))
+
+pub trace-is : (sizes : List ℕ) → sum sizes ≤ 2 ^ 42 → IsTrace (running 0 sizes)
+trace-is sizes most = record {
+  rising = ap (λ (l : List ℕ). running 0 l) (differences-running 0 sizes);
+  most = λ k h. omega (arith, running-at 0 sizes k (omega (arith, h, length-running 0 sizes)), sum_by-take-le (λ x. x) sizes (k + 1), most);
+}
+
+-- the ends of a trace that is seen as these sizes
+pub trace-track : (ends now sizes : List ℕ) → now ≡ ends → differences 0 ends ≡ sizes → IsTrace ends → AreEnds 0 (zero_frames sizes) now
+trace-track ends now sizes same seen is =
+    let P : List ℕ → Type 0 = λ l. AreEnds 0 (zero_frames sizes) l in
+    let Q : List ℕ → Type 0 = λ l. AreEnds 0 (zero_frames l) ends in
+    subst P (sym same) (subst Q seen (trace-ends ends is))
+
+pub trace-total : (ends sizes : List ℕ) → differences 0 ends ≡ sizes → IsTrace ends → length (framed (zero_frames sizes)) ≤ 2 ^ 42
+trace-total ends sizes seen is =
+    let are = trace-track ends ends sizes refl seen is in
+    let all = begin-all (zero_frames sizes) in
+    elim (cases_lt 0 (length ends)) [
+      | inl l ↦
+          let last = length ends - 1 in
+          let same : begin_of (zero_frames sizes) (last + 1) ≡ begin_of (zero_frames sizes) (length (zero_frames sizes)) = ap (λ n. begin_of (zero_frames sizes) n) (omega (arith, l, are.count)) in
+          omega (arith, are.each last (omega (arith, l)), is.most last (omega (arith, l)), same, all)
+      | inr z ↦ omega (arith, begin-none (zero_frames sizes) (length (zero_frames sizes)) (omega (arith, z, are.count)), all)
+    ]
+
+-- the last end is the length of all
+pub trace-last-now : (kept ends sizes : List ℕ) → ends ≡ kept → differences 0 kept ≡ sizes → IsTrace kept → 0 < length ends → get_or ends (length ends - 1) 0 ≡ length (framed (zero_frames sizes))
+trace-last-now kept ends sizes now seen is some =
+    let are = trace-track kept ends sizes now seen is in
+    let last = length ends - 1 in
+    let same : begin_of (zero_frames sizes) (last + 1) ≡ begin_of (zero_frames sizes) (length (zero_frames sizes)) = ap (λ n. begin_of (zero_frames sizes) n) (omega (arith, some, are.count)) in
+    omega (arith, are.each last (omega (arith, some)), same, begin-all (zero_frames sizes))
+
+-- zero bytes up to an end of a frame are next
+pub zeros-next : (sizes ends : List ℕ) (at k n end : ℕ) (bytes : List ℕ) → AreEnds 0 (zero_frames sizes) ends → k < length ends → ((j : ℕ) → j < k → get_or ends j 0 < at + 1)
+    → end ≡ get_or ends k 0 → at < end → 1 ≤ n → at + n ≤ end → bytes ≡ replicate {A = ℕ} n 0 → IsNext (zero_frames sizes) at bytes
+zeros-next sizes ends at k n end bytes are within below is behind some fits zeros =
+    let pieces = zero_frames sizes in
+    let inside : k < length pieces = omega (arith, within, are.count) in
+    let begins = found-begins 0 pieces ends at k are within (λ j h. omega (arith, below j h)) in
+    let piece : get_or pieces k [] ≡ replicate {A = ℕ} (get_or sizes k 0) 0 = get_or-map (λ size. replicate {A = ℕ} size 0) sizes k 0 [] (omega (arith, inside, length-map sizes (λ size. replicate {A = ℕ} size 0))) in
+    let count : length (get_or pieces k []) ≡ get_or sizes k 0 = ap length piece ∙ length-replicate {A = ℕ} (get_or sizes k 0) 0 in
+    let o = at - begin_of pieces k in
+    let more = begin-more pieces k inside in
+    let its = are.each k within in
+    let same : take n (drop o (get_or pieces k [])) ≡ replicate {A = ℕ} n 0 =
+    ap (λ (l : List ℕ). take n (drop o l)) piece
+    ∙ ap (λ (l : List ℕ). take n l) (drop-replicate {X = ℕ} o (get_or sizes k 0) 0)
+    ∙ take-replicate {X = ℕ} n (get_or sizes k 0 - o) 0 (omega (arith, begins, more, its, is, fits, count)) in
+    next-found pieces at k n bytes inside begins some (omega (arith, its, is, fits)) (zeros ∙ sym same)
+
+-- one more sum
+pub sum-more : (sizes : List ℕ) (k : ℕ) → k < length sizes → sum (take (k + 1) sizes) ≡ sum (take k sizes) + get_or sizes k 0
+sum-more sizes k h = sum_by_more (λ x. x) sizes k 0 h
+
+pub sum-within : (sizes : List ℕ) (k : ℕ) → k < length sizes → sum (take k sizes) + get_or sizes k 0 ≤ sum sizes
+sum-within sizes k h = sum_by_more_le (λ x. x) sizes k 0 h
+
+-- what an element is that is there
+pub got : (xs : List ℕ) (i x : ℕ) → Some x ≡ slice_get xs i → (i < length xs) × (x ≡ get_or xs i 0)
+got [] i x e = cc
+got (y ∷ ys) zero x e = (omega arith, cc)
+got (y ∷ ys) (suc i) x e = let rest = got ys i x e in (omega (arith, rest.0), rest.1)
+
+-- one more size becomes a sum
+pub record IsSummed (sizes now : List ℕ) (total number : ℕ) : Type 0 where
+  pub len : length now ≡ length sizes
+  pub end : total ≡ sum (take number sizes)
+  pub done : (k : ℕ) → k < number → get_or now k 0 ≡ sum (take (k + 1) sizes)
+  pub left : (k : ℕ) → number ≤ k → get_or now k 0 ≡ get_or sizes k 0
+
+pub summed-more : (sizes now : List ℕ) (end number size : ℕ) → number < length sizes → IsSummed sizes now end number → size ≡ get_or now number size
+    → (end + size ≤ sum sizes) × IsSummed sizes (set now number (end + size)) (end + size) (number + 1)
+summed-more sizes now end number size h is read =
+    let its : size ≡ get_or sizes number 0 = get_or_read now number size (omega (arith, h, is.len)) read 0 ∙ is.left number (omega arith) in
+    let more : end + size ≡ sum (take (number + 1) sizes) = omega (arith, its, is.end, sum-more sizes number h) in (
+      omega (arith, its, is.end, sum-within sizes number h),
+      record {
+        len = length-set now number (end + size) ∙ is.len;
+        end = more;
+        done = λ k l. elim (cases_eq k number) [
+          | inl e ↦
+              let at : get_or (set now number (end + size)) k 0 ≡ get_or (set now number (end + size)) number 0 = ap (λ n. get_or (set now number (end + size)) n 0) e in
+              let then : sum (take (number + 1) sizes) ≡ sum (take (k + 1) sizes) = ap (λ n. sum (take (n + 1) sizes)) (sym e) in
+              at ∙ get_or-set_same now number (end + size) 0 (omega (arith, h, is.len)) ∙ more ∙ then
+          | inr n ↦ get_or-set_other now number k (end + size) 0 n ∙ is.done k (omega (arith, l, n))
+        ];
+        left = λ k l. get_or-set_other now number k (end + size) 0 (λ e. omega (arith, l, e)) ∙ is.left k (omega (arith, l));
+      },
+    )

@@ -1,0 +1,33 @@
+use Rattle.std.proofs.Common.{◌+◌, arith, refl, get_or}
+use Rattle.film_frames.specs.Tracks.{zero_frames}
+use Rattle.film_frames.proofs.TrackLemmas.{ends-rise, found}
+use Rattle.film_frames.proofs.TraceLemmas.{trace-track, trace-total, zeros-next}
+use Rattle.film_frames.proofs.traces.TraceTrackTrack.part.Goals as goal
+
+pub overflow_add-at : goal.overflow_add-at
+overflow_add-at c =
+    omega (arith, trace-total c.self.inside.ends.items c.args.self.now c.self.view_is c.self.invariant, c.requires)
+
+pub ends_below-requires : goal.ends_below-requires
+ends_below-requires c =
+    ends-rise 0 (zero_frames c.args.self.now) c.deref-ends.result.now (trace-track c.self.inside.ends.items c.deref-ends.result.now c.args.self.now c.deref-ends.ensures.value c.self.view_is c.self.invariant)
+
+pub bounds-ends-ends_below : goal.bounds-ends-ends_below
+bounds-ends-ends_below c =
+    let are = trace-track c.self.inside.ends.items c.deref-ends.result.now c.args.self.now c.deref-ends.ensures.value c.self.view_is c.self.invariant in
+    found 0 (zero_frames c.args.self.now) c.deref-ends.result.now (c.args.at + 1) c.ends_below.result are (omega arith) (omega (arith, c.requires)) c.ends_below.ensures.count
+    (λ j h. omega (arith, c.ends_below.ensures.below j h))
+
+pub overflow_sub-end : goal.overflow_sub-end
+overflow_sub-end c =
+    let are = trace-track c.self.inside.ends.items c.deref-ends.result.now c.args.self.now c.deref-ends.ensures.value c.self.view_is c.self.invariant in
+    let within = found 0 (zero_frames c.args.self.now) c.deref-ends.result.now (c.args.at + 1) c.ends_below.result are (omega arith) (omega (arith, c.requires)) c.ends_below.ensures.count (λ j h. omega (arith, c.ends_below.ensures.below j h)) in
+    omega (arith, c.ends_below.ensures.from c.ends_below.result (omega arith) within)
+
+pub returns-clause-bytes : goal.returns-clause-bytes
+returns-clause-bytes c =
+    let are = trace-track c.self.inside.ends.items c.deref-ends.result.now c.args.self.now c.deref-ends.ensures.value c.self.view_is c.self.invariant in
+    let within = found 0 (zero_frames c.args.self.now) c.deref-ends.result.now (c.args.at + 1) c.ends_below.result are (omega arith) (omega (arith, c.requires)) c.ends_below.ensures.count (λ j h. omega (arith, c.ends_below.ensures.below j h)) in
+    let behind = c.ends_below.ensures.from c.ends_below.result (omega arith) within in
+    zeros-next c.args.self.now c.deref-ends.result.now c.args.at c.ends_below.result c.min.result (get_or c.deref-ends.result.now c.ends_below.result 0) c.zeros.result.now are within
+    (λ j h. c.ends_below.ensures.below j h) refl (omega (arith, behind)) (omega (arith, c.min.ensures, behind)) (omega (arith, c.min.ensures, behind)) c.zeros.ensures

@@ -1,0 +1,53 @@
+-- What a track is: the pieces that it is sent by, in order, and the boundaries between them. A piece is the
+-- bytes of one frame or one report.
+use Rattle.std.specs.Prelude.{ℕ, ◌+◌, ◌-◌, ◌<◌, ◌≤◌, ◌≡◌, ◌^◌, List, [], ◌∷◌, length, take, drop, map, flat_map, replicate, get_or}
+
+-- all bytes of pieces, one piece behind another
+abbrev pub framed : List (List ℕ) → List ℕ
+framed pieces = flat_map (λ piece. piece) pieces
+
+-- where the piece of that number begins: the bytes of the pieces before it
+abbrev pub begin_of : List (List ℕ) → ℕ → ℕ
+begin_of pieces number = length (framed (take number pieces))
+
+-- a boundary is 0 or the end of a piece
+pub record IsBoundary (pieces : List (List ℕ)) (place : ℕ) : Type 0 where
+  pub number : ℕ
+  pub among : number ≤ length pieces
+  pub place_is : place ≡ begin_of pieces number
+
+-- the least boundary that is at least `at`
+pub record IsBoundaryAfter (pieces : List (List ℕ)) (at place : ℕ) : Type 0 where
+  pub boundary : IsBoundary pieces place
+  pub after : at ≤ place
+  pub least : (other : ℕ) → IsBoundary pieces other → at ≤ other → place ≤ other
+
+-- the next bytes of a track from `at` on: at least one, and none behind the next boundary
+pub record IsNext (pieces : List (List ℕ)) (at : ℕ) (bytes : List ℕ) : Type 0 where
+  pub some : 1 ≤ length bytes
+  pub bytes_are : bytes ≡ take (length bytes) (drop at (framed pieces))
+  pub one_piece : (other : ℕ) → IsBoundary pieces other → at < other → at + length bytes ≤ other
+
+-- frames of zero bytes, of these sizes
+abbrev pub zero_frames : List ℕ → List (List ℕ)
+zero_frames sizes = map (λ size. replicate size 0) sizes
+
+-- the sizes whose running sums, from a first on, are these
+abbrev pub differences : ℕ → List ℕ → List ℕ
+differences from [] = []
+differences from (end ∷ ends) = (end - from) ∷ differences end ends
+
+-- running sums, from a first on
+abbrev pub running : ℕ → List ℕ → List ℕ
+running from [] = []
+running from (size ∷ sizes) = (from + size) ∷ running (from + size) sizes
+
+-- these are the ends of pieces, counted from a place before the first of them
+pub record AreEnds (base : ℕ) (pieces : List (List ℕ)) (ends : List ℕ) : Type 0 where
+  pub count : length ends ≡ length pieces
+  pub each : (k : ℕ) → k < length ends → get_or ends k 0 ≡ base + begin_of pieces (k + 1)
+
+-- the running sums that are kept of a trace: they don't fall, and the last is at most 2^42
+pub record IsTrace (ends : List ℕ) : Type 0 where
+  pub rising : running 0 (differences 0 ends) ≡ ends
+  pub most : (k : ℕ) → k < length ends → get_or ends k 0 ≤ 2 ^ 42

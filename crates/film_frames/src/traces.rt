@@ -1,0 +1,90 @@
+ghost use Rattle.std.specs.Prelude.{◌≡◌, ◌++◌, ◌^◌, ◌<◌, ◌≤◌, List, ℕ, length, replicate, slice_range, sum, Ok};
+ghost use Rattle.film_frames.specs.Tracks.{IsNext, framed, zero_frames};
+
+use crate::searches::ends_below;
+use crate::tracks::{Part, Track};
+use std::marker::Model;
+use vod_base::NoMemory;
+
+/// The most bytes of a part.
+const PART: u64 = 1024;
+
+/// What the parts show.
+static ZEROS: [u8; 1024] = [0; 1024];
+
+/// So many zero bytes.
+fn zeros(length: u64) -> &'static [u8]
+    requires { length ≤ 1024 }
+    ensures { result.now ≡ replicate length 0 }
+{
+    &ZEROS[..length as usize]
+}
+
+/// A track of frames of zero bytes, by their sizes. Contracts see the sizes.
+#[derive(Debug, Drop)]
+pub struct TraceTrack {
+    ends: Vec<u64>,
+}
+
+impl Model for TraceTrack {
+    ghost use Rattle.std.specs.Prelude.{List, ℕ};
+
+    ghost Value = { List ℕ };
+
+    ghost use Rattle.film_frames.specs.Tracks.{IsTrace, differences};
+
+    ghost view = { λ t. differences 0 t.ends.items };
+
+    ghost invariant = { λ t. IsTrace t.ends.items };
+}
+
+impl TraceTrack {
+    /// A track of a frame for each size. It takes no memory, and so the answer is always Ok.
+    pub fn new(mut sizes: Vec<u64>) -> Result<TraceTrack, NoMemory>
+        requires { sum sizes.items ≤ 2 ^ 42 }
+        ensures { result ≡ Ok sizes.items }
+    {
+        let mut end = 0;
+        for number in 0..sizes.len() {
+            end += sizes[number];
+            sizes[number] = end;
+        }
+        Ok(TraceTrack { ends: sizes })
+    }
+}
+
+impl Track for TraceTrack {
+    ghost pieces = { zero_frames };
+
+    fn total(&self) -> u64 {
+        match self.ends.last() {
+            Some(end) => *end,
+            None => 0,
+        }
+    }
+
+    fn boundary_after(&self, at: u64) -> u64 {
+        if at == 0 {
+            return 0;
+        }
+        let ends: &[u64] = &self.ends;
+        ends[ends_below(ends, at)]
+    }
+
+    /// The bytes from `at` on, none of them in the head: at most 1,024, and none behind the end of the frame.
+    fn part(&self, at: u64, _head: &mut [u8; 52]) -> Part<'_>
+        requires { at < length (framed (zero_frames self.now)) }
+        ensures order { result.head_from ≤ result.head_to }
+        ensures within { result.head_to ≤ 52 }
+        ensures bytes { IsNext (zero_frames self.now) at (slice_range _head.new result.head_from result.head_to ++ result.payload.now) }
+        ensures most { length result.payload.now ≤ 1024 }
+    {
+        let ends: &[u64] = &self.ends;
+        let end = ends[ends_below(ends, at + 1)];
+        Part {
+            head_from: 0,
+            head_to: 0,
+            payload: zeros((end - at).min(PART)),
+        }
+    }
+}

@@ -1,0 +1,36 @@
+ghost use Rattle.std.specs.Prelude.{◌≡◌, ◌<◌, ◌≤◌, ◌++◌, ℕ, List, length, slice_range};
+ghost use Rattle.film_frames.specs.Tracks.{IsBoundaryAfter, IsNext, framed};
+
+/// The next bytes of a track: a range of a head that was written, and then a payload.
+#[derive(Debug, Drop)]
+pub struct Part<'a> {
+    /// The place of the first byte in the head.
+    pub head_from: usize,
+    /// The place behind the last byte in the head.
+    pub head_to: usize,
+    /// The bytes behind those of the head; none in a report.
+    pub payload: &'a [u8],
+}
+
+/// Bytes that are sent in pieces, each a frame or a report. Places count from the track's first byte.
+pub trait Track {
+    ghost pieces: { Self → List (List ℕ) };
+
+    /// The length of all pieces, in bytes.
+    fn total(&self) -> u64
+        ensures { result ≡ length (framed (pieces self.now)) };
+
+    /// The least boundary that is at least `at`. A boundary is 0 or the end of a piece.
+    fn boundary_after(&self, at: u64) -> u64
+        requires { at ≤ length (framed (pieces self.now)) }
+        ensures { IsBoundaryAfter (pieces self.now) at result };
+
+    /// The bytes from `at` on: at least one, and none behind the end of the piece.
+    ///
+    /// They are `head[head_from..head_to]` and then the payload.
+    fn part(&self, at: u64, head: &mut [u8; 52]) -> Part<'_>
+        requires { at < length (framed (pieces self.now)) }
+        ensures order { result.head_from ≤ result.head_to }
+        ensures within { result.head_to ≤ 52 }
+        ensures bytes { IsNext (pieces self.now) at (slice_range head.new result.head_from result.head_to ++ result.payload.now) };
+}
