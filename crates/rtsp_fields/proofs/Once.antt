@@ -1,11 +1,10 @@
 -- A text has one meaning.
-use Rattle.std.proofs.Common.{◌≡◌, ◌≢◌, ℕ, ◌+◌, ◌<◌, ◌≤◌, ◌⊎◌, List, length, take, get_or, refl, sym, ◌∙◌, ap, subst, arith, rules, inl, inr, slice_range, Option, Some, None, true, nat_lt, ltb-true}
+use Rattle.std.proofs.Common.{◌≡◌, ◌≢◌, ℕ, ◌+◌, ◌<◌, ◌≤◌, ◌⊎◌, List, length, take, get_or, refl, sym, ◌∙◌, ap, subst, arith, inl, inr, slice_range, Option, Some, None, true, nat_lt, ltb-true}
 use Rattle.std.specs.List.{list_all}
 use Rattle.std.specs.Int.{IsInRange}
 use Rattle.std.specs.Char.{is_ascii_digit}
-use Rattle.std.specs.Str.Parse.{digits_value}
 use Rattle.std.proofs.lemmas.Bool.{and_parts}
-use Rattle.std.proofs.lemmas.Str.Parse.{IsNumeralModel, numerals_by_value, not_in_digits}
+use Rattle.std.proofs.lemmas.Str.Parse.{not_in_digits}
 use Rattle.interleave.specs.Lengths.{trimmed}
 use Rattle.vod_base.specs.Numbers.{is_decimal}
 use Rattle.rtsp_fields.specs.Pieces.{IsEnd}
@@ -19,13 +18,10 @@ use Rattle.rtsp_fields.specs.declared.ranges.Origin.TheVariants.{Now, At}
 use Rattle.rtsp_fields.specs.declared.ranges.Span.{Span}
 use Rattle.std.proofs.lemmas.List.{length-take, take-take, get_or-take}
 use Rattle.std.proofs.Math.Nat.{min-le_left}
-use Rattle.rtsp_fields.proofs.Digits.{number_read}
+use Rattle.rtsp_fields.proofs.Digits.{number_read, own}
 use Rattle.rtsp_fields.proofs.Places.{end_once, first_once}
 use Rattle.rtsp_fields.proofs.Parts.{IsPairAt, pair_at, within_once}
 use Rattle.rtsp_fields.proofs.Clocks.{value_once}
-
-own : IsNumeralModel (λ ds. list_all is_ascii_digit ds ≡ true) (digits_value 10)
-own = numerals_by_value (λ ds. list_all is_ascii_digit ds ≡ true) (search rules)
 
 -- a decimal text has no byte of another kind
 pub no_other_byte : (text : List ℕ) (c i : ℕ) → is_decimal text ≡ true → ¬ (IsInRange 48 57 c) → i < length text → get_or text i 0 ≢ c

@@ -6,6 +6,7 @@ use Rattle.rtsp_fields.specs.Pieces.{IsEnd, IsPiece, NoneBefore, NoPiece, Begins
 use Rattle.rtsp_fields.specs.Values.{IsWithin}
 use Rattle.rtsp_fields.specs.Transports.{IsPair, IsSingle, AreChannels, word, IsOther, NamesChannels, HasChannels, IsTaken, CanBeTaken, IsTransport, behind_name}
 use Rattle.rtsp_fields.specs.declared.transports.Channels.{Channels}
+use Rattle.rtsp_fields.proofs.Digits.{some_same}
 use Rattle.rtsp_fields.proofs.Places.{end_once, first_once}
 
 -- a pair, cut at its dash
@@ -23,9 +24,6 @@ pair_at text dash channels e p =
 -- one text writes one number
 pub within_once : (low high : ℕ) (text : List ℕ) (a b : ℕ) → IsWithin low high text a → IsWithin low high text b → a ≡ b
 within_once low high text a b x y = some_same a b (sym x.is_number ∙ y.is_number)
-  where
-    some_same : (a b : ℕ) → Some a ≡ Some b → a ≡ b
-    some_same a b e = cc
 
 pub not_pair_equal : (text : List ℕ) (dash a b : ℕ) (channels : Channels) → IsEnd 45 text 0 dash → IsWithin 0 255 (take dash text) a →
     IsWithin 0 255 (slice_range text (dash + 1) (length text)) b → a ≡ b → IsPair text channels → ⊥
