@@ -237,18 +237,30 @@ told-counted c (d ∷ past) accepted =
       agrees = more.agrees;
     }
 
-whole-counted : (past : List Code) (n : ℕ) → first_fault past ≡ None → end_fault past n ≡ None → AreNumbered (told past ++ unit_end (tally_of past) n)
-unfolding end_fault
-whole-counted [] n accepted ended = absurd (omega (arith, ended-none (tally_of []) ended))
-whole-counted (c ∷ past) n accepted ended =
+-- the count after all that is told of a film has a unit for each picture
+pub record WholeCount (past : List Code) (end : ℕ) : Type 0 where
+  pub last : Count
+  pub counted : counts_after (Some no_count) (told past ++ unit_end (tally_of past) end) ≡ Some last
+  pub units : last.units ≡ pictures_of past
+
+whole-count : (past : List Code) (n : ℕ) → first_fault past ≡ None → end_fault past n ≡ None → WholeCount past n
+unfolding end_fault after_unit
+whole-count [] n accepted ended = absurd (omega (arith, ended-none (tally_of []) ended))
+whole-count (c ∷ past) n accepted ended =
     let all : List Code = c ∷ past in
     let some = ended-none (tally_of all) (otherwise-second (latest_fault all n) (last_fault (tally_of all)) ended) in
     let k = told-counted c past accepted in
-    let last = unit-counted (pictures_of all) (all_slices_of all) (slices_of all) (before_group_of all) (is_some (picture_of all)) (starts_group all) k.count (slice_of all) n (unit_at (tally_of all) n) k.agrees some refl refl refl refl in
-    ap is_some (counts-append (Some no_count) (told all) (unit_end (tally_of all) n) ∙ ap (λ (o : Option Count). counts_after o (unit_end (tally_of all) n)) k.told ∙ last)
+    let end = unit-counted (pictures_of all) (all_slices_of all) (slices_of all) (before_group_of all) (is_some (picture_of all)) (starts_group all) k.count (slice_of all) n (unit_at (tally_of all) n) k.agrees some refl refl refl refl in record {
+      last = after_unit k.count (starts_group all);
+      counted = counts-append (Some no_count) (told all) (unit_end (tally_of all) n) ∙ ap (λ (o : Option Count). counts_after o (unit_end (tally_of all) n)) k.told ∙ end;
+      units = sym (k.agrees.units ∙ ap (λ b. k.count.units + cond b 1 0) (k.agrees.sliced some));
+    }
+
+pub film-count : (r : List ℕ) → refusal_of r ≡ None → WholeCount (codes_of r) (length r)
+film-count r e =
+    let none = accepted-whole r e in
+    whole-count (codes_of r) (length r) (otherwise-first (first_fault (codes_of r)) (end_fault (codes_of r) (length r)) none) (otherwise-second (first_fault (codes_of r)) (end_fault (codes_of r) (length r)) none)
 
 -- the units of an accepted film are numbered as they come
 pub film-numbered : (r : List ℕ) → refusal_of r ≡ None → AreNumbered (all_told r)
-film-numbered r e =
-    let none = accepted-whole r e in
-    whole-counted (codes_of r) (length r) (otherwise-first (first_fault (codes_of r)) (end_fault (codes_of r) (length r)) none) (otherwise-second (first_fault (codes_of r)) (end_fault (codes_of r) (length r)) none)
+film-numbered r e = ap is_some (film-count r e).counted

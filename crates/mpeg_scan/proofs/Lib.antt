@@ -6,3 +6,4 @@ pub mod TileLemmas
 pub mod CountLemmas
 pub mod PlaceLemmas
 pub mod GrammarLemmas
+pub mod BoundLemmas

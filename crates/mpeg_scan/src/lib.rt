@@ -7,6 +7,7 @@ mod collector;
 mod faults;
 mod films;
 mod found;
+mod laws;
 mod scanner;
 mod tallies;
 mod texts;
@@ -15,6 +16,7 @@ mod units;
 pub use faults::{FilmFault, ScanRefused};
 pub use films::{Film, scan, start_codes_stand};
 pub use found::Found;
+pub use laws::law_film;
 pub use scanner::{Ending, Scanner};
 pub use units::{Kind, Unit, picture_units};
 

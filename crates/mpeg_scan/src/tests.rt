@@ -4,7 +4,8 @@
 ghost use Rattle.std.specs.Prelude.{⊤, ◌<◌};
 
 use crate::{
-    FilmFault, Found, Kind, ScanRefused, Scanner, Unit, picture_units, scan, start_codes_stand,
+    FilmFault, Found, Kind, ScanRefused, Scanner, Unit, law_film, picture_units, scan,
+    start_codes_stand,
 };
 use std::alloc::{AllocError, Global};
 use std::process::Abort;
@@ -159,6 +160,7 @@ fn units_of_films(rt: HostRuntime) -> Result<(), Fail> {
             assert_eq!(rt; film.bytes.len(), 34);
             assert_eq!(rt; film.units.as_slice(), [UNIT_A].as_slice());
             assert_eq!(rt; film.slice_starts.as_slice(), [28].as_slice());
+            law_film(&film);
         }
         Err(refused) => assert!(rt; false, "{refused:?}"),
     }

@@ -1,0 +1,26 @@
+use Rattle.std.proofs.Common.{List, [], ap, length, ◌∙◌, arith}
+use Rattle.mpeg_scan.specs.declared.units.Unit.{Unit as PictureUnit}
+use Rattle.mpeg_scan.specs.Codes.{read}
+use Rattle.mpeg_scan.proofs.BoundLemmas.{film-rate, film-bytes, film-units, film-pictures}
+use Rattle.mpeg_scan.proofs.CountLemmas.{film-numbered}
+use Rattle.mpeg_scan.proofs.GrammarLemmas.{film-grammatical}
+use Rattle.mpeg_scan.proofs.TileLemmas.{film-tiles}
+use Rattle.mpeg_scan.proofs.laws.law_film.Goals as goal
+
+pub returns : goal.returns
+returns c =
+    let film = c.args.film.now in
+    let r = read [] film.bytes.items in
+    let accepted = film.grammar.accepted in
+    let rate = film-rate r accepted in
+    let units = ap (λ (l : List PictureUnit). length l) film.grammar.units ∙ film-units film.bytes.items accepted in
+    record {
+      slowest = omega (arith, film.grammar.rate, rate.0);
+      fastest = omega (arith, film.grammar.rate, rate.1);
+      bytes = film-bytes film.bytes.items accepted;
+      units = omega (arith, units, film-pictures r accepted);
+      pictures = units;
+      grammatical = film-grammatical r accepted;
+      numbered = film-numbered r accepted;
+      tiled = film-tiles r accepted;
+    }
