@@ -39,16 +39,13 @@ pub struct Report {
     pub octets: u32,
 }
 
-/// What each report says, with dots for the rest: a sender report without report blocks, of 7 words in all,
-/// and a source description with the item CNAME, of 5.
-const REPORT: [u8; 48] =
-    *b"\x80\xC8\0\x06........................\x81\xCA\0\x04....\x01\x08vodserve\0\0";
-
 /// The 48 bytes of a sender report without report blocks and a source description of the item CNAME
 /// `vodserve`, big-endian (RFC 3550 sections 6.4.1 and 6.5).
 pub fn write_report(report: &Report) -> [u8; 48]
     ensures { result ≡ report_bytes report.now }
 {
+    // What each report says: a sender report without report blocks, of 7 words in all, and a source
+    // description with the item CNAME, of 5. Dots and digits, in turn, stand where its fields go.
     let mut bytes =
         *b"\x80\xC8\0\x06....12345678........1234\x81\xCA\0\x04....\x01\x08vodserve\0\0";
     BigEndian::write_u32(&mut bytes[4..], report.ssrc);
