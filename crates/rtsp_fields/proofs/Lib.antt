@@ -1,3 +1,4 @@
+pub mod Asked
 pub mod Clocks
 pub mod Digits
 pub mod Once

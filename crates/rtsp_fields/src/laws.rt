@@ -1,5 +1,6 @@
-ghost use Rattle.std.specs.Prelude.{◌≡◌, ◌++◌, codes, true};
+ghost use Rattle.std.specs.Prelude.{◌≡◌, ◌++◌, ◌↔◌, ℕ, codes, true};
 ghost use Rattle.vod_base.specs.Names.{is_good_name};
+ghost use Rattle.rtsp_text.specs.Grammar.{IsRtspUrl};
 ghost use Rattle.rtsp_fields.specs.Ranges.{IsSpan};
 ghost use Rattle.rtsp_fields.specs.Transports.{IsTransport};
 ghost use Rattle.rtsp_fields.specs.Urls.{IsTail, IsUrl, NamesFilm};
@@ -23,6 +24,14 @@ pub fn law_one_transport(value: &[u8], one: Channels, other: Channels)
     ensures { one ≡ other }
 {
     let _read = (value.len(), one, other);
+}
+
+/// The RTSP URLs that a request line may have (RFC 2326 section 6.1) are those that `read_url` reads: all requests but those for
+/// `*` have one.
+pub fn law_asked_url(url: &[u8])
+    ensures { IsRtspUrl url.now ↔ ((path : ℕ) × IsUrl url.now path) }
+{
+    let _read = url.len();
 }
 
 /// The authority of a URL ends at one place.

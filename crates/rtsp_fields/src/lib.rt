@@ -13,7 +13,9 @@ mod urls;
 mod values;
 
 pub use descriptions::description;
-pub use laws::{law_film_path, law_one_authority, law_one_name, law_one_range, law_one_transport};
+pub use laws::{
+    law_asked_url, law_film_path, law_one_authority, law_one_name, law_one_range, law_one_transport,
+};
 pub use ranges::{Origin, Span, read_range};
 pub use sessions::{session_id, session_matches};
 pub use transports::{Channels, read_transport};

@@ -1,0 +1,57 @@
+-- The RTSP URLs that a request line may have are those that are read.
+use Rattle.std.proofs.Common.{◌≡◌, ◌≢◌, ℕ, ◌+◌, ◌-◌, ◌<◌, ◌≤◌, ◌==◌, not, List, ◌++◌, length, take, drop, get_or, refl, sym, ◌∙◌, ap, subst, arith, true, false}
+use Rattle.std.specs.List.{list_all}
+use Rattle.std.specs.Char.{to_ascii_lowercase}
+use Rattle.std.proofs.lemmas.List.{take_at, take-map, take-append-drop, length-append, length-drop, length-map, get_or-drop, get_or_append_left, get_or-append_right}
+use Rattle.std.proofs.lemmas.List.Folds.{list_all_at}
+use Rattle.rtsp_text.specs.Grammar.{IsRtspUrl}
+use Rattle.rtsp_text.proofs.Words.{rtsp_url}
+use Rattle.rtsp_fields.specs.Pieces.{lower}
+use Rattle.rtsp_fields.specs.Urls.{IsUrl}
+
+-- an authority has no `/`
+authority_byte : (authority : List ℕ) (k : ℕ) → list_all (λ byte. not (byte == 47)) authority ≡ true → k < length authority → get_or authority k 0 ≢ 47
+authority_byte authority k all inside = λ slash.
+    let P : ℕ → Type 0 = λ n. not (n == 47) ≡ false in
+    let other : not (get_or authority k 0 == 47) ≡ false = subst P (sym slash) refl in
+    let wrong : true ≡ false = sym all ∙ list_all_at (λ byte. not (byte == 47)) authority k 0 inside other in
+    cc
+
+-- the byte behind `front` at place k of the rest
+byte_behind : (url front rest : List ℕ) (n k : ℕ) → url ≡ front ++ rest → length front ≡ n → n ≤ k → get_or url k 0 ≡ get_or rest (k - n) 0
+byte_behind url front rest n k parts size after =
+    ap (λ l. get_or l k 0) parts ∙ get_or-append_right front rest n k 0 size after
+
+pub asked_is_read : (url : List ℕ) → IsRtspUrl url → (path : ℕ) × IsUrl url path
+asked_is_read url u =
+    let seven : length u.scheme ≡ 7 = sym (length-map u.scheme to_ascii_lowercase) ∙ ap length u.scheme_is in
+    let front : take 7 url ≡ u.scheme = ap (take 7) u.parts ∙ take_at u.scheme (u.authority ++ u.path) 7 seven in
+    let size : length url ≡ 7 + length u.authority + length u.path = omega (arith, ap length u.parts, length-append u.scheme (u.authority ++ u.path), length-append u.authority u.path, seven) in (
+      7 + length u.authority,
+      record {
+        scheme = take-map to_ascii_lowercase 7 url ∙ ap lower front ∙ u.scheme_is;
+        authority = omega (arith, u.some);
+        end = record {
+          after = omega arith;
+          within = omega (arith, size);
+          none = λ k from below.
+              let inside : k - 7 < length u.authority = omega (arith, from, below) in
+              let here : get_or url k 0 ≡ get_or u.authority (k - 7) 0 =
+              byte_behind url u.scheme (u.authority ++ u.path) 7 k u.parts seven from ∙ get_or_append_left u.authority u.path 0 (k - 7) inside in
+              λ slash. authority_byte u.authority (k - 7) u.no_slash inside (sym here ∙ slash);
+          ends = λ inside.
+              let some : 0 < length u.path = omega (arith, inside, size) in
+              let left : 7 + length u.authority - 7 ≡ length u.authority = omega arith in
+              let none : 7 + length u.authority - 7 - length u.authority ≡ 0 = omega arith in
+              byte_behind url u.scheme (u.authority ++ u.path) 7 (7 + length u.authority) u.parts seven (omega arith) ∙
+              get_or-append_right u.authority u.path (length u.authority) (7 + length u.authority - 7) 0 refl (omega arith) ∙ ap (λ n. get_or u.path n 0) none ∙ u.path_begins some;
+        };
+      },
+    )
+
+pub read_is_asked : (url : List ℕ) (path : ℕ) → IsUrl url path → IsRtspUrl url
+read_is_asked url path u =
+    let rest : length (drop 7 url) ≡ length url - 7 = length-drop 7 url in
+    rtsp_url url (take 7 url) (drop 7 url) (sym (take-append-drop 7 url)) (sym (take-map to_ascii_lowercase 7 url) ∙ u.scheme)
+    (omega (arith, rest, u.authority, u.end.within))
+    (λ slash. u.end.none 7 (omega arith) u.authority (sym (get_or-drop 7 url 0 0) ∙ slash))
