@@ -1,0 +1,89 @@
+-- The calendar beside the machine's state: its answers are the machine's, and it follows the next state.
+use Rattle.std.proofs.Common.{◌≡◌, ◌≤◌, ◌<◌, ◌+◌, ℕ, max, List, [], ◌∷◌, ◌++◌, map, Some, arith, refl, sym, ap, subst, ◌∙◌, inl, inr}
+use Rattle.std.proofs.lemmas.Bool.{cases_lt}
+use Rattle.std.proofs.lemmas.List.{map_push}
+use Rattle.plan_cert.specs.declared.Segment.{Segment}
+use Rattle.slot_calendar.specs.declared.profiles.CapStep.{CapStep}
+use Rattle.slot_calendar.specs.declared.calendar.Overflow.{Overflow}
+use Rattle.slot_calendar.specs.Profiles.{capacity_at}
+use Rattle.slot_calendar.specs.Plays.{Play as Booked, asked_at, cut_at, whole_play, cut_play, booked_by}
+use Rattle.slot_calendar.specs.Calendars.{Entries as Calendar, StandsFor, Fits, HasRoom, IsFirstOverflow, booked_at}
+use Rattle.slot_calendar.proofs.Sending.{asked-before}
+use Rattle.admission.specs.declared.entries.Command.TheVariants.{Look}
+use Rattle.admission.specs.declared.entries.Answer.TheVariants.{Looked}
+use Rattle.admission.specs.Machine.{State, Held, IsAnswer, IsWithin, booked_in, closed, halted, held_as, opened, plays_of}
+use Rattle.admission.specs.Kept.{Follows}
+use Rattle.admission.proofs.Halts.{IsSplit, play_of, plays-split, split}
+
+-- before its start a plan fits, since nothing is booked above capacity
+fits-early : (steps : List CapStep) (state : State) (start u : ℕ) (segments : List Segment) → IsWithin steps state → u < start → Fits (booked_in state) (capacity_at steps) start segments u
+fits-early steps state start u segments within early = omega (arith, within.each u, asked-before segments start u early)
+
+-- what the calendar has booked from now on is what the state has booked
+fits-same : (steps : List CapStep) (calendar : Calendar) (state : State) (start u : ℕ) (segments : List Segment) → booked_at calendar u ≡ booked_in state u →
+    Fits (booked_at calendar) (capacity_at steps) start segments u → Fits (booked_in state) (capacity_at steps) start segments u
+fits-same steps calendar state start u segments same fits = omega (arith, same, fits)
+
+fits-each : (steps : List CapStep) (calendar : Calendar) (state : State) (start u : ℕ) (segments : List Segment) → IsWithin steps state → StandsFor calendar (plays_of state) →
+    calendar.first < start → (calendar.first ≤ u → Fits (booked_at calendar) (capacity_at steps) start segments u) → Fits (booked_in state) (capacity_at steps) start segments u
+fits-each steps calendar state start u segments within stands after fits = elim (cases_lt u calendar.first) [
+  | inl early ↦ fits-early steps state start u segments within (omega (arith, early, after))
+  | inr since ↦ fits-same steps calendar state start u segments (stands.each u since) (fits since)
+]
+
+-- room from now on is room everywhere
+pub room-everywhere : (steps : List CapStep) (calendar : Calendar) (state : State) (start : ℕ) (segments : List Segment) → IsWithin steps state → StandsFor calendar (plays_of state) →
+    calendar.first < start → HasRoom calendar.first (booked_at calendar) (capacity_at steps) start segments → HasRoom 0 (booked_in state) (capacity_at steps) start segments
+room-everywhere steps calendar state start segments within stands after room = record {
+  each = λ u _. fits-each steps calendar state start u segments within stands after (λ since. room.each u since);
+}
+
+-- the first overflow from now on is the first one
+pub overflow-everywhere : (steps : List CapStep) (calendar : Calendar) (state : State) (start : ℕ) (segments : List Segment) (over : Overflow) → IsWithin steps state →
+    StandsFor calendar (plays_of state) → calendar.first < start → IsFirstOverflow calendar.first (booked_at calendar) (capacity_at steps) start segments over →
+    IsFirstOverflow 0 (booked_in state) (capacity_at steps) start segments over
+overflow-everywhere steps calendar state start segments over within stands after first = record {
+  begun = omega arith;
+  overflows = omega (arith, stands.each over.slot first.begun, first.overflows);
+  least = λ u _ less. fits-each steps calendar state start u segments within stands after (λ since. first.least u since less);
+  booked_is = first.booked_is ∙ stands.each over.slot first.begun;
+  asked_is = first.asked_is;
+}
+
+-- a play more
+pub stands-opened : (calendar : Calendar) (held : List Held) (number start : ℕ) (segments : List Segment) → StandsFor calendar (map play_of held ++ whole_play start segments ∷ []) →
+    StandsFor calendar (map play_of (held ++ opened number start segments ∷ []))
+stands-opened calendar held number start segments stands = subst (StandsFor calendar) (sym (map_push play_of held (opened number start segments))) stands
+
+-- the plays around one that stands whole
+plays-around : (state : State) (number start : ℕ) (segments : List Segment) (h : Held) (is : held_as number state.held ≡ Some h) → h.play ≡ whole_play start segments →
+    plays_of state ≡ map play_of (split number state.held h is).before ++ whole_play start segments ∷ map play_of (split number state.held h is).behind
+plays-around state number start segments h is play_is =
+    let parts = split number state.held h is in
+    ap (map play_of) parts.was ∙ plays-split parts.before parts.behind h ∙ ap (λ p. map play_of parts.before ++ p ∷ map play_of parts.behind) play_is
+
+-- it may be cut
+pub cut-allowed : (calendar : Calendar) (state : State) (number keep start : ℕ) (segments : List Segment) (h : Held) → held_as number state.held ≡ Some h → h.play ≡ whole_play start segments →
+    StandsFor calendar (plays_of state) → ((before behind : List Booked) → StandsFor calendar (before ++ whole_play start segments ∷ behind) →
+    (t : ℕ) → calendar.first ≤ t → cut_at segments start keep t ≤ booked_at calendar t) → (t : ℕ) → calendar.first ≤ t → cut_at segments start keep t ≤ booked_at calendar t
+cut-allowed calendar state number keep start segments h is play_is stands law =
+    let parts = split number state.held h is in
+    law (map play_of parts.before) (map play_of parts.behind) (subst (StandsFor calendar) (plays-around state number start segments h is play_is) stands)
+
+-- once it is cut, the calendar stands for the plays with that one halted
+pub stands-halted : (old new : Calendar) (state : State) (number keep start : ℕ) (segments : List Segment) (h : Held) → held_as number state.held ≡ Some h → h.play ≡ whole_play start segments →
+    StandsFor old (plays_of state) → ((before behind : List Booked) → StandsFor old (before ++ whole_play start segments ∷ behind) → StandsFor new (before ++ cut_play start segments keep ∷ behind)) →
+    StandsFor new (map play_of (halted number keep state.held))
+stands-halted old new state number keep start segments h is play_is stands cut =
+    let parts = split number state.held h is in
+    let front = map play_of parts.before in
+    let back = map play_of parts.behind in
+    let becomes : map play_of (halted number keep state.held) ≡ front ++ cut_play start segments keep ∷ back =
+    ap (map play_of) (parts.becomes keep) ∙ plays-split parts.before parts.behind (closed keep h) ∙ ap (λ (p : Booked). front ++ cut_play p.start p.segments keep ∷ back) play_is in
+    subst (StandsFor new) (sym becomes) (cut front back (subst (StandsFor old) (plays-around state number start segments h is play_is) stands))
+
+-- what a look tells
+pub look-answer : (steps : List CapStep) (calendar : Calendar) (state : State) (slot now at booked : ℕ) → Follows calendar state → now ≡ calendar.first → at ≡ max now slot →
+    booked ≡ booked_at calendar at → IsAnswer steps state (Look slot) (Looked now at booked)
+look-answer steps calendar state slot now at booked follows now_is at_is booked_is =
+    (now_is ∙ follows.now, omega (arith, at_is, now_is, follows.now), booked_is ∙ follows.stands.each at (omega (arith, at_is, now_is)))

@@ -1,0 +1,88 @@
+-- The play that a halt closes, among the plays before and behind it.
+use Rattle.std.proofs.Common.{◌≡◌, ◌≤◌, ◌<◌, ◌+◌, ℕ, Bool, true, false, eqb, List, [], ◌∷◌, ◌++◌, length, get_or, map, take, drop, All, Option, Some, None, IsSomeAnd, find, arith, refl, sym, ap, subst, ◌∙◌, inl, inr}
+use Rattle.std.proofs.lemmas.Bool.{cases_Bool, cond-true, cond-false, eqb-true}
+use Rattle.std.proofs.lemmas.List.{drop_at, get_or_at, length-append, map-append, take_at}
+use Rattle.std.proofs.lemmas.List.Elements.{All-append, All-cons, All-drop, All-tail, All-take}
+use Rattle.plan_cert.specs.Slots.{total_bytes}
+use Rattle.slot_calendar.specs.Plays.{Play as Booked}
+use Rattle.admission.specs.Machine.{State, Held, plays_of, held_as, halted, closed, CanHalt}
+
+-- ---- what a halt's condition says
+pub record Halting (state : State) (number keep : ℕ) : Type 0 where
+  pub held : Held
+  pub is : held_as number state.held ≡ Some held
+  pub is_open : held.is_open ≡ true
+  pub small : keep ≤ total_bytes held.play.segments
+
+some_play : (o : Option Held) (keep : ℕ) → IsSomeAnd o (λ (h : Held). (h.is_open ≡ true) × (keep ≤ total_bytes h.play.segments)) →
+    (h : Held) × ((o ≡ Some h) × ((h.is_open ≡ true) × (keep ≤ total_bytes h.play.segments)))
+some_play None keep bad = absurd bad
+some_play (Some h) keep is = (h, (refl, (is.0, is.1)))
+
+pub halting : (state : State) (number keep : ℕ) → CanHalt state number keep → Halting state number keep
+halting state number keep can =
+    let found = some_play (held_as number state.held) keep can in
+    record { held = found.0; is = found.1.0; is_open = found.1.1.0; small = found.1.1.1 }
+
+-- ---- the plays before and behind the one of a number
+pub record IsSplit (number : ℕ) (held : List Held) (h : Held) : Type 0 where
+  pub before : List Held
+  pub behind : List Held
+  pub was : held ≡ before ++ h ∷ behind
+  pub becomes : (keep : ℕ) → halted number keep held ≡ before ++ closed keep h ∷ behind
+  pub number_is : h.number ≡ number
+
+pub split : (number : ℕ) (held : List Held) (h : Held) → held_as number held ≡ Some h → IsSplit number held h
+split number [] h is = let bad : ⊥ = cc in absurd bad
+split number (x ∷ rest) h is =
+    elim (cases_Bool (eqb x.number number)) [
+      | inl found ↦ (
+          let same : Some x ≡ Some h = sym (cond-true (eqb x.number number) (Some x) (held_as number rest) found) ∙ is in
+          let here : x ≡ h = cc in
+          record {
+            before = [];
+            behind = rest;
+            was = ap (λ (y : Held). y ∷ rest) here;
+            becomes = λ keep. cond-true (eqb x.number number) (closed keep x ∷ rest) (x ∷ halted number keep rest) found ∙ ap (λ (y : Held). closed keep y ∷ rest) here;
+            number_is = sym (ap (λ (y : Held). y.number) here) ∙ eqb-true x.number number found;
+          }
+          )
+      | inr other ↦ (
+          let later = split number rest h (sym (cond-false (eqb x.number number) (Some x) (held_as number rest) other) ∙ is) in
+          record {
+            before = x ∷ later.before;
+            behind = later.behind;
+            was = ap (λ l. x ∷ l) later.was;
+            becomes = λ keep. cond-false (eqb x.number number) (closed keep x ∷ rest) (x ∷ halted number keep rest) other ∙ ap (λ l. x ∷ l) (later.becomes keep);
+            number_is = later.number_is;
+          }
+          )
+    ]
+
+-- what holds of all plays holds of that one
+pub holds-of : (P : Held → Type 0) (number : ℕ) (held : List Held) (h : Held) → All P held → held_as number held ≡ Some h → P h
+holds-of P number held h all is =
+    let parts = split number held h is in
+    let S : List Held → Type 0 = λ l. All P l in
+    let all' : All P (parts.before ++ h ∷ parts.behind) = subst S parts.was all in
+    subst P (get_or_at parts.before h parts.behind h (length parts.before) refl)
+    (all' (length parts.before) h (omega (arith, length-append parts.before (h ∷ parts.behind))))
+
+-- and of all plays after the halt, if it holds of that one
+pub all-halted : (P : Held → Type 0) (number keep : ℕ) (held : List Held) (h : Held) → held_as number held ≡ Some h → P (closed keep h) → All P held → All P (halted number keep held)
+all-halted P number keep held h is here all =
+    let parts = split number held h is in
+    let S : List Held → Type 0 = λ l. All P l in
+    let all' : All P (parts.before ++ h ∷ parts.behind) = subst S parts.was all in
+    let front : All P parts.before =
+    subst S (take_at parts.before (h ∷ parts.behind) (length parts.before) refl) (All-take P (length parts.before) (parts.before ++ h ∷ parts.behind) all') in
+    let back : All P (h ∷ parts.behind) =
+    subst S (drop_at parts.before (h ∷ parts.behind) (length parts.before) refl) (All-drop P (length parts.before) (parts.before ++ h ∷ parts.behind) all') in
+    subst S (sym (parts.becomes keep)) (All-append P parts.before (closed keep h ∷ parts.behind) front (All-cons P (closed keep h) parts.behind here (All-tail P h parts.behind back)))
+
+abbrev pub play_of : Held → Booked
+play_of h = h.play
+
+-- what the plays book, in the same parts
+pub plays-split : (before behind : List Held) (h : Held) → map play_of (before ++ h ∷ behind) ≡ map play_of before ++ h.play ∷ map play_of behind
+plays-split before behind h = map-append play_of before (h ∷ behind)

@@ -1,0 +1,79 @@
+-- A book with one entry more.
+use Rattle.std.proofs.Common.{◌≡◌, ◌≤◌, ◌<◌, ◌+◌, ℕ, Bool, true, false, cond, List, [], ◌∷◌, ◌++◌, length, sum_by, arith, refl, sym, ap, subst, ◌∙◌}
+use Rattle.std.proofs.lemmas.List.{length_push}
+use Rattle.std.proofs.lemmas.List.Sums.{sum_by-append, sum_by-cons, sum_by_push}
+use Rattle.plan_cert.specs.declared.Segment.{Segment}
+use Rattle.slot_calendar.specs.declared.profiles.CapStep.{CapStep}
+use Rattle.slot_calendar.specs.Calendars.{Entries as Calendar}
+use Rattle.admission.specs.declared.entries.Entry.{Entry}
+use Rattle.admission.specs.declared.entries.Noted.{Noted}
+use Rattle.admission.specs.declared.entries.Command.{Command}
+use Rattle.admission.specs.declared.entries.Command.TheVariants.{Play, Halt, Look}
+use Rattle.admission.specs.declared.entries.Answer.{Answer}
+use Rattle.admission.specs.declared.entries.Answer.TheVariants.{Admitted, Overflow, Halted, Looked}
+use Rattle.admission.specs.Machine.{State, Held, CanHalt, IsAnswer, closed, next_state, open_plays, opened}
+use Rattle.admission.specs.Histories.{IsAnswered, IsLegal, live, state_after}
+use Rattle.admission.specs.Books.{IsNoted, Journal}
+use Rattle.admission.specs.Kept.{Follows, IsKept, opens}
+use Rattle.admission.proofs.Runs.{legal-push, next_of, state-push}
+use Rattle.admission.proofs.Halts.{Halting, IsSplit, halting, split}
+
+-- ---- the number of open plays
+pub opens-most : (answer : Answer) → opens answer ≤ 1
+opens-most (Admitted start) = omega arith
+opens-most (Overflow over booked asked) = omega arith
+opens-most Halted = omega arith
+opens-most (Looked now at booked) = omega arith
+
+-- a play that was asked for
+pub open-asked : (steps : List CapStep) (state : State) (place slot : ℕ) (segments : List Segment) (answer : Answer) → IsAnswer steps state (Play slot segments) answer →
+    open_plays (next_state state place (Play slot segments) answer) ≡ open_plays state + opens answer
+open-asked steps state place slot segments (Admitted start) is = sum_by_push (λ (h : Held). cond h.is_open 1 0) state.held (opened place start segments)
+open-asked steps state place slot segments (Overflow over booked asked) is = omega arith
+open-asked steps state place slot segments Halted is = absurd is
+open-asked steps state place slot segments (Looked now at booked) is = absurd is
+
+-- a play that is halted
+pub open-halted : (state : State) (place number keep : ℕ) → CanHalt state number keep → open_plays (next_state state place (Halt number keep) Halted) + 1 ≡ open_plays state
+open-halted state place number keep can =
+    let h = halting state number keep can in
+    let parts = split number state.held h.held h.is in
+    let f : Held → ℕ = λ x. cond x.is_open 1 0 in
+    let one : f h.held ≡ 1 = ap (λ b. cond b 1 0) h.is_open in
+    let old = ap (λ l. sum_by f l) parts.was ∙ sum_by-append f parts.before (h.held ∷ parts.behind) ∙ ap (λ n. sum_by f parts.before + n) (sum_by-cons f h.held parts.behind) in
+    let new = ap (λ l. sum_by f l) (parts.becomes keep) ∙ sum_by-append f parts.before (closed keep h.held ∷ parts.behind)
+    ∙ ap (λ n. sum_by f parts.before + n) (sum_by-cons f (closed keep h.held) parts.behind) in
+    omega (arith, old, new, one)
+
+-- ---- one entry more
+pub kept-push : (calendar new : Calendar) (xs ys : List Entry) (e : Entry) (limit count more room wide : ℕ) → IsKept calendar xs limit count room →
+    IsAnswered calendar.steps (state_after xs) e → ys ≡ xs ++ e ∷ [] → new.steps ≡ calendar.steps → Follows new (next_of (state_after xs) (length xs) e) →
+    more ≡ open_plays (next_of (state_after xs) (length xs) e) → length xs + 1 + more ≤ limit → wide ≡ room → IsKept new ys limit more wide
+kept-push calendar new xs ys e limit count more room wide kept answered is steps follows more_is fits wide_is =
+    let state : state_after ys ≡ next_of (state_after xs) (length xs) e = ap state_after is ∙ state-push xs e in
+    let L : List Entry → Type 0 = λ l. IsLegal calendar.steps l in
+    let S : List CapStep → Type 0 = λ s. IsLegal s ys in
+    let open_is : live ys ≡ more = ap open_plays state ∙ sym more_is in
+    record {
+      legal = subst S (sym steps) (subst L (sym is) (legal-push calendar.steps xs e kept.legal answered));
+      follows = subst (Follows new) (sym state) follows;
+      count_is = sym open_is;
+      within = omega (arith, open_is, ap length is, length_push xs e, fits);
+      few = kept.few;
+      reserved = omega (arith, wide_is, kept.reserved);
+    }
+
+pub noted-push : (steps same : List CapStep) (limit maker : ℕ) (xs ys : List Entry) (command : Command) (answer : Answer) (noted : Noted) → IsLegal steps xs →
+    IsAnswer steps (state_after xs) command answer → noted.place ≡ length xs → noted.answer ≡ answer → ys ≡ xs ++ record { maker = maker; command = command; answer = answer } ∷ [] →
+    same ≡ steps → IsNoted (record { steps = steps; limit = limit; entries = xs }) maker command noted (record { steps = same; limit = limit; entries = ys })
+noted-push steps same limit maker xs ys command answer noted legal is place told entries steps_are =
+    let e : Answer → Entry = λ a. record { maker = maker; command = command; answer = a } in
+    let L : List Entry → Type 0 = λ l. IsLegal steps l in
+    let S : List CapStep → Type 0 = λ s. IsLegal s ys in
+    let J : List CapStep → List Entry → Journal = λ s l. record { steps = s; limit = limit; entries = l } in
+    record {
+      place_is = place;
+      answer_is = subst (IsAnswer steps (state_after xs) command) (sym told) is;
+      journal_is = ap (λ s. J s ys) steps_are ∙ ap (J steps) entries ∙ ap (λ a. J steps (xs ++ e a ∷ [])) (sym told);
+      legal = subst S (sym steps_are) (subst L (sym entries) (legal-push steps xs (e answer) legal is));
+    }

@@ -1,0 +1,47 @@
+use Rattle.std.proofs.Common.{◌≡◌, ◌≤◌, ◌<◌, ◌+◌, ◌-◌, ℕ, List, length, arith, ap, subst, sym, ◌∙◌, vec_len, vec_capacity}
+use Rattle.admission.specs.declared.entries.Entry.{Entry}
+use Rattle.admission.specs.declared.entries.Command.TheVariants.{Halt}
+use Rattle.admission.specs.declared.entries.Answer.TheVariants.{Halted}
+use Rattle.admission.specs.Machine.{CanHalt, next_state}
+use Rattle.admission.specs.Books.{IsNoted, Journal}
+use Rattle.admission.specs.Histories.{state_after}
+use Rattle.admission.specs.Kept.{Follows}
+use Rattle.admission.proofs.Journals.{kept-push, noted-push, open-halted}
+use Rattle.admission.proofs.book.Book.halt.Goals as goal
+
+pub overflow_sub-self : goal.overflow_sub-self
+overflow_sub-self c =
+    let book = c.self.inside in
+    let C : Journal → Type 0 = λ j. CanHalt (state_after j.entries) c.args.number c.args.keep in
+    let can : CanHalt (state_after book.entries.items) c.args.number c.args.keep = subst C (sym c.self.view_is) c.requires in
+    omega (arith, open-halted (state_after book.entries.items) 0 c.args.number c.args.keep can, c.self.invariant.count_is)
+
+pub note-requires : goal.note-requires
+note-requires c =
+    let book = c.self.inside in
+    let C : Journal → Type 0 = λ j. CanHalt (state_after j.entries) c.args.number c.args.keep in
+    let can : CanHalt (state_after book.entries.items) c.args.number c.args.keep = subst C (sym c.self.view_is) c.requires in
+    let items : length book.entries.items ≡ vec_len book.entries = sym (ap length c.as_slice.ensures.value) ∙ c.as_slice.ensures.len in
+    omega (arith, open-halted (state_after book.entries.items) 0 c.args.number c.args.keep can, c.self.invariant.within, c.self.invariant.reserved, items)
+
+pub invariant_of-self : goal.invariant_of-self
+invariant_of-self c =
+    let book = c.self.inside in
+    let state = state_after book.entries.items in
+    let C : Journal → Type 0 = λ j. CanHalt (state_after j.entries) c.args.number c.args.keep in
+    let can : CanHalt state c.args.number c.args.keep = subst C (sym c.self.view_is) c.requires in
+    let fewer = open-halted state (length book.entries.items) c.args.number c.args.keep can in
+    let F : List Entry → Type 0 = λ l. Follows c.give_back.new.calendar (next_state (state_after l) (length book.entries.items) (Halt c.args.number c.args.keep) Halted) in
+    kept-push book.calendar c.give_back.new.calendar book.entries.items c.note.new.entries.items _ book.limit book.live (book.live - 1) _ _ c.self.invariant
+    can c.note.ensures.items c.give_back.ensures.steps (subst F c.as_slice.ensures.value (c.give_back.ensures.next (length book.entries.items)))
+    (omega (arith, fewer, c.self.invariant.count_is)) (omega (arith, fewer, c.self.invariant.count_is, c.self.invariant.within)) c.note.ensures.room
+
+pub returns-clause-noted : goal.returns-clause-noted
+returns-clause-noted c =
+    let book = c.self.inside in
+    let C : Journal → Type 0 = λ j. CanHalt (state_after j.entries) c.args.number c.args.keep in
+    let can : CanHalt (state_after book.entries.items) c.args.number c.args.keep = subst C (sym c.self.view_is) c.requires in
+    let new : Journal = record { steps = c.give_back.new.calendar.steps; limit = book.limit; entries = c.note.new.entries.items } in
+    let P : Journal → Type 0 = λ j. IsNoted j c.args.maker (Halt c.args.number c.args.keep) c.note.result new in
+    subst P c.self.view_is (noted-push book.calendar.steps c.give_back.new.calendar.steps book.limit c.args.maker book.entries.items c.note.new.entries.items
+        (Halt c.args.number c.args.keep) Halted c.note.result c.self.invariant.legal can c.note.ensures.place c.note.ensures.answer c.note.ensures.items c.give_back.ensures.steps)

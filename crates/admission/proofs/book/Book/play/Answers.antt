@@ -1,0 +1,35 @@
+use Rattle.std.proofs.Common.{◌≡◌, ◌≤◌, ◌+◌, ℕ, length, arith, ap, subst, sym, ◌∙◌}
+use Rattle.admission.specs.declared.entries.Command.TheVariants.{Play}
+use Rattle.admission.specs.Books.{IsNoted, Journal}
+use Rattle.admission.specs.Histories.{live, state_after}
+use Rattle.admission.proofs.Journals.{kept-push, noted-push, open-asked, opens-most}
+use Rattle.admission.proofs.Within.{sound-after}
+use Rattle.admission.proofs.book.Book.play.Goals as goal
+
+pub invariant_of-self : goal.invariant_of-self
+invariant_of-self c =
+    let book = c.self.inside in
+    let state = state_after book.entries.items in
+    let entries : length book.entries.items ≡ length c.args.self.now.entries = ap (λ (j : Journal). length j.entries) c.self.view_is in
+    let count : live book.entries.items ≡ live c.args.self.now.entries = ap (λ (j : Journal). live j.entries) c.self.view_is in
+    let within = (sound-after book.calendar.steps book.entries.items c.self.invariant.legal).within in
+    let answer = c.admit-answer.ensures.answer state c.self.invariant.follows within in
+    kept-push book.calendar c.admit-answer.new.calendar book.entries.items c.note.new.entries.items _ book.limit book.live (book.live + c.opened_by.result) _ _ c.self.invariant
+    answer c.note.ensures.items c.admit-answer.ensures.steps (c.admit-answer.ensures.next state (length book.entries.items) c.self.invariant.follows)
+    (omega (arith, open-asked book.calendar.steps state (length book.entries.items) c.min-slot.result c.args.plan c.admit-answer.result answer, c.opened_by.ensures, c.self.invariant.count_is))
+    (omega (arith, c.if-full-self.false, c.counts-full.ensures.full.entries_are, c.counts-full.ensures.full.live_is, c.self.invariant.count_is, entries, count, c.opened_by.ensures,
+            opens-most c.admit-answer.result)) c.note.ensures.room
+
+pub returns-clause-noted : goal.returns-clause-noted
+returns-clause-noted c =
+    let book = c.self.inside in
+    let state = state_after book.entries.items in
+    let within = (sound-after book.calendar.steps book.entries.items c.self.invariant.legal).within in
+    let answer = c.admit-answer.ensures.answer state c.self.invariant.follows within in
+    let new : Journal = record { steps = c.admit-answer.new.calendar.steps; limit = book.limit; entries = c.note.new.entries.items } in
+    let P : Journal → Type 0 = λ j. IsNoted j c.args.maker (Play c.min-slot.result c.args.plan) c.note.result new in
+    let S : ℕ → Type 0 = λ n. IsNoted c.args.self.now c.args.maker (Play n c.args.plan) c.note.result new in
+    subst S c.min-slot.ensures
+    (subst P c.self.view_is (noted-push book.calendar.steps c.admit-answer.new.calendar.steps book.limit c.args.maker book.entries.items c.note.new.entries.items
+            (Play c.min-slot.result c.args.plan) c.admit-answer.result c.note.result c.self.invariant.legal answer c.note.ensures.place c.note.ensures.answer c.note.ensures.items
+            c.admit-answer.ensures.steps))

@@ -1,0 +1,61 @@
+-- Histories of the machine: lists of entries, each with its answer.
+use Rattle.std.specs.Prelude.{ℕ, ◌≡◌, ◌+◌, ◌<◌, ◌≤◌, List, [], ◌∷◌, Option, Some, None, length, take, slice_index_or}
+use Rattle.plan_cert.specs.declared.Segment.{Segment}
+use Rattle.plan_cert.specs.Slots.{total_bytes}
+use Rattle.slot_calendar.specs.declared.profiles.CapStep.{CapStep}
+use Rattle.slot_calendar.specs.Plays.{Play as Booked, whole_play}
+use Rattle.admission.specs.declared.entries.Command.{Command}
+use Rattle.admission.specs.declared.entries.Command.TheVariants.{Halt, Play}
+use Rattle.admission.specs.declared.entries.Answer.{Answer}
+use Rattle.admission.specs.declared.entries.Answer.TheVariants.{Admitted}
+use Rattle.admission.specs.declared.entries.Entry.{Entry}
+use Rattle.admission.specs.Machine.{State, beginning, booked_in, open_plays, IsAnswer, next_state}
+
+-- the state after entries that follow a state, the first of them at `place`
+abbrev pub state_from : State → ℕ → List Entry → State
+state_from state place [] = state
+state_from state place (e ∷ rest) = state_from (next_state state place e.command e.answer) (place + 1) rest
+
+-- the state after the entries of a history
+abbrev pub state_after : List Entry → State
+state_after entries = state_from beginning 0 entries
+
+-- the bytes booked in slot t after them
+abbrev pub booked_after : List Entry → ℕ → ℕ
+booked_after entries t = booked_in (state_after entries) t
+
+-- how many plays are open after them
+abbrev pub live : List Entry → ℕ
+live entries = open_plays (state_after entries)
+
+-- the answer of an entry is the machine's in this state
+abbrev pub IsAnswered : List CapStep → State → Entry → Type 0
+IsAnswered steps state e = IsAnswer steps state e.command e.answer
+
+-- a legal history: each entry is answered as the machine answers in the state after the entries before it
+pub record IsLegal (steps : List CapStep) (entries : List Entry) : Type 0 where
+  pub each : (i : ℕ) (none : Entry) → i < length entries → IsAnswered steps (state_after (take i entries)) (slice_index_or entries i none)
+
+-- the play that a command with its answer admits
+abbrev pub play_admitted : Command → Answer → Option Booked
+play_admitted (Play slot segments) (Admitted start) = Some (whole_play start segments)
+play_admitted _ _ = None
+
+-- the entry at place `number` admitted a play of this plan, which begins at slot `start`
+pub record IsAdmission (entries : List Entry) (number start : ℕ) (segments : List Segment) : Type 0 where
+  pub inside : number < length entries
+  pub admitted : (none : Entry) →
+      play_admitted (slice_index_or entries number none).command (slice_index_or entries number none).answer ≡ Some (whole_play start segments)
+
+-- a command halts this play
+abbrev pub Halts : ℕ → Command → Type 0
+Halts number (Halt halted keep) = halted ≡ number
+Halts number _ = ⊥
+
+-- a play that was admitted and that no entry halts; `keep` bytes are at most those of its plan
+pub record IsStillOpen (entries : List Entry) (number keep : ℕ) : Type 0 where
+  pub start : ℕ
+  pub segments : List Segment
+  pub admission : IsAdmission entries number start segments
+  pub unhalted : (i : ℕ) (none : Entry) → i < length entries → ¬ Halts number (slice_index_or entries i none).command
+  pub small : keep ≤ total_bytes segments

@@ -1,0 +1,28 @@
+-- How a book is kept: the journal with a calendar that has booked what its plays book, and the number of open plays.
+use Rattle.std.specs.Prelude.{ℕ, ◌≡◌, ◌≤◌, List, vec_capacity}
+use Rattle.slot_calendar.specs.Calendars.{Entries as Calendar, StandsFor}
+use Rattle.admission.specs.declared.entries.Answer.{Answer}
+use Rattle.admission.specs.declared.entries.Answer.TheVariants.{Admitted}
+use Rattle.admission.specs.declared.entries.Entry.{Entry}
+use Rattle.admission.specs.Machine.{State, plays_of}
+use Rattle.admission.specs.Histories.{IsLegal, live, state_after}
+use Rattle.admission.specs.Books.{taken}
+
+-- a calendar has come to the state's now and has booked what its plays book
+pub record Follows (calendar : Calendar) (state : State) : Type 0 where
+  pub now : calendar.first ≡ state.now
+  pub stands : StandsFor calendar (plays_of state)
+
+-- what holds of each book; the journal has room for all entries without memory
+pub record IsKept (calendar : Calendar) (entries : List Entry) (limit count room : ℕ) : Type 0 where
+  pub legal : IsLegal calendar.steps entries
+  pub follows : Follows calendar (state_after entries)
+  pub count_is : count ≡ live entries
+  pub within : taken entries ≤ limit
+  pub few : limit ≤ 1048576
+  pub reserved : limit ≤ room
+
+-- how many plays an answer opens
+abbrev pub opens : Answer → ℕ
+opens (Admitted start) = 1
+opens _ = 0

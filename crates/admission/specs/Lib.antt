@@ -1,0 +1,5 @@
+pub mod Machine
+pub mod Histories
+pub mod Books
+pub mod Kept
+pub mod Inside

@@ -1,0 +1,183 @@
+ghost use Rattle.std.specs.Prelude.{◌≡◌, ◌+◌, ◌^◌, ◌<◌, ◌≤◌, [], min, max, IfOk, IfErr, OnOk, OnErr};
+ghost use Rattle.slot_calendar.specs.Calendars.{StandsFor};
+ghost use Rattle.admission.specs.Machine.{CanHalt, plays_of};
+ghost use Rattle.admission.specs.Histories.{IsLegal, state_after};
+
+use crate::entries::{Answer, Command, Entry, Full, Noted, PlayFull};
+use crate::keeping::{admit, give_back, note, opened_by};
+use plan_cert::Plan;
+use slot_calendar::{Calendar, Profile};
+use std::alloc::Global;
+use std::marker::Model;
+use vod_base::NoMemory;
+
+/// The book of a shared link: it admits plays, halts them and tells what is booked, and notes each of these with its answer in a
+/// journal. It keeps a free place in the journal for the halt of each open play.
+///
+/// Contracts see the steps of the capacity, the most entries, and the list of the entries.
+#[derive(Debug, Drop)]
+pub struct Book {
+    calendar: Calendar,
+    entries: Vec<Entry>,
+    limit: u64,
+    live: u64,
+}
+
+impl Model for Book {
+    ghost use Rattle.admission.specs.Books.{Journal};
+
+    ghost Value = { Journal };
+
+    ghost use Rattle.admission.specs.Inside.{journal_of, IsBook};
+
+    ghost view = { journal_of };
+
+    ghost invariant = { IsBook };
+}
+
+/// The most entries of a journal.
+pub const MOST_ENTRIES: u64 = 1_048_576;
+
+/// The latest slot; a later one is taken as this one.
+pub const LATEST_SLOT: u64 = 1 << 62;
+
+impl Book {
+    ghost use Rattle.admission.specs.Books.{IsFull, IsNoted, taken};
+
+    /// An empty book of a link of this capacity, whose journal has room for `limit` entries. No other call takes memory.
+    pub fn new(alloc: Global, profile: Profile, limit: u64) -> Result<Book, NoMemory>
+        requires some { 2 ≤ limit }
+        requires few { limit ≤ 1048576 }
+        ensures { IfOk result (λ book. book ≡ record { steps = profile; limit = limit; entries = [] }) }
+    {
+        let calendar = Calendar::new(alloc, profile)?;
+        match Vec::with_capacity(alloc, limit as usize) {
+            Ok(entries) => Ok(Book {
+                calendar,
+                entries,
+                limit,
+                live: 0,
+            }),
+            Err(_) => Err(NoMemory),
+        }
+    }
+
+    /// How many entries there are, and how many plays are open.
+    fn counts(&self) -> Full
+        ensures full { IsFull self.now result }
+        ensures within { result.entries + result.live ≤ self.now.limit }
+        ensures few { self.now.limit ≤ 1048576 }
+    {
+        Full {
+            entries: self.entries.len() as u64,
+            live: self.live,
+        }
+    }
+
+    /// A play of this plan, asked for in a slot: it is admitted from the slot behind it on, and behind now, if its plan fits into every
+    /// slot, and else answered the first slot without room. Both make an entry, and now comes up to the slot.
+    ///
+    /// # Errors
+    ///
+    /// [`PlayFull`] exactly where the entries, the open plays and 2 are more than the limit: the play's entry and its halt's. It hands
+    /// the plan back and leaves the book as it was.
+    pub fn play(&mut self, maker: u32, slot: u64, plan: Plan) -> Result<Noted, PlayFull>
+        ensures noted { IfOk result (λ noted. IsNoted self.old maker (Command.Play (min slot (2 ^ 62)) plan) noted self.new) }
+        ensures room { OnOk result (taken self.old.entries + 2 ≤ self.old.limit) }
+        ensures full { OnErr result (self.old.limit < taken self.old.entries + 2) }
+        ensures counts { IfErr result (λ refused. IsFull self.old refused.full) }
+        ensures plan { IfErr result (λ refused. refused.plan ≡ plan) }
+        ensures left { OnErr result (self.new ≡ self.old) }
+    {
+        let full = self.counts();
+        if full.entries + full.live + 2 > self.limit {
+            return Err(PlayFull { plan, full });
+        }
+        let slot = slot.min(LATEST_SLOT);
+        let answer = admit(&mut self.calendar, slot, &plan);
+        self.live += opened_by(answer);
+        Ok(note(
+            &mut self.entries,
+            maker,
+            Command::Play { slot, plan },
+            answer,
+        ))
+    }
+
+    /// Halts an open play, which keeps its first `keep` bytes; what is behind them is free again in the slots from now on. The entry
+    /// always finds its place.
+    pub fn halt(&mut self, maker: u32, number: u64, keep: u64) -> Noted
+        requires { CanHalt (state_after self.old.entries) number keep }
+        ensures noted { IsNoted self.old maker (Command.Halt number keep) result self.new }
+        ensures answer { result.answer ≡ Answer.Halted }
+    {
+        give_back(&mut self.calendar, self.entries.as_slice(), number, keep);
+        self.live -= 1;
+        note(
+            &mut self.entries,
+            maker,
+            Command::Halt { number, keep },
+            Answer::Halted,
+        )
+    }
+
+    /// Tells what is booked in a slot, or in now where that is later. It leaves now.
+    ///
+    /// # Errors
+    ///
+    /// [`Full`] exactly where the entries, the open plays and 1 are more than the limit. It leaves the book as it was.
+    pub fn look(&mut self, maker: u32, slot: u64) -> Result<Noted, Full>
+        ensures noted { IfOk result (λ noted. IsNoted self.old maker (Command.Look (min slot (2 ^ 62))) noted self.new) }
+        ensures room { OnOk result (taken self.old.entries + 1 ≤ self.old.limit) }
+        ensures full { OnErr result (self.old.limit < taken self.old.entries + 1) }
+        ensures counts { IfErr result (λ full. IsFull self.old full) }
+        ensures left { OnErr result (self.new ≡ self.old) }
+    {
+        let full = self.counts();
+        if full.entries + full.live + 1 > self.limit {
+            return Err(full);
+        }
+        let slot = slot.min(LATEST_SLOT);
+        let now = self.calendar.now();
+        let at = now.max(slot);
+        let booked = self.calendar.booked(at);
+        Ok(note(
+            &mut self.entries,
+            maker,
+            Command::Look { slot },
+            Answer::Looked { now, at, booked },
+        ))
+    }
+
+    /// The entries, in their order.
+    pub fn entries(&self) -> &[Entry]
+        ensures value { result.now ≡ self.now.entries }
+        ensures legal { IsLegal self.now.steps self.now.entries }
+        ensures within { taken self.now.entries ≤ self.now.limit }
+    {
+        self.entries.as_slice()
+    }
+
+    /// What is booked on the link from the machine's now on.
+    pub fn calendar(&self) -> &Calendar
+        ensures steps { result.now.steps ≡ self.now.steps }
+        ensures now { result.now.first ≡ (state_after self.now.entries).now }
+        ensures stands { StandsFor result.now (plays_of (state_after self.now.entries)) }
+    {
+        &self.calendar
+    }
+
+    /// Hands the journal out.
+    pub fn into_entries(self) -> Vec<Entry>
+        ensures value { result.items ≡ self.entries }
+        ensures legal { IsLegal self.steps self.entries }
+    {
+        let Book {
+            calendar: _,
+            entries,
+            limit: _,
+            live: _,
+        } = self;
+        entries
+    }
+}

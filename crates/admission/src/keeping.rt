@@ -1,0 +1,81 @@
+ghost use Rattle.std.specs.Prelude.{◌≡◌, ◌+◌, ◌^◌, ◌<◌, ◌≤◌, ◌++◌, [], ◌∷◌, ℕ, length, vec_len, vec_capacity};
+ghost use Rattle.admission.specs.Machine.{State, CanHalt, IsAnswer, IsWithin, next_state};
+ghost use Rattle.admission.specs.Histories.{IsLegal, state_after};
+ghost use Rattle.admission.specs.Kept.{Follows, opens};
+
+use crate::entries::{Answer, Command, Entry, Noted};
+use plan_cert::Plan;
+use slot_calendar::{Calendar, law_release};
+
+/// Moves now up to a slot, and books a plan from the slot behind now on, if it fits everywhere.
+pub(crate) fn admit(calendar: &mut Calendar, slot: u64, plan: &Plan) -> Answer
+    requires { slot ≤ 2 ^ 62 }
+    ensures steps { calendar.new.steps ≡ calendar.old.steps }
+    ensures answer { (state : State) → Follows calendar.old state → IsWithin calendar.old.steps state → IsAnswer calendar.old.steps state (Command.Play slot plan.now) result }
+    ensures next { (state : State) (place : ℕ) → Follows calendar.old state → Follows calendar.new (next_state state place (Command.Play slot plan.now) result) }
+{
+    let now = calendar.now().max(slot);
+    calendar.advance(now);
+    let start = now + 1;
+    // it has at most 1,000,000 slots, so it ends within the calendar's
+    let _plan = plan.segments();
+    match calendar.first_overflow(start, plan) {
+        Some(over) => Answer::Overflow {
+            slot: over.slot,
+            booked: over.booked,
+            asked: over.asked,
+        },
+        None => {
+            calendar.book(start, plan);
+            Answer::Admitted { start }
+        }
+    }
+}
+
+/// How many plays an answer opens.
+pub(crate) fn opened_by(answer: Answer) -> u64
+    ensures { result ≡ opens answer }
+{
+    match answer {
+        Answer::Admitted { .. } => 1,
+        _ => 0,
+    }
+}
+
+/// Gives back what an open play has behind its first `keep` bytes in the slots from now on. The play's plan stands in the entry that
+/// admitted it.
+pub(crate) fn give_back(calendar: &mut Calendar, entries: &[Entry], number: u64, keep: u64)
+    requires few { length entries.now ≤ 1048576 }
+    requires legal { IsLegal calendar.old.steps entries.now }
+    requires follows { Follows calendar.old (state_after entries.now) }
+    requires can { CanHalt (state_after entries.now) number keep }
+    ensures steps { calendar.new.steps ≡ calendar.old.steps }
+    ensures next { (place : ℕ) → Follows calendar.new (next_state (state_after entries.now) place (Command.Halt number keep) Answer.Halted) }
+{
+    let admitted = &entries[number as usize];
+    let Command::Play { plan, .. } = &admitted.command else {
+        unreachable!()
+    };
+    let Answer::Admitted { start } = admitted.answer else {
+        unreachable!()
+    };
+    law_release(calendar, start, plan, keep);
+    calendar.release(start, plan, keep);
+}
+
+/// Appends an entry, for which room is reserved.
+pub(crate) fn note(entries: &mut Vec<Entry>, maker: u32, command: Command, answer: Answer) -> Noted
+    requires { vec_len entries.old < vec_capacity entries.old }
+    ensures place { result.place ≡ length entries.old.items }
+    ensures answer { result.answer ≡ answer }
+    ensures items { entries.new.items ≡ entries.old.items ++ record { maker = maker; command = command; answer = answer } ∷ [] }
+    ensures room { vec_capacity entries.new ≡ vec_capacity entries.old }
+{
+    let place = entries.len() as u64;
+    entries.push_reserved(Entry {
+        maker,
+        command,
+        answer,
+    });
+    Noted { place, answer }
+}

@@ -1,0 +1,12 @@
+//! The book that admits plays on a shared link: a journal of entries, each with the answer that the admission machine gives in the
+//! state after the entries before it.
+#![tactic(auto)]
+
+mod book;
+mod entries;
+mod keeping;
+mod laws;
+
+pub use book::{Book, LATEST_SLOT, MOST_ENTRIES};
+pub use entries::{Answer, Command, Entry, Full, Noted, PlayFull};
+pub use laws::{law_never_overbooked, law_open, law_prefix};
