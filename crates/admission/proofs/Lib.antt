@@ -5,3 +5,4 @@ pub mod Admissions
 pub mod Calendars
 pub mod Journals
 pub mod Opens
+pub mod Once

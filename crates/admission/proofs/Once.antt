@@ -1,0 +1,109 @@
+-- The machine gives one answer, so a list of commands has one legal history.
+use Rattle.std.proofs.Common.{◌≡◌, ◌≤◌, ◌<◌, ◌+◌, ℕ, zero, suc, List, [], ◌∷◌, ◌++◌, length, get_or, map, take, arith, refl, sym, ap, subst, ◌∙◌, inl, inr}
+use Rattle.std.proofs.lemmas.Bool.{cases_order}
+use Rattle.std.proofs.lemmas.List.{get_or-map, length-map, take_all, take_more_same}
+use Rattle.plan_cert.specs.declared.Segment.{Segment}
+use Rattle.slot_calendar.specs.declared.profiles.CapStep.{CapStep}
+use Rattle.slot_calendar.specs.Profiles.{capacity_at}
+use Rattle.slot_calendar.specs.Plays.{asked_at}
+use Rattle.slot_calendar.specs.declared.calendar.Overflow.{Overflow as Over}
+use Rattle.slot_calendar.specs.Calendars.{HasRoom, IsFirstOverflow}
+use Rattle.admission.specs.declared.entries.Entry.{Entry}
+use Rattle.admission.specs.declared.entries.Command.{Command}
+use Rattle.admission.specs.declared.entries.Command.TheVariants.{Play, Halt, Look}
+use Rattle.admission.specs.declared.entries.Answer.{Answer}
+use Rattle.admission.specs.declared.entries.Answer.TheVariants.{Admitted, Overflow, Halted, Looked}
+use Rattle.admission.specs.Machine.{State, IsAnswer, IsStep, booked_in, next_state, start_after}
+use Rattle.admission.specs.Histories.{IsAnswered, IsLegal, state_after}
+use Rattle.admission.proofs.Runs.{legal-at, no_entry}
+
+-- a plan that fits everywhere has no overflow
+no_overflow : (booked capacity : ℕ → ℕ) (start : ℕ) (segments : List Segment) (over : Over) → HasRoom 0 booked capacity start segments →
+    IsFirstOverflow 0 booked capacity start segments over → ⊥
+no_overflow booked capacity start segments over room first = omega (arith, room.each over.slot first.begun, first.overflows)
+
+overflow-once : (booked capacity : ℕ → ℕ) (start : ℕ) (segments : List Segment) (a b : Over) → IsFirstOverflow 0 booked capacity start segments a →
+    IsFirstOverflow 0 booked capacity start segments b → Overflow a.slot a.booked a.asked ≡ Overflow b.slot b.booked b.asked
+overflow-once booked capacity start segments a b x y =
+    let slot : a.slot ≡ b.slot = elim (cases_order a.slot b.slot) [
+      | inl same ↦ same
+      | inr (inl less) ↦ omega (arith, x.overflows, y.least a.slot x.begun less)
+      | inr (inr more) ↦ omega (arith, y.overflows, x.least b.slot y.begun more)
+    ] in
+    let booked_is : a.booked ≡ b.booked = x.booked_is ∙ ap booked slot ∙ sym y.booked_is in
+    let asked_is : a.asked ≡ b.asked = x.asked_is ∙ ap (asked_at segments start) slot ∙ sym y.asked_is in
+    ap (λ n. Overflow n a.booked a.asked) slot ∙ ap (λ n. Overflow b.slot n a.asked) booked_is ∙ ap (λ n. Overflow b.slot b.booked n) asked_is
+
+pub answer-once : (steps : List CapStep) (state : State) (command : Command) (a b : Answer) → IsAnswer steps state command a → IsAnswer steps state command b → a ≡ b
+answer-once steps state (Play slot segments) (Admitted start) (Admitted other) x y = ap (λ n. Admitted n) (x.0 ∙ sym y.0)
+answer-once steps state (Play slot segments) (Admitted start) (Overflow over booked asked) x y =
+    let R : ℕ → Type 0 = λ n. HasRoom 0 (booked_in state) (capacity_at steps) n segments in
+    absurd (no_overflow (booked_in state) (capacity_at steps) (start_after state slot) segments (record { slot = over; booked = booked; asked = asked }) (subst R x.0 x.1) y)
+answer-once steps state (Play slot segments) (Overflow over booked asked) (Admitted start) x y =
+    let R : ℕ → Type 0 = λ n. HasRoom 0 (booked_in state) (capacity_at steps) n segments in
+    absurd (no_overflow (booked_in state) (capacity_at steps) (start_after state slot) segments (record { slot = over; booked = booked; asked = asked }) (subst R y.0 y.1) x)
+answer-once steps state (Play slot segments) (Overflow over booked asked) (Overflow other have want) x y =
+    overflow-once (booked_in state) (capacity_at steps) (start_after state slot) segments (record { slot = over; booked = booked; asked = asked })
+    (record { slot = other; booked = have; asked = want }) x y
+answer-once steps state (Play slot segments) (Admitted start) Halted x y = absurd y
+answer-once steps state (Play slot segments) (Admitted start) (Looked now at booked) x y = absurd y
+answer-once steps state (Play slot segments) (Overflow over booked asked) Halted x y = absurd y
+answer-once steps state (Play slot segments) (Overflow over booked asked) (Looked now at have) x y = absurd y
+answer-once steps state (Play slot segments) Halted b x y = absurd x
+answer-once steps state (Play slot segments) (Looked now at booked) b x y = absurd x
+answer-once steps state (Halt number keep) Halted Halted x y = refl
+answer-once steps state (Halt number keep) Halted (Admitted start) x y = absurd y
+answer-once steps state (Halt number keep) Halted (Overflow over booked asked) x y = absurd y
+answer-once steps state (Halt number keep) Halted (Looked now at booked) x y = absurd y
+answer-once steps state (Halt number keep) (Admitted start) b x y = absurd x
+answer-once steps state (Halt number keep) (Overflow over booked asked) b x y = absurd x
+answer-once steps state (Halt number keep) (Looked now at booked) b x y = absurd x
+answer-once steps state (Look slot) (Looked now at booked) (Looked then there have) x y =
+    let now_is : now ≡ then = x.0 ∙ sym y.0 in
+    let at_is : at ≡ there = x.1 ∙ sym y.1 in
+    let booked_is : booked ≡ have = x.2 ∙ ap (booked_in state) at_is ∙ sym y.2 in
+    ap (λ n. Looked n at booked) now_is ∙ ap (λ n. Looked then n booked) at_is ∙ ap (λ n. Looked then there n) booked_is
+answer-once steps state (Look slot) (Looked now at booked) (Admitted start) x y = absurd y
+answer-once steps state (Look slot) (Looked now at booked) (Overflow over have asked) x y = absurd y
+answer-once steps state (Look slot) (Looked now at booked) Halted x y = absurd y
+answer-once steps state (Look slot) (Admitted start) b x y = absurd x
+answer-once steps state (Look slot) (Overflow over booked asked) b x y = absurd x
+answer-once steps state (Look slot) Halted b x y = absurd x
+
+-- ---- histories
+-- entries of one maker, command and answer are one
+entry-same : (a b : Entry) → a.maker ≡ b.maker → a.command ≡ b.command → a.answer ≡ b.answer → a ≡ b
+entry-same a b maker command answer =
+    let M : ℕ → Entry = λ n. record { maker = n; command = a.command; answer = a.answer } in
+    let C : Command → Entry = λ c. record { maker = b.maker; command = c; answer = a.answer } in
+    let A : Answer → Entry = λ x. record { maker = b.maker; command = b.command; answer = x } in
+    ap M maker ∙ ap C command ∙ ap A answer
+
+at_map : {Y : Type 0} (f : Entry → Y) (xs ys : List Entry) (n : ℕ) → map f xs ≡ map f ys → n < length xs → n < length ys → f (get_or xs n no_entry) ≡ f (get_or ys n no_entry)
+at_map f xs ys n same inside within =
+    sym (get_or-map f xs n no_entry (f no_entry) inside) ∙ ap (λ l. get_or l n (f no_entry)) same ∙ get_or-map f ys n no_entry (f no_entry) within
+
+same-front : (steps : List CapStep) (xs ys : List Entry) (n : ℕ) → IsLegal steps xs → IsLegal steps ys → map (λ (e : Entry). e.maker) xs ≡ map (λ (e : Entry). e.maker) ys →
+    map (λ (e : Entry). e.command) xs ≡ map (λ (e : Entry). e.command) ys → length xs ≡ length ys → n ≤ length xs → take n xs ≡ take n ys
+same-front steps xs ys zero legal other makers commands long few = refl
+same-front steps xs ys (suc n) legal other makers commands long few =
+    let inside : n < length xs = omega (arith, few) in
+    let within : n < length ys = omega (arith, few, long) in
+    let before = same-front steps xs ys n legal other makers commands long (omega (arith, few)) in
+    let a = get_or xs n no_entry in
+    let b = get_or ys n no_entry in
+    let maker : a.maker ≡ b.maker = at_map (λ (e : Entry). e.maker) xs ys n makers inside within in
+    let command : a.command ≡ b.command = at_map (λ (e : Entry). e.command) xs ys n commands inside within in
+    let S : List Entry → Type 0 = λ l. IsAnswer steps (state_after l) a.command a.answer in
+    let C : Command → Type 0 = λ k. IsAnswer steps (state_after (take n ys)) k a.answer in
+    let here = subst C command (subst S before (legal-at steps xs n legal inside)) in
+    let answer = answer-once steps (state_after (take n ys)) b.command a.answer b.answer here (legal-at steps ys n other within) in
+    let at : n + 1 ≡ suc n = omega arith in
+    let T : ℕ → Type 0 = λ k. take k xs ≡ take k ys in
+    subst T at (take_more_same xs ys n no_entry inside within before (entry-same a b maker command answer))
+
+pub history-once : (steps : List CapStep) (xs ys : List Entry) → IsLegal steps xs → IsLegal steps ys → map (λ (e : Entry). e.maker) xs ≡ map (λ (e : Entry). e.maker) ys →
+    map (λ (e : Entry). e.command) xs ≡ map (λ (e : Entry). e.command) ys → xs ≡ ys
+history-once steps xs ys legal other makers commands =
+    let long : length xs ≡ length ys = sym (length-map xs (λ (e : Entry). e.maker)) ∙ ap length makers ∙ length-map ys (λ (e : Entry). e.maker) in
+    sym (take_all (length xs) xs (omega arith)) ∙ same-front steps xs ys (length xs) legal other makers commands long (omega arith) ∙ take_all (length xs) ys (omega (arith, long))
