@@ -24,7 +24,7 @@ found-push number [] h new is = let bad : ⊥ = cc in absurd bad
 found-push number (x ∷ rest) h new is = elim (cases_Bool (eqb x.number number)) [
   | inl found ↦ cond-true (eqb x.number number) (Some x) (held_as number (rest ++ new ∷ [])) found ∙ sym (cond-true (eqb x.number number) (Some x) (held_as number rest) found) ∙ is
   | inr other ↦ cond-false (eqb x.number number) (Some x) (held_as number (rest ++ new ∷ [])) other
-  ∙ found-push number rest h new (sym (cond-false (eqb x.number number) (Some x) (held_as number rest) other) ∙ is)
+      ∙ found-push number rest h new (sym (cond-false (eqb x.number number) (Some x) (held_as number rest) other) ∙ is)
 ]
 
 -- a new number is found at the end
@@ -65,8 +65,8 @@ found-closed number keep (x ∷ rest) h is = elim (cases_Bool (eqb x.number numb
       ∙ cond-true (eqb x.number number) (Some (closed keep x)) (held_as number rest) here ∙ ap (λ (y : Held). Some (closed keep y)) that
       )
   | inr later ↦ ap (held_as number) (cond-false (eqb x.number number) (closed keep x ∷ rest) (x ∷ halted number keep rest) later)
-  ∙ cond-false (eqb x.number number) (Some x) (held_as number (halted number keep rest)) later
-  ∙ found-closed number keep rest h (sym (cond-false (eqb x.number number) (Some x) (held_as number rest) later) ∙ is)
+      ∙ cond-false (eqb x.number number) (Some x) (held_as number (halted number keep rest)) later
+      ∙ found-closed number keep rest h (sym (cond-false (eqb x.number number) (Some x) (held_as number rest) later) ∙ is)
 ]
 
 -- a step that doesn't halt it leaves it
@@ -167,7 +167,7 @@ stays-closed steps xs number i (suc j) legal halts less few = elim (cases_order 
   | inl same ↦ (
       let H : ℕ → Type 0 = λ n. Halts number (get_or xs n no_entry).command in
       subst (IsClosed number) (sym (state-next xs j (omega (arith, few)))) (closed-here steps (state_after (take j xs)) j number (get_or xs j no_entry).command (get_or xs j no_entry).answer
-          (legal-at steps xs j legal (omega (arith, few))) (subst H (sym same) halts))
+      (legal-at steps xs j legal (omega (arith, few))) (subst H (sym same) halts))
       )
   | inr (inl before) ↦ absurd (omega (arith, less, before))
   | inr (inr behind) ↦ (

@@ -44,4 +44,4 @@ returns-clause-noted c =
     let new : Journal = record { steps = c.give_back.new.calendar.steps; limit = book.limit; entries = c.note.new.entries.items } in
     let P : Journal → Type 0 = λ j. IsNoted j c.args.maker (Halt c.args.number c.args.keep) c.note.result new in
     subst P c.self.view_is (noted-push book.calendar.steps c.give_back.new.calendar.steps book.limit c.args.maker book.entries.items c.note.new.entries.items
-        (Halt c.args.number c.args.keep) Halted c.note.result c.self.invariant.legal can c.note.ensures.place c.note.ensures.answer c.note.ensures.items c.give_back.ensures.steps)
+    (Halt c.args.number c.args.keep) Halted c.note.result c.self.invariant.legal can c.note.ensures.place c.note.ensures.answer c.note.ensures.items c.give_back.ensures.steps)

@@ -17,8 +17,17 @@ invariant_of-self c =
     kept-push book.calendar c.admit-answer.new.calendar book.entries.items c.note.new.entries.items _ book.limit book.live (book.live + c.opened_by.result) _ _ c.self.invariant
     answer c.note.ensures.items c.admit-answer.ensures.steps (c.admit-answer.ensures.next state (length book.entries.items) c.self.invariant.follows)
     (omega (arith, open-asked book.calendar.steps state (length book.entries.items) c.min-slot.result c.args.plan c.admit-answer.result answer, c.opened_by.ensures, c.self.invariant.count_is))
-    (omega (arith, c.if-full-self.false, c.counts-full.ensures.full.entries_are, c.counts-full.ensures.full.live_is, c.self.invariant.count_is, entries, count, c.opened_by.ensures,
-            opens-most c.admit-answer.result)) c.note.ensures.room
+    (omega (
+      arith,
+      c.if-full-self.false,
+      c.counts-full.ensures.full.entries_are,
+      c.counts-full.ensures.full.live_is,
+      c.self.invariant.count_is,
+      entries,
+      count,
+      c.opened_by.ensures,
+      opens-most c.admit-answer.result,
+    )) c.note.ensures.room
 
 pub returns-clause-noted : goal.returns-clause-noted
 returns-clause-noted c =
@@ -31,5 +40,5 @@ returns-clause-noted c =
     let S : ℕ → Type 0 = λ n. IsNoted c.args.self.now c.args.maker (Play n c.args.plan) c.note.result new in
     subst S c.min-slot.ensures
     (subst P c.self.view_is (noted-push book.calendar.steps c.admit-answer.new.calendar.steps book.limit c.args.maker book.entries.items c.note.new.entries.items
-            (Play c.min-slot.result c.args.plan) c.admit-answer.result c.note.result c.self.invariant.legal answer c.note.ensures.place c.note.ensures.answer c.note.ensures.items
-            c.admit-answer.ensures.steps))
+    (Play c.min-slot.result c.args.plan) c.admit-answer.result c.note.result c.self.invariant.legal answer c.note.ensures.place c.note.ensures.answer c.note.ensures.items
+    c.admit-answer.ensures.steps))

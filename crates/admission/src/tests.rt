@@ -1,0 +1,351 @@
+ghost use Rattle.std.specs.Prelude.{◌≡◌, ◌≤◌, ◌↔◌, ℕ, List, Some, IsTrue};
+ghost use Rattle.plan_cert.specs.declared.Segment.{Segment};
+ghost use Rattle.plan_cert.specs.Slots.{total_bytes};
+ghost use Rattle.slot_calendar.specs.Plays.{whole_play};
+ghost use Rattle.admission.specs.Machine.{CanHalt};
+ghost use Rattle.admission.specs.Histories.{Halts, play_admitted, state_after};
+
+use super::*;
+use plan_cert::{Plan, Segment};
+use slot_calendar::{CapStep, Profile};
+use std::alloc::{AllocError, Global};
+use std::process::Abort;
+use std::test::Fail;
+
+pub(crate) fn plan_of(
+    rt: &impl Abort,
+    alloc: Global,
+    pairs: &[(u64, u64)],
+) -> Result<Plan, AllocError> {
+    let mut segments = Vec::new(alloc);
+    for (slots, bytes) in pairs {
+        segments.push(Segment {
+            slots: *slots,
+            bytes: *bytes,
+        })?;
+    }
+    assert!(rt; Plan::is_allowed(segments.as_slice()));
+    Ok(Plan::new(segments))
+}
+
+pub(crate) fn book_of(
+    rt: &impl Abort,
+    alloc: Global,
+    pairs: &[(u64, u64)],
+    limit: u64,
+) -> Result<Book, Fail> {
+    let mut steps = Vec::new(alloc);
+    for (from, bytes) in pairs {
+        steps.push(CapStep {
+            from: *from,
+            bytes: *bytes,
+        })?;
+    }
+    assert!(rt; Profile::is_allowed(steps.as_slice()));
+    assert!(rt; limit >= 2 && limit <= MOST_ENTRIES);
+    Ok(Book::new(alloc, Profile::new(steps), limit)?)
+}
+
+// Whether this entry admitted a play whose plan has at least `keep` bytes.
+fn admits(entry: &Entry, keep: u64) -> bool
+    ensures { IsTrue result → (start : ℕ) × ((segments : List Segment) × ((play_admitted entry.now.command entry.now.answer ≡ Some (whole_play start segments)) × (keep ≤ total_bytes segments))) }
+{
+    let Command::Play { plan, .. } = &entry.command else {
+        return false;
+    };
+    let Answer::Admitted { .. } = entry.answer else {
+        return false;
+    };
+    keep <= plan.bytes()
+}
+
+// Whether this command halts a play.
+fn halts(number: u64, command: &Command) -> bool
+    ensures { IsTrue result ↔ Halts number command.now }
+{
+    match command {
+        Command::Halt { number: halted, .. } => *halted == number,
+        _ => false,
+    }
+}
+
+// Whether a play is open and its plan has at least `keep` bytes, by the entries alone.
+pub(crate) fn may_halt(book: &Book, number: u64, keep: u64) -> bool
+    ensures { IsTrue result → CanHalt (state_after book.now.entries) number keep }
+{
+    let entries = book.entries();
+    if number >= entries.len() as u64 || !admits(&entries[number as usize], keep) {
+        return false;
+    }
+    for entry in entries {
+        if halts(number, &entry.command) {
+            return false;
+        }
+    }
+    true
+}
+
+// What is asked of a book in the tables; each play is of the plan 2, 2, 3.
+#[derive(Clone, Copy)]
+enum Ask {
+    Play { maker: u32, slot: u64 },
+    Halt { maker: u32, number: u64, keep: u64 },
+    Look { maker: u32, slot: u64 },
+}
+
+fn asked(
+    rt: &impl Abort,
+    alloc: Global,
+    book: &mut Book,
+    ask: Ask,
+) -> Result<Result<Noted, Full>, Fail> {
+    match ask {
+        Ask::Play { maker, slot } => {
+            let plan = plan_of(rt, alloc, &[(3, 7)])?;
+            match book.play(maker, slot, plan) {
+                Ok(noted) => Ok(Ok(noted)),
+                Err(refused) => {
+                    assert_eq!(rt;
+                        refused.plan.segments(),
+                        [Segment { slots: 3, bytes: 7 }].as_slice()
+                    );
+                    Ok(Err(refused.full))
+                }
+            }
+        }
+        Ask::Halt {
+            maker,
+            number,
+            keep,
+        } => {
+            assert!(rt; may_halt(book, number, keep));
+            Ok(Ok(book.halt(maker, number, keep)))
+        }
+        Ask::Look { maker, slot } => Ok(book.look(maker, slot)),
+    }
+}
+
+fn noted(place: u64, answer: Answer) -> Result<Noted, Full> {
+    Ok(Noted { place, answer })
+}
+
+// Asks in turn, and compares each answer; then what is booked from now on.
+fn run(
+    rt: &impl Abort,
+    alloc: Global,
+    book: &mut Book,
+    rows: &[(Ask, Result<Noted, Full>)],
+    booked: &[u64],
+) -> Result<(), Fail> {
+    for (ask, want) in rows {
+        let told = asked(rt, alloc, book, *ask)?;
+        assert_eq!(rt; told, *want);
+    }
+    let calendar = book.calendar();
+    for (index, want) in booked.iter().enumerate() {
+        let slot = calendar.now().saturating_add(index as u64);
+        assert!(rt; slot >= calendar.now());
+        assert_eq!(rt; calendar.booked(slot), *want, "slot {slot}");
+    }
+    Ok(())
+}
+
+// A capacity of 5 bytes a slot.
+#[test]
+fn admits_and_halts(rt: HostRuntime) -> Result<(), Fail> {
+    let mut book = book_of(&rt, rt.alloc(), &[(0, 5)], 64)?;
+    let rows = [
+        (
+            Ask::Play { maker: 0, slot: 0 },
+            noted(0, Answer::Admitted { start: 1 }),
+        ),
+        (
+            Ask::Play { maker: 1, slot: 0 },
+            noted(
+                1,
+                Answer::Overflow {
+                    slot: 3,
+                    booked: 3,
+                    asked: 3,
+                },
+            ),
+        ),
+        (
+            Ask::Play { maker: 1, slot: 2 },
+            noted(2, Answer::Admitted { start: 3 }),
+        ),
+        (
+            Ask::Halt {
+                maker: 0,
+                number: 0,
+                keep: 7,
+            },
+            noted(3, Answer::Halted),
+        ),
+        (
+            Ask::Halt {
+                maker: 1,
+                number: 2,
+                keep: 2,
+            },
+            noted(4, Answer::Halted),
+        ),
+    ];
+    run(
+        &rt,
+        rt.alloc(),
+        &mut book,
+        rows.as_slice(),
+        &[2, 5, 0, 0, 0],
+    )?;
+    assert_eq!(rt; book.calendar().now(), 2);
+    let entries = book.entries();
+    assert_eq!(rt; entries.len(), 5);
+    assert_eq!(rt;
+        (entries[1].maker, entries[1].answer),
+        (
+            1,
+            Answer::Overflow {
+                slot: 3,
+                booked: 3,
+                asked: 3
+            }
+        )
+    );
+    let journal = book.into_entries();
+    assert_eq!(rt; journal.len(), 5);
+    assert_eq!(rt; (journal[4].maker, journal[4].answer), (1, Answer::Halted));
+    Ok(())
+}
+
+// Room for two entries: a play takes one, and one for its halt.
+#[test]
+fn is_full(rt: HostRuntime) -> Result<(), Fail> {
+    let mut book = book_of(&rt, rt.alloc(), &[(0, 100)], 2)?;
+    let full = Err(Full {
+        entries: 1,
+        live: 1,
+    });
+    let rows = [
+        (
+            Ask::Play { maker: 0, slot: 0 },
+            noted(0, Answer::Admitted { start: 1 }),
+        ),
+        (Ask::Play { maker: 1, slot: 0 }, full),
+        (Ask::Look { maker: 1, slot: 0 }, full),
+        (
+            Ask::Halt {
+                maker: 0,
+                number: 0,
+                keep: 0,
+            },
+            noted(1, Answer::Halted),
+        ),
+        (
+            Ask::Look { maker: 0, slot: 0 },
+            Err(Full {
+                entries: 2,
+                live: 0,
+            }),
+        ),
+    ];
+    run(&rt, rt.alloc(), &mut book, rows.as_slice(), &[0, 0, 0, 0])
+}
+
+// A look tells and leaves now; a slot above 2^62 is taken as 2^62.
+#[test]
+fn looks(rt: HostRuntime) -> Result<(), Fail> {
+    let mut book = book_of(&rt, rt.alloc(), &[(0, 5)], 64)?;
+    let latest = 4_611_686_018_427_387_904;
+    let rows = [
+        (
+            Ask::Play { maker: 0, slot: 0 },
+            noted(0, Answer::Admitted { start: 1 }),
+        ),
+        (
+            Ask::Look { maker: 0, slot: 3 },
+            noted(
+                1,
+                Answer::Looked {
+                    now: 0,
+                    at: 3,
+                    booked: 3,
+                },
+            ),
+        ),
+        (
+            Ask::Look {
+                maker: 0,
+                slot: u64::MAX,
+            },
+            noted(
+                2,
+                Answer::Looked {
+                    now: 0,
+                    at: latest,
+                    booked: 0,
+                },
+            ),
+        ),
+        (
+            Ask::Play {
+                maker: 0,
+                slot: u64::MAX,
+            },
+            noted(3, Answer::Admitted { start: latest + 1 }),
+        ),
+        (
+            Ask::Look { maker: 0, slot: 3 },
+            noted(
+                4,
+                Answer::Looked {
+                    now: latest,
+                    at: latest,
+                    booked: 0,
+                },
+            ),
+        ),
+    ];
+    run(
+        &rt,
+        rt.alloc(),
+        &mut book,
+        rows.as_slice(),
+        &[0, 2, 2, 3, 0],
+    )
+}
+
+// A capacity of 5 bytes, and of 3 from slot 3 on.
+#[test]
+fn keeps_each_capacity(rt: HostRuntime) -> Result<(), Fail> {
+    let mut book = book_of(&rt, rt.alloc(), &[(0, 5), (3, 3)], 64)?;
+    let rows = [
+        (
+            Ask::Play { maker: 0, slot: 0 },
+            noted(0, Answer::Admitted { start: 1 }),
+        ),
+        (
+            Ask::Play { maker: 1, slot: 0 },
+            noted(
+                1,
+                Answer::Overflow {
+                    slot: 3,
+                    booked: 3,
+                    asked: 3,
+                },
+            ),
+        ),
+        (
+            Ask::Play { maker: 1, slot: 1 },
+            noted(
+                2,
+                Answer::Overflow {
+                    slot: 3,
+                    booked: 3,
+                    asked: 2,
+                },
+            ),
+        ),
+    ];
+    run(&rt, rt.alloc(), &mut book, rows.as_slice(), &[2, 2, 3, 0])
+}
