@@ -12,14 +12,14 @@ use Rattle.admission.specs.declared.entries.Command.TheVariants.{Play, Halt, Loo
 use Rattle.admission.specs.declared.entries.Answer.{Answer}
 use Rattle.admission.specs.declared.entries.Answer.TheVariants.{Admitted, Overflow, Halted, Looked}
 use Rattle.admission.specs.Machine.{State, Held, CanHalt, IsAnswer, closed, next_state, open_plays, opened}
-use Rattle.admission.specs.Histories.{IsAnswered, IsLegal, live, state_after}
+use Rattle.admission.specs.Histories.{IsAnswered, IsLegal, is_admission, live, state_after}
 use Rattle.admission.specs.Books.{IsNoted, Journal}
-use Rattle.admission.specs.Kept.{Follows, IsKept, opens}
+use Rattle.admission.specs.Kept.{Follows, IsKept}
 use Rattle.admission.proofs.Runs.{legal-push, next_of, state-push}
 use Rattle.admission.proofs.Halts.{Halting, IsSplit, halting, split}
 
 -- ---- the number of open plays
-pub opens-most : (answer : Answer) → opens answer ≤ 1
+pub opens-most : (answer : Answer) → cond (is_admission answer) 1 0 ≤ 1
 opens-most (Admitted start) = omega arith
 opens-most (Overflow over booked asked) = omega arith
 opens-most Halted = omega arith
@@ -27,7 +27,7 @@ opens-most (Looked now at booked) = omega arith
 
 -- a play that was asked for
 pub open-asked : (steps : List CapStep) (state : State) (place slot : ℕ) (segments : List Segment) (answer : Answer) → IsAnswer steps state (Play slot segments) answer →
-    open_plays (next_state state place (Play slot segments) answer) ≡ open_plays state + opens answer
+    open_plays (next_state state place (Play slot segments) answer) ≡ open_plays state + cond (is_admission answer) 1 0
 open-asked steps state place slot segments (Admitted start) is = sum_by_push (λ (h : Held). cond h.is_open 1 0) state.held (opened place start segments)
 open-asked steps state place slot segments (Overflow over booked asked) is = omega arith
 open-asked steps state place slot segments Halted is = absurd is

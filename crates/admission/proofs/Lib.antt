@@ -6,3 +6,4 @@ pub mod Calendars
 pub mod Journals
 pub mod Opens
 pub mod Once
+pub mod Counts

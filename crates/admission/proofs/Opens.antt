@@ -6,16 +6,17 @@ use Rattle.std.proofs.lemmas.List.Elements.{All-head, All-tail, All-weaker}
 use Rattle.plan_cert.specs.declared.Segment.{Segment}
 use Rattle.plan_cert.specs.Slots.{total_bytes}
 use Rattle.slot_calendar.specs.declared.profiles.CapStep.{CapStep}
-use Rattle.slot_calendar.specs.Plays.{whole_play}
+use Rattle.slot_calendar.specs.Plays.{Play as Booked, whole_play}
 use Rattle.admission.specs.declared.entries.Entry.{Entry}
 use Rattle.admission.specs.declared.entries.Command.{Command}
 use Rattle.admission.specs.declared.entries.Command.TheVariants.{Play, Halt, Look}
 use Rattle.admission.specs.declared.entries.Answer.{Answer}
 use Rattle.admission.specs.declared.entries.Answer.TheVariants.{Admitted, Overflow, Halted, Looked}
 use Rattle.admission.specs.Machine.{State, Held, CanHalt, IsAnswer, closed, halted, held_as, next_state, opened}
-use Rattle.admission.specs.Histories.{Halts, IsAdmission, IsLegal, IsStillOpen, play_admitted, state_after}
-use Rattle.admission.proofs.Runs.{legal-at, next_of, no_entry, state-next}
+use Rattle.admission.specs.Histories.{Halts, IsAdmission, IsHalt, IsLegal, IsStillOpen, IsUnhalted, play_admitted, state_after}
+use Rattle.admission.proofs.Runs.{legal-at, legal-take, next_of, no_entry, state-next}
 use Rattle.admission.proofs.Halts.{Halting, halting, holds-of, split}
+use Rattle.admission.proofs.Within.{IsWhole, sound-after}
 use Rattle.admission.proofs.Admissions.{IsKnown, admission_of, known-after, known-at}
 
 -- ---- the play of a number, after a step
@@ -96,9 +97,8 @@ opened-here steps xs number start segments legal admission =
     state-next xs number admission.inside ∙ ap (λ k. next_state state number k e.answer) found.1.0 ∙ ap (next_state state number (Play found.0 segments)) found.1.1 in
     ap (λ (s : State). held_as number s.held) next ∙ found-new number start segments state.held (numbers-below steps xs number legal (omega (arith, admission.inside)))
 
-stays-open : (steps : List CapStep) (xs : List Entry) (number start : ℕ) (segments : List Segment) (k : ℕ) → IsLegal steps xs → IsAdmission xs number start segments →
-    ((i : ℕ) (none : Entry) → i < length xs → Halts number (get_or xs i none).command → ⊥) → number < k → k ≤ length xs →
-    held_as number (state_after (take k xs)).held ≡ Some (opened number start segments)
+pub stays-open : (steps : List CapStep) (xs : List Entry) (number start : ℕ) (segments : List Segment) (k : ℕ) → IsLegal steps xs → IsAdmission xs number start segments →
+    IsUnhalted xs number → number < k → k ≤ length xs → held_as number (state_after (take k xs)).held ≡ Some (opened number start segments)
 stays-open steps xs number start segments zero legal admission unhalted less few = absurd (omega (arith, less))
 stays-open steps xs number start segments (suc j) legal admission unhalted less few = elim (cases_order j number) [
   | inl same ↦ (
@@ -110,10 +110,16 @@ stays-open steps xs number start segments (suc j) legal admission unhalted less 
       let inside : j < length xs = omega (arith, few) in
       let e = get_or xs j no_entry in
       ap (λ (s : State). held_as number s.held) (state-next xs j inside)
-      ∙ found-next (state_after (take j xs)) j number (opened number start segments) e.command e.answer (unhalted j no_entry inside)
+      ∙ found-next (state_after (take j xs)) j number (opened number start segments) e.command e.answer (unhalted.each j no_entry inside)
       (stays-open steps xs number start segments j legal admission unhalted behind (omega (arith, few)))
       )
 ]
+
+pub whole-after : (steps : List CapStep) (xs : List Entry) (number start : ℕ) (segments : List Segment) → IsLegal steps xs → IsAdmission xs number start segments →
+    IsUnhalted xs number → held_as number (state_after xs).held ≡ Some (opened number start segments)
+whole-after steps xs number start segments legal admission unhalted =
+    let S : List Entry → Type 0 = λ l. held_as number (state_after l).held ≡ Some (opened number start segments) in
+    subst S (take_all (length xs) xs (omega arith)) (stays-open steps xs number start segments (length xs) legal admission unhalted admission.inside (omega arith))
 
 can-halt : (held : List Held) (number start keep : ℕ) (segments : List Segment) (now : ℕ) → held_as number held ≡ Some (opened number start segments) → keep ≤ total_bytes segments →
     CanHalt (record { now = now; held = held }) number keep
@@ -123,10 +129,8 @@ can-halt held number start keep segments now is small =
 
 pub still-open : (steps : List CapStep) (xs : List Entry) (number keep : ℕ) → IsLegal steps xs → IsStillOpen xs number keep → CanHalt (state_after xs) number keep
 still-open steps xs number keep legal still =
-    let S : List Entry → Type 0 = λ l. held_as number (state_after l).held ≡ Some (opened number still.start still.segments) in
-    let is : S xs = subst S (take_all (length xs) xs (omega arith))
-    (stays-open steps xs number still.start still.segments (length xs) legal still.admission still.unhalted still.admission.inside (omega arith)) in
-    can-halt (state_after xs).held number still.start keep still.segments (state_after xs).now is still.small
+    can-halt (state_after xs).held number still.start keep still.segments (state_after xs).now
+    (whole-after steps xs number still.start still.segments legal still.admission still.unhalted) still.small
 
 -- ---- it is closed from its halt on
 record IsClosed (number : ℕ) (state : State) : Type 0 where
@@ -160,47 +164,109 @@ halted-once steps state number (Halt that keep) (Looked now at booked) is was sa
 halted-once steps state number (Play slot segments) answer is was same = same
 halted-once steps state number (Look slot) answer is was same = same
 
-stays-closed : (steps : List CapStep) (xs : List Entry) (number i k : ℕ) → IsLegal steps xs → Halts number (get_or xs i no_entry).command → i < k → k ≤ length xs →
-    IsClosed number (state_after (take k xs))
-stays-closed steps xs number i zero legal halts less few = absurd (omega (arith, less))
-stays-closed steps xs number i (suc j) legal halts less few = elim (cases_order j i) [
-  | inl same ↦ (
-      let H : ℕ → Type 0 = λ n. Halts number (get_or xs n no_entry).command in
-      subst (IsClosed number) (sym (state-next xs j (omega (arith, few)))) (closed-here steps (state_after (take j xs)) j number (get_or xs j no_entry).command (get_or xs j no_entry).answer
-      (legal-at steps xs j legal (omega (arith, few))) (subst H (sym same) halts))
-      )
-  | inr (inl before) ↦ absurd (omega (arith, less, before))
-  | inr (inr behind) ↦ (
-      let e = get_or xs j no_entry in
-      let was = stays-closed steps xs number i j legal halts behind (omega (arith, few)) in
-      let apart = halted-once steps (state_after (take j xs)) number e.command e.answer (legal-at steps xs j legal (omega (arith, few))) was in
-      subst (IsClosed number) (sym (state-next xs j (omega (arith, few)))) (record {
-        held = was.held;
-        is = found-next (state_after (take j xs)) j number was.held e.command e.answer apart was.is;
-        closed_is = was.closed_is;
-      })
-      )
+-- so it stays as it is
+closed-rest : (steps : List CapStep) (xs : List Entry) (number from k : ℕ) (h : Held) → IsLegal steps xs → h.is_open ≡ false →
+    held_as number (state_after (take from xs)).held ≡ Some h → from ≤ k → k ≤ length xs → held_as number (state_after (take k xs)).held ≡ Some h
+closed-rest steps xs number from k h legal closed_is is later few = elim (cases_order from k) [
+  | inl same ↦ (let H : ℕ → Type 0 = λ n. held_as number (state_after (take n xs)).held ≡ Some h in subst H same is)
+  | inr (inl before) ↦ closed-more steps xs number from k h legal closed_is is before few
+  | inr (inr behind) ↦ (let bad : ⊥ = omega (arith, later, behind) in absurd bad)
 ]
+  where
+    closed-more : (steps : List CapStep) (xs : List Entry) (number from k : ℕ) (h : Held) → IsLegal steps xs → h.is_open ≡ false →
+        held_as number (state_after (take from xs)).held ≡ Some h → from < k → k ≤ length xs → held_as number (state_after (take k xs)).held ≡ Some h
+    closed-more steps xs number from zero h legal closed_is is less few = let bad : ⊥ = omega (arith, less) in absurd bad
+    closed-more steps xs number from (suc j) h legal closed_is is less few =
+        let e = get_or xs j no_entry in
+        let H : ℕ → Type 0 = λ n. held_as number (state_after (take n xs)).held ≡ Some h in
+        let was : H j = elim (cases_order from j) [
+          | inl same ↦ subst H same is
+          | inr (inl before) ↦ closed-more steps xs number from j h legal closed_is is before (omega (arith, few))
+          | inr (inr behind) ↦ (let bad : ⊥ = omega (arith, less, behind) in absurd bad)
+        ] in
+        let apart = halted-once steps (state_after (take j xs)) number e.command e.answer (legal-at steps xs j legal (omega (arith, few))) (record { held = h; is = was; closed_is = closed_is }) in
+        ap (λ (s : State). held_as number s.held) (state-next xs j (omega (arith, few))) ∙ found-next (state_after (take j xs)) j number h e.command e.answer apart was
 
-pub was-admitted : (steps : List CapStep) (xs : List Entry) (number keep : ℕ) → IsLegal steps xs → CanHalt (state_after xs) number keep → IsStillOpen xs number keep
-was-admitted steps xs number keep legal can =
-    let state = state_after xs in
-    let h = halting state number keep can in
-    let known = holds-of (IsKnown xs (length xs)) number state.held h.held (known-after steps xs legal) h.is in
-    let N : ℕ → Type 0 = λ n. IsAdmission xs n h.held.play.start h.held.play.segments in
+closed-after : (steps : List CapStep) (xs : List Entry) (number i : ℕ) (h : Held) → IsLegal steps xs → h.is_open ≡ false → i < length xs →
+    held_as number (state_after (take (suc i) xs)).held ≡ Some h → held_as number (state_after xs).held ≡ Some h
+closed-after steps xs number i h legal closed_is inside is =
+    let S : List Entry → Type 0 = λ l. held_as number (state_after l).held ≡ Some h in
+    subst S (take_all (length xs) xs (omega arith)) (closed-rest steps xs number (suc i) (length xs) h legal closed_is is (omega (arith, inside)) (omega arith))
+
+pub was-admitted : (steps : List CapStep) (xs : List Entry) (number : ℕ) (h : Held) → IsLegal steps xs → held_as number (state_after xs).held ≡ Some h →
+    IsAdmission xs number h.play.start h.play.segments
+was-admitted steps xs number h legal is =
+    let known = holds-of (IsKnown xs (length xs)) number (state_after xs).held h (known-after steps xs legal) is in
+    let N : ℕ → Type 0 = λ n. IsAdmission xs n h.play.start h.play.segments in
+    subst N (split number (state_after xs).held h is).number_is (record { inside = known.inside; admitted = known.admitted })
+
+open-unhalted : (steps : List CapStep) (xs : List Entry) (number : ℕ) (h : Held) → IsLegal steps xs → held_as number (state_after xs).held ≡ Some h → h.is_open ≡ true → IsUnhalted xs number
+open-unhalted steps xs number h legal is is_open = record {
+  each = λ i none inside halts. (
+      let e = get_or xs i no_entry in
+      let H : Entry → Type 0 = λ x. Halts number x.command in
+      let here = closed-here steps (state_after (take i xs)) i number e.command e.answer (legal-at steps xs i legal inside) (subst H (get_or_default xs i none no_entry inside) halts) in
+      let later = closed-after steps xs number i here.held legal here.closed_is inside (ap (λ (s : State). held_as number s.held) (state-next xs i inside) ∙ here.is) in
+      let both : Some h ≡ Some here.held = sym is ∙ later in
+      let one : h ≡ here.held = cc in
+      let bad : true ≡ false = sym is_open ∙ ap (λ (x : Held). x.is_open) one ∙ here.closed_is in
+      cc
+      );
+}
+
+pub can-still : (steps : List CapStep) (xs : List Entry) (number keep : ℕ) → IsLegal steps xs → CanHalt (state_after xs) number keep → IsStillOpen xs number keep
+can-still steps xs number keep legal can =
+    let h = halting (state_after xs) number keep can in
     record {
       start = h.held.play.start;
       segments = h.held.play.segments;
-      admission = subst N (split number state.held h.held h.is).number_is (record { inside = known.inside; admitted = known.admitted });
-      unhalted = λ i none inside halts. (
-          let H : Entry → Type 0 = λ e. Halts number e.command in
-          let S : List Entry → Type 0 = λ l. IsClosed number (state_after l) in
-          let was = subst S (take_all (length xs) xs (omega arith))
-          (stays-closed steps xs number i (length xs) legal (subst H (get_or_default xs i none no_entry inside) halts) inside (omega arith)) in
-          let both : Some h.held ≡ Some was.held = sym h.is ∙ was.is in
-          let one : h.held ≡ was.held = cc in
-          let bad : true ≡ false = sym h.is_open ∙ ap (λ (x : Held). x.is_open) one ∙ was.closed_is in
-          cc
-          );
+      admission = was-admitted steps xs number h.held legal h.is;
+      unhalted = open-unhalted steps xs number h.held legal h.is h.is_open;
       small = h.small;
     }
+
+-- ---- a play that was halted
+-- the play that a halt may close is the one that was admitted, whole
+halted-whole : (steps : List CapStep) (xs : List Entry) (number start keep n : ℕ) (segments : List Segment) (h : Held) → IsLegal steps xs → n ≤ length xs → IsAdmission xs number start segments →
+    held_as number (state_after (take n xs)).held ≡ Some h → h.is_open ≡ true → h ≡ opened number start segments
+halted-whole steps xs number start keep n segments h legal few admission is is_open =
+    let state = state_after (take n xs) in
+    let number_is = (split number state.held h is).number_is in
+    let known = holds-of (IsKnown xs n) number state.held h (known-at steps xs n legal few) is in
+    let whole = (holds-of IsWhole number state.held h (sound-after steps (take n xs) (legal-take steps xs n legal)).whole is).whole is_open in
+    let P : ℕ → Type 0 = λ k. play_admitted (get_or xs k no_entry).command (get_or xs k no_entry).answer ≡ Some (whole_play h.play.start h.play.segments) in
+    let both : Some (whole_play h.play.start h.play.segments) ≡ Some (whole_play start segments) = sym (subst P number_is (known.admitted no_entry)) ∙ admission.admitted no_entry in
+    let same : whole_play h.play.start h.play.segments ≡ whole_play start segments = cc in
+    let K : ℕ → Booked = λ k. record { start = h.play.start; segments = h.play.segments; keep = k } in
+    let play_is : h.play ≡ whole_play start segments = ap K whole ∙ same in
+    let A : ℕ → Held = λ k. record { number = k; play = h.play; is_open = h.is_open } in
+    let B : Booked → Held = λ p. record { number = number; play = p; is_open = h.is_open } in
+    let C : Bool → Held = λ b. record { number = number; play = whole_play start segments; is_open = b } in
+    ap A number_is ∙ ap B play_is ∙ ap C is_open
+
+cut-here : (steps : List CapStep) (xs : List Entry) (number start keep i : ℕ) (segments : List Segment) → IsLegal steps xs → i < length xs → IsAdmission xs number start segments →
+    (command : Command) (answer : Answer) → command ≡ Halt number keep → IsAnswer steps (state_after (take i xs)) command answer →
+    held_as number (next_state (state_after (take i xs)) i command answer).held ≡ Some (closed keep (opened number start segments))
+cut-here steps xs number start keep i segments legal inside admission command answer same is =
+    let state = state_after (take i xs) in
+    let I : Command → Type 0 = λ c. IsAnswer steps state c answer in
+    ap (λ c. held_as number (next_state state i c answer).held) same ∙ closing answer (subst I same is)
+  where
+    closing : (answer : Answer) → IsAnswer steps (state_after (take i xs)) (Halt number keep) answer →
+        held_as number (next_state (state_after (take i xs)) i (Halt number keep) answer).held ≡ Some (closed keep (opened number start segments))
+    closing Halted can =
+        let state = state_after (take i xs) in
+        let h = halting state number keep can in
+        let whole : h.held ≡ opened number start segments = halted-whole steps xs number start keep i segments h.held legal (omega (arith, inside)) admission h.is h.is_open in
+        found-closed number keep state.held h.held h.is ∙ ap (λ (x : Held). Some (closed keep x)) whole
+    closing (Admitted from) can = absurd can
+    closing (Overflow over booked asked) can = absurd can
+    closing (Looked now at booked) can = absurd can
+
+pub cut-after : (steps : List CapStep) (xs : List Entry) (number start keep i : ℕ) (segments : List Segment) → IsLegal steps xs → IsAdmission xs number start segments →
+    IsHalt xs i number keep → held_as number (state_after xs).held ≡ Some (closed keep (opened number start segments))
+cut-after steps xs number start keep i segments legal admission halt =
+    let e = get_or xs i no_entry in
+    closed-after steps xs number i (closed keep (opened number start segments)) legal refl halt.inside
+    (ap (λ (s : State). held_as number s.held) (state-next xs i halt.inside)
+        ∙ cut-here steps xs number start keep i segments legal halt.inside admission e.command e.answer (halt.command_is no_entry) (legal-at steps xs i legal halt.inside))

@@ -1,5 +1,6 @@
 -- Histories of the machine: lists of entries, each with its answer.
-use Rattle.std.specs.Prelude.{ℕ, ◌≡◌, ◌+◌, ◌<◌, ◌≤◌, List, [], ◌∷◌, Option, Some, None, length, take, slice_index_or}
+use Rattle.std.specs.Prelude.{ℕ, ◌≡◌, ◌+◌, ◌<◌, ◌≤◌, List, [], ◌∷◌, Option, Some, None, Bool, true, false, length, max, take, slice_index_or}
+use Rattle.std.specs.List.{fold}
 use Rattle.plan_cert.specs.declared.Segment.{Segment}
 use Rattle.plan_cert.specs.Slots.{total_bytes}
 use Rattle.slot_calendar.specs.declared.profiles.CapStep.{CapStep}
@@ -52,10 +53,38 @@ abbrev pub Halts : ℕ → Command → Type 0
 Halts number (Halt halted keep) = halted ≡ number
 Halts number _ = ⊥
 
+-- no entry halts this play
+pub record IsUnhalted (entries : List Entry) (number : ℕ) : Type 0 where
+  pub each : (i : ℕ) (none : Entry) → i < length entries → ¬ Halts number (slice_index_or entries i none).command
+
+-- the entry at place i halts this play, which keeps its first `keep` bytes
+pub record IsHalt (entries : List Entry) (i number keep : ℕ) : Type 0 where
+  pub inside : i < length entries
+  pub command_is : (none : Entry) → (slice_index_or entries i none).command ≡ Halt number keep
+
 -- a play that was admitted and that no entry halts; `keep` bytes are at most those of its plan
 pub record IsStillOpen (entries : List Entry) (number keep : ℕ) : Type 0 where
   pub start : ℕ
   pub segments : List Segment
   pub admission : IsAdmission entries number start segments
-  pub unhalted : (i : ℕ) (none : Entry) → i < length entries → ¬ Halts number (slice_index_or entries i none).command
+  pub unhalted : IsUnhalted entries number
   pub small : keep ≤ total_bytes segments
+
+-- an answer admits a play
+abbrev pub is_admission : Answer → Bool
+is_admission (Admitted start) = true
+is_admission _ = false
+
+-- a command halts a play
+abbrev pub is_halt : Command → Bool
+is_halt (Halt number keep) = true
+is_halt _ = false
+
+-- the slot in which a command asks for a play; 0 where it asks for none
+abbrev pub asked_in : Command → ℕ
+asked_in (Play slot segments) = slot
+asked_in _ = 0
+
+-- the latest slot in which a play was asked for; 0 where none was
+abbrev pub latest_asked : List Entry → ℕ
+latest_asked entries = fold (λ latest (e : Entry). max latest (asked_in e.command)) 0 entries

@@ -1,8 +1,6 @@
 -- How a book is kept: the journal with a calendar that has booked what its plays book, and the number of open plays.
-use Rattle.std.specs.Prelude.{ℕ, ◌≡◌, ◌≤◌, List, vec_capacity}
+use Rattle.std.specs.Prelude.{ℕ, ◌≡◌, ◌≤◌, List}
 use Rattle.slot_calendar.specs.Calendars.{Entries as Calendar, StandsFor}
-use Rattle.admission.specs.declared.entries.Answer.{Answer}
-use Rattle.admission.specs.declared.entries.Answer.TheVariants.{Admitted}
 use Rattle.admission.specs.declared.entries.Entry.{Entry}
 use Rattle.admission.specs.Machine.{State, plays_of}
 use Rattle.admission.specs.Histories.{IsLegal, live, state_after}
@@ -21,8 +19,3 @@ pub record IsKept (calendar : Calendar) (entries : List Entry) (limit count room
   pub within : taken entries ≤ limit
   pub few : limit ≤ 1048576
   pub reserved : limit ≤ room
-
--- how many plays an answer opens
-abbrev pub opens : Answer → ℕ
-opens (Admitted start) = 1
-opens _ = 0

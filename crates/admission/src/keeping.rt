@@ -1,7 +1,7 @@
-ghost use Rattle.std.specs.Prelude.{◌≡◌, ◌+◌, ◌^◌, ◌<◌, ◌≤◌, ◌++◌, [], ◌∷◌, ℕ, length, vec_len, vec_capacity};
+ghost use Rattle.std.specs.Prelude.{◌≡◌, ◌+◌, ◌^◌, ◌<◌, ◌≤◌, ◌++◌, [], ◌∷◌, ℕ, length, vec_len, vec_capacity, if◌then◌else◌};
 ghost use Rattle.admission.specs.Machine.{State, CanHalt, IsAnswer, IsWithin, next_state};
-ghost use Rattle.admission.specs.Histories.{IsLegal, state_after};
-ghost use Rattle.admission.specs.Kept.{Follows, opens};
+ghost use Rattle.admission.specs.Histories.{IsLegal, is_admission, state_after};
+ghost use Rattle.admission.specs.Kept.{Follows};
 
 use crate::entries::{Answer, Command, Entry, Noted};
 use plan_cert::Plan;
@@ -32,9 +32,9 @@ pub(crate) fn admit(calendar: &mut Calendar, slot: u64, plan: &Plan) -> Answer
     }
 }
 
-/// How many plays an answer opens.
+/// How many plays an answer opens: 1 where it admits one.
 pub(crate) fn opened_by(answer: Answer) -> u64
-    ensures { result ≡ opens answer }
+    ensures { result ≡ (if is_admission answer then 1 else 0) }
 {
     match answer {
         Answer::Admitted { .. } => 1,

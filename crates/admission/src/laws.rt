@@ -1,10 +1,11 @@
-ghost use Rattle.std.specs.Prelude.{◌≡◌, ◌≤◌, ℕ, map, take};
+ghost use Rattle.std.specs.Prelude.{◌≡◌, ◌+◌, ◌≤◌, ℕ, List, Some, count_by, map, take};
+ghost use Rattle.plan_cert.specs.declared.Segment.{Segment};
 ghost use Rattle.slot_calendar.specs.Profiles.{capacity_at};
 ghost use Rattle.admission.specs.declared.entries.Command.{Command};
 ghost use Rattle.admission.specs.declared.entries.Answer.{Answer};
 ghost use Rattle.admission.specs.declared.entries.Entry.{Entry};
-ghost use Rattle.admission.specs.Machine.{State, CanHalt, IsStep};
-ghost use Rattle.admission.specs.Histories.{IsLegal, IsStillOpen, booked_after, state_after};
+ghost use Rattle.admission.specs.Machine.{State, Held, CanHalt, IsStep, closed, held_as, opened};
+ghost use Rattle.admission.specs.Histories.{IsAdmission, IsHalt, IsLegal, IsStillOpen, IsUnhalted, booked_after, is_admission, is_halt, latest_asked, live, state_after};
 
 use crate::entries::Entry;
 use slot_calendar::Profile;
@@ -25,12 +26,22 @@ pub fn law_never_overbooked(profile: &Profile, entries: &[Entry])
     let _read = (profile.steps().len(), entries.len());
 }
 
-/// A play's number is the place of the entry that admitted it, and the play is open, so that it can be halted, exactly until an entry
-/// halts it.
+/// A play can be halted exactly where it was admitted and no entry halts it.
 pub fn law_open(profile: &Profile, entries: &[Entry])
     requires { IsLegal profile.now entries.now }
     ensures open { (number keep : ℕ) → IsStillOpen entries.now number keep → CanHalt (state_after entries.now) number keep }
     ensures admitted { (number keep : ℕ) → CanHalt (state_after entries.now) number keep → IsStillOpen entries.now number keep }
+{
+    let _read = (profile.steps().len(), entries.len());
+}
+
+/// The plays of the state after a legal history, told by its entries: a play's number is the place of the entry that admitted it; the
+/// play is open with all its bytes until an entry halts it, and closed with the bytes that it keeps from then on.
+pub fn law_plays(profile: &Profile, entries: &[Entry])
+    requires { IsLegal profile.now entries.now }
+    ensures admitted { (number : ℕ) (h : Held) → held_as number (state_after entries.now).held ≡ Some h → IsAdmission entries.now number h.play.start h.play.segments }
+    ensures whole { (number start : ℕ) (segments : List Segment) → IsAdmission entries.now number start segments → IsUnhalted entries.now number → held_as number (state_after entries.now).held ≡ Some (opened number start segments) }
+    ensures cut { (number start keep i : ℕ) (segments : List Segment) → IsAdmission entries.now number start segments → IsHalt entries.now i number keep → held_as number (state_after entries.now).held ≡ Some (closed keep (opened number start segments)) }
 {
     let _read = (profile.steps().len(), entries.len());
 }
@@ -52,4 +63,14 @@ pub fn law_one_history(profile: &Profile, one: &[Entry], other: &[Entry])
     ensures { one.now ≡ other.now }
 {
     let _read = (profile.steps().len(), one.len(), other.len());
+}
+
+/// After a legal history as many plays are open as were admitted and not halted, and now is the latest slot in which a play was asked
+/// for, or 0.
+pub fn law_counts(profile: &Profile, entries: &[Entry])
+    requires { IsLegal profile.now entries.now }
+    ensures live { live entries.now + count_by (λ (e : Entry). is_halt e.command) entries.now ≡ count_by (λ (e : Entry). is_admission e.answer) entries.now }
+    ensures now { (state_after entries.now).now ≡ latest_asked entries.now }
+{
+    let _read = (profile.steps().len(), entries.len());
 }

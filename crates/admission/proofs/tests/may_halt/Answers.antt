@@ -19,7 +19,7 @@ returns c = λ _. (
         admitted = λ none.
             ap (λ (e : Entry). play_admitted e.command e.answer) (sym (get_or_read entries c.args.number c.index-entries-number.result inside c.index-entries-number.is none)) ∙ found.1.1.0;
       };
-      unhalted = λ i none less. c.loop-entry.invariant i none (omega (arith, less, c.loop-entry-test.false));
+      unhalted = record { each = λ i none less. c.loop-entry.invariant i none (omega (arith, less, c.loop-entry-test.false)) };
       small = found.1.1.1;
     } in
     still-open c.args.book.now.steps c.args.book.now.entries c.args.number c.args.keep c.entries-entries.ensures.legal (subst S c.entries-entries.ensures.value still)
