@@ -1,5 +1,5 @@
 -- Each play of a state stands in the history: the entry at its number admitted it.
-use Rattle.std.proofs.Common.{◌≡◌, ◌≤◌, ◌<◌, ◌+◌, ℕ, zero, suc, true, false, List, [], ◌∷◌, ◌++◌, length, get_or, take, All, Some, arith, refl, sym, ap, subst, ◌∙◌}
+use Rattle.std.proofs.Common.{◌≡◌, ◌≤◌, ◌<◌, ◌+◌, ℕ, zero, suc, List, length, get_or, take, All, Some, arith, sym, ap, subst, ◌∙◌}
 use Rattle.std.proofs.lemmas.List.{get_or_default, take_all}
 use Rattle.std.proofs.lemmas.List.Elements.{All-nil, All-push, All-weaker}
 use Rattle.plan_cert.specs.declared.Segment.{Segment}
@@ -11,10 +11,10 @@ use Rattle.admission.specs.declared.entries.Command.{Command}
 use Rattle.admission.specs.declared.entries.Command.TheVariants.{Play, Halt, Look}
 use Rattle.admission.specs.declared.entries.Answer.{Answer}
 use Rattle.admission.specs.declared.entries.Answer.TheVariants.{Admitted, Overflow, Halted, Looked}
-use Rattle.admission.specs.Machine.{State, Held, CanHalt, IsAnswer, closed, held_as, next_state, opened}
+use Rattle.admission.specs.Machine.{State, Held, CanHalt, IsAnswer, held_as, next_state, opened}
 use Rattle.admission.specs.Histories.{IsLegal, play_admitted, state_after}
 use Rattle.admission.proofs.Runs.{legal-at, next_of, no_entry, state-next}
-use Rattle.admission.proofs.Halts.{Halting, IsSplit, all-halted, halting, holds-of, split}
+use Rattle.admission.proofs.Halts.{all-halted, halting, holds-of, split}
 use Rattle.admission.proofs.Within.{IsWhole, sound-after}
 
 -- the entry at its number, among the first `count`, admitted this play

@@ -1,19 +1,19 @@
 -- The calendar beside the machine's state: its answers are the machine's, and it follows the next state.
-use Rattle.std.proofs.Common.{◌≡◌, ◌≤◌, ◌<◌, ◌+◌, ℕ, max, List, [], ◌∷◌, ◌++◌, map, Some, arith, refl, sym, ap, subst, ◌∙◌, inl, inr}
+use Rattle.std.proofs.Common.{◌≡◌, ◌≤◌, ◌<◌, ℕ, max, List, [], ◌∷◌, ◌++◌, map, Some, arith, sym, ap, subst, ◌∙◌, inl, inr}
 use Rattle.std.proofs.lemmas.Bool.{cases_lt}
 use Rattle.std.proofs.lemmas.List.{map_push}
 use Rattle.plan_cert.specs.declared.Segment.{Segment}
 use Rattle.slot_calendar.specs.declared.profiles.CapStep.{CapStep}
 use Rattle.slot_calendar.specs.declared.calendar.Overflow.{Overflow}
 use Rattle.slot_calendar.specs.Profiles.{capacity_at}
-use Rattle.slot_calendar.specs.Plays.{Play as Booked, asked_at, cut_at, whole_play, cut_play, booked_by}
+use Rattle.slot_calendar.specs.Plays.{Play as Booked, cut_at, whole_play, cut_play}
 use Rattle.slot_calendar.specs.Calendars.{Entries as Calendar, StandsFor, Fits, HasRoom, IsFirstOverflow, booked_at}
 use Rattle.slot_calendar.proofs.Sending.{asked-before}
 use Rattle.admission.specs.declared.entries.Command.TheVariants.{Look}
 use Rattle.admission.specs.declared.entries.Answer.TheVariants.{Looked}
 use Rattle.admission.specs.Machine.{State, Held, IsAnswer, IsWithin, booked_in, closed, halted, held_as, opened, plays_of}
 use Rattle.admission.specs.Kept.{Follows}
-use Rattle.admission.proofs.Halts.{IsSplit, play_of, plays-split, split}
+use Rattle.admission.proofs.Halts.{play_of, plays-split, split}
 
 -- before its start a plan fits, since nothing is booked above capacity
 fits-early : (steps : List CapStep) (state : State) (start u : ℕ) (segments : List Segment) → IsWithin steps state → u < start → Fits (booked_in state) (capacity_at steps) start segments u

@@ -1,6 +1,5 @@
 -- What a history comes to, told by its entries: the number of open plays, and now.
-use Rattle.std.proofs.Common.{◌≡◌, ◌≤◌, ◌<◌, ◌+◌, ℕ, zero, suc, Bool, true, false, cond, max, List, [], ◌∷◌, length, get_or, take, count_by, arith, refl, sym, ap, subst, ◌∙◌}
-use Rattle.std.specs.List.{fold}
+use Rattle.std.proofs.Common.{◌≡◌, ◌≤◌, ◌<◌, ◌+◌, ℕ, zero, suc, cond, max, List, length, get_or, take, count_by, arith, refl, sym, ap, subst, ◌∙◌}
 use Rattle.std.proofs.lemmas.List.{take_all}
 use Rattle.std.proofs.lemmas.List.Sums.{fold_more, sum_by_more}
 use Rattle.slot_calendar.specs.declared.profiles.CapStep.{CapStep}

@@ -1,11 +1,11 @@
 -- The play that a halt closes, among the plays before and behind it.
-use Rattle.std.proofs.Common.{◌≡◌, ◌≤◌, ◌<◌, ◌+◌, ℕ, Bool, true, false, eqb, List, [], ◌∷◌, ◌++◌, length, get_or, map, take, drop, All, Option, Some, None, IsSomeAnd, find, arith, refl, sym, ap, subst, ◌∙◌, inl, inr}
+use Rattle.std.proofs.Common.{◌≡◌, ◌≤◌, ℕ, true, eqb, List, [], ◌∷◌, ◌++◌, length, map, All, Option, Some, None, IsSomeAnd, arith, refl, sym, ap, subst, ◌∙◌, inl, inr}
 use Rattle.std.proofs.lemmas.Bool.{cases_Bool, cond-true, cond-false, eqb-true}
 use Rattle.std.proofs.lemmas.List.{drop_at, get_or_at, length-append, map-append, take_at}
 use Rattle.std.proofs.lemmas.List.Elements.{All-append, All-cons, All-drop, All-tail, All-take}
 use Rattle.plan_cert.specs.Slots.{total_bytes}
 use Rattle.slot_calendar.specs.Plays.{Play as Booked}
-use Rattle.admission.specs.Machine.{State, Held, plays_of, held_as, halted, closed, CanHalt}
+use Rattle.admission.specs.Machine.{State, Held, held_as, halted, closed, CanHalt}
 
 -- ---- what a halt's condition says
 pub record Halting (state : State) (number keep : ℕ) : Type 0 where

@@ -1,5 +1,5 @@
 -- A book with one entry more.
-use Rattle.std.proofs.Common.{◌≡◌, ◌≤◌, ◌<◌, ◌+◌, ℕ, Bool, true, false, cond, List, [], ◌∷◌, ◌++◌, length, sum_by, arith, refl, sym, ap, subst, ◌∙◌}
+use Rattle.std.proofs.Common.{◌≡◌, ◌≤◌, ◌+◌, ℕ, cond, List, [], ◌∷◌, ◌++◌, length, sum_by, arith, sym, ap, subst, ◌∙◌}
 use Rattle.std.proofs.lemmas.List.{length_push}
 use Rattle.std.proofs.lemmas.List.Sums.{sum_by-append, sum_by-cons, sum_by_push}
 use Rattle.plan_cert.specs.declared.Segment.{Segment}
@@ -8,7 +8,7 @@ use Rattle.slot_calendar.specs.Calendars.{Entries as Calendar}
 use Rattle.admission.specs.declared.entries.Entry.{Entry}
 use Rattle.admission.specs.declared.entries.Noted.{Noted}
 use Rattle.admission.specs.declared.entries.Command.{Command}
-use Rattle.admission.specs.declared.entries.Command.TheVariants.{Play, Halt, Look}
+use Rattle.admission.specs.declared.entries.Command.TheVariants.{Play, Halt}
 use Rattle.admission.specs.declared.entries.Answer.{Answer}
 use Rattle.admission.specs.declared.entries.Answer.TheVariants.{Admitted, Overflow, Halted, Looked}
 use Rattle.admission.specs.Machine.{State, Held, CanHalt, IsAnswer, closed, next_state, open_plays, opened}
@@ -16,7 +16,7 @@ use Rattle.admission.specs.Histories.{IsAnswered, IsLegal, is_admission, live, s
 use Rattle.admission.specs.Books.{IsNoted, Journal}
 use Rattle.admission.specs.Kept.{Follows, IsKept}
 use Rattle.admission.proofs.Runs.{legal-push, next_of, state-push}
-use Rattle.admission.proofs.Halts.{Halting, IsSplit, halting, split}
+use Rattle.admission.proofs.Halts.{halting, split}
 
 -- ---- the number of open plays
 pub opens-most : (answer : Answer) → cond (is_admission answer) 1 0 ≤ 1

@@ -4,6 +4,7 @@ pub mod Within
 pub mod Admissions
 pub mod Calendars
 pub mod Journals
+pub mod Finds
 pub mod Opens
 pub mod Once
 pub mod Counts

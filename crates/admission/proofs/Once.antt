@@ -1,5 +1,5 @@
 -- The machine gives one answer, so a list of commands has one legal history.
-use Rattle.std.proofs.Common.{◌≡◌, ◌≤◌, ◌<◌, ◌+◌, ℕ, zero, suc, List, [], ◌∷◌, ◌++◌, length, get_or, map, take, arith, refl, sym, ap, subst, ◌∙◌, inl, inr}
+use Rattle.std.proofs.Common.{◌≡◌, ◌≤◌, ◌<◌, ◌+◌, ℕ, zero, suc, List, length, get_or, map, take, arith, refl, sym, ap, subst, ◌∙◌, inl, inr}
 use Rattle.std.proofs.lemmas.Bool.{cases_order}
 use Rattle.std.proofs.lemmas.List.{get_or-map, length-map, take_all, take_more_same}
 use Rattle.plan_cert.specs.declared.Segment.{Segment}
@@ -13,8 +13,8 @@ use Rattle.admission.specs.declared.entries.Command.{Command}
 use Rattle.admission.specs.declared.entries.Command.TheVariants.{Play, Halt, Look}
 use Rattle.admission.specs.declared.entries.Answer.{Answer}
 use Rattle.admission.specs.declared.entries.Answer.TheVariants.{Admitted, Overflow, Halted, Looked}
-use Rattle.admission.specs.Machine.{State, IsAnswer, IsStep, booked_in, next_state, start_after}
-use Rattle.admission.specs.Histories.{IsAnswered, IsLegal, state_after}
+use Rattle.admission.specs.Machine.{State, IsAnswer, booked_in, start_after}
+use Rattle.admission.specs.Histories.{IsLegal, state_after}
 use Rattle.admission.proofs.Runs.{legal-at, no_entry}
 
 -- a plan that fits everywhere has no overflow

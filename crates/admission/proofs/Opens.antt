@@ -1,8 +1,8 @@
 -- A play is open from the entry that admits it to the entry that halts it.
-use Rattle.std.proofs.Common.{◌≡◌, ◌≤◌, ◌<◌, ◌+◌, ◌-◌, ℕ, zero, suc, Bool, true, false, eqb, List, [], ◌∷◌, ◌++◌, length, get_or, take, All, Option, Some, IsSomeAnd, arith, refl, sym, ap, subst, ◌∙◌, inl, inr}
-use Rattle.std.proofs.lemmas.Bool.{cases_Bool, cases_order, cond-false, cond-true, eq-eqb, eqb-true, ne_eqb}
-use Rattle.std.proofs.lemmas.List.{get_or_default, take_all}
-use Rattle.std.proofs.lemmas.List.Elements.{All-head, All-tail, All-weaker}
+use Rattle.std.proofs.Common.{◌≡◌, ◌≤◌, ◌<◌, ℕ, zero, suc, Bool, true, false, List, length, get_or, take, All, Option, Some, IsSomeAnd, arith, refl, sym, ap, subst, ◌∙◌, inl, inr}
+use Rattle.std.proofs.lemmas.Bool.{cases_order}
+use Rattle.std.proofs.lemmas.List.{get_or_default, length-take, take_all}
+use Rattle.std.proofs.lemmas.List.Elements.{All-weaker}
 use Rattle.plan_cert.specs.declared.Segment.{Segment}
 use Rattle.plan_cert.specs.Slots.{total_bytes}
 use Rattle.slot_calendar.specs.declared.profiles.CapStep.{CapStep}
@@ -14,74 +14,11 @@ use Rattle.admission.specs.declared.entries.Answer.{Answer}
 use Rattle.admission.specs.declared.entries.Answer.TheVariants.{Admitted, Overflow, Halted, Looked}
 use Rattle.admission.specs.Machine.{State, Held, CanHalt, IsAnswer, closed, halted, held_as, next_state, opened}
 use Rattle.admission.specs.Histories.{Halts, IsAdmission, IsHalt, IsLegal, IsStillOpen, IsUnhalted, play_admitted, state_after}
-use Rattle.admission.proofs.Runs.{legal-at, legal-take, next_of, no_entry, state-next}
-use Rattle.admission.proofs.Halts.{Halting, halting, holds-of, split}
+use Rattle.admission.proofs.Runs.{legal-at, legal-take, no_entry, state-next}
+use Rattle.admission.proofs.Halts.{halting, holds-of, split}
 use Rattle.admission.proofs.Within.{IsWhole, sound-after}
-use Rattle.admission.proofs.Admissions.{IsKnown, admission_of, known-after, known-at}
-
--- ---- the play of a number, after a step
-found-push : (number : ℕ) (held : List Held) (h new : Held) → held_as number held ≡ Some h → held_as number (held ++ new ∷ []) ≡ Some h
-found-push number [] h new is = let bad : ⊥ = cc in absurd bad
-found-push number (x ∷ rest) h new is = elim (cases_Bool (eqb x.number number)) [
-  | inl found ↦ cond-true (eqb x.number number) (Some x) (held_as number (rest ++ new ∷ [])) found ∙ sym (cond-true (eqb x.number number) (Some x) (held_as number rest) found) ∙ is
-  | inr other ↦ cond-false (eqb x.number number) (Some x) (held_as number (rest ++ new ∷ [])) other
-      ∙ found-push number rest h new (sym (cond-false (eqb x.number number) (Some x) (held_as number rest) other) ∙ is)
-]
-
--- a new number is found at the end
-found-new : (number start : ℕ) (segments : List Segment) (held : List Held) → All (λ h. h.number < number) held → held_as number (held ++ opened number start segments ∷ []) ≡ Some (opened number start segments)
-found-new number start segments [] all =
-    cond-true (eqb number number) (Some (opened number start segments)) (held_as number []) (eq-eqb number number refl)
-found-new number start segments (x ∷ rest) all =
-    let less : x.number < number = All-head (λ h. h.number < number) x rest all in
-    cond-false (eqb x.number number) (Some x) (held_as number (rest ++ opened number start segments ∷ [])) (ne_eqb x.number number (λ e. omega (arith, e, less)))
-    ∙ found-new number start segments rest (All-tail (λ h. h.number < number) x rest all)
-
--- a halt of another play leaves it
-found-other : (number other keep : ℕ) (held : List Held) → (other ≡ number → ⊥) → held_as number (halted other keep held) ≡ held_as number held
-found-other number other keep [] apart = refl
-found-other number other keep (x ∷ rest) apart = elim (cases_Bool (eqb x.number other)) [
-  | inl that ↦ (
-      let no : eqb x.number number ≡ false = ne_eqb x.number number (λ e. apart (sym (eqb-true x.number other that) ∙ e)) in
-      ap (held_as number) (cond-true (eqb x.number other) (closed keep x ∷ rest) (x ∷ halted other keep rest) that)
-      ∙ cond-false (eqb x.number number) (Some (closed keep x)) (held_as number rest) no ∙ sym (cond-false (eqb x.number number) (Some x) (held_as number rest) no)
-      )
-  | inr this ↦ ap (held_as number) (cond-false (eqb x.number other) (closed keep x ∷ rest) (x ∷ halted other keep rest) this) ∙ found-under number x (halted other keep rest) rest (found-other number other keep rest apart)
-]
-  where
-    found-under : (number : ℕ) (x : Held) (xs ys : List Held) → held_as number xs ≡ held_as number ys → held_as number (x ∷ xs) ≡ held_as number (x ∷ ys)
-    found-under number x xs ys same = elim (cases_Bool (eqb x.number number)) [
-      | inl here ↦ cond-true (eqb x.number number) (Some x) (held_as number xs) here ∙ sym (cond-true (eqb x.number number) (Some x) (held_as number ys) here)
-      | inr later ↦ cond-false (eqb x.number number) (Some x) (held_as number xs) later ∙ same ∙ sym (cond-false (eqb x.number number) (Some x) (held_as number ys) later)
-    ]
-
--- the halt of it closes it
-found-closed : (number keep : ℕ) (held : List Held) (h : Held) → held_as number held ≡ Some h → held_as number (halted number keep held) ≡ Some (closed keep h)
-found-closed number keep [] h is = let bad : ⊥ = cc in absurd bad
-found-closed number keep (x ∷ rest) h is = elim (cases_Bool (eqb x.number number)) [
-  | inl here ↦ (
-      let same : Some x ≡ Some h = sym (cond-true (eqb x.number number) (Some x) (held_as number rest) here) ∙ is in
-      let that : x ≡ h = cc in
-      ap (held_as number) (cond-true (eqb x.number number) (closed keep x ∷ rest) (x ∷ halted number keep rest) here)
-      ∙ cond-true (eqb x.number number) (Some (closed keep x)) (held_as number rest) here ∙ ap (λ (y : Held). Some (closed keep y)) that
-      )
-  | inr later ↦ ap (held_as number) (cond-false (eqb x.number number) (closed keep x ∷ rest) (x ∷ halted number keep rest) later)
-      ∙ cond-false (eqb x.number number) (Some x) (held_as number (halted number keep rest)) later
-      ∙ found-closed number keep rest h (sym (cond-false (eqb x.number number) (Some x) (held_as number rest) later) ∙ is)
-]
-
--- a step that doesn't halt it leaves it
-pub found-next : (state : State) (place number : ℕ) (h : Held) (command : Command) (answer : Answer) → (Halts number command → ⊥) → held_as number state.held ≡ Some h →
-    held_as number (next_state state place command answer).held ≡ Some h
-found-next state place number h (Play slot segments) (Admitted start) apart is = found-push number state.held h (opened place start segments) is
-found-next state place number h (Play slot segments) (Overflow over booked asked) apart is = is
-found-next state place number h (Play slot segments) Halted apart is = is
-found-next state place number h (Play slot segments) (Looked now at booked) apart is = is
-found-next state place number h (Halt other keep) Halted apart is = found-other number other keep state.held apart ∙ is
-found-next state place number h (Halt other keep) (Admitted start) apart is = is
-found-next state place number h (Halt other keep) (Overflow over booked asked) apart is = is
-found-next state place number h (Halt other keep) (Looked now at booked) apart is = is
-found-next state place number h (Look slot) answer apart is = is
+use Rattle.admission.proofs.Admissions.{IsKnown, admission_of, known-after, known-at, open-inside}
+use Rattle.admission.proofs.Finds.{found-closed, found-new, found-next}
 
 -- ---- it is open from its admission on
 numbers-below : (steps : List CapStep) (xs : List Entry) (n : ℕ) → IsLegal steps xs → n ≤ length xs → All (λ h. h.number < n) (state_after (take n xs)).held
@@ -269,4 +206,18 @@ cut-after steps xs number start keep i segments legal admission halt =
     let e = get_or xs i no_entry in
     closed-after steps xs number i (closed keep (opened number start segments)) legal refl halt.inside
     (ap (λ (s : State). held_as number s.held) (state-next xs i halt.inside)
-        ∙ cut-here steps xs number start keep i segments legal halt.inside admission e.command e.answer (halt.command_is no_entry) (legal-at steps xs i legal halt.inside))
+    ∙ cut-here steps xs number start keep i segments legal halt.inside admission e.command e.answer (halt.command_is no_entry) (legal-at steps xs i legal halt.inside))
+
+-- a halt stands behind the entry that admitted its play
+pub halt-later : (steps : List CapStep) (xs : List Entry) (number keep i : ℕ) → IsLegal steps xs → IsHalt xs i number keep → number < i
+halt-later steps xs number keep i legal halt =
+    let e = get_or xs i no_entry in
+    let A : Command → Type 0 = λ c. IsAnswer steps (state_after (take i xs)) c e.answer in
+    let can = can_halt e.answer (subst A (halt.command_is no_entry) (legal-at steps xs i legal halt.inside)) in
+    omega (arith, open-inside steps (take i xs) number keep (legal-take steps xs i legal) can, length-take i xs)
+  where
+    can_halt : (answer : Answer) → IsAnswer steps (state_after (take i xs)) (Halt number keep) answer → CanHalt (state_after (take i xs)) number keep
+    can_halt Halted is = is
+    can_halt (Admitted start) is = absurd is
+    can_halt (Overflow over booked asked) is = absurd is
+    can_halt (Looked now at booked) is = absurd is

@@ -1,12 +1,12 @@
 -- The state after one entry more, and legal histories that grow or are cut.
-use Rattle.std.proofs.Common.{◌≡◌, ◌<◌, ◌≤◌, ◌+◌, ℕ, suc, List, [], ◌∷◌, ◌++◌, length, get_or, take, arith, refl, sym, ap, subst, ◌∙◌, inl, inr}
+use Rattle.std.proofs.Common.{◌≡◌, ◌<◌, ◌+◌, ℕ, suc, List, [], ◌∷◌, ◌++◌, length, get_or, take, arith, sym, ap, subst, ◌∙◌, inl, inr}
 use Rattle.std.proofs.lemmas.Bool.{cases_order}
-use Rattle.std.proofs.lemmas.List.{get_or_append_left, get_or_push, get_or-take, length-append, length-take, length-take-le, take-append-le, take-take, take_all, take_at, take_more}
+use Rattle.std.proofs.lemmas.List.{get_or_append_left, get_or_push, get_or-take, length-append, length-take, length-take-le, take-append-le, take-take, take_at, take_more}
 use Rattle.slot_calendar.specs.declared.profiles.CapStep.{CapStep}
 use Rattle.admission.specs.declared.entries.Entry.{Entry}
 use Rattle.admission.specs.declared.entries.Command.TheVariants.{Look}
 use Rattle.admission.specs.declared.entries.Answer.TheVariants.{Halted}
-use Rattle.admission.specs.Machine.{State, beginning, IsAnswer, next_state}
+use Rattle.admission.specs.Machine.{State, beginning, next_state}
 use Rattle.admission.specs.Histories.{IsAnswered, IsLegal, state_after, state_from}
 
 -- a list that has no entry i

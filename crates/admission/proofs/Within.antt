@@ -1,13 +1,12 @@
 -- No slot is booked above its capacity: not in the beginning, and not after a step of the machine.
-use Rattle.std.proofs.Common.{◌≡◌, ◌≤◌, ◌<◌, ◌+◌, ◌-◌, ℕ, zero, suc, min, true, false, List, [], ◌∷◌, ◌++◌, length, get_or, map, take, All, Some, arith, refl, sym, ap, subst, ◌∙◌}
+use Rattle.std.proofs.Common.{◌≡◌, ◌≤◌, ◌<◌, ◌+◌, ◌-◌, ℕ, zero, suc, min, true, List, [], ◌∷◌, ◌++◌, length, get_or, map, take, All, Some, arith, refl, sym, ap, subst, ◌∙◌}
 use Rattle.std.proofs.lemmas.List.{map-append, take_all}
-use Rattle.std.proofs.lemmas.List.Elements.{All-nil, All-push, All-cons, All-tail, All-head, All-append}
+use Rattle.std.proofs.lemmas.List.Elements.{All-nil, All-push}
 use Rattle.std.proofs.lemmas.List.Sums.{sum_by-append, sum_by-cons, sum_by_push}
 use Rattle.plan_cert.specs.declared.Segment.{Segment}
 use Rattle.plan_cert.specs.Slots.{total_bytes}
 use Rattle.slot_calendar.specs.declared.profiles.CapStep.{CapStep}
-use Rattle.slot_calendar.specs.Profiles.{capacity_at}
-use Rattle.slot_calendar.specs.Plays.{Play as Booked, sent_before, asked_at, cut_at, whole_play, cut_play, share_at, booked_by}
+use Rattle.slot_calendar.specs.Plays.{sent_before, asked_at, whole_play, cut_play, share_at, booked_by}
 use Rattle.slot_calendar.proofs.Sending.{sent-rises}
 use Rattle.slot_calendar.proofs.Shares.{share-cut}
 use Rattle.admission.specs.declared.entries.Entry.{Entry}
@@ -15,10 +14,10 @@ use Rattle.admission.specs.declared.entries.Command.{Command}
 use Rattle.admission.specs.declared.entries.Command.TheVariants.{Play, Halt, Look}
 use Rattle.admission.specs.declared.entries.Answer.{Answer}
 use Rattle.admission.specs.declared.entries.Answer.TheVariants.{Admitted, Overflow, Halted, Looked}
-use Rattle.admission.specs.Machine.{State, Held, beginning, plays_of, booked_in, IsWithin, opened, closed, held_as, halted, IsAnswer, next_state}
+use Rattle.admission.specs.Machine.{State, Held, plays_of, booked_in, IsWithin, opened, closed, held_as, halted, IsAnswer, next_state}
 use Rattle.admission.specs.Histories.{IsLegal, state_after}
-use Rattle.admission.proofs.Runs.{no_entry, next_of, state-next, legal-at}
-use Rattle.admission.proofs.Halts.{Halting, halting, IsSplit, split, holds-of, all-halted, play_of, plays-split}
+use Rattle.admission.proofs.Runs.{no_entry, state-next, legal-at}
+use Rattle.admission.proofs.Halts.{halting, split, holds-of, all-halted, play_of, plays-split}
 
 -- ---- open plays are whole
 pub record IsWhole (h : Held) : Type 0 where

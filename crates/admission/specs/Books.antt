@@ -22,7 +22,11 @@ taken entries = length entries + live entries
 pub record IsNoted (old : Journal) (maker : ℕ) (command : Command) (noted : Noted) (new : Journal) : Type 0 where
   pub place_is : noted.place ≡ length old.entries
   pub answer_is : IsAnswer old.steps (state_after old.entries) command noted.answer
-  pub journal_is : new ≡ record { steps = old.steps; limit = old.limit; entries = old.entries ++ record { maker = maker; command = command; answer = noted.answer } ∷ [] }
+  pub journal_is : new ≡ record {
+    steps = old.steps;
+    limit = old.limit;
+    entries = old.entries ++ record { maker = maker; command = command; answer = noted.answer } ∷ [];
+  }
   pub legal : IsLegal new.steps new.entries
 
 -- what is told of a journal that has no room

@@ -1,4 +1,4 @@
--- The machine that admits plays on a link. Its answers are said as a relation, and each answer of the relation gives the next state.
+-- The machine that admits plays on a link. Its answers are said as a relation, and each answer gives the next state.
 use Rattle.std.specs.Prelude.{ℕ, ◌≡◌, ◌+◌, ◌≤◌, ◌==◌, max, Bool, true, false, IsTrue, IsSomeAnd, List, [], ◌∷◌, ◌++◌, map, count_by, Option, find, if◌then◌else◌}
 use Rattle.plan_cert.specs.declared.Segment.{Segment}
 use Rattle.plan_cert.specs.Slots.{total_bytes}
@@ -60,29 +60,36 @@ halted number keep (h ∷ rest) = if h.number == number then (closed keep h ∷ 
 
 -- the play of this number is open, and `keep` bytes are at most those of its plan
 abbrev pub CanHalt : State → ℕ → ℕ → Type 0
-CanHalt state number keep = IsSomeAnd (held_as number state.held) (λ (h : Held). IsTrue h.is_open × (keep ≤ total_bytes h.play.segments))
+CanHalt state number keep =
+    IsSomeAnd (held_as number state.held) (λ (h : Held). IsTrue h.is_open × (keep ≤ total_bytes h.play.segments))
 
 -- where a play begins that is asked for in a slot: in the slot behind that one and behind now
 abbrev pub start_after : State → ℕ → ℕ
 start_after state slot = max state.now slot + 1
 
--- What is answered to a command in a state. A play is admitted exactly where its plan fits into every slot beside the plays of the state;
--- else the first slot without room is named, with the bytes booked and asked there. A look tells what is booked in a slot that isn't past.
+-- What is answered to a command in a state. A play is admitted exactly where its plan fits into every slot beside the plays
+-- of the state; else the first slot without room is named, with the bytes booked and asked there. A look tells what is booked
+-- in a slot that isn't past.
 abbrev pub IsAnswer : List CapStep → State → Command → Answer → Type 0
 IsAnswer steps state (Play slot segments) (Admitted start) =
     (start ≡ start_after state slot) × HasRoom 0 (booked_in state) (capacity_at steps) start segments
 IsAnswer steps state (Play slot segments) (Overflow over booked asked) =
-    IsFirstOverflow 0 (booked_in state) (capacity_at steps) (start_after state slot) segments (record { slot = over; booked = booked; asked = asked })
+    IsFirstOverflow 0 (booked_in state) (capacity_at steps) (start_after state slot) segments
+    (record { slot = over; booked = booked; asked = asked })
 IsAnswer steps state (Halt number keep) Halted = CanHalt state number keep
-IsAnswer steps state (Look slot) (Looked now at booked) = (now ≡ state.now) × (at ≡ max state.now slot) × (booked ≡ booked_in state at)
+IsAnswer steps state (Look slot) (Looked now at booked) =
+    (now ≡ state.now) × (at ≡ max state.now slot) × (booked ≡ booked_in state at)
 IsAnswer steps state _ _ = ⊥
 
--- The state after the entry at `place`. Whether a play is admitted or not, now comes up to the slot in which it was asked for; an admitted
--- play has the entry's place as its number. A look changes nothing.
+-- The state after the entry at `place`. Whether a play is admitted or not, now comes up to the slot in which it was asked for;
+-- an admitted play has the entry's place as its number. A look changes nothing.
 abbrev pub next_state : State → ℕ → Command → Answer → State
-next_state state place (Play slot segments) (Admitted start) = record { now = max state.now slot; held = state.held ++ opened place start segments ∷ [] }
-next_state state place (Play slot segments) (Overflow over booked asked) = record { now = max state.now slot; held = state.held }
-next_state state place (Halt number keep) Halted = record { now = state.now; held = halted number keep state.held }
+next_state state place (Play slot segments) (Admitted start) =
+    record { now = max state.now slot; held = state.held ++ opened place start segments ∷ [] }
+next_state state place (Play slot segments) (Overflow over booked asked) =
+    record { now = max state.now slot; held = state.held }
+next_state state place (Halt number keep) Halted =
+    record { now = state.now; held = halted number keep state.held }
 next_state state place _ _ = state
 
 -- a step of the machine: a command at a place takes one state to the next with this answer

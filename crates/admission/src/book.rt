@@ -74,13 +74,13 @@ impl Book {
         }
     }
 
-    /// A play of this plan, asked for in a slot: it is admitted from the slot behind it on, and behind now, if its plan fits into every
-    /// slot, and else answered the first slot without room. Both make an entry, and now comes up to the slot.
+    /// A play of this plan, asked for in a slot: it is admitted from the slot behind that one and behind now on, if its plan
+    /// fits into every slot, and else answered the first slot without room. Both make an entry, and now comes up to the slot.
     ///
     /// # Errors
     ///
-    /// [`PlayFull`] exactly where the entries, the open plays and 2 are more than the limit: the play's entry and its halt's. It hands
-    /// the plan back and leaves the book as it was.
+    /// [`PlayFull`] exactly where the entries, the open plays and 2, for the play's entry and its halt's, are more than the
+    /// limit. It hands the plan back and leaves the book as it was.
     pub fn play(&mut self, maker: u32, slot: u64, plan: Plan) -> Result<Noted, PlayFull>
         ensures noted { IfOk result (λ noted. IsNoted self.old maker (Command.Play (min slot (2 ^ 62)) plan) noted self.new) }
         ensures room { OnOk result (taken self.old.entries + 2 ≤ self.old.limit) }
@@ -104,8 +104,8 @@ impl Book {
         ))
     }
 
-    /// Halts an open play, which keeps its first `keep` bytes; what is behind them is free again in the slots from now on. The entry
-    /// always finds its place.
+    /// Halts an open play, which keeps its first `keep` bytes; what is behind them is free again in the slots from now on.
+    /// The entry always finds its place.
     pub fn halt(&mut self, maker: u32, number: u64, keep: u64) -> Noted
         requires { CanHalt (state_after self.old.entries) number keep }
         ensures noted { IsNoted self.old maker (Command.Halt number keep) result self.new }
@@ -154,6 +154,7 @@ impl Book {
         ensures value { result.now ≡ self.now.entries }
         ensures legal { IsLegal self.now.steps self.now.entries }
         ensures within { taken self.now.entries ≤ self.now.limit }
+        ensures few { self.now.limit ≤ 1048576 }
     {
         self.entries.as_slice()
     }

@@ -11,13 +11,15 @@ use slot_calendar::{Calendar, law_release};
 pub(crate) fn admit(calendar: &mut Calendar, slot: u64, plan: &Plan) -> Answer
     requires { slot ≤ 2 ^ 62 }
     ensures steps { calendar.new.steps ≡ calendar.old.steps }
-    ensures answer { (state : State) → Follows calendar.old state → IsWithin calendar.old.steps state → IsAnswer calendar.old.steps state (Command.Play slot plan.now) result }
-    ensures next { (state : State) (place : ℕ) → Follows calendar.old state → Follows calendar.new (next_state state place (Command.Play slot plan.now) result) }
+    ensures answer { (state : State) → Follows calendar.old state → IsWithin calendar.old.steps state →
+        IsAnswer calendar.old.steps state (Command.Play slot plan.now) result }
+    ensures next { (state : State) (place : ℕ) → Follows calendar.old state →
+        Follows calendar.new (next_state state place (Command.Play slot plan.now) result) }
 {
     let now = calendar.now().max(slot);
     calendar.advance(now);
     let start = now + 1;
-    // it has at most 1,000,000 slots, so it ends within the calendar's
+    // reading the plan tells that it has at most 1,000,000 slots, so it ends within the calendar's
     let _plan = plan.segments();
     match calendar.first_overflow(start, plan) {
         Some(over) => Answer::Overflow {
@@ -42,15 +44,16 @@ pub(crate) fn opened_by(answer: Answer) -> u64
     }
 }
 
-/// Gives back what an open play has behind its first `keep` bytes in the slots from now on. The play's plan stands in the entry that
-/// admitted it.
+/// Gives back what an open play has behind its first `keep` bytes in the slots from now on. Its plan stands in the entry
+/// that admitted it.
 pub(crate) fn give_back(calendar: &mut Calendar, entries: &[Entry], number: u64, keep: u64)
     requires few { length entries.now ≤ 1048576 }
     requires legal { IsLegal calendar.old.steps entries.now }
     requires follows { Follows calendar.old (state_after entries.now) }
     requires can { CanHalt (state_after entries.now) number keep }
     ensures steps { calendar.new.steps ≡ calendar.old.steps }
-    ensures next { (place : ℕ) → Follows calendar.new (next_state (state_after entries.now) place (Command.Halt number keep) Answer.Halted) }
+    ensures next { (place : ℕ) →
+        Follows calendar.new (next_state (state_after entries.now) place (Command.Halt number keep) Answer.Halted) }
 {
     let admitted = &entries[number as usize];
     let Command::Play { plan, .. } = &admitted.command else {
@@ -59,6 +62,7 @@ pub(crate) fn give_back(calendar: &mut Calendar, entries: &[Entry], number: u64,
     let Answer::Admitted { start } = admitted.answer else {
         unreachable!()
     };
+    // it stands booked whole, so it may be cut
     law_release(calendar, start, plan, keep);
     calendar.release(start, plan, keep);
 }

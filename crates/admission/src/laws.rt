@@ -1,4 +1,4 @@
-ghost use Rattle.std.specs.Prelude.{◌≡◌, ◌+◌, ◌≤◌, ℕ, List, Some, count_by, map, take};
+ghost use Rattle.std.specs.Prelude.{◌≡◌, ◌+◌, ◌<◌, ◌≤◌, ℕ, List, Some, count_by, map, take};
 ghost use Rattle.plan_cert.specs.declared.Segment.{Segment};
 ghost use Rattle.slot_calendar.specs.Profiles.{capacity_at};
 ghost use Rattle.admission.specs.declared.entries.Command.{Command};
@@ -35,21 +35,29 @@ pub fn law_open(profile: &Profile, entries: &[Entry])
     let _read = (profile.steps().len(), entries.len());
 }
 
-/// The plays of the state after a legal history, told by its entries: a play's number is the place of the entry that admitted it; the
-/// play is open with all its bytes until an entry halts it, and closed with the bytes that it keeps from then on.
+/// The plays of the state after a legal history, told by its entries: a play's number is the place of the entry that
+/// admitted it; the play is open with all its bytes until an entry halts it, and closed with the bytes that it keeps from then
+/// on. A halt stands behind its play's entry.
 pub fn law_plays(profile: &Profile, entries: &[Entry])
     requires { IsLegal profile.now entries.now }
-    ensures admitted { (number : ℕ) (h : Held) → held_as number (state_after entries.now).held ≡ Some h → IsAdmission entries.now number h.play.start h.play.segments }
-    ensures whole { (number start : ℕ) (segments : List Segment) → IsAdmission entries.now number start segments → IsUnhalted entries.now number → held_as number (state_after entries.now).held ≡ Some (opened number start segments) }
-    ensures cut { (number start keep i : ℕ) (segments : List Segment) → IsAdmission entries.now number start segments → IsHalt entries.now i number keep → held_as number (state_after entries.now).held ≡ Some (closed keep (opened number start segments)) }
+    ensures admitted { (number : ℕ) (h : Held) → held_as number (state_after entries.now).held ≡ Some h →
+        IsAdmission entries.now number h.play.start h.play.segments }
+    ensures whole { (number start : ℕ) (segments : List Segment) → IsAdmission entries.now number start segments →
+        IsUnhalted entries.now number → held_as number (state_after entries.now).held ≡ Some (opened number start segments) }
+    ensures cut { (number start keep i : ℕ) (segments : List Segment) → IsAdmission entries.now number start segments →
+        IsHalt entries.now i number keep →
+        held_as number (state_after entries.now).held ≡ Some (closed keep (opened number start segments)) }
+    ensures earlier { (number keep i : ℕ) → IsHalt entries.now i number keep → number < i }
 {
     let _read = (profile.steps().len(), entries.len());
 }
 
 /// The machine gives one answer and one next state to a command in a state.
 pub fn law_one_step(profile: &Profile)
-    ensures answer { (state next then : State) (place : ℕ) (command : Command) (one other : Answer) → IsStep profile.now state place command one next → IsStep profile.now state place command other then → one ≡ other }
-    ensures next { (state next then : State) (place : ℕ) (command : Command) (one other : Answer) → IsStep profile.now state place command one next → IsStep profile.now state place command other then → next ≡ then }
+    ensures answer { (state next then : State) (place : ℕ) (command : Command) (one other : Answer) →
+        IsStep profile.now state place command one next → IsStep profile.now state place command other then → one ≡ other }
+    ensures next { (state next then : State) (place : ℕ) (command : Command) (one other : Answer) →
+        IsStep profile.now state place command one next → IsStep profile.now state place command other then → next ≡ then }
 {
     let _read = profile.steps().len();
 }
@@ -65,11 +73,12 @@ pub fn law_one_history(profile: &Profile, one: &[Entry], other: &[Entry])
     let _read = (profile.steps().len(), one.len(), other.len());
 }
 
-/// After a legal history as many plays are open as were admitted and not halted, and now is the latest slot in which a play was asked
-/// for, or 0.
+/// After a legal history as many plays are open as were admitted and not halted, and now is the latest slot in which a play
+/// was asked for, or 0.
 pub fn law_counts(profile: &Profile, entries: &[Entry])
     requires { IsLegal profile.now entries.now }
-    ensures live { live entries.now + count_by (λ (e : Entry). is_halt e.command) entries.now ≡ count_by (λ (e : Entry). is_admission e.answer) entries.now }
+    ensures live { live entries.now + count_by (λ (e : Entry). is_halt e.command) entries.now
+        ≡ count_by (λ (e : Entry). is_admission e.answer) entries.now }
     ensures now { (state_after entries.now).now ≡ latest_asked entries.now }
 {
     let _read = (profile.steps().len(), entries.len());

@@ -48,7 +48,8 @@ pub(crate) fn book_of(
 
 // Whether this entry admitted a play whose plan has at least `keep` bytes.
 fn admits(entry: &Entry, keep: u64) -> bool
-    ensures { IsTrue result → (start : ℕ) × ((segments : List Segment) × ((play_admitted entry.now.command entry.now.answer ≡ Some (whole_play start segments)) × (keep ≤ total_bytes segments))) }
+    ensures { IsTrue result → (start : ℕ) × ((segments : List Segment) ×
+        ((play_admitted entry.now.command entry.now.answer ≡ Some (whole_play start segments)) × (keep ≤ total_bytes segments))) }
 {
     let Command::Play { plan, .. } = &entry.command else {
         return false;

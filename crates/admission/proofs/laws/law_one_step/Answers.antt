@@ -1,4 +1,4 @@
-use Rattle.std.proofs.Common.{◌≡◌, ap, sym, ◌∙◌}
+use Rattle.std.proofs.Common.{ap, sym, ◌∙◌}
 use Rattle.admission.specs.Machine.{next_state}
 use Rattle.admission.proofs.Once.{answer-once}
 use Rattle.admission.proofs.laws.law_one_step.Goals as goal

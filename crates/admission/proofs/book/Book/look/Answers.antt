@@ -1,6 +1,5 @@
-use Rattle.std.proofs.Common.{◌≡◌, ◌≤◌, ◌+◌, ℕ, length, arith, refl, ap, subst, ◌∙◌}
+use Rattle.std.proofs.Common.{◌≡◌, ℕ, length, arith, refl, ap, subst}
 use Rattle.admission.specs.declared.entries.Command.TheVariants.{Look}
-use Rattle.admission.specs.declared.entries.Answer.TheVariants.{Looked}
 use Rattle.admission.specs.Books.{IsNoted, Journal}
 use Rattle.admission.specs.Histories.{live, state_after}
 use Rattle.admission.proofs.Calendars.{look-answer}

@@ -1,4 +1,4 @@
-use Rattle.std.proofs.Common.{◌≡◌, ◌≤◌, ◌+◌, ℕ, length, arith, ap, subst, sym, ◌∙◌}
+use Rattle.std.proofs.Common.{◌≡◌, ◌+◌, ℕ, length, arith, ap, subst}
 use Rattle.admission.specs.declared.entries.Command.TheVariants.{Play}
 use Rattle.admission.specs.Books.{IsNoted, Journal}
 use Rattle.admission.specs.Histories.{live, state_after}
