@@ -41,7 +41,7 @@ release-requires-clause-booked c =
     let start : c.in-Admitted.start ≡ play.start = cc (c.in-Admitted.is, found.answer_is) in
     let same : play ≡ whole_play c.in-Admitted.start c.in-Play.plan =
     found.play_is ∙ ap (λ s. whole_play s play.segments) (sym start) ∙ ap (λ p. whole_play c.in-Admitted.start p) (sym plan) in
-    cut-allowed c.args.calendar.now (state_after c.args.entries.now) c.args.number c.args.keep c.in-Admitted.start c.in-Play.plan found.held found.is same
+    cut-allowed c.args.calendar.now (state_after c.args.entries.now) c.args.number _ c.in-Admitted.start c.in-Play.plan found.held found.is same
     c.requires.follows.stands c.law_release.ensures
 
 pub returns-clause-next : goal.returns-clause-next
