@@ -21,7 +21,7 @@ impl Played {
         }
     }
 
-    // X(slot - start - 1)
+    // the bytes sent before a slot
     fn sum_before(&self, slot: u64) -> u64 {
         if slot <= self.start {
             return 0;
@@ -32,7 +32,7 @@ impl Played {
         }
     }
 
-    // min(X(slot - start), keep) - min(X(slot - start - 1), keep)
+    // the bytes booked in a slot: what is kept of those sent through it, without those sent before it
     fn share(&self, slot: u64) -> u64 {
         let sent = self.sum_before(slot.saturating_add(1)).min(self.keep);
         sent.saturating_sub(self.sum_before(slot).min(self.keep))
