@@ -1,2 +1,9 @@
 pub mod TrackLemmas
 pub mod TraceLemmas
+pub mod PieceLemmas
+pub mod FilmLemmas
+pub mod TableLemmas
+pub mod FrontLemmas
+pub mod RunLemmas
+pub mod SentLemmas
+pub mod NextLemmas

@@ -2,10 +2,22 @@
 //! holding them; and the track of a trace, whose frames are zero bytes.
 #![tactic(auto)]
 
+mod frames;
+mod heads;
+mod laws;
+mod pieces;
+mod rows;
 mod searches;
+mod stores;
+mod tables;
 mod traces;
 mod tracks;
 
+pub use frames::Frames;
+pub use laws::law_wire_sizes;
+pub use pieces::Piece;
+pub use stores::Stored;
+pub use tables::FrameTable;
 pub use traces::TraceTrack;
 pub use tracks::{Part, Track};
 

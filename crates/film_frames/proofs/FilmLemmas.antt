@@ -1,0 +1,111 @@
+-- The pieces of a whole film: they are sound, and their sizes add up to at most 2^42.
+use Rattle.std.proofs.Common.{◌≡◌, ℕ, zero, suc, ◌+◌, ◌-◌, ◌*◌, ◌^◌, ◌<◌, ◌≤◌, Bool, true, false, cond, eqb, ltb, leb, ◌&&◌, List, [], ◌∷◌, ◌++◌, map, sum, length, Some, None, slice_get, refl, sym, ap, subst, ◌∙◌, arith}
+use Rattle.std.proofs.lemmas.List.Sums.{sum_by-cons}
+use Rattle.std.proofs.lemmas.Bool.{and_parts, false≢true, eqb-true}
+use Rattle.mpeg_scan.specs.declared.units.Unit.{Unit as PictureUnit}
+use Rattle.mpeg_scan.specs.declared.films.Film.{Film}
+use Rattle.mpeg_scan.specs.Calls.{Call, head_call, slice_call, unit_call, all_told}
+use Rattle.mpeg_scan.specs.Codes.{read, codes_of}
+use Rattle.mpeg_scan.specs.Films.{IsFilm, slices_in, units_in}
+use Rattle.mpeg_scan.specs.Tiles.{Part, between, within, first_of, parts_after}
+use Rattle.mpeg_scan.proofs.BoundLemmas.{film-bytes, film-units, film-pictures}
+use Rattle.mpeg_scan.proofs.FilmLemmas.{length-read}
+use Rattle.mpeg_scan.proofs.TileLemmas.{film-tiles}
+use Rattle.rtp_pack.specs.Packets.{IsLaid}
+use Rattle.rtp_pack.proofs.LaidLemmas.{AreLaid, film-laid, laid-at}
+use Rattle.film_frames.specs.declared.pieces.Piece.{Piece}
+use Rattle.film_frames.specs.Pieces.{pieces_of, unit_pieces, wire_in, wire_size}
+use Rattle.film_frames.specs.Tables.{IsSound}
+use Rattle.film_frames.proofs.PieceLemmas.{AreSound, pieces-cons, sound-append, unit-bound, unit-le, unit-sound, unit-wire, wire-append}
+
+-- ---- units lie one behind another
+
+abbrev pub AreChained : ℕ → List PictureUnit → ℕ → Type 0
+AreChained from [] to = from ≡ to
+AreChained from (unit ∷ units) to = (unit.from ≡ from) × AreChained unit.to units to
+
+begin_of_part : Part → ℕ
+begin_of_part (between at) = at
+begin_of_part (within from head_end at n) = from
+
+part-fits : (b : Bool) (p : Part) (calls : List Call) (to : ℕ) → parts_after (cond b (Some p) None) calls ≡ Some (between to) → (b ≡ true) × (parts_after (Some p) calls ≡ Some (between to))
+part-fits true p calls to e = (refl, e)
+part-fits false p [] to e = cc
+part-fits false p (call ∷ calls) to e = cc
+
+parts-chained : (calls : List Call) (part : Part) (to : ℕ) → parts_after (Some part) calls ≡ Some (between to) → AreChained (begin_of_part part) (units_in calls) to
+unfolding begin_of_part
+parts-chained [] (between at) to parts = cc
+parts-chained [] (within from head_end at n) to parts = cc
+parts-chained (head_call a b ∷ calls) (between at) to parts =
+    let fits = part-fits (eqb a at && (ltb a b && leb (b - a) 1380)) (within a b b 0) calls to parts in
+    let here = eqb-true a at (and_parts (eqb a at) (ltb a b && leb (b - a) 1380) fits.0).0 in
+    subst (λ f. AreChained f (units_in calls) to) here (parts-chained calls (within a b b 0) to fits.1)
+parts-chained (slice_call a b ∷ calls) (between at) to parts = absurd (false≢true (part-fits false (between at) calls to parts).0)
+parts-chained (unit_call unit ∷ calls) (between at) to parts = absurd (false≢true (part-fits false (between at) calls to parts).0)
+parts-chained (head_call a b ∷ calls) (within from head_end at n) to parts = absurd (false≢true (part-fits false (between at) calls to parts).0)
+parts-chained (slice_call a b ∷ calls) (within from head_end at n) to parts =
+    let fits = part-fits (eqb a at && leb (a + 4) b) (within from head_end b (n + 1)) calls to parts in
+    parts-chained calls (within from head_end b (n + 1)) to fits.1
+parts-chained (unit_call unit ∷ calls) (within from head_end at n) to parts =
+    let fits = part-fits ((eqb unit.from from && (eqb unit.head_end head_end && eqb unit.to at)) && (eqb unit.slices n && ltb 0 n)) (between at) calls to parts in
+    let places = (and_parts (eqb unit.from from && (eqb unit.head_end head_end && eqb unit.to at)) (eqb unit.slices n && ltb 0 n) fits.0).0 in
+    let first = and_parts (eqb unit.from from) (eqb unit.head_end head_end && eqb unit.to at) places in
+    let end = eqb-true unit.to at (and_parts (eqb unit.head_end head_end) (eqb unit.to at) first.1).1 in
+    (eqb-true unit.from from first.0, subst (λ f. AreChained f (units_in calls) to) (sym end) (parts-chained calls (between at) to fits.1))
+
+pub film-chained : (film : Film) → (from : ℕ) × AreChained from film.units.items (length film.bytes.items)
+unfolding begin_of_part
+film-chained film =
+    let r = read [] film.bytes.items in
+    let end : length r ≡ length film.bytes.items = length-read film.bytes.items [] ∙ omega arith in
+    let chained = parts-chained (all_told r) (between (first_of (codes_of r))) (length r) (film-tiles r film.grammar.accepted) in
+    let P : List PictureUnit → Type 0 = λ l. AreChained (first_of (codes_of r)) l (length film.bytes.items) in
+    (first_of (codes_of r), subst P (sym film.grammar.units) (subst (λ e. AreChained (first_of (codes_of r)) (units_in (all_told r)) e) end chained))
+
+-- ---- what follows for the pieces
+
+units-sound : (film starts : List ℕ) (units : List PictureUnit) → AreLaid (length film) starts units → AreSound film (pieces_of starts units)
+units-sound film starts [] laid = tt
+units-sound film starts (unit ∷ units) laid =
+    let P : List Piece → Type 0 = λ l. AreSound film l in
+    subst P (sym (pieces-cons starts unit units)) (sound-append film (unit_pieces starts unit) (pieces_of starts units) (unit-sound film starts unit laid.0.1 laid.0.0) (units-sound film starts units laid.1))
+
+pub laid-film : (film : Film) → AreLaid (length film.bytes.items) film.slice_starts.items film.units.items
+laid-film film = film-laid film.bytes.items film.rate film.units.items film.slice_starts.items film.grammar
+
+pub film-sound : (film : Film) → AreSound film.bytes.items (pieces_of film.slice_starts.items film.units.items)
+film-sound film = units-sound film.bytes.items film.slice_starts.items film.units.items (laid-film film)
+
+pub unit-laid : (film : Film) (number : ℕ) (unit : PictureUnit) → slice_get film.units.items number ≡ Some unit → IsLaid film.slice_starts.items unit
+unit-laid film number unit is = (laid-at (length film.bytes.items) film.slice_starts.items film.units.items number unit is (laid-film film)).1
+
+units-wire : (end : ℕ) (starts : List ℕ) (units : List PictureUnit) → AreLaid end starts units → wire_in (pieces_of starts units) ≡ sum (map (λ u. wire_size starts u) units)
+units-wire end starts [] laid = refl
+units-wire end starts (unit ∷ units) laid =
+    let rest = units-wire end starts units laid.1 in
+    let one = unit-wire starts unit laid.0.1 in
+    let all : wire_in (pieces_of starts (unit ∷ units)) ≡ wire_in (unit_pieces starts unit) + wire_in (pieces_of starts units) =
+    ap (λ l. wire_in l) (pieces-cons starts unit units) ∙ wire-append (unit_pieces starts unit) (pieces_of starts units) in
+    omega (arith, all, one, rest, sum_by-cons (λ n. n) (wire_size starts unit) (map (λ u. wire_size starts u) units))
+
+units-bound : (end : ℕ) (starts : List ℕ) (units : List PictureUnit) (from to : ℕ) → AreLaid end starts units → AreChained from units to
+    → sum (map (λ u. wire_size starts u) units) + 2 * from ≤ 2 * to + 112 * length units
+units-bound end starts [] from to laid chained = omega (arith, chained)
+units-bound end starts (unit ∷ units) from to laid chained =
+    let rest = units-bound end starts units unit.to to laid.1 chained.1 in
+    omega (arith, rest, chained.0, unit-bound starts unit laid.0.1, unit-le starts unit laid.0.1, sum_by-cons (λ n. n) (wire_size starts unit) (map (λ u. wire_size starts u) units))
+
+pub film-wire : (film : Film) → wire_in (pieces_of film.slice_starts.items film.units.items) ≡ sum (map (λ u. wire_size film.slice_starts.items u) film.units.items)
+film-wire film = units-wire (length film.bytes.items) film.slice_starts.items film.units.items (laid-film film)
+
+pub film-few : (film : Film) → length film.units.items ≤ 4194304
+film-few film =
+    let units = ap (λ (l : List PictureUnit). length l) film.grammar.units ∙ film-units film.bytes.items film.grammar.accepted in
+    omega (arith, units, film-pictures (read [] film.bytes.items) film.grammar.accepted)
+
+pub film-bound : (film : Film) → sum (map (λ u. wire_size film.slice_starts.items u) film.units.items) ≤ 2 ^ 42
+film-bound film =
+    let chained = film-chained film in
+    omega (arith, film-few film, film-bytes film.bytes.items film.grammar.accepted,
+    units-bound (length film.bytes.items) film.slice_starts.items film.units.items chained.0 (length film.bytes.items) (laid-film film) chained.1)

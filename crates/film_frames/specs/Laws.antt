@@ -1,0 +1,29 @@
+-- What a reader expects of the bytes of a run.
+use Rattle.std.specs.Prelude.{ℕ, ◌+◌, ◌%◌, ◌^◌, ◌<◌, ◌≤◌, ◌≡◌, List, [], ◌∷◌, ◌++◌, length, drop, flat_map, get_or}
+use Rattle.rtp_pack.specs.Heads.{head_at}
+use Rattle.film_frames.specs.declared.pieces.Piece.{Piece}
+use Rattle.film_frames.specs.declared.pieces.Piece.TheVariants.{Report, Frame}
+use Rattle.film_frames.specs.Runs.{Run, sent, run_pieces}
+
+-- the bytes of the frames, among those of pieces
+abbrev pub frames_among : List Piece → List (List ℕ) → List (List ℕ)
+frames_among [] all = []
+frames_among (piece ∷ pieces) [] = []
+frames_among (Report unit ∷ pieces) (bytes ∷ all) = frames_among pieces all
+frames_among (Frame unit packet ∷ pieces) (bytes ∷ all) = bytes ∷ frames_among pieces all
+
+-- the bytes of each frame of a run, in order
+abbrev pub run_frames : Run → List (List ℕ)
+run_frames run = frames_among (sent run) (run_pieces run)
+
+-- the payloads of frames, one behind another: what follows the 20 bytes of heads
+abbrev pub payloads : List (List ℕ) → List ℕ
+payloads frames = flat_map (λ frame. drop 20 frame) frames
+
+-- the sequence number of a frame
+abbrev pub sequence_of : List ℕ → ℕ
+sequence_of frame = (head_at (drop 4 frame)).sequence
+
+-- sequence numbers count on from a first, modulo 2^16
+abbrev pub DoCountOn : ℕ → List (List ℕ) → Type 0
+DoCountOn sequence frames = (k : ℕ) → k < length frames → sequence_of (get_or frames k []) ≡ (sequence + k) % 2 ^ 16

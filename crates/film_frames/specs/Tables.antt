@@ -1,0 +1,65 @@
+-- The table of a film's reports and frames.
+use Rattle.std.specs.Prelude.{ℕ, ◌+◌, ◌-◌, ◌^◌, ◌≤◌, ◌<◌, ◌≡◌, if◌then◌else◌, List, length, take, get_or, slice_get, Some}
+use Rattle.mpeg_scan.specs.declared.units.Unit.{Unit as PictureUnit}
+use Rattle.mpeg_scan.specs.declared.films.Film.{Film}
+use Rattle.rtp_pack.specs.declared.payloads.Packet.{Packet}
+use Rattle.rtp_pack.specs.Packets.{packet}
+use Rattle.film_frames.specs.declared.pieces.Piece.{Piece}
+use Rattle.film_frames.specs.declared.pieces.Piece.TheVariants.{Report, Frame}
+use Rattle.film_frames.specs.declared.rows.Row.{Row}
+use Rattle.film_frames.specs.declared.tables.FrameTable.{FrameTable}
+use Rattle.film_frames.specs.Pieces.{pieces_of, unit_of, wire_of, wire_in, frames_in}
+
+-- the piece of a row, where its unit and its bytes are known
+abbrev pub row_piece : Row → PictureUnit → ℕ → Piece
+row_piece row unit size =
+    if row.report then Report unit
+    else Frame unit (packet unit row.from (row.from + (size - 20)) row.begin row.end)
+
+-- a frame's packet has 1 to 1,380 bytes of the film, and its flags are those of its place in the unit
+pub record IsCut (film : List ℕ) (unit : PictureUnit) (its : Packet) : Type 0 where
+  pub some : its.from < its.to
+  pub short : its.to ≤ its.from + 1380
+  pub within : its.to ≤ length film
+  pub formed : packet unit its.from its.to its.begin its.end ≡ its
+
+abbrev pub IsSound : List ℕ → Piece → Type 0
+IsSound film (Report unit) = Unit {0}
+IsSound film (Frame unit its) = IsCut film unit its
+
+-- a row tells of a piece: the number of its unit, and what is in it
+pub record IsRow (units : List PictureUnit) (row : Row) (piece : Piece) : Type 0 where
+  pub unit : slice_get units row.unit ≡ Some (unit_of piece)
+  pub piece_is : row_piece row (unit_of piece) (wire_of piece) ≡ piece
+
+-- a table of pieces: where each begins and how many frames come before it, with the end of the last; and its row
+pub record IsTable (units : List PictureUnit) (pieces : List Piece) (table : FrameTable) : Type 0 where
+  pub places_count : length table.places.items ≡ length pieces + 1
+  pub frames_count : length table.frames.items ≡ length pieces + 1
+  pub rows_count : length table.rows.items ≡ length pieces
+  pub place : (k : ℕ) → k ≤ length pieces → get_or table.places.items k 0 ≡ wire_in (take k pieces)
+  pub frame : (k : ℕ) → k ≤ length pieces → get_or table.frames.items k 0 ≡ frames_in (take k pieces)
+  pub row : (k : ℕ) (some : Row) (piece : Piece) → slice_get pieces k ≡ Some piece → IsRow units (get_or table.rows.items k some) piece
+
+-- the number of pieces before each unit, up to a number of units
+pub record AreFirsts (slice_starts : List ℕ) (units : List PictureUnit) (number : ℕ) (firsts : List ℕ) : Type 0 where
+  pub count : length firsts ≡ number + 1
+  pub first : (k : ℕ) → k ≤ number → get_or firsts k 0 ≡ length (pieces_of slice_starts (take k units))
+
+-- a table is that of a film
+pub record IsTableOf (film : Film) (table : FrameTable) : Type 0 where
+  pub pieces : IsTable film.units.items (pieces_of film.slice_starts.items film.units.items) table
+  pub firsts : AreFirsts film.slice_starts.items film.units.items (length film.units.items) table.firsts.items
+
+-- a table of some film has a unit of that number
+pub record HasUnit (table : FrameTable) (unit : ℕ) : Type 0 where
+  pub film : Film
+  pub table_is : IsTableOf film table
+  pub within : unit < length film.units.items
+
+-- one more piece goes into a table: its bytes and frames stay below these
+pub record HasRoom (table : FrameTable) : Type 0 where
+  pub places_count : length table.places.items ≡ length table.rows.items + 1
+  pub frames_count : length table.frames.items ≡ length table.rows.items + 1
+  pub places : get_or table.places.items (length table.rows.items) 0 ≤ 2 ^ 42
+  pub frames : get_or table.frames.items (length table.rows.items) 0 ≤ 2 ^ 42

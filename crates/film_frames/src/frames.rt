@@ -1,0 +1,222 @@
+ghost use Rattle.mpeg_scan.specs.Rates.{picture_time};
+ghost use Rattle.std.specs.Prelude.{◌≡◌, ◌+◌, ◌-◌, ◌^◌, ◌++◌, ◌<◌, ◌≤◌, ℕ, length, take, drop, slice_get, slice_range, Some};
+ghost use Rattle.film_frames.specs.Pieces.{frames_in, octets_in, wire_in};
+ghost use Rattle.film_frames.specs.Runs.{HaveEnded, frames_before, octets_before, payload, piece_bytes, run_of, run_pieces, sent};
+ghost use Rattle.film_frames.specs.Tables.{IsCut, IsSound};
+ghost use Rattle.film_frames.specs.declared.pieces.Piece.TheVariants.{Frame, Report};
+ghost use Rattle.film_frames.specs.Tracks.{IsBoundary, IsNext, begin_of, framed};
+
+use crate::heads::{put_heads, report_block};
+use crate::pieces::{HEADS, Piece, REPORT};
+use crate::searches::ends_below;
+use crate::stores::Stored;
+use crate::tracks::{Part, Track};
+use mpeg_scan::{Unit, law_film, picture_units};
+use rtp_pack::{Identity, Packet, packet_head, unit_report};
+use std::marker::Model;
+
+/// The bytes of a frame that its octets don't count: the interleaved head and the RTP header.
+const UNCOUNTED: u64 = 16;
+
+/// A run: units of a film, one behind another, that are sent under an identity. Contracts see the run.
+#[derive(Drop)]
+pub struct Frames<'a> {
+    stored: &'a Stored,
+    first_unit: usize,
+    end_unit: usize,
+    identity: Identity,
+}
+
+impl<'a> Model for Frames<'a> {
+    ghost use Rattle.std.specs.Prelude.{◌≤◌, ◌<◌, length};
+    ghost use Rattle.film_frames.specs.Runs.{Run, run_of};
+
+    ghost Value = { Run };
+
+    ghost view = { λ f. run_of f.stored.now.film f.first_unit f.end_unit f.identity };
+
+    ghost invariant = { λ f. (f.first_unit < f.end_unit) × (f.end_unit ≤ length f.stored.now.film.units.items) };
+}
+
+impl<'a> Frames<'a> {
+    /// The run of the units from one on to another, which isn't in it.
+    pub fn new(
+        stored: &'a Stored,
+        first_unit: usize,
+        end_unit: usize,
+        identity: Identity,
+    ) -> Frames<'a>
+        requires order { first_unit < end_unit }
+        requires within { end_unit ≤ length stored.now.film.units.items }
+        ensures { result ≡ run_of stored.now.film first_unit end_unit identity }
+    {
+        Frames {
+            stored,
+            first_unit,
+            end_unit,
+            identity,
+        }
+    }
+
+    /// The number of the RTP frames of the run that end at or before `at`, any at. Reports don't count.
+    pub fn frames_before(&self, at: u64) -> u64
+        ensures { result ≡ frames_before self.now at }
+    {
+        self.frames(self.ended(at))
+    }
+
+    /// The octets of the RTP frames of the run that end at or before `at`: their video headers and payloads.
+    pub fn octets_before(&self, at: u64) -> u64
+        ensures { result ≡ octets_before self.now at }
+    {
+        self.octets(self.ended(at))
+    }
+
+    /// How many pieces the run has.
+    fn count(&self) -> usize
+        ensures count { result ≡ length (sent self.now) }
+        ensures pieces { result ≡ length (run_pieces self.now) }
+    {
+        let stored = self.stored;
+        stored.first_piece(self.end_unit) - stored.first_piece(self.first_unit)
+    }
+
+    /// Where a piece of the run begins, or the last ends.
+    fn place(&self, piece: usize) -> u64
+        requires { piece ≤ length (sent self.now) }
+        ensures begin { result ≡ begin_of (run_pieces self.now) piece }
+        ensures wire { result ≡ wire_in (take piece (sent self.now)) }
+    {
+        let stored = self.stored;
+        let first = stored.first_piece(self.first_unit);
+        stored.place(first + piece) - stored.place(first)
+    }
+
+    /// How many frames of the run come before a piece.
+    fn frames(&self, piece: usize) -> u64
+        requires { piece ≤ length (sent self.now) }
+        ensures { result ≡ frames_in (take piece (sent self.now)) }
+    {
+        let stored = self.stored;
+        let first = stored.first_piece(self.first_unit);
+        stored.frames(first + piece) - stored.frames(first)
+    }
+
+    /// The octets of the frames of the run that come before a piece.
+    fn octets(&self, piece: usize) -> u64
+        requires { piece ≤ length (sent self.now) }
+        ensures { result ≡ octets_in (take piece (sent self.now)) }
+    {
+        let frames = self.frames(piece);
+        let reports = piece as u64 - frames;
+        self.place(piece) - UNCOUNTED * frames - REPORT * reports
+    }
+
+    /// A piece of the run.
+    fn piece(&self, number: usize) -> Piece
+        requires { number < length (sent self.now) }
+        ensures piece { slice_get (sent self.now) number ≡ Some result }
+        ensures sound { IsSound self.now.film result }
+    {
+        let stored = self.stored;
+        stored.piece(stored.first_piece(self.first_unit) + number)
+    }
+
+    /// How many pieces of the run end at or before `at`.
+    fn ended(&self, at: u64) -> usize
+        ensures ended { HaveEnded (run_pieces self.now) at result }
+        ensures few { result ≤ 2 ^ 42 }
+    {
+        let stored = self.stored;
+        let first = stored.first_piece(self.first_unit);
+        let end = stored.first_piece(self.end_unit);
+        let place = stored.place(first) + at.min(self.total()) + 1;
+        ends_below(stored.ends(first, end), place)
+    }
+
+    /// The bytes of a report that stands behind so many pieces.
+    fn report(&self, number: usize, unit: &Unit) -> [u8; 52]
+        requires { number ≤ length (sent self.now) }
+        ensures { result ≡ piece_bytes self.now (frames_in (take number (sent self.now))) (octets_in (take number (sent self.now))) (Report unit.now) }
+    {
+        let frames = self.frames(number);
+        let octets = self.octets(number);
+        let report = unit_report(&self.identity, self.picture_time(), unit, frames, octets);
+        report_block(self.identity.control, &report)
+    }
+
+    /// Writes the 20 bytes of heads of a frame that stands behind so many pieces.
+    fn put_heads(&self, number: usize, unit: &Unit, packet: &Packet, head: &mut [u8; 52])
+        requires number { number ≤ length (sent self.now) }
+        requires packet { IsCut self.now.film unit.now packet.now }
+        ensures { (octets : ℕ) → take 20 head.new ++ payload self.now.film packet.now ≡ piece_bytes self.now (frames_in (take number (sent self.now))) octets (Frame unit.now packet.now) }
+    {
+        let frames = self.frames(number);
+        let its = packet_head(&self.identity, self.picture_time(), unit, packet, frames);
+        put_heads(head, self.identity.channel, &its, packet.to - packet.from);
+    }
+
+    /// The payload of a packet without so many bytes from its front.
+    fn payload(&self, packet: &Packet, without: u64) -> &[u8]
+        requires front { packet.now.from + without ≤ packet.now.to }
+        requires within { packet.now.to ≤ length self.now.film }
+        ensures { result.now ≡ take (packet.now.to - (packet.now.from + without)) (drop (packet.now.from + without) self.now.film) }
+    {
+        let stored = self.stored;
+        &stored.film.bytes[(packet.from + without) as usize..packet.to as usize]
+    }
+
+    /// The time of a picture in 1/360,000 second.
+    fn picture_time(&self) -> u32
+        ensures { result ≡ picture_time self.now.rate }
+    {
+        let stored = self.stored;
+        law_film(&stored.film);
+        picture_units(stored.film.rate)
+    }
+}
+
+impl Track for Frames<'_> {
+    ghost pieces = { run_pieces };
+
+    fn total(&self) -> u64 {
+        self.place(self.count())
+    }
+
+    fn boundary_after(&self, at: u64) -> u64 {
+        if at == 0 {
+            return 0;
+        }
+        self.place(self.ended(at - 1) + 1)
+    }
+
+    /// The bytes from `at` on to the end of its report or frame. The payload is lent from the film's bytes.
+    fn part(&self, at: u64, head: &mut [u8; 52]) -> Part<'_>
+        requires { at < length (framed (run_pieces self.now)) }
+        ensures order { result.head_from ≤ result.head_to }
+        ensures within { result.head_to ≤ 52 }
+        ensures bytes { IsNext (run_pieces self.now) at (slice_range head.new result.head_from result.head_to ++ result.payload.now) }
+        ensures whole { IsBoundary (run_pieces self.now) (at + (result.head_to - result.head_from) + length result.payload.now) }
+    {
+        let number = self.ended(at);
+        let inside = at - self.place(number);
+        match self.piece(number) {
+            Piece::Report(unit) => {
+                *head = self.report(number, &unit);
+                Part {
+                    head_from: inside as usize,
+                    head_to: REPORT as usize,
+                    payload: &[],
+                }
+            }
+            Piece::Frame(unit, packet) => {
+                self.put_heads(number, &unit, &packet, head);
+                Part {
+                    head_from: inside.min(HEADS) as usize,
+                    head_to: HEADS as usize,
+                    payload: self.payload(&packet, inside.max(HEADS) - HEADS),
+                }
+            }
+        }
+    }
+}

@@ -1,0 +1,26 @@
+ghost use Rattle.std.specs.Prelude.{◌≡◌, ◌+◌, ◌++◌, ◌≤◌, ◌/◌, ◌%◌, ◌∷◌, take};
+ghost use Rattle.rtp_pack.specs.Heads.{head_bytes};
+ghost use Rattle.rtp_pack.specs.Reports.{report_bytes};
+ghost use Rattle.film_frames.specs.Runs.{interleaved};
+
+use interleave::frame_head;
+use rtp_pack::{Head, Report, write_head, write_report};
+
+/// A report with its interleaved head.
+pub(crate) fn report_block(control: u8, report: &Report) -> [u8; 52]
+    ensures { result ≡ interleaved control (report_bytes report.now) }
+{
+    let mut block = [0; 52];
+    block[..4].copy_from_slice(&frame_head(control, 48));
+    block[4..].copy_from_slice(&write_report(report));
+    block
+}
+
+/// Writes the heads of a frame with a payload of `length` bytes: the interleaved head and the packet's, 20 bytes.
+pub(crate) fn put_heads(block: &mut [u8; 52], channel: u8, head: &Head, length: u64)
+    requires { length ≤ 1380 }
+    ensures { take 20 block.new ≡ 36 ∷ channel ∷ ((16 + length) / 256) ∷ ((16 + length) % 256) ∷ head_bytes head.now }
+{
+    block[..4].copy_from_slice(&frame_head(channel, 16 + length as u16));
+    block[4..20].copy_from_slice(&write_head(head));
+}

@@ -1,0 +1,77 @@
+ghost use Rattle.std.specs.Prelude.{◌≡◌, ◌+◌, ◌^◌, ◌<◌, ◌≤◌, ℕ, List, false, slice_get, Some};
+ghost use Rattle.mpeg_scan.specs.declared.units.Unit.{Unit as PictureUnit};
+ghost use Rattle.film_frames.specs.Pieces.{unit_of, wire_of};
+ghost use Rattle.film_frames.specs.Tables.{IsRow, IsSound, row_piece};
+
+use crate::pieces::{HEADS, Piece};
+use mpeg_scan::Unit;
+use rtp_pack::Packet;
+
+/// What is kept of a report or a frame.
+#[derive(Clone, Copy, Debug, PartialEq, Eq)]
+pub(crate) struct Row {
+    /// The place of the payload's first byte in the film.
+    from: u64,
+    /// The number of its unit.
+    unit: u32,
+    /// Whether it is a report.
+    report: bool,
+    /// Whether the payload begins with a slice, or with the unit's head and a slice behind it.
+    begin: bool,
+    /// Whether the payload ends with a slice's last byte.
+    end: bool,
+}
+
+impl Row {
+    /// The row of a piece, by the number of its unit.
+    pub(crate) fn new(unit: u32, piece: &Piece) -> Row
+        ensures { (film : List ℕ) (units : List PictureUnit) → IsSound film piece.now → slice_get units unit ≡ Some (unit_of piece.now) → IsRow units result piece.now }
+    {
+        match piece {
+            Piece::Report(_) => Row {
+                from: 0,
+                unit,
+                report: true,
+                begin: false,
+                end: false,
+            },
+            Piece::Frame(_, packet) => Row {
+                from: packet.from,
+                unit,
+                report: false,
+                begin: packet.begin,
+                end: packet.end,
+            },
+        }
+    }
+
+    /// The number of its unit.
+    pub(crate) fn unit(&self) -> usize
+        ensures { result ≡ self.now.unit }
+    {
+        self.unit as usize
+    }
+
+    /// The piece, by its unit and the number of its bytes.
+    pub(crate) fn piece(&self, unit: &Unit, size: u64) -> Piece
+        requires least { 20 ≤ size }
+        requires most { self.now.report ≡ false → self.now.from + size < 2 ^ 64 }
+        ensures { result ≡ row_piece self.now unit.now size }
+    {
+        if self.report {
+            return Piece::Report(*unit);
+        }
+        let to = self.from + (size - HEADS);
+        Piece::Frame(
+            *unit,
+            Packet {
+                from: self.from,
+                to,
+                marker: to == unit.to,
+                begin: self.begin,
+                end: self.end,
+                sequence_header: unit.has_sequence && self.from == unit.from,
+            },
+        )
+    }
+}

@@ -1,0 +1,86 @@
+ghost use Rattle.film_frames.specs.Tables.{IsTableOf};
+
+use crate::pieces::Piece;
+use crate::tables::FrameTable;
+use mpeg_scan::Film;
+use std::alloc::Global;
+use vod_base::NoMemory;
+
+/// A film with its name and its table of frames.
+#[derive(Drop)]
+pub struct Stored {
+    /// The name by which it is asked for.
+    pub name: String,
+    /// The film.
+    pub film: Film,
+    /// Its table.
+    pub table: FrameTable,
+    pub ghost table_is: { IsTableOf film table },
+}
+
+impl Stored {
+    ghost use Rattle.std.specs.Prelude.{◌≡◌, ◌+◌, ◌-◌, ◌<◌, ◌≤◌, ℕ, length, take, get_or, slice_get, string_bytes, Some, IfOk};
+    ghost use Rattle.rtp_pack.specs.Packets.{OfUnit};
+    ghost use Rattle.film_frames.specs.Pieces.{frames_in, pieces_of, wire_in, wire_size};
+
+    /// A film under a name, with its table.
+    pub fn new(alloc: Global, name: String, film: Film) -> Result<Stored, NoMemory>
+        ensures name { IfOk result (λ stored. string_bytes stored.name ≡ string_bytes name) }
+        ensures film { IfOk result (λ stored. stored.film ≡ film) }
+    {
+        let table = FrameTable::make(alloc, &film)?;
+        Ok(Stored { name, film, table })
+    }
+
+    /// The bytes of a unit on the wire: its frames, and the report before it if it starts a group.
+    pub fn wire_size(&self, unit: usize) -> u64
+        requires { unit < length self.now.film.units.items }
+        ensures { OfUnit self.now.film.units.items unit (λ u. result ≡ wire_size self.now.film.slice_starts.items u) }
+    {
+        self.table.wire_size(unit)
+    }
+
+    /// How many pieces of the film come before a unit.
+    pub(crate) fn first_piece(&self, unit: usize) -> usize
+        requires { unit ≤ length self.now.film.units.items }
+        ensures { result ≡ length (pieces_of self.now.film.slice_starts.items (take unit self.now.film.units.items)) }
+    {
+        self.table.first(unit)
+    }
+
+    /// Where a piece of the film begins among all its framed bytes, or the last ends.
+    pub(crate) fn place(&self, piece: usize) -> u64
+        requires { piece ≤ length (pieces_of self.now.film.slice_starts.items self.now.film.units.items) }
+        ensures { result ≡ wire_in (take piece (pieces_of self.now.film.slice_starts.items self.now.film.units.items)) }
+    {
+        self.table.place(piece)
+    }
+
+    /// How many frames of the film come before a piece.
+    pub(crate) fn frames(&self, piece: usize) -> u64
+        requires { piece ≤ length (pieces_of self.now.film.slice_starts.items self.now.film.units.items) }
+        ensures { result ≡ frames_in (take piece (pieces_of self.now.film.slice_starts.items self.now.film.units.items)) }
+    {
+        self.table.frames(piece)
+    }
+
+    /// Where the pieces from one on to another end.
+    pub(crate) fn ends(&self, from: usize, to: usize) -> &[u64]
+        requires order { from ≤ to }
+        requires within { to ≤ length (pieces_of self.now.film.slice_starts.items self.now.film.units.items) }
+        ensures count { length result.now ≡ to - from }
+        ensures each { (k : ℕ) → k < to - from → get_or result.now k 0 ≡ wire_in (take (from + k + 1) (pieces_of self.now.film.slice_starts.items self.now.film.units.items)) }
+    {
+        self.table.places(from + 1, to + 1)
+    }
+
+    /// The piece of the film of that number.
+    pub(crate) fn piece(&self, number: usize) -> Piece
+        requires { number < length (pieces_of self.now.film.slice_starts.items self.now.film.units.items) }
+        ensures { slice_get (pieces_of self.now.film.slice_starts.items self.now.film.units.items) number ≡ Some result }
+    {
+        let row = self.table.row(number);
+        let size = self.table.place(number + 1) - self.table.place(number);
+        row.piece(&self.film.units[row.unit()], size)
+    }
+}

@@ -1,0 +1,190 @@
+ghost use Rattle.std.specs.Prelude.{◌≡◌, ◌+◌, ◌-◌, ◌*◌, ◌<◌, ◌≤◌, ◌++◌, ℕ, List, [], ◌∷◌, length, take, drop, get_or, slice_get, Some, IfOk, OnOk};
+ghost use Rattle.mpeg_scan.specs.declared.units.Unit.{Unit as PictureUnit};
+ghost use Rattle.mpeg_scan.specs.declared.films.Film.{Film};
+ghost use Rattle.rtp_pack.specs.Packets.{OfUnit, unit_packets};
+ghost use Rattle.film_frames.specs.declared.pieces.Piece.{Piece};
+ghost use Rattle.film_frames.specs.Pieces.{pieces_of, unit_of, unit_reports, wire_size};
+ghost use Rattle.film_frames.specs.Tables.{AreFirsts, HasRoom, HasUnit, IsSound, IsTable, IsTableOf};
+
+use crate::pieces::{Piece, count_of, wire_of};
+use crate::rows::Row;
+use mpeg_scan::Film;
+use rtp_pack::{Packet, packets};
+use std::alloc::Global;
+use vod_base::NoMemory;
+
+/// For each report and each frame of a film its place among all framed bytes, and what it carries.
+///
+/// It takes 32 bytes for each of them, and 8 for each unit.
+#[derive(Debug, Drop)]
+pub struct FrameTable {
+    /// Where each piece begins among all framed bytes of the film, and where the last ends.
+    places: Vec<u64>,
+    /// How many frames come before each piece, and how many there are.
+    frames: Vec<u64>,
+    /// What each piece is.
+    rows: Vec<Row>,
+    /// How many pieces come before each unit, and how many there are.
+    firsts: Vec<u64>,
+}
+
+/// Appends a number.
+fn push(numbers: &mut Vec<u64>, number: u64) -> Result<(), NoMemory>
+    ensures { OnOk result (numbers.new.items ≡ numbers.old.items ++ number ∷ []) }
+{
+    match numbers.push(number) {
+        Ok(()) => Ok(()),
+        Err(_) => Err(NoMemory),
+    }
+}
+
+impl FrameTable {
+    /// The table of a film.
+    pub fn make(alloc: Global, film: &Film) -> Result<FrameTable, NoMemory>
+        ensures { IfOk result (λ table. IsTableOf film.now table) }
+    {
+        let mut table = FrameTable::new(alloc)?;
+        for number in 0..film.units.len() {
+            table.put_unit(alloc, film, number)?;
+        }
+        Ok(table)
+    }
+
+    /// The bytes of a unit of the film on the wire: its frames, and the report before it if it starts a group.
+    ///
+    /// A unit of L bytes takes at most 2 * L + 112.
+    pub fn wire_size(&self, unit: usize) -> u64
+        requires { HasUnit self.now unit }
+        ensures size { (film : Film) → IsTableOf film self.now → OfUnit film.units.items unit (λ u. result ≡ wire_size film.slice_starts.items u) }
+        ensures bound { (film : Film) → IsTableOf film self.now → OfUnit film.units.items unit (λ u. result ≤ 2 * (u.to - u.from) + 112) }
+    {
+        let first = self.firsts[unit] as usize;
+        let end = self.firsts[unit + 1] as usize;
+        self.places[end] - self.places[first]
+    }
+
+    /// A table without pieces.
+    fn new(alloc: Global) -> Result<FrameTable, NoMemory>
+        ensures table { (units : List PictureUnit) → IfOk result (λ table. IsTable units [] table) }
+        ensures firsts { (starts : List ℕ) (units : List PictureUnit) → IfOk result (λ table. AreFirsts starts units 0 table.firsts.items) }
+    {
+        let mut table = FrameTable {
+            places: Vec::new(alloc),
+            frames: Vec::new(alloc),
+            rows: Vec::new(alloc),
+            firsts: Vec::new(alloc),
+        };
+        push(&mut table.places, 0)?;
+        push(&mut table.frames, 0)?;
+        push(&mut table.firsts, 0)?;
+        Ok(table)
+    }
+
+    /// Appends a piece of the unit of that number.
+    fn put(&mut self, number: u32, piece: Piece) -> Result<(), NoMemory>
+        requires room { HasRoom self.old }
+        requires sound { (film : List ℕ) × IsSound film piece }
+        ensures table { (film : List ℕ) (units : List PictureUnit) (pieces : List Piece) → IsSound film piece → slice_get units number ≡ Some (unit_of piece) → IsTable units pieces self.old → OnOk result (IsTable units (pieces ++ piece ∷ []) self.new) }
+        ensures firsts { OnOk result (self.new.firsts.items ≡ self.old.firsts.items) }
+    {
+        let last = self.rows.len();
+        let end = self.places[last] + wire_of(&piece);
+        let count = self.frames[last] + count_of(&piece);
+        push(&mut self.places, end)?;
+        push(&mut self.frames, count)?;
+        match self.rows.push(Row::new(number, &piece)) {
+            Ok(()) => Ok(()),
+            Err(_) => Err(NoMemory),
+        }
+    }
+
+    /// Appends the report of a unit that starts a group, behind the units before it.
+    fn put_report(&mut self, film: &Film, number: usize) -> Result<(), NoMemory>
+        requires within { number < length film.now.units.items }
+        requires table { IsTable film.now.units.items (pieces_of film.now.slice_starts.items (take number film.now.units.items)) self.old }
+        ensures table { OfUnit film.now.units.items number (λ u. OnOk result (IsTable film.now.units.items (pieces_of film.now.slice_starts.items (take number film.now.units.items) ++ unit_reports u) self.new)) }
+        ensures firsts { OnOk result (self.new.firsts.items ≡ self.old.firsts.items) }
+    {
+        let unit = film.units[number];
+        if unit.starts_group {
+            return self.put(number as u32, Piece::Report(unit));
+        }
+        Ok(())
+    }
+
+    /// Appends the frames of a unit, behind the units before it and its report.
+    fn put_frames(
+        &mut self,
+        film: &Film,
+        number: usize,
+        packets: &[Packet],
+    ) -> Result<(), NoMemory>
+        requires within { number < length film.now.units.items }
+        requires packets { OfUnit film.now.units.items number (λ u. packets.now ≡ unit_packets film.now.slice_starts.items u) }
+        requires table { OfUnit film.now.units.items number (λ u. IsTable film.now.units.items (pieces_of film.now.slice_starts.items (take number film.now.units.items) ++ unit_reports u) self.old) }
+        ensures table { OnOk result (IsTable film.now.units.items (pieces_of film.now.slice_starts.items (take (number + 1) film.now.units.items)) self.new) }
+        ensures firsts { OnOk result (self.new.firsts.items ≡ self.old.firsts.items) }
+    {
+        let unit = film.units[number];
+        for packet in packets {
+            self.put(number as u32, Piece::Frame(unit, *packet))?;
+        }
+        Ok(())
+    }
+
+    /// Appends the pieces of a unit, behind the units before it.
+    fn put_unit(&mut self, alloc: Global, film: &Film, number: usize) -> Result<(), NoMemory>
+        requires within { number < length film.now.units.items }
+        requires table { IsTable film.now.units.items (pieces_of film.now.slice_starts.items (take number film.now.units.items)) self.old }
+        requires firsts { AreFirsts film.now.slice_starts.items film.now.units.items number self.old.firsts.items }
+        ensures table { OnOk result (IsTable film.now.units.items (pieces_of film.now.slice_starts.items (take (number + 1) film.now.units.items)) self.new) }
+        ensures firsts { OnOk result (AreFirsts film.now.slice_starts.items film.now.units.items (number + 1) self.new.firsts.items) }
+    {
+        let packets = packets(alloc, film, number)?;
+        self.put_report(film, number)?;
+        self.put_frames(film, number, &packets)?;
+        let pieces = self.rows.len() as u64;
+        push(&mut self.firsts, pieces)
+    }
+
+    /// How many pieces come before a unit.
+    pub(crate) fn first(&self, unit: usize) -> usize
+        requires { unit < length self.now.firsts.items }
+        ensures { result ≡ get_or self.now.firsts.items unit 0 }
+    {
+        self.firsts[unit] as usize
+    }
+
+    /// Where a piece begins among all framed bytes of the film, or the last ends.
+    pub(crate) fn place(&self, piece: usize) -> u64
+        requires { piece < length self.now.places.items }
+        ensures { result ≡ get_or self.now.places.items piece 0 }
+    {
+        self.places[piece]
+    }
+
+    /// Where the pieces from one on to another begin.
+    pub(crate) fn places(&self, from: usize, to: usize) -> &[u64]
+        requires order { from ≤ to }
+        requires within { to ≤ length self.now.places.items }
+        ensures { result.now ≡ take (to - from) (drop from self.now.places.items) }
+    {
+        &self.places[from..to]
+    }
+
+    /// How many frames come before a piece.
+    pub(crate) fn frames(&self, piece: usize) -> u64
+        requires { piece < length self.now.frames.items }
+        ensures { result ≡ get_or self.now.frames.items piece 0 }
+    {
+        self.frames[piece]
+    }
+
+    /// What a piece is.
+    pub(crate) fn row(&self, piece: usize) -> Row
+        requires { piece < length self.now.rows.items }
+        ensures { result ≡ get_or self.now.rows.items piece result }
+    {
+        self.rows[piece]
+    }
+}
