@@ -1,12 +1,12 @@
 -- The pieces of a whole film: they are sound, and their sizes add up to at most 2^42.
-use Rattle.std.proofs.Common.{◌≡◌, ℕ, zero, suc, ◌+◌, ◌-◌, ◌*◌, ◌^◌, ◌<◌, ◌≤◌, Bool, true, false, cond, eqb, ltb, leb, ◌&&◌, List, [], ◌∷◌, ◌++◌, map, sum, length, Some, None, slice_get, refl, sym, ap, subst, ◌∙◌, arith}
+use Rattle.std.proofs.Common.{◌≡◌, ℕ, ◌+◌, ◌-◌, ◌*◌, ◌^◌, ◌≤◌, Bool, true, false, cond, eqb, ltb, leb, ◌&&◌, List, [], ◌∷◌, map, sum, length, Some, None, slice_get, refl, sym, ap, subst, ◌∙◌, arith}
 use Rattle.std.proofs.lemmas.List.Sums.{sum_by-cons}
 use Rattle.std.proofs.lemmas.Bool.{and_parts, false≢true, eqb-true}
 use Rattle.mpeg_scan.specs.declared.units.Unit.{Unit as PictureUnit}
 use Rattle.mpeg_scan.specs.declared.films.Film.{Film}
 use Rattle.mpeg_scan.specs.Calls.{Call, head_call, slice_call, unit_call, all_told}
 use Rattle.mpeg_scan.specs.Codes.{read, codes_of}
-use Rattle.mpeg_scan.specs.Films.{IsFilm, slices_in, units_in}
+use Rattle.mpeg_scan.specs.Films.{units_in}
 use Rattle.mpeg_scan.specs.Tiles.{Part, between, within, first_of, parts_after}
 use Rattle.mpeg_scan.proofs.BoundLemmas.{film-bytes, film-units, film-pictures}
 use Rattle.mpeg_scan.proofs.FilmLemmas.{length-read}
@@ -15,7 +15,6 @@ use Rattle.rtp_pack.specs.Packets.{IsLaid}
 use Rattle.rtp_pack.proofs.LaidLemmas.{AreLaid, film-laid, laid-at}
 use Rattle.film_frames.specs.declared.pieces.Piece.{Piece}
 use Rattle.film_frames.specs.Pieces.{pieces_of, unit_pieces, wire_in, wire_size}
-use Rattle.film_frames.specs.Tables.{IsSound}
 use Rattle.film_frames.proofs.PieceLemmas.{AreSound, pieces-cons, sound-append, unit-bound, unit-le, unit-sound, unit-wire, wire-append}
 
 -- ---- units lie one behind another
@@ -80,7 +79,7 @@ film-sound film = units-sound film.bytes.items film.slice_starts.items film.unit
 pub unit-laid : (film : Film) (number : ℕ) (unit : PictureUnit) → slice_get film.units.items number ≡ Some unit → IsLaid film.slice_starts.items unit
 unit-laid film number unit is = (laid-at (length film.bytes.items) film.slice_starts.items film.units.items number unit is (laid-film film)).1
 
-units-wire : (end : ℕ) (starts : List ℕ) (units : List PictureUnit) → AreLaid end starts units → wire_in (pieces_of starts units) ≡ sum (map (λ u. wire_size starts u) units)
+pub units-wire : (end : ℕ) (starts : List ℕ) (units : List PictureUnit) → AreLaid end starts units → wire_in (pieces_of starts units) ≡ sum (map (λ u. wire_size starts u) units)
 units-wire end starts [] laid = refl
 units-wire end starts (unit ∷ units) laid =
     let rest = units-wire end starts units laid.1 in
@@ -107,5 +106,9 @@ film-few film =
 pub film-bound : (film : Film) → sum (map (λ u. wire_size film.slice_starts.items u) film.units.items) ≤ 2 ^ 42
 film-bound film =
     let chained = film-chained film in
-    omega (arith, film-few film, film-bytes film.bytes.items film.grammar.accepted,
-    units-bound (length film.bytes.items) film.slice_starts.items film.units.items chained.0 (length film.bytes.items) (laid-film film) chained.1)
+    omega (
+      arith,
+      film-few film,
+      film-bytes film.bytes.items film.grammar.accepted,
+      units-bound (length film.bytes.items) film.slice_starts.items film.units.items chained.0 (length film.bytes.items) (laid-film film) chained.1,
+    )

@@ -1,6 +1,5 @@
 -- The pieces of a film's first units.
-use Rattle.std.proofs.Common.{◌≡◌, ℕ, zero, suc, ◌+◌, ◌-◌, ◌*◌, ◌^◌, ◌<◌, ◌≤◌, List, [], ◌∷◌, ◌++◌, append_assoc, map, sum, length, take, drop, get_or, Some, true, false, cond, slice_get, refl, sym, ap, subst, ◌∙◌, arith}
-use Rattle.std.specs.List.{flat_map}
+use Rattle.std.proofs.Common.{◌≡◌, ℕ, ◌+◌, ◌^◌, ◌<◌, ◌≤◌, List, [], ◌∷◌, ◌++◌, append_assoc, map, length, take, drop, get_or, Some, true, false, cond, slice_get, sym, ap, subst, ◌∙◌, arith}
 use Rattle.std.proofs.lemmas.List.{append-nil, map-append, map_more, take-append-drop, take-take, take_all, take_more}
 use Rattle.std.proofs.lemmas.List.Concat.{flat_map-append}
 use Rattle.std.proofs.lemmas.List.Sums.{sum_by-cons}
@@ -8,13 +7,13 @@ use Rattle.std.proofs.lemmas.Option.{get_or_from_slice_get, slice_get-get_or, sl
 use Rattle.mpeg_scan.specs.declared.units.Unit.{Unit as PictureUnit}
 use Rattle.mpeg_scan.specs.declared.films.Film.{Film}
 use Rattle.rtp_pack.specs.declared.payloads.Packet.{Packet}
-use Rattle.rtp_pack.specs.Packets.{IsLaid, unit_packets}
+use Rattle.rtp_pack.specs.Packets.{unit_packets}
 use Rattle.rtp_pack.proofs.LaidLemmas.{laid-at}
 use Rattle.film_frames.specs.declared.pieces.Piece.{Piece}
 use Rattle.film_frames.specs.declared.pieces.Piece.TheVariants.{Report, Frame}
 use Rattle.film_frames.specs.declared.tables.FrameTable.{FrameTable}
 use Rattle.film_frames.specs.Pieces.{count_of, frames_in, pieces_of, unit_pieces, unit_reports, wire_in, wire_of}
-use Rattle.film_frames.specs.Tables.{AreFirsts, HasRoom, IsCut, IsSound, IsTable}
+use Rattle.film_frames.specs.Tables.{HasRoom, IsSound, IsTable}
 use Rattle.film_frames.proofs.PieceLemmas.{AreSound, sound-at, sound-right, unit-sound, wire-append}
 use Rattle.film_frames.proofs.FilmLemmas.{film-bound, film-wire, laid-film}
 

@@ -7,3 +7,5 @@ pub mod FrontLemmas
 pub mod RunLemmas
 pub mod SentLemmas
 pub mod NextLemmas
+pub mod CountLemmas
+pub mod BackLemmas

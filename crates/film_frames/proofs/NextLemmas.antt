@@ -1,5 +1,5 @@
 -- The next bytes of a run, from a place on.
-use Rattle.std.proofs.Common.{◌≡◌, ℕ, zero, suc, ◌+◌, ◌-◌, ◌<◌, ◌≤◌, List, [], ◌++◌, length, take, drop, get_or, refl, sym, ap, subst, ◌∙◌, arith, inl, inr, Some, slice_get, min, max}
+use Rattle.std.proofs.Common.{◌≡◌, ℕ, ◌+◌, ◌-◌, ◌<◌, ◌≤◌, List, [], ◌++◌, length, take, drop, get_or, sym, ap, ◌∙◌, arith, inl, inr, Some, slice_get, min, max}
 use Rattle.std.proofs.lemmas.Bool.{cases_lt}
 use Rattle.std.proofs.lemmas.List.{append-nil, drop-append-le, drop-drop, drop-take, length-drop, length-take-le, take_all}
 use Rattle.std.proofs.Math.Seq.{drop-append-add}
@@ -92,9 +92,9 @@ frame-part film block bytes p o low high long order within inside low_is high_is
     let at = p.from + (high - 20) in
     let count : length bytes ≡ p.to - at = ap (λ (l : List ℕ). length l) are ∙ length-take-le (p.to - at) (drop at film) (omega (arith, length-drop at film, within)) in (
       ap (λ (l : List ℕ). take (20 - low) (drop low block) ++ l) are
-      ∙ ap (λ n. take (20 - n) (drop n block) ++ take (p.to - (p.from + (high - 20))) (drop (p.from + (high - 20)) film)) low_is
-      ∙ ap (λ n. take (20 - min o 20) (drop (min o 20) block) ++ take (p.to - (p.from + (n - 20))) (drop (p.from + (n - 20)) film)) high_is
-      ∙ frame-rest film block p o long order within inside,
+          ∙ ap (λ n. take (20 - n) (drop n block) ++ take (p.to - (p.from + (high - 20))) (drop (p.from + (high - 20)) film)) low_is
+          ∙ ap (λ n. take (20 - min o 20) (drop (min o 20) block) ++ take (p.to - (p.from + (n - 20))) (drop (p.from + (n - 20)) film)) high_is
+          ∙ frame-rest film block p o long order within inside,
       omega (arith, count, low_is, high_is, order, inside),
     )
 

@@ -1,17 +1,16 @@
 -- The bytes of a run's pieces, and where they begin.
-use Rattle.std.proofs.Common.{◌≡◌, ℕ, zero, suc, ◌+◌, ◌-◌, ◌*◌, ◌^◌, ◌<◌, ◌≤◌, Bool, true, false, cond, leb, List, [], ◌∷◌, ◌++◌, length, take, drop, get_or, Some, slice_get, refl, sym, ap, subst, ◌∙◌, arith, inl, inr, length-append}
+use Rattle.std.proofs.Common.{◌≡◌, ℕ, zero, suc, ◌+◌, ◌-◌, ◌*◌, ◌<◌, ◌≤◌, cond, List, [], ◌∷◌, length, take, drop, get_or, Some, slice_get, refl, sym, ap, ◌∙◌, arith, inl, inr, length-append}
 use Rattle.std.specs.List.{sum_by}
 use Rattle.std.proofs.lemmas.Bool.{cases_lt, le-leb, lt-leb}
 use Rattle.std.proofs.lemmas.List.{length-drop, length-take-le}
 use Rattle.std.proofs.lemmas.List.Concat.{length-flat_map}
 use Rattle.std.proofs.lemmas.List.Sums.{sum_by-cons}
 use Rattle.rtp_pack.specs.declared.payloads.Packet.{Packet}
-use Rattle.rtp_pack.specs.Heads.{head_bytes}
 use Rattle.film_frames.specs.declared.pieces.Piece.{Piece}
 use Rattle.film_frames.specs.declared.pieces.Piece.TheVariants.{Report, Frame}
 use Rattle.film_frames.specs.Pieces.{count_of, frames_in, octets_in, octets_of, wire_in, wire_of}
-use Rattle.film_frames.specs.Tables.{IsCut, IsSound}
-use Rattle.film_frames.specs.Runs.{HaveEnded, Run, ended, interleaved, numbered, payload, piece_bytes}
+use Rattle.film_frames.specs.Tables.{IsSound}
+use Rattle.film_frames.specs.Runs.{HaveEnded, Run, ended, numbered, payload, piece_bytes}
 use Rattle.film_frames.specs.Tracks.{AreEnds, begin_of, framed}
 use Rattle.film_frames.proofs.PieceLemmas.{AreSound}
 use Rattle.film_frames.proofs.TrackLemmas.{begin-all, begin-le, begin-none}
@@ -98,10 +97,10 @@ have-ended base pieces ends at upto k are among least cut below from = record {
       ];
 }
 
-begin-cons : (piece : List ℕ) (pieces : List (List ℕ)) (k : ℕ) → begin_of (piece ∷ pieces) (suc k) ≡ length piece + begin_of pieces k
+pub begin-cons : (piece : List ℕ) (pieces : List (List ℕ)) (k : ℕ) → begin_of (piece ∷ pieces) (suc k) ≡ length piece + begin_of pieces k
 begin-cons piece pieces k = length-append piece (framed (take k pieces))
 
-begin-next : (piece : List ℕ) (pieces : List (List ℕ)) (k : ℕ) → begin_of (piece ∷ pieces) (suc k + 1) ≡ length piece + begin_of pieces (k + 1)
+pub begin-next : (piece : List ℕ) (pieces : List (List ℕ)) (k : ℕ) → begin_of (piece ∷ pieces) (suc k + 1) ≡ length piece + begin_of pieces (k + 1)
 begin-next piece pieces k =
     let next : suc k + 1 ≡ suc (k + 1) = omega arith in
     ap (λ n. begin_of (piece ∷ pieces) n) next ∙ begin-cons piece pieces (k + 1)

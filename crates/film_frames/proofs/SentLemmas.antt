@@ -1,10 +1,9 @@
 -- The pieces of a run among those of its film.
-use Rattle.std.proofs.Common.{◌≡◌, ℕ, zero, suc, ◌+◌, ◌-◌, ◌*◌, ◌^◌, ◌<◌, ◌≤◌, List, [], ◌∷◌, ◌++◌, append_assoc, length, take, drop, get_or, Some, slice_get, refl, sym, ap, subst, ◌∙◌, arith, length-append}
+use Rattle.std.proofs.Common.{◌≡◌, ℕ, zero, suc, ◌+◌, ◌-◌, ◌^◌, ◌<◌, ◌≤◌, List, [], ◌∷◌, ◌++◌, append_assoc, length, take, drop, get_or, slice_get, refl, sym, ap, subst, ◌∙◌, arith, length-append}
 use Rattle.std.specs.List.{sum_by}
 use Rattle.std.proofs.lemmas.List.{drop-take, take-append-le, take_at}
 use Rattle.std.proofs.lemmas.List.Sums.{sum_by-append, sum_by-cons, sum_by-take-le}
 use Rattle.std.proofs.Math.Seq.{take-append-add}
-use Rattle.mpeg_scan.specs.declared.units.Unit.{Unit as PictureUnit}
 use Rattle.mpeg_scan.specs.declared.films.Film.{Film}
 use Rattle.rtp_pack.specs.declared.reports.Identity.{Identity}
 use Rattle.film_frames.specs.declared.pieces.Piece.{Piece}

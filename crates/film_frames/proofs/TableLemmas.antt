@@ -1,5 +1,5 @@
 -- The table of pieces, while it is built and when it is read.
-use Rattle.std.proofs.Common.{◌≡◌, ℕ, zero, suc, ◌+◌, ◌-◌, ◌*◌, ◌^◌, ◌<◌, ◌≤◌, Bool, true, false, cond, List, [], ◌∷◌, ◌++◌, append_assoc, map, sum, length, take, drop, get_or, Some, slice_get, refl, sym, ap, subst, ◌∙◌, arith, inl, inr, length-append}
+use Rattle.std.proofs.Common.{◌≡◌, ℕ, zero, suc, ◌+◌, ◌-◌, ◌^◌, ◌<◌, ◌≤◌, Bool, true, false, cond, List, [], ◌∷◌, ◌++◌, sum, length, take, drop, get_or, Some, slice_get, refl, sym, ap, subst, ◌∙◌, arith, inl, inr, length-append}
 use Rattle.std.specs.List.{sum_by}
 use Rattle.std.proofs.lemmas.Bool.{cases_lt}
 use Rattle.std.proofs.lemmas.Option.{get_or_from_slice_get, slice_get_within}
@@ -13,7 +13,7 @@ use Rattle.rtp_pack.specs.Packets.{packet}
 use Rattle.mpeg_scan.proofs.BoundLemmas.{film-bytes}
 use Rattle.film_frames.specs.declared.rows.Row.{Row}
 use Rattle.film_frames.specs.declared.tables.FrameTable.{FrameTable}
-use Rattle.film_frames.specs.Pieces.{count_of, frames_in, pieces_of, unit_of, unit_pieces, wire_in, wire_of, wire_size}
+use Rattle.film_frames.specs.Pieces.{count_of, pieces_of, unit_of, unit_pieces, wire_in, wire_of, wire_size}
 use Rattle.film_frames.specs.Tables.{IsRow, IsSound, IsTable, IsTableOf}
 use Rattle.film_frames.proofs.PieceLemmas.{sound-at, unit-wire, wire-append}
 use Rattle.film_frames.proofs.FilmLemmas.{film-sound, unit-laid}

@@ -1,5 +1,5 @@
 -- What a reader expects of the bytes of a run.
-use Rattle.std.specs.Prelude.{ℕ, ◌+◌, ◌%◌, ◌^◌, ◌<◌, ◌≤◌, ◌≡◌, List, [], ◌∷◌, ◌++◌, length, drop, flat_map, get_or}
+use Rattle.std.specs.Prelude.{ℕ, ◌+◌, ◌%◌, ◌^◌, ◌<◌, ◌≤◌, ◌≡◌, List, [], ◌∷◌, length, drop, flat_map, get_or, slice_get, Some}
 use Rattle.rtp_pack.specs.Heads.{head_at}
 use Rattle.film_frames.specs.declared.pieces.Piece.{Piece}
 use Rattle.film_frames.specs.declared.pieces.Piece.TheVariants.{Report, Frame}
@@ -27,3 +27,13 @@ sequence_of frame = (head_at (drop 4 frame)).sequence
 -- sequence numbers count on from a first, modulo 2^16
 abbrev pub DoCountOn : ℕ → List (List ℕ) → Type 0
 DoCountOn sequence frames = (k : ℕ) → k < length frames → sequence_of (get_or frames k []) ≡ (sequence + k) % 2 ^ 16
+
+-- a report has 52 bytes, and a frame 21 to 1,400
+abbrev pub HasPieceSize : Piece → ℕ → Type 0
+HasPieceSize (Report unit) size = size ≡ 52
+HasPieceSize (Frame unit packet) size = (21 ≤ size) × (size ≤ 1400)
+
+-- each of these pieces has its bytes, of a size that it may have
+pub record HaveSizes (pieces : List Piece) (all : List (List ℕ)) : Type 0 where
+  pub count : length all ≡ length pieces
+  pub each : (k : ℕ) (piece : Piece) → slice_get pieces k ≡ Some piece → HasPieceSize piece (length (get_or all k []))

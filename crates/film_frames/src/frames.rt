@@ -1,12 +1,13 @@
+ghost use Rattle.mpeg_scan.specs.declared.units.Unit.{Unit as PictureUnit};
 ghost use Rattle.mpeg_scan.specs.Rates.{picture_time};
-ghost use Rattle.std.specs.Prelude.{◌≡◌, ◌+◌, ◌-◌, ◌^◌, ◌++◌, ◌<◌, ◌≤◌, ℕ, length, take, drop, slice_get, slice_range, Some};
+ghost use Rattle.std.specs.Prelude.{◌≡◌, ◌+◌, ◌-◌, ◌^◌, ◌++◌, ◌<◌, ◌≤◌, ℕ, [], length, take, drop, slice_get, slice_range, Some};
 ghost use Rattle.film_frames.specs.Pieces.{frames_in, octets_in, wire_in};
-ghost use Rattle.film_frames.specs.Runs.{HaveEnded, frames_before, octets_before, payload, piece_bytes, run_of, run_pieces, sent};
+ghost use Rattle.film_frames.specs.Runs.{HaveEnded, ended, frames_before, octets_before, payload, piece_bytes, run_of, run_pieces, sent};
 ghost use Rattle.film_frames.specs.Tables.{IsCut, IsSound};
 ghost use Rattle.film_frames.specs.declared.pieces.Piece.TheVariants.{Frame, Report};
 ghost use Rattle.film_frames.specs.Tracks.{IsBoundary, IsNext, begin_of, framed};
 
-use crate::heads::{put_heads, report_block};
+use crate::heads::{put_frame_heads, report_block};
 use crate::pieces::{HEADS, Piece, REPORT};
 use crate::searches::ends_below;
 use crate::stores::Stored;
@@ -153,7 +154,7 @@ impl<'a> Frames<'a> {
     {
         let frames = self.frames(number);
         let its = packet_head(&self.identity, self.picture_time(), unit, packet, frames);
-        put_heads(head, self.identity.channel, &its, packet.to - packet.from);
+        put_frame_heads(head, self.identity.channel, &its, packet.to - packet.from);
     }
 
     /// The payload of a packet without so many bytes from its front.
@@ -190,13 +191,15 @@ impl Track for Frames<'_> {
         self.place(self.ended(at - 1) + 1)
     }
 
-    /// The bytes from `at` on to the end of its report or frame. The payload is lent from the film's bytes.
+    /// The bytes from `at` on to the end of its report or frame. The payload is lent from the film's bytes, and a
+    /// report has none.
     fn part(&self, at: u64, head: &mut [u8; 52]) -> Part<'_>
         requires { at < length (framed (run_pieces self.now)) }
         ensures order { result.head_from ≤ result.head_to }
         ensures within { result.head_to ≤ 52 }
         ensures bytes { IsNext (run_pieces self.now) at (slice_range head.new result.head_from result.head_to ++ result.payload.now) }
         ensures whole { IsBoundary (run_pieces self.now) (at + (result.head_to - result.head_from) + length result.payload.now) }
+        ensures report { (unit : PictureUnit) → slice_get (sent self.now) (ended at (run_pieces self.now)) ≡ Some (Report unit) → result.payload.now ≡ [] }
     {
         let number = self.ended(at);
         let inside = at - self.place(number);

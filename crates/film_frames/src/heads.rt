@@ -17,7 +17,7 @@ pub(crate) fn report_block(control: u8, report: &Report) -> [u8; 52]
 }
 
 /// Writes the heads of a frame with a payload of `length` bytes: the interleaved head and the packet's, 20 bytes.
-pub(crate) fn put_heads(block: &mut [u8; 52], channel: u8, head: &Head, length: u64)
+pub(crate) fn put_frame_heads(block: &mut [u8; 52], channel: u8, head: &Head, length: u64)
     requires { length ≤ 1380 }
     ensures { take 20 block.new ≡ 36 ∷ channel ∷ ((16 + length) / 256) ∷ ((16 + length) % 256) ∷ head_bytes head.now }
 {

@@ -1,11 +1,53 @@
-ghost use Rattle.std.specs.Prelude.{◌^◌, ◌≤◌, map, sum};
-ghost use Rattle.film_frames.specs.Pieces.{wire_size};
+ghost use Rattle.std.specs.Prelude.{◌≡◌, ◌+◌, ◌-◌, ◌^◌, ◌<◌, ◌≤◌, length, map, sum, take, drop};
+ghost use Rattle.rtp_pack.specs.Packets.{OfUnit};
+ghost use Rattle.film_frames.specs.Laws.{DoCountOn, HaveSizes, payloads, run_frames};
+ghost use Rattle.film_frames.specs.Pieces.{frames_in, wire_size};
+ghost use Rattle.film_frames.specs.Runs.{HaveEnded, ended, run_of, run_pieces, sent};
+ghost use Rattle.film_frames.specs.Tracks.{framed};
 
 use mpeg_scan::Film;
+use rtp_pack::Identity;
 
 /// The sizes of all units of a film on the wire add up to at most 2^42.
 pub fn law_wire_sizes(film: &Film)
     ensures { sum (map (λ u. wire_size film.now.slice_starts.items u) film.now.units.items) ≤ 2 ^ 42 }
 {
     let _read = film.bytes.len();
+}
+
+/// The film comes back: the payloads of a run's frames, one behind another, are the film's bytes from where the run's
+/// first unit begins to where its last one ends.
+pub fn law_film_comes_back(film: &Film, first_unit: usize, end_unit: usize, identity: Identity)
+    requires order { first_unit < end_unit }
+    requires within { end_unit ≤ length film.now.units.items }
+    ensures { OfUnit film.now.units.items first_unit (λ first. OfUnit film.now.units.items (end_unit - 1) (λ last. payloads (run_frames (run_of film.now first_unit end_unit identity)) ≡ take (last.to - first.from) (drop first.from film.now.bytes.items))) }
+{
+    let _read = (film.bytes.len(), first_unit, end_unit, identity);
+}
+
+/// The sequence numbers of a run's frames count on from the identity's, modulo 2^16, and leave none out.
+pub fn law_counts_on(film: &Film, first_unit: usize, end_unit: usize, identity: Identity)
+    requires order { first_unit < end_unit }
+    requires within { end_unit ≤ length film.now.units.items }
+    ensures frames { length (run_frames (run_of film.now first_unit end_unit identity)) ≡ frames_in (sent (run_of film.now first_unit end_unit identity)) }
+    ensures numbers { DoCountOn identity.sequence (run_frames (run_of film.now first_unit end_unit identity)) }
+{
+    let _read = (film.bytes.len(), first_unit, end_unit, identity);
+}
+
+/// Each report of a run has 52 bytes and each frame 21 to 1,400, and all together have the sizes of the run's units.
+pub fn law_piece_sizes(film: &Film, first_unit: usize, end_unit: usize, identity: Identity)
+    requires order { first_unit < end_unit }
+    requires within { end_unit ≤ length film.now.units.items }
+    ensures pieces { HaveSizes (sent (run_of film.now first_unit end_unit identity)) (run_pieces (run_of film.now first_unit end_unit identity)) }
+    ensures all { length (framed (run_pieces (run_of film.now first_unit end_unit identity))) ≡ sum (map (λ u. wire_size film.now.slice_starts.items u) (take (end_unit - first_unit) (drop first_unit film.now.units.items))) }
+{
+    let _read = (film.bytes.len(), first_unit, end_unit, identity);
+}
+
+/// How many pieces of a run have ended at a place: the last of them ends at or before it, and the next doesn't.
+pub fn law_ended(film: &Film, first_unit: usize, end_unit: usize, identity: Identity, at: u64)
+    ensures { HaveEnded (run_pieces (run_of film.now first_unit end_unit identity)) at (ended at (run_pieces (run_of film.now first_unit end_unit identity))) }
+{
+    let _read = (film.bytes.len(), first_unit, end_unit, identity, at);
 }

@@ -1,5 +1,6 @@
 //! Tracks: bytes that are sent frame by frame over an RTSP connection (RFC 2326 section 10.12), at any place and without
-//! holding them; and the track of a trace, whose frames are zero bytes.
+//! holding them; the track of a film's units, RTP packets with sender reports between them (RFC 3550, RFC 2250); and the
+//! track of a trace, whose frames are zero bytes.
 #![tactic(auto)]
 
 mod frames;
@@ -14,8 +15,7 @@ mod traces;
 mod tracks;
 
 pub use frames::Frames;
-pub use laws::law_wire_sizes;
-pub use pieces::Piece;
+pub use laws::{law_counts_on, law_ended, law_film_comes_back, law_piece_sizes, law_wire_sizes};
 pub use stores::Stored;
 pub use tables::FrameTable;
 pub use traces::TraceTrack;

@@ -13,7 +13,7 @@ pub(crate) const REPORT: u64 = 52;
 
 /// A report or a frame, and the unit that it belongs to.
 #[derive(Clone, Copy, Debug, PartialEq, Eq)]
-pub enum Piece {
+pub(crate) enum Piece {
     /// The sender report before a unit that starts a group.
     Report(Unit),
     /// The frame of a packet of a unit.

@@ -113,12 +113,7 @@ impl FrameTable {
     }
 
     /// Appends the frames of a unit, behind the units before it and its report.
-    fn put_frames(
-        &mut self,
-        film: &Film,
-        number: usize,
-        packets: &[Packet],
-    ) -> Result<(), NoMemory>
+    fn put_frames(&mut self, film: &Film, number: usize, packets: &[Packet]) -> Result<(), NoMemory>
         requires within { number < length film.now.units.items }
         requires packets { OfUnit film.now.units.items number (λ u. packets.now ≡ unit_packets film.now.slice_starts.items u) }
         requires table { OfUnit film.now.units.items number (λ u. IsTable film.now.units.items (pieces_of film.now.slice_starts.items (take number film.now.units.items) ++ unit_reports u) self.old) }

@@ -1,3 +1,5 @@
+mod films;
+
 use crate::{TraceTrack, Track};
 use std::test::Fail;
 

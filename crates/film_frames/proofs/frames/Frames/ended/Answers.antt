@@ -1,4 +1,4 @@
-use Rattle.std.proofs.Common.{◌≡◌, ◌+◌, ◌-◌, arith, length, take, sym, ap, ◌∙◌}
+use Rattle.std.proofs.Common.{arith, take, ap}
 use Rattle.film_frames.specs.Pieces.{wire_in}
 use Rattle.film_frames.specs.Runs.{run_pieces}
 use Rattle.film_frames.proofs.RunLemmas.{have-ended}

@@ -1,4 +1,4 @@
-use Rattle.std.proofs.Common.{◌≡◌, ◌+◌, arith, length, sym, ap, ◌∙◌}
+use Rattle.std.proofs.Common.{◌+◌, arith, sym, ap, ◌∙◌}
 use Rattle.film_frames.proofs.SentLemmas.{IsRun, all-short, between, run-count, run-piece}
 use Rattle.film_frames.specs.Runs.{sent}
 use Rattle.film_frames.proofs.PieceLemmas.{sound-at}

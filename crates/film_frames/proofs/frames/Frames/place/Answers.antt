@@ -1,4 +1,4 @@
-use Rattle.std.proofs.Common.{◌≡◌, ◌+◌, ◌-◌, arith, length, take, sym, ap, ◌∙◌}
+use Rattle.std.proofs.Common.{◌≡◌, ◌+◌, ◌-◌, arith, take, sym, ap, ◌∙◌}
 use Rattle.film_frames.specs.Pieces.{wire_in}
 use Rattle.film_frames.specs.Runs.{sent}
 use Rattle.film_frames.proofs.SentLemmas.{IsRun, all_of, all-short, run-begin, run-count, run-wire}

@@ -1,9 +1,9 @@
-use Rattle.std.proofs.Common.{◌≡◌, ◌+◌, ◌-◌, List, [], ◌++◌, ℕ, length, take, drop, get_or, min, max, arith, sym, ap, subst, ◌∙◌}
+use Rattle.std.proofs.Common.{◌≡◌, ◌-◌, List, [], ◌++◌, ℕ, length, take, drop, get_or, Some, slice_get, arith, sym, ap, ◌∙◌}
 use Rattle.film_frames.specs.declared.pieces.Piece.TheVariants.{Report, Frame}
-use Rattle.film_frames.specs.Pieces.{frames_in, octets_in}
+use Rattle.film_frames.specs.Pieces.{octets_in}
 use Rattle.film_frames.specs.Runs.{payload, run_pieces, sent}
-use Rattle.film_frames.specs.Tracks.{IsNext, begin_of}
-use Rattle.film_frames.proofs.RunLemmas.{numbered-count}
+use Rattle.film_frames.specs.Tracks.{begin_of}
+use Rattle.film_frames.proofs.RunLemmas.{ended-is, numbered-count}
 use Rattle.film_frames.proofs.NextLemmas.{ended-within, ends-boundary, frame-part, is-in, report-rest, rest-next}
 use Rattle.film_frames.proofs.frames.FramesTrack.part.Goals as goal
 
@@ -96,3 +96,10 @@ returns-in-Frame-clause-whole c =
     let part = frame-part run.film block c.payload.result.now p o c.min.result c.max.result c.payload.array_long (omega (arith, cut.some)) cut.within (omega (arith, lies.inside, c.place.ensures.begin))
     c.min.ensures c.max.ensures c.payload.ensures in
     ends-boundary (run_pieces run) k _ lies.number (omega (arith, part.1, lies.inside, lies.ends, lies.begins, c.place.ensures.begin))
+
+pub returns-in-Frame-clause-report : goal.returns-in-Frame-clause-report
+returns-in-Frame-clause-report c = λ other at.
+    let run = c.args.self.now in
+    let count = ap (λ n. slice_get (sent run) n) (ended-is (run_pieces run) c.args.at c.ended-number.result c.ended-number.ensures.ended) in
+    let here = c.in-Frame.ensures.piece in
+    let same : Some (Report other) ≡ Some (Frame c.in-Frame.unit c.in-Frame.packet) = sym at ∙ count ∙ here in cc

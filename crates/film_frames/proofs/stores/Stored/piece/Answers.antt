@@ -2,9 +2,9 @@ use Rattle.std.proofs.Common.{◌≡◌, ◌-◌, sym, ap, ◌∙◌, Some, arit
 use Rattle.std.proofs.lemmas.Option.{get_or_from_slice_get, slice_get_within}
 use Rattle.mpeg_scan.specs.declared.units.Unit.{Unit as PictureUnit}
 use Rattle.film_frames.specs.declared.pieces.Piece.{Piece}
-use Rattle.film_frames.specs.Pieces.{pieces_of, unit_of, wire_of}
+use Rattle.film_frames.specs.Pieces.{unit_of, wire_of}
 use Rattle.film_frames.specs.Tables.{row_piece}
-use Rattle.film_frames.proofs.TableLemmas.{IsReadBack, film-short, read-back, row-within, wire-least}
+use Rattle.film_frames.proofs.TableLemmas.{film-short, read-back, row-within, wire-least}
 use Rattle.film_frames.proofs.stores.Stored.piece.Goals as goal
 
 pub overflow_sub-size : goal.overflow_sub-size

@@ -1,8 +1,7 @@
-use Rattle.std.proofs.Common.{◌≡◌, ◌+◌, List, [], ◌∷◌, ◌++◌, length, get_or, false, refl, subst, arith, Some, slice_get, sym, ◌∙◌}
+use Rattle.std.proofs.Common.{List, length, false, refl, subst, arith, ◌∙◌}
 use Rattle.std.proofs.lemmas.Option.{slice_get_read}
 use Rattle.rtp_pack.specs.declared.payloads.Packet.{Packet}
 use Rattle.film_frames.specs.declared.pieces.Piece.{Piece}
-use Rattle.film_frames.specs.declared.pieces.Piece.TheVariants.{Frame}
 use Rattle.film_frames.specs.Tables.{IsTable}
 use Rattle.film_frames.proofs.FilmLemmas.{film-few}
 use Rattle.film_frames.proofs.FrontLemmas.{before_packet, packet-sound, packets-all, packets-begun, packets-bound, packets-more, room}

@@ -1,4 +1,4 @@
-use Rattle.std.proofs.Common.{◌≡◌, List, [], ◌∷◌, ◌++◌, length, refl, subst, arith, Some, slice_get, sym}
+use Rattle.std.proofs.Common.{◌≡◌, List, ◌++◌, length, refl, subst, arith}
 use Rattle.std.specs.Result.{OnOk}
 use Rattle.std.proofs.lemmas.Option.{slice_get_read}
 use Rattle.mpeg_scan.specs.declared.units.Unit.{Unit as PictureUnit}

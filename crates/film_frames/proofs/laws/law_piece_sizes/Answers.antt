@@ -1,0 +1,11 @@
+use Rattle.film_frames.specs.Runs.{run_of}
+use Rattle.film_frames.proofs.BackLemmas.{run-sum}
+use Rattle.film_frames.proofs.CountLemmas.{have-sizes}
+use Rattle.film_frames.proofs.laws.law_piece_sizes.Goals as goal
+
+pub returns-clause-pieces : goal.returns-clause-pieces
+returns-clause-pieces c =
+    have-sizes (run_of c.args.film.now c.args.first_unit c.args.end_unit c.args.identity) (run-sum c.args.film.now c.args.first_unit c.args.end_unit c.args.identity c.requires.order c.requires.within).0
+
+pub returns-clause-all : goal.returns-clause-all
+returns-clause-all c = (run-sum c.args.film.now c.args.first_unit c.args.end_unit c.args.identity c.requires.order c.requires.within).1
