@@ -14,7 +14,7 @@ use Rattle.mpeg_scan.proofs.TileLemmas.{film-tiles}
 use Rattle.rtp_pack.specs.Packets.{IsLaid}
 use Rattle.rtp_pack.proofs.LaidLemmas.{AreLaid, film-laid, laid-at}
 use Rattle.film_frames.specs.declared.pieces.Piece.{Piece}
-use Rattle.film_frames.specs.Pieces.{pieces_of, unit_pieces, wire_in, wire_size}
+use Rattle.film_frames.specs.Pieces.{film_pieces, pieces_of, unit_pieces, wire_in, wire_size}
 use Rattle.film_frames.proofs.PieceLemmas.{AreSound, pieces-cons, sound-append, unit-bound, unit-le, unit-sound, unit-wire, wire-append}
 
 -- ---- units lie one behind another
@@ -73,7 +73,7 @@ units-sound film starts (unit ∷ units) laid =
 pub laid-film : (film : Film) → AreLaid (length film.bytes.items) film.slice_starts.items film.units.items
 laid-film film = film-laid film.bytes.items film.rate film.units.items film.slice_starts.items film.grammar
 
-pub film-sound : (film : Film) → AreSound film.bytes.items (pieces_of film.slice_starts.items film.units.items)
+pub film-sound : (film : Film) → AreSound film.bytes.items (film_pieces film)
 film-sound film = units-sound film.bytes.items film.slice_starts.items film.units.items (laid-film film)
 
 pub unit-laid : (film : Film) (number : ℕ) (unit : PictureUnit) → slice_get film.units.items number ≡ Some unit → IsLaid film.slice_starts.items unit
@@ -95,7 +95,7 @@ units-bound end starts (unit ∷ units) from to laid chained =
     let rest = units-bound end starts units unit.to to laid.1 chained.1 in
     omega (arith, rest, chained.0, unit-bound starts unit laid.0.1, unit-le starts unit laid.0.1, sum_by-cons (λ n. n) (wire_size starts unit) (map (λ u. wire_size starts u) units))
 
-pub film-wire : (film : Film) → wire_in (pieces_of film.slice_starts.items film.units.items) ≡ sum (map (λ u. wire_size film.slice_starts.items u) film.units.items)
+pub film-wire : (film : Film) → wire_in (film_pieces film) ≡ sum (map (λ u. wire_size film.slice_starts.items u) film.units.items)
 film-wire film = units-wire (length film.bytes.items) film.slice_starts.items film.units.items (laid-film film)
 
 pub film-few : (film : Film) → length film.units.items ≤ 4194304

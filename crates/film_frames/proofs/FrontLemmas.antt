@@ -12,33 +12,29 @@ use Rattle.rtp_pack.proofs.LaidLemmas.{laid-at}
 use Rattle.film_frames.specs.declared.pieces.Piece.{Piece}
 use Rattle.film_frames.specs.declared.pieces.Piece.TheVariants.{Report, Frame}
 use Rattle.film_frames.specs.declared.tables.FrameTable.{FrameTable}
-use Rattle.film_frames.specs.Pieces.{count_of, frames_in, pieces_of, unit_pieces, unit_reports, wire_in, wire_of}
+use Rattle.film_frames.specs.Pieces.{count_of, film_pieces, frames_in, front_pieces, pieces_of, unit_pieces, unit_reports, wire_in, wire_of}
 use Rattle.film_frames.specs.Tables.{HasRoom, IsSound, IsTable}
 use Rattle.film_frames.proofs.PieceLemmas.{AreSound, sound-at, sound-right, unit-sound, wire-append}
 use Rattle.film_frames.proofs.FilmLemmas.{film-bound, film-wire, laid-film}
 
--- the pieces of a film's first units
-abbrev pub front : Film → ℕ → List Piece
-front film number = pieces_of film.slice_starts.items (take number film.units.items)
-
-pub front-back : (film : Film) (number : ℕ) → pieces_of film.slice_starts.items film.units.items ≡ front film number ++ pieces_of film.slice_starts.items (drop number film.units.items)
+pub front-back : (film : Film) (number : ℕ) → film_pieces film ≡ front_pieces film number ++ pieces_of film.slice_starts.items (drop number film.units.items)
 front-back film number =
     ap (λ l. pieces_of film.slice_starts.items l) (sym (take-append-drop number film.units.items))
     ∙ flat_map-append (unit_pieces film.slice_starts.items) (take number film.units.items) (drop number film.units.items)
 
-pub front-more : (film : Film) (number : ℕ) (unit : PictureUnit) → slice_get film.units.items number ≡ Some unit → front film (number + 1) ≡ front film number ++ unit_pieces film.slice_starts.items unit
+pub front-more : (film : Film) (number : ℕ) (unit : PictureUnit) → slice_get film.units.items number ≡ Some unit → front_pieces film (number + 1) ≡ front_pieces film number ++ unit_pieces film.slice_starts.items unit
 front-more film number unit is =
     let starts = film.slice_starts.items in
     let its = get_or_from_slice_get film.units.items number unit unit is in
     ap (λ l. pieces_of starts l) (take_more film.units.items number unit (slice_get_within film.units.items number unit is))
     ∙ flat_map-append (unit_pieces starts) (take number film.units.items) (get_or film.units.items number unit ∷ [])
-    ∙ ap (λ u. front film number ++ pieces_of starts (u ∷ [])) its
-    ∙ ap (λ l. front film number ++ l) (append-nil (unit_pieces starts unit))
+    ∙ ap (λ u. front_pieces film number ++ pieces_of starts (u ∷ [])) its
+    ∙ ap (λ l. front_pieces film number ++ l) (append-nil (unit_pieces starts unit))
 
-pub front-bound : (film : Film) (number : ℕ) → wire_in (front film number) ≤ 2 ^ 42
+pub front-bound : (film : Film) (number : ℕ) → wire_in (front_pieces film number) ≤ 2 ^ 42
 front-bound film number =
     let rest = pieces_of film.slice_starts.items (drop number film.units.items) in
-    let all : wire_in (pieces_of film.slice_starts.items film.units.items) ≡ wire_in (front film number) + wire_in rest = ap (λ l. wire_in l) (front-back film number) ∙ wire-append (front film number) rest in
+    let all : wire_in (film_pieces film) ≡ wire_in (front_pieces film number) + wire_in rest = ap (λ l. wire_in l) (front-back film number) ∙ wire-append (front_pieces film number) rest in
     omega (arith, all, film-wire film, film-bound film)
 
 -- ---- room for one more piece
@@ -65,22 +61,22 @@ room units pieces table is most =
 
 -- what goes before the packet of that number
 abbrev pub before_packet : Film → ℕ → PictureUnit → List Packet → ℕ → List Piece
-before_packet film number unit packets i = (front film number ++ unit_reports unit) ++ map (λ p. Frame unit p) (take i packets)
+before_packet film number unit packets i = (front_pieces film number ++ unit_reports unit) ++ map (λ p. Frame unit p) (take i packets)
 
-pub packets-begun : (film : Film) (number : ℕ) (unit : PictureUnit) (packets : List Packet) → front film number ++ unit_reports unit ≡ before_packet film number unit packets 0
-packets-begun film number unit packets = sym (append-nil (front film number ++ unit_reports unit))
+pub packets-begun : (film : Film) (number : ℕ) (unit : PictureUnit) (packets : List Packet) → front_pieces film number ++ unit_reports unit ≡ before_packet film number unit packets 0
+packets-begun film number unit packets = sym (append-nil (front_pieces film number ++ unit_reports unit))
 
 pub packets-more : (film : Film) (number : ℕ) (unit : PictureUnit) (packets : List Packet) (i : ℕ) (some : Packet) → i < length packets
     → before_packet film number unit packets i ++ Frame unit (get_or packets i some) ∷ [] ≡ before_packet film number unit packets (i + 1)
 packets-more film number unit packets i some h =
-    append_assoc (front film number ++ unit_reports unit) (map (λ p. Frame unit p) (take i packets)) (Frame unit (get_or packets i some) ∷ [])
-    ∙ ap (λ l. (front film number ++ unit_reports unit) ++ l) (sym (map_more (λ p. Frame unit p) packets i some h))
+    append_assoc (front_pieces film number ++ unit_reports unit) (map (λ p. Frame unit p) (take i packets)) (Frame unit (get_or packets i some) ∷ [])
+    ∙ ap (λ l. (front_pieces film number ++ unit_reports unit) ++ l) (sym (map_more (λ p. Frame unit p) packets i some h))
 
 pub packets-all : (film : Film) (number : ℕ) (unit : PictureUnit) (packets : List Packet) (i : ℕ) → slice_get film.units.items number ≡ Some unit → packets ≡ unit_packets film.slice_starts.items unit
-    → length packets ≤ i → before_packet film number unit packets i ≡ front film (number + 1)
+    → length packets ≤ i → before_packet film number unit packets i ≡ front_pieces film (number + 1)
 packets-all film number unit packets i at is h =
-    ap (λ (l : List Packet). (front film number ++ unit_reports unit) ++ map (λ p. Frame unit p) l) (take_all i packets h ∙ is)
-    ∙ append_assoc (front film number) (unit_reports unit) (map (λ p. Frame unit p) (unit_packets film.slice_starts.items unit))
+    ap (λ (l : List Packet). (front_pieces film number ++ unit_reports unit) ++ map (λ p. Frame unit p) l) (take_all i packets h ∙ is)
+    ∙ append_assoc (front_pieces film number) (unit_reports unit) (map (λ p. Frame unit p) (unit_packets film.slice_starts.items unit))
     ∙ sym (front-more film number unit at)
 
 pub packets-bound : (film : Film) (number : ℕ) (unit : PictureUnit) (packets : List Packet) (i : ℕ) → slice_get film.units.items number ≡ Some unit → packets ≡ unit_packets film.slice_starts.items unit
@@ -88,10 +84,10 @@ pub packets-bound : (film : Film) (number : ℕ) (unit : PictureUnit) (packets :
 packets-bound film number unit packets i at is =
     let rest = map (λ p. Frame unit p) (drop i packets) in
     let all : before_packet film number unit packets i ++ rest ≡ before_packet film number unit packets (length packets) =
-    append_assoc (front film number ++ unit_reports unit) (map (λ p. Frame unit p) (take i packets)) rest
-    ∙ ap (λ l. (front film number ++ unit_reports unit) ++ l)
+    append_assoc (front_pieces film number ++ unit_reports unit) (map (λ p. Frame unit p) (take i packets)) rest
+    ∙ ap (λ l. (front_pieces film number ++ unit_reports unit) ++ l)
     (sym (map-append (λ p. Frame unit p) (take i packets) (drop i packets)) ∙ ap (λ (l : List Packet). map (λ p. Frame unit p) l) (take-append-drop i packets ∙ sym (take_all (length packets) packets (omega arith)))) in
-    let wire : wire_in (before_packet film number unit packets i ++ rest) ≡ wire_in (front film (number + 1)) =
+    let wire : wire_in (before_packet film number unit packets i ++ rest) ≡ wire_in (front_pieces film (number + 1)) =
     ap (λ l. wire_in l) (all ∙ packets-all film number unit packets (length packets) at is (omega arith)) in
     omega (arith, wire, wire-append (before_packet film number unit packets i) rest, front-bound film (number + 1))
 
@@ -111,12 +107,12 @@ packet-sound film number unit packets i some at is h =
 pub reports-some : (unit : PictureUnit) → unit.starts_group ≡ true → Report unit ∷ [] ≡ unit_reports unit
 reports-some unit starts = ap (λ b. cond b (Report unit ∷ []) []) (sym starts)
 
-pub reports-none : (film : Film) (number : ℕ) (unit : PictureUnit) → unit.starts_group ≡ false → front film number ≡ front film number ++ unit_reports unit
-reports-none film number unit starts = sym (append-nil (front film number)) ∙ ap (λ b. front film number ++ cond b (Report unit ∷ []) []) (sym starts)
+pub reports-none : (film : Film) (number : ℕ) (unit : PictureUnit) → unit.starts_group ≡ false → front_pieces film number ≡ front_pieces film number ++ unit_reports unit
+reports-none film number unit starts = sym (append-nil (front_pieces film number)) ∙ ap (λ b. front_pieces film number ++ cond b (Report unit ∷ []) []) (sym starts)
 
 -- ---- more units have more pieces
 
-pub front-front : (film : Film) (n m : ℕ) → n ≤ m → front film m ≡ front film n ++ pieces_of film.slice_starts.items (drop n (take m film.units.items))
+pub front-front : (film : Film) (n m : ℕ) → n ≤ m → front_pieces film m ≡ front_pieces film n ++ pieces_of film.slice_starts.items (drop n (take m film.units.items))
 front-front film n m h =
     let starts = film.slice_starts.items in
     let taken = take m film.units.items in
@@ -124,8 +120,8 @@ front-front film n m h =
     ∙ flat_map-append (unit_pieces starts) (take n taken) (drop n taken)
     ∙ ap (λ l. pieces_of starts l ++ pieces_of starts (drop n taken)) (take-take n m film.units.items h)
 
-pub front-le : (film : Film) (n m : ℕ) → n ≤ m → wire_in (front film n) ≤ wire_in (front film m)
+pub front-le : (film : Film) (n m : ℕ) → n ≤ m → wire_in (front_pieces film n) ≤ wire_in (front_pieces film m)
 front-le film n m h =
     let rest = pieces_of film.slice_starts.items (drop n (take m film.units.items)) in
-    let all : wire_in (front film m) ≡ wire_in (front film n) + wire_in rest = ap (λ l. wire_in l) (front-front film n m h) ∙ wire-append (front film n) rest in
+    let all : wire_in (front_pieces film m) ≡ wire_in (front_pieces film n) + wire_in rest = ap (λ l. wire_in l) (front-front film n m h) ∙ wire-append (front_pieces film n) rest in
     omega (arith, all)

@@ -13,11 +13,11 @@ use Rattle.rtp_pack.specs.Packets.{packet}
 use Rattle.mpeg_scan.proofs.BoundLemmas.{film-bytes}
 use Rattle.film_frames.specs.declared.rows.Row.{Row}
 use Rattle.film_frames.specs.declared.tables.FrameTable.{FrameTable}
-use Rattle.film_frames.specs.Pieces.{count_of, pieces_of, unit_of, unit_pieces, wire_in, wire_of, wire_size}
+use Rattle.film_frames.specs.Pieces.{count_of, film_pieces, front_pieces, pieces_of, unit_of, unit_pieces, wire_in, wire_of, wire_size}
 use Rattle.film_frames.specs.Tables.{IsRow, IsSound, IsTable, IsTableOf}
 use Rattle.film_frames.proofs.PieceLemmas.{sound-at, unit-wire, wire-append}
 use Rattle.film_frames.proofs.FilmLemmas.{film-sound, unit-laid}
-use Rattle.film_frames.proofs.FrontLemmas.{front, front-back, front-more}
+use Rattle.film_frames.proofs.FrontLemmas.{front-back, front-more}
 use Rattle.mpeg_scan.specs.declared.films.Film.{Film}
 
 -- ---- one more piece
@@ -100,30 +100,30 @@ table-push units pieces piece row old new end count is its places frames rows en
 -- ---- the pieces before a unit, in a table of a film
 
 pub front-count : (film : Film) (table : FrameTable) (unit first : ℕ) → IsTableOf film table → unit ≤ length film.units.items → first ≡ get_or table.firsts.items unit first
-    → (first ≡ length (front film unit)) × (length (front film unit) < length table.places.items)
+    → (first ≡ length (front_pieces film unit)) × (length (front_pieces film unit) < length table.places.items)
 front-count film table unit first is h read =
-    let count : first ≡ length (front film unit) = get_or_read table.firsts.items unit first (omega (arith, h, is.firsts.count)) read 0 ∙ is.firsts.first unit h in
-    let all : length (pieces_of film.slice_starts.items film.units.items) ≡ length (front film unit) + length (pieces_of film.slice_starts.items (drop unit film.units.items)) =
-    ap (λ (l : List Piece). length l) (front-back film unit) ∙ length-append (front film unit) (pieces_of film.slice_starts.items (drop unit film.units.items)) in
+    let count : first ≡ length (front_pieces film unit) = get_or_read table.firsts.items unit first (omega (arith, h, is.firsts.count)) read 0 ∙ is.firsts.first unit h in
+    let all : length (film_pieces film) ≡ length (front_pieces film unit) + length (pieces_of film.slice_starts.items (drop unit film.units.items)) =
+    ap (λ (l : List Piece). length l) (front-back film unit) ∙ length-append (front_pieces film unit) (pieces_of film.slice_starts.items (drop unit film.units.items)) in
     (count, omega (arith, all, is.pieces.places_count))
 
 pub front-place : (film : Film) (table : FrameTable) (unit first place : ℕ) → IsTableOf film table → unit ≤ length film.units.items → first ≡ get_or table.firsts.items unit first
-    → place ≡ get_or table.places.items first place → place ≡ wire_in (front film unit)
+    → place ≡ get_or table.places.items first place → place ≡ wire_in (front_pieces film unit)
 front-place film table unit first place is h read its =
     let at = front-count film table unit first is h read in
-    let pieces = pieces_of film.slice_starts.items film.units.items in
-    let n = length (front film unit) in
+    let pieces = film_pieces film in
+    let n = length (front_pieces film unit) in
     get_or_read table.places.items first place (omega (arith, at.0, at.1)) its 0
     ∙ ap (λ k. get_or table.places.items k 0) at.0
     ∙ is.pieces.place n (omega (arith, at.1, is.pieces.places_count))
     ∙ ap (λ l. wire_in (take n l)) (front-back film unit)
-    ∙ ap (λ l. wire_in l) (take_at (front film unit) (pieces_of film.slice_starts.items (drop unit film.units.items)) n refl)
+    ∙ ap (λ l. wire_in l) (take_at (front_pieces film unit) (pieces_of film.slice_starts.items (drop unit film.units.items)) n refl)
 
-pub unit-place : (film : Film) (number : ℕ) (unit : PictureUnit) → slice_get film.units.items number ≡ Some unit → wire_in (front film (number + 1)) ≡ wire_in (front film number) + wire_size film.slice_starts.items unit
+pub unit-place : (film : Film) (number : ℕ) (unit : PictureUnit) → slice_get film.units.items number ≡ Some unit → wire_in (front_pieces film (number + 1)) ≡ wire_in (front_pieces film number) + wire_size film.slice_starts.items unit
 unit-place film number unit at =
     ap (λ l. wire_in l) (front-more film number unit at)
-    ∙ wire-append (front film number) (unit_pieces film.slice_starts.items unit)
-    ∙ ap (λ n. wire_in (front film number) + n) (unit-wire film.slice_starts.items unit (unit-laid film number unit at))
+    ∙ wire-append (front_pieces film number) (unit_pieces film.slice_starts.items unit)
+    ∙ ap (λ n. wire_in (front_pieces film number) + n) (unit-wire film.slice_starts.items unit (unit-laid film number unit at))
 
 -- ---- a piece that is read back
 
@@ -145,11 +145,11 @@ pub record IsReadBack (film : Film) (row : Row) (from to : ℕ) (pieces : List P
   pub size : to ≡ from + wire_of piece
   pub sound : IsSound film.bytes.items piece
 
-pub read-back : (film : Film) (table : FrameTable) (number : ℕ) (row : Row) (from to : ℕ) → IsTableOf film table → number < length (pieces_of film.slice_starts.items film.units.items)
+pub read-back : (film : Film) (table : FrameTable) (number : ℕ) (row : Row) (from to : ℕ) → IsTableOf film table → number < length (film_pieces film)
     → row ≡ get_or table.rows.items number row → from ≡ get_or table.places.items number 0 → to ≡ get_or table.places.items (number + 1) 0
-    → IsReadBack film row from to (pieces_of film.slice_starts.items film.units.items) number
+    → IsReadBack film row from to (film_pieces film) number
 read-back film table number row from to is h its from_is to_is =
-    let pieces = pieces_of film.slice_starts.items film.units.items in
+    let pieces = film_pieces film in
     let some = some-at pieces number h in
     let P : Row → Type 0 = λ r. IsRow film.units.items r some.0 in
     record {

@@ -1,7 +1,8 @@
 -- The reports and frames of units, in the order in which they are sent, and what each takes.
-use Rattle.std.specs.Prelude.{ℕ, ◌+◌, ◌-◌, if◌then◌else◌, List, [], ◌∷◌, ◌++◌, map, flat_map}
+use Rattle.std.specs.Prelude.{ℕ, ◌+◌, ◌-◌, if◌then◌else◌, List, [], ◌∷◌, ◌++◌, map, flat_map, take}
 use Rattle.std.specs.List.{sum_by}
 use Rattle.mpeg_scan.specs.declared.units.Unit.{Unit as PictureUnit}
+use Rattle.mpeg_scan.specs.declared.films.Film.{Film}
 use Rattle.rtp_pack.specs.Packets.{unit_packets}
 use Rattle.rtp_pack.specs.Sizes.{unit_size}
 use Rattle.film_frames.specs.declared.pieces.Piece.{Piece}
@@ -18,6 +19,13 @@ unit_pieces slice_starts unit = unit_reports unit ++ map (λ p. Frame unit p) (u
 -- the pieces of units, one unit behind another
 abbrev pub pieces_of : List ℕ → List PictureUnit → List Piece
 pieces_of slice_starts units = flat_map (unit_pieces slice_starts) units
+
+-- all pieces of a film, and those of so many of its first units
+abbrev pub film_pieces : Film → List Piece
+film_pieces film = pieces_of film.slice_starts.items film.units.items
+
+abbrev pub front_pieces : Film → ℕ → List Piece
+front_pieces film units = pieces_of film.slice_starts.items (take units film.units.items)
 
 abbrev pub unit_of : Piece → PictureUnit
 unit_of (Report unit) = unit

@@ -8,7 +8,7 @@ use Rattle.film_frames.specs.declared.pieces.Piece.{Piece}
 use Rattle.film_frames.specs.declared.pieces.Piece.TheVariants.{Report, Frame}
 use Rattle.film_frames.specs.declared.rows.Row.{Row}
 use Rattle.film_frames.specs.declared.tables.FrameTable.{FrameTable}
-use Rattle.film_frames.specs.Pieces.{pieces_of, unit_of, wire_of, wire_in, frames_in}
+use Rattle.film_frames.specs.Pieces.{film_pieces, pieces_of, unit_of, wire_of, wire_in, frames_in}
 
 -- the piece of a row, where its unit and its bytes are known
 abbrev pub row_piece : Row → PictureUnit → ℕ → Piece
@@ -39,7 +39,12 @@ pub record IsTable (units : List PictureUnit) (pieces : List Piece) (table : Fra
   pub rows_count : length table.rows.items ≡ length pieces
   pub place : (k : ℕ) → k ≤ length pieces → get_or table.places.items k 0 ≡ wire_in (take k pieces)
   pub frame : (k : ℕ) → k ≤ length pieces → get_or table.frames.items k 0 ≡ frames_in (take k pieces)
-  pub row : (k : ℕ) (some : Row) (piece : Piece) → slice_get pieces k ≡ Some piece → IsRow units (get_or table.rows.items k some) piece
+  pub row : (k : ℕ) (some : Row) (piece : Piece) → slice_get pieces k ≡ Some piece
+      → IsRow units (get_or table.rows.items k some) piece
+
+-- a table has these pieces of a film
+abbrev pub HasPieces : Film → List Piece → FrameTable → Type 0
+HasPieces film pieces table = IsTable film.units.items pieces table
 
 -- the number of pieces before each unit, up to a number of units
 pub record AreFirsts (slice_starts : List ℕ) (units : List PictureUnit) (number : ℕ) (firsts : List ℕ) : Type 0 where
@@ -48,7 +53,7 @@ pub record AreFirsts (slice_starts : List ℕ) (units : List PictureUnit) (numbe
 
 -- a table is that of a film
 pub record IsTableOf (film : Film) (table : FrameTable) : Type 0 where
-  pub pieces : IsTable film.units.items (pieces_of film.slice_starts.items film.units.items) table
+  pub pieces : IsTable film.units.items (film_pieces film) table
   pub firsts : AreFirsts film.slice_starts.items film.units.items (length film.units.items) table.firsts.items
 
 -- a table of some film has a unit of that number

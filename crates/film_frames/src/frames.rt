@@ -138,7 +138,8 @@ impl<'a> Frames<'a> {
     /// The bytes of a report that stands behind so many pieces.
     fn report(&self, number: usize, unit: &Unit) -> [u8; 52]
         requires { number ≤ length (sent self.now) }
-        ensures { result ≡ piece_bytes self.now (frames_in (take number (sent self.now))) (octets_in (take number (sent self.now))) (Report unit.now) }
+        ensures { result ≡ piece_bytes self.now (frames_in (take number (sent self.now)))
+            (octets_in (take number (sent self.now))) (Report unit.now) }
     {
         let frames = self.frames(number);
         let octets = self.octets(number);
@@ -150,7 +151,8 @@ impl<'a> Frames<'a> {
     fn put_heads(&self, number: usize, unit: &Unit, packet: &Packet, head: &mut [u8; 52])
         requires number { number ≤ length (sent self.now) }
         requires packet { IsCut self.now.film unit.now packet.now }
-        ensures { (octets : ℕ) → take 20 head.new ++ payload self.now.film packet.now ≡ piece_bytes self.now (frames_in (take number (sent self.now))) octets (Frame unit.now packet.now) }
+        ensures { (octets : ℕ) → take 20 head.new ++ payload self.now.film packet.now
+            ≡ piece_bytes self.now (frames_in (take number (sent self.now))) octets (Frame unit.now packet.now) }
     {
         let frames = self.frames(number);
         let its = packet_head(&self.identity, self.picture_time(), unit, packet, frames);
@@ -161,7 +163,8 @@ impl<'a> Frames<'a> {
     fn payload(&self, packet: &Packet, without: u64) -> &[u8]
         requires front { packet.now.from + without ≤ packet.now.to }
         requires within { packet.now.to ≤ length self.now.film }
-        ensures { result.now ≡ take (packet.now.to - (packet.now.from + without)) (drop (packet.now.from + without) self.now.film) }
+        ensures { result.now ≡ take (packet.now.to - (packet.now.from + without))
+            (drop (packet.now.from + without) self.now.film) }
     {
         let stored = self.stored;
         &stored.film.bytes[(packet.from + without) as usize..packet.to as usize]
@@ -197,9 +200,11 @@ impl Track for Frames<'_> {
         requires { at < length (framed (run_pieces self.now)) }
         ensures order { result.head_from ≤ result.head_to }
         ensures within { result.head_to ≤ 52 }
-        ensures bytes { IsNext (run_pieces self.now) at (slice_range head.new result.head_from result.head_to ++ result.payload.now) }
+        ensures bytes { IsNext (run_pieces self.now) at
+            (slice_range head.new result.head_from result.head_to ++ result.payload.now) }
         ensures whole { IsBoundary (run_pieces self.now) (at + (result.head_to - result.head_from) + length result.payload.now) }
-        ensures report { (unit : PictureUnit) → slice_get (sent self.now) (ended at (run_pieces self.now)) ≡ Some (Report unit) → result.payload.now ≡ [] }
+        ensures report { (unit : PictureUnit) → slice_get (sent self.now) (ended at (run_pieces self.now)) ≡ Some (Report unit)
+            → result.payload.now ≡ [] }
     {
         let number = self.ended(at);
         let inside = at - self.place(number);

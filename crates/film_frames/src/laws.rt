@@ -20,7 +20,9 @@ pub fn law_wire_sizes(film: &Film)
 pub fn law_film_comes_back(film: &Film, first_unit: usize, end_unit: usize, identity: Identity)
     requires order { first_unit < end_unit }
     requires within { end_unit ≤ length film.now.units.items }
-    ensures { OfUnit film.now.units.items first_unit (λ first. OfUnit film.now.units.items (end_unit - 1) (λ last. payloads (run_frames (run_of film.now first_unit end_unit identity)) ≡ take (last.to - first.from) (drop first.from film.now.bytes.items))) }
+    ensures { OfUnit film.now.units.items first_unit (λ first. OfUnit film.now.units.items (end_unit - 1) (λ last.
+        payloads (run_frames (run_of film.now first_unit end_unit identity))
+        ≡ take (last.to - first.from) (drop first.from film.now.bytes.items))) }
 {
     let _read = (film.bytes.len(), first_unit, end_unit, identity);
 }
@@ -29,7 +31,8 @@ pub fn law_film_comes_back(film: &Film, first_unit: usize, end_unit: usize, iden
 pub fn law_counts_on(film: &Film, first_unit: usize, end_unit: usize, identity: Identity)
     requires order { first_unit < end_unit }
     requires within { end_unit ≤ length film.now.units.items }
-    ensures frames { length (run_frames (run_of film.now first_unit end_unit identity)) ≡ frames_in (sent (run_of film.now first_unit end_unit identity)) }
+    ensures frames { length (run_frames (run_of film.now first_unit end_unit identity))
+        ≡ frames_in (sent (run_of film.now first_unit end_unit identity)) }
     ensures numbers { DoCountOn identity.sequence (run_frames (run_of film.now first_unit end_unit identity)) }
 {
     let _read = (film.bytes.len(), first_unit, end_unit, identity);
@@ -39,15 +42,19 @@ pub fn law_counts_on(film: &Film, first_unit: usize, end_unit: usize, identity: 
 pub fn law_piece_sizes(film: &Film, first_unit: usize, end_unit: usize, identity: Identity)
     requires order { first_unit < end_unit }
     requires within { end_unit ≤ length film.now.units.items }
-    ensures pieces { HaveSizes (sent (run_of film.now first_unit end_unit identity)) (run_pieces (run_of film.now first_unit end_unit identity)) }
-    ensures all { length (framed (run_pieces (run_of film.now first_unit end_unit identity))) ≡ sum (map (λ u. wire_size film.now.slice_starts.items u) (take (end_unit - first_unit) (drop first_unit film.now.units.items))) }
+    ensures pieces { HaveSizes (sent (run_of film.now first_unit end_unit identity))
+        (run_pieces (run_of film.now first_unit end_unit identity)) }
+    ensures all { length (framed (run_pieces (run_of film.now first_unit end_unit identity)))
+        ≡ sum (map (λ u. wire_size film.now.slice_starts.items u)
+        (take (end_unit - first_unit) (drop first_unit film.now.units.items))) }
 {
     let _read = (film.bytes.len(), first_unit, end_unit, identity);
 }
 
 /// How many pieces of a run have ended at a place: the last of them ends at or before it, and the next doesn't.
 pub fn law_ended(film: &Film, first_unit: usize, end_unit: usize, identity: Identity, at: u64)
-    ensures { HaveEnded (run_pieces (run_of film.now first_unit end_unit identity)) at (ended at (run_pieces (run_of film.now first_unit end_unit identity))) }
+    ensures { HaveEnded (run_pieces (run_of film.now first_unit end_unit identity)) at
+        (ended at (run_pieces (run_of film.now first_unit end_unit identity))) }
 {
     let _read = (film.bytes.len(), first_unit, end_unit, identity, at);
 }

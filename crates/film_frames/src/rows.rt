@@ -25,7 +25,8 @@ pub(crate) struct Row {
 impl Row {
     /// The row of a piece, by the number of its unit.
     pub(crate) fn new(unit: u32, piece: &Piece) -> Row
-        ensures { (film : List ℕ) (units : List PictureUnit) → IsSound film piece.now → slice_get units unit ≡ Some (unit_of piece.now) → IsRow units result piece.now }
+        ensures { (film : List ℕ) (units : List PictureUnit) → IsSound film piece.now
+            → slice_get units unit ≡ Some (unit_of piece.now) → IsRow units result piece.now }
     {
         match piece {
             Piece::Report(_) => Row {

@@ -19,9 +19,9 @@ pub struct Stored {
 }
 
 impl Stored {
-    ghost use Rattle.std.specs.Prelude.{◌≡◌, ◌+◌, ◌-◌, ◌<◌, ◌≤◌, ℕ, length, take, get_or, slice_get, string_bytes, Some, IfOk};
+    ghost use Rattle.std.specs.Prelude.{◌≡◌, ◌+◌, ◌-◌, ◌*◌, ◌<◌, ◌≤◌, ℕ, length, take, get_or, slice_get, string_bytes, Some, IfOk};
     ghost use Rattle.rtp_pack.specs.Packets.{OfUnit};
-    ghost use Rattle.film_frames.specs.Pieces.{frames_in, pieces_of, wire_in, wire_size};
+    ghost use Rattle.film_frames.specs.Pieces.{film_pieces, frames_in, front_pieces, wire_in, wire_size};
 
     /// A film under a name, with its table.
     pub fn new(alloc: Global, name: String, film: Film) -> Result<Stored, NoMemory>
@@ -32,10 +32,12 @@ impl Stored {
         Ok(Stored { name, film, table })
     }
 
-    /// The bytes of a unit on the wire: its frames, and the report before it if it starts a group.
+    /// The bytes of a unit on the wire: its frames, and the report before it if it starts a group. A unit of L bytes
+    /// takes at most 2 * L + 112.
     pub fn wire_size(&self, unit: usize) -> u64
         requires { unit < length self.now.film.units.items }
-        ensures { OfUnit self.now.film.units.items unit (λ u. result ≡ wire_size self.now.film.slice_starts.items u) }
+        ensures size { OfUnit self.now.film.units.items unit (λ u. result ≡ wire_size self.now.film.slice_starts.items u) }
+        ensures bound { OfUnit self.now.film.units.items unit (λ u. result ≤ 2 * (u.to - u.from) + 112) }
     {
         self.table.wire_size(unit)
     }
@@ -43,23 +45,23 @@ impl Stored {
     /// How many pieces of the film come before a unit.
     pub(crate) fn first_piece(&self, unit: usize) -> usize
         requires { unit ≤ length self.now.film.units.items }
-        ensures { result ≡ length (pieces_of self.now.film.slice_starts.items (take unit self.now.film.units.items)) }
+        ensures { result ≡ length (front_pieces self.now.film unit) }
     {
         self.table.first(unit)
     }
 
     /// Where a piece of the film begins among all its framed bytes, or the last ends.
     pub(crate) fn place(&self, piece: usize) -> u64
-        requires { piece ≤ length (pieces_of self.now.film.slice_starts.items self.now.film.units.items) }
-        ensures { result ≡ wire_in (take piece (pieces_of self.now.film.slice_starts.items self.now.film.units.items)) }
+        requires { piece ≤ length (film_pieces self.now.film) }
+        ensures { result ≡ wire_in (take piece (film_pieces self.now.film)) }
     {
         self.table.place(piece)
     }
 
     /// How many frames of the film come before a piece.
     pub(crate) fn frames(&self, piece: usize) -> u64
-        requires { piece ≤ length (pieces_of self.now.film.slice_starts.items self.now.film.units.items) }
-        ensures { result ≡ frames_in (take piece (pieces_of self.now.film.slice_starts.items self.now.film.units.items)) }
+        requires { piece ≤ length (film_pieces self.now.film) }
+        ensures { result ≡ frames_in (take piece (film_pieces self.now.film)) }
     {
         self.table.frames(piece)
     }
@@ -67,17 +69,18 @@ impl Stored {
     /// Where the pieces from one on to another end.
     pub(crate) fn ends(&self, from: usize, to: usize) -> &[u64]
         requires order { from ≤ to }
-        requires within { to ≤ length (pieces_of self.now.film.slice_starts.items self.now.film.units.items) }
+        requires within { to ≤ length (film_pieces self.now.film) }
         ensures count { length result.now ≡ to - from }
-        ensures each { (k : ℕ) → k < to - from → get_or result.now k 0 ≡ wire_in (take (from + k + 1) (pieces_of self.now.film.slice_starts.items self.now.film.units.items)) }
+        ensures each { (k : ℕ) → k < to - from
+            → get_or result.now k 0 ≡ wire_in (take (from + k + 1) (film_pieces self.now.film)) }
     {
         self.table.places(from + 1, to + 1)
     }
 
     /// The piece of the film of that number.
     pub(crate) fn piece(&self, number: usize) -> Piece
-        requires { number < length (pieces_of self.now.film.slice_starts.items self.now.film.units.items) }
-        ensures { slice_get (pieces_of self.now.film.slice_starts.items self.now.film.units.items) number ≡ Some result }
+        requires { number < length (film_pieces self.now.film) }
+        ensures { slice_get (film_pieces self.now.film) number ≡ Some result }
     {
         let row = self.table.row(number);
         let size = self.table.place(number + 1) - self.table.place(number);

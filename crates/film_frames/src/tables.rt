@@ -3,8 +3,8 @@ ghost use Rattle.mpeg_scan.specs.declared.units.Unit.{Unit as PictureUnit};
 ghost use Rattle.mpeg_scan.specs.declared.films.Film.{Film};
 ghost use Rattle.rtp_pack.specs.Packets.{OfUnit, unit_packets};
 ghost use Rattle.film_frames.specs.declared.pieces.Piece.{Piece};
-ghost use Rattle.film_frames.specs.Pieces.{pieces_of, unit_of, unit_reports, wire_size};
-ghost use Rattle.film_frames.specs.Tables.{AreFirsts, HasRoom, HasUnit, IsSound, IsTable, IsTableOf};
+ghost use Rattle.film_frames.specs.Pieces.{front_pieces, unit_of, unit_reports, wire_size};
+ghost use Rattle.film_frames.specs.Tables.{AreFirsts, HasPieces, HasRoom, HasUnit, IsSound, IsTable, IsTableOf};
 
 use crate::pieces::{Piece, count_of, wire_of};
 use crate::rows::Row;
@@ -55,8 +55,10 @@ impl FrameTable {
     /// A unit of L bytes takes at most 2 * L + 112.
     pub fn wire_size(&self, unit: usize) -> u64
         requires { HasUnit self.now unit }
-        ensures size { (film : Film) → IsTableOf film self.now → OfUnit film.units.items unit (λ u. result ≡ wire_size film.slice_starts.items u) }
-        ensures bound { (film : Film) → IsTableOf film self.now → OfUnit film.units.items unit (λ u. result ≤ 2 * (u.to - u.from) + 112) }
+        ensures size { (film : Film) → IsTableOf film self.now
+            → OfUnit film.units.items unit (λ u. result ≡ wire_size film.slice_starts.items u) }
+        ensures bound { (film : Film) → IsTableOf film self.now
+            → OfUnit film.units.items unit (λ u. result ≤ 2 * (u.to - u.from) + 112) }
     {
         let first = self.firsts[unit] as usize;
         let end = self.firsts[unit + 1] as usize;
@@ -84,7 +86,9 @@ impl FrameTable {
     fn put(&mut self, number: u32, piece: Piece) -> Result<(), NoMemory>
         requires room { HasRoom self.old }
         requires sound { (film : List ℕ) × IsSound film piece }
-        ensures table { (film : List ℕ) (units : List PictureUnit) (pieces : List Piece) → IsSound film piece → slice_get units number ≡ Some (unit_of piece) → IsTable units pieces self.old → OnOk result (IsTable units (pieces ++ piece ∷ []) self.new) }
+        ensures table { (film : List ℕ) (units : List PictureUnit) (pieces : List Piece)
+            → IsSound film piece → slice_get units number ≡ Some (unit_of piece) → IsTable units pieces self.old
+            → OnOk result (IsTable units (pieces ++ piece ∷ []) self.new) }
         ensures firsts { OnOk result (self.new.firsts.items ≡ self.old.firsts.items) }
     {
         let last = self.rows.len();
@@ -101,8 +105,9 @@ impl FrameTable {
     /// Appends the report of a unit that starts a group, behind the units before it.
     fn put_report(&mut self, film: &Film, number: usize) -> Result<(), NoMemory>
         requires within { number < length film.now.units.items }
-        requires table { IsTable film.now.units.items (pieces_of film.now.slice_starts.items (take number film.now.units.items)) self.old }
-        ensures table { OfUnit film.now.units.items number (λ u. OnOk result (IsTable film.now.units.items (pieces_of film.now.slice_starts.items (take number film.now.units.items) ++ unit_reports u) self.new)) }
+        requires table { HasPieces film.now (front_pieces film.now number) self.old }
+        ensures table { OfUnit film.now.units.items number
+            (λ u. OnOk result (HasPieces film.now (front_pieces film.now number ++ unit_reports u) self.new)) }
         ensures firsts { OnOk result (self.new.firsts.items ≡ self.old.firsts.items) }
     {
         let unit = film.units[number];
@@ -116,8 +121,9 @@ impl FrameTable {
     fn put_frames(&mut self, film: &Film, number: usize, packets: &[Packet]) -> Result<(), NoMemory>
         requires within { number < length film.now.units.items }
         requires packets { OfUnit film.now.units.items number (λ u. packets.now ≡ unit_packets film.now.slice_starts.items u) }
-        requires table { OfUnit film.now.units.items number (λ u. IsTable film.now.units.items (pieces_of film.now.slice_starts.items (take number film.now.units.items) ++ unit_reports u) self.old) }
-        ensures table { OnOk result (IsTable film.now.units.items (pieces_of film.now.slice_starts.items (take (number + 1) film.now.units.items)) self.new) }
+        requires table { OfUnit film.now.units.items number
+            (λ u. HasPieces film.now (front_pieces film.now number ++ unit_reports u) self.old) }
+        ensures table { OnOk result (HasPieces film.now (front_pieces film.now (number + 1)) self.new) }
         ensures firsts { OnOk result (self.new.firsts.items ≡ self.old.firsts.items) }
     {
         let unit = film.units[number];
@@ -130,10 +136,11 @@ impl FrameTable {
     /// Appends the pieces of a unit, behind the units before it.
     fn put_unit(&mut self, alloc: Global, film: &Film, number: usize) -> Result<(), NoMemory>
         requires within { number < length film.now.units.items }
-        requires table { IsTable film.now.units.items (pieces_of film.now.slice_starts.items (take number film.now.units.items)) self.old }
+        requires table { HasPieces film.now (front_pieces film.now number) self.old }
         requires firsts { AreFirsts film.now.slice_starts.items film.now.units.items number self.old.firsts.items }
-        ensures table { OnOk result (IsTable film.now.units.items (pieces_of film.now.slice_starts.items (take (number + 1) film.now.units.items)) self.new) }
-        ensures firsts { OnOk result (AreFirsts film.now.slice_starts.items film.now.units.items (number + 1) self.new.firsts.items) }
+        ensures table { OnOk result (HasPieces film.now (front_pieces film.now (number + 1)) self.new) }
+        ensures firsts { OnOk result
+            (AreFirsts film.now.slice_starts.items film.now.units.items (number + 1) self.new.firsts.items) }
     {
         let packets = packets(alloc, film, number)?;
         self.put_report(film, number)?;

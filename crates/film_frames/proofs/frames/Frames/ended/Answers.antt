@@ -1,8 +1,8 @@
 use Rattle.std.proofs.Common.{arith, take, ap}
-use Rattle.film_frames.specs.Pieces.{wire_in}
+use Rattle.film_frames.specs.Pieces.{film_pieces, wire_in}
 use Rattle.film_frames.specs.Runs.{run_pieces}
 use Rattle.film_frames.proofs.RunLemmas.{have-ended}
-use Rattle.film_frames.proofs.SentLemmas.{IsRun, all_of, all-short, run-count, run-ends, run-total}
+use Rattle.film_frames.proofs.SentLemmas.{IsRun, all-short, run-count, run-ends, run-total}
 use Rattle.film_frames.proofs.TrackLemmas.{ends-rise}
 use Rattle.film_frames.proofs.frames.Frames.ended.Goals as goal
 
@@ -21,7 +21,7 @@ overflow_add-place c =
     let film = f.stored.now.film in
     let run = c.args.self.now in
     let is : IsRun film f.first_unit f.end_unit f.identity run = record { view = c.self.view_is; order = omega (arith, c.self.invariant.0); within = c.self.invariant.1 } in
-    let from = ap (λ n. wire_in (take n (all_of film))) c.first_piece-first.ensures in
+    let from = ap (λ n. wire_in (take n (film_pieces film))) c.first_piece-first.ensures in
     omega (arith, c.place.ensures, c.min.ensures, c.total.ensures, from, run-total film f.first_unit f.end_unit f.identity run is)
 
 pub overflow_add-place-2 : goal.overflow_add-place-2
@@ -30,7 +30,7 @@ overflow_add-place-2 c =
     let film = f.stored.now.film in
     let run = c.args.self.now in
     let is : IsRun film f.first_unit f.end_unit f.identity run = record { view = c.self.view_is; order = omega (arith, c.self.invariant.0); within = c.self.invariant.1 } in
-    let from = ap (λ n. wire_in (take n (all_of film))) c.first_piece-first.ensures in
+    let from = ap (λ n. wire_in (take n (film_pieces film))) c.first_piece-first.ensures in
     omega (arith, c.place.ensures, c.min.ensures, c.total.ensures, from, run-total film f.first_unit f.end_unit f.identity run is)
 
 pub ends-requires-clause-order : goal.ends-requires-clause-order

@@ -3,10 +3,10 @@ use Rattle.std.specs.Result.{OnOk}
 use Rattle.std.proofs.lemmas.Option.{slice_get_read}
 use Rattle.mpeg_scan.specs.declared.units.Unit.{Unit as PictureUnit}
 use Rattle.film_frames.specs.declared.pieces.Piece.{Piece}
-use Rattle.film_frames.specs.Pieces.{unit_reports}
+use Rattle.film_frames.specs.Pieces.{front_pieces, unit_reports}
 use Rattle.film_frames.specs.Tables.{IsTable}
 use Rattle.film_frames.proofs.FilmLemmas.{film-few}
-use Rattle.film_frames.proofs.FrontLemmas.{front, front-bound, reports-none, reports-some, room}
+use Rattle.film_frames.proofs.FrontLemmas.{front-bound, reports-none, reports-some, room}
 use Rattle.film_frames.proofs.tables.FrameTable.put_report.Goals as goal
 
 pub overflow_cast-number : goal.overflow_cast-number
@@ -24,9 +24,9 @@ returns-then-unit-clause-table c = λ unit at.
     let here = c.index-unit.result.now in
     let found = slice_get_read units (length units) c.args.number here refl c.requires.within c.index-unit.ensures in
     let same : here ≡ unit = cc in
-    let P : List Piece → Type 0 = λ l. OnOk c.put.result (IsTable units (front film c.args.number ++ l) c.put.new.self) in
+    let P : List Piece → Type 0 = λ l. OnOk c.put.result (IsTable units (front_pieces film c.args.number ++ l) c.put.new.self) in
     let Q : PictureUnit → Type 0 = λ u. P (unit_reports u) in
-    subst Q same (subst P (reports-some here c.if-unit.true) (c.put.ensures.table film.bytes.items units (front film c.args.number) tt found c.requires.table))
+    subst Q same (subst P (reports-some here c.if-unit.true) (c.put.ensures.table film.bytes.items units (front_pieces film c.args.number) tt found c.requires.table))
 
 pub returns-clause-table : goal.returns-clause-table
 returns-clause-table c = λ unit at.
@@ -36,5 +36,5 @@ returns-clause-table c = λ unit at.
     let found = slice_get_read units (length units) c.args.number here refl c.requires.within c.index-unit.ensures in
     let same : here ≡ unit = cc in
     let P : List Piece → Type 0 = λ l. IsTable units l c.args.self.now in
-    let Q : PictureUnit → Type 0 = λ u. P (front film c.args.number ++ unit_reports u) in
+    let Q : PictureUnit → Type 0 = λ u. P (front_pieces film c.args.number ++ unit_reports u) in
     subst Q same (subst P (reports-none film c.args.number here c.if-unit.false) c.requires.table)
