@@ -7,7 +7,8 @@ use Rattle.rtp_pack.specs.Heads.{head_bytes, packet_head}
 use Rattle.mpeg_scan.specs.Rates.{picture_time}
 use Rattle.film_frames.specs.declared.pieces.Piece.{Piece}
 use Rattle.film_frames.specs.declared.pieces.Piece.TheVariants.{Report, Frame}
-use Rattle.film_frames.specs.Laws.{HasPieceSize, HaveSizes, frames_among, sequence_of}
+use Rattle.rtp_pack.specs.Reports.{report_bytes, unit_report}
+use Rattle.film_frames.specs.Laws.{AreBlocks, IsBlock, HasPieceSize, HaveSizes, frames_among, sequence_of}
 use Rattle.film_frames.specs.Pieces.{count_of, frames_in, octets_of, wire_of}
 use Rattle.film_frames.specs.Runs.{HaveEnded, Run, ended, interleaved, numbered, payload, piece_bytes, run_pieces, sent}
 use Rattle.film_frames.specs.Tables.{IsSound}
@@ -59,6 +60,22 @@ have-sizes run sound = record {
       ap (λ (l : List ℕ). length l) bytes ∙ piece-length run (0 + frames_in (take k (sent run))) _ piece its in
       subst (λ n. HasPieceSize piece n) (sym long) (piece-size run.film piece its);
 }
+
+-- ---- blocks
+
+block-is : (channel : ℕ) (block : List ℕ) → IsBlock (interleaved channel block)
+block-is channel block = ((omega arith, refl), omega arith)
+
+piece-block : (run : Run) (frames octets : ℕ) (piece : Piece) → IsBlock (piece_bytes run frames octets piece)
+piece-block run frames octets (Report unit) =
+    block-is run.identity.control (report_bytes (unit_report run.identity (picture_time run.rate) unit frames octets))
+piece-block run frames octets (Frame unit p) =
+    block-is run.identity.channel (head_bytes (packet_head run.identity (picture_time run.rate) unit p frames) ++ payload run.film p)
+
+pub are-blocks : (run : Run) (frames octets : ℕ) (pieces : List Piece) → AreBlocks (numbered run frames octets pieces)
+are-blocks run frames octets [] k h = absurd (omega (arith, h))
+are-blocks run frames octets (piece ∷ pieces) zero h = piece-block run frames octets piece
+are-blocks run frames octets (piece ∷ pieces) (suc k) h = are-blocks run (frames + count_of piece) (octets + octets_of piece) pieces k (omega (arith, h))
 
 -- ---- what has ended
 

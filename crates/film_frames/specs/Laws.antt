@@ -1,6 +1,7 @@
 -- What a reader expects of the bytes of a run.
 use Rattle.std.specs.Prelude.{ℕ, ◌+◌, ◌%◌, ◌^◌, ◌<◌, ◌≤◌, ◌≡◌, List, [], ◌∷◌, length, drop, flat_map, get_or, slice_get, Some}
 use Rattle.rtp_pack.specs.Heads.{head_at}
+use Rattle.interleave.specs.Pieces.{StartsBlock, block_length}
 use Rattle.film_frames.specs.declared.pieces.Piece.{Piece}
 use Rattle.film_frames.specs.declared.pieces.Piece.TheVariants.{Report, Frame}
 use Rattle.film_frames.specs.Runs.{Run, sent, run_pieces}
@@ -37,3 +38,11 @@ HasPieceSize (Frame unit packet) size = (21 ≤ size) × (size ≤ 1400)
 pub record HaveSizes (pieces : List Piece) (all : List (List ℕ)) : Type 0 where
   pub count : length all ≡ length pieces
   pub each : (k : ℕ) (piece : Piece) → slice_get pieces k ≡ Some piece → HasPieceSize piece (length (get_or all k []))
+
+-- a whole interleaved block, as it is read from a stream: its length is that of its head of four bytes and of what
+-- this says follows (RFC 2326 section 10.12)
+abbrev pub IsBlock : List ℕ → Type 0
+IsBlock bytes = StartsBlock bytes × (block_length bytes ≡ length bytes)
+
+abbrev pub AreBlocks : List (List ℕ) → Type 0
+AreBlocks pieces = (k : ℕ) → k < length pieces → IsBlock (get_or pieces k [])

@@ -1,6 +1,6 @@
 ghost use Rattle.std.specs.Prelude.{◌≡◌, ◌+◌, ◌-◌, ◌^◌, ◌<◌, ◌≤◌, length, map, sum, take, drop};
 ghost use Rattle.rtp_pack.specs.Packets.{OfUnit};
-ghost use Rattle.film_frames.specs.Laws.{DoCountOn, HaveSizes, payloads, run_frames};
+ghost use Rattle.film_frames.specs.Laws.{AreBlocks, DoCountOn, HaveSizes, payloads, run_frames};
 ghost use Rattle.film_frames.specs.Pieces.{frames_in, wire_size};
 ghost use Rattle.film_frames.specs.Runs.{HaveEnded, ended, run_of, run_pieces, sent};
 ghost use Rattle.film_frames.specs.Tracks.{framed};
@@ -38,12 +38,14 @@ pub fn law_counts_on(film: &Film, first_unit: usize, end_unit: usize, identity: 
     let _read = (film.bytes.len(), first_unit, end_unit, identity);
 }
 
-/// Each report of a run has 52 bytes and each frame 21 to 1,400, and all together have the sizes of the run's units.
+/// Each report of a run has 52 bytes and each frame 21 to 1,400, and each is a whole interleaved block. All together
+/// have the sizes of the run's units.
 pub fn law_piece_sizes(film: &Film, first_unit: usize, end_unit: usize, identity: Identity)
     requires order { first_unit < end_unit }
     requires within { end_unit ≤ length film.now.units.items }
     ensures pieces { HaveSizes (sent (run_of film.now first_unit end_unit identity))
         (run_pieces (run_of film.now first_unit end_unit identity)) }
+    ensures blocks { AreBlocks (run_pieces (run_of film.now first_unit end_unit identity)) }
     ensures all { length (framed (run_pieces (run_of film.now first_unit end_unit identity)))
         ≡ sum (map (λ u. wire_size film.now.slice_starts.items u)
         (take (end_unit - first_unit) (drop first_unit film.now.units.items))) }

@@ -1,6 +1,6 @@
-use Rattle.film_frames.specs.Runs.{run_of}
+use Rattle.film_frames.specs.Runs.{run_of, sent}
 use Rattle.film_frames.proofs.BackLemmas.{run-sum}
-use Rattle.film_frames.proofs.CountLemmas.{have-sizes}
+use Rattle.film_frames.proofs.CountLemmas.{are-blocks, have-sizes}
 use Rattle.film_frames.proofs.laws.law_piece_sizes.Goals as goal
 
 pub returns-clause-pieces : goal.returns-clause-pieces
@@ -9,3 +9,7 @@ returns-clause-pieces c =
 
 pub returns-clause-all : goal.returns-clause-all
 returns-clause-all c = (run-sum c.args.film.now c.args.first_unit c.args.end_unit c.args.identity c.requires.order c.requires.within).1
+
+pub returns-clause-blocks : goal.returns-clause-blocks
+returns-clause-blocks c =
+    let run = run_of c.args.film.now c.args.first_unit c.args.end_unit c.args.identity in are-blocks run 0 0 (sent run)
