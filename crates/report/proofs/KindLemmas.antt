@@ -1,0 +1,23 @@
+-- Each answer of the admission machine is of its command's kind.
+use Rattle.std.proofs.Common.{List}
+use Rattle.slot_calendar.specs.declared.profiles.CapStep.{CapStep}
+use Rattle.admission.specs.Machine.{State, IsAnswer}
+use Rattle.admission.specs.declared.entries.Command.{Command}
+use Rattle.admission.specs.declared.entries.Command.TheVariants.{Play, Halt, Look}
+use Rattle.admission.specs.declared.entries.Answer.{Answer}
+use Rattle.admission.specs.declared.entries.Answer.TheVariants.{Admitted, Overflow, Halted, Looked}
+use Rattle.report.specs.Kinds.{IsOfKind}
+
+pub kind_of_answer : (steps : List CapStep) (state : State) (command : Command) (answer : Answer) → IsAnswer steps state command answer → IsOfKind command answer
+kind_of_answer steps state (Play slot plan) (Admitted start) is = tt
+kind_of_answer steps state (Play slot plan) (Overflow over booked asked) is = tt
+kind_of_answer steps state (Play slot plan) Halted is = is
+kind_of_answer steps state (Play slot plan) (Looked now at booked) is = is
+kind_of_answer steps state (Halt number keep) (Admitted start) is = is
+kind_of_answer steps state (Halt number keep) (Overflow over booked asked) is = is
+kind_of_answer steps state (Halt number keep) Halted is = tt
+kind_of_answer steps state (Halt number keep) (Looked now at booked) is = is
+kind_of_answer steps state (Look slot) (Admitted start) is = is
+kind_of_answer steps state (Look slot) (Overflow over booked asked) is = is
+kind_of_answer steps state (Look slot) Halted is = is
+kind_of_answer steps state (Look slot) (Looked now at booked) is = tt

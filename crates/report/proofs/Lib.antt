@@ -1,0 +1,4 @@
+pub mod AppendLemmas
+pub mod SlotLemmas
+pub mod LineLemmas
+pub mod KindLemmas

@@ -1,0 +1,157 @@
+-- The lines of a calendar's text: which slots they tell, and what of each.
+use Rattle.std.proofs.Common.{ℕ, zero, suc, ◌+◌, ◌^◌, ◌<◌, ◌≤◌, ◌≡◌, ◌≢◌, not, ◌==◌, nat_lt, Bool, true, false, cond, List, [], ◌∷◌, ◌++◌, All, map, flat_map, get_or, codes, decimal, append_assoc, sym, ap, refl, subst, ◌∙◌, arith, inl, inr}
+use Rattle.std.specs.List.{Contains, list_all, range_with_len}
+use Rattle.std.proofs.lemmas.Bool.{and_parts, cases_lt, eqb-false, lt-ltb, ltb-true, not-true}
+use Rattle.std.proofs.lemmas.Fmt.{decimal_injective}
+use Rattle.std.proofs.lemmas.List.{append_cancel_left, get_or-map, length-map}
+use Rattle.std.proofs.lemmas.List.Elements.{All-append, All-cons, All-get_or, All-head, All-nil, All-tail, Contains-append_left, Contains-append_right}
+use Rattle.plan_cert.specs.Reading.{lines_of}
+use Rattle.plan_cert.proofs.Decimals.{not_in_decimal, same_cut}
+use Rattle.plan_cert.proofs.Grammar.{lines-cut}
+use Rattle.slot_calendar.specs.Calendars.{Entries, booked_at}
+use Rattle.report.specs.Fields.{field}
+use Rattle.report.specs.CalendarTexts.{booked_among, booked_slots, calendar_text, first_words, ring_slots, slot_line, slot_words}
+
+-- ---- words without LF
+abbrev pub IsClean : List ℕ → Type 0
+IsClean xs = All (λ b. b ≢ 10) xs
+
+pub clean_by : (xs : List ℕ) → list_all (λ b. not (b == 10)) xs ≡ true → IsClean xs
+clean_by [] test = All-nil (λ b. b ≢ 10)
+clean_by (x ∷ xs) test =
+    let parts = and_parts (not (x == 10)) (list_all (λ b. not (b == 10)) xs) test in
+    All-cons (λ b. b ≢ 10) x xs (eqb-false x 10 (not-true (x == 10) parts.0)) (clean_by xs parts.1)
+
+pub clean_field : (label : List ℕ) (n : ℕ) → list_all (λ b. not (b == 10)) label ≡ true → n < 2 ^ 64 → IsClean (field label n)
+clean_field label n test small =
+    All-append (λ b. b ≢ 10) label (decimal n) (clean_by label test) (not_in_decimal 10 n small (λ within. omega (arith, within.0)))
+
+clean_words : (slot booked : ℕ) → slot < 2 ^ 64 → booked < 2 ^ 64 → IsClean (slot_words slot booked)
+clean_words slot booked small few =
+    All-append (λ b. b ≢ 10) (field (codes "at ") slot) (field (codes " booked=") booked) (clean_field (codes "at ") slot refl small) (clean_field (codes " booked=") booked refl few)
+
+-- ---- the text as lines
+abbrev pub words_at : Entries → ℕ → List ℕ
+words_at calendar t = slot_words t (booked_at calendar t)
+
+-- a slot of 64 bits with bytes of 64 bits
+abbrev IsFew : Entries → ℕ → Type 0
+IsFew calendar t = (t < 2 ^ 64) × (booked_at calendar t < 2 ^ 64)
+
+lines-slots : (calendar : Entries) (slots : List ℕ) → All (IsFew calendar) slots →
+    (lines_of (flat_map (slot_line calendar) slots ++ codes "end\n")).whole ≡ map (words_at calendar) slots ++ codes "end" ∷ []
+lines-slots calendar [] few = refl
+lines-slots calendar (t ∷ rest) few =
+    let one : IsFew calendar t = All-head (IsFew calendar) t rest few in
+    let behind = flat_map (slot_line calendar) rest ++ codes "end\n" in
+    let shape : (slot_line calendar t ++ flat_map (slot_line calendar) rest) ++ codes "end\n" ≡ words_at calendar t ++ 10 ∷ behind =
+    append_assoc (slot_line calendar t) (flat_map (slot_line calendar) rest) (codes "end\n") ∙ append_assoc (words_at calendar t) (10 ∷ []) behind in
+    ap (λ (l : List ℕ). (lines_of l).whole) shape
+    ∙ ap (λ ls. ls.whole) (lines-cut (words_at calendar t) behind (clean_words t (booked_at calendar t) one.0 one.1))
+    ∙ ap (λ (ls : List (List ℕ)). words_at calendar t ∷ ls) (lines-slots calendar rest (All-tail (IsFew calendar) t rest few))
+
+abbrev pub calendar_lines : Entries → List (List ℕ)
+calendar_lines calendar = first_words calendar.first ∷ (map (words_at calendar) (booked_slots calendar) ++ codes "end" ∷ [])
+
+lines-calendar : (calendar : Entries) → calendar.first < 2 ^ 64 → All (IsFew calendar) (booked_slots calendar) → (lines_of (calendar_text calendar)).whole ≡ calendar_lines calendar
+lines-calendar calendar small few =
+    let first = first_words calendar.first in
+    let slots = flat_map (slot_line calendar) (booked_slots calendar) in
+    let behind = slots ++ codes "end\n" in
+    let shape : calendar_text calendar ≡ first ++ 10 ∷ behind = append_assoc (first ++ codes "\n") slots (codes "end\n") ∙ append_assoc first (codes "\n") behind in
+    ap (λ (l : List ℕ). (lines_of l).whole) shape
+    ∙ ap (λ ls. ls.whole) (lines-cut first behind (clean_field (codes "calendar from=") calendar.first refl small))
+    ∙ ap (λ (ls : List (List ℕ)). first ∷ ls) (lines-slots calendar (booked_slots calendar) few)
+
+-- ---- the slots in which bytes are booked
+all_booked : (calendar : Entries) (Q : ℕ → Type 0) (a n : ℕ) → ((t : ℕ) → a ≤ t → t < a + n → 0 < booked_at calendar t → Q t) → All Q (booked_among calendar (range_with_len a n))
+all_booked calendar Q a zero each = All-nil Q
+all_booked calendar Q a (suc n) each =
+    pick (nat_lt 0 (booked_at calendar a)) refl (all_booked calendar Q (a + 1) n (λ t behind inside some. each t (omega arith) (omega arith) some))
+  where
+    rest : List ℕ
+    rest = booked_among calendar (range_with_len (a + 1) n)
+
+    pick : (b : Bool) → nat_lt 0 (booked_at calendar a) ≡ b → All Q rest → All Q (cond b (a ∷ rest) rest)
+    pick true is others = All-cons Q a rest (each a (omega arith) (omega arith) (ltb-true 0 (booked_at calendar a) is)) others
+    pick false is others = others
+
+booked_stands : (calendar : Entries) (slot a n : ℕ) → a ≤ slot → slot < a + n → 0 < booked_at calendar slot → Contains (booked_among calendar (range_with_len a n)) slot
+booked_stands calendar slot a zero behind inside some = absurd (omega arith)
+booked_stands calendar slot a (suc n) behind inside some = elim (cases_lt a slot) [
+  | inl later ↦ over (nat_lt 0 (booked_at calendar a))
+      (booked_stands calendar slot (a + 1) n (omega arith) (omega arith) some)
+  | inr first ↦ (
+      let here : a ≡ slot = omega arith in
+      let booked : 0 < booked_at calendar a = subst (λ t. 0 < booked_at calendar t) (sym here) some in
+      let P : Bool → Type 0 = λ b. Contains (cond b (a ∷ booked_among calendar (range_with_len (a + 1) n)) (booked_among calendar (range_with_len (a + 1) n))) slot in
+      subst P (sym (lt-ltb 0 (booked_at calendar a) booked)) (0, omega arith, here)
+      )
+]
+  where
+    over : (b : Bool) → Contains (booked_among calendar (range_with_len (a + 1) n)) slot → Contains (cond b (a ∷ booked_among calendar (range_with_len (a + 1) n)) (booked_among calendar (range_with_len (a + 1) n))) slot
+    over true stands = Contains-append_right (a ∷ []) (booked_among calendar (range_with_len (a + 1) n)) slot stands
+    over false stands = stands
+
+contains_map : (f : ℕ → List ℕ) (xs : List ℕ) (x : ℕ) → Contains xs x → Contains (map f xs) (f x)
+contains_map f xs x stands =
+    (stands.0, omega (arith, stands.1, length-map xs f), get_or-map f xs stands.0 x (f x) stands.1 ∙ ap f stands.2)
+
+all_map : (P : List ℕ → Type 0) (f : ℕ → List ℕ) (xs : List ℕ) → All (λ t. P (f t)) xs → All P (map f xs)
+all_map P f [] each = All-nil P
+all_map P f (x ∷ xs) each = All-cons P (f x) (map f xs) (All-head (λ t. P (f t)) x xs each) (all_map P f xs (All-tail (λ t. P (f t)) x xs each))
+
+-- ---- what a line tells
+same_words : (s b t c : ℕ) → s < 2 ^ 64 → b < 2 ^ 64 → t < 2 ^ 64 → c < 2 ^ 64 → slot_words s b ≡ slot_words t c → (s ≡ t) × (b ≡ c)
+same_words s b t c small few small' few' e =
+    let tail : ℕ → List ℕ = λ n. codes "booked=" ++ decimal n in
+    let shape : (m n : ℕ) → slot_words m n ≡ codes "at " ++ (decimal m ++ 32 ∷ (codes "booked=" ++ decimal n)) = λ m n. append_assoc (codes "at ") (decimal m) (field (codes " booked=") n) in
+    let rest : decimal s ++ 32 ∷ (codes "booked=" ++ decimal b) ≡ decimal t ++ 32 ∷ (codes "booked=" ++ decimal c) =
+    append_cancel_left (codes "at ") (decimal s ++ 32 ∷ (codes "booked=" ++ decimal b)) (decimal t ++ 32 ∷ (codes "booked=" ++ decimal c)) (sym (shape s b) ∙ e ∙ shape t c) in
+    let no_space : (n : ℕ) → n < 2 ^ 64 → All (λ b. b ≢ 32) (decimal n) = λ (n : ℕ) small. not_in_decimal 32 n small (λ within. omega (arith, within.0)) in
+    let parts = same_cut 32 (decimal s) (decimal t) (codes "booked=" ++ decimal b) (codes "booked=" ++ decimal c) rest (no_space s small) (no_space t small') in
+    (decimal_injective s t small small' parts.0, decimal_injective b c few few' (append_cancel_left (codes "booked=") (decimal b) (decimal c) parts.1))
+
+-- a line that tells of this slot tells its booked bytes, above 0
+abbrev TellsOf : Entries → ℕ → ℕ → List ℕ → Type 0
+TellsOf calendar slot booked line = line ≡ slot_words slot booked → (booked ≡ booked_at calendar slot) × (0 < booked)
+
+-- what holds of each calendar
+pub record IsKept (calendar : Entries) : Type 0 where
+  pub first_small : calendar.first ≤ 2 ^ 62
+  pub few : (t : ℕ) → calendar.first ≤ t → booked_at calendar t ≤ 2 ^ 42
+
+few_slots : (calendar : Entries) → IsKept calendar → ring_slots < 2 ^ 62 → All (IsFew calendar) (booked_slots calendar)
+few_slots calendar kept short =
+    all_booked calendar (IsFew calendar) calendar.first ring_slots (λ t behind inside some. (omega (arith, kept.first_small, inside, short), omega (arith, kept.few t behind)))
+
+tells_all : (calendar : Entries) (slot booked : ℕ) → slot < 2 ^ 64 → booked < 2 ^ 64 → IsKept calendar → ring_slots < 2 ^ 62 → All (TellsOf calendar slot booked) (map (words_at calendar) (booked_slots calendar))
+tells_all calendar slot booked small few kept short =
+    all_map (TellsOf calendar slot booked) (words_at calendar) (booked_slots calendar)
+    (all_booked calendar (λ t. TellsOf calendar slot booked (words_at calendar t)) calendar.first ring_slots (λ t behind inside some e.
+    let same = same_words slot booked t (booked_at calendar t) small few (omega (arith, kept.first_small, inside, short)) (omega (arith, kept.few t behind)) (sym e) in
+    (same.1 ∙ ap (booked_at calendar) (sym same.0), omega (arith, some, same.1))))
+
+pub line_stands : (calendar : Entries) (slot : ℕ) → IsKept calendar → ring_slots < 2 ^ 62 → calendar.first ≤ slot → slot < calendar.first + ring_slots → 0 < booked_at calendar slot →
+    Contains (lines_of (calendar_text calendar)).whole (words_at calendar slot)
+line_stands calendar slot kept short behind inside some =
+    let slots = map (words_at calendar) (booked_slots calendar) in
+    let line = words_at calendar slot in
+    let stands = contains_map (words_at calendar) (booked_slots calendar) slot (booked_stands calendar slot calendar.first ring_slots behind inside some) in
+    subst (λ (ls : List (List ℕ)). Contains ls line) (sym (lines-calendar calendar (omega (arith, kept.first_small)) (few_slots calendar kept short)))
+    (Contains-append_right (first_words calendar.first ∷ []) (slots ++ codes "end" ∷ []) line (Contains-append_left slots (codes "end" ∷ []) line stands))
+
+pub line_tells : (calendar : Entries) (slot booked : ℕ) → IsKept calendar → ring_slots < 2 ^ 62 → slot < 2 ^ 64 → booked < 2 ^ 64 →
+    Contains (lines_of (calendar_text calendar)).whole (slot_words slot booked) → (booked ≡ booked_at calendar slot) × (0 < booked)
+line_tells calendar slot booked kept short small few stands =
+    let P = TellsOf calendar slot booked in
+    let line = slot_words slot booked in
+    let slots = map (words_at calendar) (booked_slots calendar) in
+    let no_first : P (first_words calendar.first) = λ e. absurd (let first : 99 ≡ 97 = ap (λ (l : List ℕ). get_or l 0 0) e in omega (arith, first)) in
+    let no_end : P (codes "end") = λ e. absurd (let first : 101 ≡ 97 = ap (λ (l : List ℕ). get_or l 0 0) e in omega (arith, first)) in
+    let tells : All P (calendar_lines calendar) =
+    All-cons P (first_words calendar.first) (slots ++ codes "end" ∷ []) no_first
+    (All-append P slots (codes "end" ∷ []) (tells_all calendar slot booked small few kept short) (All-cons P (codes "end") [] no_end (All-nil P))) in
+    let among : Contains (calendar_lines calendar) line =
+    subst (λ (ls : List (List ℕ)). Contains ls line) (lines-calendar calendar (omega (arith, kept.first_small)) (few_slots calendar kept short)) stands in
+    All-get_or P (calendar_lines calendar) among.0 line among.1 tells among.2

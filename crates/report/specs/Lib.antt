@@ -1,0 +1,5 @@
+pub mod Fields
+pub mod Appends
+pub mod Kinds
+pub mod EntryLines
+pub mod CalendarTexts

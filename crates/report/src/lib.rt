@@ -1,0 +1,14 @@
+//! What `vodserve` prints of its journal and its calendar.
+#![tactic(auto)]
+
+mod calendars;
+mod entries;
+mod fields;
+mod laws;
+
+pub use calendars::calendar_text;
+pub use entries::entry_line;
+pub use laws::{law_kinds, law_slot_lines};
+
+#[cfg(test)]
+mod tests;
