@@ -2,3 +2,4 @@ pub mod AppendLemmas
 pub mod SlotLemmas
 pub mod LineLemmas
 pub mod KindLemmas
+pub mod FormLemmas

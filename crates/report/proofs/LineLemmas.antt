@@ -10,7 +10,7 @@ use Rattle.plan_cert.proofs.Decimals.{not_in_decimal, same_cut}
 use Rattle.plan_cert.proofs.Grammar.{lines-cut}
 use Rattle.slot_calendar.specs.Calendars.{Entries, booked_at}
 use Rattle.report.specs.Fields.{field}
-use Rattle.report.specs.CalendarTexts.{booked_among, booked_slots, calendar_text, first_words, ring_slots, slot_line, slot_words}
+use Rattle.report.specs.CalendarTexts.{booked_among, booked_slots, calendar_lines, calendar_text, first_words, ring_slots, slot_line, slot_words}
 
 -- ---- words without LF
 abbrev pub IsClean : List ℕ → Type 0
@@ -50,10 +50,11 @@ lines-slots calendar (t ∷ rest) few =
     ∙ ap (λ ls. ls.whole) (lines-cut (words_at calendar t) behind (clean_words t (booked_at calendar t) one.0 one.1))
     ∙ ap (λ (ls : List (List ℕ)). words_at calendar t ∷ ls) (lines-slots calendar rest (All-tail (IsFew calendar) t rest few))
 
-abbrev pub calendar_lines : Entries → List (List ℕ)
-calendar_lines calendar = first_words calendar.first ∷ (map (words_at calendar) (booked_slots calendar) ++ codes "end" ∷ [])
+abbrev lines_told : Entries → List (List ℕ)
+lines_told calendar = first_words calendar.first ∷ (map (words_at calendar) (booked_slots calendar) ++ codes "end" ∷ [])
 
-lines-calendar : (calendar : Entries) → calendar.first < 2 ^ 64 → All (IsFew calendar) (booked_slots calendar) → (lines_of (calendar_text calendar)).whole ≡ calendar_lines calendar
+lines-calendar : (calendar : Entries) → calendar.first < 2 ^ 64 → All (IsFew calendar) (booked_slots calendar) → calendar_lines calendar ≡ lines_told calendar
+unfolding calendar_lines
 lines-calendar calendar small few =
     let first = first_words calendar.first in
     let slots = flat_map (slot_line calendar) (booked_slots calendar) in
@@ -133,7 +134,7 @@ tells_all calendar slot booked small few kept short =
     (same.1 ∙ ap (booked_at calendar) (sym same.0), omega (arith, some, same.1))))
 
 pub line_stands : (calendar : Entries) (slot : ℕ) → IsKept calendar → ring_slots < 2 ^ 62 → calendar.first ≤ slot → slot < calendar.first + ring_slots → 0 < booked_at calendar slot →
-    Contains (lines_of (calendar_text calendar)).whole (words_at calendar slot)
+    Contains (calendar_lines calendar) (words_at calendar slot)
 line_stands calendar slot kept short behind inside some =
     let slots = map (words_at calendar) (booked_slots calendar) in
     let line = words_at calendar slot in
@@ -142,16 +143,16 @@ line_stands calendar slot kept short behind inside some =
     (Contains-append_right (first_words calendar.first ∷ []) (slots ++ codes "end" ∷ []) line (Contains-append_left slots (codes "end" ∷ []) line stands))
 
 pub line_tells : (calendar : Entries) (slot booked : ℕ) → IsKept calendar → ring_slots < 2 ^ 62 → slot < 2 ^ 64 → booked < 2 ^ 64 →
-    Contains (lines_of (calendar_text calendar)).whole (slot_words slot booked) → (booked ≡ booked_at calendar slot) × (0 < booked)
+    Contains (calendar_lines calendar) (slot_words slot booked) → (booked ≡ booked_at calendar slot) × (0 < booked)
 line_tells calendar slot booked kept short small few stands =
     let P = TellsOf calendar slot booked in
     let line = slot_words slot booked in
     let slots = map (words_at calendar) (booked_slots calendar) in
     let no_first : P (first_words calendar.first) = λ e. absurd (let first : 99 ≡ 97 = ap (λ (l : List ℕ). get_or l 0 0) e in omega (arith, first)) in
     let no_end : P (codes "end") = λ e. absurd (let first : 101 ≡ 97 = ap (λ (l : List ℕ). get_or l 0 0) e in omega (arith, first)) in
-    let tells : All P (calendar_lines calendar) =
+    let tells : All P (lines_told calendar) =
     All-cons P (first_words calendar.first) (slots ++ codes "end" ∷ []) no_first
     (All-append P slots (codes "end" ∷ []) (tells_all calendar slot booked small few kept short) (All-cons P (codes "end") [] no_end (All-nil P))) in
-    let among : Contains (calendar_lines calendar) line =
+    let among : Contains (lines_told calendar) line =
     subst (λ (ls : List (List ℕ)). Contains ls line) (lines-calendar calendar (omega (arith, kept.first_small)) (few_slots calendar kept short)) stands in
-    All-get_or P (calendar_lines calendar) among.0 line among.1 tells among.2
+    All-get_or P (lines_told calendar) among.0 line among.1 tells among.2

@@ -1,6 +1,7 @@
 -- The text of a calendar. Numbers are decimal, and each line ends with LF.
 use Rattle.std.specs.Prelude.{ℕ, nat_lt, List, ◌++◌, filter, flat_map, codes}
 use Rattle.std.specs.List.{range_with_len}
+use Rattle.plan_cert.specs.Reading.{lines_of}
 use Rattle.slot_calendar.specs.Calendars.{Entries, booked_at}
 use Rattle.report.specs.Fields.{field}
 
@@ -30,3 +31,7 @@ first_words first = field (codes "calendar from=") first
 -- that slot, each slot in which bytes are booked, and an end
 abbrev pub calendar_text : Entries → List ℕ
 calendar_text calendar = first_words calendar.first ++ codes "\n" ++ flat_map (slot_line calendar) (booked_slots calendar) ++ codes "end\n"
+
+-- the lines of a calendar's text
+unfoldable pub calendar_lines : Entries → List (List ℕ)
+calendar_lines calendar = (lines_of (calendar_text calendar)).whole

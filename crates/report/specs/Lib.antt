@@ -2,4 +2,5 @@ pub mod Fields
 pub mod Appends
 pub mod Kinds
 pub mod EntryLines
+pub mod EntryForms
 pub mod CalendarTexts

@@ -1,10 +1,11 @@
 ghost use Rattle.std.specs.Prelude.{◌≡◌, ◌<◌, ◌≤◌, ℕ, length, slice_index_or};
 ghost use Rattle.std.specs.List.{Contains};
-ghost use Rattle.plan_cert.specs.Reading.{lines_of};
 ghost use Rattle.slot_calendar.specs.Calendars.{booked_at};
 ghost use Rattle.admission.specs.Histories.{IsLegal};
 ghost use Rattle.admission.specs.declared.entries.Entry.{Entry};
-ghost use Rattle.report.specs.CalendarTexts.{calendar_text, slot_words};
+ghost use Rattle.report.specs.CalendarTexts.{calendar_lines, slot_words};
+ghost use Rattle.report.specs.EntryForms.{HasForm};
+ghost use Rattle.report.specs.EntryLines.{entry_line};
 ghost use Rattle.report.specs.Kinds.{IsOfKind};
 
 use admission::Entry;
@@ -18,13 +19,22 @@ pub fn law_kinds(profile: &Profile, entries: &[Entry])
     let _read = (profile.steps().len(), entries.len());
 }
 
+/// The line of an entry whose answer is of its command's kind has the form of that command and answer, from its beginning
+/// to its end.
+pub fn law_entry_line(place: u64, entry: &Entry)
+    requires { IsOfKind entry.now.command entry.now.answer }
+    ensures { HasForm place entry.now.maker (entry_line place entry.now) entry.now.command entry.now.answer }
+{
+    let _read = (place, entry.maker);
+}
+
 /// A line that tells the booked bytes of a slot, from now on, stands in the text of a calendar exactly where bytes are
 /// booked in the slot and the line tells how many.
 pub fn law_slot_lines(calendar: &Calendar, slot: u64, booked: u64)
     requires { calendar.now.first ≤ slot }
-    ensures stands { 0 < booked_at calendar.now slot → Contains (lines_of (calendar_text calendar.now)).whole (slot_words slot (booked_at calendar.now slot)) }
-    ensures tells { Contains (lines_of (calendar_text calendar.now)).whole (slot_words slot booked) → booked ≡ booked_at calendar.now slot }
-    ensures some { Contains (lines_of (calendar_text calendar.now)).whole (slot_words slot booked) → 0 < booked }
+    ensures stands { 0 < booked_at calendar.now slot → Contains (calendar_lines calendar.now) (slot_words slot (booked_at calendar.now slot)) }
+    ensures tells { Contains (calendar_lines calendar.now) (slot_words slot booked) → booked ≡ booked_at calendar.now slot }
+    ensures some { Contains (calendar_lines calendar.now) (slot_words slot booked) → 0 < booked }
 {
     let _read = (calendar.now(), calendar.booked(slot), booked);
 }

@@ -3,7 +3,7 @@
 ghost use Rattle.std.specs.Prelude.{IsTrue};
 ghost use Rattle.report.specs.Kinds.{IsOfKind};
 
-use crate::{calendar_text, entry_line, law_kinds, law_slot_lines};
+use crate::{calendar_text, entry_line, law_entry_line, law_kinds, law_slot_lines};
 use admission::{Answer, Command, Entry};
 use plan_cert::{Plan, Segment};
 use slot_calendar::{Calendar, Profile};
@@ -108,6 +108,7 @@ fn lines_of_entries(rt: HostRuntime) -> Result<(), Fail> {
             answer,
         };
         assert!(rt; is_of_kind(&entry));
+        law_entry_line(place, &entry);
         let mut out = Vec::from_slice(alloc, b"front ")?;
         assert_eq!(rt; entry_line(place, &entry, &mut out), Ok(()));
         assert_eq!(rt; out.strip_prefix(b"front "), Some(want));
