@@ -1,5 +1,5 @@
 #!/bin/sh
-# Packets and reports of a made film beside other people's programs: bench/packets.sh
+# Frames and reports of a made film, as they are sent, beside other people's programs: bench/packets.sh
 #
 # Needs rt, python3, tshark and gst-launch-1.0 with the plugins base and good.
 set -eu
@@ -10,5 +10,5 @@ done
 folder=$(mktemp -d)
 trap 'rm -rf "$folder"' EXIT
 cd "$folder"
-"$here/program.sh" "$here/packets/main.txt" vod_base mpeg_scan rtp_pack film_make hex | grep -E '^(film|report|packet) ' >lines.txt
+"$here/program.sh" "$here/packets/main.txt" vod_base interleave mpeg_scan rtp_pack film_frames film_make hex | grep -E '^(film|block) ' >lines.txt
 python3 "$here/packets/compare.py" lines.txt "$folder"

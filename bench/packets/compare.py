@@ -1,4 +1,4 @@
-"""Compares printed packets with what tshark and GStreamer make of them, and with a count of their own.
+"""Compares printed interleaved blocks with what tshark and GStreamer make of them, and with a count of their own.
 
 compare.py LINES FOLDER: LINES is the output of main.txt; FOLDER is for the capture and the film that GStreamer gives back.
 Ends with status 1 at the first difference.
@@ -11,6 +11,13 @@ START = 4_294_900_000  # the timestamp of presentation number 0 in main.txt
 FIRST = 65_500  # its first sequence number
 
 
+def unframed(block):
+    """What an interleaved block holds, a packet on channel 0 or a report on channel 1."""
+    dollar, channel, length = struct.unpack(">BBH", block[:4])
+    same("a block's first byte and length", (dollar, length), (0x24, len(block) - 4))
+    return {0: "packet", 1: "report"}[channel], block[4:]
+
+
 def read_lines(path):
     film, sent = b"", []
     for line in open(path):
@@ -18,7 +25,7 @@ def read_lines(path):
         if word == "film":
             film = bytes.fromhex(digits)
         else:
-            sent.append((word, bytes.fromhex(digits)))
+            sent.append(unframed(bytes.fromhex(digits)))
     return film, sent
 
 
