@@ -113,9 +113,9 @@ same_words s b t c small few small' few' e =
     let parts = same_cut 32 (decimal s) (decimal t) (codes "booked=" ++ decimal b) (codes "booked=" ++ decimal c) rest (no_space s small) (no_space t small') in
     (decimal_injective s t small small' parts.0, decimal_injective b c few few' (append_cancel_left (codes "booked=") (decimal b) (decimal c) parts.1))
 
--- a line that tells of this slot tells its booked bytes, above 0
+-- a line that tells of this slot tells its booked bytes, above 0, and the slot isn't before now
 abbrev TellsOf : Entries → ℕ → ℕ → List ℕ → Type 0
-TellsOf calendar slot booked line = line ≡ slot_words slot booked → (booked ≡ booked_at calendar slot) × (0 < booked)
+TellsOf calendar slot booked line = line ≡ slot_words slot booked → (booked ≡ booked_at calendar slot) × (0 < booked) × (calendar.first ≤ slot)
 
 -- what holds of each calendar
 pub record IsKept (calendar : Entries) : Type 0 where
@@ -131,7 +131,7 @@ tells_all calendar slot booked small few kept short =
     all_map (TellsOf calendar slot booked) (words_at calendar) (booked_slots calendar)
     (all_booked calendar (λ t. TellsOf calendar slot booked (words_at calendar t)) calendar.first ring_slots (λ t behind inside some e.
     let same = same_words slot booked t (booked_at calendar t) small few (omega (arith, kept.first_small, inside, short)) (omega (arith, kept.few t behind)) (sym e) in
-    (same.1 ∙ ap (booked_at calendar) (sym same.0), omega (arith, some, same.1))))
+    (same.1 ∙ ap (booked_at calendar) (sym same.0), omega (arith, some, same.1), omega (arith, behind, same.0))))
 
 pub line_stands : (calendar : Entries) (slot : ℕ) → IsKept calendar → ring_slots < 2 ^ 62 → calendar.first ≤ slot → slot < calendar.first + ring_slots → 0 < booked_at calendar slot →
     Contains (calendar_lines calendar) (words_at calendar slot)
@@ -143,7 +143,7 @@ line_stands calendar slot kept short behind inside some =
     (Contains-append_right (first_words calendar.first ∷ []) (slots ++ codes "end" ∷ []) line (Contains-append_left slots (codes "end" ∷ []) line stands))
 
 pub line_tells : (calendar : Entries) (slot booked : ℕ) → IsKept calendar → ring_slots < 2 ^ 62 → slot < 2 ^ 64 → booked < 2 ^ 64 →
-    Contains (calendar_lines calendar) (slot_words slot booked) → (booked ≡ booked_at calendar slot) × (0 < booked)
+    Contains (calendar_lines calendar) (slot_words slot booked) → (booked ≡ booked_at calendar slot) × (0 < booked) × (calendar.first ≤ slot)
 line_tells calendar slot booked kept short small few stands =
     let P = TellsOf calendar slot booked in
     let line = slot_words slot booked in

@@ -14,7 +14,8 @@ use slot_calendar::{Calendar, Profile};
 /// Each entry of a legal history has an answer of its command's kind.
 pub fn law_kinds(profile: &Profile, entries: &[Entry])
     requires { IsLegal profile.now entries.now }
-    ensures { (place : ℕ) (none : Entry) → place < length entries.now → IsOfKind (slice_index_or entries.now place none).command (slice_index_or entries.now place none).answer }
+    ensures { (place : ℕ) (none : Entry) → place < length entries.now →
+        IsOfKind (slice_index_or entries.now place none).command (slice_index_or entries.now place none).answer }
 {
     let _read = (profile.steps().len(), entries.len());
 }
@@ -28,13 +29,16 @@ pub fn law_entry_line(place: u64, entry: &Entry)
     let _read = (place, entry.maker);
 }
 
-/// A line that tells the booked bytes of a slot, from now on, stands in the text of a calendar exactly where bytes are
-/// booked in the slot and the line tells how many.
+/// A line that tells the booked bytes of a slot stands in the text of a calendar exactly where the slot isn't before now,
+/// bytes are booked in it, and the line tells how many.
 pub fn law_slot_lines(calendar: &Calendar, slot: u64, booked: u64)
-    requires { calendar.now.first ≤ slot }
-    ensures stands { 0 < booked_at calendar.now slot → Contains (calendar_lines calendar.now) (slot_words slot (booked_at calendar.now slot)) }
+    ensures stands { calendar.now.first ≤ slot → 0 < booked_at calendar.now slot →
+        Contains (calendar_lines calendar.now) (slot_words slot (booked_at calendar.now slot)) }
     ensures tells { Contains (calendar_lines calendar.now) (slot_words slot booked) → booked ≡ booked_at calendar.now slot }
     ensures some { Contains (calendar_lines calendar.now) (slot_words slot booked) → 0 < booked }
+    ensures begun { Contains (calendar_lines calendar.now) (slot_words slot booked) → calendar.now.first ≤ slot }
 {
-    let _read = (calendar.now(), calendar.booked(slot), booked);
+    let now = calendar.now();
+    let at = slot.max(now);
+    let _read = (calendar.booked(at), booked);
 }
