@@ -44,7 +44,12 @@ pub const LATEST_SLOT: u64 = 1 << 62;
 impl Book {
     ghost use Rattle.admission.specs.Books.{IsFull, IsNoted, taken};
 
-    /// An empty book of a link of this capacity, whose journal has room for `limit` entries. No other call takes memory.
+    /// An empty book of a link of this capacity, whose journal has room for `limit` entries, 2 to [`MOST_ENTRIES`]. No other
+    /// call takes memory.
+    ///
+    /// # Errors
+    ///
+    /// [`NoMemory`] where there is none for the calendar or for the whole journal.
     pub fn new(alloc: Global, profile: Profile, limit: u64) -> Result<Book, NoMemory>
         requires some { 2 ≤ limit }
         requires few { limit ≤ 1048576 }
@@ -104,8 +109,8 @@ impl Book {
         ))
     }
 
-    /// Halts an open play, which keeps its first `keep` bytes; what is behind them is free again in the slots from now on.
-    /// The entry always finds its place.
+    /// Halts the open play of this number, the place of its entry. It keeps the first `keep` bytes of its plan; what is behind
+    /// them is free again in the slots from now on. The entry always finds its place.
     pub fn halt(&mut self, maker: u32, number: u64, keep: u64) -> Noted
         requires { CanHalt (state_after self.old.entries) number keep }
         ensures noted { IsNoted self.old maker (Command.Halt number keep) result self.new }
@@ -172,6 +177,8 @@ impl Book {
     pub fn into_entries(self) -> Vec<Entry>
         ensures value { result.items ≡ self.entries }
         ensures legal { IsLegal self.steps self.entries }
+        ensures within { taken self.entries ≤ self.limit }
+        ensures few { self.limit ≤ 1048576 }
     {
         let Book {
             calendar: _,

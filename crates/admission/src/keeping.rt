@@ -19,7 +19,7 @@ pub(crate) fn admit(calendar: &mut Calendar, slot: u64, plan: &Plan) -> Answer
     let now = calendar.now().max(slot);
     calendar.advance(now);
     let start = now + 1;
-    // reading the plan tells that it has at most 1,000,000 slots, so it ends within the calendar's
+    // its segments tell that a plan has at most 1,000,000 slots, so it ends within the calendar's ring
     let _plan = plan.segments();
     match calendar.first_overflow(start, plan) {
         Some(over) => Answer::Overflow {

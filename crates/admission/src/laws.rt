@@ -5,7 +5,8 @@ ghost use Rattle.admission.specs.declared.entries.Command.{Command};
 ghost use Rattle.admission.specs.declared.entries.Answer.{Answer};
 ghost use Rattle.admission.specs.declared.entries.Entry.{Entry};
 ghost use Rattle.admission.specs.Machine.{State, Held, CanHalt, IsStep, closed, held_as, opened};
-ghost use Rattle.admission.specs.Histories.{IsAdmission, IsHalt, IsLegal, IsStillOpen, IsUnhalted, booked_after, is_admission, is_halt, latest_asked, live, state_after};
+ghost use Rattle.admission.specs.Histories.{IsAdmission, IsHalt, IsLegal, IsStillOpen, IsUnhalted};
+ghost use Rattle.admission.specs.Histories.{booked_after, is_admission, is_halt, latest_asked, live, state_after};
 
 use crate::entries::Entry;
 use slot_calendar::Profile;

@@ -3,7 +3,7 @@ ghost use Rattle.plan_cert.specs.declared.Segment.{Segment};
 ghost use Rattle.plan_cert.specs.Slots.{total_bytes};
 ghost use Rattle.slot_calendar.specs.Plays.{whole_play};
 ghost use Rattle.admission.specs.Machine.{CanHalt};
-ghost use Rattle.admission.specs.Histories.{Halts, play_admitted, state_after};
+ghost use Rattle.admission.specs.Histories.{Halts, IsLegal, play_admitted, state_after};
 
 use super::*;
 use plan_cert::{Plan, Segment};
@@ -349,4 +349,29 @@ fn keeps_each_capacity(rt: HostRuntime) -> Result<(), Fail> {
         ),
     ];
     run(&rt, rt.alloc(), &mut book, rows.as_slice(), &[2, 2, 3, 0])
+}
+
+fn laws_of(profile: &Profile, entries: &[Entry])
+    requires { IsLegal profile.now entries.now }
+{
+    law_prefix(profile, entries);
+    law_never_overbooked(profile, entries);
+    law_open(profile, entries);
+    law_plays(profile, entries);
+    law_counts(profile, entries);
+    law_one_step(profile);
+    law_one_history(profile, entries, entries);
+}
+
+// Whoever has a profile of a book's steps may call the laws for its journal.
+#[test]
+fn laws_of_a_journal(rt: HostRuntime) -> Result<(), Fail> {
+    let alloc = rt.alloc();
+    let profile = Profile::flat(alloc, 5)?;
+    let mut book = Book::new(alloc, Profile::flat(alloc, 5)?, 64)?;
+    assert!(rt; book.look(0, 3).is_ok());
+    let entries = book.entries();
+    assert_eq!(rt; entries.len(), 1);
+    laws_of(&profile, entries);
+    Ok(())
 }
