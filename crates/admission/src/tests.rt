@@ -367,11 +367,10 @@ fn laws_of(profile: &Profile, entries: &[Entry])
 #[test]
 fn laws_of_a_journal(rt: HostRuntime) -> Result<(), Fail> {
     let alloc = rt.alloc();
-    let profile = Profile::flat(alloc, 5)?;
     let mut book = Book::new(alloc, Profile::flat(alloc, 5)?, 64)?;
     assert!(rt; book.look(0, 3).is_ok());
     let entries = book.entries();
     assert_eq!(rt; entries.len(), 1);
-    laws_of(&profile, entries);
+    laws_of(book.calendar().profile(), entries);
     Ok(())
 }

@@ -57,6 +57,13 @@ impl Calendar {
         Ok(Calendar { profile, ring })
     }
 
+    /// The capacity of its slots, as it was given at its making.
+    pub fn profile(&self) -> &Profile
+        ensures { result.now ≡ self.now.steps }
+    {
+        &self.profile
+    }
+
     /// The first slot that it still knows.
     pub fn now(&self) -> u64
         ensures value { result ≡ self.now.first }

@@ -153,6 +153,10 @@ fn books_and_overflows(rt: HostRuntime) -> Result<(), Fail> {
     let mut calendar = Calendar::new(rt.alloc(), profile)?;
     let plan = plan_of(&rt, rt.alloc(), &[(3, 7)])?;
     assert_eq!(rt; calendar.now(), 0);
+    assert_eq!(rt;
+        (calendar.profile().at(2), calendar.profile().at(3)),
+        (5, 3)
+    );
     assert_eq!(rt; try_book(&rt, &mut calendar, 1, &plan), None);
     for (slot, want) in [
         (0, 0),
