@@ -48,7 +48,7 @@ frames-count run frames octets (Frame unit p ∷ pieces) =
 
 piece-size : (film : List ℕ) (piece : Piece) → IsSound film piece → HasPieceSize piece (wire_of piece)
 piece-size film (Report unit) sound = refl
-piece-size film (Frame unit p) sound = (omega (arith, sound.some), omega (arith, sound.short))
+piece-size film (Frame unit p) sound = (omega arith, (omega (arith, sound.some), omega (arith, sound.short)))
 
 pub have-sizes : (run : Run) → AreSound run.film (sent run) → HaveSizes (sent run) (run_pieces run)
 have-sizes run sound = record {

@@ -9,3 +9,4 @@ pub mod SentLemmas
 pub mod NextLemmas
 pub mod CountLemmas
 pub mod BackLemmas
+pub mod ReportLemmas

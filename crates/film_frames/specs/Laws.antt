@@ -1,10 +1,15 @@
 -- What a reader expects of the bytes of a run.
-use Rattle.std.specs.Prelude.{ℕ, ◌+◌, ◌%◌, ◌^◌, ◌<◌, ◌≤◌, ◌≡◌, List, [], ◌∷◌, length, drop, flat_map, get_or, slice_get, Some}
+use Rattle.std.specs.Prelude.{ℕ, ◌+◌, ◌%◌, ◌^◌, ◌<◌, ◌≤◌, ◌≡◌, List, [], ◌∷◌, length, drop, flat_map, get_or, slice_get, slice_index, Some}
+use Rattle.mpeg_scan.specs.declared.units.Unit.{Unit as PictureUnit}
+use Rattle.mpeg_scan.specs.Rates.{picture_time}
 use Rattle.rtp_pack.specs.Heads.{head_at}
+use Rattle.rtp_pack.specs.Reports.{report_bytes, unit_report}
 use Rattle.interleave.specs.Pieces.{StartsBlock, block_length}
 use Rattle.film_frames.specs.declared.pieces.Piece.{Piece}
 use Rattle.film_frames.specs.declared.pieces.Piece.TheVariants.{Report, Frame}
-use Rattle.film_frames.specs.Runs.{Run, sent, run_pieces}
+use Rattle.film_frames.specs.Pieces.{octets_of}
+use Rattle.film_frames.specs.Runs.{Run, frames_before, interleaved, octets_before, run_pieces, sent}
+use Rattle.film_frames.specs.Tracks.{begin_of}
 
 -- the bytes of the frames, among those of pieces
 abbrev pub frames_among : List Piece → List (List ℕ) → List (List ℕ)
@@ -29,10 +34,10 @@ sequence_of frame = (head_at (drop 4 frame)).sequence
 abbrev pub DoCountOn : ℕ → List (List ℕ) → Type 0
 DoCountOn sequence frames = (k : ℕ) → k < length frames → sequence_of (get_or frames k []) ≡ (sequence + k) % 2 ^ 16
 
--- a report has 52 bytes, and a frame 21 to 1,400
+-- a report has 52 bytes; a frame has 21 to 1,400, and its octets are all but 16 of them
 abbrev pub HasPieceSize : Piece → ℕ → Type 0
 HasPieceSize (Report unit) size = size ≡ 52
-HasPieceSize (Frame unit packet) size = (21 ≤ size) × (size ≤ 1400)
+HasPieceSize (Frame unit packet) size = (size ≡ octets_of (Frame unit packet) + 16) × ((21 ≤ size) × (size ≤ 1400))
 
 -- each of these pieces has its bytes, of a size that it may have
 pub record HaveSizes (pieces : List Piece) (all : List (List ℕ)) : Type 0 where
@@ -46,3 +51,25 @@ IsBlock bytes = StartsBlock bytes × (block_length bytes ≡ length bytes)
 
 abbrev pub AreBlocks : List (List ℕ) → Type 0
 AreBlocks pieces = (k : ℕ) → k < length pieces → IsBlock (get_or pieces k [])
+
+-- the interleaved channel of a piece: reports go on one, frames on the other
+abbrev pub channel_of : Run → Piece → ℕ
+channel_of run (Report unit) = run.identity.control
+channel_of run (Frame unit packet) = run.identity.channel
+
+abbrev pub AreOnChannels : Run → Type 0
+AreOnChannels run =
+    (k : ℕ) (piece : Piece) → slice_get (sent run) k ≡ Some piece
+    → slice_index (get_or (run_pieces run) k []) 1 ≡ channel_of run piece
+
+-- a report of a unit that begins at a place: what it counts is what the session sent before the run, and the run's frames
+-- that have ended at that place
+abbrev pub counted_report : Run → PictureUnit → ℕ → List ℕ
+counted_report run unit at =
+    let report = unit_report run.identity (picture_time run.rate) unit (frames_before run at) (octets_before run at) in
+    interleaved run.identity.control (report_bytes report)
+
+abbrev pub DoReportsCount : Run → Type 0
+DoReportsCount run =
+    (k : ℕ) (unit : PictureUnit) → slice_get (sent run) k ≡ Some (Report unit)
+    → get_or (run_pieces run) k [] ≡ counted_report run unit (begin_of (run_pieces run) k)

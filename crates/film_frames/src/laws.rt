@@ -1,6 +1,6 @@
 ghost use Rattle.std.specs.Prelude.{◌≡◌, ◌+◌, ◌-◌, ◌^◌, ◌<◌, ◌≤◌, length, map, sum, take, drop};
 ghost use Rattle.rtp_pack.specs.Packets.{OfUnit};
-ghost use Rattle.film_frames.specs.Laws.{AreBlocks, DoCountOn, HaveSizes, payloads, run_frames};
+ghost use Rattle.film_frames.specs.Laws.{AreBlocks, AreOnChannels, DoCountOn, DoReportsCount, HaveSizes, payloads, run_frames};
 ghost use Rattle.film_frames.specs.Pieces.{frames_in, wire_size};
 ghost use Rattle.film_frames.specs.Runs.{HaveEnded, ended, run_of, run_pieces, sent};
 ghost use Rattle.film_frames.specs.Tracks.{framed};
@@ -38,8 +38,17 @@ pub fn law_counts_on(film: &Film, first_unit: usize, end_unit: usize, identity: 
     let _read = (film.bytes.len(), first_unit, end_unit, identity);
 }
 
-/// Each report of a run has 52 bytes and each frame 21 to 1,400, and each is a whole interleaved block. All together
-/// have the sizes of the run's units.
+/// Each report counts, modulo 2^32, the packets and octets that the session sent before the run and those of the run's
+/// frames before the report. Reports are on the control channel, and frames on the other.
+pub fn law_reports_count(film: &Film, first_unit: usize, end_unit: usize, identity: Identity)
+    ensures counts { DoReportsCount (run_of film.now first_unit end_unit identity) }
+    ensures channels { AreOnChannels (run_of film.now first_unit end_unit identity) }
+{
+    let _read = (film.bytes.len(), first_unit, end_unit, identity);
+}
+
+/// Each report of a run has 52 bytes; each frame has 21 to 1,400, of which its octets are all but 16. Each is a whole
+/// interleaved block. All together have the sizes of the run's units.
 pub fn law_piece_sizes(film: &Film, first_unit: usize, end_unit: usize, identity: Identity)
     requires order { first_unit < end_unit }
     requires within { end_unit ≤ length film.now.units.items }

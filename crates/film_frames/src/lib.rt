@@ -15,7 +15,10 @@ mod traces;
 mod tracks;
 
 pub use frames::Frames;
-pub use laws::{law_counts_on, law_ended, law_film_comes_back, law_piece_sizes, law_wire_sizes};
+pub use laws::{
+    law_counts_on, law_ended, law_film_comes_back, law_piece_sizes, law_reports_count,
+    law_wire_sizes,
+};
 pub use stores::Stored;
 pub use tables::FrameTable;
 pub use traces::TraceTrack;

@@ -1,4 +1,5 @@
-ghost use Rattle.std.specs.Prelude.{◌≡◌, ◌+◌, ◌-◌, ◌*◌, ◌<◌, ◌≤◌, ◌++◌, ℕ, List, [], ◌∷◌, length, take, drop, get_or, slice_get, Some, IfOk, OnOk};
+ghost use Rattle.std.specs.Prelude.{◌≡◌, ◌+◌, ◌-◌, ◌*◌, ◌<◌, ◌≤◌, ◌++◌, ℕ, List, [], ◌∷◌, length, take, drop, get_or};
+ghost use Rattle.std.specs.Prelude.{slice_get, Some, IfOk, OnOk};
 ghost use Rattle.mpeg_scan.specs.declared.units.Unit.{Unit as PictureUnit};
 ghost use Rattle.mpeg_scan.specs.declared.films.Film.{Film};
 ghost use Rattle.rtp_pack.specs.Packets.{OfUnit, unit_packets};
@@ -68,7 +69,8 @@ impl FrameTable {
     /// A table without pieces.
     fn new(alloc: Global) -> Result<FrameTable, NoMemory>
         ensures table { (units : List PictureUnit) → IfOk result (λ table. IsTable units [] table) }
-        ensures firsts { (starts : List ℕ) (units : List PictureUnit) → IfOk result (λ table. AreFirsts starts units 0 table.firsts.items) }
+        ensures firsts { (starts : List ℕ) (units : List PictureUnit)
+            → IfOk result (λ table. AreFirsts starts units 0 table.firsts.items) }
     {
         let mut table = FrameTable {
             places: Vec::new(alloc),

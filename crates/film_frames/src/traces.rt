@@ -39,7 +39,9 @@ impl Model for TraceTrack {
 }
 
 impl TraceTrack {
-    /// A track of a frame for each size. It takes no memory, and so the answer is always Ok.
+    /// A track of a frame for each size. The sizes add up to at most 2^42.
+    ///
+    /// It takes no memory, and so the answer is always Ok.
     pub fn new(mut sizes: Vec<u64>) -> Result<TraceTrack, NoMemory>
         requires { sum sizes.items ≤ 2 ^ 42 }
         ensures { result ≡ Ok sizes.items }
@@ -76,7 +78,9 @@ impl Track for TraceTrack {
         requires { at < length (framed (zero_frames self.now)) }
         ensures order { result.head_from ≤ result.head_to }
         ensures within { result.head_to ≤ 52 }
-        ensures bytes { IsNext (zero_frames self.now) at (slice_range _head.new result.head_from result.head_to ++ result.payload.now) }
+        ensures bytes { IsNext (zero_frames self.now) at
+            (slice_range _head.new result.head_from result.head_to ++ result.payload.now) }
+        ensures no_head { result.head_from ≡ result.head_to }
         ensures most { length result.payload.now ≤ 1024 }
     {
         let ends: &[u64] = &self.ends;

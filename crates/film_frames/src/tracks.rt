@@ -32,5 +32,6 @@ pub trait Track {
         requires { at < length (framed (pieces self.now)) }
         ensures order { result.head_from ≤ result.head_to }
         ensures within { result.head_to ≤ 52 }
-        ensures bytes { IsNext (pieces self.now) at (slice_range head.new result.head_from result.head_to ++ result.payload.now) };
+        ensures bytes { IsNext (pieces self.now) at
+            (slice_range head.new result.head_from result.head_to ++ result.payload.now) };
 }

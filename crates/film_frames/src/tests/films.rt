@@ -4,7 +4,7 @@
 
 use crate::{
     Frames, Stored, Track, law_counts_on, law_ended, law_film_comes_back, law_piece_sizes,
-    law_wire_sizes,
+    law_reports_count, law_wire_sizes,
 };
 use mpeg_scan::{Film, ScanRefused, scan};
 use rtp_pack::Identity;
@@ -18,6 +18,10 @@ const SLICE: &str = "000001011234";
 const UNIT_B: &str = "000001000057fff880 000001011234";
 
 const UNIT_C: &str = "000001b800080040 00000100000ffff8 000001011234";
+
+/// The report of film A's unit in a session's first run.
+const REPORT_A: &str = "24010030 80c80006 01020304 00000000 00000000 00000000 00000000 00000000 \
+    81ca0004 01020304 0108766f64736572 76650000";
 
 /// The identity of a session's first run, and one whose numbers are about to wrap.
 const FIRST: Identity = Identity {
@@ -202,6 +206,7 @@ fn run_of<'a>(
     }
     law_film_comes_back(&stored.film, first_unit, end_unit, identity);
     law_counts_on(&stored.film, first_unit, end_unit, identity);
+    law_reports_count(&stored.film, first_unit, end_unit, identity);
     law_piece_sizes(&stored.film, first_unit, end_unit, identity);
     law_ended(&stored.film, first_unit, end_unit, identity, 52);
     Ok(Frames::new(stored, first_unit, end_unit, identity))
@@ -215,8 +220,7 @@ fn sends_whole_films(rt: HostRuntime) -> Result<(), Fail> {
     let mut want = joined(
         alloc,
         &[
-            "24010030 80c80006 01020304 00000000 00000000 00000000 00000000 00000000",
-            "81ca0004 01020304 0108766f64736572 76650000",
+            REPORT_A,
             "24000032 80a00001 00000000 01020304 00003900",
             HEAD_A,
             SLICE,
@@ -245,6 +249,27 @@ fn sends_whole_films(rt: HostRuntime) -> Result<(), Fail> {
     want.extend_from_slice(&group)?;
     let whole = run_of(&film_c, 0, 3, FIRST)?;
     assert_eq!(rt; first_wrong(alloc, &whole, &want, &ends)?, None);
+    Ok(())
+}
+
+#[test]
+fn sends_a_slice_in_fragments(rt: HostRuntime) -> Result<(), Fail> {
+    let alloc = rt.alloc();
+    let bytes = film_with(alloc, 1381)?;
+    let (Some(first), Some(last)) = (bytes.get(..1380), bytes.get(1380..)) else {
+        return Err(Fail::from("a film is too short"));
+    };
+    let mut want = joined(
+        alloc,
+        &[REPORT_A, "24000574 80200001 00000000 01020304 00003100"],
+    )?;
+    want.extend_from_slice(first)?;
+    put_hex(&mut want, "2400002d 80a00002 00000000 01020304 00000900")?;
+    want.extend_from_slice(last)?;
+    let film = stored(alloc, bytes)?;
+    let run = run_of(&film, 0, 1, FIRST)?;
+    let ends = [(52, 0, 0), (1452, 1, 1384), (1501, 2, 1417)];
+    assert_eq!(rt; first_wrong(alloc, &run, &want, &ends)?, None);
     Ok(())
 }
 

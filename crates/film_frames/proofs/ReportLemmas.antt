@@ -1,0 +1,46 @@
+-- What the reports of a run count, and the channels of its pieces.
+use Rattle.std.proofs.Common.{◌≡◌, ℕ, ◌+◌, ◌<◌, List, [], length, take, get_or, Some, slice_get, slice_index, refl, sym, ap, ◌∙◌, arith}
+use Rattle.std.proofs.lemmas.Option.{slice_get_within}
+use Rattle.mpeg_scan.specs.declared.units.Unit.{Unit as PictureUnit}
+use Rattle.film_frames.specs.declared.pieces.Piece.{Piece}
+use Rattle.film_frames.specs.declared.pieces.Piece.TheVariants.{Report, Frame}
+use Rattle.film_frames.specs.Laws.{AreOnChannels, DoReportsCount, channel_of}
+use Rattle.film_frames.specs.Pieces.{frames_in, octets_in}
+use Rattle.film_frames.specs.Runs.{Run, ended, frames_before, octets_before, piece_bytes, run_pieces, sent}
+use Rattle.film_frames.specs.Tracks.{begin_of}
+use Rattle.film_frames.proofs.RunLemmas.{ended-is, numbered-at, numbered-count}
+use Rattle.film_frames.proofs.TrackLemmas.{begin-more}
+
+-- where a report begins, the pieces before it have ended
+ended-before : (run : Run) (k : ℕ) (unit : PictureUnit) → slice_get (sent run) k ≡ Some (Report unit) → ended (begin_of (run_pieces run) k) (run_pieces run) ≡ k
+ended-before run k unit at =
+    let pieces = run_pieces run in
+    let within : k < length pieces = omega (arith, slice_get_within (sent run) k (Report unit) at, numbered-count run 0 0 (sent run)) in
+    let long : length (get_or pieces k []) ≡ 52 = ap (λ (l : List ℕ). length l) (numbered-at run 0 0 (sent run) k (Report unit) at) in
+    ended-is pieces (begin_of pieces k) k (record {
+      among = omega (arith, within);
+      last = omega arith;
+      next = λ h. omega (arith, begin-more pieces k within, long);
+    })
+
+pub reports-count : (run : Run) → DoReportsCount run
+reports-count run = λ k unit at.
+    let before = sym (ended-before run k unit at) in
+    let f : 0 + frames_in (take k (sent run)) ≡ frames_in (take k (sent run)) = omega arith in
+    let o : 0 + octets_in (take k (sent run)) ≡ octets_in (take k (sent run)) = omega arith in
+    let frames : 0 + frames_in (take k (sent run)) ≡ frames_before run (begin_of (run_pieces run) k) = f ∙ ap (λ n. frames_in (take n (sent run))) before in
+    let octets : 0 + octets_in (take k (sent run)) ≡ octets_before run (begin_of (run_pieces run) k) = o ∙ ap (λ n. octets_in (take n (sent run))) before in
+    numbered-at run 0 0 (sent run) k (Report unit) at
+    ∙ ap (λ n. piece_bytes run n (0 + octets_in (take k (sent run))) (Report unit)) frames
+    ∙ ap (λ n. piece_bytes run (frames_before run (begin_of (run_pieces run) k)) n (Report unit)) octets
+
+-- ---- channels
+
+piece-channel : (run : Run) (frames octets : ℕ) (piece : Piece) → slice_index (piece_bytes run frames octets piece) 1 ≡ channel_of run piece
+piece-channel run frames octets (Report unit) = refl
+piece-channel run frames octets (Frame unit p) = refl
+
+pub on-channels : (run : Run) → AreOnChannels run
+on-channels run = λ k piece at.
+    ap (λ (l : List ℕ). slice_index l 1) (numbered-at run 0 0 (sent run) k piece at)
+    ∙ piece-channel run (0 + frames_in (take k (sent run))) (0 + octets_in (take k (sent run))) piece
