@@ -11,9 +11,9 @@ use Rattle.film_frames.specs.declared.pieces.Piece.TheVariants.{Report, Frame}
 use Rattle.film_frames.specs.Pieces.{count_of, frames_in, octets_in, octets_of, wire_in, wire_of}
 use Rattle.film_frames.specs.Tables.{IsSound}
 use Rattle.film_frames.specs.Runs.{HaveEnded, Run, ended, numbered, payload, piece_bytes}
-use Rattle.film_frames.specs.Tracks.{AreEnds, begin_of, framed}
+use Rattle.film_frames.specs.Tracks.{begin_of, framed}
 use Rattle.film_frames.proofs.PieceLemmas.{AreSound}
-use Rattle.film_frames.proofs.TrackLemmas.{begin-all, begin-le, begin-none}
+use Rattle.film_frames.proofs.TrackLemmas.{AreEnds, begin-all, begin-le, begin-none}
 
 -- ---- what a piece takes
 

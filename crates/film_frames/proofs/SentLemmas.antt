@@ -10,8 +10,8 @@ use Rattle.film_frames.specs.declared.pieces.Piece.{Piece}
 use Rattle.film_frames.specs.declared.pieces.Piece.TheVariants.{Report, Frame}
 use Rattle.film_frames.specs.Pieces.{count_of, film_pieces, frames_in, front_pieces, pieces_of, wire_in, wire_of}
 use Rattle.film_frames.specs.Runs.{Run, run_of, run_pieces, sent}
-use Rattle.film_frames.specs.Tracks.{AreEnds, begin_of, framed}
-use Rattle.film_frames.proofs.TrackLemmas.{begin-all}
+use Rattle.film_frames.specs.Tracks.{begin_of, framed}
+use Rattle.film_frames.proofs.TrackLemmas.{AreEnds, begin-all}
 use Rattle.film_frames.proofs.PieceLemmas.{AreSound, sound-left, sound-right}
 use Rattle.film_frames.proofs.FilmLemmas.{film-bound, film-sound, film-wire}
 use Rattle.film_frames.proofs.FrontLemmas.{front-back, front-front}

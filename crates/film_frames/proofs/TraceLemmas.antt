@@ -3,8 +3,8 @@ use Rattle.std.proofs.Common.{◌≡◌, ℕ, zero, suc, ◌+◌, ◌-◌, ◌<�
 use Rattle.std.proofs.lemmas.List.{take-map, length-map, length-replicate, same_lists, get_or_default, get_or-map, get_or_read, length-set, get_or-set_same, get_or-set_other, drop-replicate, take-replicate}
 use Rattle.std.proofs.lemmas.List.Sums.{sum_by-cons, sum_by-take-le, sum_by_more, sum_by_more_le}
 use Rattle.std.proofs.lemmas.Bool.{cases_lt, cases_eq}
-use Rattle.film_frames.proofs.TrackLemmas.{begin-all, begin-none, begin-more, found-begins, next-found}
-use Rattle.film_frames.specs.Tracks.{framed, begin_of, AreEnds, IsNext, IsTrace, zero_frames, differences, running}
+use Rattle.film_frames.proofs.TrackLemmas.{AreEnds, begin-all, begin-none, begin-more, found-begins, next-found}
+use Rattle.film_frames.specs.Tracks.{framed, begin_of, IsNext, IsTrace, zero_frames, differences, running}
 
 pub length-zeros : (sizes : List ℕ) → length (framed (zero_frames sizes)) ≡ sum sizes
 length-zeros [] = refl

@@ -7,7 +7,12 @@ use Rattle.std.proofs.lemmas.List.Concat.{flat_map-append, length-flat_map}
 use Rattle.std.proofs.lemmas.List.Sums.{sum_by_more, sum_by-take-le}
 use Rattle.std.proofs.lemmas.List.Sorted.{IsNonDecreasingBy-from_default}
 use Rattle.std.proofs.lemmas.Bool.{cases_lt}
-use Rattle.film_frames.specs.Tracks.{framed, begin_of, IsBoundaryAfter, IsNext, AreEnds}
+use Rattle.film_frames.specs.Tracks.{framed, begin_of, IsBoundaryAfter, IsNext}
+
+-- these are the ends of pieces, counted from a place before the first of them
+pub record AreEnds (base : ℕ) (pieces : List (List ℕ)) (ends : List ℕ) : Type 0 where
+  pub count : length ends ≡ length pieces
+  pub each : (k : ℕ) → k < length ends → get_or ends k 0 ≡ base + begin_of pieces (k + 1)
 
 begin-sum : (pieces : List (List ℕ)) (k : ℕ) → begin_of pieces k ≡ sum_by length (take k pieces)
 begin-sum pieces k = length-flat_map (λ (p : List ℕ). p) (take k pieces)

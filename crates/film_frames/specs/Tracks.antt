@@ -42,11 +42,6 @@ abbrev pub running : ℕ → List ℕ → List ℕ
 running from [] = []
 running from (size ∷ sizes) = (from + size) ∷ running (from + size) sizes
 
--- these are the ends of pieces, counted from a place before the first of them
-pub record AreEnds (base : ℕ) (pieces : List (List ℕ)) (ends : List ℕ) : Type 0 where
-  pub count : length ends ≡ length pieces
-  pub each : (k : ℕ) → k < length ends → get_or ends k 0 ≡ base + begin_of pieces (k + 1)
-
 -- the running sums that are kept of a trace: they don't fall, and the last is at most 2^42
 pub record IsTrace (ends : List ℕ) : Type 0 where
   pub rising : running 0 (differences 0 ends) ≡ ends
