@@ -1,5 +1,6 @@
 -- What follows from the rules for cutting, in a reader's words.
-use Rattle.std.specs.Prelude.{ℕ, ◌+◌, ◌<◌, ◌≤◌, ◌≡◌, ◌⊎◌, true, List, [], ◌∷◌}
+use Rattle.std.specs.Prelude.{ℕ, ◌+◌, ◌<◌, ◌≤◌, ◌≡◌, ◌⊎◌, true, false, List, [], ◌∷◌}
+use Rattle.rtp_pack.specs.declared.payloads.Packet.{Packet}
 use Rattle.rtp_pack.specs.Packets.{among}
 
 -- pieces of 1 to 1,380 bytes cover the bytes from a place to another in order, without gap or overlap
@@ -23,3 +24,9 @@ abbrev pub DoLongEndPieces : ℕ → List ℕ → List ℕ → Type 0
 DoLongEndPieces at [] cuts = Unit {0}
 DoLongEndPieces at (length ∷ slices) cuts =
     (1380 < length → among (at + length) cuts ≡ true) × DoLongEndPieces (at + length) slices cuts
+
+-- the last of these packets has the marker, and no other
+abbrev pub IsLastMarked : List Packet → Type 0
+IsLastMarked [] = Unit {0}
+IsLastMarked (p ∷ []) = p.marker ≡ true
+IsLastMarked (p ∷ (q ∷ packets)) = (p.marker ≡ false) × IsLastMarked (q ∷ packets)

@@ -1,11 +1,12 @@
 ghost use Rattle.std.specs.Prelude.{◌≡◌, ◌+◌, ◌<◌, ◌≤◌, ◌++◌, length, sum, Ok};
 ghost use Rattle.rtp_pack.specs.Cutting.{IsCutting};
 ghost use Rattle.rtp_pack.specs.Heads.{head_bytes, head_of};
-ghost use Rattle.rtp_pack.specs.Laws.{ArePieces, AreShortUncut, DoLongEndPieces, IsUncut};
-ghost use Rattle.rtp_pack.specs.Packets.{IsLaid, OfUnit};
+ghost use Rattle.rtp_pack.specs.Laws.{ArePieces, AreShortUncut, DoLongEndPieces, IsLastMarked, IsUncut};
+ghost use Rattle.rtp_pack.specs.Packets.{ArePackets, DoCover, IsLaid, OfUnit};
 
 use crate::heads::Head;
-use mpeg_scan::Film;
+use crate::payloads::Packet;
+use mpeg_scan::{Film, Unit};
 
 /// The rules for cutting leave one list: two lists of cut points that meet them for one unit are equal.
 pub fn law_one_cutting(from: u64, head_end: u64, slices: &[u64], one: &[u64], other: &[u64])
@@ -28,6 +29,15 @@ pub fn law_cutting(from: u64, head_end: u64, slices: &[u64], cuts: &[u64])
     ensures long_slices { DoLongEndPieces head_end slices.now cuts.now }
 {
     let _read = (from, head_end, slices.len(), cuts.len());
+}
+
+/// The last packet of a unit has the marker, and no other (RFC 2250 section 3.3). `packets` gives what this asks for.
+pub fn law_last_marked(unit: &Unit, slice_starts: &[u64], packets: &[Packet])
+    requires rules { ArePackets slice_starts.now unit.now packets.now }
+    requires cover { DoCover unit.now.from packets.now unit.now.to }
+    ensures { IsLastMarked packets.now }
+{
+    let _read = (unit.to, slice_starts.len(), packets.len());
 }
 
 /// The units of a film lie in its bytes. Each has a head of 1 to 1,380 bytes and at least one slice, and its

@@ -5,8 +5,8 @@ ghost use Rattle.std.specs.Prelude.{◌≤◌, ◌^◌};
 
 use crate::{
     Head, HeadFault, Identity, Packet, Report, UnitSize, law_cutting, law_head_read_back,
-    law_one_cutting, law_unit_laid, media_timestamp, packet_head, packets, read_head, unit_report,
-    video_header, write_head, write_report,
+    law_last_marked, law_one_cutting, law_unit_laid, media_timestamp, packet_head, packets,
+    read_head, unit_report, video_header, write_head, write_report,
 };
 use mpeg_scan::{Film, Kind, ScanRefused, Unit, scan};
 use std::alloc::Global;
@@ -127,6 +127,7 @@ fn cuts_units(rt: HostRuntime) -> Result<(), Fail> {
         let film = film_of(rt.alloc(), head, slices)?;
         assert_eq!(rt; film.units.len(), 1);
         let packets = packets(rt.alloc(), &film, 0)?;
+        law_last_marked(&film.units[0], &film.slice_starts, &packets);
         assert_eq!(rt; packets.len(), want.len(), "at {slices:?}");
         for (packet, (from, to, set)) in packets.iter().zip(want) {
             assert_eq!(rt; *packet, piece(*from, *to, set), "at {slices:?}");
