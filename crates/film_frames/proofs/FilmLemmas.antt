@@ -1,5 +1,5 @@
 -- The pieces of a whole film: they are sound, and their sizes add up to at most 2^42.
-use Rattle.std.proofs.Common.{◌≡◌, ℕ, ◌+◌, ◌-◌, ◌*◌, ◌^◌, ◌≤◌, Bool, true, false, cond, eqb, ltb, leb, ◌&&◌, List, [], ◌∷◌, map, sum, length, Some, None, slice_get, refl, sym, ap, subst, ◌∙◌, arith}
+use Rattle.std.proofs.Common.{◌≡◌, ℕ, ◌+◌, ◌-◌, ◌*◌, ◌^◌, ◌≤◌, false, eqb, ltb, leb, ◌&&◌, List, [], ◌∷◌, map, sum, length, Some, slice_get, refl, sym, ap, subst, ◌∙◌, arith}
 use Rattle.std.proofs.lemmas.List.Sums.{sum_by-cons}
 use Rattle.std.proofs.lemmas.Bool.{and_parts, false≢true, eqb-true}
 use Rattle.mpeg_scan.specs.declared.units.Unit.{Unit as PictureUnit}
@@ -12,7 +12,7 @@ use Rattle.mpeg_scan.proofs.BoundLemmas.{film-bytes, film-units, film-pictures}
 use Rattle.mpeg_scan.proofs.FilmLemmas.{length-read}
 use Rattle.mpeg_scan.proofs.TileLemmas.{film-tiles}
 use Rattle.rtp_pack.specs.Packets.{IsLaid}
-use Rattle.rtp_pack.proofs.LaidLemmas.{AreLaid, film-laid, laid-at}
+use Rattle.rtp_pack.proofs.LaidLemmas.{AreLaid, film-laid, laid-at, part-fits}
 use Rattle.film_frames.specs.declared.pieces.Piece.{Piece}
 use Rattle.film_frames.specs.Pieces.{film_pieces, pieces_of, unit_pieces, wire_in, wire_size}
 use Rattle.film_frames.proofs.PieceLemmas.{AreSound, pieces-cons, sound-append, unit-bound, unit-le, unit-sound, unit-wire, wire-append}
@@ -26,11 +26,6 @@ AreChained from (unit ∷ units) to = (unit.from ≡ from) × AreChained unit.to
 begin_of_part : Part → ℕ
 begin_of_part (between at) = at
 begin_of_part (within from head_end at n) = from
-
-part-fits : (b : Bool) (p : Part) (calls : List Call) (to : ℕ) → parts_after (cond b (Some p) None) calls ≡ Some (between to) → (b ≡ true) × (parts_after (Some p) calls ≡ Some (between to))
-part-fits true p calls to e = (refl, e)
-part-fits false p [] to e = cc
-part-fits false p (call ∷ calls) to e = cc
 
 parts-chained : (calls : List Call) (part : Part) (to : ℕ) → parts_after (Some part) calls ≡ Some (between to) → AreChained (begin_of_part part) (units_in calls) to
 unfolding begin_of_part

@@ -55,7 +55,8 @@ abbrev pub Stands : Part → List ℕ → Type 0
 Stands (between at) past = Unit {0}
 Stands (within from head_end at n) past = Inside from head_end at n past
 
-part-fits : (b : Bool) (p : Part) (calls : List Call) (to : ℕ) → parts_after (cond b (Some p) None) calls ≡ Some (between to) → (b ≡ true) × (parts_after (Some p) calls ≡ Some (between to))
+-- where the parts go on to an end, the next one fits
+pub part-fits : (b : Bool) (p : Part) (calls : List Call) (to : ℕ) → parts_after (cond b (Some p) None) calls ≡ Some (between to) → (b ≡ true) × (parts_after (Some p) calls ≡ Some (between to))
 part-fits true p calls to e = (refl, e)
 part-fits false p [] to e = cc
 part-fits false p (call ∷ calls) to e = cc
