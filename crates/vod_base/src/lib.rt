@@ -2,19 +2,29 @@
 //! keep it, and the few words and numbers that every input is read by.
 #![tactic(auto)]
 
+mod blanks;
+mod files;
+mod gates;
 mod lines;
+mod links;
 mod memory_libraries;
 mod memory_sinks;
 mod names;
 mod numbers;
+mod output;
 mod outside;
 
+pub use blanks::{is_blank, trimmed};
+pub use files::Library;
+pub use gates::{Gate, Opening};
 pub use lines::{Line, line_end};
+pub use links::{Heard, Link};
 pub use memory_libraries::MemoryLibrary;
 pub use memory_sinks::MemorySink;
 pub use names::good_name;
 pub use numbers::{NumberFault, read_number};
-pub use outside::{Library, NoMemory, Sink, SinkFault, StoreFault};
+pub use output::Sink;
+pub use outside::{GateFault, LinkFault, NoMemory, SinkFault, StoreFault};
 
 #[cfg(test)]
 mod tests;

@@ -2,7 +2,8 @@ ghost use Rattle.std.specs.Prelude.{◌≡◌, ◌≤◌, ℕ, List, Option, Som
 ghost use Rattle.vod_base.specs.Outside.{File, HasRisen, file_named, bytes_named, IsRead};
 ghost use Rattle.vod_base.specs.Memory.{LibraryState, library_fails, library_called, one_more, fails};
 
-use crate::outside::{Library, StoreFault};
+use crate::files::Library;
+use crate::outside::StoreFault;
 use std::marker::Model;
 
 /// A library in memory, whose calls of `find` and `read` fail at given numbers.

@@ -2,7 +2,8 @@ ghost use Rattle.std.specs.Prelude.{◌≡◌, ◌+◌, ◌<◌, ◌++◌, ◌||
 ghost use Rattle.vod_base.specs.Memory.{SinkState, one_more, fails};
 
 use crate::memory_libraries::is_listed;
-use crate::outside::{NoMemory, Sink, SinkFault};
+use crate::output::Sink;
+use crate::outside::{NoMemory, SinkFault};
 use std::alloc::Global;
 use std::marker::Model;
 

@@ -5,6 +5,9 @@ ghost use Rattle.std.specs.Result.{result_ok};
 ghost use Rattle.std.specs.Str.Parse.{digits_value};
 ghost use Rattle.vod_base.specs.Numbers.{number_of, IsNumberFault};
 
+use std::error::Error;
+use std::fmt;
+
 /// Why a text is no number that fits 64 bits.
 #[derive(Clone, Copy, Debug, PartialEq, Eq)]
 pub enum NumberFault {
@@ -15,6 +18,18 @@ pub enum NumberFault {
     /// All bytes are digits, and the number is 2^64 or more.
     TooLarge,
 }
+
+impl fmt::Display for NumberFault {
+    fn fmt<W: fmt::Write>(&self, f: &mut fmt::Formatter<W>) -> fmt::Result {
+        match self {
+            NumberFault::Empty => write!(f, "the number has no digit"),
+            NumberFault::NotDigit(place) => write!(f, "byte {place} of the number is no digit"),
+            NumberFault::TooLarge => write!(f, "the number is 2^64 or more"),
+        }
+    }
+}
+
+impl Error for NumberFault {}
 
 /// The place of the first byte that is no digit.
 fn first_other(text: &[u8]) -> Option<usize>

@@ -1,7 +1,7 @@
 use Rattle.std.proofs.Common.{◌≡◌, map, ap, ◌∙◌, sym, true, false, string_bytes}
 use Rattle.std.specs.Str.{bytes_eq}
 use Rattle.vod_base.specs.Memory.{LibraryState}
-use Rattle.vod_base.proofs.Files.{file_of, stored_here, stored_behind, stored_none}
+use Rattle.vod_base.proofs.FileSearch.{file_of, stored_here, stored_behind, stored_none}
 use Rattle.vod_base.proofs.memory_libraries.MemoryLibrary.file.Goals as goal
 
 pub returns-then-eq : goal.returns-then-eq

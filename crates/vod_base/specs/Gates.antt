@@ -1,0 +1,80 @@
+-- What a gate tells: how it was opened, its parts, and of each part the connections that it gave and that came back.
+use Rattle.std.specs.Prelude.{◌≡◌, ℕ, ◌+◌, ◌<◌, List, [], ◌∷◌, ◌++◌, length, slice_index_or, slice_set, Option, Some, None, IsSome}
+use Rattle.vod_base.specs.Links.{Doing}
+use Rattle.vod_base.specs.declared.gates.Opening.{Opening}
+
+-- a connection that was given back: its count of faults, and what it told
+pub record Returned : Type 0 where
+  pub faults : ℕ
+  pub told : Option (List Doing)
+
+-- what the last `take` answered: there was none yet, it gave a connection, there were no more, or it failed
+pub data LastTake : Type 0 where
+  NoneYet : LastTake
+  Gave : LastTake
+  NoMore : LastTake
+  Failed : LastTake
+
+-- one part: which split made it, from 0, how many connections it gave, those that came back, in order, and the last `take`
+pub record Part : Type 0 where
+  pub number : ℕ
+  pub given : ℕ
+  pub back : List Returned
+  pub last : LastTake
+
+-- a gate: how it was opened, if it is open; for each split since then the part, once it came back; and itself as a part
+pub record Content : Type 0 where
+  pub opening : Option Opening
+  pub parts : List (Option Part)
+  pub own : Part
+
+abbrev pub IsOpen : Content → Type 0
+IsOpen c = IsSome c.opening
+
+-- one more part may be split: the gate is open, and fewer than 256 parts were split since
+abbrev pub MaySplit : Content → Type 0
+MaySplit c = IsOpen c × (length c.parts < 256)
+
+-- the part of that number was split since the gate was opened, and isn't back yet
+abbrev pub IsOut : ℕ → Content → Type 0
+IsOut number c = (number < length c.parts) × (slice_index_or c.parts number None ≡ None)
+
+-- a connection is out: fewer were given back than `take` gave
+abbrev pub HasOut : Content → Type 0
+HasOut c = length c.own.back < c.own.given
+
+-- a part that nothing was taken from
+abbrev pub fresh_part : ℕ → Part
+fresh_part number = record { number = number; given = 0; back = []; last = NoneYet }
+
+-- after an `open`: as it was opened, without parts; after one that failed it isn't open
+abbrev pub opened : Option Opening → Content → Content
+opened how c = record c { opening = how; parts = [] }
+
+-- after a `split`, and the part that it made
+abbrev pub split_off : Content → Content
+split_off c = record c { parts = c.parts ++ (None ∷ []) }
+
+abbrev pub new_part : Content → Content
+new_part c = record { opening = None; parts = []; own = fresh_part (length c.parts) }
+
+-- after a `take` that gave a connection, and after one that gave none
+abbrev pub gave : Content → Content
+gave c = record c { own = record c.own { given = c.own.given + 1; last = Gave } }
+
+abbrev pub gave_none : LastTake → Content → Content
+gave_none last c = record c { own = record c.own { last = last } }
+
+-- after a connection came back
+abbrev pub got_back : Returned → Content → Content
+got_back conn c = record c { own = record c.own { back = c.own.back ++ (conn ∷ []) } }
+
+-- after a part came back
+abbrev pub rejoined : Part → Content → Content
+rejoined part c = record c { parts = slice_set c.parts part.number (Some part) }
+
+-- the same of what is told of both
+abbrev pub told_rejoined : Option Content → Option Content → Option Content
+told_rejoined (Some part) (Some c) = Some (rejoined part.own c)
+told_rejoined None (Some c) = None
+told_rejoined part None = None

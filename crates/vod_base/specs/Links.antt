@@ -1,0 +1,36 @@
+-- What a connection does, as contracts see it: events that are heard, and bytes that are sent, in one order.
+use Rattle.std.specs.Prelude.{◌≡◌, ℕ, ◌≤◌, ⊤, List, ◌++◌, length, take, map, Option, Some, None}
+use Rattle.vod_base.specs.declared.links.Heard.{Heard}
+use Rattle.vod_base.specs.declared.links.Heard.TheVariants.{Bytes, Slot, End}
+
+-- bytes were heard, a slot began, or the peer ended, each one event; or one byte was sent
+pub data Doing : Type 0 where
+  HeardBytes : List ℕ → Doing
+  HeardSlot : ℕ → Doing
+  HeardEnd : Doing
+  Sent : ℕ → Doing
+
+-- an answer of `next` as a doing, where `into` has the bytes that came in front
+abbrev pub doing_of : Heard → List ℕ → Doing
+doing_of (Bytes n) into = HeardBytes (take n into)
+doing_of (Slot t) into = HeardSlot t
+doing_of End into = HeardEnd
+
+-- bytes that came are at least one, and fit
+abbrev pub IsWithin : Heard → ℕ → Type 0
+IsWithin (Bytes n) room = (1 ≤ n) × (n ≤ room)
+IsWithin (Slot t) room = ⊤
+IsWithin End room = ⊤
+
+-- the bytes as sent, one doing each
+abbrev pub sends : List ℕ → List Doing
+sends bytes = map Sent bytes
+
+-- what was told, with these doings after it
+abbrev pub told_more : Option (List Doing) → List Doing → Option (List Doing)
+told_more None doings = None
+told_more (Some told) doings = Some (told ++ doings)
+
+-- what was told, with a front of these bytes sent after it
+abbrev pub IsFrontTold : Option (List Doing) → Option (List Doing) → List ℕ → Type 0
+IsFrontTold old new bytes = (n : ℕ) × ((n ≤ length bytes) × (new ≡ told_more old (sends (take n bytes))))

@@ -1,0 +1,38 @@
+ghost use Rattle.std.specs.Prelude.{◌≡◌, reverse};
+ghost use Rattle.vod_base.specs.Blanks.{is_blank, without_front_blanks, trimmed};
+
+/// Whether a byte is a blank: a space or a tab.
+pub fn is_blank(byte: u8) -> bool
+    ensures { result ≡ is_blank byte }
+{
+    byte == b' ' || byte == b'\t'
+}
+
+/// The text without the blanks in front.
+fn front_trimmed(text: &[u8]) -> &[u8]
+    ensures { result.now ≡ without_front_blanks text.now }
+{
+    let mut rest = text;
+    while let [b' ' | b'\t', next @ ..] = rest {
+        rest = next;
+    }
+    rest
+}
+
+/// The text without the blanks at its end.
+fn back_trimmed(text: &[u8]) -> &[u8]
+    ensures { result.now ≡ reverse (without_front_blanks (reverse text.now)) }
+{
+    let mut rest = text;
+    while let [before @ .., b' ' | b'\t'] = rest {
+        rest = before;
+    }
+    rest
+}
+
+/// The text without the blanks (spaces and tabs) around it.
+pub fn trimmed(text: &[u8]) -> &[u8]
+    ensures { result.now ≡ trimmed text.now }
+{
+    back_trimmed(front_trimmed(text))
+}

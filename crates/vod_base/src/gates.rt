@@ -1,0 +1,82 @@
+ghost use Rattle.std.specs.Prelude.{◌≡◌, ◌<◌, ◌≤◌, ℕ, Option, Some, None, [], option_map, IfSome, IfOk, OnOk, OnErr};
+ghost use Rattle.vod_base.specs.Outside.{HasRisen};
+ghost use Rattle.vod_base.specs.Gates.{Content, NoMore, Failed, MaySplit, IsOut, HasOut, opened, split_off, new_part, gave, gave_none, got_back, told_rejoined};
+
+use crate::links::Link;
+use crate::outside::GateFault;
+
+/// How a gate is to be opened.
+#[derive(Clone, Copy, Debug, PartialEq, Eq)]
+pub struct Opening {
+    /// The TCP port.
+    pub port: u16,
+    /// Whether connections from other machines are taken too.
+    pub all: bool,
+    /// The connections that each part gives, or 0 where there is no end.
+    pub connections: u64,
+    /// The slot length in 1/360,000 second, 360 to 360,000.
+    pub slot_units: u32,
+}
+
+/// Where connections come from. It is opened and split into parts, and each part gives connections.
+///
+/// A gate counts its faults as a library does; a part begins with the count 0. What it did may be
+/// told to contracts.
+pub trait Gate: Sized {
+    type Conn: Link;
+
+    ghost faults: { Self → ℕ };
+
+    ghost told: { Self → Option Content };
+
+    /// Opens the gate, and forgets the parts from before.
+    ///
+    /// # Errors
+    ///
+    /// After a fault the gate isn't open, and the parts from before are forgotten too.
+    fn open(&mut self, how: &Opening) -> Result<(), GateFault>
+        ensures count { faults self.old ≤ faults self.new }
+        ensures fault { OnErr result (HasRisen (faults self.old) (faults self.new)) }
+        ensures open { OnOk result (told self.new ≡ option_map (opened (Some how.now)) (told self.old)) }
+        ensures lost { OnErr result (told self.new ≡ option_map (opened None) (told self.old)) };
+
+    /// Makes a part, which gives connections of its own.
+    ///
+    /// # Errors
+    ///
+    /// After a fault no part was made.
+    fn split(&mut self) -> Result<Self, GateFault>
+        requires may { IfSome (told self.old) MaySplit }
+        ensures count { faults self.old ≤ faults self.new }
+        ensures fault { OnErr result (HasRisen (faults self.old) (faults self.new)) }
+        ensures split { OnOk result (told self.new ≡ option_map split_off (told self.old)) }
+        ensures part { IfOk result (λ part. (told part ≡ option_map new_part (told self.old)) × (faults part ≡ 0)) }
+        ensures lost { OnErr result (told self.new ≡ told self.old) };
+
+    /// Waits for the next connection, or answers None where there are no more. A connection that it
+    /// gives did nothing yet.
+    ///
+    /// # Errors
+    ///
+    /// After a fault no connection was given.
+    fn take(&mut self) -> Result<Option<Self::Conn>, GateFault>
+        ensures count { faults self.old ≤ faults self.new }
+        ensures fault { OnErr result (HasRisen (faults self.old) (faults self.new)) }
+        ensures gave { IfOk result (λ taken. IfSome taken (λ conn. told self.new ≡ option_map gave (told self.old))) }
+        ensures fresh { IfOk result (λ taken. IfSome taken (λ conn. (Self.Conn.faults conn ≡ 0) × IfSome (Self.Conn.told conn) (λ doings. doings ≡ []))) }
+        ensures none { IfOk result (λ taken. taken ≡ None → told self.new ≡ option_map (gave_none NoMore) (told self.old)) }
+        ensures lost { OnErr result (told self.new ≡ option_map (gave_none Failed) (told self.old)) };
+
+    /// Takes back a connection that `take` gave.
+    fn give_back(&mut self, conn: Self::Conn)
+        requires out { IfSome (told self.old) HasOut }
+        ensures count { faults self.old ≤ faults self.new }
+        ensures back { told self.new ≡ option_map (got_back (record { faults = Self.Conn.faults conn; told = Self.Conn.told conn })) (told self.old) };
+
+    /// Takes back a part that was split from this gate since it was opened last.
+    fn rejoin(&mut self, part: Self)
+        requires out { IfSome (told self.old) (λ c. IfSome (told part) (λ p. IsOut p.own.number c)) }
+        ensures count { faults self.old ≤ faults self.new }
+        ensures risen { 0 < faults part → HasRisen (faults self.old) (faults self.new) }
+        ensures joined { told self.new ≡ told_rejoined (told part) (told self.old) };
+}

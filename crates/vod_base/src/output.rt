@@ -1,0 +1,18 @@
+ghost use Rattle.std.specs.Prelude.{◌≡◌, ◌≤◌, ℕ, List, Option, OnOk, OnErr};
+ghost use Rattle.vod_base.specs.Outside.{HasRisen, more, IsFrontMore};
+
+use crate::outside::SinkFault;
+
+/// Output that bytes are appended to. It counts its faults as a library does.
+pub trait Sink {
+    ghost faults: { Self → ℕ };
+
+    ghost written: { Self → Option (List ℕ) };
+
+    /// Appends all bytes; after a fault, a front part of them was appended.
+    fn write_all(&mut self, bytes: &[u8]) -> Result<(), SinkFault>
+        ensures count { faults self.old ≤ faults self.new }
+        ensures fault { OnErr result (HasRisen (faults self.old) (faults self.new)) }
+        ensures whole { OnOk result (written self.new ≡ more (written self.old) bytes.now) }
+        ensures front { OnErr result (IsFrontMore (written self.old) (written self.new) bytes.now) };
+}
