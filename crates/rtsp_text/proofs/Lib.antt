@@ -7,3 +7,5 @@ pub mod Once
 pub mod Texts
 pub mod Whole
 pub mod FirstField
+pub mod Inside
+pub mod Bounds

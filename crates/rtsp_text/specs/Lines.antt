@@ -1,8 +1,13 @@
 -- The lines of a message's head (RFC 2326 sections 4, 6 and 7): a first line, header lines and an empty line. Each ends with LF
 -- or CR LF; a CR alone ends none.
-use Rattle.std.specs.Prelude.{◌≡◌, ℕ, ◌<◌, ◌++◌, List, [], ◌∷◌, length, drop, nat_lt, take_while, slice_index_or}
+use Rattle.std.specs.Prelude.{◌≡◌, ℕ, ◌<◌, ◌++◌, ◌==◌, Bool, not, List, [], ◌∷◌, length, drop, nat_lt, take_while, slice_index_or}
+use Rattle.std.specs.List.{list_all}
 use Rattle.std.specs.Str.Lines.{lines}
 use Rattle.interleave.specs.Heads.{IsHead}
+
+-- a text without LF, as a line's text is
+abbrev pub is_one_line : List ℕ → Bool
+is_one_line text = list_all (λ byte. not (byte == 10)) text
 
 -- the lines before the first empty one
 abbrev pub before_empty : List (List ℕ) → List (List ℕ)

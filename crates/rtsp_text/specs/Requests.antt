@@ -1,6 +1,7 @@
 -- What a message asks for, and why it is refused (RFC 2326 section 6).
 use Rattle.std.specs.Prelude.{◌≡◌, ◌≢◌, ℕ, ◌+◌, ◌<◌, List, [], length, All, true, Some, None, IfSome, codes, slice_index_or}
 use Rattle.vod_base.specs.Numbers.{is_decimal}
+use Rattle.interleave.specs.Lengths.{IsBodyLength}
 use Rattle.rtsp_text.specs.Lines.{first_line, header_lines, IsSplit}
 use Rattle.rtsp_text.specs.Grammar.{IsRequestLine, IsHeaderLine}
 use Rattle.rtsp_text.specs.Fields.{header_value, sequence_number}
@@ -11,13 +12,14 @@ use Rattle.rtsp_text.specs.declared.requests.RequestFault.TheVariants.{BadLine, 
 abbrev pub HasLength : List ℕ → Type 0
 HasLength message = IfSome (header_value message (codes "Content-Length")) (λ value. is_decimal value ≡ true)
 
--- a message is a request of RTSP 1.0 with these parts; its body is what stands behind its head
+-- a message is a request of RTSP 1.0 with these parts; its body is the rest after its head, and has the length that the head gives
 pub record IsRequest (message method url : List ℕ) (sequence : ℕ) (head body : List ℕ) : Type 0 where
   pub split : IsSplit message head body
   pub line : IsRequestLine (first_line message) method url (codes "RTSP/1.0")
   pub headers : All IsHeaderLine (header_lines message)
   pub sequence_is : sequence_number message ≡ Some sequence
   pub length_is : HasLength message
+  pub body_is : IsBodyLength head (length body)
 
 -- the first line is a request line of this version
 abbrev pub HasVersion : List ℕ → List ℕ → Type 0

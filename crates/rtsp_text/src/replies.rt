@@ -1,4 +1,6 @@
-ghost use Rattle.std.specs.Prelude.{◌≡◌, ◌+◌, ◌≤◌, ◌++◌, ℕ, IsTrue, Option, List, [], ◌∷◌, length, decimal, codes, IfOk};
+ghost use Rattle.std.specs.Prelude.{◌≡◌, ◌+◌, ◌≤◌, ◌++◌, ℕ, IsTrue, true, Option, List, [], ◌∷◌, length, decimal, codes, IfOk, sum_by, flat_map};
+ghost use Rattle.std.specs.List.{list_all};
+ghost use Rattle.rtsp_text.specs.Lines.{is_one_line};
 ghost use Rattle.rtsp_text.specs.Replies.{is_code, reason, Field, field_line, sequence_line, status_line, reply_front, reply_text};
 
 use itoa::Buffer;
@@ -129,15 +131,45 @@ impl Reply {
         }
     }
 
-    /// Appends the line `NAME: VALUE`.
+    /// Appends the line `NAME: VALUE`. The value has no LF.
     pub fn field(&mut self, name: &[u8], value: &[u8])
-        requires { length self.old + (length name.now + length value.now + 4) ≤ 65536 }
+        requires one_line { is_one_line value.now ≡ true }
+        requires fits { length self.old + (length name.now + length value.now + 4) ≤ 65536 }
         ensures text { self.new ≡ self.old ++ field_line (record { name = name.now; value = value.now }) }
         ensures long { length self.new ≡ length self.old + (length name.now + length value.now + 4) }
         ensures front { (code : ℕ) (sequence : Option ℕ) (fields : List Field) → self.old ≡ reply_front code sequence fields →
             self.new ≡ reply_front code sequence (fields ++ record { name = name.now; value = value.now } ∷ []) }
     {
         self.put_field(name, value);
+    }
+
+    /// Appends bytes, part after part.
+    fn put_parts(&mut self, parts: &[&[u8]])
+        requires { length self.old + sum_by (λ part. length part.now) parts.now ≤ 65536 }
+        ensures text { self.new ≡ self.old ++ flat_map (λ part. part.now) parts.now }
+        ensures long { length self.new ≡ length self.old + sum_by (λ part. length part.now) parts.now }
+    {
+        for part in parts {
+            self.put(part);
+        }
+    }
+
+    /// Appends the line `NAME: VALUE`, where the value is these parts, one after another. No part has an LF.
+    pub fn field_of(&mut self, name: &[u8], parts: &[&[u8]])
+        requires one_line { list_all (λ part. is_one_line part.now) parts.now ≡ true }
+        requires fits { length self.old + (length name.now + sum_by (λ part. length part.now) parts.now + 4) ≤ 65536 }
+        ensures text { let value = flat_map (λ part. part.now) parts.now in
+            self.new ≡ self.old ++ field_line (record { name = name.now; value = value }) }
+        ensures long { let value_length = sum_by (λ part. length part.now) parts.now in
+            length self.new ≡ length self.old + (length name.now + value_length + 4) }
+        ensures front { (code : ℕ) (sequence : Option ℕ) (fields : List Field) → self.old ≡ reply_front code sequence fields →
+            let value = flat_map (λ part. part.now) parts.now in
+            self.new ≡ reply_front code sequence (fields ++ record { name = name.now; value = value } ∷ []) }
+    {
+        self.put(name);
+        self.put(b": ");
+        self.put_parts(parts);
+        self.put(b"\r\n");
     }
 
     /// Appends the line `NAME: VALUE`, the value in decimal, of at most 20 digits.

@@ -1,6 +1,6 @@
-ghost use Rattle.std.specs.Prelude.{◌≡◌, ℕ, List, All, length, codes, option_map, MatchOption, IsTrue, ◌↔◌, IfOk, IfErr, IfSome, IfNone, IsOkAnd, Err};
+ghost use Rattle.std.specs.Prelude.{◌≡◌, ◌<◌, ◌≤◌, ℕ, List, All, true, length, codes, option_map, MatchOption, IsTrue, ◌↔◌, IfOk, IfErr, IfSome, IfNone, IsOkAnd, Err};
 ghost use Rattle.interleave.specs.Pieces.{IsRequestLength};
-ghost use Rattle.rtsp_text.specs.Lines.{lines_before_empty, header_lines};
+ghost use Rattle.rtsp_text.specs.Lines.{is_one_line, lines_before_empty, header_lines};
 ghost use Rattle.rtsp_text.specs.Grammar.{IsHeaderLine};
 ghost use Rattle.rtsp_text.specs.Requests.{HasLength, IsRequest, IsFirstBad, IsFault};
 ghost use Rattle.rtsp_text.specs.declared.requests.RequestFault.{RequestFault};
@@ -42,11 +42,13 @@ pub enum RequestFault {
 
 /// The value of a request's first header line of that name, in any case, without the spaces and tabs around it.
 ///
-/// None exactly where the head has no line of that name.
+/// None exactly where the head has no line of that name. The value has no LF and at most as many bytes as the head.
 pub fn header<'a>(request: &Request<'a>, name: &[u8]) -> Option<&'a [u8]>
     ensures value { option_map (λ value. value.now) result ≡ header_value request.now.head.now name.now }
     ensures first { IfSome result (λ value. IsFirstField name.now (header_lines request.now.head.now) value.now) }
     ensures none { IfNone result (HasNoField name.now (header_lines request.now.head.now)) }
+    ensures short { IfSome result (λ value. length value.now ≤ length request.now.head.now) }
+    ensures one_line { IfSome result (λ value. is_one_line value.now ≡ true) }
 {
     fields::header_value(request.head, name)
 }
@@ -89,7 +91,7 @@ fn has_length(message: &[u8]) -> bool
 /// Reads a whole request, head and body, as [`interleave::Demux`] cuts it from a connection's bytes.
 ///
 /// Ok exactly where the message is a request of RTSP 1.0, with its parts; each fault exactly where its cause holds and none
-/// before it in [`RequestFault`].
+/// before it in [`RequestFault`]. The head has at most 16,384 bytes, the body at most 65,536.
 pub fn read_request(message: &[u8]) -> Result<Request<'_>, RequestFault>
     requires { IsRequestLength message.now (length message.now) }
     ensures read { IfOk result (λ r. IsRequest message.now r.method.now r.url.now r.sequence r.head.now r.body.now) }
@@ -97,6 +99,9 @@ pub fn read_request(message: &[u8]) -> Result<Request<'_>, RequestFault>
     ensures requests { (method url : List ℕ) (sequence : ℕ) (head body : List ℕ) → IsRequest message.now method url sequence head body →
         IsOkAnd result (λ r. (r.method.now ≡ method) × (r.url.now ≡ url) × (r.sequence ≡ sequence) × (r.head.now ≡ head) × (r.body.now ≡ body)) }
     ensures faults { (fault : RequestFault) → IsFault message.now fault → result ≡ Err fault }
+    ensures head { IfOk result (λ r. length r.head.now ≤ 16384) }
+    ensures url { IfOk result (λ r. length r.url.now < length r.head.now) }
+    ensures body { IfOk result (λ r. length r.body.now ≤ 65536) }
 {
     read_parts(message)
 }

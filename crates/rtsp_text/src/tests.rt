@@ -1,5 +1,6 @@
-ghost use Rattle.std.specs.Prelude.{IsTrue, length, IfSome};
+ghost use Rattle.std.specs.Prelude.{◌≡◌, ◌≤◌, IsTrue, true, length, IfSome};
 ghost use Rattle.interleave.specs.Pieces.{IsRequestLength};
+ghost use Rattle.rtsp_text.specs.Lines.{is_one_line};
 ghost use Rattle.rtsp_text.specs.Replies.{is_code};
 
 use super::*;
@@ -307,6 +308,23 @@ fn writes_the_answer_to_describe(rt: HostRuntime) -> Result<(), Fail> {
     Ok(())
 }
 
+/// Appends where a film's frames come from, by a part of a URL.
+fn put_info(reply: &mut Reply, authority: &[u8])
+    requires one_line { is_one_line authority.now ≡ true }
+    requires short { length authority.now ≤ 16384 }
+    requires fits { length reply.old ≤ 1000 }
+    ensures { length reply.new ≤ 20000 }
+{
+    reply.field_of(
+        b"RTP-Info",
+        &[
+            b"url=rtsp://".as_slice(),
+            authority,
+            b"/news.mpg/video;seq=1;rtptime=0".as_slice(),
+        ],
+    );
+}
+
 #[test]
 fn writes_the_answers_to_setup_and_play(rt: HostRuntime) -> Result<(), Fail> {
     let mut reply = Reply::new(rt.alloc())?;
@@ -324,10 +342,7 @@ fn writes_the_answers_to_setup_and_play(rt: HostRuntime) -> Result<(), Fail> {
     reply.start(200, Some(5));
     reply.field(b"Session", b"0123456789abcdef");
     reply.field(b"Range", b"npt=0.000-10.000");
-    reply.field(
-        b"RTP-Info",
-        b"url=rtsp://127.0.0.1:8554/news.mpg/video;seq=1;rtptime=0",
-    );
+    put_info(&mut reply, b"127.0.0.1:8554");
     reply.number_field(b"x-Start", 1);
     reply.finish(b"");
     let text =
@@ -376,10 +391,33 @@ fn writes_refusals(rt: HostRuntime) -> Result<(), Fail> {
     assert_eq!(rt; refusal(&mut reply, 503, Some(9)), text.as_slice());
     let text = b"RTSP/1.0 505 RTSP Version Not Supported\r\nCSeq: 9\r\n\r\n";
     assert_eq!(rt; refusal(&mut reply, 505, Some(9)), text.as_slice());
+    Ok(())
+}
+
+/// The answer to a request that requires an option. It repeats the option, and fits whatever that is.
+fn refuse_option(reply: &mut Reply, message: &[u8])
+    requires { IsRequestLength message.now (length message.now) }
+{
     reply.clear();
-    reply.start(551, Some(6));
-    reply.field(b"Unsupported", b"x");
-    reply.finish(b"");
+    let Ok(request) = read_request(message) else {
+        return;
+    };
+    if let Some(option) = header(&request, b"Require") {
+        reply.start(551, Some(request.sequence));
+        reply.field(b"Unsupported", option);
+        reply.finish(b"");
+    }
+}
+
+#[test]
+fn repeats_an_option(rt: HostRuntime) -> Result<(), Fail> {
+    let mut demux = Demux::new(rt.alloc())?;
+    demux.put(b"PLAY * RTSP/1.0\r\nCSeq: 6\r\nRequire:  x \r\n\r\n")?;
+    let Some(message) = first_request(&mut demux) else {
+        panic!(rt; "no whole request");
+    };
+    let mut reply = Reply::new(rt.alloc())?;
+    refuse_option(&mut reply, message);
     let text = b"RTSP/1.0 551 Option Not Supported\r\nCSeq: 6\r\nUnsupported: x\r\n\r\n";
     assert_eq!(rt; reply.bytes(), text.as_slice());
     Ok(())

@@ -1,4 +1,5 @@
 use Rattle.rtsp_text.proofs.Once.{fault_once, no_fault, request_once, ok_and, err_is}
+use Rattle.rtsp_text.proofs.Bounds.{read_head, read_body, read_url}
 use Rattle.rtsp_text.proofs.requests.read_request.Goals as goal
 
 pub returns-clause-requests : goal.returns-clause-requests
@@ -14,3 +15,18 @@ returns-clause-faults c = λ fault refused.
     err_is c.read_parts.result _ _ fault c.read_parts.ensures.read c.read_parts.ensures.refused
     (λ r read. no_fault c.args.message.now r.method.now r.url.now r.sequence r.head.now r.body.now fault read refused)
     (λ other found. fault_once c.args.message.now other fault found refused)
+
+pub returns-clause-head : goal.returns-clause-head
+returns-clause-head c =
+    read_head (λ r. r.head.now) (λ r. r.body.now) (λ r. r.method.now) (λ r. r.url.now) (λ r. r.sequence)
+    c.read_parts.result c.args.message.now c.requires c.read_parts.ensures.read
+
+pub returns-clause-url : goal.returns-clause-url
+returns-clause-url c =
+    read_url (λ r. r.head.now) (λ r. r.body.now) (λ r. r.method.now) (λ r. r.url.now) (λ r. r.sequence)
+    c.read_parts.result c.args.message.now c.read_parts.ensures.read
+
+pub returns-clause-body : goal.returns-clause-body
+returns-clause-body c =
+    read_body (λ r. r.head.now) (λ r. r.body.now) (λ r. r.method.now) (λ r. r.url.now) (λ r. r.sequence)
+    c.read_parts.result c.args.message.now c.requires c.read_parts.ensures.read

@@ -1,0 +1,50 @@
+-- The bounds of a request's parts.
+use Rattle.std.proofs.Common.{◌≡◌, ℕ, ◌<◌, ◌≤◌, List, [], ◌∷◌, ◌++◌, length, take, codes, Result, Ok, Err, refl, ap, subst, ◌∙◌, arith}
+use Rattle.std.specs.Prelude.{IfOk}
+use Rattle.std.proofs.lemmas.List.{length-append, take_at}
+use Rattle.interleave.specs.Lengths.{IsBodyLength}
+use Rattle.interleave.specs.Pieces.{IsRequestLength}
+use Rattle.interleave.proofs.Unique.{head_once}
+use Rattle.rtsp_text.specs.Lines.{first_line, header_lines, IsSplit}
+use Rattle.rtsp_text.specs.Grammar.{IsRequestLine}
+use Rattle.rtsp_text.specs.Requests.{IsRequest}
+use Rattle.rtsp_text.proofs.Inside.{first_line_inside}
+
+-- the head and the body of a whole request, by its length
+pub record AreLengths (head body : List ℕ) : Type 0 where
+  pub head_short : length head ≤ 16384
+  pub body_is : IsBodyLength head (length body)
+  pub body_short : length body ≤ 65536
+
+pub lengths_of : (message head body : List ℕ) → IsRequestLength message (length message) → IsSplit message head body → AreLengths head body
+lengths_of message head body whole split =
+    let same : whole.head ≡ length head = head_once message whole.head (length head) whole.is_head split.is_head in
+    let front : take whole.head message ≡ head = ap (λ n. take n message) same ∙ ap (take (length head)) split.parts ∙ take_at head body (length head) refl in
+    let long : whole.body ≡ length body = omega (arith, same, whole.total_is, ap length split.parts, length-append head body) in
+    record {
+      head_short = omega (arith, same, whole.fits);
+      body_is = subst (λ n. IsBodyLength head n) long (subst (λ h. IsBodyLength h whole.body) front whole.is_body);
+      body_short = omega (arith, long, whole.small);
+    }
+
+-- a request's URL is shorter than its head
+url_short : (message head body method url version : List ℕ) → IsSplit message head body → IsRequestLine (first_line message) method url version → length url < length head
+url_short message head body method url version split line =
+    let i = first_line_inside head (first_line message) (header_lines message ++ [] ∷ []) split.lines_are in
+    omega (arith, i.short, ap length line.parts, length-append method (32 ∷ (url ++ 32 ∷ version)), length-append url (32 ∷ version))
+
+-- the same of what was read
+pub read_head : {X E : Type 0} (head body : X → List ℕ) (method url : X → List ℕ) (sequence : X → ℕ) (r : Result X E) (message : List ℕ) → IsRequestLength message (length message) →
+    IfOk r (λ x. IsRequest message (method x) (url x) (sequence x) (head x) (body x)) → IfOk r (λ x. length (head x) ≤ 16384)
+read_head head body method url sequence (Ok x) message whole read = (lengths_of message (head x) (body x) whole read.split).head_short
+read_head head body method url sequence (Err e) message whole read = tt
+
+pub read_body : {X E : Type 0} (head body : X → List ℕ) (method url : X → List ℕ) (sequence : X → ℕ) (r : Result X E) (message : List ℕ) → IsRequestLength message (length message) →
+    IfOk r (λ x. IsRequest message (method x) (url x) (sequence x) (head x) (body x)) → IfOk r (λ x. length (body x) ≤ 65536)
+read_body head body method url sequence (Ok x) message whole read = (lengths_of message (head x) (body x) whole read.split).body_short
+read_body head body method url sequence (Err e) message whole read = tt
+
+pub read_url : {X E : Type 0} (head body : X → List ℕ) (method url : X → List ℕ) (sequence : X → ℕ) (r : Result X E) (message : List ℕ) →
+    IfOk r (λ x. IsRequest message (method x) (url x) (sequence x) (head x) (body x)) → IfOk r (λ x. length (url x) < length (head x))
+read_url head body method url sequence (Ok x) message read = url_short message (head x) (body x) (method x) (url x) (codes "RTSP/1.0") read.split read.line
+read_url head body method url sequence (Err e) message read = tt
