@@ -1,0 +1,140 @@
+-- Bytes that are sent in several sends.
+use Rattle.std.proofs.Common.{◌≡◌, ℕ, ◌+◌, ◌-◌, ◌<◌, ◌≤◌, List, ◌++◌, length, take, drop, min, Option, Some, None, refl, sym, ap, ◌∙◌, arith, inl, inr, append_assoc}
+use Rattle.std.proofs.lemmas.List.{append-nil}
+use Rattle.std.proofs.lemmas.List.{take-append-le, take-take, take_all, length-take, length-append, length-drop, drop-drop, map-append}
+use Rattle.std.proofs.Math.Seq.{take-append-add, take-add}
+use Rattle.std.proofs.lemmas.Bool.{cases_lt}
+use Rattle.film_frames.specs.Tracks.{framed, IsNext}
+use Rattle.vod_base.specs.Links.{Doing, Sent, told_more, sends, IsFrontTold}
+use Rattle.pacer.specs.Boundaries.{bytes_between}
+use Rattle.pacer.specs.Sending.{HasStopped}
+
+told-more-twice : (told : Option (List Doing)) (a b : List Doing) → told_more (told_more told a) b ≡ told_more told (a ++ b)
+told-more-twice None a b = refl
+told-more-twice (Some told) a b = ap (λ (l : List Doing). Some l) (append_assoc told a b)
+
+-- bytes, and further ones
+pub sends-more : (old middle new : Option (List Doing)) (a b : List ℕ) → middle ≡ told_more old (sends a) → new ≡ told_more middle (sends b)
+    → new ≡ told_more old (sends (a ++ b))
+sends-more old middle new a b first then =
+    then ∙ ap (λ (t : Option (List Doing)). told_more t (sends b)) first ∙ told-more-twice old (sends a) (sends b)
+    ∙ ap (λ (l : List Doing). told_more old l) (sym (map-append Sent a b))
+
+-- the first bytes of two texts, one behind the other
+pub take-both : (most : ℕ) (a b c d : List ℕ) → c ≡ take most a → d ≡ take (most - length c) b → take most (a ++ b) ≡ c ++ d
+take-both most a b c d first then =
+    elim (cases_lt (length a) most) [
+      | inl l ↦
+          let whole : take most a ≡ a = take_all most a (omega arith) in
+          let same : c ≡ a = first ∙ whole in
+          let count : most ≡ length a + (most - length c) = omega (arith, ap length same, l) in
+          ap (λ n. take n (a ++ b)) count ∙ take-append-add a b (most - length c) ∙ ap (λ (l : List ℕ). l ++ take (most - length c) b) (sym same) ∙ ap (λ (l : List ℕ). c ++ l) (sym then)
+      | inr g ↦
+          let count : most - length c ≡ 0 = omega (arith, ap length first, length-take most a, g) in
+          take-append-le most a b g ∙ sym first ∙ sym (append-nil c) ∙ ap (λ n. c ++ take n b) (sym count) ∙ ap (λ (l : List ℕ). c ++ l) (sym then)
+    ]
+
+-- bytes in two sends
+pub both-sent : (old middle new : Option (List Doing)) (all first then : List ℕ) → all ≡ first ++ then → middle ≡ told_more old (sends first)
+    → new ≡ told_more middle (sends then) → new ≡ told_more old (sends all)
+both-sent old middle new all first then are one other =
+    sends-more old middle new first then one other ∙ ap (λ (l : List ℕ). told_more old (sends l)) (sym are)
+
+-- the first of the two failed
+pub first-stopped : (old new : Option (List Doing)) (all first then : List ℕ) → all ≡ first ++ then → IsFrontTold old new first → 0 < length first
+    → HasStopped all old new 0
+first-stopped old new all first then are front some =
+    let out = front.0 in
+    let size : length all ≡ length first + length then = ap length are ∙ length-append first then in
+    record {
+      before_end = omega (arith, size, some);
+      out = out;
+      out_least = omega arith;
+      out_most = omega (arith, front.1.0, size);
+      told = front.1.1 ∙ ap (λ (l : List ℕ). told_more old (sends l)) (sym (take-append-le out first then front.1.0) ∙ ap (λ (l : List ℕ). take out l) (sym are));
+    }
+
+-- the second of the two failed
+pub then-stopped : (old middle new : Option (List Doing)) (all first then : List ℕ) → all ≡ first ++ then → middle ≡ told_more old (sends first)
+    → IsFrontTold middle new then → 0 < length then → HasStopped all old new (length first)
+then-stopped old middle new all first then are one front some =
+    let out = front.0 in
+    let size : length all ≡ length first + length then = ap length are ∙ length-append first then in
+    record {
+      before_end = omega (arith, size, some);
+      out = length first + out;
+      out_least = omega arith;
+      out_most = omega (arith, front.1.0, size);
+      told = sends-more old middle new first (take out then) one front.1.1
+          ∙ ap (λ (l : List ℕ). told_more old (sends l)) (sym (take-append-add first then out) ∙ ap (λ (l : List ℕ). take (length first + out) l) (sym are));
+    }
+
+-- ---- bytes of a track
+
+pub between-join : (pieces : List (List ℕ)) (from at to : ℕ) → from ≤ at → at ≤ to → bytes_between pieces from at ++ bytes_between pieces at to ≡ bytes_between pieces from to
+between-join pieces from at to first then =
+    let all = framed pieces in
+    let place : from + (at - from) ≡ at = omega (arith, first) in
+    let moved : drop (at - from) (drop from all) ≡ drop at all = drop-drop (at - from) from all ∙ ap (λ n. drop n all) place in
+    let count : at - from + (to - at) ≡ to - from = omega (arith, first, then) in
+    sym (ap (λ n. take n (drop from all)) (sym count) ∙ take-add (at - from) (to - at) (drop from all) ∙ ap (λ (l : List ℕ). take (at - from) (drop from all) ++ take (to - at) l) moved)
+
+pub between-length : (pieces : List (List ℕ)) (from to : ℕ) → from ≤ to → to ≤ length (framed pieces) → length (bytes_between pieces from to) ≡ to - from
+between-length pieces from to order within =
+    omega (arith, length-take (to - from) (drop from (framed pieces)), length-drop from (framed pieces), order, within)
+
+-- the first of the next bytes
+pub next-are : (pieces : List (List ℕ)) (at most : ℕ) (next : List ℕ) → IsNext pieces at next → take most next ≡ bytes_between pieces at (at + min (length next) most)
+next-are pieces at most next is =
+    let rest = drop at (framed pieces) in
+    let span : at + min (length next) most - at ≡ min (length next) most = omega arith in
+    let same : take most next ≡ take most (take (length next) rest) = ap (λ (l : List ℕ). take most l) is.bytes_are in
+    elim (cases_lt (length next) most) [
+      | inl l ↦
+          let least : min (length next) most ≡ length next = omega (arith, l) in
+          take_all most next (omega (arith, l)) ∙ is.bytes_are ∙ ap (λ n. take n rest) (sym (span ∙ least))
+      | inr g ↦
+          let least : min (length next) most ≡ most = omega (arith, g) in
+          same ∙ take-take most (length next) rest g ∙ ap (λ n. take n rest) (sym (span ∙ least))
+    ]
+
+-- one part more was sent
+pub more-sent : (pieces : List (List ℕ)) (from at most : ℕ) (next : List ℕ) (old middle new : Option (List Doing)) → IsNext pieces at next → from ≤ at
+    → middle ≡ told_more old (sends (bytes_between pieces from at)) → new ≡ told_more middle (sends (take most next))
+    → new ≡ told_more old (sends (bytes_between pieces from (at + min (length next) most)))
+more-sent pieces from at most next old middle new is order first then =
+    sends-more old middle new (bytes_between pieces from at) (take most next) first then
+    ∙ ap (λ (l : List ℕ). told_more old (sends l)) (ap (λ (l : List ℕ). bytes_between pieces from at ++ l) (next-are pieces at most next is)
+    ∙ between-join pieces from at (at + min (length next) most) order (omega arith))
+
+-- a part failed
+pub part-stopped : (pieces : List (List ℕ)) (from at to : ℕ) (next : List ℕ) (old middle new : Option (List Doing)) (whole : ℕ) → IsNext pieces at next → from ≤ at → at ≤ to
+    → to ≤ length (framed pieces) → middle ≡ told_more old (sends (bytes_between pieces from at)) → HasStopped (take (to - at) next) middle new whole
+    → HasStopped (bytes_between pieces from to) old new (at - from + whole)
+part-stopped pieces from at to next old middle new whole is order then within first stopped =
+    let most = to - at in
+    let end = at + min (length next) most in
+    let are = next-are pieces at most next is in
+    let size : length (take most next) ≤ most = omega (arith, length-take most next) in
+    let all = between-length pieces from to (omega (arith, order, then)) within in
+    let out = stopped.out in
+    let cut : take out (take most next) ≡ bytes_between pieces at (at + out) =
+    ap (λ (l : List ℕ). take out l) are ∙ take-take out (end - at) (drop at (framed pieces)) (omega (arith, stopped.out_most, length-take most next))
+    ∙ ap (λ n. take n (drop at (framed pieces))) (omega arith) in
+    let joined : bytes_between pieces from at ++ take out (take most next) ≡ take (at - from + out) (bytes_between pieces from to) =
+    ap (λ (l : List ℕ). bytes_between pieces from at ++ l) cut ∙ between-join pieces from at (at + out) order (omega arith)
+    ∙ ap (λ n. take n (drop from (framed pieces))) (omega (arith, order)) ∙ sym (take-take (at - from + out) (to - from) (drop from (framed pieces)) (omega (arith, order, then, stopped.out_most, size))) in
+    record {
+      before_end = omega (arith, stopped.before_end, size, all, order, then);
+      out = at - from + out;
+      out_least = omega (arith, stopped.out_least);
+      out_most = omega (arith, stopped.out_most, size, all, order, then);
+      told = sends-more old middle new (bytes_between pieces from at) (take out (take most next)) first stopped.told ∙ ap (λ (l : List ℕ). told_more old (sends l)) joined;
+    }
+
+-- nothing yet
+pub none-sent : (pieces : List (List ℕ)) (from : ℕ) (told : Option (List Doing)) → told ≡ told_more told (sends (bytes_between pieces from from))
+none-sent pieces from None = refl
+none-sent pieces from (Some told) =
+    let none : from - from ≡ 0 = omega arith in
+    ap (λ (l : List Doing). Some l) (sym (append-nil told) ∙ ap (λ n. told ++ sends (take n (drop from (framed pieces)))) (sym none))

@@ -1,0 +1,4 @@
+pub mod Boundaries
+pub mod Sending
+pub mod Pacings
+pub mod Steps

@@ -1,0 +1,238 @@
+ghost use Rattle.std.specs.Prelude.{◌≡◌, ◌+◌, ◌-◌, ◌*◌, ◌^◌, ◌≤◌, ◌<◌, ◌↔◌, Some, None, IsTrue, length, take, min, max, OnOk, OnErr, IfOk, true, false};
+ghost use Rattle.vod_base.specs.Outside.{HasRisen};
+ghost use Rattle.vod_base.specs.Links.{told_more, sends};
+ghost use Rattle.film_frames.specs.Tracks.{framed, IsBoundary, IsBoundaryAfter};
+ghost use Rattle.plan_cert.specs.Slots.{total_bytes};
+ghost use Rattle.pacer.specs.Pacings.{slots_through};
+
+use crate::sending::{Stopped, send_between};
+use film_frames::Track;
+use plan_cert::Plan;
+use std::marker::Model;
+use vod_base::{Link, LinkFault};
+
+/// What a step did.
+#[derive(Clone, Copy, Debug, PartialEq, Eq)]
+pub struct Stepped {
+    /// The bytes that it sent.
+    pub sent: u64,
+    /// The bytes that are due and weren't sent yet.
+    pub left: u64,
+}
+
+/// A track that is sent by a plan, slot by slot. Bytes count from the plan's first one.
+#[derive(Drop)]
+pub struct Pacer<T: Track> {
+    track: T,
+    /// The bytes of the whole track.
+    total: u64,
+    /// The place in the track of the plan's first byte.
+    before: u64,
+    plan: Plan,
+    start: u64,
+    keep: u64,
+    /// The plan's last slot that was stepped.
+    last: Option<u64>,
+    due: u64,
+    sent: u64,
+}
+
+impl<T: Track> Model for Pacer<T> {
+    ghost use Rattle.std.specs.Prelude.{◌≡◌, length};
+    ghost use Rattle.film_frames.specs.Tracks.{framed};
+    ghost use Rattle.pacer.specs.Pacings.{Pacing, pacing_of, slots_through, IsPacing};
+
+    ghost Value = { Pacing };
+
+    ghost view = { λ p. pacing_of (T.pieces p.track) p.before p.plan p.start p.keep (slots_through p.last) p.due p.sent };
+
+    ghost invariant = { λ p. IsPacing (pacing_of (T.pieces p.track) p.before p.plan p.start p.keep (slots_through p.last) p.due p.sent) × (p.total ≡ length (framed (T.pieces p.track))) };
+}
+
+/// The later of two slots of a plan, where the first may be none.
+fn later(last: Option<u64>, slot: u64) -> Option<u64>
+    ensures { slots_through result ≡ max (slots_through last) (slot + 1) }
+{
+    match last {
+        Some(last) => Some(last.max(slot)),
+        None => Some(slot),
+    }
+}
+
+impl<T: Track> Pacer<T> {
+    ghost use Rattle.pacer.specs.Pacings.{whole_pacing, IsPacing, next_boundary, raised};
+    ghost use Rattle.pacer.specs.Pacings.{plan_bytes, step_end, stepped, stands_at_boundary, is_done};
+    ghost use Rattle.pacer.specs.Steps.{IsStepped, HasFailed};
+
+    /// A pacer of a plan that begins in slot `start`. The plan's first byte stands at the boundary `sent_before` of the track,
+    /// its last one at the track's end.
+    pub fn new(track: T, sent_before: u64, plan: Plan, start: u64) -> Pacer<T>
+        requires boundary { IsBoundary (T.pieces track) sent_before }
+        requires whole { sent_before + total_bytes plan ≡ length (framed (T.pieces track)) }
+        ensures { result ≡ whole_pacing (T.pieces track) sent_before plan start }
+    {
+        let total = track.total();
+        Pacer {
+            track,
+            total,
+            before: sent_before,
+            plan,
+            start,
+            keep: total - sent_before,
+            last: None,
+            due: 0,
+            sent: 0,
+        }
+    }
+
+    /// The slot of the link steps what is due up to: through the plan's slot of it, and never down.
+    fn raise(&mut self, slot: u64)
+        ensures { self.new ≡ raised slot self.old }
+    {
+        if slot < self.start {
+            return;
+        }
+        let number = slot - self.start;
+        let reached = self.plan.sum_at(number).min(self.keep);
+        self.last = later(self.last, number);
+        self.due = self.due.max(reached);
+    }
+
+    /// The first boundary at or after what was sent.
+    fn next_boundary(&self) -> u64
+        ensures value { result ≡ next_boundary self.now }
+        ensures least { self.now.sent ≤ result }
+        ensures most { result ≤ self.now.keep }
+        ensures boundary { IsBoundaryAfter self.now.pieces (self.now.before + self.now.sent)
+            (self.now.before + result) }
+    {
+        self.track.boundary_after(self.before + self.sent) - self.before
+    }
+
+    /// Where a sending of what is due ends.
+    fn step_end(&self, stop: bool) -> u64
+        ensures value { result ≡ step_end stop self.now }
+        ensures least { self.now.sent ≤ result }
+        ensures most { result ≤ self.now.due }
+    {
+        if stop {
+            self.due.min(self.next_boundary())
+        } else {
+            self.due
+        }
+    }
+
+    /// Steps a slot: what the plan has through it becomes due, or what is kept if that is less, and what is due is sent. Slots
+    /// before the plan's start are due nothing, and missed ones are made up. With `stop` it ends at the first boundary that it
+    /// reaches, also where it begins at one.
+    ///
+    /// # Errors
+    ///
+    /// [`LinkFault`] only where the link's count of faults rose. What is due was raised; `sent` counts the bytes of the sends
+    /// that succeeded.
+    pub fn step<K: Link>(
+        &mut self,
+        slot: u64,
+        stop: bool,
+        link: &mut K,
+    ) -> Result<Stepped, LinkFault>
+        ensures count { K.faults link.old ≤ K.faults link.new }
+        ensures fault { OnErr result (HasRisen (K.faults link.old) (K.faults link.new)) }
+        ensures state { OnOk result (self.new ≡ stepped stop slot self.old) }
+        ensures told { OnOk result (K.told link.new ≡ told_more (K.told link.old)
+            (sends (plan_bytes self.old self.old.sent (step_end stop (raised slot self.old))))) }
+        ensures answer { IfOk result (λ step. IsStepped self.old self.new step) }
+        ensures failed { OnErr result
+            (HasFailed stop slot self.old self.new (K.told link.old) (K.told link.new)) }
+        ensures pacing { IsPacing self.new }
+    {
+        self.raise(slot);
+        let from = self.sent;
+        let to = self.step_end(stop);
+        match send_between(&self.track, self.before + from, self.before + to, link) {
+            Ok(()) => {
+                self.sent = to;
+                Ok(Stepped {
+                    sent: to - from,
+                    left: self.due - to,
+                })
+            }
+            Err(Stopped(sent)) => {
+                self.sent = from + sent;
+                Err(LinkFault)
+            }
+        }
+    }
+
+    /// Halts at the first boundary at or after what was sent, and answers it. Nothing past it ever becomes due.
+    pub fn ask_halt(&mut self) -> u64
+        requires { self.old.due ≡ self.old.sent }
+        ensures value { result ≡ next_boundary self.old }
+        ensures state { self.new ≡ record self.old { keep = next_boundary self.old } }
+        ensures boundary { IsBoundaryAfter self.old.pieces (self.old.before + self.old.sent)
+            (self.old.before + result) }
+        ensures pacing { IsPacing self.new }
+        ensures most { result ≤ self.old.keep }
+    {
+        self.keep = self.next_boundary();
+        self.keep
+    }
+
+    /// The bytes that were sent.
+    pub fn sent(&self) -> u64
+        ensures value { result ≡ self.now.sent }
+        ensures pacing { IsPacing self.now }
+    {
+        self.sent
+    }
+
+    /// The bytes that are due, among them those that were sent.
+    pub fn due(&self) -> u64
+        ensures value { result ≡ self.now.due }
+        ensures pacing { IsPacing self.now }
+    {
+        self.due
+    }
+
+    /// Whether what was sent ends at a boundary.
+    pub fn at_boundary(&self) -> bool
+        ensures value { result ≡ stands_at_boundary self.now }
+        ensures boundary { IsTrue result ↔ IsBoundary self.now.pieces (self.now.before + self.now.sent) }
+    {
+        self.next_boundary() == self.sent
+    }
+
+    /// Whether a slot at or after the start was stepped, and all bytes of the plan were sent, or those up to where it was halted.
+    pub fn done(&self) -> bool
+        ensures value { result ≡ is_done self.now }
+        ensures all { IsTrue result → (self.now.sent ≡ self.now.keep) × (self.now.due ≡ self.now.keep) }
+    {
+        self.last.is_some() && self.sent == self.keep
+    }
+
+    /// The number of the plan's slot that was stepped last, the greatest one.
+    pub fn last_slot(&self) -> Option<u64>
+        ensures { slots_through result ≡ self.now.passed }
+    {
+        self.last
+    }
+
+    /// Hands the track and the plan out.
+    pub fn end(self) -> (T, Plan)
+        ensures track { T.pieces result.0 ≡ self.pieces }
+        ensures plan { result.1 ≡ self.plan }
+    {
+        let Pacer {
+            track,
+            total: _,
+            before: _,
+            plan,
+            start: _,
+            keep: _,
+            last: _,
+            due: _,
+            sent: _,
+        } = self;
+        (track, plan)
+    }
+}
