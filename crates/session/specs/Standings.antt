@@ -1,0 +1,195 @@
+-- What contracts see of a session, and the words in which its callers speak of it.
+use Rattle.std.specs.Prelude.{ℕ, ◌≡◌, ◌≢◌, ◌<◌, ◌≤◌, ◌^◌, ◌&&◌, ◌++◌, ◌∷◌, Bool, true, false, if◌then◌else◌, nat_lt, nat_le, List, [], All, length, map, Option, Some, None, ⊤, string_bytes, slice_index_or}
+use Rattle.vod_base.specs.Names.{is_good_name}
+use Rattle.plan_cert.specs.declared.Segment.{Segment}
+use Rattle.film_frames.specs.declared.stores.Stored.{Stored}
+use Rattle.session.specs.declared.settings.Settings.{Settings}
+use Rattle.session.specs.declared.notes.Receipt.{Receipt}
+use Rattle.session.specs.declared.notes.PlayNote.{PlayNote}
+use Rattle.session.specs.declared.notes.OfferNote.{OfferNote}
+use Rattle.plan_cert.specs.Slots.{total_bytes}
+use Rattle.session.specs.declared.asks.Ask.{Ask}
+use Rattle.session.specs.declared.asks.Ask.TheVariants.{Reply, Play as AskPlay, Halt as AskHalt, Look as AskLook, Offer as AskOffer}
+use Rattle.session.specs.declared.asks.Slotted.{Slotted}
+use Rattle.session.specs.declared.asks.Slotted.TheVariants.{Going, Finished}
+use Rattle.session.specs.declared.states.Awaited.{Awaited}
+use Rattle.session.specs.declared.states.Awaited.TheVariants.{Nothing, Play, Halt, Look, Offer}
+use Rattle.session.specs.declared.states.State.{State}
+use Rattle.session.specs.declared.states.State.TheVariants.{Init, Ready, Playing}
+
+-- the settings are in their ranges
+pub record AreSettings (settings : Settings) : Type 0 where
+  pub long_slots : 360 ≤ settings.slot_units
+  pub short_slots : settings.slot_units ≤ 360000
+  pub some_buffer : 1 ≤ settings.buffer
+  pub most_buffer : settings.buffer ≤ 2 ^ 42
+  pub most_startup : settings.startup ≤ 10000
+
+abbrev pub names_of : List Stored → List (List ℕ)
+names_of films = map (λ film. string_bytes film.name) films
+
+-- at most 64 films, whose names are good and differ
+pub record AreFilms (films : List Stored) : Type 0 where
+  pub few : length films ≤ 64
+  pub good : All (λ name. is_good_name name ≡ true) (names_of films)
+  pub differ : (i j : ℕ) → i < j → j < length films → slice_index_or (names_of films) i [] ≢ slice_index_or (names_of films) j []
+
+pub record Standing : Type 0 where
+  pub state : State
+  pub awaited : Awaited
+  -- the reply, and whether it waits
+  pub text : List ℕ
+  pub waits : Bool
+  -- a TEARDOWN was answered 200, and that reply was sent
+  pub tearing : Bool
+  pub torn : Bool
+  -- the last slot that was heard, and the slots that were missed
+  pub heard : ℕ
+  pub late : ℕ
+  pub receipts : List Receipt
+  pub plays : List PlayNote
+  pub offers : List OfferNote
+
+-- what the station was asked and hasn't answered: nothing, a play of a plan, a halt that keeps so many bytes, a look, or an offer
+pub data Awaits : Type 0 where
+  NoAnswer : Awaits
+  PlayAnswer : List Segment → Awaits
+  HaltAnswer : ℕ → Awaits
+  LookAnswer : Awaits
+  OfferAnswer : Awaits
+
+abbrev pub awaits_of : Awaited → Awaits
+awaits_of Nothing = NoAnswer
+awaits_of (Play prepared) = PlayAnswer prepared.plan
+awaits_of (Halt keep sequence) = HaltAnswer keep
+awaits_of (Look sequence) = LookAnswer
+awaits_of (Offer sequence) = OfferAnswer
+
+abbrev pub awaits : Standing → Awaits
+awaits standing = awaits_of standing.awaited
+
+-- an open booking: its plan, the slot in which it begins, and what is due of it
+pub record Open : Type 0 where
+  pub plan : List Segment
+  pub start : ℕ
+  pub due : ℕ
+
+abbrev pub open_in : State → Option Open
+open_in Init = None
+open_in (Ready setup paused) = None
+open_in (Playing setup play) = Some (record { plan = play.plan; start = play.start; due = play.due })
+
+abbrev pub open_of : Standing → Option Open
+open_of standing = open_in standing.state
+
+-- no answer is awaited
+abbrev pub IsAtRest : Standing → Type 0
+IsAtRest standing = awaits standing ≡ NoAnswer
+
+-- a booking is open, and so many bytes are of its plan
+abbrev pub CanKeep : Option Open → ℕ → Type 0
+CanKeep None keep = ⊥
+CanKeep (Some booking) keep = keep ≤ total_bytes booking.plan
+
+-- so many bytes are due of the open booking
+abbrev pub IsDue : Option Open → ℕ → Type 0
+IsDue None due = ⊥
+IsDue (Some booking) due = due ≡ booking.due
+
+-- what a session asks for after a request
+abbrev pub AsksFor : Ask → Standing → Type 0
+AsksFor Reply new = (awaits new ≡ NoAnswer) × (new.waits ≡ true)
+AsksFor (AskPlay plan) new = (awaits new ≡ PlayAnswer plan) × (new.waits ≡ false) × (open_of new ≡ None)
+AsksFor (AskHalt keep) new = (awaits new ≡ HaltAnswer keep) × (new.waits ≡ false) × CanKeep (open_of new) keep
+AsksFor (AskLook slot) new = (awaits new ≡ LookAnswer) × (new.waits ≡ false) × (slot ≡ new.heard)
+AsksFor (AskOffer plan offers) new = (awaits new ≡ OfferAnswer) × (new.waits ≡ false)
+
+-- a slot that is taken up: a later one than the last, and none above 2^62
+abbrev pub taken_up : ℕ → ℕ → ℕ
+taken_up heard slot = if nat_lt heard slot && nat_le slot (2 ^ 62) then slot else heard
+
+-- what a slot brought
+abbrev pub Brings : Slotted → Standing → Type 0
+Brings Going new = awaits new ≡ NoAnswer
+Brings (Finished bytes) new = (awaits new ≡ HaltAnswer bytes) × CanKeep (open_of new) bytes
+
+-- a booking goes on: only more may be due
+abbrev pub IsSameBooking : Option Open → Option Open → Type 0
+IsSameBooking None new = new ≡ None
+IsSameBooking (Some old) None = ⊥
+IsSameBooking (Some old) (Some new) = (new.plan ≡ old.plan) × (new.start ≡ old.start) × (old.due ≤ new.due)
+
+-- the answer that is called for is one to a play, to a halt, to a look, or to an offer
+abbrev pub IsPlay : Awaits → Type 0
+IsPlay NoAnswer = ⊥
+IsPlay (PlayAnswer plan) = ⊤
+IsPlay (HaltAnswer keep) = ⊥
+IsPlay LookAnswer = ⊥
+IsPlay OfferAnswer = ⊥
+
+abbrev pub IsLook : Awaits → Type 0
+IsLook NoAnswer = ⊥
+IsLook (PlayAnswer plan) = ⊥
+IsLook (HaltAnswer keep) = ⊥
+IsLook LookAnswer = ⊤
+IsLook OfferAnswer = ⊥
+
+abbrev pub IsOffer : Awaits → Type 0
+IsOffer NoAnswer = ⊥
+IsOffer (PlayAnswer plan) = ⊥
+IsOffer (HaltAnswer keep) = ⊥
+IsOffer LookAnswer = ⊥
+IsOffer OfferAnswer = ⊤
+
+-- a play or a look, which a full journal answers alike
+abbrev pub IsPlayOrLook : Awaits → Type 0
+IsPlayOrLook NoAnswer = ⊥
+IsPlayOrLook (PlayAnswer plan) = ⊤
+IsPlayOrLook (HaltAnswer keep) = ⊥
+IsPlayOrLook LookAnswer = ⊤
+IsPlayOrLook OfferAnswer = ⊥
+
+-- a booking is open
+abbrev pub IsOpen : Option Open → Type 0
+IsOpen None = ⊥
+IsOpen (Some booking) = ⊤
+
+-- a halt: the session asked for it, or the connection ends while a booking is open
+abbrev pub IsHalt : Awaits → Option Open → Type 0
+IsHalt NoAnswer booking = IsOpen booking
+IsHalt (PlayAnswer plan) booking = ⊥
+IsHalt (HaltAnswer keep) booking = ⊤
+IsHalt LookAnswer booking = ⊥
+IsHalt OfferAnswer booking = ⊥
+
+-- the booking of an admitted play: nothing is due yet
+abbrev pub booking_of : Awaits → ℕ → Option Open
+booking_of NoAnswer start = None
+booking_of (PlayAnswer plan) start = Some (record { plan = plan; start = start; due = 0 })
+booking_of (HaltAnswer keep) start = None
+booking_of LookAnswer start = None
+booking_of OfferAnswer start = None
+
+-- what a call leaves as it was
+pub record IsSameBusiness (old new : Standing) : Type 0 where
+  pub heard : new.heard ≡ old.heard
+  pub booking : open_of new ≡ open_of old
+  pub receipts : new.receipts ≡ old.receipts
+  pub plays : new.plays ≡ old.plays
+  pub offers : new.offers ≡ old.offers
+  pub late : new.late ≡ old.late
+  pub torn : new.torn ≡ old.torn
+
+-- an answer was handed in: a receipt is noted, and nothing is awaited
+pub record IsHandedIn (old : Standing) (receipt : Receipt) (new : Standing) : Type 0 where
+  pub receipts : new.receipts ≡ old.receipts ++ receipt ∷ []
+  pub at_rest : IsAtRest new
+  pub heard : new.heard ≡ old.heard
+  pub tearing : new.tearing ≡ old.tearing
+  pub torn : new.torn ≡ old.torn
+
+-- no play and no offer was noted, and no slot was missed
+pub record AreNotesKept (old new : Standing) : Type 0 where
+  pub plays : new.plays ≡ old.plays
+  pub offers : new.offers ≡ old.offers
+  pub late : new.late ≡ old.late
