@@ -90,14 +90,14 @@ no_cut c (t ∷ text) [] ws none e = All-head (λ b. b ≢ c) t text none (cc)
 no_cut c (t ∷ text) (x ∷ xs) ws none e = no_cut c text xs ws (All-tail (λ b. b ≢ c) t text none) (cc)
 
 -- the two numbers of a text, by its first space
-pub numbers_cut : (text front behind : List ℕ) (s : Segment) → IsCut 32 text front behind → AreNumbers text s → (front ≡ decimal s.slots) × (behind ≡ decimal s.bytes)
-numbers_cut text front behind s cut numbers =
+pub numbers_cut : (text front after : List ℕ) (s : Segment) → IsCut 32 text front after → AreNumbers text s → (front ≡ decimal s.slots) × (after ≡ decimal s.bytes)
+numbers_cut text front after s cut numbers =
     let not_digit : ¬ (IsInRange 48 57 32) = λ within. omega (arith, within.0) in
     let small : s.slots < 2 ^ 64 = omega (arith, numbers.few_slots) in
-    let whole : front ++ 32 ∷ behind ≡ decimal s.slots ++ 32 ∷ decimal s.bytes = sym cut.text_is ∙ numbers.words ∙ append_assoc (decimal s.slots) (codes " ") (decimal s.bytes) in
-    same_cut 32 front (decimal s.slots) behind (decimal s.bytes) whole cut.not_in_front (not_in_decimal 32 s.slots small not_digit)
+    let whole : front ++ 32 ∷ after ≡ decimal s.slots ++ 32 ∷ decimal s.bytes = sym cut.text_is ∙ numbers.words ∙ append_assoc (decimal s.slots) (codes " ") (decimal s.bytes) in
+    same_cut 32 front (decimal s.slots) after (decimal s.bytes) whole cut.not_in_front (not_in_decimal 32 s.slots small not_digit)
 
--- a first digit 0 stands alone, where no more digits stand behind it
+-- a first digit 0 stands alone, where no more digits stand after it
 pub lead_one : (ds : List ℕ) (b : Bool) → b ≡ false → ((1 < length ds) × (slice_index ds 0 ≡ 48) → b ≡ true) → slice_index ds 0 ≡ 48 → length ds ≡ 1
 lead_one [] b off test first = absurd (omega (arith, first))
 lead_one (d ∷ ds) b off test first =
@@ -112,15 +112,15 @@ some_same a b e = cc
 pub none_some : (b : ℕ) → None ≡ Some b → ⊥
 none_some b e = cc
 
--- what stands behind a word
-pub behind_from : {X : Type 0} (now : X → List ℕ) (r : Option X) (line word : List ℕ) →
+-- what stands after a word
+pub after_from : {X : Type 0} (now : X → List ℕ) (r : Option X) (line word : List ℕ) →
     MatchOption r (pointwise nat_eq (take (length word) line) word ≡ false)
     (λ x. (pointwise nat_eq (take (length word) line) word ≡ true) × (now x ≡ drop (length word) line) × (length (now x) + length word ≡ length line)) →
     MatchOption r ((ds : List ℕ) → line ≢ word ++ ds) (λ x. line ≡ word ++ now x)
-behind_from now None line word none = λ ds e.
+after_from now None line word none = λ ds e.
     let front : take (length word) line ≡ word = ap (take (length word)) e ∙ take_at word ds (length word) refl in
     other_text (take (length word) line) word (sym none) front
-behind_from now (Some x) line word found =
+after_from now (Some x) line word found =
     let front : take (length word) line ≡ word = same_text (take (length word) line) word (sym found.0) in
     let rest : drop (length word) line ≡ now x = sym found.1 in
     sym (take-append-drop (length word) line) ∙ ap (λ a. a ++ drop (length word) line) front ∙ ap (λ b. word ++ b) rest

@@ -6,19 +6,19 @@ use Rattle.std.proofs.lemmas.List.Concat.{flat_map-append}
 use Rattle.std.proofs.lemmas.List.Elements.{All-head, All-tail}
 use Rattle.plan_cert.specs.declared.Segment.{Segment}
 use Rattle.plan_cert.specs.Text.{segment_words, segment_line, cert_head}
-use Rattle.plan_cert.specs.Reading.{Lines, with_front, lines_of, line_at, IsNumberLine, IsSegmentLine, MayStand, MayEnd, BreaksAt, IsBehindEnd, IsCut, HasRead}
+use Rattle.plan_cert.specs.Reading.{Lines, with_front, lines_of, line_at, IsNumberLine, IsSegmentLine, MayStand, MayEnd, BreaksAt, IsAfterEnd, IsCut, HasRead}
 use Rattle.plan_cert.specs.Reading.MayStand.{Title, Slots, Bytes, Piece}
 
 -- a text that begins with a whole line
-pub lines-cut : (front behind : List ℕ) → All (λ b. b ≢ 10) front →
-    lines_of (front ++ 10 ∷ behind) ≡ record { whole = front ∷ (lines_of behind).whole; rest = (lines_of behind).rest }
-lines-cut [] behind none = refl
-lines-cut (x ∷ front) behind none =
+pub lines-cut : (front after : List ℕ) → All (λ b. b ≢ 10) front →
+    lines_of (front ++ 10 ∷ after) ≡ record { whole = front ∷ (lines_of after).whole; rest = (lines_of after).rest }
+lines-cut [] after none = refl
+lines-cut (x ∷ front) after none =
     let other : (x == 10) ≡ false = ne_eqb x 10 (All-head (λ b. b ≢ 10) x front none) in
-    let rest : lines_of (front ++ 10 ∷ behind) ≡ record { whole = front ∷ (lines_of behind).whole; rest = (lines_of behind).rest } =
-    lines-cut front behind (All-tail (λ b. b ≢ 10) x front none) in
-    cond-false (x == 10) (record { whole = [] ∷ (lines_of (front ++ 10 ∷ behind)).whole; rest = (lines_of (front ++ 10 ∷ behind)).rest })
-    (with_front x (lines_of (front ++ 10 ∷ behind)).whole (lines_of (front ++ 10 ∷ behind)).rest) other
+    let rest : lines_of (front ++ 10 ∷ after) ≡ record { whole = front ∷ (lines_of after).whole; rest = (lines_of after).rest } =
+    lines-cut front after (All-tail (λ b. b ≢ 10) x front none) in
+    cond-false (x == 10) (record { whole = [] ∷ (lines_of (front ++ 10 ∷ after)).whole; rest = (lines_of (front ++ 10 ∷ after)).rest })
+    (with_front x (lines_of (front ++ 10 ∷ after)).whole (lines_of (front ++ 10 ∷ after)).rest) other
     ∙ ap (λ ls. with_front x ls.whole ls.rest) rest
 
 -- a text without LF has no whole line
@@ -29,7 +29,7 @@ lines-none (x ∷ text) none =
     cond-false (x == 10) (record { whole = [] ∷ (lines_of text).whole; rest = (lines_of text).rest }) (with_front x (lines_of text).whole (lines_of text).rest) other
     ∙ ap (λ ls. with_front x ls.whole ls.rest) (lines-none text (All-tail (λ b. b ≢ 10) x text none))
 
--- a text that isn't empty has a whole line or something behind its lines
+-- a text that isn't empty has a whole line or something after its lines
 pub something : (text : List ℕ) → text ≢ [] → (0 < length (lines_of text).whole) ⊎ ((lines_of text).rest ≢ [])
 something [] some = absurd (some refl)
 something (x ∷ text) some =
@@ -52,36 +52,36 @@ something (x ∷ text) some =
 
 -- nothing is read yet
 pub read_none : (text : List ℕ) → HasRead text 0 text
-read_none text = record { within = omega arith; left = refl; behind = refl; before = λ j few. absurd (omega (arith, few)) }
+read_none text = record { within = omega arith; left = refl; after = refl; before = λ j few. absurd (omega (arith, few)) }
 
 -- the next line of the rest is the next one of the text
-pub record IsNext (text : List ℕ) (k : ℕ) (line behind : List ℕ) : Type 0 where
+pub record IsNext (text : List ℕ) (k : ℕ) (line after : List ℕ) : Type 0 where
   pub inside : k < length (lines_of text).whole
   pub line_is : line_at (lines_of text) k ≡ line
-  pub left : drop (k + 1) (lines_of text).whole ≡ (lines_of behind).whole
-  pub rest : (lines_of text).rest ≡ (lines_of behind).rest
+  pub left : drop (k + 1) (lines_of text).whole ≡ (lines_of after).whole
+  pub rest : (lines_of text).rest ≡ (lines_of after).rest
 
-pub next_is : (text : List ℕ) (k : ℕ) (rest line behind : List ℕ) → HasRead text k rest → IsCut 10 rest line behind → IsNext text k line behind
-next_is text k rest line behind read cut =
-    let lines : lines_of rest ≡ record { whole = line ∷ (lines_of behind).whole; rest = (lines_of behind).rest } = ap lines_of cut.text_is ∙ lines-cut line behind cut.not_in_front in
-    let left : drop k (lines_of text).whole ≡ line ∷ (lines_of behind).whole = read.left ∙ ap (λ ls. ls.whole) lines in
-    let count : length (drop k (lines_of text).whole) ≡ length (lines_of behind).whole + 1 = ap length left ∙ omega arith in
+pub next_is : (text : List ℕ) (k : ℕ) (rest line after : List ℕ) → HasRead text k rest → IsCut 10 rest line after → IsNext text k line after
+next_is text k rest line after read cut =
+    let lines : lines_of rest ≡ record { whole = line ∷ (lines_of after).whole; rest = (lines_of after).rest } = ap lines_of cut.text_is ∙ lines-cut line after cut.not_in_front in
+    let left : drop k (lines_of text).whole ≡ line ∷ (lines_of after).whole = read.left ∙ ap (λ ls. ls.whole) lines in
+    let count : length (drop k (lines_of text).whole) ≡ length (lines_of after).whole + 1 = ap length left ∙ omega arith in
     let at : get_or (drop k (lines_of text).whole) 0 [] ≡ get_or (lines_of text).whole (k + 0) [] = get_or-drop k (lines_of text).whole 0 [] in
     record {
       inside = omega (arith, count, length-drop k (lines_of text).whole);
       line_is = ap (λ n. get_or (lines_of text).whole n []) (sym (add-zero k)) ∙ sym at ∙ ap (λ ls. get_or ls 0 []) left;
       left = sym (drop-drop 1 k (lines_of text).whole) ∙ ap (drop 1) left;
-      rest = read.behind ∙ ap (λ ls. ls.rest) lines;
+      rest = read.after ∙ ap (λ ls. ls.rest) lines;
     }
 
 -- one line more
-pub read_more : (text : List ℕ) (k : ℕ) (rest line behind : List ℕ) → HasRead text k rest → IsCut 10 rest line behind → MayStand k line → HasRead text (k + 1) behind
-read_more text k rest line behind read cut stands =
-    let next = next_is text k rest line behind read cut in
+pub read_more : (text : List ℕ) (k : ℕ) (rest line after : List ℕ) → HasRead text k rest → IsCut 10 rest line after → MayStand k line → HasRead text (k + 1) after
+read_more text k rest line after read cut stands =
+    let next = next_is text k rest line after read cut in
     record {
       within = omega (arith, next.inside);
       left = next.left;
-      behind = next.rest;
+      after = next.rest;
       before = below_more _ _ read.before (subst (λ l. MayStand k l) (sym next.line_is) stands);
     }
 
@@ -93,28 +93,28 @@ breaks_missing text k rest read none =
     record { before = read.before; here = inl (omega (arith, count, length-drop k (lines_of text).whole, read.within)) }
 
 -- line k may not be there
-pub breaks_here : (text : List ℕ) (k : ℕ) (rest line behind : List ℕ) → HasRead text k rest → IsCut 10 rest line behind →
+pub breaks_here : (text : List ℕ) (k : ℕ) (rest line after : List ℕ) → HasRead text k rest → IsCut 10 rest line after →
     (MayStand k line → ⊥) → (MayEnd k line → ⊥) → BreaksAt (lines_of text) k
-breaks_here text k rest line behind read cut no_stand no_end =
-    let next = next_is text k rest line behind read cut in
+breaks_here text k rest line after read cut no_stand no_end =
+    let next = next_is text k rest line after read cut in
     record {
       before = read.before;
       here = inr (next.inside, (λ stands. no_stand (subst (λ l. MayStand k l) next.line_is stands)), (λ ends. no_end (subst (λ l. MayEnd k l) next.line_is ends)));
     }
 
--- something stands behind the end
-pub goes_behind_end : (text : List ℕ) (k : ℕ) (rest line behind : List ℕ) → HasRead text k rest → IsCut 10 rest line behind →
-    MayEnd k line → behind ≢ [] → IsBehindEnd (lines_of text) (k + 1)
-goes_behind_end text k rest line behind read cut ends some =
-    let next = next_is text k rest line behind read cut in
-    let count : length (drop (k + 1) (lines_of text).whole) ≡ length (lines_of behind).whole = ap length next.left in
+-- something stands after the end
+pub goes_after_end : (text : List ℕ) (k : ℕ) (rest line after : List ℕ) → HasRead text k rest → IsCut 10 rest line after →
+    MayEnd k line → after ≢ [] → IsAfterEnd (lines_of text) (k + 1)
+goes_after_end text k rest line after read cut ends some =
+    let next = next_is text k rest line after read cut in
+    let count : length (drop (k + 1) (lines_of text).whole) ≡ length (lines_of after).whole = ap length next.left in
     record {
       last = k;
       last_is = refl;
       before = read.before;
       inside = next.inside;
       ends = subst (λ l. MayEnd k l) (sym next.line_is) ends;
-      more = elim (something behind some) [
+      more = elim (something after some) [
         | inl lines ↦ inl (omega (arith, lines, count, length-drop (k + 1) (lines_of text).whole))
         | inr left ↦ inr (λ e. left (sym next.rest ∙ e))
       ];
@@ -165,24 +165,24 @@ head_text text title rest slots_line rest2 bytes_line rest3 slots bytes cut1 tit
     first ∙ joined
 
 -- one more segment's line
-pub piece_text : (text rest line behind : List ℕ) (segments : List Segment) (s : Segment) → text ≡ flat_map segment_line segments ++ rest →
-    rest ≡ line ++ 10 ∷ behind → line ≡ segment_words s → text ≡ flat_map segment_line (segments ++ s ∷ []) ++ behind
-piece_text text rest line behind segments s so_far cut words =
-    let whole : text ≡ flat_map segment_line segments ++ (segment_words s ++ 10 ∷ behind) =
-    so_far ∙ ap (λ r. flat_map segment_line segments ++ r) (cut ∙ ap (λ l. l ++ 10 ∷ behind) words) in
+pub piece_text : (text rest line after : List ℕ) (segments : List Segment) (s : Segment) → text ≡ flat_map segment_line segments ++ rest →
+    rest ≡ line ++ 10 ∷ after → line ≡ segment_words s → text ≡ flat_map segment_line (segments ++ s ∷ []) ++ after
+piece_text text rest line after segments s so_far cut words =
+    let whole : text ≡ flat_map segment_line segments ++ (segment_words s ++ 10 ∷ after) =
+    so_far ∙ ap (λ r. flat_map segment_line segments ++ r) (cut ∙ ap (λ l. l ++ 10 ∷ after) words) in
     let more : flat_map segment_line (segments ++ s ∷ []) ≡ flat_map segment_line segments ++ (segment_line s ++ []) = flat_map-append segment_line segments (s ∷ []) in
     let ended : segment_line s ++ [] ≡ segment_words s ++ 10 ∷ [] = append-nil (segment_line s) in
-    let joined : flat_map segment_line (segments ++ s ∷ []) ++ behind ≡ flat_map segment_line segments ++ (segment_words s ++ 10 ∷ behind) =
-    ap (λ x. x ++ behind) (more ∙ ap (λ x. flat_map segment_line segments ++ x) ended)
-    ∙ append_assoc (flat_map segment_line segments) (segment_words s ++ 10 ∷ []) behind
-    ∙ ap (λ x. flat_map segment_line segments ++ x) (append_assoc (segment_words s) (10 ∷ []) behind) in
+    let joined : flat_map segment_line (segments ++ s ∷ []) ++ after ≡ flat_map segment_line segments ++ (segment_words s ++ 10 ∷ after) =
+    ap (λ x. x ++ after) (more ∙ ap (λ x. flat_map segment_line segments ++ x) ended)
+    ∙ append_assoc (flat_map segment_line segments) (segment_words s ++ 10 ∷ []) after
+    ∙ ap (λ x. flat_map segment_line segments ++ x) (append_assoc (segment_words s) (10 ∷ []) after) in
     whole ∙ sym joined
 
 -- the end
-pub end_text : (text rest line behind : List ℕ) (segments : List Segment) → text ≡ flat_map segment_line segments ++ rest →
-    rest ≡ line ++ 10 ∷ behind → line ≡ codes "end" → behind ≡ [] → text ≡ flat_map segment_line segments ++ codes "end\n"
-end_text text rest line behind segments so_far cut words none =
-    so_far ∙ ap (λ r. flat_map segment_line segments ++ r) (cut ∙ ap (λ l. l ++ 10 ∷ behind) words ∙ ap (λ b. codes "end" ++ 10 ∷ b) none)
+pub end_text : (text rest line after : List ℕ) (segments : List Segment) → text ≡ flat_map segment_line segments ++ rest →
+    rest ≡ line ++ 10 ∷ after → line ≡ codes "end" → after ≡ [] → text ≡ flat_map segment_line segments ++ codes "end\n"
+end_text text rest line after segments so_far cut words none =
+    so_far ∙ ap (λ r. flat_map segment_line segments ++ r) (cut ∙ ap (λ l. l ++ 10 ∷ after) words ∙ ap (λ b. codes "end" ++ 10 ∷ b) none)
 
 pub whole_text : (text rest : List ℕ) (slots bytes : ℕ) (segments : List Segment) → text ≡ cert_head slots bytes ++ rest →
     rest ≡ flat_map segment_line segments ++ codes "end\n" → text ≡ cert_head slots bytes ++ flat_map segment_line segments ++ codes "end\n"

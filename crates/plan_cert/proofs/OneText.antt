@@ -11,7 +11,7 @@ use Rattle.plan_cert.specs.declared.reading.CertRead.{CertRead}
 use Rattle.plan_cert.specs.declared.reading.CertRead.TheVariants.{BadCert, NoMemory}
 use Rattle.plan_cert.specs.Slots.{total_slots, total_bytes}
 use Rattle.plan_cert.specs.Text.{segment_words, segment_line, cert_head}
-use Rattle.plan_cert.specs.Reading.{Lines, lines_of, line_at, MayStand, BreaksAt, IsBehindEnd, AreSmall, IsCertificate, IsBadLine, IsRefused}
+use Rattle.plan_cert.specs.Reading.{Lines, lines_of, line_at, MayStand, BreaksAt, IsAfterEnd, AreSmall, IsCertificate, IsBadLine, IsRefused}
 use Rattle.plan_cert.specs.Reading.MayStand.{Title, Slots, Bytes, Piece}
 use Rattle.plan_cert.proofs.Decimals.{not_in_decimal, same_cut}
 use Rattle.plan_cert.proofs.Grammar.{lines-cut, head_text}
@@ -124,10 +124,10 @@ one_text slots bytes xs slots' bytes' ys small_slots small_bytes few small_slots
 
 -- ---- no bad line
 end_is_no_piece : (i : ℕ) (line : List ℕ) → 3 ≤ i → line ≡ codes "end" → MayStand i line → ⊥
-end_is_no_piece i line behind words (Title at title) = omega (arith, at, behind)
-end_is_no_piece i line behind words (Slots n at number) = omega (arith, at, behind)
-end_is_no_piece i line behind words (Bytes n at number) = omega (arith, at, behind)
-end_is_no_piece i line behind words (Piece s from few piece) =
+end_is_no_piece i line after words (Title at title) = omega (arith, at, after)
+end_is_no_piece i line after words (Slots n at number) = omega (arith, at, after)
+end_is_no_piece i line after words (Bytes n at number) = omega (arith, at, after)
+end_is_no_piece i line after words (Piece s from few piece) =
     let e : codes "end" ≡ segment_words s = sym words ∙ piece.words in
     let first : 101 ≡ 115 = ap (λ l. get_or l 0 0) e in
     omega (arith, first)
@@ -163,20 +163,20 @@ no_break slots bytes segments small_slots small_bytes small i breaks =
       | inl over ↦ end_is_no_piece last (line_at (lines_are slots bytes segments) last) (omega arith) at_last (breaks.before last (omega (arith, over, length-body segments)))
       | inr bad ↦ elim (cases_lt i (3 + length segments)) [
         | inl inside ↦ bad.1 (stands slots bytes segments small_slots small_bytes small i inside)
-        | inr behind ↦ (
-            let is : i ≡ 3 + length segments = omega (arith, behind, bad.0, length-body segments) in
-            bad.2 (record { behind_head = omega (arith, is); words = ends slots bytes segments i is })
+        | inr after ↦ (
+            let is : i ≡ 3 + length segments = omega (arith, after, bad.0, length-body segments) in
+            bad.2 (record { after_head = omega (arith, is); words = ends slots bytes segments i is })
             )
       ]
     ]
 
-nothing_behind : (slots bytes : ℕ) (segments : List Segment) → slots ≤ 2 ^ 42 → bytes ≤ 2 ^ 42 → AreSmall segments → (i : ℕ) → IsBehindEnd (lines_are slots bytes segments) i → ⊥
-nothing_behind slots bytes segments small_slots small_bytes small i behind =
-    elim (cases_lt behind.last (3 + length segments)) [
-      | inl inside ↦ end_is_no_piece behind.last (line_at (lines_are slots bytes segments) behind.last) behind.ends.behind_head behind.ends.words
-          (stands slots bytes segments small_slots small_bytes small behind.last inside)
-      | inr over ↦ elim behind.more [
-        | inl more ↦ omega (arith, more, over, behind.last_is, length-body segments)
+nothing_after : (slots bytes : ℕ) (segments : List Segment) → slots ≤ 2 ^ 42 → bytes ≤ 2 ^ 42 → AreSmall segments → (i : ℕ) → IsAfterEnd (lines_are slots bytes segments) i → ⊥
+nothing_after slots bytes segments small_slots small_bytes small i after =
+    elim (cases_lt after.last (3 + length segments)) [
+      | inl inside ↦ end_is_no_piece after.last (line_at (lines_are slots bytes segments) after.last) after.ends.after_head after.ends.words
+          (stands slots bytes segments small_slots small_bytes small after.last inside)
+      | inr over ↦ elim after.more [
+        | inl more ↦ omega (arith, more, over, after.last_is, length-body segments)
         | inr some ↦ some refl
       ]
     ]
@@ -191,7 +191,7 @@ certificate_has_no_bad_line text slots bytes segments line cert bad =
     elim bad.2 [
       | inl breaks ↦ no_break s b segments small_slots small_bytes cert.small bad.0 (subst (λ ls. BreaksAt ls bad.0) lines breaks)
       | inr other ↦ elim other [
-        | inl behind ↦ nothing_behind s b segments small_slots small_bytes cert.small bad.0 (subst (λ ls. IsBehindEnd ls bad.0) lines behind)
+        | inl after ↦ nothing_after s b segments small_slots small_bytes cert.small bad.0 (subst (λ ls. IsAfterEnd ls bad.0) lines after)
         | inr wrong ↦ (
             let same : IsSame wrong.slots wrong.bytes wrong.segments s b segments =
             one_text wrong.slots wrong.bytes wrong.segments s b segments wrong.small_slots wrong.small_bytes wrong.small.small small_slots small_bytes cert.small.small

@@ -41,7 +41,7 @@ sum-take-in s rest k pos few =
     let within : k ≤ length (slots_of s) = omega (arith, length-slots_of s) in
     ap sum (take-append-le k (slots_of s) (plan_slots rest) within) ∙ sum-take-slots_of s k pos few
 
--- through k slots behind the first segment
+-- through k slots after the first segment
 pub sum-take-past : (s : Segment) (rest : List Segment) (k : ℕ) → 0 < s.slots →
     sum (take (s.slots + k) (plan_slots (s ∷ rest))) ≡ s.bytes + sum (take k (plan_slots rest))
 sum-take-past s rest k pos =
@@ -82,9 +82,9 @@ sum-take-at (x ∷ rest) (suc i) j s some inside is few =
     let slots : total_slots (x ∷ take i rest) ≡ x.slots + total_slots (take i rest) = sum_by-cons (λ y. y.slots) x (take i rest) in
     let bytes : total_bytes (x ∷ take i rest) ≡ x.bytes + total_bytes (take i rest) = sum_by-cons (λ y. y.bytes) x (take i rest) in
     let place : total_slots (x ∷ take i rest) + j ≡ x.slots + (total_slots (take i rest) + j) = omega (arith, slots) in
-    let behind : sum (take (total_slots (take i rest) + j) (plan_slots rest)) ≡ total_bytes (take i rest) + j * s.bytes / s.slots =
+    let after : sum (take (total_slots (take i rest) + j) (plan_slots rest)) ≡ total_bytes (take i rest) + j * s.bytes / s.slots =
     sum-take-at rest i j s (All-tail (λ y. 1 ≤ y.slots) x rest some) (omega (arith, inside)) is few in
-    ap (λ n. sum (take n (plan_slots (x ∷ rest)))) place ∙ sum-take-past x rest (total_slots (take i rest) + j) pos ∙ omega (arith, behind, bytes)
+    ap (λ n. sum (take n (plan_slots (x ∷ rest)))) place ∙ sum-take-past x rest (total_slots (take i rest) + j) pos ∙ omega (arith, after, bytes)
 
 -- the running sum through a slot that has a place
 pub sum_through-at : (segments : List Segment) (slot : ℕ) (s : Segment) (passed before : ℕ) → IsPlan segments → IsPlace segments slot s passed before →
@@ -97,7 +97,7 @@ sum_through-at segments slot s passed before plan place =
     omega (arith, whole, place.before_is)
 
 -- the running sum past the end
-pub sum_through-past : (segments : List Segment) (slot : ℕ) → IsPlan segments → total_slots segments ≤ slot → total_bytes segments ≡ sum_through segments slot
+pub sum_through-past : (segments : List Segment) (slot : ℕ) → IsPlan segments → total_slots segments ≤ slot + 1 → total_bytes segments ≡ sum_through segments slot
 sum_through-past segments slot plan past =
     let short : length (plan_slots segments) ≤ slot + 1 = omega (arith, length-plan_slots segments, past) in
     sym (ap sum (take_all (slot + 1) (plan_slots segments) short) ∙ sum-plan_slots segments plan.no_empty)

@@ -16,3 +16,15 @@ pub record IsPlace (segments : List Segment) (slot : ℕ) (segment : Segment) (p
   pub within : passed < segment.slots
   pub slot_is : slot ≡ total_slots (take index segments) + passed
   pub before_is : before ≡ total_bytes (take index segments)
+
+-- The first `count` segments of the list have these slots and bytes.
+pub record ArePassed (segments : List Segment) (count slots bytes : ℕ) : Type 0 where
+  pub within : count ≤ length segments
+  pub slots_are : slots ≡ total_slots (take count segments)
+  pub bytes_are : bytes ≡ total_bytes (take count segments)
+
+-- The segments make a plan, of these slots and bytes.
+pub record HasSums (segments : List Segment) (slots bytes : ℕ) : Type 0 where
+  pub plan : IsPlan segments
+  pub slots_are : slots ≡ total_slots segments
+  pub bytes_are : bytes ≡ total_bytes segments

@@ -6,7 +6,7 @@ use Rattle.plan_cert.specs.declared.reading.CertRead.TheVariants.{BadCert, NoMem
 use Rattle.plan_cert.specs.Slots.{total_slots, total_bytes}
 use Rattle.plan_cert.specs.Text.{cert_text, cert_head, segment_line, segment_words}
 
--- a text as its lines, each ended by LF, and what stands behind the last LF
+-- a text as its lines, each ended by LF, and what stands after the last LF
 pub record Lines : Type 0 where
   pub whole : List (List ℕ)
   pub rest : List ℕ
@@ -47,7 +47,7 @@ pub data MayStand (i : ℕ) (line : List ℕ) : Type 0 where
 
 -- what ends a certificate in line i
 pub record MayEnd (i : ℕ) (line : List ℕ) : Type 0 where
-  pub behind_head : 3 ≤ i
+  pub after_head : 3 ≤ i
   pub words : line ≡ codes "end"
 
 abbrev pub line_at : Lines → ℕ → List ℕ
@@ -59,8 +59,8 @@ pub record BreaksAt (lines : Lines) (i : ℕ) : Type 0 where
   pub before : (j : ℕ) → j < i → MayStand j (line_at lines j)
   pub here : (i ≡ length lines.whole) ⊎ ((i < length lines.whole) × (¬ MayStand i (line_at lines i)) × (¬ MayEnd i (line_at lines i)))
 
--- Line i, from 0, is behind the end of a whole certificate.
-pub record IsBehindEnd (lines : Lines) (i : ℕ) : Type 0 where
+-- Line i, from 0, is after the end of a whole certificate.
+pub record IsAfterEnd (lines : Lines) (i : ℕ) : Type 0 where
   pub last : ℕ
   pub last_is : i ≡ last + 1
   pub before : (j : ℕ) → j < last → MayStand j (line_at lines j)
@@ -97,23 +97,23 @@ pub record IsCertificate (text : List ℕ) (slots bytes : ℕ) (segments : List 
 -- line `line`, from 1, is the bad one
 abbrev pub IsBadLine : List ℕ → ℕ → Type 0
 IsBadLine text line =
-    (i : ℕ) × (line ≡ i + 1) × (BreaksAt (lines_of text) i ⊎ (IsBehindEnd (lines_of text) i ⊎ HasWrongSum text i))
+    (i : ℕ) × (line ≡ i + 1) × (BreaksAt (lines_of text) i ⊎ (IsAfterEnd (lines_of text) i ⊎ HasWrongSum text i))
 
 -- why a text is refused
 abbrev pub IsRefused : List ℕ → CertRead → Type 0
 IsRefused text (BadCert line) = IsBadLine text line
 IsRefused text NoMemory = Unit {0}
 
--- the text's part behind the first byte `c`, and the part before it
-pub record IsCut (c : ℕ) (text front behind : List ℕ) : Type 0 where
-  pub text_is : text ≡ front ++ c ∷ behind
+-- the text's part after the first byte `c`, and the part before it
+pub record IsCut (c : ℕ) (text front after : List ℕ) : Type 0 where
+  pub text_is : text ≡ front ++ c ∷ after
   pub not_in_front : All (λ b. b ≢ c) front
 
 -- k lines of the text are read and may stand there, and `rest` is left of it
 pub record HasRead (text : List ℕ) (k : ℕ) (rest : List ℕ) : Type 0 where
   pub within : k ≤ length (lines_of text).whole
   pub left : drop k (lines_of text).whole ≡ (lines_of rest).whole
-  pub behind : (lines_of text).rest ≡ (lines_of rest).rest
+  pub after : (lines_of text).rest ≡ (lines_of rest).rest
   pub before : (j : ℕ) → j < k → MayStand j (line_at (lines_of text) j)
 
 -- the three lines of the head are read

@@ -2,11 +2,16 @@
 #![tactic(auto)]
 
 mod certs;
+mod cursors;
+mod laws;
 mod plans;
 mod reading;
+mod segments;
 
 pub use certs::write_cert;
-pub use plans::{MOST_BYTES, MOST_SLOTS, Plan};
+pub use cursors::PlanCursor;
+pub use laws::{law_running_sum, law_slots};
+pub use plans::{MAX_BYTES, MAX_SLOTS, Plan};
 pub use reading::{CertRead, CertText, read_cert};
 
 /// A straight piece of a plan: `bytes` bytes sent evenly over `slots` slots.

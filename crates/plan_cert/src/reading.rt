@@ -5,6 +5,8 @@ ghost use Rattle.plan_cert.specs.Reading.{IsCut, IsNumberLine, IsSegmentLine, Ar
 
 use crate::Segment;
 use std::alloc::Global;
+use std::error::Error;
+use std::fmt;
 use vod_base::read_number;
 
 /// What a certificate says.
@@ -28,12 +30,27 @@ pub enum CertRead {
     NoMemory,
 }
 
-/// The greatest number of a certificate.
-const MOST: u64 = 1 << 42;
+impl fmt::Display for CertRead {
+    fn fmt<W: fmt::Write>(&self, f: &mut fmt::Formatter<W>) -> fmt::Result {
+        match self {
+            CertRead::BadCert { line } => write!(f, "line {line} of the certificate is bad"),
+            CertRead::NoMemory => f.write_str("no memory"),
+        }
+    }
+}
 
-/// The part before the first byte `c`, and the part behind it.
+impl Error for CertRead {}
+
+/// The most segments of a certificate.
+const MAX_SEGMENTS: u64 = 1_000_000;
+
+/// The greatest number of a certificate.
+const MAX_NUMBER: u64 = 1 << 42;
+
+/// The part before the first byte `c`, and the part after it.
 fn cut(text: &[u8], c: u8) -> Option<(&[u8], &[u8])>
-    ensures { MatchOption result (All (λ b. b ≢ c) text.now) (λ parts. IsCut c text.now parts.0.now parts.1.now) }
+    ensures { MatchOption result (All (λ b. b ≢ c) text.now)
+        (λ parts. IsCut c text.now parts.0.now parts.1.now) }
 {
     for at in 0..text.len() {
         if text[at] == c {
@@ -43,7 +60,7 @@ fn cut(text: &[u8], c: u8) -> Option<(&[u8], &[u8])>
     None
 }
 
-/// Whether more digits stand behind a first digit 0.
+/// Whether more digits stand after a first digit 0.
 fn has_leading_zero(digits: &[u8]) -> bool
     ensures { IsTrue result ↔ ((1 < length digits.now) × (slice_index digits.now 0 ≡ 48)) }
 {
@@ -52,29 +69,32 @@ fn has_leading_zero(digits: &[u8]) -> bool
 
 /// A number up to 2^42, without leading zeros.
 fn cert_number(digits: &[u8]) -> Option<u64>
-    ensures { MatchOption result ((n : ℕ) → n ≤ 2 ^ 42 → digits.now ≢ decimal n) (λ n. (n ≤ 2 ^ 42) × (digits.now ≡ decimal n)) }
+    ensures { MatchOption result ((n : ℕ) → n ≤ 2 ^ 42 → digits.now ≢ decimal n)
+        (λ n. (n ≤ 2 ^ 42) × (digits.now ≡ decimal n)) }
 {
     if has_leading_zero(digits) {
         return None;
     }
     match read_number(digits) {
-        Ok(n) if n <= MOST => Some(n),
+        Ok(n) if n <= MAX_NUMBER => Some(n),
         _ => None,
     }
 }
 
-/// What stands behind a word.
-fn behind<'a>(line: &'a [u8], word: &[u8]) -> Option<&'a [u8]>
-    ensures { MatchOption result ((ds : List ℕ) → line.now ≢ word.now ++ ds) (λ ds. line.now ≡ word.now ++ ds.now) }
+/// What stands after a word.
+fn rest_after<'a>(line: &'a [u8], word: &[u8]) -> Option<&'a [u8]>
+    ensures { MatchOption result ((ds : List ℕ) → line.now ≢ word.now ++ ds)
+        (λ ds. line.now ≡ word.now ++ ds.now) }
 {
     line.strip_prefix(word)
 }
 
-/// The number behind a word.
-fn number_behind(line: &[u8], word: &[u8]) -> Option<u64>
-    ensures { MatchOption result ((n : ℕ) → ¬ IsNumberLine word.now line.now n) (IsNumberLine word.now line.now) }
+/// The number after a word.
+fn number_after(line: &[u8], word: &[u8]) -> Option<u64>
+    ensures { MatchOption result ((n : ℕ) → ¬ IsNumberLine word.now line.now n)
+        (IsNumberLine word.now line.now) }
 {
-    match behind(line, word) {
+    match rest_after(line, word) {
         Some(digits) => cert_number(digits),
         None => None,
     }
@@ -98,9 +118,10 @@ fn two_numbers(text: &[u8]) -> Option<Segment>
 
 /// The segment of a line.
 fn segment_in(line: &[u8]) -> Option<Segment>
-    ensures { MatchOption result ((s : Segment) → ¬ IsSegmentLine line.now s) (IsSegmentLine line.now) }
+    ensures { MatchOption result ((s : Segment) → ¬ IsSegmentLine line.now s)
+        (IsSegmentLine line.now) }
 {
-    match behind(line, b"segment ") {
+    match rest_after(line, b"segment ") {
         Some(numbers) => two_numbers(numbers),
         None => None,
     }
@@ -113,7 +134,7 @@ fn is_text(line: &[u8], text: &[u8]) -> bool
     line == text
 }
 
-/// The head of a certificate and what stands behind it.
+/// The head of a certificate and what stands after it.
 #[derive(Clone, Copy)]
 struct Head<'a> {
     slots: u64,
@@ -123,7 +144,8 @@ struct Head<'a> {
 
 /// Reads the three lines of the head, or names the first bad one.
 fn read_head(text: &[u8]) -> Result<Head<'_>, u64>
-    ensures { MatchResult result (λ head. IsHead text.now head.slots head.bytes head.rest.now) (IsBadLine text.now) }
+    ensures { MatchResult result (λ head. IsHead text.now head.slots head.bytes head.rest.now)
+        (IsBadLine text.now) }
 {
     let Some((title, rest)) = cut(text, b'\n') else {
         return Err(1);
@@ -134,13 +156,13 @@ fn read_head(text: &[u8]) -> Result<Head<'_>, u64>
     let Some((slots_line, rest)) = cut(rest, b'\n') else {
         return Err(2);
     };
-    let Some(slots) = number_behind(slots_line, b"slots ") else {
+    let Some(slots) = number_after(slots_line, b"slots ") else {
         return Err(2);
     };
     let Some((bytes_line, rest)) = cut(rest, b'\n') else {
         return Err(3);
     };
-    let Some(bytes) = number_behind(bytes_line, b"bytes ") else {
+    let Some(bytes) = number_after(bytes_line, b"bytes ") else {
         return Err(3);
     };
     Ok(Head { slots, bytes, rest })
@@ -149,16 +171,17 @@ fn read_head(text: &[u8]) -> Result<Head<'_>, u64>
 /// Reads the lines of the segments and the end, which are the lines from the fourth on.
 fn read_body(alloc: Global, text: &[u8]) -> Result<Vec<Segment>, CertRead>
     ensures read { IfOk result (λ segments. IsBody text.now segments.items) }
-    ensures refused { IfErr result (λ refusal. (whole : List ℕ) → HasRead whole 3 text.now → IsRefused whole refusal) }
+    ensures refused { IfErr result (λ refusal.
+        (whole : List ℕ) → HasRead whole 3 text.now → IsRefused whole refusal) }
 {
     let mut segments = Vec::new(alloc);
     let mut rest = text;
-    for count in 0..1_000_001u64 {
-        let Some((line, behind)) = cut(rest, b'\n') else {
+    for count in 0..=MAX_SEGMENTS {
+        let Some((line, after)) = cut(rest, b'\n') else {
             return Err(CertRead::BadCert { line: count + 4 });
         };
         if is_text(line, b"end") {
-            if behind.is_empty() {
+            if after.is_empty() {
                 return Ok(segments);
             }
             return Err(CertRead::BadCert { line: count + 5 });
@@ -166,13 +189,13 @@ fn read_body(alloc: Global, text: &[u8]) -> Result<Vec<Segment>, CertRead>
         let Some(segment) = segment_in(line) else {
             return Err(CertRead::BadCert { line: count + 4 });
         };
-        if count == 1_000_000 {
+        if count == MAX_SEGMENTS {
             return Err(CertRead::BadCert { line: count + 4 });
         }
         if segments.push(segment).is_err() {
             return Err(CertRead::NoMemory);
         }
-        rest = behind;
+        rest = after;
     }
     unreachable!()
 }
@@ -210,8 +233,10 @@ fn has_bytes(segments: &[Segment], bytes: u64) -> bool
 pub fn read_cert(alloc: Global, text: &[u8]) -> Result<CertText, CertRead>
     ensures read { IfOk result (λ cert. IsCertificate text.now cert.slots cert.bytes cert.segments.items) }
     ensures refused { IfErr result (IsRefused text.now) }
-    ensures certificates { (slots bytes : ℕ) (segments : List Segment) → IsCertificate text.now slots bytes segments →
-        MatchResult result (λ cert. cert.segments.items ≡ segments) (λ refusal. refusal ≡ CertRead.NoMemory) }
+    ensures certificates { (slots bytes : ℕ) (segments : List Segment) →
+        IsCertificate text.now slots bytes segments →
+        MatchResult result (λ cert. cert.segments.items ≡ segments)
+        (λ refusal. refusal ≡ CertRead.NoMemory) }
 {
     read_lines(alloc, text)
 }

@@ -75,6 +75,30 @@ fn sends_and_writes(rt: HostRuntime) -> Result<(), Fail> {
         assert_eq!(rt; copy.segments(), plan.segments(), "copy of {text}");
         let written = write_cert(rt.alloc(), &copy).map_err(|_| "no memory for a text")?;
         assert_eq!(rt; written.as_slice(), text.as_bytes(), "text of {text}");
+        let mut cursor = PlanCursor::new(copy);
+        for at in 0..slot {
+            assert_eq!(rt;
+                cursor.slot_bytes(at),
+                plan.slot_bytes(at),
+                "slot {at} of {text}"
+            );
+            assert_eq!(rt;
+                cursor.sum_at(at),
+                plan.sum_at(at),
+                "through slot {at} of {text}"
+            );
+        }
+        assert_eq!(rt; cursor.sum_at(slot), sum, "past the end of {text}");
+        assert_eq!(rt;
+            cursor.sum_at(0),
+            plan.sum_at(0),
+            "back to the first slot of {text}"
+        );
+        assert_eq!(rt;
+            cursor.into_plan().segments(),
+            plan.segments(),
+            "plan of {text}"
+        );
     }
     Ok(())
 }
@@ -82,8 +106,8 @@ fn sends_and_writes(rt: HostRuntime) -> Result<(), Fail> {
 #[test]
 fn knows_plans(rt: HostRuntime) {
     let most = Segment {
-        slots: MOST_SLOTS,
-        bytes: MOST_BYTES,
+        slots: MAX_SLOTS,
+        bytes: MAX_BYTES,
     };
     let one = Segment { slots: 1, bytes: 0 };
     let byte = Segment {

@@ -4,7 +4,7 @@ use Rattle.std.proofs.lemmas.List.{length_push}
 use Rattle.std.proofs.lemmas.List.Elements.{All-push}
 use Rattle.plan_cert.specs.Reading.{HasRead, MayEnd}
 use Rattle.plan_cert.specs.Reading.MayStand.{Piece}
-use Rattle.plan_cert.proofs.Grammar.{read_more, breaks_missing, breaks_here, goes_behind_end, not_piece, not_one_more, piece_text}
+use Rattle.plan_cert.proofs.Grammar.{read_more, breaks_missing, breaks_here, goes_after_end, not_piece, not_one_more, piece_text}
 use Rattle.plan_cert.proofs.reading.read_body.Goals as goal
 
 pub returns-in_default-clause-refused : goal.returns-in_default-clause-refused
@@ -15,26 +15,26 @@ returns-in_default-clause-refused c = λ whole read.
 pub returns-then-is_text-clause-refused : goal.returns-then-is_text-clause-refused
 returns-then-is_text-clause-refused c = λ whole read.
     let k = 3 + c.loop-count.count in
-    let ends : MayEnd k c.in-Some.line.now = record { behind_head = omega arith; words = c.is_text.ensures.0 c.if-is_text.true } in
-    let some : c.in-Some.behind.now ≢ [] = λ e. both_ways c.is_empty.result c.if-is_empty.false (c.is_empty.ensures ∙ eq-eqb (length c.in-Some.behind.now) 0 (ap length e)) in
-    (k + 1, omega arith, inr (inl (goes_behind_end whole k c.loop-count.rest.now c.in-Some.line.now c.in-Some.behind.now (c.loop-count.invariant.read whole read) c.in-Some.ensures ends some)))
+    let ends : MayEnd k c.in-Some.line.now = record { after_head = omega arith; words = c.is_text.ensures.0 c.if-is_text.true } in
+    let some : c.in-Some.after.now ≢ [] = λ e. both_ways c.is_empty.result c.if-is_empty.false (c.is_empty.ensures ∙ eq-eqb (length c.in-Some.after.now) 0 (ap length e)) in
+    (k + 1, omega arith, inr (inl (goes_after_end whole k c.loop-count.rest.now c.in-Some.line.now c.in-Some.after.now (c.loop-count.invariant.read whole read) c.in-Some.ensures ends some)))
 
 pub returns-in_default-segment_in-clause-refused : goal.returns-in_default-segment_in-clause-refused
 returns-in_default-segment_in-clause-refused c = λ whole read.
     let k = 3 + c.loop-count.count in (
       k,
       omega arith,
-      inl (breaks_here whole k c.loop-count.rest.now c.in-Some.line.now c.in-Some.behind.now (c.loop-count.invariant.read whole read) c.in-Some.ensures
+      inl (breaks_here whole k c.loop-count.rest.now c.in-Some.line.now c.in-Some.after.now (c.loop-count.invariant.read whole read) c.in-Some.ensures
           (not_piece c.loop-count.count c.in-Some.line.now c.in_default-segment_in.ensures) (λ ends. both_ways c.is_text.result c.if-is_text.false (c.is_text.ensures.1 ends.words))),
     )
 
-pub returns-then-count-eq1000000-clause-refused : goal.returns-then-count-eq1000000-clause-refused
-returns-then-count-eq1000000-clause-refused c = λ whole read.
+pub returns-then-count-eq-MAX_SEGMENTS-clause-refused : goal.returns-then-count-eq-MAX_SEGMENTS-clause-refused
+returns-then-count-eq-MAX_SEGMENTS-clause-refused c = λ whole read.
     let k = 3 + c.loop-count.count in (
       k,
       omega arith,
-      inl (breaks_here whole k c.loop-count.rest.now c.in-Some.line.now c.in-Some.behind.now (c.loop-count.invariant.read whole read) c.in-Some.ensures
-          (not_one_more c.loop-count.count c.in-Some.line.now c.if-count-eq1000000.true) (λ ends. both_ways c.is_text.result c.if-is_text.false (c.is_text.ensures.1 ends.words))),
+      inl (breaks_here whole k c.loop-count.rest.now c.in-Some.line.now c.in-Some.after.now (c.loop-count.invariant.read whole read) c.in-Some.ensures
+          (not_one_more c.loop-count.count c.in-Some.line.now c.if-count-eq-MAX_SEGMENTS.true) (λ ends. both_ways c.is_text.result c.if-is_text.false (c.is_text.ensures.1 ends.words))),
     )
 
 pub loop-count-preserved : goal.loop-count-preserved
@@ -49,12 +49,12 @@ loop-count-preserved c =
       counted = ap length items ∙ length_push c.loop-count.segments.items s ∙ ap (λ n. n + 1) inv.counted;
       small = rw items (All-push (λ x. (x.slots ≤ 2 ^ 42) × (x.bytes ≤ 2 ^ 42)) c.loop-count.segments.items s inv.small
           (c.in-Some-segment_in.ensures.few_slots, c.in-Some-segment_in.ensures.few_bytes));
-      text_is = rw items (piece_text c.args.text.now c.loop-count.rest.now c.in-Some.line.now c.in-Some.behind.now c.loop-count.segments.items s
+      text_is = rw items (piece_text c.args.text.now c.loop-count.rest.now c.in-Some.line.now c.in-Some.after.now c.loop-count.segments.items s
           inv.text_is c.in-Some.ensures.text_is c.in-Some-segment_in.ensures.words);
       read = λ whole read.
-          let next : HasRead whole (3 + c.loop-count.count + 1) c.in-Some.behind.now =
-          read_more whole (3 + c.loop-count.count) c.loop-count.rest.now c.in-Some.line.now c.in-Some.behind.now (inv.read whole read) c.in-Some.ensures
+          let next : HasRead whole (3 + c.loop-count.count + 1) c.in-Some.after.now =
+          read_more whole (3 + c.loop-count.count) c.loop-count.rest.now c.in-Some.line.now c.in-Some.after.now (inv.read whole read) c.in-Some.ensures
           (Piece s (omega arith) (omega arith) c.in-Some-segment_in.ensures) in
           let place : 3 + c.loop-count.count + 1 ≡ 3 + (c.loop-count.count + 1) = omega arith in
-          subst (λ n. HasRead whole n c.in-Some.behind.now) place next;
+          subst (λ n. HasRead whole n c.in-Some.after.now) place next;
     }

@@ -1,0 +1,15 @@
+use Rattle.plan_cert.proofs.SlotSums.{length-plan_slots, sum-plan_slots}
+use Rattle.plan_cert.proofs.SlotLaws.{slot_in, slot_rounded}
+use Rattle.plan_cert.proofs.laws.law_slots.Goals as goal
+
+pub returns-clause-count : goal.returns-clause-count
+returns-clause-count c = length-plan_slots
+
+pub returns-clause-sum : goal.returns-clause-sum
+returns-clause-sum c = λ segments plan. sum-plan_slots segments plan.no_empty
+
+pub returns-clause-place : goal.returns-clause-place
+returns-clause-place c = slot_in
+
+pub returns-clause-rounded : goal.returns-clause-rounded
+returns-clause-rounded c = slot_rounded

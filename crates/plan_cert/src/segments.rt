@@ -1,0 +1,136 @@
+ghost use Rattle.std.specs.Prelude.{◌≡◌, ◌+◌, ◌*◌, ◌/◌, ◌^◌, ◌<◌, ◌≤◌, slice_index, MatchOption};
+ghost use Rattle.plan_cert.specs.Slots.{plan_slots, total_slots, total_bytes, sum_through};
+ghost use Rattle.plan_cert.specs.Plan.{IsPlan, IsPlace, ArePassed};
+
+use crate::Segment;
+
+impl Segment {
+    /// The bytes of its first `count` slots: floor(count * bytes / slots).
+    pub fn first_bytes(self, count: u64) -> u64
+        requires some { 1 ≤ self.slots }
+        requires within { count ≤ self.slots }
+        requires few { self.slots ≤ 1000000 }
+        requires small { self.bytes ≤ 2 ^ 42 }
+        ensures { result ≡ count * self.bytes / self.slots }
+    {
+        count * self.bytes / self.slots
+    }
+}
+
+/// Where a slot stands in a list of segments.
+#[derive(Clone, Copy)]
+pub(crate) struct Place {
+    pub(crate) segment: Segment,
+    /// The slots of that segment before it.
+    pub(crate) passed: u64,
+    /// The bytes of the segments before that one.
+    pub(crate) before: u64,
+}
+
+/// Some segments at the beginning of a list, with their slots and bytes.
+#[derive(Clone, Copy, Debug)]
+pub(crate) struct Passed {
+    pub(crate) segments: usize,
+    pub(crate) slots: u64,
+    pub(crate) bytes: u64,
+}
+
+impl Passed {
+    /// No segments.
+    pub(crate) fn none() -> Passed
+        ensures segments { result.segments ≡ 0 }
+        ensures slots { result.slots ≡ 0 }
+        ensures bytes { result.bytes ≡ 0 }
+    {
+        Passed {
+            segments: 0,
+            slots: 0,
+            bytes: 0,
+        }
+    }
+}
+
+/// The place of a slot. It is looked for after the segments that were passed, or from the first segment on where they end
+/// after the slot. The segments before it are then passed.
+pub(crate) fn place_after(segments: &[Segment], passed: &mut Passed, slot: u64) -> Option<Place>
+    requires plan { IsPlan segments.now }
+    requires passed { ArePassed segments.now passed.old.segments passed.old.slots passed.old.bytes }
+    ensures passed { ArePassed segments.now passed.new.segments passed.new.slots passed.new.bytes }
+    ensures place { MatchOption result
+        ((total_slots segments.now ≤ slot) × (passed.new.bytes ≡ total_bytes segments.now))
+        (λ place. IsPlace segments.now slot place.segment place.passed place.before) }
+{
+    if slot < passed.slots {
+        *passed = Passed::none();
+    }
+    while passed.segments < segments.len() {
+        let segment = segments[passed.segments];
+        let within = slot - passed.slots;
+        if within < segment.slots {
+            return Some(Place {
+                segment,
+                passed: within,
+                before: passed.bytes,
+            });
+        }
+        *passed = Passed {
+            segments: passed.segments + 1,
+            slots: passed.slots + segment.slots,
+            bytes: passed.bytes + segment.bytes,
+        };
+    }
+    None
+}
+
+/// The bytes through a slot, which is looked for as by [`place_after`].
+pub(crate) fn sum_after(segments: &[Segment], passed: &mut Passed, slot: u64) -> u64
+    requires plan { IsPlan segments.now }
+    requires passed { ArePassed segments.now passed.old.segments passed.old.slots passed.old.bytes }
+    ensures passed { ArePassed segments.now passed.new.segments passed.new.slots passed.new.bytes }
+    ensures value { result ≡ sum_through segments.now slot }
+{
+    match place_after(segments, passed, slot) {
+        Some(place) => place.before + place.segment.first_bytes(place.passed + 1),
+        None => passed.bytes,
+    }
+}
+
+/// The bytes of a slot, which is looked for as by [`place_after`].
+pub(crate) fn slot_after(segments: &[Segment], passed: &mut Passed, slot: u64) -> u64
+    requires plan { IsPlan segments.now }
+    requires passed { ArePassed segments.now passed.old.segments passed.old.slots passed.old.bytes }
+    ensures passed { ArePassed segments.now passed.new.segments passed.new.slots passed.new.bytes }
+    ensures value { result ≡ slice_index (plan_slots segments.now) slot }
+{
+    match place_after(segments, passed, slot) {
+        Some(place) => {
+            let sent = place.segment.first_bytes(place.passed);
+            place.segment.first_bytes(place.passed + 1) - sent
+        }
+        None => 0,
+    }
+}
+
+/// The slots of the segments.
+pub(crate) fn slots_of(segments: &[Segment]) -> u64
+    requires { IsPlan segments.now }
+    ensures { result ≡ total_slots segments.now }
+{
+    let mut slots = 0;
+    for segment in segments {
+        slots += segment.slots;
+    }
+    slots
+}
+
+/// The bytes of the segments.
+pub(crate) fn bytes_of(segments: &[Segment]) -> u64
+    requires { IsPlan segments.now }
+    ensures { result ≡ total_bytes segments.now }
+{
+    let mut bytes = 0;
+    for segment in segments {
+        bytes += segment.bytes;
+    }
+    bytes
+}
