@@ -1,13 +1,13 @@
 -- The RTSP URLs that a request line may have are those that are read.
-use Rattle.std.proofs.Common.{◌≡◌, ◌≢◌, ℕ, ◌+◌, ◌-◌, ◌<◌, ◌≤◌, ◌==◌, not, List, ◌++◌, length, take, drop, get_or, refl, sym, ◌∙◌, ap, subst, arith, true, false}
+use Rattle.std.proofs.Common.{◌≡◌, ◌≢◌, ℕ, ◌+◌, ◌-◌, ◌<◌, ◌≤◌, ◌==◌, not, List, ◌++◌, length, take, drop, get_or, refl, sym, ◌∙◌, ap, subst, arith, true, false, codes, inl, inr, ◌⊎◌}
 use Rattle.std.specs.List.{list_all}
 use Rattle.std.specs.Char.{to_ascii_lowercase}
 use Rattle.std.proofs.lemmas.List.{take_at, take-map, take-append-drop, length-append, length-drop, length-map, get_or-drop, get_or_append_left, get_or-append_right}
 use Rattle.std.proofs.lemmas.List.Folds.{list_all_at}
-use Rattle.rtsp_text.specs.Grammar.{IsRtspUrl}
+use Rattle.rtsp_text.specs.Grammar.{is_url_byte, IsRtspUrl, IsUrl}
 use Rattle.rtsp_text.proofs.Words.{rtsp_url}
 use Rattle.rtsp_fields.specs.Pieces.{lower}
-use Rattle.rtsp_fields.specs.Urls.{IsUrl}
+use Rattle.rtsp_fields.specs.Urls.{IsAbsoluteUrl}
 
 -- an authority has no `/`
 authority_byte : (authority : List ℕ) (k : ℕ) → list_all (λ byte. not (byte == 47)) authority ≡ true → k < length authority → get_or authority k 0 ≢ 47
@@ -22,13 +22,14 @@ byte_behind : (url front rest : List ℕ) (n k : ℕ) → url ≡ front ++ rest 
 byte_behind url front rest n k parts size after =
     ap (λ l. get_or l k 0) parts ∙ get_or-append_right front rest n k 0 size after
 
-pub asked_is_read : (url : List ℕ) → IsRtspUrl url → (path : ℕ) × IsUrl url path
-asked_is_read url u =
+rtsp_is_read : (url : List ℕ) → list_all is_url_byte url ≡ true → IsRtspUrl url → (path : ℕ) × IsAbsoluteUrl url path
+rtsp_is_read url bytes u =
     let seven : length u.scheme ≡ 7 = sym (length-map u.scheme to_ascii_lowercase) ∙ ap length u.scheme_is in
     let front : take 7 url ≡ u.scheme = ap (take 7) u.parts ∙ take_at u.scheme (u.authority ++ u.path) 7 seven in
     let size : length url ≡ 7 + length u.authority + length u.path = omega (arith, ap length u.parts, length-append u.scheme (u.authority ++ u.path), length-append u.authority u.path, seven) in (
       7 + length u.authority,
       record {
+        bytes = bytes;
         scheme = take-map to_ascii_lowercase 7 url ∙ ap lower front ∙ u.scheme_is;
         authority = omega (arith, u.some);
         end = record {
@@ -49,9 +50,23 @@ asked_is_read url u =
       },
     )
 
-pub read_is_asked : (url : List ℕ) (path : ℕ) → IsUrl url path → IsRtspUrl url
-read_is_asked url path u =
+read_is_rtsp : (url : List ℕ) (path : ℕ) → IsAbsoluteUrl url path → IsRtspUrl url
+read_is_rtsp url path u =
     let rest : length (drop 7 url) ≡ length url - 7 = length-drop 7 url in
     rtsp_url url (take 7 url) (drop 7 url) (sym (take-append-drop 7 url)) (sym (take-map to_ascii_lowercase 7 url) ∙ u.scheme)
     (omega (arith, rest, u.authority, u.end.within))
     (λ slash. u.end.none 7 (omega arith) u.authority (sym (get_or-drop 7 url 0 0) ∙ slash))
+
+-- `*` is no absolute URL
+star_is_none : (url : List ℕ) (path : ℕ) → IsAbsoluteUrl url path → url ≢ codes "*"
+star_is_none url path u = λ star. omega (arith, ap length star, u.authority, u.end.within)
+
+pub asked_is_read : (url : List ℕ) → IsUrl url → url ≢ codes "*" → (path : ℕ) × IsAbsoluteUrl url path
+asked_is_read url asked other = go asked.form
+  where
+    go : ((url ≡ codes "*") ⊎ IsRtspUrl url) → (path : ℕ) × IsAbsoluteUrl url path
+    go (inl star) = absurd (other star)
+    go (inr u) = rtsp_is_read url asked.bytes u
+
+pub read_is_asked : (url : List ℕ) (path : ℕ) → IsAbsoluteUrl url path → IsUrl url × (url ≢ codes "*")
+read_is_asked url path u = (record { bytes = u.bytes; form = inr (read_is_rtsp url path u) }, star_is_none url path u)

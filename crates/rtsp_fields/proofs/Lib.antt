@@ -6,3 +6,6 @@ pub mod Parts
 pub mod Paths
 pub mod Places
 pub mod Words
+pub mod SecondsTexts
+pub mod HexTexts
+pub mod Names

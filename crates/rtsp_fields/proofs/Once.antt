@@ -5,7 +5,7 @@ use Rattle.std.specs.Int.{IsInRange}
 use Rattle.std.specs.Char.{is_ascii_digit}
 use Rattle.std.proofs.lemmas.Bool.{and_parts}
 use Rattle.std.proofs.lemmas.Str.Parse.{not_in_digits}
-use Rattle.interleave.specs.Lengths.{trimmed}
+use Rattle.vod_base.specs.Blanks.{trimmed}
 use Rattle.vod_base.specs.Numbers.{is_decimal}
 use Rattle.rtsp_fields.specs.Pieces.{IsEnd}
 use Rattle.rtsp_fields.specs.Times.{IsDigits, IsClock, AreSeconds, IsFraction, IsTime}

@@ -1,6 +1,6 @@
 -- The Session header (RFC 2326 sections 3.4 and 12.37): the id, and behind a `;` its parameters.
 use Rattle.std.specs.Prelude.{◌≡◌, ℕ, List, take}
-use Rattle.interleave.specs.Lengths.{trimmed}
+use Rattle.vod_base.specs.Blanks.{trimmed}
 use Rattle.rtsp_fields.specs.Pieces.{IsEnd, lower}
 
 -- the value's part before its first `;`, without the blanks around it, is this id in any case

@@ -1,7 +1,7 @@
 -- The Transport header (RFC 2326 section 12.39) as far as delivery on the RTSP connection itself goes (section 10.12):
 -- alternatives separated by commas, each of them parts separated by `;`, with blanks around them or not.
 use Rattle.std.specs.Prelude.{◌≡◌, ◌≢◌, ℕ, ◌+◌, ◌<◌, ◌⊎◌, List, length, take, codes, slice_range}
-use Rattle.interleave.specs.Lengths.{trimmed}
+use Rattle.vod_base.specs.Blanks.{trimmed}
 use Rattle.rtsp_fields.specs.Pieces.{IsEnd, IsPiece, NoneBefore, NoPiece, Begins, lower}
 use Rattle.rtsp_fields.specs.Values.{IsWithin}
 use Rattle.rtsp_fields.specs.declared.transports.Channels.{Channels}

@@ -1,20 +1,23 @@
 -- RTSP URLs (RFC 2326 section 3.2), and the film that a URL's path names.
 use Rattle.std.specs.Prelude.{◌≡◌, ℕ, ◌<◌, ◌⊎◌, List, [], codes, true, length, slice_index, slice_range, Option, MatchOption}
+use Rattle.std.specs.List.{list_all}
 use Rattle.vod_base.specs.Names.{is_good_name}
+use Rattle.rtsp_text.specs.Grammar.{is_url_byte}
 use Rattle.rtsp_fields.specs.Pieces.{IsEnd, Begins, lower}
 
--- `rtsp://` in any case, an authority of one or more bytes without `/`, and nothing or a path that begins with `/`; the authority
--- ends at `path`
-pub record IsUrl (url : List ℕ) (path : ℕ) : Type 0 where
+-- `rtsp://` in any case, an authority of one or more bytes without `/`, and nothing or a path that begins with `/`, all of them
+-- printable bytes other than the space; the authority ends at `path`
+pub record IsAbsoluteUrl (url : List ℕ) (path : ℕ) : Type 0 where
+  pub bytes : list_all is_url_byte url ≡ true
   pub scheme : Begins (codes "rtsp://") (lower url)
   pub authority : 7 < path
   pub end : IsEnd 47 url 7 path
 
--- the name of a film's one stream, with `/` behind it or not
+-- the name of a film's one stream, with `/` after it or not
 abbrev pub IsStream : List ℕ → Type 0
 IsStream tail = (tail ≡ codes "/video") ⊎ (tail ≡ codes "/video/")
 
--- what may stand behind the name of a film: nothing, `/`, or the name of its stream
+-- what may stand after the name of a film: nothing, `/`, or the name of its stream
 abbrev pub IsTail : List ℕ → Type 0
 IsTail tail = (tail ≡ []) ⊎ ((tail ≡ codes "/") ⊎ IsStream tail)
 
@@ -30,6 +33,6 @@ pub record NamesFilm (path name : List ℕ) : Type 0 where
 -- what a URL says: its authority, and the film that its path names, if any
 pub record IsRead (url authority : List ℕ) (name : Option (List ℕ)) : Type 0 where
   pub path : ℕ
-  pub is_url : IsUrl url path
+  pub is_url : IsAbsoluteUrl url path
   pub authority_is : authority ≡ slice_range url 7 path
   pub name_is : MatchOption name ((any : List ℕ) → ¬ NamesFilm (slice_range url path (length url)) any) (NamesFilm (slice_range url path (length url)))

@@ -1,40 +1,8 @@
-ghost use Rattle.std.specs.Prelude.{◌≡◌, ◌+◌, ◌≤◌, ◌++◌, true, length, take, decimal};
+ghost use Rattle.std.specs.Prelude.{◌≡◌, ◌≤◌, true, length, take};
 ghost use Rattle.vod_base.specs.Names.{is_good_name};
-ghost use Rattle.rtsp_fields.specs.Descriptions.{description_text, seconds_text};
+ghost use Rattle.rtsp_fields.specs.Descriptions.{description_text};
 
-use itoa::Buffer;
-
-/// Puts a text at a place, and answers the place behind it.
-fn put(into: &mut [u8; 512], at: usize, text: &[u8]) -> usize
-    requires { at + length text.now ≤ 512 }
-    ensures place { result ≡ at + length text.now }
-    ensures text { take result into.new ≡ take at into.old ++ text.now }
-{
-    into[at..at + text.len()].copy_from_slice(text);
-    at + text.len()
-}
-
-fn put_number(into: &mut [u8; 512], at: usize, number: u64) -> usize
-    requires { at + 20 ≤ 512 }
-    ensures place { result ≤ at + 20 }
-    ensures text { take result into.new ≡ take at into.old ++ decimal number }
-{
-    let mut buffer = Buffer::new();
-    put(into, at, buffer.format(number).as_bytes())
-}
-
-/// Milliseconds as seconds, a point and three digits.
-fn put_seconds(into: &mut [u8; 512], at: usize, ms: u64) -> usize
-    requires { at + 84 ≤ 512 }
-    ensures place { result ≤ at + 84 }
-    ensures text { take result into.new ≡ take at into.old ++ seconds_text ms }
-{
-    let point = put_number(into, at, ms / 1000);
-    let tenths = put(into, point, b".");
-    let hundredths = put_number(into, tenths, ms / 100 % 10);
-    let thousandths = put_number(into, hundredths, ms / 10 % 10);
-    put_number(into, thousandths, ms % 10)
-}
+use crate::seconds::{put, put_seconds};
 
 /// Writes the description of a film (RFC 4566, RFC 2326 appendix C) to the front of `into`, and answers its length in bytes.
 ///

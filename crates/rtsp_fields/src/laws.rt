@@ -1,9 +1,11 @@
-ghost use Rattle.std.specs.Prelude.{◌≡◌, ◌++◌, ◌↔◌, ℕ, codes, true};
+ghost use Rattle.std.specs.Prelude.{◌≡◌, ◌≢◌, ◌*◌, ◌^◌, ◌<◌, ◌++◌, ◌↔◌, ℕ, codes, true};
 ghost use Rattle.vod_base.specs.Names.{is_good_name};
-ghost use Rattle.rtsp_text.specs.Grammar.{IsRtspUrl};
+ghost use Rattle.rtsp_text.specs.Grammar.{IsUrl};
 ghost use Rattle.rtsp_fields.specs.Ranges.{IsSpan};
+ghost use Rattle.rtsp_fields.specs.Descriptions.{seconds_text};
+ghost use Rattle.rtsp_fields.specs.Times.{IsTime};
 ghost use Rattle.rtsp_fields.specs.Transports.{IsTransport};
-ghost use Rattle.rtsp_fields.specs.Urls.{IsTail, IsUrl, NamesFilm};
+ghost use Rattle.rtsp_fields.specs.Urls.{IsAbsoluteUrl, IsTail, NamesFilm};
 
 use crate::ranges::Span;
 use crate::transports::Channels;
@@ -26,18 +28,17 @@ pub fn law_one_transport(value: &[u8], one: Channels, other: Channels)
     let _read = (value.len(), one, other);
 }
 
-/// The RTSP URLs that a request line may have (RFC 2326 section 6.1) are those that `read_url` reads: all requests but those for
-/// `*` have one.
+/// The URLs that a request line may have (RFC 2326 section 6.1), but for `*`, are those that [`crate::read_url`] reads.
 pub fn law_asked_url(url: &[u8])
-    ensures { IsRtspUrl url.now ↔ ((path : ℕ) × IsUrl url.now path) }
+    ensures { (IsUrl url.now × (url.now ≢ codes "*")) ↔ ((path : ℕ) × IsAbsoluteUrl url.now path) }
 {
     let _read = url.len();
 }
 
 /// The authority of a URL ends at one place.
 pub fn law_one_authority(url: &[u8], one: usize, other: usize)
-    requires one { IsUrl url.now one }
-    requires other { IsUrl url.now other }
+    requires one { IsAbsoluteUrl url.now one }
+    requires other { IsAbsoluteUrl url.now other }
     ensures { one ≡ other }
 {
     let _read = (url.len(), one, other);
@@ -52,11 +53,19 @@ pub fn law_one_name(path: &[u8], one: &[u8], other: &[u8])
     let _read = (path.len(), one.len(), other.len());
 }
 
-/// The path of a film is `/`, its good name, and nothing, `/`, or `/video` with `/` behind it or not.
+/// The path of a film is `/`, its good name, and nothing, `/`, or `/video` with `/` after it or not.
 pub fn law_film_path(name: &[u8], tail: &[u8])
     requires good { is_good_name name.now ≡ true }
     requires tail { IsTail tail.now }
     ensures { NamesFilm (codes "/" ++ name.now ++ tail.now) name.now }
 {
     let _read = (name.len(), tail.len());
+}
+
+/// Milliseconds below 10^12, written as seconds with three digits, are read back as that time, in nanoseconds.
+pub fn law_seconds_read(ms: u64)
+    requires { ms < 10 ^ 12 }
+    ensures { IsTime (seconds_text ms) (ms * 1000000) }
+{
+    let _read = ms;
 }

@@ -6,6 +6,7 @@ mod descriptions;
 mod laws;
 mod pieces;
 mod ranges;
+mod seconds;
 mod sessions;
 mod times;
 mod transports;
@@ -14,9 +15,11 @@ mod values;
 
 pub use descriptions::description;
 pub use laws::{
-    law_asked_url, law_film_path, law_one_authority, law_one_name, law_one_range, law_one_transport,
+    law_asked_url, law_film_path, law_one_authority, law_one_name, law_one_range,
+    law_one_transport, law_seconds_read,
 };
 pub use ranges::{Origin, Span, read_range};
+pub use seconds::seconds_text;
 pub use sessions::{session_id, session_matches};
 pub use transports::{Channels, read_transport};
 pub use urls::{Url, read_url};

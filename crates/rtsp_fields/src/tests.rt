@@ -1,4 +1,8 @@
+ghost use Rattle.std.specs.Prelude.{◌≤◌, length};
+
 use super::*;
+use rtsp_text::Reply;
+use std::test::Fail;
 
 fn span(from: Origin, to: Option<u128>) -> Option<Span> {
     Some(Span { from, to })
@@ -148,6 +152,8 @@ fn reads_urls(rt: HostRuntime) {
         "rtsp:/h/a",
         "http://h/a",
         "rtspu://h/a",
+        "rtsp://h o/a",
+        "rtsp://h/a\u{7f}",
     ] {
         assert!(rt; read_url(text.as_bytes()).is_none(), "at {text}");
     }
@@ -211,4 +217,56 @@ fn describes_films(rt: HostRuntime) {
             b"\r\na=range:npt=0-0.007\r\nm=video 0 RTP/AVP 32\r\na=control:video\r\n"
         )
     );
+}
+
+/// Appends Content-Base, by the URL of a request.
+fn put_base(reply: &mut Reply, url: &[u8])
+    requires url { length url.now ≤ 16384 }
+    requires reply { length reply.old ≤ 1000 }
+    ensures { length reply.new ≤ 20000 }
+{
+    let Some(read) = read_url(url) else {
+        return;
+    };
+    let Some(name) = read.name else {
+        return;
+    };
+    reply.field_of(
+        b"Content-Base",
+        &[
+            b"rtsp://".as_slice(),
+            read.authority,
+            b"/".as_slice(),
+            name,
+            b"/".as_slice(),
+        ],
+    );
+}
+
+/// Appends Range and Session.
+fn put_range(reply: &mut Reply, start_ms: u64, end_ms: u64, session: u64)
+    requires { length reply.old ≤ 20000 }
+{
+    let (mut start, mut end) = ([0u8; 24], [0u8; 24]);
+    reply.field_of(
+        b"Range",
+        &[
+            b"npt=".as_slice(),
+            seconds_text(start_ms, &mut start),
+            b"-".as_slice(),
+            seconds_text(end_ms, &mut end),
+        ],
+    );
+    reply.field(b"Session", &session_id(session));
+}
+
+#[test]
+fn writes_fields(rt: HostRuntime) -> Result<(), Fail> {
+    let mut reply = Reply::new(rt.alloc())?;
+    put_base(&mut reply, b"RTSP://h:8554/news.mpg/video");
+    put_range(&mut reply, 0, u64::MAX, 10);
+    let text =
+        b"Content-Base: rtsp://h:8554/news.mpg/\r\nRange: npt=0.000-18446744073709551.615\r\nSession: 000000000000000a\r\n";
+    assert_eq!(rt; reply.bytes(), text.as_slice());
+    Ok(())
 }

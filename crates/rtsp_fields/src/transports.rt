@@ -5,7 +5,7 @@ ghost use Rattle.rtsp_fields.specs.Transports.{AreChannels, HasChannels, IsOther
 
 use crate::pieces::{piece_end, starts_with};
 use crate::values::number_within;
-use interleave::trimmed;
+use vod_base::trimmed;
 
 /// The channels of interleaved delivery (RFC 2326 section 10.12).
 #[derive(Clone, Copy, Debug, PartialEq, Eq)]

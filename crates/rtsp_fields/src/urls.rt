@@ -1,6 +1,8 @@
-ghost use Rattle.std.specs.Prelude.{◌≡◌, ◌↔◌, IsTrue, ℕ, List, MatchOption};
+ghost use Rattle.std.specs.Prelude.{◌≡◌, ◌≤◌, ◌↔◌, IsTrue, true, length, ℕ, List, MatchOption, IfSome};
 ghost use Rattle.std.specs.Option.{option_copied};
-ghost use Rattle.rtsp_fields.specs.Urls.{IsUrl, IsStream, IsTail, IsRead, NamesFilm};
+ghost use Rattle.vod_base.specs.Names.{is_good_name};
+ghost use Rattle.rtsp_text.specs.Lines.{is_one_line};
+ghost use Rattle.rtsp_fields.specs.Urls.{IsAbsoluteUrl, IsStream, IsTail, IsRead, NamesFilm};
 
 use crate::pieces::{piece_end, starts_with};
 use vod_base::good_name;
@@ -10,8 +12,8 @@ use vod_base::good_name;
 pub struct Url<'a> {
     /// The authority, as `host:port`: one or more bytes without `/`.
     pub authority: &'a [u8],
-    /// The film that the path names, by `/NAME` or its stream `/NAME/video`, with a `/` behind or not; None where the path names
-    /// none.
+    /// The film that the path names, by `/NAME` or its stream `/NAME/video`, with a `/` after it or not; None where the path
+    /// names none.
     pub name: Option<&'a [u8]>,
 }
 
@@ -22,7 +24,7 @@ fn is_stream(tail: &[u8]) -> bool
     tail == b"/video".as_slice() || tail == b"/video/".as_slice()
 }
 
-/// Whether this may stand behind a film's name.
+/// Whether this may stand after a film's name.
 fn is_tail(tail: &[u8]) -> bool
     ensures { IsTrue result ↔ IsTail tail.now }
 {
@@ -48,13 +50,20 @@ fn film_name(path: &[u8]) -> Option<&[u8]>
     }
 }
 
-/// Reads an RTSP URL: `rtsp://` in any case, an authority, and nothing or a path that begins with `/`.
+/// Reads an RTSP URL: `rtsp://` in any case, an authority, and nothing or a path that begins with `/`, all of them printable
+/// bytes other than the space.
 ///
-/// None exactly where the URL isn't of this form. Percent signs aren't decoded.
+/// None exactly where the URL isn't of this form; `*` isn't. Percent signs aren't decoded. The authority and the name have no
+/// LF; the authority has at most as many bytes as the URL, and the name is a good name, of at most 64 bytes.
 pub fn read_url(url: &[u8]) -> Option<Url<'_>>
-    ensures { MatchOption result ((path : ℕ) → ¬ IsUrl url.now path) (λ read. IsRead url.now read.authority.now (option_copied read.name)) }
+    ensures read { MatchOption result ((path : ℕ) → ¬ IsAbsoluteUrl url.now path)
+        (λ read. IsRead url.now read.authority.now (option_copied read.name)) }
+    ensures authority { IfSome result (λ read. length read.authority.now ≤ length url.now) }
+    ensures authority_line { IfSome result (λ read. is_one_line read.authority.now ≡ true) }
+    ensures name { IfSome result (λ read. IfSome read.name (λ name. is_good_name name.now ≡ true)) }
+    ensures name_line { IfSome result (λ read. IfSome read.name (λ name. is_one_line name.now ≡ true)) }
 {
-    if !starts_with(url, b"rtsp://") {
+    if !rtsp_text::has_url_bytes(url) || !starts_with(url, b"rtsp://") {
         return None;
     }
     let path = piece_end(url, 7, b'/');

@@ -7,7 +7,7 @@ use Rattle.std.specs.Char.{to_ascii_lowercase}
 use Rattle.std.specs.Cmp.Lexicographic.{bytes_decides}
 use Rattle.std.proofs.lemmas.Bool.{cases_Bool, cases_eq}
 use Rattle.vod_base.specs.Numbers.{number_of}
-use Rattle.interleave.specs.Lengths.{trimmed}
+use Rattle.vod_base.specs.Blanks.{trimmed}
 use Rattle.rtsp_text.specs.Grammar.{IsCut}
 use Rattle.rtsp_text.specs.Fields.{value_in, first_value, IsField, first_number, IsFirstField, HasNoField, IsFirstNumber, HasNoNumber}
 use Rattle.rtsp_text.proofs.Cuts.{and_both, other_is}

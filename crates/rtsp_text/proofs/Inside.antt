@@ -8,7 +8,7 @@ use Rattle.std.proofs.lemmas.List.{length-append, length-reverse, length-take, r
 use Rattle.std.proofs.lemmas.List.Elements.{All-nil, All-cons, All-head, All-tail, All-weaker, All-take, All-drop, All-get_or}
 use Rattle.std.proofs.lemmas.List.Folds.{list_all-append}
 use Rattle.std.proofs.lemmas.List.Splits.{slice_split-cons_yes, slice_split-cons_no}
-use Rattle.interleave.specs.Lengths.{is_blank, without_front_blanks, trimmed}
+use Rattle.vod_base.specs.Blanks.{is_blank, without_front_blanks, trimmed}
 use Rattle.rtsp_text.specs.Lines.{is_one_line, header_lines}
 use Rattle.rtsp_text.specs.Fields.{IsField, IsFirstField}
 
@@ -54,6 +54,9 @@ parts_inside (x ∷ bytes) =
 -- fewer bytes
 pub all-take : (p : ℕ → Bool) (n : ℕ) (text : List ℕ) → list_all p text ≡ true → list_all p (take n text) ≡ true
 all-take p n text all = (and_parts (list_all p (take n text)) (list_all p (drop n text)) (sym (list_all-append p (take n text) (drop n text)) ∙ ap (list_all p) (take-append-drop n text) ∙ all)).0
+
+pub all-drop : (p : ℕ → Bool) (n : ℕ) (text : List ℕ) → list_all p text ≡ true → list_all p (drop n text) ≡ true
+all-drop p n text all = (and_parts (list_all p (take n text)) (list_all p (drop n text)) (sym (list_all-append p (take n text) (drop n text)) ∙ ap (list_all p) (take-append-drop n text) ∙ all)).1
 
 strip_inside : (n : ℕ) (text : List ℕ) → IsInside n text → IsInside n (strip_carriage_return text)
 strip_inside n text i =

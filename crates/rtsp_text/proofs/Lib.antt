@@ -9,3 +9,4 @@ pub mod Whole
 pub mod FirstField
 pub mod Inside
 pub mod Bounds
+pub mod OneLines

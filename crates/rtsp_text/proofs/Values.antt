@@ -9,7 +9,7 @@ use Rattle.std.proofs.lemmas.Bool.{cond-true, cond-false}
 use Rattle.std.proofs.lemmas.Bool.Decides.{same_from_decides}
 use Rattle.std.proofs.lemmas.List.{take_at, drop_at, drop-drop}
 use Rattle.vod_base.specs.Numbers.{number_of}
-use Rattle.interleave.specs.Lengths.{trimmed}
+use Rattle.vod_base.specs.Blanks.{trimmed}
 use Rattle.rtsp_text.specs.Grammar.{IsCut}
 use Rattle.rtsp_text.specs.Fields.{has_name, value_in, first_value, first_number}
 use Rattle.rtsp_text.proofs.Cuts.{and_left, and_right}

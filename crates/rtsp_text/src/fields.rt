@@ -6,8 +6,7 @@ ghost use Rattle.rtsp_text.specs.Fields.{value_in, header_value, sequence_number
 
 use crate::grammar::cut;
 use crate::lines::{behind_first_line, next_header_line};
-use interleave::trimmed;
-use vod_base::read_number;
+use vod_base::{read_number, trimmed};
 
 /// The name of the field that has the sequence number.
 const SEQUENCE: &[u8; 4] = b"CSeq";

@@ -54,7 +54,8 @@ fn is_url_byte(byte: u8) -> bool
     33 <= byte && byte <= 126
 }
 
-fn has_url_bytes(text: &[u8]) -> bool
+/// Whether all bytes are printable and none is the space, as in a URL.
+pub fn has_url_bytes(text: &[u8]) -> bool
     ensures { result ≡ list_all is_url_byte text.now }
 {
     text.iter().all(|byte| is_url_byte(*byte))

@@ -8,6 +8,7 @@ mod lines;
 mod replies;
 mod requests;
 
+pub use grammar::has_url_bytes;
 pub use laws::law_whole_request;
 pub use replies::Reply;
 pub use requests::{Request, RequestFault, header, read_request, sequence_of};
