@@ -1,2 +1,4 @@
 pub mod Digits
 pub mod FileSearch
+pub mod Giving
+pub mod Noting

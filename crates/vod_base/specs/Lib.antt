@@ -3,6 +3,8 @@ pub mod Gates
 pub mod Lines
 pub mod Links
 pub mod Memory
+pub mod MemoryGates
+pub mod MemoryLinks
 pub mod Names
 pub mod Numbers
 pub mod Outside

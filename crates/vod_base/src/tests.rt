@@ -103,3 +103,92 @@ fn keeps_what_is_written(rt: HostRuntime) -> Result<(), Fail> {
     assert_eq!(rt; sink.bytes(), b"abcdefgh".as_slice());
     Ok(())
 }
+
+#[test]
+fn trims_blanks(rt: HostRuntime) {
+    assert_eq!(rt; trimmed(b" \t a b\t "), b"a b".as_slice());
+    assert_eq!(rt; trimmed(b" \t"), b"".as_slice());
+    assert!(rt; is_blank(b'\t') && !is_blank(b'\n'));
+}
+
+fn link(alloc: Global, events: Vec<Event>, nexts: &[u64]) -> Result<MemoryLink, Fail> {
+    let failing_sends = vec![in alloc; 2]?;
+    let failing_nexts = Vec::from_slice(alloc, nexts)?;
+    Ok(MemoryLink::new(alloc, events, 6, failing_sends, failing_nexts)?)
+}
+
+#[test]
+fn hears_and_sends(rt: HostRuntime) -> Result<(), Fail> {
+    let alloc = rt.alloc();
+    let long = Event::Bytes(text(alloc, "hello")?);
+    let none = Event::Bytes(Vec::new(alloc));
+    let events = vec![in alloc; long, none, Event::Slot(7)]?;
+    let mut link = link(alloc, events, &[2])?;
+    let mut into = [0u8; 3];
+    assert_eq!(rt; link.next(&mut into), Ok(Heard::Bytes(3)));
+    assert_eq!(rt; into, *b"hel");
+    assert_eq!(rt; link.next(&mut into), Err(LinkFault));
+    assert_eq!(rt; link.next(&mut into), Ok(Heard::Bytes(2)));
+    assert_eq!(rt; into, *b"lol");
+    assert_eq!(rt; link.next(&mut into), Ok(Heard::Slot(7)));
+    assert_eq!(rt; link.send(b"abc"), Ok(()));
+    assert_eq!(rt; link.send(b"d"), Err(LinkFault));
+    assert_eq!(rt; link.send(b"defg"), Err(LinkFault));
+    assert_eq!(rt; link.send(b"def"), Ok(()));
+    assert_eq!(rt; link.sent(), b"abcdef".as_slice());
+    for _ in 0..3 {
+        assert_eq!(rt; link.next(&mut into), Ok(Heard::End));
+    }
+    assert_eq!(rt; link.next(&mut into), Err(LinkFault));
+    Ok(())
+}
+
+const OPENING: Opening = Opening {
+    port: 8554,
+    all: false,
+    connections: 1,
+    slot_units: 14_400,
+};
+
+#[test]
+fn gives_and_gets_back(rt: HostRuntime) -> Result<(), Fail> {
+    let alloc = rt.alloc();
+    let links = vec![in alloc; link(alloc, Vec::new(alloc), &[])?]?;
+    let failing = vec![in alloc; 3]?;
+    let parts = vec![in alloc; MemoryPart { links, failing }]?;
+    let mut gate = MemoryGate::new(alloc, parts, Vec::new(alloc))?;
+    assert_eq!(rt; gate.open(&OPENING), Ok(()));
+    let Ok(mut part) = gate.split() else {
+        panic!(rt; "the split failed");
+    };
+    let Ok(Some(mut link)) = part.take() else {
+        panic!(rt; "the part has a link");
+    };
+    assert_eq!(rt; link.send(b"abc"), Ok(()));
+    part.give_back(link);
+    gate.rejoin(part);
+    let back = gate.given_back(0);
+    assert!(rt; back.len() == 1);
+    assert_eq!(rt; back[0].sent(), b"abc".as_slice());
+    assert!(rt; gate.given_back(1).is_empty());
+    Ok(())
+}
+
+#[test]
+fn fails_at_its_numbers(rt: HostRuntime) -> Result<(), Fail> {
+    let alloc = rt.alloc();
+    let failing = vec![in alloc; 2]?;
+    let links = Vec::new(alloc);
+    let parts = vec![in alloc; MemoryPart { links, failing }]?;
+    let mut gate = MemoryGate::new(alloc, parts, vec![in alloc; 1, 3]?)?;
+    assert_eq!(rt; gate.open(&OPENING), Err(GateFault));
+    assert_eq!(rt; gate.open(&OPENING), Ok(()));
+    assert!(rt; gate.split().is_err());
+    let Ok(mut part) = gate.split() else {
+        panic!(rt; "the second split failed");
+    };
+    assert!(rt; part.take().is_ok_and(|taken| taken.is_none()));
+    assert!(rt; part.take().is_err());
+    assert_eq!(rt; part.open(&OPENING), Err(GateFault));
+    Ok(())
+}

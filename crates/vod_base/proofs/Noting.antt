@@ -1,0 +1,52 @@
+-- What a link in memory notes, and the bytes among it that were sent.
+use Rattle.std.proofs.Common.{◌≡◌, ℕ, List, [], ◌∷◌, ◌++◌, map, refl, ap, ◌∙◌}
+use Rattle.std.proofs.lemmas.List.{map-append, append-nil}
+use Rattle.vod_base.specs.declared.links.Heard.{Heard}
+use Rattle.vod_base.specs.declared.links.Heard.TheVariants.{Bytes, Slot, End}
+use Rattle.vod_base.specs.declared.memory_links.Event.{Event}
+use Rattle.vod_base.specs.declared.memory_links.Noted.{Noted}
+use Rattle.vod_base.specs.declared.memory_links.Noted.TheVariants.{Gone}
+use Rattle.vod_base.specs.Links.{Doing, HeardBytes, HeardSlot, HeardEnd, Sent, doing_of, sends}
+use Rattle.vod_base.specs.MemoryLinks.{sent_of, doing_noted}
+
+sent_of-append : (xs ys : List Doing) → sent_of (xs ++ ys) ≡ sent_of xs ++ sent_of ys
+sent_of-append [] ys = refl
+sent_of-append (Sent byte ∷ xs) ys = ap (λ bytes. byte ∷ bytes) (sent_of-append xs ys)
+sent_of-append (HeardBytes bytes ∷ xs) ys = sent_of-append xs ys
+sent_of-append (HeardSlot slot ∷ xs) ys = sent_of-append xs ys
+sent_of-append (HeardEnd ∷ xs) ys = sent_of-append xs ys
+
+sent_of-sends : (bytes : List ℕ) → sent_of (sends bytes) ≡ bytes
+sent_of-sends [] = refl
+sent_of-sends (byte ∷ bytes) = ap (λ bs. byte ∷ bs) (sent_of-sends bytes)
+
+sent_of-heard : (heard : Heard) (into : List ℕ) → sent_of (doing_of heard into ∷ []) ≡ []
+sent_of-heard (Bytes n) into = refl
+sent_of-heard (Slot t) into = refl
+sent_of-heard End into = refl
+
+noted_bytes : (events : List Event) (bytes : List ℕ) → map (doing_noted events) (map Gone bytes) ≡ sends bytes
+noted_bytes events [] = refl
+noted_bytes events (byte ∷ bytes) = ap (λ doings. Sent byte ∷ doings) (noted_bytes events bytes)
+
+-- one event more is noted: it is told, and the sent bytes stay
+pub heard_more : (events : List Event) (notes : List Noted) (noted : Noted) (heard : Heard) (into : List ℕ) → doing_noted events noted ≡ doing_of heard into →
+    (map (doing_noted events) (notes ++ noted ∷ []) ≡ map (doing_noted events) notes ++ doing_of heard into ∷ [])
+    × (sent_of (map (doing_noted events) (notes ++ noted ∷ [])) ≡ sent_of (map (doing_noted events) notes))
+heard_more events notes noted heard into is =
+    let told = map-append (doing_noted events) notes (noted ∷ []) ∙ ap (λ d. map (doing_noted events) notes ++ d ∷ []) is in (
+      told,
+      rw told
+          (sent_of-append (map (doing_noted events) notes) (doing_of heard into ∷ [])
+          ∙ ap (λ b. sent_of (map (doing_noted events) notes) ++ b) (sent_of-heard heard into)
+          ∙ append-nil (sent_of (map (doing_noted events) notes))),
+    )
+
+-- bytes more are noted: they are told as sent, and stand at the end of the sent bytes
+pub sent_more : (events : List Event) (old new : List Noted) (bytes : List ℕ) → new ≡ old ++ map Gone bytes →
+    (map (doing_noted events) new ≡ map (doing_noted events) old ++ sends bytes)
+    × (sent_of (map (doing_noted events) new) ≡ sent_of (map (doing_noted events) old) ++ bytes)
+sent_more events old new bytes are =
+    let told = ap (map (doing_noted events)) are ∙ map-append (doing_noted events) old (map Gone bytes)
+    ∙ ap (λ d. map (doing_noted events) old ++ d) (noted_bytes events bytes) in
+    (told, rw told (sent_of-append (map (doing_noted events) old) (sends bytes) ∙ ap (λ b. sent_of (map (doing_noted events) old) ++ b) (sent_of-sends bytes)))

@@ -1,0 +1,51 @@
+-- A gate in memory as contracts see it.
+use Rattle.std.specs.Prelude.{ℕ, Bool, List, [], map, drop, slice_index_or, Option, Some, None}
+use Rattle.vod_base.specs.Memory.{one_more, fails}
+use Rattle.vod_base.specs.MemoryLinks.{LinkState}
+use Rattle.vod_base.specs.Gates.{LastTake, NoneYet, Gave, NoMore, Failed, Returned, Part, Content}
+use Rattle.vod_base.specs.declared.shares.Last.{Last}
+use Rattle.vod_base.specs.declared.shares.Last.TheVariants.{Nothing, Link, NoLink, Fault}
+use Rattle.vod_base.specs.declared.shares.Share.{Share}
+
+-- what a link in memory tells
+abbrev pub returned : LinkState → Returned
+returned link = record { faults = link.faults; told = Some link.told }
+
+abbrev pub last_of : Last → LastTake
+last_of Nothing = NoneYet
+last_of Link = Gave
+last_of NoLink = NoMore
+last_of Fault = Failed
+
+-- a share as the part that it stands for
+abbrev pub part_of : Share → Part
+part_of share = record { number = share.number; given = share.given; back = map returned (drop share.waiting share.links.items); last = last_of share.last }
+
+-- what is told, how many links are still to give, whether it is a part, the failing calls, and the counts
+pub record GateState : Type 0 where
+  pub content : Content
+  pub waiting : ℕ
+  pub is_part : Bool
+  pub failing : List ℕ
+  pub calls : ℕ
+  pub faults : ℕ
+
+-- whether the next call fails by its number
+abbrev pub gate_fails : GateState → Bool
+gate_fails s = fails s.failing (one_more s.calls)
+
+-- the state after a call, and after one that failed
+abbrev pub gate_called : GateState → GateState
+gate_called s = record s { calls = one_more s.calls }
+
+abbrev pub gate_failed : GateState → GateState
+gate_failed s = record s { calls = one_more s.calls; faults = one_more s.faults }
+
+-- those that came back of a part that is back
+abbrev pub back_of_part : Option Part → List Returned
+back_of_part (Some part) = part.back
+back_of_part None = []
+
+-- those that the part of a number got back; none while it is out
+abbrev pub back_of : Content → ℕ → List Returned
+back_of content number = back_of_part (slice_index_or content.parts number None)

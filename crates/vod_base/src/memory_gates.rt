@@ -1,0 +1,240 @@
+ghost use Rattle.std.specs.Prelude.{◌≡◌, ◌-◌, ◌↔◌, ◌||◌, false, Some, None, [], if◌then◌else◌, nat_lt, map, IfSome, IfOk, IsNone, OnOk, OnErr, is_err, vec_len};
+ghost use Rattle.vod_base.specs.Memory.{one_more};
+ghost use Rattle.vod_base.specs.Gates.{NoMore, Failed, MaySplit, IsOut, HasOut, opened, split_off, new_part, gave, gave_none, got_back, rejoined, fresh_part};
+ghost use Rattle.vod_base.specs.MemoryGates.{returned, part_of, back_of, gate_fails, gate_called, gate_failed};
+
+use crate::gates::{Gate, Opening};
+use crate::memory_libraries::is_listed;
+use crate::memory_links::MemoryLink;
+use crate::outside::{GateFault, NoMemory};
+use crate::shares::{Last, Share};
+use std::alloc::Global;
+use std::marker::Model;
+
+/// What one part of a gate in memory gives: links, which are begun anew when they are given. Its
+/// calls of `take` fail at the given numbers, from 1.
+#[derive(Debug, Drop)]
+pub struct MemoryPart {
+    /// The links, in order.
+    pub links: Vec<MemoryLink>,
+    /// The numbers of the calls that are to fail.
+    pub failing: Vec<u64>,
+}
+
+/// The most parts.
+const MOST_PARTS: usize = 256;
+
+/// A gate in memory, whose parts give links in memory.
+///
+/// A gate's calls of `open` and `split` fail at given numbers, a part's calls of `take` at its own.
+/// Only the gate that `new` makes can be opened; at a part `open` fails.
+#[derive(Debug, Drop)]
+pub struct MemoryGate {
+    alloc: Global,
+    opening: Option<Opening>,
+    is_part: bool,
+    parts: Vec<Option<Share>>,
+    own: Share,
+    scripts: Vec<MemoryPart>,
+    failing: Vec<u64>,
+    calls: u64,
+    faults: u64,
+}
+
+impl Model for MemoryGate {
+    ghost use Rattle.std.specs.Prelude.{◌≡◌, ◌+◌, ◌-◌, ◌≤◌, true, false, None, map, option_map, vec_len, vec_capacity};
+    ghost use Rattle.vod_base.specs.MemoryGates.{GateState, part_of};
+
+    ghost Value = { GateState };
+
+    ghost view = { λ g. record { content = record { opening = g.opening; parts = map (option_map part_of) g.parts.items; own = part_of g.own }; waiting = g.own.waiting; is_part = g.is_part; failing = g.failing.items; calls = g.calls; faults = g.faults } };
+
+    ghost invariant = { λ g. (g.is_part ≡ false → 256 ≤ vec_capacity g.parts) × (g.is_part ≡ true → g.opening ≡ None) × (g.own.waiting ≤ vec_len g.own.links) × (vec_len g.own.links ≤ g.own.waiting + g.own.given) × (g.own.waiting + g.own.given ≤ vec_capacity g.own.links) };
+}
+
+impl MemoryGate {
+    /// Makes a gate, which isn't open, from what each of its parts is to give, in the order of the
+    /// splits. A part past the last of them gives no link. `failing` has the numbers, from 1, of the
+    /// calls of `open` and `split` that are to fail. Room for 256 parts is reserved here.
+    pub fn new(
+        alloc: Global,
+        parts: Vec<MemoryPart>,
+        failing: Vec<u64>,
+    ) -> Result<MemoryGate, NoMemory>
+        ensures { IfOk result (λ gate. gate ≡ record { content = record { opening = None; parts = []; own = fresh_part 0 }; waiting = 0; is_part = false; failing = failing.items; calls = 0; faults = 0 }) }
+    {
+        let room = Vec::with_capacity(alloc, MOST_PARTS)?;
+        Ok(MemoryGate {
+            alloc,
+            opening: None,
+            is_part: false,
+            parts: room,
+            own: share_of(0, Vec::new(alloc)),
+            scripts: parts,
+            failing,
+            calls: 0,
+            faults: 0,
+        })
+    }
+
+    /// The links that the part of that number, from 0, got back, in order; none while it is out.
+    pub fn given_back(&self, part: usize) -> &[MemoryLink]
+        ensures { map returned result.now ≡ back_of self.now.content part }
+    {
+        match self.parts.get(part) {
+            Some(Some(share)) => &share.links[share.waiting..],
+            _ => &[],
+        }
+    }
+
+    /// Counts a call, and tells whether it fails.
+    fn call(&mut self) -> bool
+        ensures fails { result ≡ gate_fails self.old }
+        ensures called { self.new ≡ (if result then gate_failed self.old else gate_called self.old) }
+    {
+        self.calls = self.calls.saturating_add(1);
+        let number = self.calls;
+        let failed = is_listed(&self.failing, number);
+        if failed {
+            self.faults = self.faults.saturating_add(1);
+        }
+        failed
+    }
+}
+
+/// A share of these links, of which none was given.
+fn share_of(number: usize, links: Vec<MemoryLink>) -> Share
+    ensures part { part_of result ≡ fresh_part number }
+    ensures links { result.links ≡ links }
+    ensures waiting { result.waiting ≡ vec_len links }
+    ensures given { result.given ≡ 0 }
+{
+    Share {
+        number,
+        waiting: links.len(),
+        links,
+        given: 0,
+        last: Last::Nothing,
+    }
+}
+
+/// A count of faults, which rises where a part's count had risen.
+fn count_with(count: u64, part: u64) -> u64
+    ensures { result ≡ (if nat_lt 0 part then one_more count else count) }
+{
+    if part > 0 {
+        count.saturating_add(1)
+    } else {
+        count
+    }
+}
+
+impl Gate for MemoryGate {
+    ghost use Rattle.std.specs.Prelude.{Some};
+
+    type Conn = MemoryLink;
+
+    ghost faults = { λ g. g.faults };
+
+    ghost told = { λ g. Some g.content };
+
+    fn open(&mut self, how: &Opening) -> Result<(), GateFault>
+        ensures fails { is_err result ≡ (self.old.is_part || gate_fails self.old) }
+        ensures open { OnOk result (self.new ≡ record (gate_called self.old) { content = opened (Some how.now) self.old.content }) }
+        ensures lost { OnErr result (self.new ≡ record (gate_failed self.old) { content = opened None self.old.content }) }
+    {
+        self.opening = None;
+        self.parts.clear();
+        if self.is_part {
+            self.calls = self.calls.saturating_add(1);
+            self.faults = self.faults.saturating_add(1);
+            return Err(GateFault);
+        }
+        if self.call() {
+            return Err(GateFault);
+        }
+        self.opening = Some(*how);
+        Ok(())
+    }
+
+    fn split(&mut self) -> Result<MemoryGate, GateFault>
+        requires may { MaySplit self.old.content }
+        ensures fails { is_err result ≡ gate_fails self.old }
+        ensures split { OnOk result (self.new ≡ record (gate_called self.old) { content = split_off self.old.content }) }
+        ensures part { IfOk result (λ part. (part.content ≡ new_part self.old.content) × (part.calls ≡ 0) × (part.faults ≡ 0)) }
+        ensures lost { OnErr result (self.new ≡ gate_failed self.old) }
+    {
+        if self.call() {
+            return Err(GateFault);
+        }
+        let number = self.parts.len();
+        match self.parts.push(None) {
+            Ok(()) => {}
+            Err(_) => unreachable!(),
+        }
+        let script = if self.scripts.is_empty() {
+            MemoryPart {
+                links: Vec::new(self.alloc),
+                failing: Vec::new(self.alloc),
+            }
+        } else {
+            self.scripts.remove(0)
+        };
+        Ok(MemoryGate {
+            alloc: self.alloc,
+            opening: None,
+            is_part: true,
+            parts: Vec::new(self.alloc),
+            own: share_of(number, script.links),
+            scripts: Vec::new(self.alloc),
+            failing: script.failing,
+            calls: 0,
+            faults: 0,
+        })
+    }
+
+    #[tactic(auto, using(crate::proofs::Giving::back_stays))]
+    fn take(&mut self) -> Result<Option<MemoryLink>, GateFault>
+        ensures fails { is_err result ≡ gate_fails self.old }
+        ensures gave { IfOk result (λ taken. IfSome taken (λ link. self.new ≡ record (gate_called self.old) { content = gave self.old.content; waiting = self.old.waiting - 1 })) }
+        ensures fresh { IfOk result (λ taken. IfSome taken (λ link. (link.told ≡ []) × (link.faults ≡ 0))) }
+        ensures none { IfOk result (λ taken. taken ≡ None → self.new ≡ record (gate_called self.old) { content = gave_none NoMore self.old.content }) }
+        ensures last { IfOk result (λ taken. IsNone taken ↔ (self.old.waiting ≡ 0)) }
+        ensures lost { OnErr result (self.new ≡ record (gate_failed self.old) { content = gave_none Failed self.old.content }) }
+    {
+        if self.call() {
+            self.own.last = Last::Fault;
+            return Err(GateFault);
+        }
+        if self.own.waiting == 0 {
+            self.own.last = Last::NoLink;
+            return Ok(None);
+        }
+        self.own.waiting -= 1;
+        let mut link = self.own.links.remove(0);
+        link.begin();
+        self.own.given += 1;
+        self.own.last = Last::Link;
+        Ok(Some(link))
+    }
+
+    fn give_back(&mut self, conn: MemoryLink)
+        requires out { HasOut self.old.content }
+        ensures { self.new ≡ record self.old { content = got_back (returned conn) self.old.content } }
+    {
+        match self.own.links.push(conn) {
+            Ok(()) => {}
+            Err(_) => unreachable!(),
+        }
+    }
+
+    fn rejoin(&mut self, part: MemoryGate)
+        requires out { IsOut part.content.own.number self.old.content }
+        ensures { self.new ≡ record self.old { faults = if nat_lt 0 part.faults then one_more self.old.faults else self.old.faults; content = rejoined part.content.own self.old.content } }
+    {
+        let MemoryGate { own, faults, .. } = part;
+        self.faults = count_with(self.faults, faults);
+        let number = own.number;
+        self.parts[number] = Some(own);
+    }
+}

@@ -1,0 +1,230 @@
+ghost use Rattle.std.specs.Prelude.{◌≡◌, ◌+◌, ◌<◌, ◌≤◌, ◌++◌, ◌∷◌, [], ◌||◌, length, map, nat_lt, vec_len, vec_capacity, IfOk, OnOk, OnErr, is_err};
+ghost use Rattle.vod_base.specs.Links.{Sent, doing_of, IsWithin, sends};
+ghost use Rattle.vod_base.specs.Memory.{one_more, fails};
+ghost use Rattle.vod_base.specs.declared.memory_links.Noted.TheVariants.{Gone};
+ghost use Rattle.vod_base.specs.MemoryLinks.{sent_of, doing_noted, next_fails};
+
+use crate::links::{Heard, Link};
+use crate::memory_libraries::is_listed;
+use crate::outside::{LinkFault, NoMemory};
+use std::alloc::Global;
+use std::marker::Model;
+
+/// An event that a link in memory is to hand out.
+#[derive(Debug, Drop)]
+pub enum Event {
+    /// Bytes come. Those that are longer than a call can take come in several calls; no bytes are no event.
+    Bytes(Vec<u8>),
+    /// The slot of that number begins.
+    Slot(u64),
+    /// The peer ends.
+    End,
+}
+
+/// What a link noted: bytes of the event at a place came, a slot began, the peer ended, or a byte was sent.
+#[derive(Clone, Copy, Debug)]
+pub(crate) enum Noted {
+    Came(usize, usize, usize),
+    Began(u64),
+    Ended,
+    Gone(u8),
+}
+
+/// A connection in memory, which hands out given events and keeps what is sent.
+///
+/// Calls of `send` and of `next` fail at given numbers, from 1, and where the room would be passed.
+/// After the last event it answers that the peer ended.
+#[derive(Debug, Drop)]
+pub struct MemoryLink {
+    events: Vec<Event>,
+    front: Front,
+    notes: Vec<Noted>,
+    sent: Vec<u8>,
+    handed_out: usize,
+    room: usize,
+    failing_sends: Vec<u64>,
+    failing_nexts: Vec<u64>,
+    sends: u64,
+    nexts: u64,
+    faults: u64,
+}
+
+/// The next event's place, and how many of its bytes were handed out.
+#[derive(Clone, Copy, Debug)]
+struct Front {
+    event: usize,
+    offset: usize,
+}
+
+impl Model for MemoryLink {
+    ghost use Rattle.std.specs.Prelude.{◌≡◌, ◌+◌, ◌≤◌, map, vec_len, vec_capacity};
+    ghost use Rattle.vod_base.specs.MemoryLinks.{LinkState, sent_of, doing_noted};
+
+    ghost Value = { LinkState };
+
+    ghost view = { λ l. record { told = map (doing_noted l.events.items) l.notes.items; events = l.handed_out; room = l.room; failing_sends = l.failing_sends.items; failing_nexts = l.failing_nexts.items; sends = l.sends; nexts = l.nexts; faults = l.faults } };
+
+    ghost invariant = { λ l. (sent_of (map (doing_noted l.events.items) l.notes.items) ≡ l.sent.items) × (vec_len l.sent ≤ l.room) × (l.room ≤ vec_capacity l.sent) × (l.handed_out ≤ l.room) × (vec_len l.notes ≡ vec_len l.sent + l.handed_out) × (l.room + l.room ≤ vec_capacity l.notes) };
+}
+
+impl MemoryLink {
+    /// Makes a link that hands out these events, up to `room` of them, and keeps up to `room` sent
+    /// bytes. All room is reserved here. `failing_sends` and `failing_nexts` have the numbers of the
+    /// calls that are to fail.
+    pub fn new(
+        alloc: Global,
+        events: Vec<Event>,
+        room: usize,
+        failing_sends: Vec<u64>,
+        failing_nexts: Vec<u64>,
+    ) -> Result<MemoryLink, NoMemory>
+        ensures { IfOk result (λ link. link ≡ record { told = []; events = 0; room = room; failing_sends = failing_sends.items; failing_nexts = failing_nexts.items; sends = 0; nexts = 0; faults = 0 }) }
+    {
+        let Some(both) = room.checked_mul(2) else {
+            return Err(NoMemory);
+        };
+        let notes = Vec::with_capacity(alloc, both)?;
+        let sent = Vec::with_capacity(alloc, room)?;
+        Ok(MemoryLink {
+            events,
+            front: Front {
+                event: 0,
+                offset: 0,
+            },
+            notes,
+            sent,
+            handed_out: 0,
+            room,
+            failing_sends,
+            failing_nexts,
+            sends: 0,
+            nexts: 0,
+            faults: 0,
+        })
+    }
+
+    /// The bytes that were sent.
+    pub fn sent(&self) -> &[u8]
+        ensures { result.now ≡ sent_of self.now.told }
+    {
+        self.sent.as_slice()
+    }
+
+    /// Begins anew: nothing was done yet, and no call failed.
+    pub(crate) fn begin(&mut self)
+        ensures told { self.new.told ≡ [] }
+        ensures faults { self.new.faults ≡ 0 }
+    {
+        self.front = Front {
+            event: 0,
+            offset: 0,
+        };
+        self.notes.clear();
+        self.sent.clear();
+        self.handed_out = 0;
+        self.sends = 0;
+        self.nexts = 0;
+        self.faults = 0;
+    }
+}
+
+impl Link for MemoryLink {
+    ghost use Rattle.std.specs.Prelude.{Some};
+
+    ghost faults = { λ l. l.faults };
+
+    ghost told = { λ l. Some l.told };
+
+    #[tactic(auto, using(crate::proofs::Noting::heard_more))]
+    fn next(&mut self, into: &mut [u8]) -> Result<Heard, LinkFault>
+        requires some { 0 < length into.now }
+        ensures fails { is_err result ≡ next_fails self.old }
+        ensures within { IfOk result (λ heard. IsWithin heard (length into.new)) }
+        ensures heard { IfOk result (λ heard. self.new ≡ record self.old { nexts = one_more self.old.nexts; events = self.old.events + 1; told = self.old.told ++ doing_of heard into.new ∷ [] }) }
+        ensures lost { OnErr result (self.new ≡ record self.old { nexts = one_more self.old.nexts; faults = one_more self.old.faults }) }
+    {
+        self.nexts = self.nexts.saturating_add(1);
+        let number = self.nexts;
+        let failed = is_listed(&self.failing_nexts, number);
+        if failed || self.handed_out >= self.room {
+            self.faults = self.faults.saturating_add(1);
+            return Err(LinkFault);
+        }
+        let (noted, heard) = hand_out(&self.events, &mut self.front, into);
+        self.handed_out += 1;
+        match self.notes.push(noted) {
+            Ok(()) => Ok(heard),
+            Err(_) => unreachable!(),
+        }
+    }
+
+    fn send(&mut self, bytes: &[u8]) -> Result<(), LinkFault>
+        ensures fails { is_err result ≡ (fails self.old.failing_sends (one_more self.old.sends) || nat_lt self.old.room (length (sent_of self.old.told) + length bytes.now)) }
+        ensures whole { OnOk result (self.new ≡ record self.old { sends = one_more self.old.sends; told = self.old.told ++ sends bytes.now }) }
+        ensures lost { OnErr result (self.new ≡ record self.old { sends = one_more self.old.sends; faults = one_more self.old.faults }) }
+    {
+        self.sends = self.sends.saturating_add(1);
+        let number = self.sends;
+        let failed = is_listed(&self.failing_sends, number);
+        if failed || bytes.len() > self.room - self.sent.len() {
+            self.faults = self.faults.saturating_add(1);
+            return Err(LinkFault);
+        }
+        note_sent(&mut self.notes, bytes);
+        match self.sent.extend_from_slice(bytes) {
+            Ok(()) => Ok(()),
+            Err(_) => unreachable!(),
+        }
+    }
+}
+
+/// Notes each byte as sent.
+fn note_sent(notes: &mut Vec<Noted>, bytes: &[u8])
+    requires { vec_len notes.old + length bytes.now ≤ vec_capacity notes.old }
+    ensures items { notes.new.items ≡ notes.old.items ++ map Gone bytes.now }
+    ensures len { vec_len notes.new ≡ vec_len notes.old + length bytes.now }
+    ensures capacity { vec_capacity notes.old ≤ vec_capacity notes.new }
+{
+    for byte in bytes {
+        match notes.push(Noted::Gone(*byte)) {
+            Ok(()) => {}
+            Err(_) => unreachable!(),
+        }
+    }
+}
+
+/// Hands out the next event, or as many of its bytes as fit.
+fn hand_out(events: &[Event], front: &mut Front, into: &mut [u8]) -> (Noted, Heard)
+    requires { 0 < length into.old }
+    ensures within { IsWithin result.1 (length into.new) }
+    ensures noted { doing_noted events.now result.0 ≡ doing_of result.1 into.new }
+{
+    while let Some(Event::Bytes(bytes)) = events.get(front.event)
+        && front.offset >= bytes.len()
+    {
+        *front = Front {
+            event: front.event + 1,
+            offset: 0,
+        };
+    }
+    let event = front.event;
+    match events.get(event) {
+        Some(Event::Bytes(bytes)) => {
+            let from = front.offset;
+            let rest = &bytes[from..];
+            let count = rest.len().min(into.len());
+            into[..count].copy_from_slice(&rest[..count]);
+            front.offset = from + count;
+            (Noted::Came(event, from, from + count), Heard::Bytes(count))
+        }
+        Some(Event::Slot(slot)) => {
+            front.event += 1;
+            (Noted::Began(*slot), Heard::Slot(*slot))
+        }
+        Some(Event::End) => {
+            front.event += 1;
+            (Noted::Ended, Heard::End)
+        }
+        None => (Noted::Ended, Heard::End),
+    }
+}

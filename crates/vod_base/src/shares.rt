@@ -1,0 +1,23 @@
+ghost use Rattle.std.specs.Prelude.{◌≤◌, vec_len};
+
+use crate::memory_links::MemoryLink;
+
+/// What the last `take` answered.
+#[derive(Clone, Copy, Debug, PartialEq, Eq)]
+pub(crate) enum Last {
+    Nothing,
+    Link,
+    NoLink,
+    Fault,
+}
+
+/// What a part gave: first the links that are still to give, then those that came back.
+#[derive(Debug, Drop)]
+pub(crate) struct Share {
+    pub(crate) number: usize,
+    pub(crate) links: Vec<MemoryLink>,
+    pub(crate) waiting: usize,
+    pub(crate) given: usize,
+    pub(crate) last: Last,
+    ghost within: { waiting ≤ vec_len links },
+}
