@@ -11,15 +11,6 @@ use vod_base::NoMemory;
 pub fn write_cert(alloc: Global, plan: &Plan) -> Result<Vec<u8>, NoMemory>
     ensures { IfOk result (λ text. text.items ≡ cert_text plan.now) }
 {
-    match cert_bytes(alloc, plan) {
-        Ok(text) => Ok(text),
-        Err(_) => Err(NoMemory),
-    }
-}
-
-fn cert_bytes(alloc: Global, plan: &Plan) -> Result<Vec<u8>, AllocError>
-    ensures { IfOk result (λ text. text.items ≡ cert_text plan.now) }
-{
     let mut text = head_bytes(alloc, plan.slots(), plan.bytes())?;
     let segments = plan.segments();
     for segment in segments {

@@ -112,13 +112,11 @@ impl Plan {
     pub fn copy(&self) -> Result<Plan, NoMemory>
         ensures { IfOk result (λ plan. plan ≡ self.now) }
     {
-        match Vec::from_slice(*self.segments.allocator(), self.segments.as_slice()) {
-            Ok(segments) => Ok(Plan {
-                segments,
-                slots: self.slots,
-                bytes: self.bytes,
-            }),
-            Err(_) => Err(NoMemory),
-        }
+        let segments = Vec::from_slice(*self.segments.allocator(), self.segments.as_slice())?;
+        Ok(Plan {
+            segments,
+            slots: self.slots,
+            bytes: self.bytes,
+        })
     }
 }
