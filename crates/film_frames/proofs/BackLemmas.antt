@@ -8,7 +8,7 @@ use Rattle.mpeg_scan.specs.declared.films.Film.{Film}
 use Rattle.rtp_pack.specs.declared.payloads.Packet.{Packet}
 use Rattle.rtp_pack.specs.declared.reports.Identity.{Identity}
 use Rattle.rtp_pack.specs.Packets.{DoCover, IsLaid, unit_packets}
-use Rattle.rtp_pack.proofs.LaidLemmas.{AreLaid}
+use Rattle.mpeg_scan.specs.Layout.{AreLaid}
 use Rattle.rtp_pack.proofs.UnitLemmas.{packets-cover}
 use Rattle.film_frames.specs.declared.pieces.Piece.{Piece}
 use Rattle.film_frames.specs.declared.pieces.Piece.TheVariants.{Report, Frame}

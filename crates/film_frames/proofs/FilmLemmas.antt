@@ -11,51 +11,11 @@ use Rattle.mpeg_scan.specs.Tiles.{Part, between, within, first_of, parts_after}
 use Rattle.mpeg_scan.proofs.BoundLemmas.{film-bytes, film-units, film-pictures}
 use Rattle.mpeg_scan.proofs.FilmLemmas.{length-read}
 use Rattle.mpeg_scan.proofs.TileLemmas.{film-tiles}
-use Rattle.rtp_pack.specs.Packets.{IsLaid}
-use Rattle.rtp_pack.proofs.LaidLemmas.{AreLaid, film-laid, laid-at, part-fits}
+use Rattle.mpeg_scan.specs.Layout.{AreChained, AreLaid, IsLaid}
+use Rattle.mpeg_scan.proofs.LaidLemmas.{film-chained, film-laid, laid-at}
 use Rattle.film_frames.specs.declared.pieces.Piece.{Piece}
 use Rattle.film_frames.specs.Pieces.{film_pieces, pieces_of, unit_pieces, wire_in, wire_size}
 use Rattle.film_frames.proofs.PieceLemmas.{AreSound, pieces-cons, sound-append, unit-bound, unit-le, unit-sound, unit-wire, wire-append}
-
--- ---- units lie one behind another
-
-abbrev pub AreChained : ℕ → List PictureUnit → ℕ → Type 0
-AreChained from [] to = from ≡ to
-AreChained from (unit ∷ units) to = (unit.from ≡ from) × AreChained unit.to units to
-
-begin_of_part : Part → ℕ
-begin_of_part (between at) = at
-begin_of_part (within from head_end at n) = from
-
-parts-chained : (calls : List Call) (part : Part) (to : ℕ) → parts_after (Some part) calls ≡ Some (between to) → AreChained (begin_of_part part) (units_in calls) to
-unfolding begin_of_part
-parts-chained [] (between at) to parts = cc
-parts-chained [] (within from head_end at n) to parts = cc
-parts-chained (head_call a b ∷ calls) (between at) to parts =
-    let fits = part-fits (eqb a at && (ltb a b && leb (b - a) 1380)) (within a b b 0) calls to parts in
-    let here = eqb-true a at (and_parts (eqb a at) (ltb a b && leb (b - a) 1380) fits.0).0 in
-    subst (λ f. AreChained f (units_in calls) to) here (parts-chained calls (within a b b 0) to fits.1)
-parts-chained (slice_call a b ∷ calls) (between at) to parts = absurd (false≢true (part-fits false (between at) calls to parts).0)
-parts-chained (unit_call unit ∷ calls) (between at) to parts = absurd (false≢true (part-fits false (between at) calls to parts).0)
-parts-chained (head_call a b ∷ calls) (within from head_end at n) to parts = absurd (false≢true (part-fits false (between at) calls to parts).0)
-parts-chained (slice_call a b ∷ calls) (within from head_end at n) to parts =
-    let fits = part-fits (eqb a at && leb (a + 4) b) (within from head_end b (n + 1)) calls to parts in
-    parts-chained calls (within from head_end b (n + 1)) to fits.1
-parts-chained (unit_call unit ∷ calls) (within from head_end at n) to parts =
-    let fits = part-fits ((eqb unit.from from && (eqb unit.head_end head_end && eqb unit.to at)) && (eqb unit.slices n && ltb 0 n)) (between at) calls to parts in
-    let places = (and_parts (eqb unit.from from && (eqb unit.head_end head_end && eqb unit.to at)) (eqb unit.slices n && ltb 0 n) fits.0).0 in
-    let first = and_parts (eqb unit.from from) (eqb unit.head_end head_end && eqb unit.to at) places in
-    let end = eqb-true unit.to at (and_parts (eqb unit.head_end head_end) (eqb unit.to at) first.1).1 in
-    (eqb-true unit.from from first.0, subst (λ f. AreChained f (units_in calls) to) (sym end) (parts-chained calls (between at) to fits.1))
-
-pub film-chained : (film : Film) → (from : ℕ) × AreChained from film.units.items (length film.bytes.items)
-unfolding begin_of_part
-film-chained film =
-    let r = read [] film.bytes.items in
-    let end : length r ≡ length film.bytes.items = length-read film.bytes.items [] ∙ omega arith in
-    let chained = parts-chained (all_told r) (between (first_of (codes_of r))) (length r) (film-tiles r film.grammar.accepted) in
-    let P : List PictureUnit → Type 0 = λ l. AreChained (first_of (codes_of r)) l (length film.bytes.items) in
-    (first_of (codes_of r), subst P (sym film.grammar.units) (subst (λ e. AreChained (first_of (codes_of r)) (units_in (all_told r)) e) end chained))
 
 -- ---- what follows for the pieces
 
@@ -100,10 +60,11 @@ film-few film =
 
 pub film-bound : (film : Film) → sum (map (λ u. wire_size film.slice_starts.items u) film.units.items) ≤ 2 ^ 42
 film-bound film =
-    let chained = film-chained film in
+    let chained = film-chained film.bytes.items film.rate film.units.items film.slice_starts.items film.grammar in
+    let from = first_of (codes_of (read [] film.bytes.items)) in
     omega (
       arith,
       film-few film,
       film-bytes film.bytes.items film.grammar.accepted,
-      units-bound (length film.bytes.items) film.slice_starts.items film.units.items chained.0 (length film.bytes.items) (laid-film film) chained.1,
+      units-bound (length film.bytes.items) film.slice_starts.items film.units.items from (length film.bytes.items) (laid-film film) chained,
     )

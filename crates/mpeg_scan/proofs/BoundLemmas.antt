@@ -21,9 +21,9 @@ use Rattle.mpeg_scan.proofs.CountLemmas.{film-count}
 abbrev pub IsRate : ℕ → Type 0
 IsRate rate = (1 ≤ rate) × (rate ≤ 8)
 
-some-cond : (b : Bool) (f : FilmFault) (rest : Option FilmFault) → cond b (Some f) rest ≡ None → (b ≡ false) × (rest ≡ None)
-some-cond true f rest e = absurd (cc)
-some-cond false f rest e = (refl, e)
+pub some-cond-none : (b : Bool) (f : FilmFault) (rest : Option FilmFault) → cond b (Some f) rest ≡ None → (b ≡ false) × (rest ≡ None)
+some-cond-none true f rest e = absurd (cc)
+some-cond-none false f rest e = (refl, e)
 
 positive : (n : ℕ) → eqb n 0 ≡ false → 1 ≤ n
 positive zero e = absurd (true≢false e)
@@ -31,10 +31,10 @@ positive (suc n) e = omega arith
 
 judged-rate : (c : Code) → rate_fault 0 c ≡ None → IsRate (rate_code c)
 judged-rate c e =
-    let parts = or_parts (eqb (rate_code c) 0) (ltb 8 (rate_code c) || (ltb 0 0 && not (eqb (rate_code c) 0))) (some-cond (eqb (rate_code c) 0 || (ltb 8 (rate_code c) || (ltb 0 0 && not (eqb (rate_code c) 0)))) (BadRate c.place (rate_code c)) None e).0 in
+    let parts = or_parts (eqb (rate_code c) 0) (ltb 8 (rate_code c) || (ltb 0 0 && not (eqb (rate_code c) 0))) (some-cond-none (eqb (rate_code c) 0 || (ltb 8 (rate_code c) || (ltb 0 0 && not (eqb (rate_code c) 0)))) (BadRate c.place (rate_code c)) None e).0 in
     (positive (rate_code c) parts.0, ltb-false 8 (rate_code c) (or_parts (ltb 8 (rate_code c)) (ltb 0 0 && not (eqb (rate_code c) 0)) parts.1).0)
 
-sequence-judged : (b : Bool) (f g : Option FilmFault) → b ≡ true → cond b f g ≡ None → f ≡ None
+pub sequence-judged : (b : Bool) (f g : Option FilmFault) → b ≡ true → cond b f g ≡ None → f ≡ None
 sequence-judged true f g is e = e
 sequence-judged false f g is e = absurd (true≢false (sym is))
 
@@ -42,20 +42,20 @@ sequence-judged false f g is e = absurd (true≢false (sym is))
 first-rate : (c : Code) (end : ℕ) → c.kind ≡ 0xb3 → header_fault 0 c end ≡ None → IsRate (rate_of (c ∷ []))
 first-rate c end is e =
     let test : eqb c.kind 0xb3 ≡ true = eq-eqb c.kind 0xb3 is in
-    let judged = some-cond (ltb (end - c.place) 12) (ShortHeader c.place) (rate_fault 0 c) (sequence-judged (eqb c.kind 0xb3) (cond (ltb (end - c.place) 12) (Some (ShortHeader c.place)) (rate_fault 0 c)) (cond (eqb c.kind 0xb8) (cond (ltb (end - c.place) 8) (Some (ShortHeader c.place)) None) (cond (eqb c.kind 0) (picture_fault c end) None)) test e) in
+    let judged = some-cond-none (ltb (end - c.place) 12) (ShortHeader c.place) (rate_fault 0 c) (sequence-judged (eqb c.kind 0xb3) (cond (ltb (end - c.place) 12) (Some (ShortHeader c.place)) (rate_fault 0 c)) (cond (eqb c.kind 0xb8) (cond (ltb (end - c.place) 8) (Some (ShortHeader c.place)) None) (cond (eqb c.kind 0) (picture_fault c end) None)) test e) in
     subst (λ b. IsRate (cond b (rate_code c) 0)) (sym test) (judged-rate c judged.1)
 
 later-rate : (c : Code) (past : List Code) → IsRate (rate_of past) → IsRate (rate_of (c ∷ past))
 later-rate c past rate =
     subst (λ b. IsRate (cond (b && eqb c.kind 0xb3) (rate_code c) (rate_of past))) (sym (ne_eqb (rate_of past) 0 (λ none. absurd (omega (arith, rate.0))))) rate
 
-older-judged : (c : Code) (past : List Code) → first_fault (c ∷ past) ≡ None → latest_fault past c.place ≡ None
+pub older-judged : (c : Code) (past : List Code) → first_fault (c ∷ past) ≡ None → latest_fault past c.place ≡ None
 unfolding first_fault fault_at
 older-judged c past e =
     otherwise-first (latest_fault past c.place) (code_fault (tally_of past) c.place c.kind)
     (otherwise-second (first_fault past) (otherwise (latest_fault past c.place) (code_fault (tally_of past) c.place c.kind)) e)
 
-codes-rate : (c : Code) (past : List Code) (end : ℕ) → first_fault (c ∷ past) ≡ None → latest_fault (c ∷ past) end ≡ None → IsRate (rate_of (c ∷ past))
+pub codes-rate : (c : Code) (past : List Code) (end : ℕ) → first_fault (c ∷ past) ≡ None → latest_fault (c ∷ past) end ≡ None → IsRate (rate_of (c ∷ past))
 codes-rate c [] end accepted judged = first-rate c end (first-is c accepted) judged
 codes-rate c (d ∷ past) end accepted judged =
     later-rate c (d ∷ past) (codes-rate d past c.place (accepted-older c (d ∷ past) accepted) (older-judged c (d ∷ past) accepted))
@@ -77,8 +77,8 @@ bytes-bound : (r : List ℕ) → refusal_of r ≡ None → length r ≤ 2 ^ 40
 unfolding refusal_of
 bytes-bound r e =
     let rest = otherwise (first_fault (codes_of r)) (end_fault (codes_of r) (length r)) in
-    let some = some-cond (eqb (length r) 0) Empty (cond (ltb (2 ^ 40) (length r)) (Some TooLong) rest) e in
-    ltb-false (2 ^ 40) (length r) (some-cond (ltb (2 ^ 40) (length r)) TooLong rest some.1).0
+    let some = some-cond-none (eqb (length r) 0) Empty (cond (ltb (2 ^ 40) (length r)) (Some TooLong) rest) e in
+    ltb-false (2 ^ 40) (length r) (some-cond-none (ltb (2 ^ 40) (length r)) TooLong rest some.1).0
 
 pub film-bytes : (bytes : List ℕ) → refusal bytes ≡ None → length bytes ≤ 2 ^ 40
 film-bytes bytes e = omega (arith, length-read bytes [], bytes-bound (read [] bytes) e)

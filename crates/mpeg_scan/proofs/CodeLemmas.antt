@@ -33,7 +33,7 @@ unfolding matched
 matched-more x r =
     table (eqb x 1) (eqb x 0) (eqb (back r 0) 1) (eqb (back r 0) 0) (eqb (back r 1) 0) (eqb (back r 2) 0) (apart x) (apart (back r 0))
 
-noted-by : (b : Bool) (text : List ℕ) (x : ℕ) → ltb (length text) 5 ≡ b → noted text x ≡ cond b (text ++ x ∷ []) text
+pub noted-by : (b : Bool) (text : List ℕ) (x : ℕ) → ltb (length text) 5 ≡ b → noted text x ≡ cond b (text ++ x ∷ []) text
 unfolding noted
 noted-by b text x e = ap (λ v. cond v (text ++ x ∷ []) text) e
 

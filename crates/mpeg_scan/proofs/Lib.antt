@@ -7,3 +7,6 @@ pub mod CountLemmas
 pub mod PlaceLemmas
 pub mod GrammarLemmas
 pub mod BoundLemmas
+pub mod LaidLemmas
+pub mod TextLemmas
+pub mod FirstLemmas

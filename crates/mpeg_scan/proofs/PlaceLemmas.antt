@@ -10,15 +10,15 @@ use Rattle.mpeg_scan.proofs.StepLemmas.{codes-none, codes-plain, codes-code}
 use Rattle.mpeg_scan.proofs.FilmLemmas.{length-read}
 
 -- byte i of bytes that are given the latest first
-at : List ℕ → ℕ → ℕ
+pub at : List ℕ → ℕ → ℕ
 at [] i = 256
 at (x ∷ r) i = cond (eqb i (length r)) x (at r i)
 
-at-last : (x : ℕ) (r : List ℕ) (i : ℕ) → i ≡ length r → at (x ∷ r) i ≡ x
+pub at-last : (x : ℕ) (r : List ℕ) (i : ℕ) → i ≡ length r → at (x ∷ r) i ≡ x
 unfolding at
 at-last x r i last = ap (λ b. cond b x (at r i)) (eq-eqb i (length r) last)
 
-at-older : (x : ℕ) (r : List ℕ) (i : ℕ) → (i ≡ length r → ⊥) → at (x ∷ r) i ≡ at r i
+pub at-older : (x : ℕ) (r : List ℕ) (i : ℕ) → (i ≡ length r → ⊥) → at (x ∷ r) i ≡ at r i
 unfolding at
 at-older x r i other = ap (λ b. cond b x (at r i)) (ne_eqb i (length r) other)
 
@@ -53,8 +53,8 @@ record Stands (r : List ℕ) (i k : ℕ) : Type 0 where
   third : at r (i + 2) ≡ 1
   fourth : at r (i + 3) ≡ k
 
-record Prefixed (r : List ℕ) (i : ℕ) : Type 0 where
-  ends : i + 3 ≡ length r
+pub record Prefixed (r : List ℕ) (i : ℕ) : Type 0 where
+  pub ends : i + 3 ≡ length r
   first : at r i ≡ 0
   second : at r (i + 1) ≡ 0
   third : at r (i + 2) ≡ 1
@@ -71,7 +71,7 @@ back-there r k v is small = elim (cases_lt k (length r)) [
   | inr past ↦ absurd (let far = get_or_past r k 256 past in omega (arith, far, is))
 ]
 
-whole-prefixed : (r : List ℕ) → is_whole (matched r) ≡ true → Prefixed r (length r - 3)
+pub whole-prefixed : (r : List ℕ) → is_whole (matched r) ≡ true → Prefixed r (length r - 3)
 unfolding matched
 whole-prefixed r e =
     let test = whole-test (eqb (back r 0) 1 && (eqb (back r 1) 0 && eqb (back r 2) 0)) (eqb (back r 0) 0 && eqb (back r 1) 0) (eqb (back r 0) 0) e in
@@ -168,7 +168,7 @@ stands-has (x ∷ r) i k s = elim (cases_lt (i + 3) (length r)) [
       new-has x r i k (stands-last x r i k ends s) (sym (at-last x r (i + 3) ends) ∙ s.fourth))
 ]
 
-at-bytes : (bytes : List ℕ) (i : ℕ) → at (read [] bytes) i ≡ get_or bytes i 256
+pub at-bytes : (bytes : List ℕ) (i : ℕ) → at (read [] bytes) i ≡ get_or bytes i 256
 at-bytes bytes i = ap (at (read [] bytes)) (omega arith) ∙ at-read bytes [] i
 
 -- the codes of a film's bytes are those that stand in them

@@ -11,3 +11,4 @@ pub mod Tiles
 pub mod Counts
 pub mod Places
 pub mod Grammar
+pub mod Layout

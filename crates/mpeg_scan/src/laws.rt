@@ -1,11 +1,14 @@
-ghost use Rattle.std.specs.Prelude.{◌≡◌, ◌^◌, ◌≤◌, [], length};
+ghost use Rattle.std.specs.Prelude.{◌≡◌, ℕ, ◌+◌, ◌^◌, ◌<◌, ◌≤◌, ◌++◌, [], List, Some, length, true};
 ghost use Rattle.mpeg_scan.specs.Codes.{codes_of, read};
 ghost use Rattle.mpeg_scan.specs.Counts.{AreNumbered};
-ghost use Rattle.mpeg_scan.specs.Films.{told_of};
+ghost use Rattle.mpeg_scan.specs.Faults.{first_fault};
+ghost use Rattle.mpeg_scan.specs.Films.{refusal, told_of};
 ghost use Rattle.mpeg_scan.specs.Grammar.{IsGrammatical};
+ghost use Rattle.mpeg_scan.specs.Layout.{AreInFilm, BeginsSequence, IsLaid, OfUnit};
 ghost use Rattle.mpeg_scan.specs.Tiles.{Tiles};
 ghost use Rattle.mpeg_scan.specs.Words.{pictures_of};
 
+use crate::faults::FilmFault;
 use crate::films::Film;
 
 /// What holds of every film: its rate code is one of the eight of ISO/IEC 11172-2, 2.4.3.2; it has at most
@@ -22,4 +25,26 @@ pub fn law_film(film: &Film)
     ensures tiled { Tiles (read [] film.now.bytes.items) (told_of film.now.bytes.items) }
 {
     let _read = film.bytes.len();
+}
+
+/// The units of a film: there is at least one, and the first starts a group and begins with the sequence header of the
+/// film's rate. They lie one after another to the film's end, and have their slices in order.
+pub fn law_units(film: &Film)
+    ensures some { 0 < length film.now.units.items }
+    ensures group { OfUnit film.now.units.items 0 (λ u. u.starts_group ≡ true) }
+    ensures begins { OfUnit film.now.units.items 0 (λ u. BeginsSequence film.now.bytes.items film.now.rate u.from) }
+    ensures chained { AreInFilm film.now.bytes.items film.now.units.items }
+    ensures within { (k : ℕ) → OfUnit film.now.units.items k (λ u. u.to ≤ length film.now.bytes.items) }
+    ensures laid { (k : ℕ) → OfUnit film.now.units.items k (λ u. IsLaid film.now.slice_starts.items u) }
+{
+    let _read = film.bytes.len();
+}
+
+/// What is refused stays refused: a refusal at a start code of the bytes so far is that of the film, whatever comes
+/// later; and so is that of bytes which are too many.
+pub fn law_refused_early()
+    ensures code { (front rest : List ℕ) (f : FilmFault) → length (front ++ rest) ≤ 2 ^ 40
+        → first_fault (codes_of (read [] front)) ≡ Some f → refusal (front ++ rest) ≡ Some f }
+    ensures long { (bytes : List ℕ) → 2 ^ 40 < length bytes → refusal bytes ≡ Some FilmFault.TooLong }
+{
 }

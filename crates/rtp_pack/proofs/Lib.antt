@@ -1,6 +1,5 @@
 pub mod PackLemmas
 pub mod CutLemmas
-pub mod LaidLemmas
 pub mod SizeLemmas
 pub mod FlagLemmas
 pub mod UnitLemmas

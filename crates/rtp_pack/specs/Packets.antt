@@ -1,6 +1,7 @@
 -- The packets of a unit.
 use Rattle.std.specs.Prelude.{ℕ, zero, suc, ◌+◌, ◌-◌, ◌==◌, ◌&&◌, ◌||◌, ◌<◌, ◌≤◌, ◌≡◌, Bool, true, false, nat_lt, if◌then◌else◌, List, [], ◌∷◌, ◌++◌, length, take, drop, slice_get, Some}
 use Rattle.mpeg_scan.specs.declared.units.Unit.{Unit as PictureUnit}
+pub use Rattle.mpeg_scan.specs.Layout.{OfUnit, next_place, unit_starts, AreInOrder, IsLaid}
 use Rattle.rtp_pack.specs.declared.filling.Filling.{Filling}
 use Rattle.rtp_pack.specs.declared.filling.Holds.{Holds}
 use Rattle.rtp_pack.specs.declared.filling.Holds.TheVariants.{HeadAlone, Slices, LastFragment}
@@ -9,41 +10,14 @@ use Rattle.rtp_pack.specs.Cutting.{IsCutting, goes_in, start_of, full_before, ne
 
 -- ---- the slices of a unit
 
--- the place of the next slice, or the unit's end
-abbrev pub next_place : ℕ → List ℕ → ℕ
-next_place to [] = to
-next_place to (start ∷ starts) = start
-
 -- the lengths of slices that begin at these places, the last of which ends at `to`
 abbrev pub lengths_to : ℕ → List ℕ → List ℕ
 lengths_to to [] = []
 lengths_to to (start ∷ starts) = (next_place to starts - start) ∷ lengths_to to starts
 
--- the places of a unit's slices, among those of the film's
-abbrev pub unit_starts : List ℕ → PictureUnit → List ℕ
-unit_starts slice_starts unit = take unit.slices (drop unit.first_slice slice_starts)
-
 -- the lengths of a unit's slices
 abbrev pub unit_lengths : List ℕ → PictureUnit → List ℕ
 unit_lengths slice_starts unit = lengths_to unit.to (unit_starts slice_starts unit)
-
--- slices of at least 4 bytes each begin at these places, the first at `at`, and the last ends at `to`
-abbrev pub AreInOrder : ℕ → List ℕ → ℕ → Type 0
-AreInOrder at [] to = at ≡ to
-AreInOrder at (start ∷ starts) to =
-    (start ≡ at) × ((at + 4 ≤ next_place to starts) × AreInOrder (next_place to starts) starts to)
-
--- a unit has a head of 1 to 1,380 bytes, and at least one slice
-pub record IsLaid (slice_starts : List ℕ) (unit : PictureUnit) : Type 0 where
-  pub fits : unit.first_slice + unit.slices ≤ length slice_starts
-  pub head : unit.from < unit.head_end
-  pub short : unit.head_end ≤ unit.from + 1380
-  pub some : 0 < unit.slices
-  pub in_order : AreInOrder unit.head_end (unit_starts slice_starts unit) unit.to
-
--- a fact of a unit of a film, by its number
-abbrev pub OfUnit : List PictureUnit → ℕ → (PictureUnit → Type 0) → Type 0
-OfUnit units number Fact = (unit : PictureUnit) → slice_get units number ≡ Some unit → Fact unit
 
 -- ---- the packets, from the front
 

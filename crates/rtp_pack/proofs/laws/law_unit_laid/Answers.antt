@@ -1,5 +1,5 @@
 use Rattle.std.proofs.Common.{length}
-use Rattle.rtp_pack.proofs.LaidLemmas.{film-laid, laid-at}
+use Rattle.mpeg_scan.proofs.LaidLemmas.{film-laid, laid-at}
 use Rattle.rtp_pack.proofs.laws.law_unit_laid.Goals as goal
 
 pub returns-clause-within : goal.returns-clause-within

@@ -1,4 +1,4 @@
--- The units of an accepted film have their slices in order.
+-- The units of an accepted film lie one after another, and have their slices in order.
 use Rattle.std.proofs.Common.{◌≡◌, ℕ, zero, suc, ◌+◌, ◌-◌, ◌<◌, ◌≤◌, Bool, true, false, cond, eqb, ltb, leb, ◌&&◌, List, [], ◌∷◌, ◌++◌, append_assoc, Some, None, IsSome, length, take, drop, slice_get, refl, sym, ap, subst, ◌∙◌, arith, length-append}
 use Rattle.std.proofs.lemmas.List.{append-nil}
 use Rattle.std.proofs.Math.Seq.{drop-append_seam, take-append_seam}
@@ -12,12 +12,7 @@ use Rattle.mpeg_scan.specs.Tiles.{Part, between, within, first_of, parts_after}
 use Rattle.mpeg_scan.proofs.FilmLemmas.{length-read}
 use Rattle.mpeg_scan.proofs.CountLemmas.{film-numbered}
 use Rattle.mpeg_scan.proofs.TileLemmas.{film-tiles}
-use Rattle.rtp_pack.specs.Packets.{AreInOrder, IsLaid, unit_starts}
-
--- each unit is laid out so, and ends at a place or before it
-abbrev pub AreLaid : ℕ → List ℕ → List PictureUnit → Type 0
-AreLaid end starts [] = Unit {0}
-AreLaid end starts (unit ∷ units) = ((unit.to ≤ end) × IsLaid starts unit) × AreLaid end starts units
+use Rattle.mpeg_scan.specs.Layout.{AreChained, AreInOrder, IsLaid, AreLaid, unit_starts}
 
 pub laid-at : (end : ℕ) (starts : List ℕ) (units : List PictureUnit) (k : ℕ) (unit : PictureUnit) → slice_get units k ≡ Some unit → AreLaid end starts units → (unit.to ≤ end) × IsLaid starts unit
 laid-at end starts [] k unit is laid = cc
@@ -173,3 +168,39 @@ film-laid bytes rate units starts film =
     let laid = part-laid calls (between (first_of (codes_of (read [] bytes)))) no_count (length (read [] bytes)) [] (film-tiles (read [] bytes) film.accepted) (film-numbered (read [] bytes) film.accepted) refl tt in
     subst (λ e. AreLaid e starts units) end
     (subst (λ (l : List ℕ). AreLaid (length (read [] bytes)) l units) (sym film.slices) (subst (λ (l : List PictureUnit). AreLaid (length (read [] bytes)) (slices_in calls) l) (sym film.units) laid))
+
+-- ---- units lie one after another
+
+begin_of_part : Part → ℕ
+begin_of_part (between at) = at
+begin_of_part (within from head_end at n) = from
+
+parts-chained : (calls : List Call) (part : Part) (to : ℕ) → parts_after (Some part) calls ≡ Some (between to) → AreChained (begin_of_part part) (units_in calls) to
+unfolding begin_of_part
+parts-chained [] (between at) to parts = cc
+parts-chained [] (within from head_end at n) to parts = cc
+parts-chained (head_call a b ∷ calls) (between at) to parts =
+    let fits = part-fits (eqb a at && (ltb a b && leb (b - a) 1380)) (within a b b 0) calls to parts in
+    let here = eqb-true a at (and_parts (eqb a at) (ltb a b && leb (b - a) 1380) fits.0).0 in
+    subst (λ f. AreChained f (units_in calls) to) here (parts-chained calls (within a b b 0) to fits.1)
+parts-chained (slice_call a b ∷ calls) (between at) to parts = absurd (false≢true (part-fits false (between at) calls to parts).0)
+parts-chained (unit_call unit ∷ calls) (between at) to parts = absurd (false≢true (part-fits false (between at) calls to parts).0)
+parts-chained (head_call a b ∷ calls) (within from head_end at n) to parts = absurd (false≢true (part-fits false (between at) calls to parts).0)
+parts-chained (slice_call a b ∷ calls) (within from head_end at n) to parts =
+    let fits = part-fits (eqb a at && leb (a + 4) b) (within from head_end b (n + 1)) calls to parts in
+    parts-chained calls (within from head_end b (n + 1)) to fits.1
+parts-chained (unit_call unit ∷ calls) (within from head_end at n) to parts =
+    let fits = part-fits ((eqb unit.from from && (eqb unit.head_end head_end && eqb unit.to at)) && (eqb unit.slices n && ltb 0 n)) (between at) calls to parts in
+    let places = (and_parts (eqb unit.from from && (eqb unit.head_end head_end && eqb unit.to at)) (eqb unit.slices n && ltb 0 n) fits.0).0 in
+    let first = and_parts (eqb unit.from from) (eqb unit.head_end head_end && eqb unit.to at) places in
+    let end = eqb-true unit.to at (and_parts (eqb unit.head_end head_end) (eqb unit.to at) first.1).1 in
+    (eqb-true unit.from from first.0, subst (λ f. AreChained f (units_in calls) to) (sym end) (parts-chained calls (between at) to fits.1))
+
+pub film-chained : (bytes : List ℕ) (rate : ℕ) (units : List PictureUnit) (starts : List ℕ) → IsFilm bytes rate units starts → AreChained (first_of (codes_of (read [] bytes))) units (length bytes)
+unfolding begin_of_part
+film-chained bytes rate units starts film =
+    let r = read [] bytes in
+    let end : length r ≡ length bytes = length-read bytes [] ∙ omega arith in
+    let chained = parts-chained (all_told r) (between (first_of (codes_of r))) (length r) (film-tiles r film.accepted) in
+    let P : List PictureUnit → Type 0 = λ l. AreChained (first_of (codes_of r)) l (length bytes) in
+    subst P (sym film.units) (subst (λ e. AreChained (first_of (codes_of r)) (units_in (all_told r)) e) end chained)

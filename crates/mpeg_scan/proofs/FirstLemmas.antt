@@ -1,0 +1,213 @@
+-- The first unit of an accepted film: it starts a group, and begins with the sequence header of its rate.
+use Rattle.std.proofs.Common.{ℕ, suc, zero, Bool, true, false, not, cond, eqb, ltb, ◌&&◌, ◌||◌, ◌+◌, ◌-◌, ◌*◌, ◌%◌, ◌<◌, ◌≤◌, ◌≡◌, List, [], ◌∷◌, ◌++◌, Option, Some, None, length, get_or, slice_get, sym, ◌∙◌, ap, refl, subst, inl, inr, arith}
+use Rattle.std.proofs.lemmas.Bool.{cases_Bool, true≢false, eq-eqb, ne_eqb, ltb-false}
+use Rattle.mpeg_scan.specs.declared.codes.Code.{Code}
+use Rattle.mpeg_scan.specs.declared.faults.FilmFault.{FilmFault}
+use Rattle.mpeg_scan.specs.declared.faults.FilmFault.TheVariants.{ShortHeader}
+use Rattle.mpeg_scan.specs.declared.units.Unit.{Unit as PictureUnit}
+use Rattle.mpeg_scan.specs.Codes.{read, codes_of}
+use Rattle.mpeg_scan.specs.Words.{is_head, is_slice, rate_code, rate_of, slices_of, starts_group, tally_of}
+use Rattle.mpeg_scan.specs.Faults.{end_fault, first_fault, header_fault, last_fault, latest_fault, picture_fault, rate_fault, refusal_of}
+use Rattle.mpeg_scan.specs.Calls.{Call, head_call, slice_call, unit_call, calls_at, told, all_told, unit_at, unit_end}
+use Rattle.mpeg_scan.specs.Films.{IsFilm, units_in}
+use Rattle.mpeg_scan.specs.Tiles.{first_of}
+use Rattle.mpeg_scan.specs.Places.{HasCode, StandsAt}
+use Rattle.mpeg_scan.specs.Layout.{AreChained, BeginsSequence}
+use Rattle.mpeg_scan.proofs.StepLemmas.{accepted-older, otherwise-first, otherwise-second}
+use Rattle.mpeg_scan.proofs.TileLemmas.{accepted-whole, ended-none, first-is, slice-apart, told-cons, told-nil}
+use Rattle.mpeg_scan.proofs.BoundLemmas.{codes-rate, older-judged, sequence-judged, some-cond-none}
+use Rattle.mpeg_scan.proofs.FilmLemmas.{length-read, units_in-append}
+use Rattle.mpeg_scan.proofs.PlaceLemmas.{at-bytes, codes-stand}
+use Rattle.mpeg_scan.proofs.TextLemmas.{TextIs, TextsAre, codes-texts, text-byte}
+use Rattle.mpeg_scan.proofs.LaidLemmas.{film-chained}
+
+-- ---- the first unit starts a group
+
+-- the first of these units starts a group; where there is none, the next one does
+abbrev pub FirstStarts : List PictureUnit → Bool → Type 0
+FirstStarts [] starts = starts ≡ true
+FirstStarts (unit ∷ units) starts = unit.starts_group ≡ true
+
+first-more : (units : List PictureUnit) (unit : PictureUnit) (s t : Bool) → FirstStarts units s → unit.starts_group ≡ s → FirstStarts (units ++ unit ∷ []) t
+first-more [] unit s t first is = is ∙ first
+first-more (u ∷ units) unit s t first is = first
+
+first-same : (units : List PictureUnit) (s : Bool) → FirstStarts units s → FirstStarts (units ++ []) s
+first-same [] s first = first
+first-same (u ∷ units) s first = first
+
+first-true : (units : List PictureUnit) (s : Bool) → FirstStarts units s → FirstStarts (units ++ []) true
+first-true [] s first = refl
+first-true (u ∷ units) s first = first
+
+-- one code more, over plain values: s, h, b8: it is a slice, a head code, a group header; e: no slice so far
+raw-first : (s h b8 q e st : Bool) (units : List PictureUnit) (unit : PictureUnit) (a b c d : ℕ) → (s ≡ true → h ≡ false) → (s ≡ true → b8 ≡ false) → unit.starts_group ≡ st → FirstStarts units st
+    → FirstStarts (units ++ units_in (cond s (cond e (head_call a b ∷ []) (slice_call c d ∷ [])) (cond (h && q) (slice_call c d ∷ unit_call unit ∷ []) []))) (cond (b8 || false) true (cond (h && q) false st))
+raw-first true true b8 q e st units unit a b c d apart other is first = absurd (true≢false (apart refl))
+raw-first true false true q e st units unit a b c d apart other is first = absurd (true≢false (other refl))
+raw-first true false false q true st units unit a b c d apart other is first = first-same units st first
+raw-first true false false q false st units unit a b c d apart other is first = first-same units st first
+raw-first false true b8 true e st units unit a b c d apart other is first = first-more units unit st (cond (b8 || false) true false) first is
+raw-first false true true false e st units unit a b c d apart other is first = first-true units st first
+raw-first false true false false e st units unit a b c d apart other is first = first-same units st first
+raw-first false false true q e st units unit a b c d apart other is first = first-true units st first
+raw-first false false false q e st units unit a b c d apart other is first = first-same units st first
+
+head-other : (a b c : Bool) → (a || (b || c)) ≡ false → c ≡ false
+head-other true b c e = absurd (true≢false e)
+head-other false true c e = absurd (true≢false e)
+head-other false false c e = e
+
+slice-other : (kind : ℕ) → is_slice kind ≡ true → eqb kind 0xb8 ≡ false
+slice-other kind slice = head-other (eqb kind 0) (eqb kind 0xb3) (eqb kind 0xb8) (slice-apart kind slice)
+
+first-step : (c d : Code) (past : List Code) (units : List PictureUnit) → FirstStarts units (starts_group (d ∷ past))
+    → FirstStarts (units ++ units_in (calls_at (tally_of (d ∷ past)) c.place c.kind)) (starts_group (c ∷ (d ∷ past)))
+unfolding calls_at
+first-step c d past units first =
+    let older : List Code = d ∷ past in
+    let t = tally_of older in
+    raw-first (is_slice c.kind) (is_head c.kind) (eqb c.kind 0xb8) (ltb 0 (slices_of older)) (eqb (slices_of older) 0) (starts_group older) units (unit_at t c.place) t.unit c.place t.slice c.place (slice-apart c.kind) (slice-other c.kind) refl first
+
+first-code : (c : Code) → c.kind ≡ 0xb3 → FirstStarts (units_in (calls_at (tally_of []) c.place c.kind)) (starts_group (c ∷ []))
+unfolding calls_at
+first-code c is =
+    subst (λ m. FirstStarts (units_in (cond (is_slice m) (cond (eqb 0 0) (head_call 0 c.place ∷ []) (slice_call 0 c.place ∷ [])) (cond (is_head m && ltb 0 0) (unit_end (tally_of []) c.place) []))) (cond (eqb m 0xb8 || true) true (cond (true || (is_head m && ltb 0 0)) false false))) (sym is) refl
+
+told-first : (c : Code) (past : List Code) → first_fault (c ∷ past) ≡ None → FirstStarts (units_in (told (c ∷ past))) (starts_group (c ∷ past))
+told-first c [] accepted =
+    subst (λ (l : List Call). FirstStarts (units_in l) (starts_group (c ∷ []))) (sym (told-cons c [] ∙ ap (λ (l : List Call). l ++ calls_at (tally_of []) c.place c.kind) told-nil)) (first-code c (first-is c accepted))
+told-first c (d ∷ past) accepted =
+    let calls = calls_at (tally_of (d ∷ past)) c.place c.kind in
+    subst (λ (l : List PictureUnit). FirstStarts l (starts_group (c ∷ (d ∷ past)))) (sym (ap units_in (told-cons c (d ∷ past)) ∙ units_in-append (told (d ∷ past)) calls))
+    (first-step c d past (units_in (told (d ∷ past))) (told-first d past (accepted-older c (d ∷ past) accepted)))
+
+-- there is a first unit, and it starts a group
+abbrev pub StartsGroup : List PictureUnit → Type 0
+StartsGroup [] = ⊥
+StartsGroup (unit ∷ units) = unit.starts_group ≡ true
+
+first-last : (units : List PictureUnit) (unit : PictureUnit) (s : Bool) → FirstStarts units s → unit.starts_group ≡ s → StartsGroup (units ++ unit ∷ [])
+first-last [] unit s first is = is ∙ first
+first-last (u ∷ units) unit s first is = first
+
+whole-first : (past : List Code) (n : ℕ) → first_fault past ≡ None → end_fault past n ≡ None → StartsGroup (units_in (told past ++ unit_end (tally_of past) n))
+unfolding end_fault
+whole-first [] n accepted ended = absurd (omega (arith, ended-none (tally_of []) ended))
+whole-first (c ∷ past) n accepted ended =
+    let all : List Code = c ∷ past in
+    subst (λ (l : List PictureUnit). StartsGroup l) (sym (units_in-append (told all) (unit_end (tally_of all) n)))
+    (first-last (units_in (told all)) (unit_at (tally_of all) n) (starts_group all) (told-first c past accepted) refl)
+
+starts-some : (units : List PictureUnit) → StartsGroup units → 0 < length units
+starts-some [] starts = absurd starts
+starts-some (unit ∷ units) starts = omega arith
+
+starts-first : (units : List PictureUnit) → StartsGroup units → (unit : PictureUnit) → slice_get units 0 ≡ Some unit → unit.starts_group ≡ true
+starts-first [] starts unit is = cc
+starts-first (u ∷ units) starts unit is = let same : u ≡ unit = cc in ap (λ (v : PictureUnit). v.starts_group) (sym same) ∙ starts
+
+film-starts : (bytes : List ℕ) (rate : ℕ) (units : List PictureUnit) (starts : List ℕ) → IsFilm bytes rate units starts → StartsGroup units
+film-starts bytes rate units starts film =
+    let r = read [] bytes in
+    let none = accepted-whole r film.accepted in
+    subst (λ (l : List PictureUnit). StartsGroup l) (sym film.units)
+    (whole-first (codes_of r) (length r) (otherwise-first (first_fault (codes_of r)) (end_fault (codes_of r) (length r)) none) (otherwise-second (first_fault (codes_of r)) (end_fault (codes_of r) (length r)) none))
+
+pub film-some : (bytes : List ℕ) (rate : ℕ) (units : List PictureUnit) (starts : List ℕ) → IsFilm bytes rate units starts → 0 < length units
+film-some bytes rate units starts film = starts-some units (film-starts bytes rate units starts film)
+
+pub film-group : (bytes : List ℕ) (rate : ℕ) (units : List PictureUnit) (starts : List ℕ) → IsFilm bytes rate units starts → (unit : PictureUnit) → slice_get units 0 ≡ Some unit → unit.starts_group ≡ true
+film-group bytes rate units starts film = starts-first units (film-starts bytes rate units starts film)
+
+-- ---- the first sequence header
+
+-- the first of codes that are given the latest first
+pub first_in : Code → List Code → Code
+first_in c [] = c
+first_in c (d ∷ past) = first_in d past
+
+first_in-place : (c : Code) (past : List Code) → first_of (c ∷ past) ≡ (first_in c past).place
+unfolding first_in
+first_in-place c [] = refl
+first_in-place c (d ∷ past) = first_in-place d past
+
+first_in-has : (c : Code) (past : List Code) → HasCode (first_in c past).place (first_in c past).kind (c ∷ past)
+unfolding first_in
+first_in-has c [] = inl (refl, refl)
+first_in-has c (d ∷ past) = inr (first_in-has d past)
+
+first_in-kind : (c : Code) (past : List Code) → first_fault (c ∷ past) ≡ None → (first_in c past).kind ≡ 0xb3
+unfolding first_in
+first_in-kind c [] accepted = first-is c accepted
+first_in-kind c (d ∷ past) accepted = first_in-kind d past (accepted-older c (d ∷ past) accepted)
+
+first_in-rate : (c : Code) (past : List Code) (end : ℕ) → first_fault (c ∷ past) ≡ None → latest_fault (c ∷ past) end ≡ None → rate_of (c ∷ past) ≡ rate_code (first_in c past)
+unfolding first_in
+first_in-rate c [] end accepted judged = ap (λ b. cond b (rate_code c) 0) (eq-eqb c.kind 0xb3 (first-is c accepted))
+first_in-rate c (d ∷ past) end accepted judged =
+    let older = accepted-older c (d ∷ past) accepted in
+    let before = older-judged c (d ∷ past) accepted in
+    let rate = codes-rate d past c.place older before in
+    ap (λ b. cond (b && eqb c.kind 0xb3) (rate_code c) (rate_of (d ∷ past))) (ne_eqb (rate_of (d ∷ past)) 0 (λ none. absurd (omega (arith, rate.0))))
+    ∙ first_in-rate d past c.place older before
+
+long-header : (rate : ℕ) (c : Code) (end : ℕ) → c.kind ≡ 0xb3 → header_fault rate c end ≡ None → c.place + 12 ≤ end
+long-header rate c end is e =
+    let test : eqb c.kind 0xb3 ≡ true = eq-eqb c.kind 0xb3 is in
+    let judged = some-cond-none (ltb (end - c.place) 12) (ShortHeader c.place) (rate_fault rate c) (sequence-judged (eqb c.kind 0xb3) (cond (ltb (end - c.place) 12) (Some (ShortHeader c.place)) (rate_fault rate c)) (cond (eqb c.kind 0xb8) (cond (ltb (end - c.place) 8) (Some (ShortHeader c.place)) None) (cond (eqb c.kind 0) (picture_fault c end) None)) test e) in
+    omega (arith, ltb-false (end - c.place) 12 judged.0)
+
+-- the first code's text, and the bytes that its header has at least
+record FirstText (r : List ℕ) (c : Code) : Type 0 where
+  stop : ℕ
+  is : TextIs r stop c
+  long : c.place + 12 ≤ stop
+
+first_in-text : (r : List ℕ) (c : Code) (past : List Code) (end stop : ℕ) → first_fault (c ∷ past) ≡ None → latest_fault (c ∷ past) end ≡ None → end ≤ stop → TextsAre r stop (c ∷ past) → FirstText r (first_in c past)
+unfolding first_in
+first_in-text r c [] end stop accepted judged far texts =
+    record { stop = stop; is = texts.0; long = omega (arith, long-header 0 c end (first-is c accepted) judged) }
+first_in-text r c (d ∷ past) end stop accepted judged far texts =
+    first_in-text r d past c.place (c.place + 4) (accepted-older c (d ∷ past) accepted) (older-judged c (d ∷ past) accepted) (omega arith) texts.1
+
+record Begins (bytes : List ℕ) (past : List Code) : Type 0 where
+  begins : BeginsSequence bytes (rate_of past) (first_of past)
+
+codes-begin : (bytes : List ℕ) (past : List Code) → codes_of (read [] bytes) ≡ past → first_fault past ≡ None → end_fault past (length (read [] bytes)) ≡ None → TextsAre (read [] bytes) (length (read [] bytes)) past → Begins bytes past
+unfolding end_fault
+codes-begin bytes [] codes accepted ended texts = absurd (omega (arith, ended-none (tally_of []) ended))
+codes-begin bytes (c ∷ past) codes accepted ended texts =
+    let r = read [] bytes in
+    let n = length r in
+    let judged = otherwise-first (latest_fault (c ∷ past) n) (last_fault (tally_of (c ∷ past))) ended in
+    let f = first_in c past in
+    let text = first_in-text r c past n n accepted judged (omega arith) texts in
+    let long : length r ≡ length bytes = length-read bytes [] ∙ omega arith in
+    let place : first_of (c ∷ past) ≡ f.place = first_in-place c past in
+    let has : HasCode f.place 0xb3 (codes_of r) =
+    subst (λ (l : List Code). HasCode f.place 0xb3 l) (sym codes) (subst (λ k. HasCode f.place k (c ∷ past)) (first_in-kind c past accepted) (first_in-has c past)) in
+    let byte : get_or f.text 3 0 ≡ get_or bytes (f.place + 4 + 3) 0 = text-byte bytes r text.stop f 3 (at-bytes bytes) (omega arith) (omega (arith, text.long)) text.is long in
+    let here : f.place + 4 + 3 ≡ f.place + 7 = omega arith in
+    let rate : rate_of (c ∷ past) ≡ get_or bytes (f.place + 7) 0 % 16 =
+    first_in-rate c past n accepted judged ∙ ap (λ b. b % 16) (byte ∙ ap (λ i. get_or bytes i 0) here) in
+    record {
+      begins = subst (λ p. BeginsSequence bytes (rate_of (c ∷ past)) p) (sym place) (record {
+        code = (codes-stand bytes f.place 0xb3).0 has;
+        fits = omega (arith, text.long, text.is.within, long);
+        rate_is = sym rate;
+      });
+    }
+
+chained-first : (from to : ℕ) (units : List PictureUnit) (unit : PictureUnit) → slice_get units 0 ≡ Some unit → AreChained from units to → unit.from ≡ from
+chained-first from to [] unit is chained = cc
+chained-first from to (u ∷ units) unit is chained = let same : u ≡ unit = cc in ap (λ (v : PictureUnit). v.from) (sym same) ∙ chained.0
+
+-- the first unit begins with the sequence header of the film's rate
+pub film-begins : (bytes : List ℕ) (rate : ℕ) (units : List PictureUnit) (starts : List ℕ) → IsFilm bytes rate units starts → (unit : PictureUnit) → slice_get units 0 ≡ Some unit → BeginsSequence bytes rate unit.from
+film-begins bytes rate units starts film unit is =
+    let r = read [] bytes in
+    let none = accepted-whole r film.accepted in
+    let begins = codes-begin bytes (codes_of r) refl (otherwise-first (first_fault (codes_of r)) (end_fault (codes_of r) (length r)) none) (otherwise-second (first_fault (codes_of r)) (end_fault (codes_of r) (length r)) none) (codes-texts r) in
+    let from : unit.from ≡ first_of (codes_of r) = chained-first (first_of (codes_of r)) (length bytes) units unit is (film-chained bytes rate units starts film) in
+    subst (λ p. BeginsSequence bytes rate p) (sym from) (subst (λ v. BeginsSequence bytes v (first_of (codes_of r))) (sym film.rate) begins.begins)

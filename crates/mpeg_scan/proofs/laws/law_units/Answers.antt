@@ -1,0 +1,21 @@
+use Rattle.mpeg_scan.specs.Codes.{codes_of, read}
+use Rattle.mpeg_scan.specs.Tiles.{first_of}
+use Rattle.mpeg_scan.proofs.FirstLemmas.{film-begins, film-group, film-some}
+use Rattle.mpeg_scan.proofs.LaidLemmas.{film-chained, film-laid, laid-at}
+use Rattle.std.proofs.Common.{[], length}
+use Rattle.mpeg_scan.proofs.laws.law_units.Goals as goal
+
+pub returns : goal.returns
+returns c =
+    let film = c.args.film.now in
+    let bytes = film.bytes.items in
+    let units = film.units.items in
+    let starts = film.slice_starts.items in
+    record {
+      some = film-some bytes film.rate units starts film.grammar;
+      group = film-group bytes film.rate units starts film.grammar;
+      begins = film-begins bytes film.rate units starts film.grammar;
+      chained = (first_of (codes_of (read [] bytes)), film-chained bytes film.rate units starts film.grammar);
+      within = λ k u is. (laid-at (length bytes) starts units k u is (film-laid bytes film.rate units starts film.grammar)).0;
+      laid = λ k u is. (laid-at (length bytes) starts units k u is (film-laid bytes film.rate units starts film.grammar)).1;
+    }
