@@ -8,7 +8,7 @@ use Rattle.mpeg_scan.specs.declared.films.Film.{Film}
 use Rattle.rtp_pack.specs.declared.payloads.Packet.{Packet}
 use Rattle.rtp_pack.specs.declared.reports.Identity.{Identity}
 use Rattle.rtp_pack.specs.Packets.{DoCover, IsLaid, unit_packets}
-use Rattle.mpeg_scan.specs.Layout.{AreLaid}
+use Rattle.mpeg_scan.specs.Layout.{AreChained, AreLaid}
 use Rattle.rtp_pack.proofs.UnitLemmas.{packets-cover}
 use Rattle.film_frames.specs.declared.pieces.Piece.{Piece}
 use Rattle.film_frames.specs.declared.pieces.Piece.TheVariants.{Report, Frame}
@@ -18,7 +18,7 @@ use Rattle.film_frames.specs.Runs.{Run, numbered, payload, piece_bytes, run_of, 
 use Rattle.film_frames.specs.Tracks.{framed}
 use Rattle.film_frames.proofs.TrackLemmas.{begin-all}
 use Rattle.film_frames.proofs.PieceLemmas.{AreSound, cover-le, pieces-cons, unit-le}
-use Rattle.film_frames.proofs.FilmLemmas.{AreChained, film-chained, laid-film, units-wire}
+use Rattle.film_frames.proofs.FilmLemmas.{film-from, film-in_order, laid-film, units-wire}
 use Rattle.film_frames.proofs.RunLemmas.{numbered-count}
 use Rattle.film_frames.proofs.SentLemmas.{IsRun, between, run-begin}
 
@@ -132,8 +132,7 @@ comes-back film first_unit end_unit identity first last order first_at last_at =
     let starts = film.slice_starts.items in
     let end = length film.bytes.items in
     let n = end_unit - first_unit - 1 in
-    let whole = film-chained film in
-    let from = chained-drop units whole.0 end first_unit first first_at whole.1 in
+    let from = chained-drop units (film-from film) end first_unit first first_at (film-in_order film) in
     let here : first_unit + n ≡ end_unit - 1 = omega (arith, order) in
     let at : slice_get (drop first_unit units) n ≡ Some last = get-drop units first_unit n ∙ ap (λ m. slice_get units m) here ∙ last_at in
     let part = chained-take (drop first_unit units) first.from end n last at from in

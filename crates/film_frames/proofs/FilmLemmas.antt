@@ -17,6 +17,14 @@ use Rattle.film_frames.specs.declared.pieces.Piece.{Piece}
 use Rattle.film_frames.specs.Pieces.{film_pieces, pieces_of, unit_pieces, wire_in, wire_size}
 use Rattle.film_frames.proofs.PieceLemmas.{AreSound, pieces-cons, sound-append, unit-bound, unit-le, unit-sound, unit-wire, wire-append}
 
+-- where the units of a film begin, and that they lie one after another from there
+pub film-from : Film → ℕ
+film-from film = first_of (codes_of (read [] film.bytes.items))
+
+pub film-in_order : (film : Film) → AreChained (film-from film) film.units.items (length film.bytes.items)
+unfolding film-from
+film-in_order film = film-chained film.bytes.items film.rate film.units.items film.slice_starts.items film.grammar
+
 -- ---- what follows for the pieces
 
 units-sound : (film starts : List ℕ) (units : List PictureUnit) → AreLaid (length film) starts units → AreSound film (pieces_of starts units)
@@ -60,11 +68,9 @@ film-few film =
 
 pub film-bound : (film : Film) → sum (map (λ u. wire_size film.slice_starts.items u) film.units.items) ≤ 2 ^ 42
 film-bound film =
-    let chained = film-chained film.bytes.items film.rate film.units.items film.slice_starts.items film.grammar in
-    let from = first_of (codes_of (read [] film.bytes.items)) in
     omega (
       arith,
       film-few film,
       film-bytes film.bytes.items film.grammar.accepted,
-      units-bound (length film.bytes.items) film.slice_starts.items film.units.items from (length film.bytes.items) (laid-film film) chained,
+      units-bound (length film.bytes.items) film.slice_starts.items film.units.items (film-from film) (length film.bytes.items) (laid-film film) (film-in_order film),
     )

@@ -10,3 +10,4 @@ pub mod BoundLemmas
 pub mod LaidLemmas
 pub mod TextLemmas
 pub mod FirstLemmas
+pub mod RoomLemmas

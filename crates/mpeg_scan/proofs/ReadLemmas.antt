@@ -6,13 +6,13 @@ use Rattle.std.proofs.Math.Seq.{take-add}
 use Rattle.mpeg_scan.specs.declared.codes.Code.{Code}
 use Rattle.mpeg_scan.specs.declared.codes.Prefix.TheVariants.{Nothing, Zero}
 use Rattle.mpeg_scan.specs.declared.faults.FilmFault.{FilmFault}
-use Rattle.mpeg_scan.specs.declared.scanner.Scanner.{Scanner}
+use Rattle.mpeg_scan.specs.declared.progress.Progress.{Progress}
 use Rattle.mpeg_scan.specs.Codes.{read, matched, next_prefix, is_whole, note_latest, codes_of}
 use Rattle.mpeg_scan.specs.Faults.{otherwise, fault_at, first_fault}
 use Rattle.mpeg_scan.specs.Calls.{Call, told}
 use Rattle.mpeg_scan.specs.Steps.{latest_of, older_of}
 use Rattle.mpeg_scan.specs.Words.{tally_of}
-use Rattle.mpeg_scan.specs.Scans.{Fed, skipped_scan, is_text_full}
+use Rattle.mpeg_scan.specs.Scans.{HasRead, is_text_full}
 use Rattle.mpeg_scan.proofs.CodeLemmas.{matched-more, noted-full}
 use Rattle.mpeg_scan.proofs.StepLemmas.{codes-plain, codes-code, first_fault-note}
 
@@ -46,6 +46,10 @@ next-other true x other is = ap (λ t. cond t Nothing (cond (eqb x 0) Zero Nothi
 next-other false x other is =
     ap (λ t. cond t Nothing (cond (eqb x 0) Zero Nothing)) is ∙ ap (λ t. cond t Zero Nothing) (ne_eqb x 0 other)
 
+-- a run of bytes that change nothing but the place
+abbrev pub skipped_scan : Progress → ℕ → Progress
+skipped_scan s n = record s { fed = s.fed + n }
+
 record Quiet (r q : List ℕ) (n : ℕ) : Type 0 where
   same : codes_of q ≡ codes_of r
   none : matched q ≡ Nothing
@@ -64,15 +68,15 @@ front-nonzero xs n bound nonzero k within zero_there =
     let below : k < n = omega (arith, length-take-le n xs bound) in
     nonzero k below (sym (get_or-take n xs k 0 below) ∙ zero_there)
 
-skipped : (s : Scanner) (r xs : List ℕ) (n : ℕ) → n ≤ length xs → ((k : ℕ) → k < n → get_or xs k 0 ≡ 0 → ⊥) → (s.prefix ≡ Nothing) × (is_text_full s.latest ≡ true) → Fed s r → Quiet r (read r (take n xs)) (length (take n xs))
+skipped : (s : Progress) (r xs : List ℕ) (n : ℕ) → n ≤ length xs → ((k : ℕ) → k < n → get_or xs k 0 ≡ 0 → ⊥) → (s.prefix ≡ Nothing) × (is_text_full s.latest ≡ true) → HasRead s r → Quiet r (read r (take n xs)) (length (take n xs))
 skipped s r xs n bound nonzero quiet kept =
     quiet-run (take n xs) r (front-nonzero xs n bound nonzero) (sym kept.prefix ∙ quiet.0)
     (sym (ap is_text_full kept.latest) ∙ quiet.1)
 
-pub skipped-same : (s : Scanner) (r xs : List ℕ) (n : ℕ) → n ≤ length xs → ((k : ℕ) → k < n → get_or xs k 0 ≡ 0 → ⊥) → (s.prefix ≡ Nothing) × (is_text_full s.latest ≡ true) → Fed s r → codes_of (read r (take n xs)) ≡ codes_of r
+pub skipped-same : (s : Progress) (r xs : List ℕ) (n : ℕ) → n ≤ length xs → ((k : ℕ) → k < n → get_or xs k 0 ≡ 0 → ⊥) → (s.prefix ≡ Nothing) × (is_text_full s.latest ≡ true) → HasRead s r → codes_of (read r (take n xs)) ≡ codes_of r
 skipped-same s r xs n bound nonzero quiet kept = (skipped s r xs n bound nonzero quiet kept).same
 
-pub skipped-kept : (s : Scanner) (r xs : List ℕ) (n : ℕ) → n ≤ length xs → ((k : ℕ) → k < n → get_or xs k 0 ≡ 0 → ⊥) → (s.prefix ≡ Nothing) × (is_text_full s.latest ≡ true) → Fed s r → Fed (skipped_scan s n) (read r (take n xs))
+pub skipped-kept : (s : Progress) (r xs : List ℕ) (n : ℕ) → n ≤ length xs → ((k : ℕ) → k < n → get_or xs k 0 ≡ 0 → ⊥) → (s.prefix ≡ Nothing) × (is_text_full s.latest ≡ true) → HasRead s r → HasRead (skipped_scan s n) (read r (take n xs))
 skipped-kept s r xs n bound nonzero quiet kept =
     let run = skipped s r xs n bound nonzero quiet kept in record {
       fed = omega (arith, run.more, length-take-le n xs bound, kept.fed);
@@ -80,7 +84,6 @@ skipped-kept s r xs n bound nonzero quiet kept =
       latest = kept.latest ∙ ap latest_of (sym run.same);
       tally = kept.tally ∙ ap (λ (l : List Code). tally_of (older_of l)) (sym run.same);
       accepted = ap first_fault run.same ∙ kept.accepted;
-      unrefused = kept.unrefused;
     }
 
 -- ---- what is refused stays refused

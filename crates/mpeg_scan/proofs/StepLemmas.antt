@@ -6,14 +6,14 @@ use Rattle.std.proofs.lemmas.List.{append_assoc}
 use Rattle.mpeg_scan.specs.declared.codes.Code.{Code}
 use Rattle.mpeg_scan.specs.declared.faults.FilmFault.{FilmFault}
 use Rattle.mpeg_scan.specs.declared.faults.FilmFault.TheVariants.{Empty, GroupTooLong, TooLong}
-use Rattle.mpeg_scan.specs.declared.scanner.Scanner.{Scanner}
+use Rattle.mpeg_scan.specs.declared.progress.Progress.{Progress}
 use Rattle.mpeg_scan.specs.declared.tallies.Tally.{Tally}
 use Rattle.mpeg_scan.specs.Codes.{matched, next_prefix, is_whole, note, note_latest, codes_of}
 use Rattle.mpeg_scan.specs.Words.{is_head, is_slice, tally_of, slices_of, all_slices_of, pictures_of, before_group_of}
 use Rattle.mpeg_scan.specs.Faults.{otherwise, latest_fault, kind_fault, second_fault, first_slice_fault, count_fault, code_fault, fault_at, first_fault, end_fault, last_fault, refusal_of}
 use Rattle.mpeg_scan.specs.Calls.{Call, calls_at, told}
 use Rattle.mpeg_scan.specs.Steps.{one_more, one_picture, next, next_by, tally_with, judged, ended, latest_of, older_of}
-use Rattle.mpeg_scan.specs.Scans.{Fed, noted_scan, coded_scan}
+use Rattle.mpeg_scan.specs.Scans.{HasRead, noted_scan, coded_scan}
 use Rattle.mpeg_scan.proofs.CodeLemmas.{matched-more}
 
 -- ---- the codes of a byte more
@@ -155,7 +155,7 @@ note-accepted r x accepted = first_fault-note (codes_of r) x ∙ accepted
 pub note-short : (r : List ℕ) (x : ℕ) → length r < 2 ^ 42 → length (note_latest (codes_of r) x) < 2 ^ 63
 note-short r x short = omega (arith, length-note (codes_of r) x, length-codes r)
 
-pub fed-plain : (s : Scanner) (r : List ℕ) (x : ℕ) → Fed s r → is_whole (matched r) ≡ false → Fed (noted_scan s x) (x ∷ r)
+pub fed-plain : (s : Progress) (r : List ℕ) (x : ℕ) → HasRead s r → is_whole (matched r) ≡ false → HasRead (noted_scan s x) (x ∷ r)
 fed-plain s r x kept plain =
     let codes = codes-plain x r plain in record {
       fed = omega (arith, kept.fed);
@@ -163,18 +163,17 @@ fed-plain s r x kept plain =
       latest = ap (option_map (λ c. note c x)) kept.latest ∙ sym (latest-note (codes_of r) x) ∙ ap latest_of (sym codes);
       tally = kept.tally ∙ ap tally_of (sym (older-note (codes_of r) x) ∙ ap older_of (sym codes));
       accepted = ap first_fault codes ∙ note-accepted r x kept.accepted;
-      unrefused = kept.unrefused;
     }
 
 -- what the scanner judges a code by, once its byte is noted
-pub judged-noted : (s : Scanner) (r : List ℕ) (x place kind : ℕ) → Fed s r → length r < 2 ^ 42 → judged (noted_scan s x).latest s.tally place kind ≡ fault_at (note_latest (codes_of r) x) place kind
+pub judged-noted : (s : Progress) (r : List ℕ) (x place kind : ℕ) → HasRead s r → length r < 2 ^ 42 → judged (noted_scan s x).latest s.tally place kind ≡ fault_at (note_latest (codes_of r) x) place kind
 judged-noted s r x place kind kept short =
     let past = note_latest (codes_of r) x in
     ap (λ (l : Option Code). judged l s.tally place kind) (ap (option_map (λ c. note c x)) kept.latest ∙ sym (latest-note (codes_of r) x))
     ∙ ap (λ (t : Tally). judged (latest_of past) t place kind) (kept.tally ∙ ap tally_of (sym (older-note (codes_of r) x)))
     ∙ judged-is past place kind (note-accepted r x kept.accepted) (note-short r x short)
 
-pub tally-noted : (s : Scanner) (r : List ℕ) (x : ℕ) → Fed s r → length r < 2 ^ 42 → tally_with (noted_scan s x).latest s.tally ≡ tally_of (note_latest (codes_of r) x)
+pub tally-noted : (s : Progress) (r : List ℕ) (x : ℕ) → HasRead s r → length r < 2 ^ 42 → tally_with (noted_scan s x).latest s.tally ≡ tally_of (note_latest (codes_of r) x)
 tally-noted s r x kept short =
     let past = note_latest (codes_of r) x in
     ap (λ (l : Option Code). tally_with l s.tally) (ap (option_map (λ c. note c x)) kept.latest ∙ sym (latest-note (codes_of r) x))
@@ -186,13 +185,13 @@ unfolding first_fault
 first_fault-code past place kind accepted = ap (λ (f : Option FilmFault). otherwise f (fault_at past place kind)) accepted
 
 -- the refusal at a code, and that there is none
-pub first_fault-at : (s : Scanner) (r : List ℕ) (x : ℕ) → Fed s r → length r < 2 ^ 42 → is_whole (matched r) ≡ true → first_fault (codes_of (x ∷ r)) ≡ judged (noted_scan s x).latest s.tally (s.fed - 3) x
+pub first_fault-at : (s : Progress) (r : List ℕ) (x : ℕ) → HasRead s r → length r < 2 ^ 42 → is_whole (matched r) ≡ true → first_fault (codes_of (x ∷ r)) ≡ judged (noted_scan s x).latest s.tally (s.fed - 3) x
 first_fault-at s r x kept short whole =
     let past = note_latest (codes_of r) x in
     ap first_fault (codes-code x r whole) ∙ first_fault-code past (length r - 3) x (note-accepted r x kept.accepted)
     ∙ ap (λ n. fault_at past (n - 3) x) (sym kept.fed) ∙ sym (judged-noted s r x (s.fed - 3) x kept short)
 
-pub fed-code : (s : Scanner) (r : List ℕ) (x : ℕ) → Fed s r → length r < 2 ^ 42 → is_whole (matched r) ≡ true → judged (noted_scan s x).latest s.tally (s.fed - 3) x ≡ None → Fed (coded_scan (noted_scan s x) (s.fed - 3) x) (x ∷ r)
+pub fed-code : (s : Progress) (r : List ℕ) (x : ℕ) → HasRead s r → length r < 2 ^ 42 → is_whole (matched r) ≡ true → judged (noted_scan s x).latest s.tally (s.fed - 3) x ≡ None → HasRead (coded_scan (noted_scan s x) (s.fed - 3) x) (x ∷ r)
 fed-code s r x kept short whole none =
     let codes = codes-code x r whole in
     let past = note_latest (codes_of r) x in record {
@@ -201,7 +200,6 @@ fed-code s r x kept short whole none =
       latest = ap (λ n. latest_of (record { place = n - 3; kind = x; text = [] } ∷ past)) kept.fed ∙ ap latest_of (sym codes);
       tally = tally-noted s r x kept short ∙ ap (λ (l : List Code). tally_of (older_of l)) (sym codes);
       accepted = first_fault-at s r x kept short whole ∙ none;
-      unrefused = kept.unrefused;
     }
 
 told-code : (c : Code) (past : List Code) → told (c ∷ past) ≡ told past ++ calls_at (tally_of past) c.place c.kind
@@ -212,7 +210,7 @@ told-code c past = refl
 pub told-plain : (x : ℕ) (r : List ℕ) → is_whole (matched r) ≡ false → told (codes_of (x ∷ r)) ≡ told (codes_of r)
 told-plain x r plain = ap told (codes-plain x r plain) ∙ told-note (codes_of r) x
 
-pub told-at : (s : Scanner) (r : List ℕ) (x : ℕ) → Fed s r → length r < 2 ^ 42 → is_whole (matched r) ≡ true → told (codes_of (x ∷ r)) ≡ told (codes_of r) ++ calls_at (tally_with (noted_scan s x).latest s.tally) (s.fed - 3) x
+pub told-at : (s : Progress) (r : List ℕ) (x : ℕ) → HasRead s r → length r < 2 ^ 42 → is_whole (matched r) ≡ true → told (codes_of (x ∷ r)) ≡ told (codes_of r) ++ calls_at (tally_with (noted_scan s x).latest s.tally) (s.fed - 3) x
 told-at s r x kept short whole =
     let past = note_latest (codes_of r) x in
     ap told (codes-code x r whole) ∙ told-code (record { place = length r - 3; kind = x; text = [] }) past
@@ -222,37 +220,37 @@ told-at s r x kept short whole =
 
 -- ---- as the code takes a byte
 
-whole-read : (s : Scanner) (r : List ℕ) (b w : Bool) → Fed s r → w ≡ b → w ≡ is_whole s.prefix → is_whole (matched r) ≡ b
+whole-read : (s : Progress) (r : List ℕ) (b w : Bool) → HasRead s r → w ≡ b → w ≡ is_whole s.prefix → is_whole (matched r) ≡ b
 whole-read s r b w kept test is = sym (is ∙ ap is_whole kept.prefix) ∙ test
 
-short-read : (s : Scanner) (r : List ℕ) → Fed s r → s.fed < 2 ^ 41 → length r < 2 ^ 42
+short-read : (s : Progress) (r : List ℕ) → HasRead s r → s.fed < 2 ^ 41 → length r < 2 ^ 42
 short-read s r kept short = omega (arith, kept.fed)
 
-pub taken-plain : (s n : Scanner) (r : List ℕ) (x : ℕ) (w : Bool) → w ≡ false → w ≡ is_whole s.prefix → n ≡ noted_scan s x → Fed s r → Fed n (x ∷ r)
+pub taken-plain : (s n : Progress) (r : List ℕ) (x : ℕ) (w : Bool) → w ≡ false → w ≡ is_whole s.prefix → n ≡ noted_scan s x → HasRead s r → HasRead n (x ∷ r)
 taken-plain s n r x w test is noted kept =
-    subst (λ (v : Scanner). Fed v (x ∷ r)) (sym noted) (fed-plain s r x kept (whole-read s r false w kept test is))
+    subst (λ (v : Progress). HasRead v (x ∷ r)) (sym noted) (fed-plain s r x kept (whole-read s r false w kept test is))
 
-pub taken-code : (s n m : Scanner) (r : List ℕ) (x place : ℕ) (w : Bool) → s.fed < 2 ^ 41 → w ≡ true → w ≡ is_whole s.prefix → n ≡ noted_scan s x → place ≡ s.fed - 3 → (judged n.latest n.tally place x ≡ None) × (m ≡ coded_scan n place x) → Fed s r → Fed m (x ∷ r)
+pub taken-code : (s n m : Progress) (r : List ℕ) (x place : ℕ) (w : Bool) → s.fed < 2 ^ 41 → w ≡ true → w ≡ is_whole s.prefix → n ≡ noted_scan s x → place ≡ s.fed - 3 → (judged n.latest n.tally place x ≡ None) × (m ≡ coded_scan n place x) → HasRead s r → HasRead m (x ∷ r)
 taken-code s n m r x place w short test is noted at h kept =
     let none : judged (noted_scan s x).latest s.tally (s.fed - 3) x ≡ None =
-    sym (ap (λ (v : Scanner). judged v.latest v.tally place x) noted ∙ ap (λ p. judged (noted_scan s x).latest s.tally p x) at) ∙ h.0 in
+    sym (ap (λ (v : Progress). judged v.latest v.tally place x) noted ∙ ap (λ p. judged (noted_scan s x).latest s.tally p x) at) ∙ h.0 in
     let became : m ≡ coded_scan (noted_scan s x) (s.fed - 3) x =
-    h.1 ∙ ap (λ (v : Scanner). coded_scan v place x) noted ∙ ap (λ p. coded_scan (noted_scan s x) p x) at in
-    subst (λ (v : Scanner). Fed v (x ∷ r)) (sym became) (fed-code s r x kept (short-read s r kept short) (whole-read s r true w kept test is) none)
+    h.1 ∙ ap (λ (v : Progress). coded_scan v place x) noted ∙ ap (λ p. coded_scan (noted_scan s x) p x) at in
+    subst (λ (v : Progress). HasRead v (x ∷ r)) (sym became) (fed-code s r x kept (short-read s r kept short) (whole-read s r true w kept test is) none)
 
-pub taken-fault : (s n : Scanner) (r : List ℕ) (x place : ℕ) (w : Bool) (f : FilmFault) → s.fed < 2 ^ 41 → w ≡ true → w ≡ is_whole s.prefix → n ≡ noted_scan s x → place ≡ s.fed - 3 → judged n.latest n.tally place x ≡ Some f → Fed s r → first_fault (codes_of (x ∷ r)) ≡ Some f
+pub taken-fault : (s n : Progress) (r : List ℕ) (x place : ℕ) (w : Bool) (f : FilmFault) → s.fed < 2 ^ 41 → w ≡ true → w ≡ is_whole s.prefix → n ≡ noted_scan s x → place ≡ s.fed - 3 → judged n.latest n.tally place x ≡ Some f → HasRead s r → first_fault (codes_of (x ∷ r)) ≡ Some f
 taken-fault s n r x place w f short test is noted at h kept =
     first_fault-at s r x kept (short-read s r kept short) (whole-read s r true w kept test is)
-    ∙ sym (ap (λ (v : Scanner). judged v.latest v.tally place x) noted ∙ ap (λ p. judged (noted_scan s x).latest s.tally p x) at) ∙ h
+    ∙ sym (ap (λ (v : Progress). judged v.latest v.tally place x) noted ∙ ap (λ p. judged (noted_scan s x).latest s.tally p x) at) ∙ h
 
-pub taken-calls : (s n : Scanner) (r : List ℕ) (x place : ℕ) (w : Bool) → s.fed < 2 ^ 41 → w ≡ true → w ≡ is_whole s.prefix → n ≡ noted_scan s x → place ≡ s.fed - 3 → Fed s r → (calls : List Call) → (calls ++ told (codes_of r)) ++ calls_at (tally_with n.latest n.tally) place x ≡ calls ++ told (codes_of (x ∷ r))
+pub taken-calls : (s n : Progress) (r : List ℕ) (x place : ℕ) (w : Bool) → s.fed < 2 ^ 41 → w ≡ true → w ≡ is_whole s.prefix → n ≡ noted_scan s x → place ≡ s.fed - 3 → HasRead s r → (calls : List Call) → (calls ++ told (codes_of r)) ++ calls_at (tally_with n.latest n.tally) place x ≡ calls ++ told (codes_of (x ∷ r))
 taken-calls s n r x place w short test is noted at kept calls =
     append_assoc calls (told (codes_of r)) (calls_at (tally_with n.latest n.tally) place x)
-    ∙ ap (λ (v : Scanner). calls ++ (told (codes_of r) ++ calls_at (tally_with v.latest v.tally) place x)) noted
+    ∙ ap (λ (v : Progress). calls ++ (told (codes_of r) ++ calls_at (tally_with v.latest v.tally) place x)) noted
     ∙ ap (λ p. calls ++ (told (codes_of r) ++ calls_at (tally_with (noted_scan s x).latest s.tally) p x)) at
     ∙ ap (λ (l : List Call). calls ++ l) (sym (told-at s r x kept (short-read s r kept short) (whole-read s r true w kept test is)))
 
-pub taken-none : (s : Scanner) (r : List ℕ) (x : ℕ) (w : Bool) → w ≡ false → w ≡ is_whole s.prefix → Fed s r → (calls : List Call) → calls ++ told (codes_of r) ≡ calls ++ told (codes_of (x ∷ r))
+pub taken-none : (s : Progress) (r : List ℕ) (x : ℕ) (w : Bool) → w ≡ false → w ≡ is_whole s.prefix → HasRead s r → (calls : List Call) → calls ++ told (codes_of r) ≡ calls ++ told (codes_of (x ∷ r))
 taken-none s r x w test is kept calls =
     ap (λ (l : List Call). calls ++ l) (sym (told-plain x r (whole-read s r false w kept test is)))
 
@@ -264,10 +262,10 @@ end_fault-is [] end accepted short = refl
 end_fault-is (c ∷ past) end accepted short =
     ap (λ (t : Tally). otherwise (latest_fault (c ∷ past) end) (last_fault t)) (next-tally past c (accepted-older c past accepted) (omega arith))
 
-codes-short : (s : Scanner) (r : List ℕ) → Fed s r → s.fed ≤ 2 ^ 40 → length (codes_of r) < 2 ^ 63
+codes-short : (s : Progress) (r : List ℕ) → HasRead s r → s.fed ≤ 2 ^ 40 → length (codes_of r) < 2 ^ 63
 codes-short s r kept short = omega (arith, kept.fed, length-codes r)
 
-ended-is : (s : Scanner) (r : List ℕ) → Fed s r → s.fed ≤ 2 ^ 40 → ended s.latest s.tally s.fed ≡ end_fault (codes_of r) (length r)
+ended-is : (s : Progress) (r : List ℕ) → HasRead s r → s.fed ≤ 2 ^ 40 → ended s.latest s.tally s.fed ≡ end_fault (codes_of r) (length r)
 ended-is s r kept short =
     ap (λ (l : Option Code). ended l s.tally s.fed) kept.latest
     ∙ ap (λ (t : Tally). ended (latest_of (codes_of r)) t s.fed) kept.tally
@@ -281,23 +279,23 @@ refusal-by r some short accepted =
     ∙ ap (λ b. cond b (Some TooLong) (otherwise (first_fault (codes_of r)) (end_fault (codes_of r) (length r)))) (le-ltb (2 ^ 40) (length r) short)
     ∙ ap (λ (f : Option FilmFault). otherwise f (end_fault (codes_of r) (length r))) accepted
 
-pub refusal-empty : (s : Scanner) (r : List ℕ) → s.fed ≡ 0 → Fed s r → refusal_of r ≡ Some Empty
+pub refusal-empty : (s : Progress) (r : List ℕ) → s.fed ≡ 0 → HasRead s r → refusal_of r ≡ Some Empty
 unfolding refusal_of
 refusal-empty s r none kept =
     ap (λ b. cond b (Some Empty) (cond (ltb (2 ^ 40) (length r)) (Some TooLong) (otherwise (first_fault (codes_of r)) (end_fault (codes_of r) (length r))))) (eq-eqb (length r) 0 (sym kept.fed ∙ none))
 
-pub refusal-long : (s : Scanner) (r : List ℕ) → 2 ^ 40 < s.fed → Fed s r → refusal_of r ≡ Some TooLong
+pub refusal-long : (s : Progress) (r : List ℕ) → 2 ^ 40 < s.fed → HasRead s r → refusal_of r ≡ Some TooLong
 unfolding refusal_of
 refusal-long s r long kept =
     let far : 2 ^ 40 < length r = omega (arith, kept.fed) in
     ap (λ b. cond b (Some Empty) (cond (ltb (2 ^ 40) (length r)) (Some TooLong) (otherwise (first_fault (codes_of r)) (end_fault (codes_of r) (length r))))) (ne_eqb (length r) 0 (λ none. absurd (omega arith)))
     ∙ ap (λ b. cond b (Some TooLong) (otherwise (first_fault (codes_of r)) (end_fault (codes_of r) (length r)))) (lt-ltb (2 ^ 40) (length r) far)
 
-pub refusal-is : (s : Scanner) (r : List ℕ) → 0 < s.fed → s.fed ≤ 2 ^ 40 → Fed s r → refusal_of r ≡ ended s.latest s.tally s.fed
+pub refusal-is : (s : Progress) (r : List ℕ) → 0 < s.fed → s.fed ≤ 2 ^ 40 → HasRead s r → refusal_of r ≡ ended s.latest s.tally s.fed
 refusal-is s r some short kept =
     refusal-by r (omega (arith, kept.fed)) (omega (arith, kept.fed)) kept.accepted ∙ sym (ended-is s r kept short)
 
-pub tally-ended : (s : Scanner) (r : List ℕ) → s.fed ≤ 2 ^ 40 → Fed s r → tally_with s.latest s.tally ≡ tally_of (codes_of r)
+pub tally-ended : (s : Progress) (r : List ℕ) → s.fed ≤ 2 ^ 40 → HasRead s r → tally_with s.latest s.tally ≡ tally_of (codes_of r)
 tally-ended s r short kept =
     ap (λ (l : Option Code). tally_with l s.tally) kept.latest
     ∙ ap (λ (t : Tally). tally_with (latest_of (codes_of r)) t) kept.tally

@@ -1,14 +1,13 @@
 -- The text of each start code is the film's bytes after it.
-use Rattle.std.proofs.Common.{ℕ, suc, zero, Bool, true, false, cond, ltb, min, ◌+◌, ◌-◌, ◌<◌, ◌≤◌, ◌≡◌, List, [], ◌∷◌, ◌++◌, length, get_or, length-append, sym, ◌∙◌, ap, refl, subst, inl, inr, arith}
-use Rattle.std.proofs.lemmas.Bool.{cases_Bool, cases_lt, ltb-true, ltb-false, lt-ltb, le-ltb}
+use Rattle.std.proofs.Common.{ℕ, suc, true, false, ltb, min, ◌+◌, ◌-◌, ◌<◌, ◌≤◌, ◌≡◌, List, [], ◌∷◌, ◌++◌, length, get_or, length-append, sym, ◌∙◌, ap, subst, inl, inr, arith}
+use Rattle.std.proofs.lemmas.Bool.{cases_Bool, cases_lt, ltb-true, ltb-false}
 use Rattle.std.proofs.lemmas.List.{get_or_append_left, get_or_default}
 use Rattle.std.proofs.Math.Seq.{get_or-append_seam}
 use Rattle.mpeg_scan.specs.declared.codes.Code.{Code}
-use Rattle.mpeg_scan.specs.Texts.{noted}
 use Rattle.mpeg_scan.specs.Codes.{matched, is_whole, note, note_latest, codes_of}
 use Rattle.mpeg_scan.proofs.CodeLemmas.{noted-by}
 use Rattle.mpeg_scan.proofs.StepLemmas.{codes-none, codes-plain, codes-code}
-use Rattle.mpeg_scan.proofs.PlaceLemmas.{at, at-last, at-older, at-bytes, Prefixed, whole-prefixed}
+use Rattle.mpeg_scan.proofs.PlaceLemmas.{at, at-last, at-older, whole-prefixed}
 
 -- a code's text is the first five bytes after it, as far as a place
 pub record TextIs (r : List ℕ) (stop : ℕ) (c : Code) : Type 0 where

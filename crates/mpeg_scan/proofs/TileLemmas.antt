@@ -157,7 +157,7 @@ head-short t place (Some p) e = elim (cases_Bool (ltb 1380 (place - t.unit))) [
   | inr near ↦ ltb-false 1380 (place - t.unit) near
 ]
 
-first_slice-head : (t : Tally) (place kind : ℕ) → first_slice_fault t place kind ≡ None → is_slice kind ≡ true → t.slices ≡ 0 → place - t.unit ≤ 1380
+pub first_slice-head : (t : Tally) (place kind : ℕ) → first_slice_fault t place kind ≡ None → is_slice kind ≡ true → t.slices ≡ 0 → place - t.unit ≤ 1380
 first_slice-head t place kind e slice none =
     head-short t place t.picture (sym (ap (λ b. cond b (head_fault t place t.picture) None) (and_from (is_slice kind) (eqb t.slices 0) slice (eq-eqb t.slices 0 none))) ∙ e)
 

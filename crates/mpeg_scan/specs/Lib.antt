@@ -4,6 +4,7 @@ pub mod Words
 pub mod Faults
 pub mod Calls
 pub mod Steps
+pub mod Room
 pub mod Scans
 pub mod Films
 pub mod Rates

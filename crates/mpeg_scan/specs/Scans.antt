@@ -1,24 +1,31 @@
 -- A scanner that was fed some bytes, which are given the latest first.
-use Rattle.std.specs.Prelude.{ℕ, ◌+◌, ◌≡◌, Bool, true, List, [], Option, Some, None, length, not, nat_lt, option_map}
+use Rattle.std.specs.Prelude.{ℕ, ◌+◌, ◌<◌, ◌≡◌, Bool, true, List, [], ◌++◌, Option, Some, None, length, not, nat_lt, option_map, take}
 use Rattle.mpeg_scan.specs.declared.codes.Code.{Code}
+use Rattle.mpeg_scan.specs.declared.faults.FilmFault.{FilmFault}
 use Rattle.mpeg_scan.specs.declared.faults.ScanRefused.{ScanRefused}
+use Rattle.mpeg_scan.specs.declared.progress.Progress.{Progress}
 use Rattle.mpeg_scan.specs.declared.scanner.Scanner.{Scanner}
-use Rattle.mpeg_scan.specs.Codes.{matched, next_prefix, note, codes_of}
+use Rattle.mpeg_scan.specs.Calls.{Call, told}
+use Rattle.mpeg_scan.specs.Codes.{matched, next_prefix, note, codes_of, read}
 use Rattle.mpeg_scan.specs.Words.{tally_of}
 use Rattle.mpeg_scan.specs.Faults.{first_fault}
 use Rattle.mpeg_scan.specs.Steps.{latest_of, older_of, tally_with}
 
--- it keeps what the bytes say, and no code of theirs is refused
-pub record Fed (s : Scanner) (r : List ℕ) : Type 0 where
+-- what is kept is what the bytes say, and no code of theirs is refused
+pub record HasRead (s : Progress) (r : List ℕ) : Type 0 where
   pub fed : s.fed ≡ length r
   pub prefix : s.prefix ≡ matched r
   pub latest : s.latest ≡ latest_of (codes_of r)
   pub tally : s.tally ≡ tally_of (older_of (codes_of r))
   pub accepted : first_fault (codes_of r) ≡ None
+
+-- the same of a scanner that has refused nothing
+pub record Fed (s : Scanner) (r : List ℕ) : Type 0 where
+  pub progress : HasRead s.progress r
   pub unrefused : s.refused ≡ None
 
 -- a byte that isn't the kind of a code
-abbrev pub noted_scan : Scanner → ℕ → Scanner
+abbrev pub noted_scan : Progress → ℕ → Progress
 noted_scan s x = record s {
   fed = s.fed + 1;
   prefix = next_prefix s.prefix x;
@@ -26,7 +33,7 @@ noted_scan s x = record s {
 }
 
 -- a code
-abbrev pub coded_scan : Scanner → ℕ → ℕ → Scanner
+abbrev pub coded_scan : Progress → ℕ → ℕ → Progress
 coded_scan s place kind = record s {
   latest = Some (record { place = place; kind = kind; text = [] });
   tally = tally_with s.latest s.tally;
@@ -34,15 +41,31 @@ coded_scan s place kind = record s {
 
 -- how many bytes it was fed
 abbrev pub bytes_fed : Scanner → ℕ
-bytes_fed s = s.fed
+bytes_fed s = s.progress.fed
 
 -- its refusal, if it has refused the film
 abbrev pub refused_by : Scanner → Option ScanRefused
 refused_by s = s.refused
 
--- a run of bytes that change nothing but the place
-abbrev pub skipped_scan : Scanner → ℕ → Scanner
-skipped_scan s n = record s { fed = s.fed + n }
+-- the slices so far of its latest unit, and the place of the latest
+abbrev pub open_slices : Scanner → ℕ
+open_slices s = (tally_with s.progress.latest s.progress.tally).slices
+
+abbrev pub open_slice : Scanner → ℕ
+open_slice s = (tally_with s.progress.latest s.progress.tally).slice
+
+-- where it has refused nothing and its latest unit has slices, it is known that the next slice may begin where the
+-- latest does
+abbrev pub IsReady : (ℕ → Type 0) → Scanner → Type 0
+IsReady Ready s = s.refused ≡ None → 0 < open_slices s → Ready (open_slice s)
+
+-- a code of a piece is refused at its last byte, and all that ends before it was told, after these calls
+pub record IsRefusedInPiece (Heard : List Call → Type 0) (r piece : List ℕ) (calls : List Call) (f : FilmFault) : Type 0 where
+  pub count : ℕ
+  pub within : count < length piece
+  pub accepted : first_fault (codes_of (read r (take count piece))) ≡ None
+  pub fault : first_fault (codes_of (read r (take (count + 1) piece))) ≡ Some f
+  pub heard : Heard (calls ++ told (codes_of (read r (take count piece))))
 
 -- whether a code takes no further byte for its text
 abbrev pub is_text_full : Option Code → Bool

@@ -35,16 +35,12 @@ impl Found for Collector {
     }
 
     fn slice(&mut self, from: u64, _to: u64) -> Result<(), NoMemory> {
-        match self.slices.push(from) {
-            Ok(()) => Ok(()),
-            Err(_) => Err(NoMemory),
-        }
+        self.slices.push(from)?;
+        Ok(())
     }
 
     fn unit(&mut self, unit: Unit) -> Result<(), NoMemory> {
-        match self.units.push(unit) {
-            Ok(()) => Ok(()),
-            Err(_) => Err(NoMemory),
-        }
+        self.units.push(unit)?;
+        Ok(())
     }
 }

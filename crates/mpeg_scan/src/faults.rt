@@ -5,6 +5,9 @@ use crate::codes::Code;
 use crate::tallies::{
     EXTENSION, FIRST_SYSTEM, GROUP, PICTURE, SEQUENCE, Tally, is_head, is_slice, rate_code, type_of,
 };
+use std::error::Error;
+use std::fmt;
+use vod_base::NoMemory;
 
 /// Why a film is refused. Places are those of start codes, in bytes from the film's first.
 #[derive(Clone, Copy, Debug, PartialEq, Eq)]
@@ -42,6 +45,61 @@ pub enum ScanRefused {
     Fault(FilmFault),
     /// Memory was wanted.
     NoMemory,
+}
+
+impl fmt::Display for FilmFault {
+    fn fmt<W: fmt::Write>(&self, f: &mut fmt::Formatter<W>) -> fmt::Result {
+        match self {
+            FilmFault::Empty => write!(f, "the film has no byte"),
+            FilmFault::NoSequence => write!(f, "no sequence header is first"),
+            FilmFault::SystemCode(place) => write!(f, "a system code at byte {place}"),
+            FilmFault::Mpeg2(place) => write!(f, "an extension at byte {place}"),
+            FilmFault::ShortHeader(place) => write!(f, "a header cut short at byte {place}"),
+            FilmFault::BadRate(place, code) => write!(
+                f,
+                "picture rate code {code} at byte {place}"
+            ),
+            FilmFault::BadType(place) => write!(f, "no type of a picture at byte {place}"),
+            FilmFault::PictureWithoutSlices(place) => write!(
+                f,
+                "no slice of the picture at byte {place}"
+            ),
+            FilmFault::HeadTooLong(place) => write!(f, "a head too long at byte {place}"),
+            FilmFault::GroupTooLong(place) => write!(
+                f,
+                "too many pictures of a group at byte {place}"
+            ),
+            FilmFault::TooLong => write!(f, "the film is too long"),
+            FilmFault::HeadWithoutPicture(place) => write!(
+                f,
+                "a head without a picture at byte {place}"
+            ),
+        }
+    }
+}
+
+impl Error for FilmFault {}
+
+impl fmt::Display for ScanRefused {
+    fn fmt<W: fmt::Write>(&self, f: &mut fmt::Formatter<W>) -> fmt::Result {
+        match self {
+            ScanRefused::Fault(fault) => write!(f, "{fault}"),
+            ScanRefused::NoMemory => write!(f, "{NoMemory}"),
+        }
+    }
+}
+
+impl Error for ScanRefused {}
+
+impl From<NoMemory> for ScanRefused {
+    ghost use Rattle.mpeg_scan.specs.declared.faults.ScanRefused.{ScanRefused};
+    ghost use Rattle.mpeg_scan.specs.declared.faults.ScanRefused.TheVariants.{NoMemory as WantsMemory};
+
+    ghost from_gives = { λ _ refused. refused ≡ WantsMemory };
+
+    fn from(_want: NoMemory) -> ScanRefused {
+        ScanRefused::NoMemory
+    }
 }
 
 // Bytes of a sequence header, of a group header, and of a picture header without and with the fields of

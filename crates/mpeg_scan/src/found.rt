@@ -1,4 +1,6 @@
-ghost use Rattle.std.specs.Prelude.{◌≡◌, ◌++◌, ◌∷◌, [], List, OnOk};
+ghost use Rattle.std.specs.Prelude.{◌≡◌, ◌+◌, ◌^◌, ◌<◌, ◌≤◌, ◌++◌, ◌∷◌, ℕ, [], List, OnOk, true};
+ghost use Rattle.mpeg_scan.specs.Room.{AwaitsSlice, AwaitsSliceAfter};
+ghost use Rattle.mpeg_scan.specs.Words.{is_slice};
 ghost use Rattle.mpeg_scan.specs.Calls.{Call, calls_at, head_call, slice_call, unit_at, unit_call, unit_end, kind_of};
 
 use crate::tallies::{Header, Tally, is_head, is_slice};
@@ -10,16 +12,29 @@ use vod_base::NoMemory;
 pub trait Found {
     ghost heard: { Self → List Call → Type 0 };
 
-    /// A head, from its unit's first start code to its first slice.
+    // the next slice may begin at a place
+    ghost ready_at: { Self → ℕ → Type 0 } = { λ _ _. Unit {0} };
+
+    /// A head, from its unit's first start code to its first slice: 1 to 1,380 bytes.
     fn head(&mut self, from: u64, to: u64) -> Result<(), NoMemory>
-        ensures { OnOk result ((calls : List Call) → heard self.old calls → heard self.new (calls ++ head_call from to ∷ [])) };
+        requires some { from < to }
+        requires most { to ≤ from + 1380 }
+        requires within { to ≤ 2 ^ 40 }
+        ensures heard { OnOk result ((calls : List Call) → heard self.old calls → heard self.new (calls ++ head_call from to ∷ [])) }
+        ensures ready { OnOk result (ready_at self.new to) };
 
-    /// A slice, from its start code to the next slice of its unit or to its unit's end.
+    /// A slice, from its start code to the next slice of its unit or to its unit's end: at least 4 bytes, from where
+    /// the head or the slice before it ended.
     fn slice(&mut self, from: u64, to: u64) -> Result<(), NoMemory>
-        ensures { OnOk result ((calls : List Call) → heard self.old calls → heard self.new (calls ++ slice_call from to ∷ [])) };
+        requires least { from + 4 ≤ to }
+        requires within { to ≤ 2 ^ 40 }
+        requires ready { ready_at self.old from }
+        ensures heard { OnOk result ((calls : List Call) → heard self.old calls → heard self.new (calls ++ slice_call from to ∷ [])) }
+        ensures ready { OnOk result (ready_at self.new to) };
 
-    /// A unit.
+    /// A unit, which ends where its last slice does.
     fn unit(&mut self, unit: Unit) -> Result<(), NoMemory>
+        requires { ready_at self.old unit.to }
         ensures { OnOk result ((calls : List Call) → heard self.old calls → heard self.new (calls ++ unit_call unit ∷ [])) };
 }
 
@@ -66,16 +81,25 @@ fn unit_at(tally: &Tally, to: u64) -> Unit
 /// Tells of the latest unit's last slice and of the unit, which end at `to`.
 #[tactic(auto, using(std::proofs::lemmas::List::append_assoc))]
 pub fn tell_unit<F: Found>(tally: &Tally, to: u64, found: &mut F) -> Result<(), NoMemory>
+    requires least { tally.now.slice + 4 ≤ to }
+    requires within { to ≤ 2 ^ 40 }
+    requires ready { F.ready_at found.old tally.now.slice }
     ensures { OnOk result ((calls : List Call) → F.heard found.old calls → F.heard found.new (calls ++ unit_end tally.now to)) }
 {
     found.slice(tally.slice, to)?;
     found.unit(unit_at(tally, to))
 }
 
-#[tactic(auto, unfolding(crate::specs::Calls::calls_at))]
 /// Tells of what ends at a code after those of `tally`.
+#[tactic(auto, unfolding(crate::specs::Calls::calls_at))]
 pub fn tell<F: Found>(tally: &Tally, place: u64, kind: u8, found: &mut F) -> Result<(), NoMemory>
-    ensures { OnOk result ((calls : List Call) → F.heard found.old calls → F.heard found.new (calls ++ calls_at tally.now place kind)) }
+    requires head { is_slice kind ≡ true → tally.now.slices ≡ 0 → tally.now.unit < place }
+    requires short { is_slice kind ≡ true → tally.now.slices ≡ 0 → place ≤ tally.now.unit + 1380 }
+    requires least { 0 < tally.now.slices → tally.now.slice + 4 ≤ place }
+    requires within { place ≤ 2 ^ 40 }
+    requires ready { AwaitsSlice (F.ready_at found.old) tally.now }
+    ensures ready { OnOk result (AwaitsSliceAfter (F.ready_at found.new) tally.now place kind) }
+    ensures told { OnOk result ((calls : List Call) → F.heard found.old calls → F.heard found.new (calls ++ calls_at tally.now place kind)) }
 {
     if is_slice(kind) {
         if tally.slices == 0 {

@@ -46,5 +46,4 @@ pub fn law_refused_early()
     ensures code { (front rest : List ℕ) (f : FilmFault) → length (front ++ rest) ≤ 2 ^ 40
         → first_fault (codes_of (read [] front)) ≡ Some f → refusal (front ++ rest) ≡ Some f }
     ensures long { (bytes : List ℕ) → 2 ^ 40 < length bytes → refusal bytes ≡ Some FilmFault.TooLong }
-{
-}
+{}

@@ -8,6 +8,7 @@ mod faults;
 mod films;
 mod found;
 mod laws;
+mod progress;
 mod scanner;
 mod tallies;
 mod texts;

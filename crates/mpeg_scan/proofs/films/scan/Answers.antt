@@ -18,13 +18,13 @@ returns-then-len-gt-FILM-clause-fault c = λ f is.
 pub returns-in-Err-clause-fault : goal.returns-in-Err-clause-fault
 returns-in-Err-clause-fault c = λ f is.
     let same : c.in-Err.refused ≡ Fault f = cc in
-    refusal-at_code c.args.bytes.items f (omega arith) (ap (λ (l : List ℕ). first_fault (codes_of (read [] l))) (sym c.deref.ensures.value) ∙ c.feed.ensures.fault f (cc) [] c.new-scanner.ensures)
+    refusal-at_code c.args.bytes.items f (omega arith) (ap (λ (l : List ℕ). first_fault (codes_of (read [] l))) (sym c.deref.ensures.value) ∙ c.feed.ensures.fault f (cc) [] c.new-scanner.ensures.fed)
 
 pub invariant_of-result : goal.invariant_of-result
 invariant_of-result c =
     let r = read [] c.args.bytes.items in
-    let kept = subst (λ (l : List ℕ). Fed c.feed.new.self (read [] l)) c.deref.ensures.value (c.in-Ok.ensures.kept [] c.new-scanner.ensures) in
-    let first = c.in-Ok.ensures.told [] [] c.new-scanner.ensures (c.new-found.ensures.units ∙ sym (ap units_in told-none), c.new-found.ensures.slices ∙ sym (ap slices_in told-none)) in
+    let kept = subst (λ (l : List ℕ). Fed c.feed.new.self (read [] l)) c.deref.ensures.value (c.in-Ok.ensures.kept [] c.new-scanner.ensures.fed) in
+    let first = c.in-Ok.ensures.told [] [] c.new-scanner.ensures.fed (c.new-found.ensures.units ∙ sym (ap units_in told-none), c.new-found.ensures.slices ∙ sym (ap slices_in told-none)) in
     let start = subst (λ (l : List ℕ). (c.feed.new.found.units.items ≡ units_in (told (codes_of (read [] l)))) × (c.feed.new.found.slices.items ≡ slices_in (told (codes_of (read [] l))))) c.deref.ensures.value first in
     let all = c.in-Ok-finish.ensures.told r [] kept start in
     let ended = c.in-Ok-finish.ensures.ended r kept in
@@ -33,16 +33,16 @@ invariant_of-result c =
 pub returns-in-Err-finish-clause-fault : goal.returns-in-Err-finish-clause-fault
 returns-in-Err-finish-clause-fault c = λ f is.
     let same : c.in-Err-finish.refused ≡ Fault f = cc in
-    c.finish.ensures.fault f (cc) (read [] c.args.bytes.items) (subst (λ (l : List ℕ). Fed c.feed.new.self (read [] l)) c.deref.ensures.value (c.in-Ok.ensures.kept [] c.new-scanner.ensures))
+    c.finish.ensures.fault f (cc) (read [] c.args.bytes.items) (subst (λ (l : List ℕ). Fed c.feed.new.self (read [] l)) c.deref.ensures.value (c.in-Ok.ensures.kept [] c.new-scanner.ensures.fed))
 
 pub returns-in-Ok-finish-clause-tiled : goal.returns-in-Ok-finish-clause-tiled
 returns-in-Ok-finish-clause-tiled c =
-    c.in-Ok-finish.ensures.tiled (read [] c.args.bytes.items) (subst (λ (l : List ℕ). Fed c.feed.new.self (read [] l)) c.deref.ensures.value (c.in-Ok.ensures.kept [] c.new-scanner.ensures))
+    c.in-Ok-finish.ensures.tiled (read [] c.args.bytes.items) (subst (λ (l : List ℕ). Fed c.feed.new.self (read [] l)) c.deref.ensures.value (c.in-Ok.ensures.kept [] c.new-scanner.ensures.fed))
 
 pub returns-in-Ok-finish-clause-numbered : goal.returns-in-Ok-finish-clause-numbered
 returns-in-Ok-finish-clause-numbered c =
-    c.in-Ok-finish.ensures.numbered (read [] c.args.bytes.items) (subst (λ (l : List ℕ). Fed c.feed.new.self (read [] l)) c.deref.ensures.value (c.in-Ok.ensures.kept [] c.new-scanner.ensures))
+    c.in-Ok-finish.ensures.numbered (read [] c.args.bytes.items) (subst (λ (l : List ℕ). Fed c.feed.new.self (read [] l)) c.deref.ensures.value (c.in-Ok.ensures.kept [] c.new-scanner.ensures.fed))
 
 pub returns-in-Ok-finish-clause-grammatical : goal.returns-in-Ok-finish-clause-grammatical
 returns-in-Ok-finish-clause-grammatical c =
-    c.in-Ok-finish.ensures.grammatical (read [] c.args.bytes.items) (subst (λ (l : List ℕ). Fed c.feed.new.self (read [] l)) c.deref.ensures.value (c.in-Ok.ensures.kept [] c.new-scanner.ensures))
+    c.in-Ok-finish.ensures.grammatical (read [] c.args.bytes.items) (subst (λ (l : List ℕ). Fed c.feed.new.self (read [] l)) c.deref.ensures.value (c.in-Ok.ensures.kept [] c.new-scanner.ensures.fed))

@@ -14,14 +14,14 @@ pub returns-in-Err-feed_film-clause-refused : goal.returns-in-Err-feed_film-clau
 returns-in-Err-feed_film-clause-refused g c = λ held told.
     let found : Some c.in-Ok-Some.size ≡ option_map length (file_named held c.args.name.now) = rw c.in-Ok-Some.field-0-is at (c.in-Ok-Some.ensures.found held told) in
     (c.in-Err-feed_film.ensures {u = tt}).refused held (c.find.ensures.kept ∙ told)
-    (first_scanned held c.args.name.now c.in-Ok-Some.size c.new-scanner.result c.new.result.items found c.new-scanner.ensures c.new.ensures.items)
+    (first_scanned held c.args.name.now c.in-Ok-Some.size c.new-scanner.result c.new.result.items found c.new-scanner.ensures.fed c.new.ensures.items)
 
 pub returns-in-Ok-finish-clause-film : goal.returns-in-Ok-finish-clause-film
 returns-in-Ok-finish-clause-film g c = λ held told.
     let found : Some c.in-Ok-Some.size ≡ option_map length (file_named held c.args.name.now) = rw c.in-Ok-Some.field-0-is at (c.in-Ok-Some.ensures.found held told) in
     let scanned : HasScanned held c.args.name.now c.in-Ok-Some.size c.in-Ok-Some.size c.feed_film.new.scanner c.feed_film.new.found.units.items =
     (c.in-Ok-feed_film.ensures {u = tt}).told held (c.find.ensures.kept ∙ told)
-    (first_scanned held c.args.name.now c.in-Ok-Some.size c.new-scanner.result c.new.result.items found c.new-scanner.ensures c.new.ensures.items) in
+    (first_scanned held c.args.name.now c.in-Ok-Some.size c.new-scanner.result c.new.result.items found c.new-scanner.ensures.fed c.new.ensures.items) in
     film_scanned held c.args.name.now c.in-Ok-Some.size c.feed_film.new.scanner c.feed_film.new.found.units.items c.finish.new.found.units.items
     c.in-Ok-finish.ending.rate c.in-Ok-finish.ending.bytes scanned ((c.in-Ok-finish.ensures {u = tt}).ended) ((c.in-Ok-finish.ensures {u = tt}).told)
 
@@ -30,7 +30,7 @@ returns-in-Err-Fault-clause-refused g c = λ held told.
     let found : Some c.in-Ok-Some.size ≡ option_map length (file_named held c.args.name.now) = rw c.in-Ok-Some.field-0-is at (c.in-Ok-Some.ensures.found held told) in
     let scanned : HasScanned held c.args.name.now c.in-Ok-Some.size c.in-Ok-Some.size c.feed_film.new.scanner c.feed_film.new.found.units.items =
     (c.in-Ok-feed_film.ensures {u = tt}).told held (c.find.ensures.kept ∙ told)
-    (first_scanned held c.args.name.now c.in-Ok-Some.size c.new-scanner.result c.new.result.items found c.new-scanner.ensures c.new.ensures.items) in (
+    (first_scanned held c.args.name.now c.in-Ok-Some.size c.new-scanner.result c.new.result.items found c.new-scanner.ensures.fed c.new.ensures.items) in (
       refl,
       end_refused held c.args.name.now c.in-Ok-Some.size c.feed_film.new.scanner c.feed_film.new.found.units.items c.in-Err-Fault.fault scanned
           (c.finish.ensures.fault c.in-Err-Fault.fault (cc)),

@@ -5,8 +5,8 @@ use Rattle.mpeg_scan.specs.Films.{units_in, slices_in}
 use Rattle.mpeg_scan.proofs.FilmLemmas.{units_in-append, slices_in-append}
 use Rattle.mpeg_scan.proofs.collector.CollectorFound.head.Goals as goal
 
-pub returns : goal.returns
-returns c =
+pub returns-clause-heard : goal.returns-clause-heard
+returns-clause-heard c =
     λ calls h. (
       h.0 ∙ sym (units_in-append calls (head_call c.args._from c.args._to ∷ []) ∙ append-nil (units_in calls)),
       h.1 ∙ sym (slices_in-append calls (head_call c.args._from c.args._to ∷ []) ∙ append-nil (slices_in calls)),

@@ -5,10 +5,10 @@ use Rattle.mpeg_scan.specs.Films.{units_in}
 use Rattle.mpeg_scan.proofs.FilmLemmas.{units_in-append, slices_in-append}
 use Rattle.mpeg_scan.proofs.collector.CollectorFound.slice.Goals as goal
 
-pub returns-in-Ok : goal.returns-in-Ok
-returns-in-Ok c =
+pub returns-clause-heard : goal.returns-clause-heard
+returns-clause-heard c =
     λ calls h. (
       h.0 ∙ sym (units_in-append calls (slice_call c.args.from c.args._to ∷ []) ∙ append-nil (units_in calls)),
-      c.in-Ok.ensures.items ∙ ap (λ (l : List ℕ). l ++ c.args.from ∷ []) h.1
+      c.in_ok-push.ensures.items ∙ ap (λ (l : List ℕ). l ++ c.args.from ∷ []) h.1
           ∙ sym (slices_in-append calls (slice_call c.args.from c.args._to ∷ [])),
     )

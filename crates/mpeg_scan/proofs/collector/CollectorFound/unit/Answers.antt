@@ -6,10 +6,10 @@ use Rattle.mpeg_scan.specs.Films.{slices_in}
 use Rattle.mpeg_scan.proofs.FilmLemmas.{units_in-append, slices_in-append}
 use Rattle.mpeg_scan.proofs.collector.CollectorFound.unit.Goals as goal
 
-pub returns-in-Ok : goal.returns-in-Ok
-returns-in-Ok c =
+pub returns : goal.returns
+returns c =
     λ calls h. (
-      c.in-Ok.ensures.items ∙ ap (λ (l : List PictureUnit). l ++ c.args.unit ∷ []) h.0
+      c.in_ok-push.ensures.items ∙ ap (λ (l : List PictureUnit). l ++ c.args.unit ∷ []) h.0
           ∙ sym (units_in-append calls (unit_call c.args.unit ∷ [])),
       h.1 ∙ sym (slices_in-append calls (unit_call c.args.unit ∷ []) ∙ append-nil (slices_in calls)),
     )

@@ -5,5 +5,5 @@ use Rattle.mpeg_scan.specs.Films.{units_in}
 use Rattle.mpeg_scan.proofs.FilmLemmas.{units_in-append}
 use Rattle.vodserve.proofs.scanning.UnitListFound.slice.Goals as goal
 
-pub returns : goal.returns
-returns c = λ calls h. h ∙ sym (units_in-append calls (slice_call c.args._from c.args._to ∷ []) ∙ append-nil (units_in calls))
+pub returns-clause-heard : goal.returns-clause-heard
+returns-clause-heard c = λ calls h. h ∙ sym (units_in-append calls (slice_call c.args._from c.args._to ∷ []) ∙ append-nil (units_in calls))

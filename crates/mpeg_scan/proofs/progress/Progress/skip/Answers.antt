@@ -1,6 +1,6 @@
 use Rattle.std.proofs.Common.{refl}
 use Rattle.mpeg_scan.proofs.ReadLemmas.{skipped-same, skipped-kept}
-use Rattle.mpeg_scan.proofs.scanner.Scanner.skip.Goals as goal
+use Rattle.mpeg_scan.proofs.progress.Progress.skip.Goals as goal
 
 pub returns-clause-kept : goal.returns-clause-kept
 returns-clause-kept c =

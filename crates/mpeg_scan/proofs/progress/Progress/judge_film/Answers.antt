@@ -1,7 +1,8 @@
 use Rattle.std.proofs.Common.{◌∙◌, arith}
 use Rattle.std.proofs.lemmas.Result.{MatchResult-weaker}
+use Rattle.mpeg_scan.proofs.RoomLemmas.{ended-sliced}
 use Rattle.mpeg_scan.proofs.StepLemmas.{refusal-empty, refusal-long, refusal-is, tally-ended}
-use Rattle.mpeg_scan.proofs.scanner.Scanner.judge_film.Goals as goal
+use Rattle.mpeg_scan.proofs.progress.Progress.judge_film.Goals as goal
 
 pub returns-then-self-eq0-clause-fault : goal.returns-then-self-eq0-clause-fault
 returns-then-self-eq0-clause-fault c = λ r kept. refusal-empty c.args.self.now r c.if-self-eq0.true kept
@@ -22,3 +23,15 @@ pub returns-else-self-gt-FILM-clause-fault : goal.returns-else-self-gt-FILM-clau
 returns-else-self-gt-FILM-clause-fault c =
     MatchResult-weaker c.judge_end.result c.judge_end.ensures (λ t h. tt)
     (λ f h r kept. refusal-is c.args.self.now r (omega arith) c.if-self-gt-FILM.false kept ∙ h)
+
+pub returns-else-self-gt-FILM-clause-tally : goal.returns-else-self-gt-FILM-clause-tally
+returns-else-self-gt-FILM-clause-tally c =
+    MatchResult-weaker c.judge_end.result c.judge_end.ensures (λ t h. h.1) (λ f h. tt)
+
+pub returns-else-self-gt-FILM-clause-sliced : goal.returns-else-self-gt-FILM-clause-sliced
+returns-else-self-gt-FILM-clause-sliced c =
+    MatchResult-weaker c.judge_end.result c.judge_end.ensures (λ t h. ended-sliced c.args.self.now.latest c.args.self.now.tally t c.args.self.now.fed h.0 h.1) (λ f h. tt)
+
+pub returns-else-self-gt-FILM-clause-short : goal.returns-else-self-gt-FILM-clause-short
+returns-else-self-gt-FILM-clause-short c =
+    MatchResult-weaker c.judge_end.result c.judge_end.ensures (λ t h. c.if-self-gt-FILM.false) (λ f h. tt)

@@ -1,0 +1,233 @@
+-- The scanner's latest unit and slice begin well before the next code.
+use Rattle.std.proofs.Common.{Result, Ok, Err, OnOk, ℕ, Bool, true, false, not, cond, eqb, ltb, leb, ◌&&◌, ◌||◌, ◌+◌, ◌-◌, ◌<◌, ◌≤◌, ◌≡◌, [], Option, Some, None, sym, ◌∙◌, ap, refl, subst, arith}
+use Rattle.std.specs.Option.{option_map}
+use Rattle.std.proofs.lemmas.Bool.{true≢false, false≢true, ne_eqb, leb-true, and_parts}
+use Rattle.mpeg_scan.specs.declared.codes.Code.{Code}
+use Rattle.mpeg_scan.specs.declared.codes.Prefix.{Prefix}
+use Rattle.mpeg_scan.specs.declared.codes.Prefix.TheVariants.{Nothing, Zero, Zeros, Whole}
+use Rattle.mpeg_scan.specs.declared.faults.FilmFault.TheVariants.{SystemCode, Mpeg2, NoSequence}
+use Rattle.mpeg_scan.specs.declared.progress.Progress.{Progress}
+use Rattle.mpeg_scan.specs.declared.tallies.Tally.{Tally}
+use Rattle.mpeg_scan.specs.Codes.{after_one, after_zero, is_whole, next_prefix, note}
+use Rattle.mpeg_scan.specs.Words.{is_head, is_slice}
+use Rattle.mpeg_scan.specs.Faults.{last_fault, otherwise, code_fault, count_fault, first_slice_fault, kind_fault, second_fault}
+use Rattle.mpeg_scan.specs.Room.{AwaitsSlice, AwaitsSliceAfter, HasRoom, HasRoomAhead, prefix_length}
+use Rattle.mpeg_scan.specs.Scans.{coded_scan, noted_scan}
+use Rattle.mpeg_scan.specs.Steps.{ended, judged, latest_header_fault, next, one_more, tally_with}
+use Rattle.mpeg_scan.proofs.StepLemmas.{otherwise-first, otherwise-second}
+use Rattle.mpeg_scan.proofs.TileLemmas.{ended-none, first_slice-accepted, first_slice-head}
+
+-- the room of a progress, and that it waits for a slice
+abbrev pub Ahead : Progress → Type 0
+Ahead s = HasRoomAhead s.fed s.prefix s.latest s.tally
+
+abbrev pub tally_now : Progress → Tally
+tally_now s = tally_with s.latest s.tally
+
+-- ---- a byte more of a text changes none of it
+record SamePlaces (t u : Tally) : Type 0 where
+  begun : t.begun ≡ u.begun
+  unit : t.unit ≡ u.unit
+  slices : t.slices ≡ u.slices
+  slice : t.slice ≡ u.slice
+
+same-noted : (o : Option Code) (t : Tally) (x : ℕ) → SamePlaces (tally_with o t) (tally_with (option_map (λ c. note c x) o) t)
+unfolding next
+same-noted None t x = record { begun = refl; unit = refl; slices = refl; slice = refl }
+same-noted (Some c) t x = record { begun = refl; unit = refl; slices = refl; slice = refl }
+
+length-one : (p : Prefix) → prefix_length (after_one p) ≤ prefix_length p + 1
+length-one Nothing = omega arith
+length-one Zero = omega arith
+length-one Zeros = omega arith
+length-one Whole = omega arith
+
+length-zero : (p : Prefix) → prefix_length (after_zero p) ≤ prefix_length p + 1
+length-zero Nothing = omega arith
+length-zero Zero = omega arith
+length-zero Zeros = omega arith
+length-zero Whole = omega arith
+
+length-by : (a b : Bool) (p : Prefix) → prefix_length (cond a (after_one p) (cond b (after_zero p) Nothing)) ≤ prefix_length p + 1
+length-by true b p = length-one p
+length-by false true p = length-zero p
+length-by false false p = omega arith
+
+length-next : (p : Prefix) (x : ℕ) → prefix_length (next_prefix p x) ≤ prefix_length p + 1
+length-next p x = length-by (eqb x 1) (eqb x 0) p
+
+-- a byte that isn't the kind of a code
+pub noted-ahead : (s n : Progress) (x : ℕ) → n ≡ noted_scan s x → Ahead s → Ahead n
+noted-ahead s n x is room =
+    let same = same-noted s.latest s.tally x in
+    let more = length-next s.prefix x in
+    subst (λ (v : Progress). Ahead v) (sym is) (record {
+      read = omega (arith, more, room.read);
+      unit = λ b. omega (arith, more, same.unit, room.unit (same.begun ∙ b));
+      slice = λ some. omega (arith, more, same.slice, same.slices, room.slice (omega (arith, same.slices)));
+    })
+
+awaits-same : (Ready : ℕ → Type 0) (t u : Tally) → SamePlaces t u → AwaitsSlice Ready t → AwaitsSlice Ready u
+awaits-same Ready t u same awaits = λ some. subst (λ p. Ready p) same.slice (awaits (omega (arith, same.slices)))
+
+pub noted-awaits : (Ready : ℕ → Type 0) (s n : Progress) (x : ℕ) → n ≡ noted_scan s x → AwaitsSlice Ready (tally_now s) → AwaitsSlice Ready (tally_now n)
+noted-awaits Ready s n x is awaits =
+    subst (λ (v : Progress). AwaitsSlice Ready (tally_now v)) (sym is) (awaits-same Ready (tally_now s) (tally_now (noted_scan s x)) (same-noted s.latest s.tally x) awaits)
+
+whole-length : (p : Prefix) → is_whole p ≡ true → prefix_length p ≡ 3
+whole-length Nothing e = absurd (false≢true e)
+whole-length Zero e = absurd (false≢true e)
+whole-length Zeros e = absurd (false≢true e)
+whole-length Whole e = refl
+
+-- before a code there is room
+pub room-before : (s n : Progress) (x place : ℕ) → is_whole s.prefix ≡ true → n ≡ noted_scan s x → place ≡ s.fed - 3 → Ahead s → HasRoom (tally_now n) place
+room-before s n x place whole is at room =
+    let same = same-noted s.latest s.tally x in
+    let three = whole-length s.prefix whole in
+    subst (λ (v : Progress). HasRoom (tally_now v) place) (sym is) (record {
+      unit = λ b. omega (arith, at, three, same.unit, room.unit (same.begun ∙ b));
+      slice = λ some. omega (arith, at, three, same.slice, same.slices, room.slice (omega (arith, same.slices)));
+    })
+
+-- ---- what a code that isn't refused says
+
+pub judged-code : (latest : Option Code) (tally : Tally) (place kind : ℕ) → judged latest tally place kind ≡ None → code_fault (tally_with latest tally) place kind ≡ None
+unfolding judged
+judged-code latest tally place kind e =
+    otherwise-second (latest_header_fault latest tally.rate place) (code_fault (tally_with latest tally) place kind) e
+
+begun-by : (a b q k : Bool) (place : ℕ) → k ≡ false → cond a (Some (SystemCode place)) (cond b (Some (Mpeg2 place)) (cond (not q && not k) (Some NoSequence) None)) ≡ None → q ≡ true
+begun-by true b q k place other e = absurd (cc)
+begun-by false true q k place other e = absurd (cc)
+begun-by false false true k place other e = refl
+begun-by false false false true place other e = absurd (true≢false other)
+begun-by false false false false place other e = absurd (cc)
+
+slice-kind : (kind : ℕ) → is_slice kind ≡ true → (1 ≤ kind) × (kind ≤ 0xaf)
+slice-kind kind slice =
+    let parts = and_parts (leb 1 kind) (leb kind 0xaf) slice in
+    (leb-true 1 kind parts.0, leb-true kind 0xaf parts.1)
+
+code-begun : (t : Tally) (place kind : ℕ) → code_fault t place kind ≡ None → is_slice kind ≡ true → t.begun ≡ true
+code-begun t place kind e slice =
+    begun-by (leb 0xb9 kind) (eqb kind 0xb5) t.begun (eqb kind 0xb3) place (ne_eqb kind 0xb3 (λ is. absurd (omega (arith, (slice-kind kind slice).1))))
+    (otherwise-first (kind_fault t place kind) (otherwise (second_fault t kind) (otherwise (first_slice_fault t place kind) (count_fault t place kind))) e)
+
+-- a unit's first slice: the head before it has 1 to 1,380 bytes
+pub head-some : (latest : Option Code) (tally t : Tally) (place kind : ℕ) → judged latest tally place kind ≡ None → t ≡ tally_with latest tally → HasRoom (tally_with latest tally) place → is_slice kind ≡ true → t.unit < place
+head-some latest tally t place kind e is room slice =
+    let unit : t.unit ≡ (tally_with latest tally).unit = ap (λ (v : Tally). v.unit) is in
+    omega (arith, unit, room.unit (code-begun (tally_with latest tally) place kind (judged-code latest tally place kind e) slice))
+
+pub head-short : (latest : Option Code) (tally t : Tally) (place kind : ℕ) → judged latest tally place kind ≡ None → t ≡ tally_with latest tally → is_slice kind ≡ true → t.slices ≡ 0 → place ≤ t.unit + 1380
+head-short latest tally t place kind e is slice none =
+    let now = tally_with latest tally in
+    let unit : t.unit ≡ now.unit = ap (λ (v : Tally). v.unit) is in
+    let slices : t.slices ≡ now.slices = ap (λ (v : Tally). v.slices) is in
+    omega (arith, unit, first_slice-head now place kind (first_slice-accepted now place kind (judged-code latest tally place kind e)) slice (sym slices ∙ none))
+
+-- ---- after a code
+
+length-of : (a b : Bool) → prefix_length (cond a Nothing (cond b Zero Nothing)) ≤ 1
+length-of true b = omega arith
+length-of false true = omega arith
+length-of false false = omega arith
+
+length-kind : (kind : ℕ) → prefix_length (next_prefix Whole kind) ≤ 1
+length-kind kind = length-of (eqb kind 1) (eqb kind 0)
+
+length-no_zero : (a b : Bool) → b ≡ false → prefix_length (cond a Nothing (cond b Zero Nothing)) ≡ 0
+length-no_zero true b e = refl
+length-no_zero false true e = absurd (true≢false e)
+length-no_zero false false e = refl
+
+length-slice : (kind : ℕ) → is_slice kind ≡ true → prefix_length (next_prefix Whole kind) ≡ 0
+length-slice kind slice =
+    let other = ne_eqb kind 0 (λ none. absurd (omega (arith, (slice-kind kind slice).0))) in
+    length-no_zero (eqb kind 1) (eqb kind 0) other
+
+unit-by : (q h : Bool) (place unit l fed : ℕ) → l ≤ 1 → place + 3 ≤ fed → (q ≡ true → unit + 3 ≤ place) → cond (not q || h) place unit + 3 + l ≤ fed + 1
+unit-by true true place unit l fed short at before = omega (arith, short, at)
+unit-by true false place unit l fed short at before = omega (arith, short, at, before refl)
+unit-by false h place unit l fed short at before = omega (arith, short, at)
+
+slice-by : (s h : Bool) (place slice n l fed : ℕ) → l ≤ 1 → (s ≡ true → l ≡ 0) → place + 3 ≤ fed → (0 < n → slice + 4 ≤ place) → 0 < cond h 0 (cond s (one_more n) n) → cond s place slice + 4 + l ≤ fed + 1
+slice-by true h place slice n l fed short none at before some = omega (arith, none refl, at)
+slice-by false true place slice n l fed short none at before some = absurd (omega (arith, some))
+slice-by false false place slice n l fed short none at before some = omega (arith, short, at, before some)
+
+code-ahead : (t : Tally) (place kind fed : ℕ) → place + 3 ≤ fed → HasRoom t place → HasRoomAhead (fed + 1) (next_prefix Whole kind) (Some (record { place = place; kind = kind; text = [] })) t
+unfolding next
+code-ahead t place kind fed at room = record {
+  read = omega (arith, length-kind kind, at);
+  unit = λ b. unit-by t.begun (is_head kind && ltb 0 t.slices) place t.unit (prefix_length (next_prefix Whole kind)) fed (length-kind kind) at room.unit;
+  slice = λ some. slice-by (is_slice kind) (is_head kind) place t.slice t.slices (prefix_length (next_prefix Whole kind)) fed (length-kind kind) (length-slice kind) at room.slice some;
+}
+
+whole-is : (p : Prefix) → is_whole p ≡ true → p ≡ Whole
+whole-is Nothing e = absurd (false≢true e)
+whole-is Zero e = absurd (false≢true e)
+whole-is Zeros e = absurd (false≢true e)
+whole-is Whole e = refl
+
+pub coded-ahead : (s n m : Progress) (x place : ℕ) → is_whole s.prefix ≡ true → n ≡ noted_scan s x → place ≡ s.fed - 3 → m ≡ coded_scan n place x → Ahead s → Ahead m
+coded-ahead s n m x place whole noted at is room =
+    let before = room-before s n x place whole noted at room in
+    let three = whole-length s.prefix whole in
+    let fed : n.fed ≡ s.fed + 1 = ap (λ (v : Progress). v.fed) noted in
+    let prefix : n.prefix ≡ next_prefix Whole x = ap (λ (v : Progress). v.prefix) noted ∙ ap (λ p. next_prefix p x) (whole-is s.prefix whole) in
+    let code : Code = record { place = place; kind = x; text = [] } in
+    let made = code-ahead (tally_now n) place x s.fed (omega (arith, at, three, room.read)) before in
+    subst (λ (v : Progress). Ahead v) (sym is)
+    (subst (λ f. HasRoomAhead f n.prefix (Some code) (tally_now n)) (sym fed) (subst (λ (p : Prefix). HasRoomAhead (s.fed + 1) p (Some code) (tally_now n)) (sym prefix) made))
+
+pub coded-awaits : (Ready : ℕ → Type 0) (n m : Progress) (x place : ℕ) → m ≡ coded_scan n place x → AwaitsSliceAfter Ready (tally_now n) place x → AwaitsSlice Ready (tally_now m)
+unfolding next
+coded-awaits Ready n m x place is awaits =
+    subst (λ (v : Progress). AwaitsSlice Ready (tally_now v)) (sym is) awaits
+
+-- ---- as a run is passed over
+
+pub skipped-ahead : (s n : Progress) (count : ℕ) → n.fed ≡ s.fed + count → n.prefix ≡ s.prefix → n.latest ≡ s.latest → n.tally ≡ s.tally → Ahead s → Ahead n
+skipped-ahead s n count fed prefix latest tally room =
+    let P : Prefix → Type 0 = λ p. HasRoomAhead n.fed p n.latest n.tally in
+    let L : Option Code → Type 0 = λ o. HasRoomAhead n.fed s.prefix o n.tally in
+    let T : Tally → Type 0 = λ t. HasRoomAhead n.fed s.prefix s.latest t in
+    subst P (sym prefix) (subst L (sym latest) (subst T (sym tally) (record {
+      read = omega (arith, room.read, fed);
+      unit = λ b. omega (arith, room.unit b, fed);
+      slice = λ some. omega (arith, room.slice some, fed);
+    })))
+
+pub skipped-awaits : (Ready : ℕ → Type 0) (s n : Progress) → n.latest ≡ s.latest → n.tally ≡ s.tally → AwaitsSlice Ready (tally_now s) → AwaitsSlice Ready (tally_now n)
+skipped-awaits Ready s n latest tally awaits =
+    let L : Option Code → Type 0 = λ o. AwaitsSlice Ready (tally_with o n.tally) in
+    let T : Tally → Type 0 = λ t. AwaitsSlice Ready (tally_with s.latest t) in
+    subst L (sym latest) (subst T (sym tally) awaits)
+
+-- two facts of an answer that is Ok
+pub both-ok : {T E P Q R : Type 0} (r : Result T E) → (P → Q → R) → OnOk r P → OnOk r Q → OnOk r R
+both-ok (Ok x) f p q = f p q
+both-ok (Err e) f p q = tt
+
+-- ---- the film's end
+
+pub ended-sliced : (latest : Option Code) (tally t : Tally) (end : ℕ) → ended latest tally end ≡ None → t ≡ tally_with latest tally → 0 < t.slices
+unfolding ended
+ended-sliced latest tally t end e is =
+    let slices : t.slices ≡ (tally_with latest tally).slices = ap (λ (v : Tally). v.slices) is in
+    let some = ended-none (tally_with latest tally) (otherwise-second (latest_header_fault latest tally.rate end) (last_fault (tally_with latest tally)) e) in
+    omega (arith, slices, some)
+
+pub end-least : (s : Progress) (t : Tally) → t ≡ tally_now s → 0 < t.slices → Ahead s → t.slice + 4 ≤ s.fed
+end-least s t is some room =
+    let slices : t.slices ≡ (tally_now s).slices = ap (λ (v : Tally). v.slices) is in
+    let slice : t.slice ≡ (tally_now s).slice = ap (λ (v : Tally). v.slice) is in
+    omega (arith, slice, room.slice (omega (arith, slices, some)))
+
+pub end-ready : (Ready : ℕ → Type 0) (s : Progress) (t : Tally) → t ≡ tally_now s → 0 < t.slices → AwaitsSlice Ready (tally_now s) → Ready t.slice
+end-ready Ready s t is some awaits =
+    let slices : t.slices ≡ (tally_now s).slices = ap (λ (v : Tally). v.slices) is in
+    let slice : t.slice ≡ (tally_now s).slice = ap (λ (v : Tally). v.slice) is in
+    subst (λ p. Ready p) (sym slice) (awaits (omega (arith, slices, some)))

@@ -1,0 +1,261 @@
+ghost use Rattle.std.specs.Prelude.{◌≡◌, ℕ, ◌+◌, ◌^◌, ◌<◌, ◌≤◌, List, [], ◌∷◌, ◌++◌, Some, None, length, take, slice_index, IsTrue, true, IfOk, IfErr, OnOk, MatchResult, ◌≢◌};
+ghost use Rattle.mpeg_scan.specs.Calls.{Call, calls_at, told};
+ghost use Rattle.mpeg_scan.specs.Codes.{codes_of, read};
+ghost use Rattle.mpeg_scan.specs.Faults.{first_fault, refusal_of};
+ghost use Rattle.mpeg_scan.specs.Room.{AwaitsSlice, AwaitsSliceAfter, HasRoom, HasRoomAhead};
+ghost use Rattle.mpeg_scan.specs.Steps.{ended, judged, latest_header_fault, tally_with};
+ghost use Rattle.mpeg_scan.specs.Words.{tally_of};
+ghost use Rattle.mpeg_scan.specs.Scans.{HasRead, IsRefusedInPiece, coded_scan, is_text_full, noted_scan};
+
+use crate::codes::{Code, Prefix};
+use crate::faults::{FilmFault, ScanRefused, code_fault, header_fault, last_fault};
+use crate::found::{Found, tell};
+use crate::tallies::Tally;
+use crate::texts::Text;
+use memchr::memchr;
+use vod_base::NoMemory;
+
+/// How far a film was read: what is kept of its bytes.
+#[derive(Drop)]
+pub struct Progress {
+    pub fed: u64,
+    prefix: Prefix,
+    latest: Option<Code>,
+    // Of the codes before the latest.
+    tally: Tally,
+}
+
+impl Progress {
+    /// Before the first byte.
+    #[tactic(auto, unfolding(crate::specs::Codes::codes_of, crate::specs::Codes::matched, crate::specs::Faults::first_fault))]
+    pub fn new() -> Progress
+        ensures read { HasRead result [] }
+        ensures room { HasRoomAhead result.fed result.prefix result.latest result.tally }
+        ensures slices { (tally_with result.latest result.tally).slices ≡ 0 }
+    {
+        Progress {
+            fed: 0,
+            prefix: Prefix::Nothing,
+            latest: None,
+            tally: Tally::new(),
+        }
+    }
+
+    // A byte that isn't the kind of a code.
+    fn note(&mut self, byte: u8)
+        requires { self.old.fed < 2 ^ 41 }
+        ensures { self.new ≡ noted_scan self.old byte }
+    {
+        if let Some(code) = &mut self.latest {
+            code.text.note(byte);
+        }
+        self.prefix = self.prefix.then(byte);
+        self.fed += 1;
+    }
+
+    // The refusal of the latest code's header, where the next code, or the end, stands at `end`.
+    fn header_fault(&self, end: u64) -> Option<FilmFault>
+        ensures { result ≡ latest_header_fault self.now.latest self.now.tally.rate end }
+    {
+        match &self.latest {
+            None => None,
+            Some(code) => header_fault(self.tally.rate, code, end),
+        }
+    }
+
+    // The tally with the latest code.
+    fn tally_now(&self) -> Tally
+        ensures { result ≡ tally_with self.now.latest self.now.tally }
+    {
+        match &self.latest {
+            None => self.tally,
+            Some(code) => self.tally.then(code),
+        }
+    }
+
+    // Judges a code.
+    #[tactic(auto, unfolding(crate::specs::Steps::judged))]
+    fn judge(&self, place: u64, kind: u8) -> Result<Tally, FilmFault>
+        ensures { MatchResult result
+            (λ t. (judged self.now.latest self.now.tally place kind ≡ None) × (t ≡ tally_with self.now.latest self.now.tally))
+            (λ f. judged self.now.latest self.now.tally place kind ≡ Some f) }
+    {
+        if let Some(fault) = self.header_fault(place) {
+            return Err(fault);
+        }
+        let tally = self.tally_now();
+        match code_fault(&tally, place, kind) {
+            None => Ok(tally),
+            Some(fault) => Err(fault),
+        }
+    }
+
+    // Takes a code, and tells of what ends at it.
+    fn take_code<F: Found>(
+        &mut self,
+        place: u64,
+        kind: u8,
+        found: &mut F,
+    ) -> Result<(), ScanRefused>
+        requires room { HasRoom (tally_with self.old.latest self.old.tally) place }
+        requires within { place ≤ 2 ^ 40 }
+        requires ready { AwaitsSlice (F.ready_at found.old) (tally_with self.old.latest self.old.tally) }
+        ensures taken { OnOk result ((judged self.old.latest self.old.tally place kind ≡ None) × (self.new ≡ coded_scan self.old place kind)) }
+        ensures told { OnOk result ((calls : List Call) → F.heard found.old calls
+            → F.heard found.new (calls ++ calls_at (tally_with self.old.latest self.old.tally) place kind)) }
+        ensures fault { (f : FilmFault) → result ≡ Err (ScanRefused.Fault f) → judged self.old.latest self.old.tally place kind ≡ Some f }
+        ensures untold { (f : FilmFault) → result ≡ Err (ScanRefused.Fault f) → found.new ≡ found.old }
+        ensures fed { self.new.fed ≡ self.old.fed }
+        ensures ready { OnOk result (AwaitsSliceAfter (F.ready_at found.new) (tally_with self.old.latest self.old.tally) place kind) }
+    {
+        let tally = match self.judge(place, kind) {
+            Ok(tally) => tally,
+            Err(fault) => return Err(ScanRefused::Fault(fault)),
+        };
+        match tell(&tally, place, kind, found) {
+            Ok(()) => {}
+            Err(NoMemory) => return Err(ScanRefused::NoMemory),
+        }
+        self.tally = tally;
+        self.latest = Some(Code {
+            place,
+            kind,
+            text: Text::new(),
+        });
+        Ok(())
+    }
+
+    // Takes a byte.
+    fn take_byte<F: Found>(&mut self, byte: u8, found: &mut F) -> Result<(), ScanRefused>
+        requires short { self.old.fed < 2 ^ 40 }
+        requires room { HasRoomAhead self.old.fed self.old.prefix self.old.latest self.old.tally }
+        requires ready { AwaitsSlice (F.ready_at found.old) (tally_with self.old.latest self.old.tally) }
+        ensures kept { OnOk result ((r : List ℕ) → HasRead self.old r → HasRead self.new (byte ∷ r)) }
+        ensures told { OnOk result ((r : List ℕ) (calls : List Call) → HasRead self.old r → F.heard found.old (calls ++ told (codes_of r))
+            → F.heard found.new (calls ++ told (codes_of (byte ∷ r)))) }
+        ensures fault { (f : FilmFault) → result ≡ Err (ScanRefused.Fault f) → (r : List ℕ) → HasRead self.old r
+            → first_fault (codes_of (byte ∷ r)) ≡ Some f }
+        ensures untold { (f : FilmFault) → result ≡ Err (ScanRefused.Fault f) → found.new ≡ found.old }
+        ensures fed { self.new.fed ≡ self.old.fed + 1 }
+        ensures room { OnOk result (HasRoomAhead self.new.fed self.new.prefix self.new.latest self.new.tally) }
+        ensures ready { OnOk result (AwaitsSlice (F.ready_at found.new) (tally_with self.new.latest self.new.tally)) }
+    {
+        let whole = self.prefix.is_whole();
+        let place = self.fed.saturating_sub(3);
+        self.note(byte);
+        if whole {
+            self.take_code(place, byte, found)
+        } else {
+            Ok(())
+        }
+    }
+
+    // Whether nothing of a prefix stands at the end, and the latest text is full.
+    fn is_quiet(&self) -> bool
+        ensures { IsTrue result → (self.now.prefix ≡ Prefix.Nothing) × (is_text_full self.now.latest ≡ true) }
+    {
+        self.prefix.is_nothing()
+            && match &self.latest {
+                None => true,
+                Some(code) => code.text.is_full(),
+            }
+    }
+
+    // Passes over the bytes in front of `rest` that change nothing but the place, and says how many: those
+    // before its first zero byte, where no prefix and no text takes them.
+    fn skip(&mut self, rest: &[u8]) -> usize
+        requires { self.old.fed + length rest.now < 2 ^ 41 }
+        ensures bound { result ≤ length rest.now }
+        ensures kept { (r : List ℕ) → HasRead self.old r → HasRead self.new (read r (take result rest.now)) }
+        ensures quiet { (r : List ℕ) → HasRead self.old r → codes_of (read r (take result rest.now)) ≡ codes_of r }
+        ensures fed { self.new.fed ≡ self.old.fed + result }
+        ensures prefix { self.new.prefix ≡ self.old.prefix }
+        ensures latest { self.new.latest ≡ self.old.latest }
+        ensures tally { self.new.tally ≡ self.old.tally }
+    {
+        if !self.is_quiet() {
+            return 0;
+        }
+        let count = run_before_zero(rest);
+        self.fed += count as u64;
+        count
+    }
+
+    /// Takes bytes, until one is refused.
+    pub fn take_bytes<F: Found>(&mut self, piece: &[u8], found: &mut F) -> Result<(), ScanRefused>
+        requires short { self.old.fed + length piece.now ≤ 2 ^ 40 }
+        requires room { HasRoomAhead self.old.fed self.old.prefix self.old.latest self.old.tally }
+        requires ready { AwaitsSlice (F.ready_at found.old) (tally_with self.old.latest self.old.tally) }
+        ensures kept { OnOk result ((r : List ℕ) → HasRead self.old r → HasRead self.new (read r piece.now)) }
+        ensures told { OnOk result ((r : List ℕ) (calls : List Call) → HasRead self.old r → F.heard found.old (calls ++ told (codes_of r))
+            → F.heard found.new (calls ++ told (codes_of (read r piece.now)))) }
+        ensures fault { (f : FilmFault) → result ≡ Err (ScanRefused.Fault f) → (r : List ℕ) → HasRead self.old r
+            → first_fault (codes_of (read r piece.now)) ≡ Some f }
+        ensures told_before { (f : FilmFault) → result ≡ Err (ScanRefused.Fault f) → (r : List ℕ) (calls : List Call)
+            → HasRead self.old r → F.heard found.old (calls ++ told (codes_of r))
+            → IsRefusedInPiece (F.heard found.new) r piece.now calls f }
+        ensures fed { self.new.fed ≤ self.old.fed + length piece.now }
+        ensures room { OnOk result (HasRoomAhead self.new.fed self.new.prefix self.new.latest self.new.tally) }
+        ensures ready { OnOk result (AwaitsSlice (F.ready_at found.new) (tally_with self.new.latest self.new.tally)) }
+    {
+        let mut at = 0;
+        while at < piece.len() {
+            at += self.skip(&piece[at..]);
+            if at < piece.len() {
+                match self.take_byte(piece[at], found) {
+                    Ok(()) => at += 1,
+                    Err(refused) => return Err(refused),
+                }
+            }
+        }
+        Ok(())
+    }
+
+    // Judges the film's end.
+    #[tactic(auto, unfolding(crate::specs::Steps::ended))]
+    fn judge_end(&self) -> Result<Tally, FilmFault>
+        ensures { MatchResult result
+            (λ t. (ended self.now.latest self.now.tally self.now.fed ≡ None) × (t ≡ tally_with self.now.latest self.now.tally))
+            (λ f. ended self.now.latest self.now.tally self.now.fed ≡ Some f) }
+    {
+        if let Some(fault) = self.header_fault(self.fed) {
+            return Err(fault);
+        }
+        let tally = self.tally_now();
+        match last_fault(&tally) {
+            None => Ok(tally),
+            Some(fault) => Err(fault),
+        }
+    }
+
+    /// Judges the whole film.
+    pub fn judge_film(&self) -> Result<Tally, FilmFault>
+        ensures tally { IfOk result (λ t. t ≡ tally_with self.now.latest self.now.tally) }
+        ensures sliced { IfOk result (λ t. 0 < t.slices) }
+        ensures short { OnOk result (self.now.fed ≤ 2 ^ 40) }
+        ensures accepted { IfOk result (λ t. (r : List ℕ) → HasRead self.now r → (refusal_of r ≡ None) × (t ≡ tally_of (codes_of r))) }
+        ensures fault { IfErr result (λ f. (r : List ℕ) → HasRead self.now r → refusal_of r ≡ Some f) }
+    {
+        if self.fed == 0 {
+            Err(FilmFault::Empty)
+        } else if FILM < self.fed {
+            Err(FilmFault::TooLong)
+        } else {
+            self.judge_end()
+        }
+    }
+}
+
+// The most bytes of a film.
+const FILM: u64 = 1 << 40;
+
+// How many bytes stand before the first zero byte.
+fn run_before_zero(bytes: &[u8]) -> usize
+    ensures bound { result ≤ length bytes.now }
+    ensures run { (k : ℕ) → k < result → slice_index bytes.now k ≢ 0 }
+{
+    match memchr(0, bytes) {
+        None => bytes.len(),
+        Some(count) => count,
+    }
+}
