@@ -6,5 +6,6 @@ pub mod Calendars
 pub mod Journals
 pub mod Finds
 pub mod Opens
+pub mod Makers
 pub mod Once
 pub mod Counts

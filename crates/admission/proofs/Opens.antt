@@ -1,5 +1,5 @@
 -- A play is open from the entry that admits it to the entry that halts it.
-use Rattle.std.proofs.Common.{◌≡◌, ◌≤◌, ◌<◌, ℕ, zero, suc, Bool, true, false, List, length, get_or, take, All, Option, Some, IsSomeAnd, arith, refl, sym, ap, subst, ◌∙◌, inl, inr}
+use Rattle.std.proofs.Common.{◌≡◌, ◌≤◌, ◌<◌, ℕ, zero, suc, Bool, true, false, List, [], ◌∷◌, ◌++◌, max, length, get_or, take, All, Option, Some, IsSomeAnd, arith, refl, sym, ap, subst, ◌∙◌, inl, inr}
 use Rattle.std.proofs.lemmas.Bool.{cases_order}
 use Rattle.std.proofs.lemmas.List.{get_or_default, length-take, take_all}
 use Rattle.std.proofs.lemmas.List.Elements.{All-weaker}
@@ -14,7 +14,7 @@ use Rattle.admission.specs.declared.entries.Answer.{Answer}
 use Rattle.admission.specs.declared.entries.Answer.TheVariants.{Admitted, Overflow, Halted, Looked}
 use Rattle.admission.specs.Machine.{State, Held, CanHalt, IsAnswer, closed, halted, held_as, next_state, opened}
 use Rattle.admission.specs.Histories.{Halts, IsAdmission, IsHalt, IsLegal, IsStillOpen, IsUnhalted, play_admitted, state_after}
-use Rattle.admission.proofs.Runs.{legal-at, legal-take, no_entry, state-next}
+use Rattle.admission.proofs.Runs.{legal-at, legal-take, no_entry, state-next, state-push}
 use Rattle.admission.proofs.Halts.{halting, holds-of, split}
 use Rattle.admission.proofs.Within.{IsWhole, sound-after}
 use Rattle.admission.proofs.Admissions.{IsKnown, admission_of, known-after, known-at, open-inside}
@@ -68,6 +68,17 @@ pub still-open : (steps : List CapStep) (xs : List Entry) (number keep : ℕ) �
 still-open steps xs number keep legal still =
     can-halt (state_after xs).held number still.start keep still.segments (state_after xs).now
     (whole-after steps xs number still.start still.segments legal still.admission still.unhalted) still.small
+
+-- and in the history that its entry ends
+pub opened-last : (steps : List CapStep) (xs : List Entry) (maker slot start keep : ℕ) (segments : List Segment) → IsLegal steps xs → keep ≤ total_bytes segments →
+    CanHalt (state_after (xs ++ record { maker = maker; command = Play slot segments; answer = Admitted start } ∷ [])) (length xs) keep
+opened-last steps xs maker slot start keep segments legal small =
+    let e : Entry = record { maker = maker; command = Play slot segments; answer = Admitted start } in
+    let S : List Entry → Type 0 = λ l. All (λ h. h.number < length xs) (state_after l).held in
+    let below = subst S (take_all (length xs) xs (omega arith)) (numbers-below steps xs (length xs) legal (omega arith)) in
+    let C : State → Type 0 = λ s. CanHalt s (length xs) keep in
+    subst C (sym (state-push xs e)) (can-halt ((state_after xs).held ++ opened (length xs) start segments ∷ []) (length xs) start keep segments
+    (max (state_after xs).now slot) (found-new (length xs) start segments (state_after xs).held below) small)
 
 -- ---- it is closed from its halt on
 record IsClosed (number : ℕ) (state : State) : Type 0 where

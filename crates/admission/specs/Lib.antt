@@ -1,5 +1,6 @@
 pub mod Machine
 pub mod Histories
+pub mod Makers
 pub mod Books
 pub mod Kept
 pub mod Inside

@@ -1,4 +1,5 @@
-ghost use Rattle.std.specs.Prelude.{◌≡◌, ◌+◌, ◌^◌, ◌<◌, ◌≤◌, [], min, max, IfOk, IfErr, OnOk, OnErr};
+ghost use Rattle.std.specs.Prelude.{ℕ, ◌≡◌, ◌+◌, ◌^◌, ◌<◌, ◌≤◌, [], min, max, IfOk, IfErr, OnOk, OnErr};
+ghost use Rattle.plan_cert.specs.Slots.{total_bytes};
 ghost use Rattle.slot_calendar.specs.Calendars.{StandsFor};
 ghost use Rattle.admission.specs.Machine.{CanHalt, plays_of};
 ghost use Rattle.admission.specs.Histories.{IsLegal, state_after};
@@ -91,6 +92,8 @@ impl Book {
         ensures room { OnOk result (taken self.old.entries + 2 ≤ self.old.limit) }
         ensures full { OnErr result (self.old.limit < taken self.old.entries + 2) }
         ensures counts { IfErr result (λ refused. IsFull self.old refused.full) }
+        ensures open { IfOk result (λ noted. (start keep : ℕ) → noted.answer ≡ Answer.Admitted start →
+            keep ≤ total_bytes plan → CanHalt (state_after self.new.entries) noted.place keep) }
         ensures plan { IfErr result (λ refused. refused.plan ≡ plan) }
         ensures left { OnErr result (self.new ≡ self.old) }
     {

@@ -1,5 +1,6 @@
 ghost use Rattle.std.specs.Prelude.{◌≡◌, ◌+◌, ◌<◌, ◌≤◌, ℕ, List, Some, count_by, map, take};
 ghost use Rattle.plan_cert.specs.declared.Segment.{Segment};
+ghost use Rattle.slot_calendar.specs.declared.profiles.CapStep.{CapStep};
 ghost use Rattle.slot_calendar.specs.Profiles.{capacity_at};
 ghost use Rattle.admission.specs.declared.entries.Command.{Command};
 ghost use Rattle.admission.specs.declared.entries.Answer.{Answer};
@@ -7,6 +8,7 @@ ghost use Rattle.admission.specs.declared.entries.Entry.{Entry};
 ghost use Rattle.admission.specs.Machine.{State, Held, CanHalt, IsStep, closed, held_as, opened};
 ghost use Rattle.admission.specs.Histories.{IsAdmission, IsHalt, IsLegal, IsStillOpen, IsUnhalted};
 ghost use Rattle.admission.specs.Histories.{booked_after, is_admission, is_halt, latest_asked, live, state_after};
+ghost use Rattle.admission.specs.Makers.{AreHaltsOwn, IsOpenAmong, made_by};
 
 use crate::entries::Entry;
 use slot_calendar::Profile;
@@ -84,3 +86,12 @@ pub fn law_counts(profile: &Profile, entries: &[Entry])
 {
     let _read = (profile.steps().len(), entries.len());
 }
+
+/// A play that is open among its maker's own entries can be halted, in a legal history in which each play is halted by its
+/// own maker.
+pub fn law_own_play()
+    ensures { (steps : List CapStep) (entries : List Entry) (maker number keep : ℕ) →
+        IsLegal steps entries → AreHaltsOwn entries →
+        IsOpenAmong (made_by maker entries) number keep →
+        CanHalt (state_after entries) number keep }
+{}

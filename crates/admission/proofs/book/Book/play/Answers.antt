@@ -1,8 +1,13 @@
-use Rattle.std.proofs.Common.{◌≡◌, ◌+◌, ℕ, length, arith, ap, subst}
+use Rattle.std.proofs.Common.{◌≡◌, ◌+◌, ◌++◌, ℕ, List, [], ◌∷◌, length, arith, sym, ap, subst, ◌∙◌}
+use Rattle.admission.specs.declared.entries.Answer.{Answer}
+use Rattle.admission.specs.declared.entries.Answer.TheVariants.{Admitted}
 use Rattle.admission.specs.declared.entries.Command.TheVariants.{Play}
+use Rattle.admission.specs.declared.entries.Entry.{Entry}
+use Rattle.admission.specs.Machine.{CanHalt}
 use Rattle.admission.specs.Books.{IsNoted, Journal}
 use Rattle.admission.specs.Histories.{live, state_after}
 use Rattle.admission.proofs.Journals.{kept-push, noted-push, open-asked, opens-most}
+use Rattle.admission.proofs.Opens.{opened-last}
 use Rattle.admission.proofs.Within.{sound-after}
 use Rattle.admission.proofs.book.Book.play.Goals as goal
 
@@ -42,3 +47,14 @@ returns-clause-noted c =
     (subst P c.self.view_is (noted-push book.calendar.steps c.admit-answer.new.calendar.steps book.limit c.args.maker book.entries.items c.note.new.entries.items
     (Play c.min-slot.result c.args.plan) c.admit-answer.result c.note.result c.self.invariant.legal answer c.note.ensures.place c.note.ensures.answer c.note.ensures.items
     c.admit-answer.ensures.steps))
+
+pub returns-clause-open : goal.returns-clause-open
+returns-clause-open c = λ start keep told small.
+    let xs = c.self.inside.entries.items in
+    let answer : c.admit-answer.result ≡ Admitted start = sym c.note.ensures.answer ∙ told in
+    let E : Answer → Entry = λ a. record { maker = c.args.maker; command = Play c.min-slot.result c.args.plan; answer = a } in
+    let items : c.note.new.entries.items ≡ xs ++ E (Admitted start) ∷ [] = c.note.ensures.items ∙ ap (λ a. xs ++ E a ∷ []) answer in
+    let C : List Entry → Type 0 = λ l. CanHalt (state_after l) (length xs) keep in
+    let N : ℕ → Type 0 = λ n. CanHalt (state_after c.note.new.entries.items) n keep in
+    subst N (sym c.note.ensures.place) (subst C (sym items) (opened-last c.self.inside.calendar.steps xs c.args.maker c.min-slot.result start keep c.args.plan
+    c.self.invariant.legal small))

@@ -1,0 +1,106 @@
+-- The entries of a maker, and what they tell of the whole history.
+use Rattle.std.proofs.Common.{◌≡◌, ◌<◌, ◌+◌, ℕ, zero, suc, eqb, List, [], ◌∷◌, length, get_or, All, Some, arith, refl, sym, ap, subst, ◌∙◌, inl, inr, eq-eqb}
+use Rattle.std.proofs.lemmas.Bool.{cases_Bool, cond-true, cond-false, eqb-true}
+use Rattle.std.proofs.lemmas.List.{get_or_default}
+use Rattle.std.proofs.lemmas.List.Elements.{All-nil, All-cons, All-head, All-tail, All-weaker}
+use Rattle.slot_calendar.specs.declared.profiles.CapStep.{CapStep}
+use Rattle.slot_calendar.specs.Plays.{whole_play}
+use Rattle.admission.specs.declared.entries.Command.{Command}
+use Rattle.admission.specs.declared.entries.Command.TheVariants.{Play, Halt, Look}
+use Rattle.admission.specs.declared.entries.Entry.{Entry}
+use Rattle.admission.specs.Machine.{CanHalt}
+use Rattle.admission.specs.Histories.{Halts, IsHalt, IsLegal, IsStillOpen, play_admitted, state_after}
+use Rattle.admission.specs.Makers.{Placed, made_from, made_by, AreHaltsOwn, IsOpenAmong}
+use Rattle.admission.proofs.Runs.{no_entry}
+use Rattle.admission.proofs.Opens.{still-open}
+
+-- ---- a maker's entries are entries of the history
+record IsMade (place maker : ℕ) (xs : List Entry) (p : Placed) : Type 0 where
+  at : ℕ
+  inside : at < length xs
+  place_is : p.place ≡ place + at
+  entry_is : p.entry ≡ get_or xs at no_entry
+  maker_is : p.entry.maker ≡ maker
+
+all-made : (place maker : ℕ) (xs : List Entry) → All (IsMade place maker xs) (made_from place maker xs)
+all-made place maker [] = All-nil (IsMade place maker [])
+all-made place maker (e ∷ rest) =
+    let P = IsMade place maker (e ∷ rest) in
+    let later : All P (made_from (place + 1) maker rest) =
+    All-weaker (IsMade (place + 1) maker rest) P (λ p made. record {
+      at = suc made.at;
+      inside = omega (arith, made.inside);
+      place_is = omega (arith, made.place_is);
+      entry_is = made.entry_is;
+      maker_is = made.maker_is;
+    }) (made_from (place + 1) maker rest) (all-made (place + 1) maker rest) in
+    let here : Placed = record { place = place; entry = e } in
+    elim (cases_Bool (eqb e.maker maker)) [
+      | inl his ↦ (
+          let first : P here = record { at = 0; inside = omega arith; place_is = omega arith; entry_is = refl; maker_is = eqb-true e.maker maker his } in
+          subst (All P) (sym (cond-true (eqb e.maker maker) (here ∷ made_from (place + 1) maker rest) (made_from (place + 1) maker rest) his))
+          (All-cons P here (made_from (place + 1) maker rest) first later)
+          )
+      | inr other ↦ subst (All P) (sym (cond-false (eqb e.maker maker) (here ∷ made_from (place + 1) maker rest) (made_from (place + 1) maker rest) other)) later
+    ]
+
+-- ---- each entry of a maker is among them
+one-made : (P : Placed → Type 0) (place maker : ℕ) (xs : List Entry) (i : ℕ) → All P (made_from place maker xs) → i < length xs →
+    (get_or xs i no_entry).maker ≡ maker → P (record { place = place + i; entry = get_or xs i no_entry })
+one-made P place maker [] i all inside own = absurd (omega (arith, inside))
+one-made P place maker (e ∷ rest) zero all inside own =
+    let here : Placed = record { place = place; entry = e } in
+    let at : place ≡ place + 0 = omega arith in
+    let Q : ℕ → Type 0 = λ n. P (record { place = n; entry = e }) in
+    let all' = subst (All P) (cond-true (eqb e.maker maker) (here ∷ made_from (place + 1) maker rest) (made_from (place + 1) maker rest) (eq-eqb e.maker maker own)) all in
+    subst Q at (All-head P here (made_from (place + 1) maker rest) all')
+one-made P place maker (e ∷ rest) (suc i) all inside own =
+    let here : Placed = record { place = place; entry = e } in
+    let later : All P (made_from (place + 1) maker rest) = elim (cases_Bool (eqb e.maker maker)) [
+      | inl his ↦ All-tail P here (made_from (place + 1) maker rest) (subst (All P) (cond-true (eqb e.maker maker) (here ∷ made_from (place + 1) maker rest) (made_from (place + 1) maker rest) his) all)
+      | inr other ↦ subst (All P) (cond-false (eqb e.maker maker) (here ∷ made_from (place + 1) maker rest) (made_from (place + 1) maker rest) other) all
+    ] in
+    let at : place + 1 + i ≡ place + suc i = omega arith in
+    let Q : ℕ → Type 0 = λ n. P (record { place = n; entry = get_or rest i no_entry }) in
+    subst Q at (one-made P (place + 1) maker rest i later (omega (arith, inside)) own)
+
+-- ---- a command that halts a play
+halt_is : (number : ℕ) (command : Command) → Halts number command → (keep : ℕ) × (command ≡ Halt number keep)
+halt_is number (Halt that keep) same = (keep, ap (λ n. Halt n keep) same)
+halt_is number (Play slot segments) same = absurd same
+halt_is number (Look slot) same = absurd same
+
+-- a play that is open among its maker's entries is open in the history
+pub open-own : (steps : List CapStep) (xs : List Entry) (maker number keep : ℕ) → AreHaltsOwn xs → IsOpenAmong (made_by maker xs) number keep → IsStillOpen xs number keep
+open-own steps xs maker number keep own open_ =
+    let none : Placed = record { place = 0; entry = no_entry } in
+    let made = all-made 0 maker xs open_.index none open_.inside in
+    let admits = open_.admission none in
+    let at : made.at ≡ number = omega (arith, made.place_is, admits.place_is) in
+    let A : Entry → Type 0 = λ e. play_admitted e.command e.answer ≡ Some (whole_play open_.start open_.segments) in
+    let inside : number < length xs = omega (arith, at, made.inside) in
+    let entry : get_or xs made.at no_entry ≡ get_or xs number no_entry = ap (λ n. get_or xs n no_entry) at in
+    let maker_is : (get_or xs number no_entry).maker ≡ maker = ap (λ (e : Entry). e.maker) (sym (made.entry_is ∙ entry)) ∙ made.maker_is in
+    record {
+      start = open_.start;
+      segments = open_.segments;
+      admission = record {
+        inside = inside;
+        admitted = λ d. subst A (get_or_default xs number no_entry d inside) (subst A (made.entry_is ∙ entry) admits.admitted);
+      };
+      unhalted = record {
+        each = λ i d within halts. (
+            let H : Entry → Type 0 = λ e. Halts number e.command in
+            let halts' = subst H (get_or_default xs i d no_entry within) halts in
+            let is = halt_is number (get_or xs i no_entry).command halts' in
+            let C : Entry → Type 0 = λ e. e.command ≡ Halt number is.0 in
+            let halt : IsHalt xs i number is.0 = record { inside = within; command_is = λ f. subst C (get_or_default xs i no_entry f within) is.1 } in
+            one-made (λ p. ¬ Halts number p.entry.command) 0 maker xs i open_.unhalted within (own.each i number is.0 no_entry halt ∙ maker_is) halts'
+            );
+      };
+      small = open_.small;
+    }
+
+pub can-own : (steps : List CapStep) (xs : List Entry) (maker number keep : ℕ) → IsLegal steps xs → AreHaltsOwn xs → IsOpenAmong (made_by maker xs) number keep →
+    CanHalt (state_after xs) number keep
+can-own steps xs maker number keep legal own open_ = still-open steps xs number keep legal (open-own steps xs maker number keep own open_)

@@ -1,0 +1,5 @@
+use Rattle.admission.proofs.Makers.{can-own}
+use Rattle.admission.proofs.laws.law_own_play.Goals as goal
+
+pub returns : goal.returns
+returns c = can-own
