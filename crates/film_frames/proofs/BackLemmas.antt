@@ -118,7 +118,7 @@ chained-take (unit ∷ units) from to zero last at chained =
     let same : unit ≡ last = cc in (chained.0, ap (λ (u : PictureUnit). u.to) same)
 chained-take (unit ∷ units) from to (suc n) last at chained = (chained.0, chained-take units unit.to to n last at chained.1)
 
-get-drop : (units : List PictureUnit) (n k : ℕ) → slice_get (drop n units) k ≡ slice_get units (n + k)
+pub get-drop : (units : List PictureUnit) (n k : ℕ) → slice_get (drop n units) k ≡ slice_get units (n + k)
 get-drop units zero k = ap (λ m. slice_get units m) (let e : k ≡ 0 + k = omega arith in e)
 get-drop [] (suc n) k = refl
 get-drop (unit ∷ units) (suc n) k = get-drop units n k ∙ ap (λ m. slice_get (unit ∷ units) m) (let e : suc (n + k) ≡ suc n + k = omega arith in e)
@@ -143,7 +143,7 @@ comes-back film first_unit end_unit identity first last order first_at last_at =
 
 -- ---- the bytes of a run
 
-pub run-sum : (film : Film) (first_unit end_unit : ℕ) (identity : Identity) → first_unit < end_unit → end_unit ≤ length film.units.items
+pub run-sum : (film : Film) (first_unit end_unit : ℕ) (identity : Identity) → first_unit ≤ end_unit → end_unit ≤ length film.units.items
     → AreSound film.bytes.items (sent (run_of film first_unit end_unit identity))
     × (length (framed (run_pieces (run_of film first_unit end_unit identity)))
     ≡ sum (map (λ u. wire_size film.slice_starts.items u) (take (end_unit - first_unit) (drop first_unit film.units.items))))

@@ -1,16 +1,11 @@
 -- The pieces of a whole film: they are sound, and their sizes add up to at most 2^42.
-use Rattle.std.proofs.Common.{◌≡◌, ℕ, ◌+◌, ◌-◌, ◌*◌, ◌^◌, ◌≤◌, false, eqb, ltb, leb, ◌&&◌, List, [], ◌∷◌, map, sum, length, Some, slice_get, refl, sym, ap, subst, ◌∙◌, arith}
+use Rattle.std.proofs.Common.{◌≡◌, ℕ, ◌+◌, ◌*◌, ◌^◌, ◌≤◌, List, [], ◌∷◌, map, sum, length, Some, slice_get, refl, sym, ap, subst, ◌∙◌, arith}
 use Rattle.std.proofs.lemmas.List.Sums.{sum_by-cons}
-use Rattle.std.proofs.lemmas.Bool.{and_parts, false≢true, eqb-true}
 use Rattle.mpeg_scan.specs.declared.units.Unit.{Unit as PictureUnit}
 use Rattle.mpeg_scan.specs.declared.films.Film.{Film}
-use Rattle.mpeg_scan.specs.Calls.{Call, head_call, slice_call, unit_call, all_told}
 use Rattle.mpeg_scan.specs.Codes.{read, codes_of}
-use Rattle.mpeg_scan.specs.Films.{units_in}
-use Rattle.mpeg_scan.specs.Tiles.{Part, between, within, first_of, parts_after}
+use Rattle.mpeg_scan.specs.Tiles.{first_of}
 use Rattle.mpeg_scan.proofs.BoundLemmas.{film-bytes, film-units, film-pictures}
-use Rattle.mpeg_scan.proofs.FilmLemmas.{length-read}
-use Rattle.mpeg_scan.proofs.TileLemmas.{film-tiles}
 use Rattle.mpeg_scan.specs.Layout.{AreChained, AreLaid, IsLaid}
 use Rattle.mpeg_scan.proofs.LaidLemmas.{film-chained, film-laid, laid-at}
 use Rattle.film_frames.specs.declared.pieces.Piece.{Piece}

@@ -10,3 +10,4 @@ pub mod NextLemmas
 pub mod CountLemmas
 pub mod BackLemmas
 pub mod ReportLemmas
+pub mod RunFronts

@@ -1,13 +1,15 @@
 -- What a reader expects of the bytes of a run.
-use Rattle.std.specs.Prelude.{ℕ, ◌+◌, ◌%◌, ◌^◌, ◌<◌, ◌≤◌, ◌≡◌, List, [], ◌∷◌, length, drop, flat_map, get_or, slice_get, slice_index, Some}
+use Rattle.std.specs.Prelude.{ℕ, ◌+◌, ◌%◌, ◌^◌, ◌<◌, ◌≤◌, ◌≡◌, List, [], ◌∷◌, length, drop, flat_map, get_or, slice_get, slice_index, take, Ok, Some}
 use Rattle.mpeg_scan.specs.declared.units.Unit.{Unit as PictureUnit}
 use Rattle.mpeg_scan.specs.Rates.{picture_time}
-use Rattle.rtp_pack.specs.Heads.{head_at}
+use Rattle.rtp_pack.specs.declared.heads.Head.{Head}
+use Rattle.rtp_pack.specs.declared.payloads.Packet.{Packet}
+use Rattle.rtp_pack.specs.Heads.{head_at, head_of, packet_head, video_word}
 use Rattle.rtp_pack.specs.Reports.{report_bytes, unit_report}
 use Rattle.interleave.specs.Pieces.{StartsBlock, block_length}
 use Rattle.film_frames.specs.declared.pieces.Piece.{Piece}
 use Rattle.film_frames.specs.declared.pieces.Piece.TheVariants.{Report, Frame}
-use Rattle.film_frames.specs.Pieces.{octets_of}
+use Rattle.film_frames.specs.Pieces.{frames_in, octets_of}
 use Rattle.film_frames.specs.Runs.{Run, frames_before, interleaved, octets_before, run_pieces, sent}
 use Rattle.film_frames.specs.Tracks.{begin_of}
 
@@ -22,7 +24,7 @@ frames_among (Frame unit packet ∷ pieces) (bytes ∷ all) = bytes ∷ frames_a
 abbrev pub run_frames : Run → List (List ℕ)
 run_frames run = frames_among (sent run) (run_pieces run)
 
--- the payloads of frames, one behind another: what follows the 20 bytes of heads
+-- the payloads of frames, one after another: what follows the 20 bytes of heads
 abbrev pub payloads : List (List ℕ) → List ℕ
 payloads frames = flat_map (λ frame. drop 20 frame) frames
 
@@ -73,3 +75,16 @@ abbrev pub DoReportsCount : Run → Type 0
 DoReportsCount run =
     (k : ℕ) (unit : PictureUnit) → slice_get (sent run) k ≡ Some (Report unit)
     → get_or (run_pieces run) k [] ≡ counted_report run unit (begin_of (run_pieces run) k)
+
+-- the head of a frame as it is read: that of its packet, with a video header of 32 bits
+abbrev pub head_read : Run → PictureUnit → Packet → ℕ → Head
+head_read run unit packet before = record (packet_head run.identity (picture_time run.rate) unit packet before) {
+  video = video_word unit packet % 2 ^ 32;
+}
+
+-- the head of each frame reads back whole: its packet's, with the frames of the run before it
+abbrev pub DoHeadsReadBack : Run → Type 0
+DoHeadsReadBack run =
+    (k : ℕ) (unit : PictureUnit) (packet : Packet) → slice_get (sent run) k ≡ Some (Frame unit packet)
+    → head_of (drop 4 (get_or (run_pieces run) k []))
+    ≡ Ok (head_read run unit packet (frames_in (take k (sent run))))

@@ -1,16 +1,18 @@
-ghost use Rattle.std.specs.Prelude.{◌≡◌, ◌+◌, ◌-◌, ◌^◌, ◌<◌, ◌≤◌, length, map, sum, take, drop};
+ghost use Rattle.std.specs.Prelude.{◌≡◌, ◌+◌, ◌-◌, ◌^◌, ◌<◌, ◌≤◌, ℕ, length, map, sum, take, drop};
 ghost use Rattle.rtp_pack.specs.Packets.{OfUnit};
-ghost use Rattle.film_frames.specs.Laws.{AreBlocks, AreOnChannels, DoCountOn, DoReportsCount, HaveSizes, payloads, run_frames};
+ghost use Rattle.film_frames.specs.Laws.{AreBlocks, AreOnChannels, DoCountOn, DoHeadsReadBack, DoReportsCount, HaveSizes, payloads, run_frames};
 ghost use Rattle.film_frames.specs.Pieces.{frames_in, wire_size};
-ghost use Rattle.film_frames.specs.Runs.{HaveEnded, ended, run_of, run_pieces, sent};
+ghost use Rattle.film_frames.specs.Runs.{HaveEnded, Run, ended, run_of, run_pieces, sent};
 ghost use Rattle.film_frames.specs.Tracks.{framed};
 
 use mpeg_scan::Film;
 use rtp_pack::Identity;
 
-/// The sizes of all units of a film on the wire add up to at most 2^42.
+/// The sizes of all units of a film on the wire, and so those of any range of them, add up to at most 2^42.
 pub fn law_wire_sizes(film: &Film)
-    ensures { sum (map (λ u. wire_size film.now.slice_starts.items u) film.now.units.items) ≤ 2 ^ 42 }
+    ensures range { (from count : ℕ)
+        → sum (map (λ u. wire_size film.now.slice_starts.items u) (take count (drop from film.now.units.items))) ≤ 2 ^ 42 }
+    ensures all { sum (map (λ u. wire_size film.now.slice_starts.items u) film.now.units.items) ≤ 2 ^ 42 }
 {
     let _read = film.bytes.len();
 }
@@ -61,6 +63,38 @@ pub fn law_piece_sizes(film: &Film, first_unit: usize, end_unit: usize, identity
 {
     let _read = (film.bytes.len(), first_unit, end_unit, identity);
 }
+
+/// A run of fewer units is a front of a run: its pieces are the first ones.
+pub fn law_run_front(
+    film: &Film,
+    first_unit: usize,
+    mid_unit: usize,
+    end_unit: usize,
+    identity: Identity,
+)
+    requires { mid_unit ≤ end_unit }
+    ensures { take (length (run_pieces (run_of film.now first_unit mid_unit identity)))
+        (run_pieces (run_of film.now first_unit end_unit identity))
+        ≡ run_pieces (run_of film.now first_unit mid_unit identity) }
+{
+    let _read = (film.bytes.len(), first_unit, mid_unit, end_unit, identity);
+}
+
+/// One more unit adds its size on the wire to the bytes of a run.
+pub fn law_unit_blocks(film: &Film, first_unit: usize, unit: usize, identity: Identity)
+    requires order { first_unit ≤ unit }
+    requires within { unit < length film.now.units.items }
+    ensures { OfUnit film.now.units.items unit (λ u.
+        length (framed (run_pieces (run_of film.now first_unit (unit + 1) identity)))
+        ≡ length (framed (run_pieces (run_of film.now first_unit unit identity))) + wire_size film.now.slice_starts.items u) }
+{
+    let _read = (film.bytes.len(), first_unit, unit, identity);
+}
+
+/// The head of each frame of a run reads back whole: its marker, sequence number, timestamp, source and video header.
+pub fn law_heads_read_back()
+    ensures { (run : Run) → run.identity.ssrc < 2 ^ 32 → DoHeadsReadBack run }
+{}
 
 /// How many pieces of a run have ended at a place: the last of them ends at or before it, and the next doesn't.
 pub fn law_ended(film: &Film, first_unit: usize, end_unit: usize, identity: Identity, at: u64)

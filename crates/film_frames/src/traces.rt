@@ -1,5 +1,5 @@
-ghost use Rattle.std.specs.Prelude.{◌≡◌, ◌++◌, ◌^◌, ◌<◌, ◌≤◌, List, ℕ, length, replicate, slice_range, sum, Ok};
-ghost use Rattle.film_frames.specs.Tracks.{IsNext, framed, zero_frames};
+ghost use Rattle.std.specs.Prelude.{◌≡◌, ◌++◌, ◌+◌, ◌-◌, ◌^◌, ◌<◌, ◌≤◌, List, ℕ, length, min, replicate, slice_range, sum, Ok};
+ghost use Rattle.film_frames.specs.Tracks.{IsBoundaryAfter, IsNext, framed, zero_frames};
 
 use crate::searches::ends_below;
 use crate::tracks::{Part, Track};
@@ -73,7 +73,7 @@ impl Track for TraceTrack {
         ends[ends_below(ends, at)]
     }
 
-    /// The bytes from `at` on, none of them in the head: at most 1,024, and none behind the end of the frame.
+    /// The bytes from `at` on, none of them in the head: what is left of the frame, or 1,024 of it.
     fn part(&self, at: u64, _head: &mut [u8; 52]) -> Part<'_>
         requires { at < length (framed (zero_frames self.now)) }
         ensures order { result.head_from ≤ result.head_to }
@@ -82,6 +82,8 @@ impl Track for TraceTrack {
             (slice_range _head.new result.head_from result.head_to ++ result.payload.now) }
         ensures no_head { result.head_from ≡ result.head_to }
         ensures most { length result.payload.now ≤ 1024 }
+        ensures full { (end : ℕ) → IsBoundaryAfter (zero_frames self.now) (at + 1) end
+            → length result.payload.now ≡ min (end - at) 1024 }
     {
         let ends: &[u64] = &self.ends;
         let end = ends[ends_below(ends, at + 1)];

@@ -1,6 +1,7 @@
-use Rattle.std.proofs.Common.{◌+◌, arith, refl, get_or}
+use Rattle.std.proofs.Common.{◌≡◌, ◌+◌, ◌-◌, ℕ, List, ◌∙◌, ap, arith, refl, get_or, length}
+use Rattle.std.proofs.lemmas.List.{length-replicate}
 use Rattle.film_frames.specs.Tracks.{zero_frames}
-use Rattle.film_frames.proofs.TrackLemmas.{ends-rise, found}
+use Rattle.film_frames.proofs.TrackLemmas.{boundary-found, ends-rise, found}
 use Rattle.film_frames.proofs.TraceLemmas.{trace-track, trace-total, zeros-next}
 use Rattle.film_frames.proofs.traces.TraceTrackTrack.part.Goals as goal
 
@@ -31,3 +32,15 @@ returns-clause-bytes c =
     let behind = c.ends_below.ensures.from c.ends_below.result (omega arith) within in
     zeros-next c.args.self.now c.deref-ends.result.now c.args.at c.ends_below.result c.min.result (get_or c.deref-ends.result.now c.ends_below.result 0) c.zeros.result.now are within
     (λ j h. c.ends_below.ensures.below j h) refl (omega (arith, behind)) (omega (arith, c.min.ensures, behind)) (omega (arith, c.min.ensures, behind)) c.zeros.ensures
+
+pub returns-clause-full : goal.returns-clause-full
+returns-clause-full c = λ end is.
+    let ends = c.deref-ends.result.now in
+    let are = trace-track c.self.inside.ends.items ends c.args.self.now c.deref-ends.ensures.value c.self.view_is c.self.invariant in
+    let within = found 0 (zero_frames c.args.self.now) ends (c.args.at + 1) c.ends_below.result are (omega arith) (omega (arith, c.requires)) c.ends_below.ensures.count (λ j h. omega (arith, c.ends_below.ensures.below j h)) in
+    let its = get_or ends c.ends_below.result 0 in
+    let after = c.ends_below.ensures.from c.ends_below.result (omega arith) within in
+    let its_end = boundary-found 0 (zero_frames c.args.self.now) ends (c.args.at + 1) c.ends_below.result are (omega arith) within (λ j h. omega (arith, c.ends_below.ensures.below j h)) (omega (arith, after)) in
+    let same : end ≡ its - 0 = omega (arith, is.least (its - 0) its_end.boundary its_end.after, its_end.least end is.boundary is.after) in
+    let long : length c.zeros.result.now ≡ c.min.result = ap (λ (l : List ℕ). length l) c.zeros.ensures ∙ length-replicate {A = ℕ} c.min.result 0 in
+    omega (arith, long, c.min.ensures, same)
