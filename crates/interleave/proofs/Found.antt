@@ -1,9 +1,10 @@
 -- What a search of the head found, as the definitions say it.
 use Rattle.std.proofs.Common.{◌≡◌, ℕ, ◌+◌, ◌-◌, ◌<◌, ◌≤◌, List, Option, Some, None, length, take, refl, ap, arith, inl, true, MatchOption, slice_range}
 use Rattle.std.proofs.lemmas.List.{length-map, length-take, length-drop}
+use Rattle.vod_base.specs.Blanks.{trimmed}
 use Rattle.vod_base.specs.Lines.{IsLine}
 use Rattle.interleave.specs.Heads.{empty_line_ends, HasNoHead, IsHead}
-use Rattle.interleave.specs.Lengths.{trimmed, written_length, IsLengthLine, IsWrittenAt, IsLongAt, IsBodyLength, IsLongBody}
+use Rattle.interleave.specs.Lengths.{written_length, IsLengthLine, IsWrittenAt, IsLongAt, IsBodyLength, IsLongBody}
 use Rattle.interleave.specs.Pieces.{IsRequestLength, IsBodyTooLong}
 
 -- the first empty line ends with the byte at `k`

@@ -3,7 +3,7 @@ use Rattle.std.proofs.Common.{◌≡◌, ℕ, zero, suc, ◌<◌, ◌≤◌, Lis
 use Rattle.std.proofs.lemmas.List.{take-append-le, drop-append-le, get_or_append_left, length-append, append_assoc, append-nil}
 use Rattle.interleave.specs.Heads.{is_line_end}
 use Rattle.interleave.specs.Pieces.{StartsBlock, IsFirst}
-use Rattle.interleave.specs.Streams.{IsPieceLength, LineEnd, WholeBlock, WholeRequest, AreCut, IsStream, told_pieces, told_length, TellsNone}
+use Rattle.interleave.specs.Streams.{IsPieceLength, LineEnd, WholeBlock, WholeRequest, AreCut, DoAgree, IsStream, told_pieces, told_length, TellsNone}
 use Rattle.interleave.specs.declared.pieces.Step.{Step}
 use Rattle.interleave.specs.declared.pieces.Step.TheVariants.{Request, Block, Skip, More}
 use Rattle.interleave.specs.declared.pieces.DemuxFault.{DemuxFault}
@@ -46,9 +46,9 @@ cut_grows w v [] rest same = ap (λ (xs : List ℕ). xs ++ v) same
 cut_grows w v (piece ∷ pieces) rest (n, cut) =
     let inside : n ≤ length w = piece_within w n cut.0 in
     let front : take n (w ++ v) ≡ take n w = take-append-le n w v inside in
-    let behind : drop n (w ++ v) ≡ drop n w ++ v = drop-append-le n w v inside in
+    let after : drop n (w ++ v) ≡ drop n w ++ v = drop-append-le n w v inside in
     let P : List ℕ → Type 0 = λ xs. AreCut xs pieces (rest ++ v) in
-    (n, (piece_stays w v n cut.0, cut.1 ∙ sym front, subst P (sym behind) (cut_grows (drop n w) v pieces rest cut.2)))
+    (n, (piece_stays w v n cut.0, cut.1 ∙ sym front, subst P (sym after) (cut_grows (drop n w) v pieces rest cut.2)))
 
 -- one piece more
 pub cut_more : (w : List ℕ) (pieces : List (List ℕ)) (rest : List ℕ) (n : ℕ) → AreCut w pieces rest → IsPieceLength rest n →
@@ -56,6 +56,34 @@ pub cut_more : (w : List ℕ) (pieces : List (List ℕ)) (rest : List ℕ) (n : 
 cut_more w [] rest n same piece =
     let P : List ℕ → Type 0 = λ xs. AreCut xs (take n rest ∷ []) (drop n rest) in subst P (sym same) (n, (piece, refl, refl))
 cut_more w (first ∷ pieces) rest n (m, cut) piece = (m, (cut.0, cut.1, cut_more (drop m w) pieces rest n cut.2 piece))
+
+-- cuts join
+pub cuts_join : (w v : List ℕ) (ps qs : List (List ℕ)) (rest end : List ℕ) → AreCut w ps rest → AreCut (rest ++ v) qs end → AreCut (w ++ v) (ps ++ qs) end
+cuts_join w v [] qs rest end same cut =
+    let P : List ℕ → Type 0 = λ xs. AreCut (xs ++ v) qs end in subst P (sym same) cut
+cuts_join w v (p ∷ ps) qs rest end (n, first) cut =
+    let inside : n ≤ length w = piece_within w n first.0 in
+    let front : take n (w ++ v) ≡ take n w = take-append-le n w v inside in
+    let after : drop n (w ++ v) ≡ drop n w ++ v = drop-append-le n w v inside in
+    let P : List ℕ → Type 0 = λ xs. AreCut xs (ps ++ qs) end in
+    (n, (piece_stays w v n first.0, first.1 ∙ sym front, subst P (sym after) (cuts_join (drop n w) v ps qs rest end first.2 cut)))
+
+-- two cuts agree as far as the shorter goes
+agree_after : (q : List ℕ) (ps qs : List (List ℕ)) (r t : List ℕ) → DoAgree ps r qs t → DoAgree (q ∷ ps) r (q ∷ qs) t
+agree_after q ps qs r t (inl (more, goes)) = inl (more, (ap (λ (l : List (List ℕ)). q ∷ l) goes.0, goes.1))
+agree_after q ps qs r t (inr (more, goes)) = inr (more, (ap (λ (l : List (List ℕ)). q ∷ l) goes.0, goes.1))
+
+pub cuts_agree : (w : List ℕ) (ps qs : List (List ℕ)) (r t : List ℕ) → AreCut w ps r → AreCut w qs t → DoAgree ps r qs t
+cuts_agree w [] qs r t same cut =
+    let P : List ℕ → Type 0 = λ xs. AreCut xs qs t in inl (qs, (refl, subst P same cut))
+cuts_agree w (p ∷ ps) [] r t cut same =
+    let P : List ℕ → Type 0 = λ xs. AreCut xs (p ∷ ps) r in inr (p ∷ ps, (refl, subst P same cut))
+cuts_agree w (p ∷ ps) (q ∷ qs) r t (n, cut) (m, cut') =
+    let same : n ≡ m = piece_once w n m cut.0 cut'.0 in
+    let P : ℕ → Type 0 = λ k. AreCut (drop k w) ps r in
+    let first : p ≡ q = cut.1 ∙ ap (λ k. take k w) same ∙ sym cut'.1 in
+    let Q : List ℕ → Type 0 = λ x. DoAgree (x ∷ ps) r (q ∷ qs) t in
+    subst Q (sym first) (agree_after q ps qs r t (cuts_agree (drop m w) ps qs r t (subst P same cut.2) cut'.2))
 
 -- the pieces and the rest of all bytes are the only ones
 pub stream_once : (w : List ℕ) (ps qs : List (List ℕ)) (r t : List ℕ) → IsStream w ps r → IsStream w qs t → (ps ≡ qs) × (r ≡ t)

@@ -1,26 +1,14 @@
 -- The length of a message's body (RFC 2326 sections 4.4 and 12.14): the value of the head's first Content-Length, 0 where there is none.
-use Rattle.std.specs.Prelude.{◌≡◌, ℕ, ◌+◌, ◌-◌, ◌<◌, ◌==◌, ◌||◌, ◌⊎◌, Bool, if◌then◌else◌, List, [], ◌∷◌, map, reverse, slice_index, slice_range, codes}
+use Rattle.std.specs.Prelude.{◌≡◌, ℕ, ◌+◌, ◌-◌, ◌<◌, ◌⊎◌, if◌then◌else◌, List, map, slice_index, slice_range, codes}
 use Rattle.std.specs.Char.{to_ascii_lowercase}
 use Rattle.std.specs.Str.Parse.{digits_value}
+use Rattle.vod_base.specs.Blanks.{trimmed}
 use Rattle.vod_base.specs.Lines.{IsLine, HasNoLine}
 use Rattle.vod_base.specs.Numbers.{is_decimal}
 
--- space or tab
-abbrev pub is_blank : ℕ → Bool
-is_blank c = c == 32 || c == 9
-
--- a text without the blanks in front
-abbrev pub without_front_blanks : List ℕ → List ℕ
-without_front_blanks [] = []
-without_front_blanks (c ∷ cs) = if is_blank c then without_front_blanks cs else c ∷ cs
-
--- a text without the blanks around it
-abbrev pub trimmed : List ℕ → List ℕ
-trimmed text = reverse (without_front_blanks (reverse (without_front_blanks text)))
-
--- a header line begins at `at`, directly behind a line's LF, and its name, before its first colon, is Content-Length in any case
+-- a header line begins at `at`, directly after a line's LF, and its name, before its first colon, is Content-Length in any case
 pub record IsLengthLine (head : List ℕ) (at : ℕ) : Type 0 where
-  pub behind : 0 < at
+  pub after : 0 < at
   pub begins : slice_index head (at - 1) ≡ 10
   pub name : map to_ascii_lowercase (slice_range head at (at + 15)) ≡ map to_ascii_lowercase (codes "Content-Length:")
 

@@ -1,5 +1,5 @@
 -- A connection's input as its pieces in order and a rest: each byte CR or LF that stands before a block or a request, each interleaved block, each request.
-use Rattle.std.specs.Prelude.{◌≡◌, ℕ, ◌<◌, ◌≤◌, true, List, [], ◌∷◌, length, take, drop, map, slice_index, Result, Ok, Err}
+use Rattle.std.specs.Prelude.{◌≡◌, ℕ, ◌<◌, ◌≤◌, ◌⊎◌, ◌++◌, true, List, [], ◌∷◌, length, take, drop, map, slice_index, Result, Ok, Err}
 use Rattle.interleave.specs.Heads.{is_line_end}
 use Rattle.interleave.specs.Pieces.{StartsBlock, StartsRequest, IsRequestLength, block_length}
 use Rattle.interleave.specs.declared.pieces.Step.{Step}
@@ -12,7 +12,7 @@ pub data IsPieceLength (bytes : List ℕ) (n : ℕ) : Type 0 where
   WholeBlock : StartsBlock bytes → 4 ≤ length bytes → n ≡ block_length bytes → n ≤ length bytes → IsPieceLength bytes n
   WholeRequest : StartsRequest bytes → IsRequestLength bytes n → n ≤ length bytes → IsPieceLength bytes n
 
--- the bytes are these pieces, one behind the other, and then the rest
+-- the bytes are these pieces, one after another, and then the rest
 abbrev pub AreCut : List ℕ → List (List ℕ) → List ℕ → Type 0
 AreCut bytes [] rest = bytes ≡ rest
 AreCut bytes (piece ∷ pieces) rest = (n : ℕ) × (IsPieceLength bytes n × (piece ≡ take n bytes) × AreCut (drop n bytes) pieces rest)
@@ -20,6 +20,14 @@ AreCut bytes (piece ∷ pieces) rest = (n : ℕ) × (IsPieceLength bytes n × (p
 -- the bytes are these pieces, and no whole piece is in front of the rest
 abbrev pub IsStream : List ℕ → List (List ℕ) → List ℕ → Type 0
 IsStream bytes pieces rest = AreCut bytes pieces rest × ((n : ℕ) → ¬ IsPieceLength rest n)
+
+-- the rest of one cut is cut further into the pieces that the other has more
+abbrev pub GoesOn : List (List ℕ) → List ℕ → List (List ℕ) → List ℕ → Type 0
+GoesOn one rest other end = (more : List (List ℕ)) × ((other ≡ one ++ more) × AreCut rest more end)
+
+-- of two cuts one goes on where the other ends
+abbrev pub DoAgree : List (List ℕ) → List ℕ → List (List ℕ) → List ℕ → Type 0
+DoAgree one rest other end = GoesOn one rest other end ⊎ GoesOn other end one rest
 
 -- the pieces in front that an answer tells: each byte CR or LF is one
 abbrev pub told_pieces : List ℕ → Result Step DemuxFault → List (List ℕ)

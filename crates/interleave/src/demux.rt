@@ -5,12 +5,22 @@ ghost use Rattle.interleave.specs.Heads.{is_line_end};
 use crate::pieces::{DemuxFault, Step, is_line_end};
 use crate::requests::{Known, learn, request_step};
 use std::alloc::Global;
+use std::error::Error;
+use std::fmt;
 use std::marker::Model;
 use vod_base::NoMemory;
 
 /// More than 131,072 bytes would wait.
 #[derive(Clone, Copy, Debug, PartialEq, Eq)]
 pub struct TooMuchInput;
+
+impl fmt::Display for TooMuchInput {
+    fn fmt<W: fmt::Write>(&self, f: &mut fmt::Formatter<W>) -> fmt::Result {
+        write!(f, "too many bytes wait")
+    }
+}
+
+impl Error for TooMuchInput {}
 
 /// The bytes of a connection that wait, and the first piece of them (RFC 2326 sections 4, 6 and 10.12).
 ///

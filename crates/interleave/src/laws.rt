@@ -1,5 +1,7 @@
-ghost use Rattle.std.specs.Prelude.{◌≡◌, ℕ, ◌++◌, List, drop, Ok};
-ghost use Rattle.interleave.specs.Streams.{AreCut, IsStream, TellsNone, told_length, told_pieces};
+ghost use Rattle.std.specs.Prelude.{◌≡◌, ℕ, ◌++◌, List, drop, Ok, Result};
+ghost use Rattle.interleave.specs.Streams.{AreCut, DoAgree, IsStream, TellsNone, told_length, told_pieces};
+ghost use Rattle.interleave.specs.declared.pieces.DemuxFault.{DemuxFault};
+ghost use Rattle.interleave.specs.declared.pieces.Step.{Step};
 ghost use Rattle.interleave.specs.Pieces.{IsFirst, IsLongerSkip, IsWhole};
 
 use crate::pieces::{DemuxFault, Step};
@@ -37,25 +39,34 @@ pub fn law_skipping(waiting: &[u8], later: &[u8], count: usize, answer: Result<S
 }
 
 /// The pieces of a stream stay whatever comes later, which only lengthens the rest.
-pub fn law_stream_grows(heard: &[u8], later: &[u8])
-    ensures { (pieces : List (List ℕ)) (rest : List ℕ) → AreCut heard.now pieces rest → AreCut (heard.now ++ later.now) pieces (rest ++ later.now) }
-{
-    let _read = (heard.len(), later.len());
-}
+pub fn law_stream_grows()
+    ensures { (heard later : List ℕ) (pieces : List (List ℕ)) (rest : List ℕ)
+        → AreCut heard pieces rest → AreCut (heard ++ later) pieces (rest ++ later) }
+{}
 
-/// An answer tells the next pieces of a stream: they are those in front of the rest, and dropping them leaves what is behind them. Where
-/// it tells none, no whole piece is in front of the rest.
-pub fn law_next_pieces(rest: &[u8], answer: Result<Step, DemuxFault>)
-    requires { IsFirst rest.now answer }
-    ensures pieces { (heard : List ℕ) (pieces : List (List ℕ)) → AreCut heard pieces rest.now → AreCut heard (pieces ++ told_pieces rest.now answer) (drop (told_length answer) rest.now) }
-    ensures none { TellsNone rest.now answer }
-{
-    let _read = (rest.len(), answer);
-}
+/// Cuts join: the pieces of what was heard first, and those of its rest and what was heard then, are those of all.
+pub fn law_cuts_join()
+    ensures { (heard later : List ℕ) (pieces more : List (List ℕ)) (rest end : List ℕ)
+        → AreCut heard pieces rest → AreCut (rest ++ later) more end → AreCut (heard ++ later) (pieces ++ more) end }
+{}
+
+/// Two cuts of one stream agree: the pieces of one are a front of the other's, which cuts the rest of the one further.
+pub fn law_cuts_agree()
+    ensures { (heard : List ℕ) (one other : List (List ℕ)) (rest end : List ℕ)
+        → AreCut heard one rest → AreCut heard other end → DoAgree one rest other end }
+{}
+
+/// An answer tells the next pieces of a stream: they are those in front of the rest, and dropping them leaves what
+/// comes after them. Where it tells none, no whole piece is in front of the rest.
+pub fn law_next_pieces()
+    ensures pieces { (heard rest : List ℕ) (pieces : List (List ℕ)) (answer : Result Step DemuxFault)
+        → IsFirst rest answer → AreCut heard pieces rest
+        → AreCut heard (pieces ++ told_pieces rest answer) (drop (told_length answer) rest) }
+    ensures none { (rest : List ℕ) (answer : Result Step DemuxFault) → IsFirst rest answer → TellsNone rest answer }
+{}
 
 /// A stream is cut into pieces and a rest in one way alone. So the pieces are the same however the bytes came.
-pub fn law_one_stream(heard: &[u8])
-    ensures { (one other : List (List ℕ)) (rest end : List ℕ) → IsStream heard.now one rest → IsStream heard.now other end → (one ≡ other) × (rest ≡ end) }
-{
-    let _read = heard.len();
-}
+pub fn law_one_stream()
+    ensures { (heard : List ℕ) (one other : List (List ℕ)) (rest end : List ℕ)
+        → IsStream heard one rest → IsStream heard other end → (one ≡ other) × (rest ≡ end) }
+{}

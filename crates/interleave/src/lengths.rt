@@ -1,42 +1,13 @@
-ghost use Rattle.std.specs.Prelude.{◌≡◌, ◌<◌, ◌≤◌, ◌↔◌, IsTrue, length, MatchOption, reverse};
-ghost use Rattle.interleave.specs.Lengths.{without_front_blanks, trimmed, written_length, IsLengthLine, IsWrittenAt, IsLongAt, IsBodyLength, IsLongBody};
+ghost use Rattle.std.specs.Prelude.{◌≡◌, ◌<◌, ◌≤◌, ◌↔◌, IsTrue, length, MatchOption};
+ghost use Rattle.interleave.specs.Lengths.{written_length, IsLengthLine, IsWrittenAt, IsLongAt, IsBodyLength, IsLongBody};
 
-use vod_base::{NumberFault, line_end, read_number};
+use vod_base::{NumberFault, line_end, read_number, trimmed};
 
-/// The name of the header field, with the colon behind it.
+/// The name of the header field, with the colon after it.
 const CONTENT_LENGTH: &[u8; 15] = b"Content-Length:";
 
 /// The most bytes of a body.
 const LONGEST_BODY: u64 = 65_536;
-
-/// The text without the blanks in front.
-fn front_trimmed(text: &[u8]) -> &[u8]
-    ensures { result.now ≡ without_front_blanks text.now }
-{
-    let mut rest = text;
-    while let [b' ' | b'\t', behind @ ..] = rest {
-        rest = behind;
-    }
-    rest
-}
-
-/// The text without the blanks at its end.
-fn back_trimmed(text: &[u8]) -> &[u8]
-    ensures { result.now ≡ reverse (without_front_blanks (reverse text.now)) }
-{
-    let mut rest = text;
-    while let [before @ .., b' ' | b'\t'] = rest {
-        rest = before;
-    }
-    rest
-}
-
-/// The text without the blanks (spaces and tabs) around it.
-pub fn trimmed(text: &[u8]) -> &[u8]
-    ensures { result.now ≡ trimmed text.now }
-{
-    back_trimmed(front_trimmed(text))
-}
 
 /// The length that a value writes, or None where it is above 65,536.
 fn length_of_value(value: &[u8]) -> Option<usize>

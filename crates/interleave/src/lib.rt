@@ -10,9 +10,9 @@ mod requests;
 
 pub use demux::{Demux, TooMuchInput};
 pub use laws::{
-    law_cutting, law_next_pieces, law_one_answer, law_one_stream, law_skipping, law_stream_grows,
+    law_cuts_agree, law_cuts_join, law_cutting, law_next_pieces, law_one_answer, law_one_stream,
+    law_skipping, law_stream_grows,
 };
-pub use lengths::trimmed;
 pub use pieces::{DemuxFault, Step, frame_head};
 
 #[cfg(test)]

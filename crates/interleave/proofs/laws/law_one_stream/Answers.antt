@@ -2,4 +2,4 @@ use Rattle.interleave.proofs.Streams.{stream_once}
 use Rattle.interleave.proofs.laws.law_one_stream.Goals as goal
 
 pub returns : goal.returns
-returns c = λ one other rest end x y. stream_once c.args.heard.now one other rest end x y
+returns c = stream_once
