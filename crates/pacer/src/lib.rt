@@ -7,3 +7,6 @@ mod pacers;
 mod sending;
 
 pub use pacers::{Pacer, Stepped};
+
+#[cfg(test)]
+mod tests;

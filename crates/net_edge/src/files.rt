@@ -1,0 +1,103 @@
+ghost use Rattle.std.specs.Prelude.{◌≡◌, None};
+
+use std::alloc::Global;
+use std::io::{ErrorKind, Read, Seek, SeekFrom};
+use std::rt::Files;
+use std::{fs, io};
+use vod_base::{Library, StoreFault};
+
+/// The files of the folder that the program runs in. The file that was read last stays open for the next read.
+#[derive(Drop)]
+pub struct FileLibrary<'a, R: Files> {
+    rt: &'a R,
+    alloc: Global,
+    open: Option<Open<R::File>>,
+    faults: u64,
+}
+
+/// A file that was read, and the place of its next byte.
+#[derive(Drop)]
+struct Open<F> {
+    name: String,
+    file: F,
+    place: u64,
+}
+
+impl<'a, R: Files> FileLibrary<'a, R> {
+    /// A library of the current folder. It keeps names in memory of this allocator.
+    pub fn new(rt: &'a R, alloc: Global) -> FileLibrary<'a, R> {
+        FileLibrary {
+            rt,
+            alloc,
+            open: None,
+            faults: 0,
+        }
+    }
+
+    /// The file of that name at a place, the one that is open if it is the same.
+    fn open_at(&mut self, name: &str, at: u64) -> io::Result<Open<R::File>>
+        ensures { self.new.faults ≡ self.old.faults }
+    {
+        match self.open.take() {
+            Some(open) if open.name.as_str() == name && open.place == at => return Ok(open),
+            _ => {}
+        }
+        let name_kept = String::from_str(self.alloc, name)?;
+        let mut file = fs::open(self.rt, name)?;
+        file.seek(SeekFrom::Start(at))?;
+        Ok(Open {
+            name: name_kept,
+            file,
+            place: at,
+        })
+    }
+
+    /// Reads at a place of a file.
+    fn read_at(&mut self, name: &str, at: u64, into: &mut [u8]) -> io::Result<usize>
+        ensures { self.new.faults ≡ self.old.faults }
+    {
+        let mut open = self.open_at(name, at)?;
+        let count = read_some(&mut open.file, into)?;
+        open.place = open.place.saturating_add(count as u64);
+        self.open = Some(open);
+        Ok(count)
+    }
+}
+
+/// Reads, again where a signal interrupted it.
+fn read_some<F: Read>(file: &mut F, into: &mut [u8]) -> io::Result<usize> {
+    for _ in 0..u64::MAX {
+        match file.read(into) {
+            Err(error) if error.kind() == ErrorKind::Interrupted => {}
+            read => return read,
+        }
+    }
+    Ok(0)
+}
+
+impl<R: Files> Library for FileLibrary<'_, R> {
+    ghost faults = { λ l. l.faults };
+
+    ghost files = { λ _. None };
+
+    fn find(&mut self, name: &str) -> Result<Option<u64>, StoreFault> {
+        match fs::metadata(self.rt, name) {
+            Ok(metadata) => Ok(Some(metadata.len())),
+            Err(error) if error.kind() == ErrorKind::NotFound => Ok(None),
+            Err(_) => {
+                self.faults = self.faults.saturating_add(1);
+                Err(StoreFault)
+            }
+        }
+    }
+
+    fn read(&mut self, name: &str, at: u64, into: &mut [u8]) -> Result<usize, StoreFault> {
+        match self.read_at(name, at, into) {
+            Ok(count) if count <= into.len() => Ok(count),
+            _ => {
+                self.faults = self.faults.saturating_add(1);
+                Err(StoreFault)
+            }
+        }
+    }
+}

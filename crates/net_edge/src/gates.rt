@@ -1,0 +1,182 @@
+ghost use Rattle.std.specs.Prelude.{◌≡◌, ◌≤◌, None, IfOk, IfSome};
+ghost use Rattle.vod_base.specs.Outside.{HasRisen};
+
+use crate::links::{SlotClock, TcpLink};
+use std::alloc::Global;
+use std::io;
+use std::io::ErrorKind;
+use std::net::{Ipv4Addr, Net, SocketAddr, TcpListener, TcpStream};
+use std::time::{Clock, Instant};
+use vod_base::{Gate, GateFault, Opening};
+
+/// A TCP port that connections come to. Slots count from its opening.
+#[derive(Drop)]
+pub struct TcpGate<'a, R: Net<Listener = TcpListener, Stream = TcpStream> + Clock> {
+    rt: &'a R,
+    alloc: Global,
+    door: Option<Door>,
+    /// The connections that were given.
+    given: u64,
+    faults: u64,
+}
+
+/// An open port.
+#[derive(Drop)]
+struct Door {
+    listener: TcpListener,
+    clock: SlotClock,
+    /// The most connections that are given, or 0 where there is no end.
+    connections: u64,
+}
+
+/// Opens a port.
+fn open_door<R: Net<Listener = TcpListener, Stream = TcpStream> + Clock>(
+    rt: &R,
+    how: &Opening,
+) -> io::Result<Door> {
+    let host = if how.all {
+        Ipv4Addr::UNSPECIFIED
+    } else {
+        Ipv4Addr::LOCALHOST
+    };
+    let listener = TcpListener::bind(rt, SocketAddr::from((host, how.port)))?;
+    Ok(Door {
+        listener,
+        clock: SlotClock {
+            opened: Instant::now(rt)?,
+            slot_units: how.slot_units,
+        },
+        connections: how.connections,
+    })
+}
+
+/// Whether an `accept` failed for a connection that ended before it was taken, or for a signal.
+fn has_passed(error: &io::Error) -> bool {
+    matches!(
+        error.kind(),
+        ErrorKind::Interrupted | ErrorKind::ConnectionAborted
+    )
+}
+
+impl Door {
+    /// Another handle of the same port.
+    fn copy(&self) -> io::Result<Door> {
+        Ok(Door {
+            listener: self.listener.try_clone()?,
+            clock: self.clock,
+            connections: self.connections,
+        })
+    }
+
+    /// Waits for the next connection.
+    fn accept(&self) -> io::Result<TcpStream> {
+        for _ in 0..u64::MAX {
+            match self.listener.accept() {
+                Ok((stream, _)) => return Ok(stream),
+                Err(error) if has_passed(&error) => {}
+                Err(error) => return Err(error),
+            }
+        }
+        Err(io::Error::from(ErrorKind::TimedOut))
+    }
+}
+
+impl<'a, R: Net<Listener = TcpListener, Stream = TcpStream> + Clock> TcpGate<'a, R> {
+    /// A gate that isn't open.
+    pub fn new(rt: &'a R, alloc: Global) -> TcpGate<'a, R> {
+        TcpGate {
+            rt,
+            alloc,
+            door: None,
+            given: 0,
+            faults: 0,
+        }
+    }
+
+    /// The port of a gate that is open.
+    pub fn port(&self) -> Option<u16> {
+        let door = self.door.as_ref()?;
+        Some(door.listener.local_addr().ok()?.port())
+    }
+
+    /// Another handle of the open port.
+    fn copied_door(&self) -> io::Result<Door> {
+        match &self.door {
+            Some(door) => door.copy(),
+            None => Err(io::Error::from(ErrorKind::NotConnected)),
+        }
+    }
+
+    /// The next connection, or None where all were given.
+    fn next_link(&mut self) -> io::Result<Option<TcpLink<'a, R>>>
+        ensures faults { self.new.faults ≡ self.old.faults }
+        ensures fresh { IfOk result (λ next. IfSome next (λ link. link.faults ≡ 0)) }
+    {
+        let Some(door) = &self.door else {
+            return Err(io::Error::from(ErrorKind::NotConnected));
+        };
+        if door.connections != 0 && self.given >= door.connections {
+            return Ok(None);
+        }
+        let link = TcpLink::new(self.rt, self.alloc, door.accept()?, door.clock)?;
+        self.given = self.given.saturating_add(1);
+        Ok(Some(link))
+    }
+
+    /// Counts a fault.
+    fn fault(&mut self) -> GateFault
+        ensures count { self.old.faults ≤ self.new.faults }
+        ensures risen { HasRisen self.old.faults self.new.faults }
+    {
+        self.faults = self.faults.saturating_add(1);
+        GateFault
+    }
+}
+
+impl<'a, R: Net<Listener = TcpListener, Stream = TcpStream> + Clock> Gate for TcpGate<'a, R> {
+    type Conn = TcpLink<'a, R>;
+
+    ghost faults = { λ g. g.faults };
+
+    ghost told = { λ _. None };
+
+    fn open(&mut self, how: &Opening) -> Result<(), GateFault> {
+        self.door = None;
+        self.given = 0;
+        match open_door(self.rt, how) {
+            Ok(door) => {
+                self.door = Some(door);
+                Ok(())
+            }
+            Err(_) => Err(self.fault()),
+        }
+    }
+
+    fn split(&mut self) -> Result<Self, GateFault> {
+        match self.copied_door() {
+            Ok(door) => Ok(TcpGate {
+                rt: self.rt,
+                alloc: self.alloc,
+                door: Some(door),
+                given: 0,
+                faults: 0,
+            }),
+            Err(_) => Err(self.fault()),
+        }
+    }
+
+    fn take(&mut self) -> Result<Option<TcpLink<'a, R>>, GateFault> {
+        match self.next_link() {
+            Ok(next) => Ok(next),
+            Err(_) => Err(self.fault()),
+        }
+    }
+
+    fn give_back(&mut self, conn: TcpLink<'a, R>) {
+        conn.end();
+    }
+
+    fn rejoin(&mut self, part: Self) {
+        self.faults = self.faults.saturating_add(part.faults);
+    }
+}

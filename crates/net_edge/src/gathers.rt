@@ -1,0 +1,78 @@
+ghost use Rattle.std.specs.Prelude.{◌≡◌, ◌+◌, ◌-◌, ◌<◌, ◌≤◌, ◌++◌, [], length, take, drop, min, vec_capacity, IfOk};
+
+use std::alloc::{AllocError, Global};
+use std::marker::Model;
+
+/// Bytes that wait to be written, in a buffer whose room is taken when it is made. Contracts see the list of these bytes.
+#[derive(Drop)]
+pub(crate) struct Gathered {
+    bytes: Vec<u8>,
+    start: usize,
+}
+
+/// The most bytes that wait.
+const ROOM: usize = 65_536;
+
+impl Model for Gathered {
+    ghost use Rattle.std.specs.Prelude.{◌≤◌, ℕ, List, length, drop, vec_capacity};
+
+    ghost Value = { List ℕ };
+
+    ghost view = { λ g. drop g.start g.bytes.items };
+
+    ghost invariant = { λ g. (g.start ≤ length g.bytes.items) × (length g.bytes.items ≤ 65536) × (65536 ≤ vec_capacity g.bytes) };
+}
+
+/// Moves what stands from `start` on to the front, and leaves nothing else.
+fn move_to_front(bytes: &mut Vec<u8>, start: usize)
+    requires { start ≤ length bytes.old.items }
+    ensures items { bytes.new.items ≡ drop start bytes.old.items }
+    ensures capacity { vec_capacity bytes.new ≡ vec_capacity bytes.old }
+{
+    let left = bytes.len() - start;
+    bytes.copy_within(start.., 0);
+    bytes.truncate(left);
+}
+
+impl Gathered {
+    /// An empty buffer. No other call takes memory.
+    pub(crate) fn new(alloc: Global) -> Result<Gathered, AllocError>
+        ensures { IfOk result (λ gathered. gathered ≡ []) }
+    {
+        Ok(Gathered {
+            bytes: Vec::with_capacity(alloc, ROOM)?,
+            start: 0,
+        })
+    }
+
+    /// The bytes that wait.
+    pub(crate) fn waiting(&self) -> &[u8]
+        ensures { result.now ≡ self.now }
+    {
+        &self.bytes[self.start..]
+    }
+
+    /// Appends as many of the bytes as there is room for, and answers how many.
+    pub(crate) fn put(&mut self, bytes: &[u8]) -> usize
+        ensures count { result ≡ min (length bytes.now) (65536 - length self.old) }
+        ensures waiting { self.new ≡ self.old ++ take result bytes.now }
+    {
+        let count = bytes.len().min(ROOM - (self.bytes.len() - self.start));
+        if count > ROOM - self.bytes.len() {
+            move_to_front(&mut self.bytes, self.start);
+            self.start = 0;
+        }
+        match self.bytes.extend_from_slice(&bytes[..count]) {
+            Ok(()) => count,
+            Err(_) => unreachable!(),
+        }
+    }
+
+    /// Drops the first `count` waiting bytes.
+    pub(crate) fn drop_front(&mut self, count: usize)
+        requires { count ≤ length self.old }
+        ensures { self.new ≡ drop count self.old }
+    {
+        self.start += count;
+    }
+}

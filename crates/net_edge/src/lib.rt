@@ -1,0 +1,18 @@
+//! The real folder, output, sockets and clock that `vodserve` runs on. They tell contracts nothing of their content: what they
+//! promise is that a call answers a fault only where their count of faults rose in it.
+#![tactic(auto)]
+
+mod files;
+mod gates;
+mod gathers;
+mod links;
+mod outputs;
+mod slots;
+
+pub use files::FileLibrary;
+pub use gates::TcpGate;
+pub use links::TcpLink;
+pub use outputs::OutSink;
+
+#[cfg(test)]
+mod tests;

@@ -1,0 +1,276 @@
+ghost use Rattle.std.specs.Prelude.{◌≡◌, ◌<◌, ◌≤◌, None, length, IfOk, IfSome};
+ghost use Rattle.vod_base.specs.Outside.{HasRisen};
+ghost use Rattle.vod_base.specs.Links.{IsWithin};
+
+use crate::gathers::Gathered;
+use crate::slots::{rest_of_slot, slot_at};
+use mio::net::TcpStream;
+use mio::{Events, Interest, Poll, Token};
+use std::alloc::Global;
+use std::io::{ErrorKind, Read, Write};
+use std::net::{Net, Shutdown};
+use std::time::{Clock, Duration, Instant};
+use std::{io, net};
+use vod_base::{Heard, Link, LinkFault};
+
+/// For how many seconds a peer may take nothing of the bytes that wait for it.
+const PATIENCE: u64 = 60;
+
+/// For how many seconds a connection that was given back waits for its peer to end.
+const LINGER: u64 = 1;
+
+/// The clock of a gate's slots: when slot 0 began, and a slot's length in 1/360,000 second.
+#[derive(Clone, Copy)]
+pub(crate) struct SlotClock {
+    pub(crate) opened: Instant,
+    pub(crate) slot_units: u32,
+}
+
+/// A connection over TCP. What is sent is gathered, and leaves when the gathered bytes are many and at the next wait.
+#[derive(Drop)]
+pub struct TcpLink<'a, R: Clock> {
+    rt: &'a R,
+    socket: TcpStream,
+    poll: Poll,
+    events: Events,
+    gathered: Gathered,
+    clock: SlotClock,
+    /// The slot that was told last.
+    slot: Option<u64>,
+    /// Whether there may be something to read.
+    readable: bool,
+    /// Since when the peer takes nothing of the bytes that wait.
+    stuck: Option<Instant>,
+    faults: u64,
+}
+
+impl<'a, R: Net + Clock> TcpLink<'a, R> {
+    /// A connection over a socket.
+    pub(crate) fn new(
+        rt: &'a R,
+        alloc: Global,
+        stream: net::TcpStream,
+        clock: SlotClock,
+    ) -> io::Result<TcpLink<'a, R>>
+        ensures { IfOk result (λ link. link.faults ≡ 0) }
+    {
+        stream.set_nonblocking(true)?;
+        let _ = stream.set_nodelay(true);
+        let mut socket = TcpStream::from_std(stream);
+        let poll = Poll::new(rt)?;
+        poll.registry().register(
+            &mut socket,
+            Token(0),
+            Interest::READABLE | Interest::WRITABLE,
+        )?;
+        Ok(TcpLink {
+            rt,
+            socket,
+            poll,
+            events: Events::with_capacity(alloc, 4)?,
+            gathered: Gathered::new(alloc)?,
+            clock,
+            slot: None,
+            readable: true,
+            stuck: None,
+            faults: 0,
+        })
+    }
+}
+
+impl<R: Clock> TcpLink<'_, R> {
+    /// The time since the gate was opened.
+    fn elapsed(&self) -> io::Result<Duration> {
+        self.clock.opened.elapsed(self.rt)
+    }
+
+    /// The slot by the clock, where it wasn't told yet.
+    fn new_slot(&mut self) -> io::Result<Option<u64>>
+        ensures { self.new.faults ≡ self.old.faults }
+    {
+        let slot = slot_at(self.elapsed()?, self.clock.slot_units.max(1));
+        if self.slot.is_some_and(|told| slot <= told) {
+            return Ok(None);
+        }
+        self.slot = Some(slot);
+        Ok(Some(slot))
+    }
+
+    /// Waits until the socket is ready for something, at most so long.
+    fn wait(&mut self, most: Duration) -> io::Result<()>
+        ensures { self.new.faults ≡ self.old.faults }
+    {
+        match self.poll.poll(&mut self.events, Some(most)) {
+            Err(error) if error.kind() != ErrorKind::Interrupted => return Err(error),
+            _ => {}
+        }
+        if !self.events.is_empty() {
+            self.readable = true;
+        }
+        Ok(())
+    }
+
+    /// Notes that the peer takes nothing now, and fails where it has taken nothing for too long.
+    fn note_stuck(&mut self) -> io::Result<()>
+        ensures { self.new.faults ≡ self.old.faults }
+    {
+        let now = Instant::now(self.rt)?;
+        match self.stuck {
+            Some(since) if now.duration_since(since) >= Duration::from_secs(PATIENCE) => {
+                Err(io::Error::from(ErrorKind::TimedOut))
+            }
+            Some(_) => Ok(()),
+            None => {
+                self.stuck = Some(now);
+                Ok(())
+            }
+        }
+    }
+
+    /// Writes what the socket takes of the gathered bytes.
+    fn flush(&mut self) -> io::Result<()>
+        ensures { self.new.faults ≡ self.old.faults }
+    {
+        for _ in 0..u64::MAX {
+            if self.gathered.waiting().is_empty() {
+                break;
+            }
+            match self.socket.write(self.gathered.waiting()) {
+                Ok(0) => return Err(io::Error::from(ErrorKind::WriteZero)),
+                Ok(count) => {
+                    self.gathered.drop_front(count);
+                    self.stuck = None;
+                }
+                Err(error) if error.kind() == ErrorKind::WouldBlock => return self.note_stuck(),
+                Err(error) if error.kind() == ErrorKind::Interrupted => {}
+                Err(error) => return Err(error),
+            }
+        }
+        Ok(())
+    }
+
+    /// Gathers bytes, and writes while there is no room for them.
+    fn gather(&mut self, bytes: &[u8]) -> io::Result<()>
+        ensures { self.new.faults ≡ self.old.faults }
+    {
+        let mut rest = bytes;
+        for _ in 0..u64::MAX {
+            let count = self.gathered.put(rest);
+            rest = &rest[count..];
+            if rest.is_empty() {
+                break;
+            }
+            self.flush()?;
+            if self.stuck.is_some() {
+                self.wait(Duration::from_secs(PATIENCE))?;
+            }
+        }
+        Ok(())
+    }
+
+    /// Reads what came; None where nothing came.
+    fn read(&mut self, into: &mut [u8]) -> io::Result<Option<usize>>
+        ensures faults { self.new.faults ≡ self.old.faults }
+        ensures within { IfOk result (λ read. IfSome read (λ count. count ≤ length into.new)) }
+    {
+        if !self.readable {
+            return Ok(None);
+        }
+        for _ in 0..u64::MAX {
+            match self.socket.read(into) {
+                Ok(count) => return Ok(Some(count)),
+                Err(error) if error.kind() == ErrorKind::WouldBlock => {
+                    self.readable = false;
+                    return Ok(None);
+                }
+                Err(error) if error.kind() == ErrorKind::Interrupted => {}
+                Err(error) => return Err(error),
+            }
+        }
+        Ok(None)
+    }
+
+    /// Waits for the next event: first what is gathered leaves, then the slot goes by the clock, and then what came.
+    fn hear(&mut self, into: &mut [u8]) -> io::Result<Heard>
+        requires { 0 < length into.now }
+        ensures faults { self.new.faults ≡ self.old.faults }
+        ensures within { IfOk result (λ heard. IsWithin heard (length into.new)) }
+    {
+        for _ in 0..u64::MAX {
+            self.flush()?;
+            if let Some(slot) = self.new_slot()? {
+                return Ok(Heard::Slot(slot));
+            }
+            match self.read(into)? {
+                Some(0) => return Ok(Heard::End),
+                Some(count) => return Ok(Heard::Bytes(count)),
+                None => {}
+            }
+            let rest = rest_of_slot(self.elapsed()?, self.clock.slot_units.max(1));
+            self.wait(rest)?;
+        }
+        Ok(Heard::End)
+    }
+
+    /// Writes all gathered bytes and ends the sending side, and then waits a little for the peer to end, so that a last reply
+    /// isn't lost where the peer sent more.
+    fn close(&mut self) -> io::Result<()> {
+        for _ in 0..u64::MAX {
+            self.flush()?;
+            if self.gathered.waiting().is_empty() {
+                break;
+            }
+            self.wait(Duration::from_secs(PATIENCE))?;
+        }
+        self.socket.shutdown(Shutdown::Write)?;
+        let mut dropped = [0; 1024];
+        let begun = Instant::now(self.rt)?;
+        let linger = Duration::from_secs(LINGER);
+        for _ in 0..u64::MAX {
+            let waited = begun.elapsed(self.rt)?;
+            if waited >= linger || self.read(&mut dropped)? == Some(0) {
+                break;
+            }
+            if !self.readable {
+                self.wait(linger.saturating_sub(waited))?;
+            }
+        }
+        Ok(())
+    }
+
+    /// Ends the connection. A fault is no matter any more.
+    pub(crate) fn end(mut self) {
+        if self.faults == 0 {
+            let _ = self.close();
+        }
+    }
+
+    /// Counts a fault.
+    fn fault(&mut self) -> LinkFault
+        ensures count { self.old.faults ≤ self.new.faults }
+        ensures risen { HasRisen self.old.faults self.new.faults }
+    {
+        self.faults = self.faults.saturating_add(1);
+        LinkFault
+    }
+}
+
+impl<R: Clock> Link for TcpLink<'_, R> {
+    ghost faults = { λ l. l.faults };
+
+    ghost told = { λ _. None };
+
+    fn next(&mut self, into: &mut [u8]) -> Result<Heard, LinkFault> {
+        match self.hear(into) {
+            Ok(heard) => Ok(heard),
+            Err(_) => Err(self.fault()),
+        }
+    }
+
+    fn send(&mut self, bytes: &[u8]) -> Result<(), LinkFault> {
+        match self.gather(bytes) {
+            Ok(()) => Ok(()),
+            Err(_) => Err(self.fault()),
+        }
+    }
+}

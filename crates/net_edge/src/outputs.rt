@@ -1,0 +1,32 @@
+ghost use Rattle.std.specs.Prelude.{None};
+
+use std::io::Write;
+use vod_base::{Sink, SinkFault};
+
+/// A stream that is written to and never read.
+#[derive(Drop)]
+pub struct OutSink<W: Write + Drop> {
+    stream: W,
+    faults: u64,
+}
+
+impl<W: Write + Drop> OutSink<W> {
+    /// A sink over a stream.
+    pub fn new(stream: W) -> OutSink<W> {
+        OutSink { stream, faults: 0 }
+    }
+}
+
+impl<W: Write + Drop> Sink for OutSink<W> {
+    ghost faults = { λ s. s.faults };
+
+    ghost written = { λ _. None };
+
+    fn write_all(&mut self, bytes: &[u8]) -> Result<(), SinkFault> {
+        if self.stream.write_all(bytes).is_ok() && self.stream.flush().is_ok() {
+            return Ok(());
+        }
+        self.faults = self.faults.saturating_add(1);
+        Err(SinkFault)
+    }
+}
