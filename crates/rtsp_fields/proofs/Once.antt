@@ -10,7 +10,7 @@ use Rattle.vod_base.specs.Numbers.{is_decimal}
 use Rattle.rtsp_fields.specs.Pieces.{IsEnd}
 use Rattle.rtsp_fields.specs.Times.{IsDigits, IsClock, AreSeconds, IsFraction, IsTime}
 use Rattle.rtsp_fields.specs.Ranges.{IsOrigin, IsLimit, IsSpan}
-use Rattle.rtsp_fields.specs.Transports.{IsPair, IsSingle, AreChannels, NamesChannels, HasChannels, IsTaken, CanBeTaken, IsTransport, behind_name}
+use Rattle.rtsp_fields.specs.Transports.{IsPair, IsSingle, AreChannels, NamesChannels, HasChannels, IsTaken, CanBeTaken, IsTransport, after_name}
 use Rattle.rtsp_fields.specs.Urls.{NamesFilm}
 use Rattle.rtsp_fields.specs.declared.transports.Channels.{Channels}
 use Rattle.rtsp_fields.specs.declared.ranges.Origin.{Origin}
@@ -135,9 +135,9 @@ channels_once text a b (inr x) (inr y) =
 has_once : (text : List ℕ) (a b : Channels) → HasChannels text a → HasChannels text b → a ≡ b
 has_once text a b (inl x) (inl y) =
     let same = first_once 59 text NamesChannels x.from x.to y.from y.to x.piece x.names x.first y.piece y.names y.first in
-    let P : ℕ → Type 0 = λ n. AreChannels (behind_name (trimmed (slice_range text n x.to))) a in
-    let Q : ℕ → Type 0 = λ n. AreChannels (behind_name (trimmed (slice_range text y.from n))) a in
-    channels_once (behind_name (trimmed (slice_range text y.from y.to))) a b (subst Q same.1 (subst P same.0 x.are)) y.are
+    let P : ℕ → Type 0 = λ n. AreChannels (after_name (trimmed (slice_range text n x.to))) a in
+    let Q : ℕ → Type 0 = λ n. AreChannels (after_name (trimmed (slice_range text y.from n))) a in
+    channels_once (after_name (trimmed (slice_range text y.from y.to))) a b (subst Q same.1 (subst P same.0 x.are)) y.are
 has_once text a b (inl x) (inr y) = absurd (y.none x.from x.to x.piece x.names)
 has_once text a b (inr x) (inl y) = absurd (x.none y.from y.to y.piece y.names)
 has_once text a b (inr x) (inr y) = same_channels a b (x.media ∙ sym y.media) (x.control ∙ sym y.control)

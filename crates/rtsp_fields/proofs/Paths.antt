@@ -42,10 +42,10 @@ pub film_path : (name tail : List ℕ) → is_good_name name ≡ true → IsTail
 film_path name tail good is_tail =
     let size : 1 + length name - 1 ≡ length name = omega arith in
     let front : take (1 + length name - 1) (name ++ tail) ≡ name = take_at name tail (1 + length name - 1) (sym size) in
-    let behind : drop (1 + length name) (47 ∷ name ++ tail) ≡ tail = drop_at (47 ∷ name) tail (1 + length name) (omega arith) in
+    let after : drop (1 + length name) (47 ∷ name ++ tail) ≡ tail = drop_at (47 ∷ name) tail (1 + length name) (omega arith) in
     let left : length (47 ∷ name ++ tail) - (1 + length name) ≡ length tail = omega (arith, length-append (47 ∷ name) tail) in
     let whole : slice_range (47 ∷ name ++ tail) (1 + length name) (length (47 ∷ name ++ tail)) ≡ tail =
-    ap (λ (xs : List ℕ). take (length (47 ∷ name ++ tail) - (1 + length name)) xs) behind ∙ take_all (length (47 ∷ name ++ tail) - (1 + length name)) tail (omega (arith, left)) in
+    ap (λ (xs : List ℕ). take (length (47 ∷ name ++ tail) - (1 + length name)) xs) after ∙ take_all (length (47 ∷ name ++ tail) - (1 + length name)) tail (omega (arith, left)) in
     record {
       slash = refl;
       end = 1 + length name;

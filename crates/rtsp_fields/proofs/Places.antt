@@ -12,7 +12,7 @@ end_once c text from a b x y =
       | inr (inr more) ↦ absurd (x.none b y.after more (y.ends (omega (arith, more, x.within))))
     ]
 
--- no piece begins behind the place where one begins and before its end
+-- no piece begins after the place where one begins and before its end
 pub no_start_inside : (c : ℕ) (text : List ℕ) (from to k : ℕ) → IsEnd c text from to → from < k → k ≤ to → IsStart c text k → ⊥
 no_start_inside c text from to k e after before (inl zero) = omega (arith, after, zero)
 no_start_inside c text from to k e after before (inr s) = e.none (k - 1) (omega (arith, after)) (omega (arith, after, before)) s.1
@@ -31,7 +31,7 @@ none_before_next c text P from to e before here = λ k end below piece.
       | inr (inr more) ↦ λ _. no_start_inside c text from to k e more (omega (arith, below)) piece.start
     ]
 
--- the next piece begins behind the separator
+-- the next piece begins after the separator
 pub next_start : (c : ℕ) (text : List ℕ) (from to : ℕ) → IsEnd c text from to → to + 1 ≤ length text → IsStart c text (to + 1)
 next_start c text from to e inside =
     inr (omega arith, let same : to + 1 - 1 ≡ to = omega arith in rw same (e.ends (omega (arith, inside))))

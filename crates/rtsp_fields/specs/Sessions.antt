@@ -1,4 +1,4 @@
--- The Session header (RFC 2326 sections 3.4 and 12.37): the id, and behind a `;` its parameters.
+-- The Session header (RFC 2326 sections 3.4 and 12.37): the id, and after a `;` its parameters.
 use Rattle.std.specs.Prelude.{◌≡◌, ℕ, List, take}
 use Rattle.vod_base.specs.Blanks.{trimmed}
 use Rattle.rtsp_fields.specs.Pieces.{IsEnd, lower}

@@ -33,12 +33,12 @@ pub record IsClock (text : List ℕ) (seconds : ℕ) : Type 0 where
 abbrev pub AreSeconds : List ℕ → ℕ → Type 0
 AreSeconds text seconds = IsDigits 9 text seconds ⊎ IsClock text seconds
 
--- any number of digits behind the point, of which the first nine count
+-- any number of digits after the point, of which the first nine count
 pub record IsFraction (text : List ℕ) (nanoseconds : ℕ) : Type 0 where
   pub digits : list_all is_ascii_digit text ≡ true
   pub value : nanoseconds ≡ digits_value 10 (take 9 text) * 10 ^ (9 - length (take 9 text))
 
--- seconds, and behind a point, where one stands, the fraction of a second
+-- seconds, and after a point, where one stands, the fraction of a second
 pub record IsTime (text : List ℕ) (nanoseconds : ℕ) : Type 0 where
   pub point : ℕ
   pub point_is : IsEnd 46 text 0 point

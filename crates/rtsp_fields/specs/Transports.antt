@@ -20,7 +20,7 @@ pub record IsSingle (text : List ℕ) (channels : Channels) : Type 0 where
   pub media : IsWithin 0 254 text channels.media
   pub control : channels.control ≡ channels.media + 1
 
--- the channels that stand behind `interleaved=`
+-- the channels that stand after `interleaved=`
 abbrev pub AreChannels : List ℕ → Channels → Type 0
 AreChannels text channels = IsPair text channels ⊎ IsSingle text channels
 
@@ -38,9 +38,9 @@ IsOther part =
 abbrev pub NamesChannels : List ℕ → Type 0
 NamesChannels part = Begins (codes "interleaved=") (word part)
 
--- the text behind `interleaved=`
-abbrev pub behind_name : List ℕ → List ℕ
-behind_name part = slice_range part 12 (length part)
+-- the text after `interleaved=`
+abbrev pub after_name : List ℕ → List ℕ
+after_name part = slice_range part 12 (length part)
 
 -- the first part that names channels names these
 pub record AreNamed (text : List ℕ) (channels : Channels) : Type 0 where
@@ -49,7 +49,7 @@ pub record AreNamed (text : List ℕ) (channels : Channels) : Type 0 where
   pub piece : IsPiece 59 text from to
   pub names : NamesChannels (slice_range text from to)
   pub first : NoneBefore 59 text from NamesChannels
-  pub are : AreChannels (behind_name (trimmed (slice_range text from to))) channels
+  pub are : AreChannels (after_name (trimmed (slice_range text from to))) channels
 
 -- no part names channels, which are then 0 and 1
 pub record AreDefault (text : List ℕ) (channels : Channels) : Type 0 where

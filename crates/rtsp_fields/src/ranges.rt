@@ -52,7 +52,7 @@ fn read_limit(text: &[u8]) -> Option<Option<u128>>
 ///
 /// `npt` is in any case. FROM is `now`, in lower case, or a time, TO a time. A time is 1 to 9 digits, or 1 to 5 digits for hours
 /// and twice one or two digits up to 59 for minutes and seconds, with `:` between them; a point and any digits may follow, of
-/// which nine count. None exactly where the value is of no such form. Whether TO is behind FROM isn't judged here.
+/// which nine count. None exactly where the value is of no such form. Whether TO is after FROM isn't judged here.
 pub fn read_range(value: &[u8]) -> Option<Span>
     ensures { MatchOption result ((span : Span) → ¬ IsSpan value.now span) (IsSpan value.now) }
 {

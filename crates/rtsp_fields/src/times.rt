@@ -57,7 +57,7 @@ fn are_digits(text: &[u8]) -> bool
     text.iter().all(|byte| byte.is_ascii_digit())
 }
 
-/// The fraction of a second that the digits behind a point write, in nanoseconds.
+/// The fraction of a second that the digits after a point write, in nanoseconds.
 fn read_fraction(text: &[u8]) -> Option<u64>
     ensures { MatchOption result ((n : ℕ) → ¬ IsFraction text.now n) (λ n. IsFraction text.now n × (n < 10 ^ 9)) }
 {

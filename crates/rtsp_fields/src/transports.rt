@@ -46,7 +46,7 @@ fn read_single(text: &[u8]) -> Option<Channels>
     })
 }
 
-/// The channels that stand behind `interleaved=`.
+/// The channels that stand after `interleaved=`.
 fn read_channels(text: &[u8]) -> Option<Channels>
     ensures { MatchOption result ((channels : Channels) → ¬ AreChannels text.now channels) (AreChannels text.now) }
 {

@@ -29,28 +29,28 @@ cut_found c text at within is none = record {
   first = none;
 }
 
-pub cut_none : (c : ℕ) (text front behind : List ℕ) → list_all (λ b. not (b == c)) text ≡ true → text ≡ front ++ c ∷ behind → ⊥
-cut_none c text front behind none e =
-    let all : (list_all (λ b. not (b == c)) front && (not (c == c) && list_all (λ b. not (b == c)) behind)) ≡ true =
-    sym (list_all-append (λ b. not (b == c)) front (c ∷ behind)) ∙ ap (list_all (λ b. not (b == c))) (sym e) ∙ none in
-    is_other c c (and_left (not (c == c)) (list_all (λ b. not (b == c)) behind) (and_right (list_all (λ b. not (b == c)) front) (not (c == c) && list_all (λ b. not (b == c)) behind) all)) refl
+pub cut_none : (c : ℕ) (text front after : List ℕ) → list_all (λ b. not (b == c)) text ≡ true → text ≡ front ++ c ∷ after → ⊥
+cut_none c text front after none e =
+    let all : (list_all (λ b. not (b == c)) front && (not (c == c) && list_all (λ b. not (b == c)) after)) ≡ true =
+    sym (list_all-append (λ b. not (b == c)) front (c ∷ after)) ∙ ap (list_all (λ b. not (b == c))) (sym e) ∙ none in
+    is_other c c (and_left (not (c == c)) (list_all (λ b. not (b == c)) after) (and_right (list_all (λ b. not (b == c)) front) (not (c == c) && list_all (λ b. not (b == c)) after) all)) refl
 
 pub record AreSame (a b c d : List ℕ) : Type 0 where
   pub front : a ≡ b
-  pub behind : c ≡ d
+  pub after : c ≡ d
 
 parts_once : (c : ℕ) (a b a' b' : List ℕ) → list_all (λ b. not (b == c)) a ≡ true → list_all (λ b. not (b == c)) a' ≡ true → a ++ c ∷ b ≡ a' ++ c ∷ b' → AreSame a a' b b'
-parts_once c [] b [] b' h h' e = record { front = refl; behind = let s : c ∷ b ≡ c ∷ b' = e in cc }
+parts_once c [] b [] b' h h' e = record { front = refl; after = let s : c ∷ b ≡ c ∷ b' = e in cc }
 parts_once c [] b (x ∷ a') b' h h' e = absurd (is_other x c (and_left (not (x == c)) (list_all (λ b. not (b == c)) a') h') (let s : c ∷ b ≡ x ∷ (a' ++ c ∷ b') = e in cc))
 parts_once c (x ∷ a) b [] b' h h' e = absurd (is_other x c (and_left (not (x == c)) (list_all (λ b. not (b == c)) a) h) (let s : x ∷ (a ++ c ∷ b) ≡ c ∷ b' = e in cc))
 parts_once c (x ∷ a) b (y ∷ a') b' h h' e =
     let s : x ∷ (a ++ c ∷ b) ≡ y ∷ (a' ++ c ∷ b') = e in
     let rest = parts_once c a b a' b' (and_right (not (x == c)) (list_all (λ b. not (b == c)) a) h) (and_right (not (y == c)) (list_all (λ b. not (b == c)) a') h') (let t : a ++ c ∷ b ≡ a' ++ c ∷ b' = cc in t) in
-    record { front = (let f = rest.front in cc); behind = rest.behind }
+    record { front = (let f = rest.front in cc); after = rest.after }
 
 -- a text is cut in one way
-pub cut_once : (c : ℕ) (text front behind a b : List ℕ) → IsCut c text front behind → text ≡ a ++ c ∷ b → list_all (λ b. not (b == c)) a ≡ true → AreSame front a behind b
-cut_once c text front behind a b cut e none = parts_once c front behind a b cut.first none (sym cut.parts ∙ e)
+pub cut_once : (c : ℕ) (text front after a b : List ℕ) → IsCut c text front after → text ≡ a ++ c ∷ b → list_all (λ b. not (b == c)) a ≡ true → AreSame front a after b
+cut_once c text front after a b cut e none = parts_once c front after a b cut.first none (sym cut.parts ∙ e)
 
 -- bytes of another kind
 pub all_other : (q : ℕ → Bool) (c : ℕ) → q c ≡ false → (text : List ℕ) → list_all q text ≡ true → list_all (λ b. not (b == c)) text ≡ true

@@ -16,7 +16,7 @@ use Rattle.rtsp_text.proofs.Values.{value_some, value_other, value_none, first_v
 -- a line that is a field of that name gives its value
 field_value : (name line value : List ℕ) → IsField name line value → value_in name line ≡ Some value
 field_value name line value f =
-    value_some name line f.front f.behind f.cut ((bytes_decides (map to_ascii_lowercase f.front) (map to_ascii_lowercase name)).1 f.name_is)
+    value_some name line f.front f.after f.cut ((bytes_decides (map to_ascii_lowercase f.front) (map to_ascii_lowercase name)).1 f.name_is)
     ∙ ap Some (sym f.value_is)
 
 no_value : (name line other : List ℕ) → value_in name line ≡ None → IsField name line other → ⊥
@@ -25,11 +25,11 @@ no_value name line other none f = let bad : None ≡ Some other = sym none ∙ f
 -- a line has a first colon or none
 data Colon (line : List ℕ) : Type 0 where
   NoColon : list_all (λ byte. not (byte == 58)) line ≡ true → Colon line
-  Cut : (front behind : List ℕ) → IsCut 58 line front behind → Colon line
+  Cut : (front after : List ℕ) → IsCut 58 line front after → Colon line
 
 colon_more : (x : ℕ) (line : List ℕ) → x ≢ 58 → Colon line → Colon (x ∷ line)
 colon_more x line other (NoColon none) = NoColon (and_both (not (x == 58)) (list_all (λ byte. not (byte == 58)) line) (other_is x 58 other) none)
-colon_more x line other (Cut front behind cut) = Cut (x ∷ front) behind (record {
+colon_more x line other (Cut front after cut) = Cut (x ∷ front) after (record {
   parts = ap (λ l. x ∷ l) cut.parts;
   first = and_both (not (x == 58)) (list_all (λ byte. not (byte == 58)) front) (other_is x 58 other) cut.first;
 })
@@ -51,16 +51,16 @@ value_field name line value is = go (colon_of line)
   where
     go : Colon line → IsField name line value
     go (NoColon none) = absurd (let bad : None ≡ Some value = sym (value_none name line none) ∙ is in cc)
-    go (Cut front behind cut) =
+    go (Cut front after cut) =
         elim (cases_Bool (str_eq_ignore_ascii_case front name)) [
           | inl same ↦ record {
             front = front;
-            behind = behind;
+            after = after;
             cut = cut;
             name_is = (bytes_decides (map to_ascii_lowercase front) (map to_ascii_lowercase name)).0 same;
-            value_is = same_value value (trimmed behind) (sym is ∙ value_some name line front behind cut same);
+            value_is = same_value value (trimmed after) (sym is ∙ value_some name line front after cut same);
           }
-          | inr other ↦ absurd (let bad : None ≡ Some value = sym (value_other name line front behind cut other) ∙ is in cc)
+          | inr other ↦ absurd (let bad : None ≡ Some value = sym (value_other name line front after cut other) ∙ is in cc)
         ]
 
 -- one line in front

@@ -35,7 +35,7 @@ cr_byte m n b h = grind (arith, nat_tests)
 
 -- a line that isn't empty ends no head
 pub no_head_more : (w : List ℕ) (at e n : ℕ) → 0 < at → IsLine w at e n → e ≢ at → HasNoHead w at → HasNoHead w n
-no_head_more w at e n behind line some none = λ k below. (
+no_head_more w at e n after line some none = λ k below. (
     elim (cases_lt k at) [
       | inl before ↦ none k before
       | inr from ↦ elim (cases_lt (k + 1) n) [
@@ -64,7 +64,7 @@ no_head_more w at e n behind line some none = λ k below. (
 
 -- an empty line ends the head
 pub head_here : (w : List ℕ) (at n : ℕ) → 0 < at → get_or w (at - 1) 0 ≡ 10 → IsLine w at at n → HasNoHead w at → IsHead w n
-head_here w at n behind feed line none = record {
+head_here w at n after feed line none = record {
   some = omega (arith, line.after);
   within = line.within;
   ends = elim (cases_Bool (nat_lt (at + 1) n && (get_or w (n - 2) 0 == 13))) [
@@ -74,7 +74,7 @@ head_here w at n behind feed line none = record {
         let byte : get_or w (n - 1 - 1) 0 ≡ get_or w (n - 2) 0 = ap (λ j. get_or w j 0) (let j : n - 1 - 1 ≡ n - 2 = omega arith in j) in
         let before : get_or w (n - 1 - 2) 0 ≡ 10 = ap (λ j. get_or w j 0) (let j : n - 1 - 2 ≡ at - 1 = omega arith in j) ∙ feed in
         let bytes : get_or w (n - 2) 0 ≡ 13 = cr_byte (at + 1) n (get_or w (n - 2) 0) cr in
-        ends_two w (n - 1) line.feed (omega (arith, behind, text_end)) (byte ∙ bytes) before
+        ends_two w (n - 1) line.feed (omega (arith, after, text_end)) (byte ∙ bytes) before
         )
     | inr other ↦ (
         let text_end : at ≡ n - 1 = line.text ∙ cond-false (nat_lt (at + 1) n && (get_or w (n - 2) 0 == 13)) (n - 2) (n - 1) other in
@@ -183,7 +183,7 @@ text_take w at e m from few =
 
 -- the lines before a place are read, and no head ends among them
 pub record HasWalked (message : List ℕ) (at : ℕ) : Type 0 where
-  pub behind : 0 < at
+  pub after : 0 < at
   pub within : at ≤ length message
   pub feed : get_or message (at - 1) 0 ≡ 10
   pub none : HasNoHead message at
@@ -191,12 +191,12 @@ pub record HasWalked (message : List ℕ) (at : ℕ) : Type 0 where
   pub whole : header_lines message ≡ seen ++ lines_before_empty (drop at message)
   pub front : (m : ℕ) → at ≤ m → lines (take m message) ≡ first_line message ∷ (seen ++ lines (drop at (take m message)))
 
--- behind the first line
+-- after the first line
 pub walk_first : (w : List ℕ) (e n : ℕ) → IsLine w 0 e n → HasWalked w n
 walk_first w e n line =
     let next = next_here w e n line in
     record {
-      behind = line.after;
+      after = line.after;
       within = line.within;
       feed = line.feed;
       none = no_head_first w e n line;
@@ -207,7 +207,7 @@ walk_first w e n line =
           there.lines_are ∙ ap (λ t. t ∷ lines (drop n (take m w))) (take-take e m w (omega (arith, (line_bounds w 0 e n line).1)) ∙ sym (first_line-next w (take e w) (drop n w) next));
     }
 
--- behind one line more
+-- after one line more
 pub walk_more : (w : List ℕ) (at e n : ℕ) → HasWalked w at → IsLine w at e n → e ≢ at → HasWalked w n
 walk_more w at e n walked line some =
     let bounds = line_bounds w at e n line in
@@ -215,10 +215,10 @@ walk_more w at e n walked line some =
     let long : 0 < length text = omega (arith, length-take (e - at) (drop at w), length-drop at w, bounds.0, bounds.1, line.within, some) in
     let next = next_header (drop at w) text (drop n w) (next_at w at e n line) long in
     record {
-      behind = omega (arith, line.after);
+      after = omega (arith, line.after);
       within = line.within;
       feed = line.feed;
-      none = no_head_more w at e n walked.behind line some walked.none;
+      none = no_head_more w at e n walked.after line some walked.none;
       seen = walked.seen ++ text ∷ [];
       whole = walked.whole ∙ ap (λ l. walked.seen ++ l) next.lines_are ∙ sym (append_assoc walked.seen (text ∷ []) (lines_before_empty (drop n w)));
       front = λ m few.
@@ -251,12 +251,12 @@ walk_end w at n walked line =
     let P : ℕ → Type 0 = λ k. IsHead w k in
     record {
       parts = sym (take-append-drop n w);
-      is_head = subst P (sym len) (head_here w at n walked.behind walked.feed line walked.none);
+      is_head = subst P (sym len) (head_here w at n walked.after walked.feed line walked.none);
       lines_are = lines_are;
       same_lines = same_header_lines (take n w) w lines_are;
     }
 
--- a whole request has a line in front, and one behind each line before its head's end
+-- a whole request has a line in front, and one after each line before its head's end
 pub first_ends : (w : List ℕ) (total : ℕ) → IsRequestLength w total → HasNoLine w 0 → ⊥
 first_ends w total request open_line = no_head_open w 0 request.head (λ k below. absurd (omega (arith, below))) open_line request.is_head
 

@@ -133,12 +133,12 @@ length-trimmed text =
 -- the value of a line
 field_inside : (n : ℕ) (name line value : List ℕ) → IsInside n line → IsField name line value → IsInside n value
 field_inside n name line value i f =
-    let whole : is_one_line f.front && (not (58 == 10) && is_one_line f.behind) ≡ true =
-    sym (list_all-append (λ byte. not (byte == 10)) f.front (58 ∷ f.behind)) ∙ ap is_one_line (sym f.cut.parts) ∙ i.one_line in
-    let rest : is_one_line f.behind ≡ true = (and_parts (is_one_line f.front) (is_one_line f.behind) whole).1 in
+    let whole : is_one_line f.front && (not (58 == 10) && is_one_line f.after) ≡ true =
+    sym (list_all-append (λ byte. not (byte == 10)) f.front (58 ∷ f.after)) ∙ ap is_one_line (sym f.cut.parts) ∙ i.one_line in
+    let rest : is_one_line f.after ≡ true = (and_parts (is_one_line f.front) (is_one_line f.after) whole).1 in
     record {
-      short = omega (arith, ap length f.value_is, length-trimmed f.behind, ap length f.cut.parts, length-append f.front (58 ∷ f.behind), i.short);
-      one_line = ap is_one_line f.value_is ∙ all-trimmed (λ byte. not (byte == 10)) f.behind rest;
+      short = omega (arith, ap length f.value_is, length-trimmed f.after, ap length f.cut.parts, length-append f.front (58 ∷ f.after), i.short);
+      one_line = ap is_one_line f.value_is ∙ all-trimmed (λ byte. not (byte == 10)) f.after rest;
     }
 
 -- the value that a head gives a name

@@ -10,3 +10,5 @@ pub mod FirstField
 pub mod Inside
 pub mod Bounds
 pub mod OneLines
+pub mod StatusTexts
+pub mod ReadBack

@@ -86,14 +86,14 @@ request_once message m u s h b m' u' s' h' b' x y =
     let len : length h ≡ length h' = head_once message (length h) (length h') x.split.is_head y.split.is_head in
     let front : h ≡ h' =
     sym (take_at h b (length h) refl) ∙ ap (take (length h)) (sym x.split.parts) ∙ ap (λ n. take n message) len ∙ ap (take (length h')) y.split.parts ∙ take_at h' b' (length h') refl in
-    let behind : b ≡ b' =
+    let after : b ≡ b' =
     sym (drop_at h b (length h) refl) ∙ ap (drop (length h)) (sym x.split.parts) ∙ ap (λ n. drop n message) len ∙ ap (drop (length h')) y.split.parts ∙ drop_at h' b' (length h') refl in
     record {
       method_is = line.method_is;
       url_is = line.url_is;
       sequence_is = same_some s s' (sym x.sequence_is ∙ y.sequence_is);
       head_is = front;
-      body_is = behind;
+      body_is = after;
     }
 
 -- from what an answer says to the answer

@@ -18,9 +18,9 @@ pub same_name : (r : Bool) (a b : List ℕ) → (IsTrue r ↔ (map to_ascii_lowe
 same_name r a b h = same_from_decides r (str_eq_ignore_ascii_case a b) h (bytes_decides (map to_ascii_lowercase a) (map to_ascii_lowercase b))
 
 -- the first colon
-any_colon : (front behind : List ℕ) → list_any (λ byte. byte == 58) (front ++ 58 ∷ behind) ≡ true
-any_colon [] behind = refl
-any_colon (x ∷ front) behind = rw (any_colon front behind) (or_true (x == 58))
+any_colon : (front after : List ℕ) → list_any (λ byte. byte == 58) (front ++ 58 ∷ after) ≡ true
+any_colon [] after = refl
+any_colon (x ∷ front) after = rw (any_colon front after) (or_true (x == 58))
   where
     or_true : (b : Bool) → (b || true) ≡ true
     or_true true = refl
@@ -38,42 +38,42 @@ no_colon (x ∷ line) none =
     not_so true h = sym h
     not_so false h = refl
 
-colon_place : (front behind : List ℕ) → list_all (λ byte. not (byte == 58)) front ≡ true → prefix_len (λ byte. not (byte == 58)) (front ++ 58 ∷ behind) ≡ length front
-colon_place [] behind none = refl
-colon_place (x ∷ front) behind none =
+colon_place : (front after : List ℕ) → list_all (λ byte. not (byte == 58)) front ≡ true → prefix_len (λ byte. not (byte == 58)) (front ++ 58 ∷ after) ≡ length front
+colon_place [] after none = refl
+colon_place (x ∷ front) after none =
     rw (
       and_left (not (x == 58)) (list_all (λ byte. not (byte == 58)) front) none,
-      colon_place front behind (and_right (not (x == 58)) (list_all (λ byte. not (byte == 58)) front) none),
+      colon_place front after (and_right (not (x == 58)) (list_all (λ byte. not (byte == 58)) front) none),
     ) (omega arith)
 
-before_colon : (line front behind : List ℕ) → IsCut 58 line front behind → before_first (λ byte. byte == 58) line ≡ front
-before_colon line front behind cut =
+before_colon : (line front after : List ℕ) → IsCut 58 line front after → before_first (λ byte. byte == 58) line ≡ front
+before_colon line front after cut =
     ap (before_first (λ byte. byte == 58)) cut.parts
-    ∙ ap (λ n. take n (front ++ 58 ∷ behind)) (colon_place front behind cut.first)
-    ∙ take_at front (58 ∷ behind) (length front) refl
+    ∙ ap (λ n. take n (front ++ 58 ∷ after)) (colon_place front after cut.first)
+    ∙ take_at front (58 ∷ after) (length front) refl
 
-after_colon : (line front behind : List ℕ) → IsCut 58 line front behind → after_first (λ byte. byte == 58) line ≡ behind
-after_colon line front behind cut =
+after_colon : (line front after : List ℕ) → IsCut 58 line front after → after_first (λ byte. byte == 58) line ≡ after
+after_colon line front after cut =
     ap (after_first (λ byte. byte == 58)) cut.parts
-    ∙ ap (λ n. drop (n + 1) (front ++ 58 ∷ behind)) (colon_place front behind cut.first)
-    ∙ sym (drop-drop 1 (length front) (front ++ 58 ∷ behind))
-    ∙ ap (drop 1) (drop_at front (58 ∷ behind) (length front) refl)
+    ∙ ap (λ n. drop (n + 1) (front ++ 58 ∷ after)) (colon_place front after cut.first)
+    ∙ sym (drop-drop 1 (length front) (front ++ 58 ∷ after))
+    ∙ ap (drop 1) (drop_at front (58 ∷ after) (length front) refl)
 
-cut_named : (name line front behind : List ℕ) → IsCut 58 line front behind → has_name name line ≡ str_eq_ignore_ascii_case front name
-cut_named name line front behind cut =
-    ap (λ b. b && str_eq_ignore_ascii_case (before_first (λ byte. byte == 58) line) name) (ap (list_any (λ byte. byte == 58)) cut.parts ∙ any_colon front behind)
-    ∙ ap (λ t. str_eq_ignore_ascii_case t name) (before_colon line front behind cut)
+cut_named : (name line front after : List ℕ) → IsCut 58 line front after → has_name name line ≡ str_eq_ignore_ascii_case front name
+cut_named name line front after cut =
+    ap (λ b. b && str_eq_ignore_ascii_case (before_first (λ byte. byte == 58) line) name) (ap (list_any (λ byte. byte == 58)) cut.parts ∙ any_colon front after)
+    ∙ ap (λ t. str_eq_ignore_ascii_case t name) (before_colon line front after cut)
 
-pub value_some : (name line front behind : List ℕ) → IsCut 58 line front behind → str_eq_ignore_ascii_case front name ≡ true → value_in name line ≡ Some (trimmed behind)
+pub value_some : (name line front after : List ℕ) → IsCut 58 line front after → str_eq_ignore_ascii_case front name ≡ true → value_in name line ≡ Some (trimmed after)
 unfolding value_in
-value_some name line front behind cut same =
-    cond-true (has_name name line) (Some (trimmed (after_first (λ byte. byte == 58) line))) None (cut_named name line front behind cut ∙ same)
-    ∙ ap (λ t. Some (trimmed t)) (after_colon line front behind cut)
+value_some name line front after cut same =
+    cond-true (has_name name line) (Some (trimmed (after_first (λ byte. byte == 58) line))) None (cut_named name line front after cut ∙ same)
+    ∙ ap (λ t. Some (trimmed t)) (after_colon line front after cut)
 
-pub value_other : (name line front behind : List ℕ) → IsCut 58 line front behind → str_eq_ignore_ascii_case front name ≡ false → value_in name line ≡ None
+pub value_other : (name line front after : List ℕ) → IsCut 58 line front after → str_eq_ignore_ascii_case front name ≡ false → value_in name line ≡ None
 unfolding value_in
-value_other name line front behind cut other =
-    cond-false (has_name name line) (Some (trimmed (after_first (λ byte. byte == 58) line))) None (cut_named name line front behind cut ∙ other)
+value_other name line front after cut other =
+    cond-false (has_name name line) (Some (trimmed (after_first (λ byte. byte == 58) line))) None (cut_named name line front after cut ∙ other)
 
 pub value_none : (name line : List ℕ) → list_all (λ byte. not (byte == 58)) line ≡ true → value_in name line ≡ None
 unfolding value_in

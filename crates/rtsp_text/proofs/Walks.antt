@@ -17,10 +17,10 @@ parts_more x [] some = absurd (omega (arith, some))
 parts_more x (y ∷ parts) some = refl
 
 -- a text that begins with a whole line
-lines-at : (front behind : List ℕ) → All (λ b. (b == 10) ≡ false) front → lines (front ++ 10 ∷ behind) ≡ strip_carriage_return front ∷ lines behind
-lines-at front behind none =
-    ap lines_of_parts (slice_split_at (λ b. b == 10) front 10 behind none refl)
-    ∙ parts_more front (slice_split (λ b. b == 10) behind) (omega (arith, length-slice_split (λ b. b == 10) behind))
+pub lines-at : (front after : List ℕ) → All (λ b. (b == 10) ≡ false) front → lines (front ++ 10 ∷ after) ≡ strip_carriage_return front ∷ lines after
+lines-at front after none =
+    ap lines_of_parts (slice_split_at (λ b. b == 10) front 10 after none refl)
+    ∙ parts_more front (slice_split (λ b. b == 10) after) (omega (arith, length-slice_split (λ b. b == 10) after))
 
 -- the text of a line's part before its LF
 strip-take : (bytes : List ℕ) (e n : ℕ) → IsLine bytes 0 e n → strip_carriage_return (take (n - 1) bytes) ≡ take e bytes

@@ -19,7 +19,7 @@ pub record AreHeaderParts (name value : List ℕ) : Type 0 where
 pub header_parts : (text name value : List ℕ) → IsCut 58 text name value → IsHeaderLine text → AreHeaderParts name value
 header_parts text name value cut line =
     let same = cut_once 58 text name value line.name line.value cut line.parts (token_without 58 refl line.name line.name_is) in
-    record { name_is = ap is_token same.front ∙ line.name_is; value_is = ap (list_all is_value_byte) same.behind ∙ line.value_is }
+    record { name_is = ap is_token same.front ∙ line.name_is; value_is = ap (list_all is_value_byte) same.after ∙ line.value_is }
 
 pub header_line : (text name value : List ℕ) → IsCut 58 text name value → is_token name ≡ true → list_all is_value_byte value ≡ true → IsHeaderLine text
 header_line text name value cut name_is value_is = record { name = name; value = value; parts = cut.parts; name_is = name_is; value_is = value_is }
@@ -32,7 +32,7 @@ pub number_parts : (text major minor : List ℕ) → IsCut 46 text major minor �
 number_parts text major minor cut numbers =
     let none = all_other is_ascii_digit 46 refl numbers.major (and_right (nat_lt 0 (length numbers.major)) (list_all is_ascii_digit numbers.major) numbers.major_is) in
     let same = cut_once 46 text major minor numbers.major numbers.minor cut numbers.parts none in
-    record { major_is = ap is_decimal same.front ∙ numbers.major_is; minor_is = ap is_decimal same.behind ∙ numbers.minor_is }
+    record { major_is = ap is_decimal same.front ∙ numbers.major_is; minor_is = ap is_decimal same.after ∙ numbers.minor_is }
 
 -- the words of a request line are the parts at its first two spaces
 pub record AreLineParts (method url version m u v : List ℕ) : Type 0 where
@@ -43,11 +43,11 @@ pub record AreLineParts (method url version m u v : List ℕ) : Type 0 where
 pub line_parts : (text method rest url version m u v : List ℕ) → IsCut 32 text method rest → IsCut 32 rest url version → IsRequestLine text m u v → AreLineParts method url version m u v
 line_parts text method rest url version m u v first second line =
     let one = cut_once 32 text method rest m (u ++ 32 ∷ v) first line.parts (token_without 32 refl m line.method_is) in
-    let two = cut_once 32 rest url version u v second one.behind (all_other is_url_byte 32 refl u line.url_is.bytes) in
-    record { method_is = one.front; url_is = two.front; version_is = two.behind }
+    let two = cut_once 32 rest url version u v second one.after (all_other is_url_byte 32 refl u line.url_is.bytes) in
+    record { method_is = one.front; url_is = two.front; version_is = two.after }
 
 pub line_rest : (text method rest m u v : List ℕ) → IsCut 32 text method rest → IsRequestLine text m u v → rest ≡ u ++ 32 ∷ v
-line_rest text method rest m u v first line = (cut_once 32 text method rest m (u ++ 32 ∷ v) first line.parts (token_without 32 refl m line.method_is)).behind
+line_rest text method rest m u v first line = (cut_once 32 text method rest m (u ++ 32 ∷ v) first line.parts (token_without 32 refl m line.method_is)).after
 
 pub whole_line : (text method rest url version : List ℕ) → IsCut 32 text method rest → IsCut 32 rest url version → is_token method ≡ true → IsUrl url → IsVersion version → IsRequestLine text method url version
 whole_line text method rest url version first second method_is url_is version_is = record {
@@ -57,7 +57,7 @@ whole_line text method rest url version first second method_is url_is version_is
   version_is = version_is;
 }
 
--- what stands behind the scheme
+-- what stands after the scheme
 record IsSlashSplit (rest authority path : List ℕ) : Type 0 where
   parts : rest ≡ authority ++ path
   no_slash : list_all (λ byte. not (byte == 47)) authority ≡ true
@@ -132,15 +132,15 @@ url_long url u =
 pub numbers : (text major minor : List ℕ) → IsCut 46 text major minor → is_decimal major ≡ true → is_decimal minor ≡ true → AreVersionNumbers text
 numbers text major minor cut major_is minor_is = record { major = major; minor = minor; parts = cut.parts; major_is = major_is; minor_is = minor_is }
 
--- what stands behind a word
-pub behind_from : {X : Type 0} (now : X → List ℕ) (r : Option X) (line word : List ℕ) →
+-- what stands after a word
+pub after_from : {X : Type 0} (now : X → List ℕ) (r : Option X) (line word : List ℕ) →
     MatchOption r (pointwise nat_eq (take (length word) line) word ≡ false)
     (λ x. (pointwise nat_eq (take (length word) line) word ≡ true) × (now x ≡ drop (length word) line) × (length (now x) + length word ≡ length line)) →
     MatchOption r ((ds : List ℕ) → line ≢ word ++ ds) (λ x. line ≡ word ++ now x)
-behind_from now None line word none = λ ds e.
+after_from now None line word none = λ ds e.
     let front : take (length word) line ≡ word = ap (take (length word)) e ∙ take_at word ds (length word) refl in
     other_text (take (length word) line) word (sym none) front
-behind_from now (Some x) line word found =
+after_from now (Some x) line word found =
     let front : take (length word) line ≡ word = same_text (take (length word) line) word (sym found.0) in
     let rest : drop (length word) line ≡ now x = sym found.1 in
     sym (take-append-drop (length word) line) ∙ ap (λ a. a ++ drop (length word) line) front ∙ ap (λ b. word ++ b) rest

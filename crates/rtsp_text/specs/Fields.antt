@@ -12,7 +12,7 @@ use Rattle.rtsp_text.specs.Lines.{header_lines}
 abbrev pub has_name : List ℕ → List ℕ → Bool
 has_name name line = list_any (λ byte. byte == 58) line && str_eq_ignore_ascii_case (before_first (λ byte. byte == 58) line) name
 
--- the value of a line of that name: what stands behind its first colon, without the spaces and tabs around it
+-- the value of a line of that name: what stands after its first colon, without the spaces and tabs around it
 unfoldable pub value_in : List ℕ → List ℕ → Option (List ℕ)
 value_in name line = if has_name name line then Some (trimmed (after_first (λ byte. byte == 58) line)) else None
 
@@ -40,10 +40,10 @@ first_sequence head = first_number (codes "CSeq") (header_lines head)
 -- rest without the spaces and tabs around it
 pub record IsField (name line value : List ℕ) : Type 0 where
   pub front : List ℕ
-  pub behind : List ℕ
-  pub cut : IsCut 58 line front behind
+  pub after : List ℕ
+  pub cut : IsCut 58 line front after
   pub name_is : map to_ascii_lowercase front ≡ map to_ascii_lowercase name
-  pub value_is : value ≡ trimmed behind
+  pub value_is : value ≡ trimmed after
 
 -- the first of these lines that is a field of that name has this value
 pub record IsFirstField (name : List ℕ) (lines : List (List ℕ)) (value : List ℕ) : Type 0 where

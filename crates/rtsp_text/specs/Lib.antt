@@ -3,3 +3,4 @@ pub mod Grammar
 pub mod Fields
 pub mod Requests
 pub mod Replies
+pub mod StatusLines

@@ -21,11 +21,11 @@ first_line bytes = slice_index_or (lines bytes) 0 []
 unfoldable pub lines_before_empty : List ℕ → List (List ℕ)
 lines_before_empty bytes = before_empty (lines bytes)
 
--- the texts of the header lines: the lines behind the first one, up to the first empty one
+-- the texts of the header lines: the lines after the first one, up to the first empty one
 unfoldable pub header_lines : List ℕ → List (List ℕ)
 header_lines bytes = before_empty (drop 1 (lines bytes))
 
--- `line` is the text of the first line, and `rest` is what stands behind that line's end
+-- `line` is the text of the first line, and `rest` is what stands after that line's end
 pub record IsNextLine (bytes line rest : List ℕ) : Type 0 where
   pub lines_are : lines bytes ≡ line ∷ lines rest
   pub shorter : length rest < length bytes
@@ -35,7 +35,7 @@ pub record IsNextHeaderLine (bytes line rest : List ℕ) : Type 0 where
   pub lines_are : lines_before_empty bytes ≡ line ∷ lines_before_empty rest
   pub shorter : length rest < length bytes
 
--- a message is cut behind the empty line of its head, which has the lines of the message up to there
+-- a message is cut after the empty line of its head, which has the lines of the message up to there
 pub record IsSplit (message head body : List ℕ) : Type 0 where
   pub parts : message ≡ head ++ body
   pub is_head : IsHead message (length head)

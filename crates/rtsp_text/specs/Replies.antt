@@ -1,5 +1,11 @@
 -- The text of a reply (RFC 2326 section 7): a status line, CSeq, fields, an empty line and a body. Lines end with CR LF.
-use Rattle.std.specs.Prelude.{ℕ, ◌++◌, ◌==◌, ◌||◌, Bool, if◌then◌else◌, List, [], Option, Some, None, codes, decimal, flat_map}
+use Rattle.std.specs.Prelude.{◌≡◌, ℕ, ◌++◌, ◌==◌, ◌||◌, Bool, true, if◌then◌else◌, List, [], ◌∷◌, Option, Some, None, codes, decimal, flat_map}
+use Rattle.std.specs.Str.{str_eq_ignore_ascii_case}
+use Rattle.vod_base.specs.Blanks.{trimmed}
+use Rattle.rtsp_text.specs.Grammar.{is_token}
+use Rattle.rtsp_text.specs.Lines.{is_one_line}
+use Rattle.rtsp_text.specs.Fields.{header_value}
+use Rattle.rtsp_text.specs.StatusLines.{IsReply}
 
 -- the codes that a reply may have
 abbrev pub is_code : ℕ → Bool
@@ -50,3 +56,25 @@ reply_front code sequence fields = status_line code ++ sequence_line sequence ++
 -- a whole reply
 unfoldable pub reply_text : ℕ → Option ℕ → List Field → List ℕ → List ℕ
 reply_text code sequence fields body = reply_front code sequence fields ++ codes "\r\n" ++ body
+
+-- all fields of a reply: the sequence number's, where there is one, and the others
+abbrev pub all_fields : Option ℕ → List Field → List Field
+all_fields None fields = fields
+all_fields (Some sequence) fields = record { name = codes "CSeq"; value = decimal sequence } ∷ fields
+
+-- a field that is read as it was written: its name is a word, and its value has no LF and no blanks around it
+pub record IsPlain (field : Field) : Type 0 where
+  pub name_is : is_token field.name ≡ true
+  pub one_line : is_one_line field.value ≡ true
+  pub bare : trimmed field.value ≡ field.value
+
+-- the value of the first field of that name, in any case
+unfoldable pub value_named : List ℕ → List Field → Option (List ℕ)
+value_named name [] = None
+value_named name (field ∷ fields) =
+    if str_eq_ignore_ascii_case field.name name then Some field.value else value_named name fields
+
+-- a message is read as this reply: its code and reason, its head up to the empty line, its body, and for each name the first value
+pub record IsReadBack (message : List ℕ) (code : ℕ) (sequence : Option ℕ) (fields : List Field) (body : List ℕ) : Type 0 where
+  pub reply : IsReply message code (reason code) (reply_front code sequence fields ++ codes "\r\n") body
+  pub values : (name : List ℕ) → header_value (reply_front code sequence fields ++ codes "\r\n") name ≡ value_named name (all_fields sequence fields)

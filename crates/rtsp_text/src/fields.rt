@@ -5,7 +5,7 @@ ghost use Rattle.rtsp_text.specs.Lines.{header_lines};
 ghost use Rattle.rtsp_text.specs.Fields.{value_in, header_value, sequence_number, first_sequence};
 
 use crate::grammar::cut;
-use crate::lines::{behind_first_line, next_header_line};
+use crate::lines::{after_first_line, next_header_line};
 use vod_base::{read_number, trimmed};
 
 /// The name of the field that has the sequence number.
@@ -32,12 +32,12 @@ fn value_in<'a>(name: &[u8], line: &'a [u8]) -> Option<&'a [u8]>
 pub(crate) fn header_value<'a>(head: &'a [u8], name: &[u8]) -> Option<&'a [u8]>
     ensures { option_map (λ value. value.now) result ≡ header_value head.now name.now }
 {
-    let mut rest = behind_first_line(head);
-    while let Some((line, behind)) = next_header_line(rest) {
+    let mut rest = after_first_line(head);
+    while let Some((line, after)) = next_header_line(rest) {
         if let Some(value) = value_in(name, line) {
             return Some(value);
         }
-        rest = behind;
+        rest = after;
     }
     None
 }
@@ -63,12 +63,12 @@ pub(crate) fn sequence_number(head: &[u8]) -> Option<u64>
 pub(crate) fn first_sequence(head: &[u8]) -> Option<u64>
     ensures { result ≡ first_sequence head.now }
 {
-    let mut rest = behind_first_line(head);
-    while let Some((line, behind)) = next_header_line(rest) {
+    let mut rest = after_first_line(head);
+    while let Some((line, after)) = next_header_line(rest) {
         if let Some(number) = number_in(value_in(SEQUENCE, line)) {
             return Some(number);
         }
-        rest = behind;
+        rest = after;
     }
     None
 }

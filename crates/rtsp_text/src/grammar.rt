@@ -4,7 +4,7 @@ ghost use Rattle.std.specs.Char.{is_ascii_digit, to_ascii_lowercase};
 ghost use Rattle.vod_base.specs.Numbers.{is_decimal};
 ghost use Rattle.rtsp_text.specs.Grammar.{is_token_byte, is_token, is_url_byte, is_value_byte, IsRtspUrl, IsUrl, IsVersion, AreVersionNumbers, IsRequestLine, IsHeaderLine, IsCut};
 
-/// The part before the first byte `c`, and the part behind that byte.
+/// The part before the first byte `c`, and the part after that byte.
 pub(crate) fn cut(text: &[u8], c: u8) -> Option<(&[u8], &[u8])>
     ensures { MatchOption result (list_all (λ byte. not (byte == c)) text.now ≡ true) (λ parts. IsCut c text.now parts.0.now parts.1.now) }
 {
@@ -107,8 +107,8 @@ fn is_url(url: &[u8]) -> bool
     has_url_bytes(url) && (is_star(url) || is_rtsp_url(url))
 }
 
-/// What stands behind a word.
-fn behind<'a>(text: &'a [u8], word: &[u8]) -> Option<&'a [u8]>
+/// What stands after a word.
+fn after<'a>(text: &'a [u8], word: &[u8]) -> Option<&'a [u8]>
     ensures { MatchOption result ((rest : List ℕ) → text.now ≢ word.now ++ rest) (λ rest. text.now ≡ word.now ++ rest.now) }
 {
     text.strip_prefix(word)
@@ -128,7 +128,7 @@ fn are_version_numbers(text: &[u8]) -> bool
 fn is_version(text: &[u8]) -> bool
     ensures { IsTrue result ↔ IsVersion text.now }
 {
-    match behind(text, b"RTSP/") {
+    match after(text, b"RTSP/") {
         Some(numbers) => are_version_numbers(numbers),
         None => false,
     }

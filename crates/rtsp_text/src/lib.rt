@@ -7,11 +7,13 @@ mod laws;
 mod lines;
 mod replies;
 mod requests;
+mod status_lines;
 
 pub use grammar::has_url_bytes;
-pub use laws::law_whole_request;
+pub use laws::{law_reply_read, law_whole_request};
 pub use replies::Reply;
-pub use requests::{Request, RequestFault, header, read_request, sequence_of};
+pub use requests::{Request, RequestFault, header, header_of, read_request, sequence_of};
+pub use status_lines::{ReplyParts, read_reply};
 
 #[cfg(test)]
 mod tests;

@@ -4,7 +4,7 @@ ghost use Rattle.rtsp_text.specs.Lines.{first_line, lines_before_empty, header_l
 
 use vod_base::line_end;
 
-/// The text of the first line, and what stands behind that line's end. The last line may have no end.
+/// The text of the first line, and what stands after that line's end. The last line may have no end.
 fn next_line(bytes: &[u8]) -> Option<(&[u8], &[u8])>
     ensures { MatchOption result (bytes.now ≡ []) (λ parts. IsNextLine bytes.now parts.0.now parts.1.now) }
 {
@@ -27,8 +27,8 @@ pub(crate) fn first_line(message: &[u8]) -> &[u8]
     }
 }
 
-/// What stands behind a head's first line.
-pub(crate) fn behind_first_line(head: &[u8]) -> &[u8]
+/// What stands after a head's first line.
+pub(crate) fn after_first_line(head: &[u8]) -> &[u8]
     ensures lines { lines_before_empty result.now ≡ header_lines head.now }
     ensures shorter { length result.now ≤ length head.now }
 {
@@ -38,7 +38,7 @@ pub(crate) fn behind_first_line(head: &[u8]) -> &[u8]
     }
 }
 
-/// The text of the first line, where that isn't empty, and what stands behind that line's end.
+/// The text of the first line, where that isn't empty, and what stands after that line's end.
 pub(crate) fn next_header_line(bytes: &[u8]) -> Option<(&[u8], &[u8])>
     ensures { MatchOption result (lines_before_empty bytes.now ≡ []) (λ parts. IsNextHeaderLine bytes.now parts.0.now parts.1.now) }
 {
@@ -48,7 +48,7 @@ pub(crate) fn next_header_line(bytes: &[u8]) -> Option<(&[u8], &[u8])>
     }
 }
 
-/// Where the head of a whole request ends, behind its empty line.
+/// Where the head of a whole request ends, after its empty line.
 fn head_end(message: &[u8]) -> usize
     requires { IsRequestLength message.now (length message.now) }
     ensures within { result ≤ length message.now }

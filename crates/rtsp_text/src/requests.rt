@@ -8,7 +8,9 @@ ghost use Rattle.rtsp_text.specs.Fields.{header_value, first_sequence, IsFirstFi
 
 use crate::fields;
 use crate::grammar::{is_decimal, is_header_line, is_rtsp_1_0, request_line};
-use crate::lines::{behind_first_line, first_line, next_header_line, split};
+use crate::lines::{after_first_line, first_line, next_header_line, split};
+use std::error::Error;
+use std::fmt;
 
 /// A request of RTSP 1.0 (RFC 2326 section 6).
 #[derive(Clone, Copy, Debug)]
@@ -40,9 +42,38 @@ pub enum RequestFault {
     BadLength,
 }
 
-/// The value of a request's first header line of that name, in any case, without the spaces and tabs around it.
+impl fmt::Display for RequestFault {
+    fn fmt<W: fmt::Write>(&self, f: &mut fmt::Formatter<W>) -> fmt::Result {
+        match self {
+            RequestFault::BadLine => write!(f, "no request line"),
+            RequestFault::BadVersion => write!(f, "another version than RTSP/1.0"),
+            RequestFault::BadHeader(number) => write!(
+                f,
+                "header line {number} isn't a name, a colon and a value"
+            ),
+            RequestFault::NoSequenceNumber => write!(f, "no CSeq with a number"),
+            RequestFault::BadLength => write!(f, "a Content-Length that isn't all digits"),
+        }
+    }
+}
+
+impl Error for RequestFault {}
+
+/// The value of a head's first header line of that name, in any case, without the spaces and tabs around it; of a request's
+/// head or of a reply's.
 ///
 /// None exactly where the head has no line of that name. The value has no LF and at most as many bytes as the head.
+pub fn header_of<'a>(head: &'a [u8], name: &[u8]) -> Option<&'a [u8]>
+    ensures value { option_map (λ value. value.now) result ≡ header_value head.now name.now }
+    ensures first { IfSome result (λ value. IsFirstField name.now (header_lines head.now) value.now) }
+    ensures none { IfNone result (HasNoField name.now (header_lines head.now)) }
+    ensures short { IfSome result (λ value. length value.now ≤ length head.now) }
+    ensures one_line { IfSome result (λ value. is_one_line value.now ≡ true) }
+{
+    fields::header_value(head, name)
+}
+
+/// The value of a request's first header line of that name, as [`header_of`] finds it in the request's head.
 pub fn header<'a>(request: &Request<'a>, name: &[u8]) -> Option<&'a [u8]>
     ensures value { option_map (λ value. value.now) result ≡ header_value request.now.head.now name.now }
     ensures first { IfSome result (λ value. IsFirstField name.now (header_lines request.now.head.now) value.now) }
@@ -50,7 +81,7 @@ pub fn header<'a>(request: &Request<'a>, name: &[u8]) -> Option<&'a [u8]>
     ensures short { IfSome result (λ value. length value.now ≤ length request.now.head.now) }
     ensures one_line { IfSome result (λ value. is_one_line value.now ≡ true) }
 {
-    fields::header_value(request.head, name)
+    header_of(request.head, name)
 }
 
 /// The number of a message's first CSeq that is a number, also where the message is no request of RTSP 1.0.
@@ -66,14 +97,14 @@ pub fn sequence_of(message: &[u8]) -> Option<u64>
 fn first_bad(message: &[u8]) -> Option<u64>
     ensures { MatchOption result (All IsHeaderLine (header_lines message.now)) (IsFirstBad (header_lines message.now)) }
 {
-    let mut rest = behind_first_line(message);
+    let mut rest = after_first_line(message);
     let mut count = 0u64;
-    while let Some((line, behind)) = next_header_line(rest) {
+    while let Some((line, after)) = next_header_line(rest) {
         count += 1;
         if !is_header_line(line) {
             return Some(count);
         }
-        rest = behind;
+        rest = after;
     }
     None
 }

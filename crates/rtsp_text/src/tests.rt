@@ -423,6 +423,47 @@ fn repeats_an_option(rt: HostRuntime) -> Result<(), Fail> {
     Ok(())
 }
 
+#[test]
+fn reads_replies(rt: HostRuntime) -> Result<(), Fail> {
+    for (text, code, body, name, value) in [
+        (
+            "RTSP/1.0 200 OK\r\nCSeq: 2\r\nx-Start: 1\r\nContent-Length: 3\r\n\r\nv=0rest",
+            Some(200),
+            "v=0",
+            "X-START",
+            Some("1"),
+        ),
+        ("RTSP/1.0 007  a\n\n", None, "", "a", None),
+        (
+            "RTSP/1.0 007 a b\nSession\nsession:\n\n",
+            Some(7),
+            "",
+            "Session",
+            Some(""),
+        ),
+        ("RTSP/1.0 20 OK\n\n", None, "", "a", None),
+        ("RTSP/1.0 2000 OK\n\n", None, "", "a", None),
+        ("RTSP/1.0 200 \n\n", None, "", "a", None),
+        ("RTSP/1.0 200\n\n", None, "", "a", None),
+        ("RTSP/1.1 200 OK\n\n", None, "", "a", None),
+        ("RTSP/1.0  200 OK\n\n", None, "", "a", None),
+    ] {
+        let mut demux = Demux::new(rt.alloc())?;
+        demux.put(text.as_bytes())?;
+        let Some(message) = first_request(&mut demux) else {
+            panic!(rt; "no whole reply: {text:?}");
+        };
+        let reply = read_reply(message);
+        assert_eq!(rt; reply.map(|r| r.code), code, "at {text:?}");
+        if let Some(reply) = reply {
+            assert_eq!(rt; reply.body, body.as_bytes(), "at {text:?}");
+            let found = header_of(reply.head, name.as_bytes());
+            assert_eq!(rt; found, value.map(|v| v.as_bytes()), "at {text:?}");
+        }
+    }
+    Ok(())
+}
+
 /// What ffmpeg 5.1 and GStreamer 1.22 sent to play a film over the RTSP connection itself.
 const PLAYERS: [&str; 8] = [
     "OPTIONS rtsp://127.0.0.1:8561/news.mpg RTSP/1.0\r\nCSeq: 1\r\nUser-Agent: Lavf59.27.100\r\n\r\n",

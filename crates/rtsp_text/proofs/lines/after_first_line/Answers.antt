@@ -1,5 +1,5 @@
 use Rattle.rtsp_text.proofs.Walks.{header_lines-next, header_lines-nil}
-use Rattle.rtsp_text.proofs.lines.behind_first_line.Goals as goal
+use Rattle.rtsp_text.proofs.lines.after_first_line.Goals as goal
 
 pub returns-in-Some-clause-lines : goal.returns-in-Some-clause-lines
 returns-in-Some-clause-lines c = header_lines-next _ _ _ c.in-Some.ensures

@@ -1,0 +1,79 @@
+ghost use Rattle.std.specs.Prelude.{◌≡◌, ◌≤◌, ◌<◌, ℕ, List, length, MatchOption, IfSome, IsSomeAnd};
+ghost use Rattle.interleave.specs.Pieces.{IsRequestLength};
+ghost use Rattle.rtsp_text.specs.Lines.{first_line};
+ghost use Rattle.rtsp_text.specs.StatusLines.{IsCode, IsStatusLine, IsReply};
+
+use crate::grammar::{cut, is_rtsp_1_0};
+use crate::lines::{first_line, split};
+use vod_base::read_number;
+
+/// A reply of RTSP 1.0 (RFC 2326 section 7), as a client hears it.
+#[derive(Clone, Copy, Debug)]
+pub struct ReplyParts<'a> {
+    /// The code: three digits.
+    pub code: u16,
+    /// The reason: one or more bytes, the first no space.
+    pub reason: &'a [u8],
+    /// Its whole head: the status line, the header lines and the empty line, with their ends.
+    pub head: &'a [u8],
+    /// Its body.
+    pub body: &'a [u8],
+}
+
+/// The code that three digits write.
+fn read_code(text: &[u8]) -> Option<u16>
+    ensures { MatchOption result ((code : ℕ) → ¬ IsCode text.now code) (IsCode text.now) }
+{
+    if text.len() != 3 {
+        return None;
+    }
+    match read_number(text) {
+        Ok(number) => Some(number as u16),
+        Err(_) => None,
+    }
+}
+
+/// The code and the reason of a status line.
+fn status_line(text: &[u8]) -> Option<(u16, &[u8])>
+    ensures { MatchOption result ((code : ℕ) (reason : List ℕ) → ¬ IsStatusLine text.now code reason)
+        (λ line. IsStatusLine text.now line.0 line.1.now) }
+{
+    let Some((version, rest)) = cut(text, b' ') else {
+        return None;
+    };
+    let Some((digits, reason)) = cut(rest, b' ') else {
+        return None;
+    };
+    if !is_rtsp_1_0(version) || reason.is_empty() || reason[0] == b' ' {
+        return None;
+    }
+    match read_code(digits) {
+        Some(code) => Some((code, reason)),
+        None => None,
+    }
+}
+
+/// Reads a whole reply, head and body, as [`interleave::Demux`] cuts it from a connection's bytes.
+///
+/// None exactly where the first line isn't `RTSP/1.0`, three digits and a reason, with single spaces. Header lines aren't
+/// judged. The head has at most 16,384 bytes, the body at most 65,536.
+pub fn read_reply(message: &[u8]) -> Option<ReplyParts<'_>>
+    requires { IsRequestLength message.now (length message.now) }
+    ensures read { MatchOption result ((code : ℕ) (reason : List ℕ) → ¬ IsStatusLine (first_line message.now) code reason)
+        (λ r. IsReply message.now r.code r.reason.now r.head.now r.body.now) }
+    ensures replies { (code : ℕ) (reason head body : List ℕ) → IsReply message.now code reason head body →
+        IsSomeAnd result (λ r. (r.code ≡ code) × (r.reason.now ≡ reason) × (r.head.now ≡ head) × (r.body.now ≡ body)) }
+    ensures head { IfSome result (λ r. length r.head.now ≤ 16384) }
+    ensures body { IfSome result (λ r. length r.body.now ≤ 65536) }
+{
+    let Some((code, reason)) = status_line(first_line(message)) else {
+        return None;
+    };
+    let (head, body) = split(message);
+    Some(ReplyParts {
+        code,
+        reason,
+        head,
+        body,
+    })
+}
