@@ -1,0 +1,71 @@
+-- What the last state tells the first pass.
+use Rattle.std.proofs.Common.{◌≡◌, ◌≢◌, ◌⊎◌, ℕ, zero, suc, ◌+◌, ◌<◌, ◌≤◌, List, [], ◌∷◌, ◌++◌, length, get_or, Option, Some, None, false, refl, ap, sym, ◌∙◌, subst, ⊎_elim, inl, inr, arith}
+use mathlib.Core.Logic.{dite}
+use mathlib.Core.List.{IsPrefix}
+use mathlib.Core.Option.{some, none, some-injective, some-ne-none}
+use native.Mathlib.Decide.{ℕ_discrete}
+use lib.ListN.{get_elem?}
+use Rattle.atomic_table.specs.Table.{State, Final, Seen}
+use Rattle.atomic_table.specs.Seated.{TableId}
+use Rattle.admission.specs.declared.entries.Entry.{Entry}
+use Rattle.turnstile.specs.declared.view.Joined.{Joined}
+use Rattle.turnstile.specs.declared.view.Stage.TheVariants.{Idle, Holds}
+use Rattle.turnstile.specs.declared.view.Terms.{Terms}
+use Rattle.turnstile.specs.declared.view.View.{View}
+use Rattle.admission.specs.Makers.{made_by}
+use Rattle.turnstile.specs.Turns.{IsLive, Fits, IsAway, IsHome, IsRuled}
+use Rattle.turnstile.specs.Passes.{Standing, IsJoined, AllJoined, IsWhole}
+use Rattle.turnstile.specs.Taken.{stands_as}
+use Rattle.turnstile.proofs.Turning.{idle_free, one_at}
+
+at_joined : (joined : List Joined) (number : ℕ) → IsJoined joined number → (k : ℕ) × (j : Joined) × (get_elem? joined k ≡ some j) × (j.number ≡ number)
+at_joined [] number h = absurd h
+at_joined (j ∷ rest) number (inl e) = (0, j, refl, e)
+at_joined (j ∷ rest) number (inr h) = let t = at_joined rest number h in (suc t.0, t.1, t.2, t.3)
+
+at_index : (joined : List Joined) (i : ℕ) (d : Joined) → i < length joined → get_elem? joined i ≡ some (get_or joined i d)
+at_index [] i d h = absurd (omega arith)
+at_index (j ∷ rest) zero d h = refl
+at_index (j ∷ rest) (suc i) d h = at_index rest i d (omega arith)
+
+module _ {B : Type 0} (entries : B → List Entry) (terms_of : B → Terms) (terms : Terms) where
+  abbrev Rule : State (Option B) View → Type 0
+  Rule = IsRuled entries terms_of terms
+
+  -- who has joined all others finds the value at home
+  all_home : (s : State (Option B) View) (r : Rule s) (id : ℕ) (v : View) → IsLive s.views id v → v.stage ≡ Idle → v.number ≡ 0
+      → ((n : ℕ) → 0 < n → n ≤ v.splits → IsJoined v.joined n) → IsHome entries terms_of terms r.log s
+  all_home s r id v live idle head all = ⊎_elim (λ (h : IsHome entries terms_of terms r.log s). h)
+      (λ (a : IsAway r.log s).
+      let other : id ≢ a.place = λ e. idle_free v.stage idle a.ticket (ap (λ (u : View). u.stage) (one_at s.views id a.place v a.holder live.0 a.live.0 (sym e)) ∙ a.holds) in
+      let apart = r.apart id a.place v a.holder other live a.live in
+      let few = (r.each a.place a.holder a.live).few in
+      let count = (r.each id v live).first head in
+      let some_one : 0 < a.holder.number = dite (ℕ_discrete a.holder.number 0) (λ e. absurd (apart.numbers (head ∙ sym e))) (λ (ne : a.holder.number ≢ 0). omega arith) in
+      let j = at_joined v.joined a.holder.number (all a.holder.number some_one (omega arith)) in
+      absurd (apart.past j.0 j.1 j.2 j.3))
+      r.where_is
+
+  -- what the value in the last slot is
+  pub record IsLast (id : TableId) (v : View) (xs : List (Option B)) : Type 0 where
+    pub value : B
+    pub slot : get_elem? xs 0 ≡ some (Some value)
+    pub terms_are : terms_of value ≡ v.terms
+    pub whole : IsWhole (stands_as id v) (entries value)
+
+  pub closes : (table : TableId) (id : ℕ) (v : View) → v.spent ≡ false → v.stage ≡ Idle → v.number ≡ 0
+      → ((n : ℕ) → 0 < n → n ≤ v.splits → IsJoined v.joined n)
+      → (ws : List ℕ) (xs : List (Option B)) → Final (Seen Rule id v) ws xs → IsLast table v xs
+  closes table id v left idle head all ws xs last =
+      let s = last.0 in let r = last.1.0 in let live : IsLive s.views id v = (last.1.1, left) in
+      let h = all_home s r id v live idle head all in let f = r.each id v live in let count = f.first head in record {
+        value = h.value;
+        slot = last.4 0 (Some h.value) (ap (λ hs. get_elem? hs 0) h.home);
+        terms_are = h.terms_are ∙ sym f.terms_are;
+        whole = record {
+          seen = subst (IsPrefix v.seen) (sym h.log_is) f.seen;
+          mine = f.mine ∙ ap (made_by v.number) (sym h.log_is);
+          joined = λ i d inside. let p = f.past i (get_or v.joined i d) (at_index v.joined i d inside) in p.mine ∙ ap (made_by (get_or v.joined i d).number) (sym h.log_is);
+          others = λ m more. ap (made_by m) h.log_is ∙ r.makers m (omega arith);
+        };
+      }

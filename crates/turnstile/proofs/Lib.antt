@@ -1,0 +1,5 @@
+pub mod Prefixes
+pub mod Sums
+pub mod Turning
+pub mod Parts
+pub mod Closing

@@ -1,0 +1,329 @@
+-- Passes that are split and joined keep the rule; the first state has it, and what the last one tells.
+use Rattle.std.proofs.Common.{◌≡◌, ◌≢◌, ◌⊎◌, ℕ, zero, suc, ◌+◌, ◌%◌, ◌^◌, ◌<◌, ◌≤◌, List, [], ◌∷◌, ◌++◌, length, set, get_or, Option, Some, None, Bool, true, false, refl, ap, sym, ◌∙◌, subst, ⊎_elim, inl, inr, arith, cond, ltb, length-set, true≢false}
+use mathlib.Core.Logic.{dite}
+use mathlib.Core.List.{IsPrefix}
+use mathlib.Core.Option.{some, none, some-injective, some-ne-none}
+use mathlib.Core.Option as maybe
+use native.Mathlib.Decide.{ℕ_discrete, dec_le}
+use lib.ListN.{get_elem?}
+use Rattle.std.proofs.lemmas.Bool.{lt-ltb, le-ltb, cases_lt}
+use Rattle.atomic_table.specs.Table.{State, Splits, Joins, opening, Final, Seen}
+use Rattle.atomic_table.proofs.Lists.{at_set, set_here, set_else, at_longer}
+use Rattle.admission.specs.declared.entries.Entry.{Entry}
+use Rattle.turnstile.specs.declared.view.Joined.{Joined}
+use Rattle.admission.specs.Makers.{Placed}
+use Rattle.turnstile.specs.declared.view.Stage.{Stage}
+use Rattle.turnstile.specs.declared.view.Stage.TheVariants.{Idle, Waits, Holds}
+use Rattle.turnstile.specs.declared.view.Terms.{Terms}
+use Rattle.turnstile.specs.declared.view.View.{View}
+use Rattle.admission.specs.Makers.{made_by}
+use Rattle.turnstile.specs.Turns.{total, alive, queued, has_ticket, IsLive, IsTicket, InTurn, IsPast, Fits, Apart, IsAway, IsHome, IsRuled}
+use Rattle.turnstile.specs.Passes.{longer}
+use Rattle.turnstile.specs.Steps.{shorter, beginner, splitter, newcomer, past_of, joiner, spent_view}
+use Rattle.turnstile.proofs.Prefixes.{prefix_self, prefix_trans, prefix_shorter, made_nothing, made_between}
+use Rattle.turnstile.proofs.Sums.{total_set, total_push}
+use Rattle.turnstile.proofs.Turning.{lives, waits_in, idle_free, Free, one_at, at_inside, live_set, place_other}
+use Rattle.turnstile.proofs.Turning as step
+
+at_snoc : {A : Type 0} (l : List A) (a b : A) (j : ℕ) → get_elem? (l ++ a ∷ []) j ≡ some b → (get_elem? l j ≡ some b) ⊎ ((j ≡ length l) × (a ≡ b))
+at_snoc [] a b zero e = inr (refl, some-injective a b e)
+at_snoc [] a b (suc j) e = absurd (some-ne-none b (sym e))
+at_snoc (x ∷ xs) a b zero e = inl e
+at_snoc (x ∷ xs) a b (suc j) e = ⊎_elim (λ h. inl h) (λ (t : (j ≡ length xs) × (a ≡ b)). inr (let n = t.0 in omega arith, t.1)) (at_snoc xs a b j e)
+
+at_either : {A : Type 0} (xs ys : List A) (k : ℕ) (a : A) → get_elem? (xs ++ ys) k ≡ some a → (get_elem? xs k ≡ some a) ⊎ ((i : ℕ) × (get_elem? ys i ≡ some a))
+at_either [] ys k a e = inr (k, e)
+at_either (x ∷ xs) ys zero a e = inl e
+at_either (x ∷ xs) ys (suc k) a e = at_either xs ys k a e
+
+none_there : {A : Type 0} (k : ℕ) (a : A) → get_elem? [] k ≡ some a → ⊥
+none_there k a e = some-ne-none a (sym e)
+
+longest : (b : Bool) (number : ℕ) (xs ys log : List Entry) → IsPrefix xs log → IsPrefix ys log → made_by number xs ≡ made_by number log
+    → (b ≡ true → length xs ≤ length ys) → (b ≡ false → length ys ≤ length xs)
+    → IsPrefix (cond b ys xs) log × IsPrefix (cond b xs ys) (cond b ys xs) × (made_by number (cond b ys xs) ≡ made_by number log)
+longest true number xs ys log p q own less more = let h = prefix_shorter xs ys log p q (less refl) in (q, h, made_between number xs ys log h q own)
+longest false number xs ys log p q own less more = (p, prefix_shorter ys xs log q p (more refl), own)
+
+module _ {B : Type 0} (entries : B → List Entry) (terms_of : B → Terms) (terms : Terms) where
+  abbrev St : Type 0
+  St = State (Option B) View
+
+  abbrev Rule : St → Type 0
+  Rule = IsRuled entries terms_of terms
+
+  live_push : (P : ℕ → View → Type 0) (views : List View) (x : View) → P (length views) x
+      → ((j : ℕ) (u : View) → IsLive views j u → P j u)
+      → (j : ℕ) (u : View) → IsLive (views ++ x ∷ []) j u → P j u
+  live_push P views x mine others j u live = ⊎_elim
+      (λ (t : get_elem? views j ≡ some u). others j u (t, live.1))
+      (λ (t : (j ≡ length views) × (x ≡ u)). subst (λ (y : ℕ × View). P y.0 y.1) (λ i. (sym t.0 i, t.1 i)) mine)
+      (at_snoc views x u j live.0)
+
+  -- the same after a split: the pass that splits is w now, and x is new
+  live_split : (P : ℕ → View → Type 0) (views : List View) (id : ℕ) (w x : View) → P id w → P (length views) x
+      → ((j : ℕ) (u : View) → j ≢ id → IsLive views j u → P j u)
+      → (j : ℕ) (u : View) → IsLive (set views id w ++ x ∷ []) j u → P j u
+  live_split P views id w x mine new others =
+      live_push P (set views id w) x (subst (λ (n : ℕ). P n x) (sym (length-set views id w)) new) (live_set entries terms_of terms P views id w mine others)
+
+  place_push : (log : List Entry) (words : List ℕ) (homes : List (maybe.Option (Option B))) (views : List View) (x : View) → x.stage ≡ Idle
+      → step.Place entries terms_of terms log record { words = words; homes = homes; views = views }
+      → step.Place entries terms_of terms log record { words = words; homes = homes; views = views ++ x ∷ [] }
+  place_push log words homes views x idle (inl h) = inl record {
+    value = h.value;
+    home = h.home;
+    log_is = h.log_is;
+    terms_are = h.terms_are;
+    free = live_push (λ _ u. Free u.stage) views x (idle_free x.stage idle) h.free;
+  }
+  place_push log words homes views x idle (inr a) = inr record {
+    home = a.home;
+    place = a.place;
+    holder = a.holder;
+    ticket = a.ticket;
+    live = (at_longer views (x ∷ []) a.place a.holder a.live.0, a.live.1);
+    holds = a.holds;
+    all = a.all;
+  }
+
+  one_more : (log : List Entry) (count served drawn : ℕ) (u : View) → Fits terms log count served drawn u → u.number ≢ 0 → Fits terms log (count + 1) served drawn u
+  one_more log count served drawn u f other = record {
+    terms_are = f.terms_are;
+    seen = f.seen;
+    told = f.told;
+    mine = f.mine;
+    own = f.own;
+    past = λ k j at. let p = f.past k j at in record { mine = p.mine; few = (let a = p.few in omega arith); other = p.other };
+    few = (let a = f.few in omega arith);
+    first = λ zero. absurd (other zero);
+    turn = f.turn;
+  }
+
+  pub splits : (id : ℕ) (v : View) → v.spent ≡ false → v.stage ≡ Idle → v.number ≡ 0 → v.splits + 1 < 2 ^ 32
+      → Splits Rule id v (splitter v) (newcomer v)
+  splits id v left idle head few s r at =
+      let w : View = splitter v in let x : View = newcomer v in let f = r.each id v (at, left) in
+      let count : v.splits ≡ r.count = f.first head in
+      let new : r.count < v.splits + 1 = omega arith in
+      let sums = total_set alive s.views id v w at in let more = total_push alive (set s.views id w) x in
+      let queues = total_set queued s.views id v w at in let more_queues = total_push queued (set s.views id w) x in
+      let q0 : queued v ≡ queued w = refl in
+      let a0 : alive v ≡ alive w = refl in
+      let queue = r.queue in let passes = r.passes in
+      let theirs : (j : ℕ) (u : View) → j ≢ id → IsLive s.views j u → u.number ≢ 0 =
+      λ j u other l e. (r.apart j id u v other l (at, left)).numbers (e ∙ sym head) in record {
+        log = r.log;
+        count = r.count + 1;
+        drawn = r.drawn;
+        served = r.served;
+        words = r.words;
+        few = omega arith;
+        queue = omega arith;
+        passes = omega arith;
+        makers = λ m h. r.makers m (omega arith);
+        each = live_split (λ _ u. Fits terms r.log (r.count + 1) r.served r.drawn u) s.views id w x
+            (record {
+              terms_are = f.terms_are;
+              seen = f.seen;
+              told = f.told;
+              mine = f.mine;
+              own = f.own;
+              past = λ k j j_at. let p = f.past k j j_at in record { mine = p.mine; few = (let a = p.few in omega arith); other = p.other };
+              few = (let a = f.few in omega arith);
+              first = λ _. omega arith;
+              turn = f.turn;
+            })
+            (record {
+              terms_are = f.terms_are;
+              seen = f.seen;
+              told = (v.seen, refl);
+              mine = sym (r.makers (v.splits + 1) new);
+              own = sym (made_nothing (v.splits + 1) v.seen r.log f.seen (r.makers (v.splits + 1) new));
+              past = λ k j e. absurd (none_there k j e);
+              few = omega arith;
+              first = λ e. absurd (omega arith);
+              turn = tt;
+            })
+            (λ j u other l. one_more r.log r.count r.served r.drawn u (r.each j u l) (theirs j u other l));
+        apart = λ i j y z ne ly lz. live_split (λ i y. i ≢ j → Apart y z) s.views id w x
+            (λ ne. live_split (λ j z. id ≢ j → Apart w z) s.views id w x
+            (λ same. absurd (same refl))
+            (λ _. record {
+              numbers = λ e. absurd (omega arith);
+              tickets = λ t here there. absurd there;
+              past = λ k j' k_at e. let p = f.past k j' k_at in let a = p.few in absurd (omega arith);
+            })
+            (λ j z other l same. let a = r.apart id j v z same (at, left) l in record { numbers = a.numbers; tickets = a.tickets; past = a.past })
+            j z lz ne)
+            (λ ne. live_split (λ j z. length s.views ≢ j → Apart x z) s.views id w x
+            (λ _. record { numbers = λ e. absurd (omega arith); tickets = λ t here there. absurd here; past = λ k j' e. absurd (none_there k j' e) })
+            (λ same. absurd (same refl))
+            (λ j z other l _. let g = r.each j z l in let a = g.few in record {
+              numbers = λ e. absurd (omega arith);
+              tickets = λ t here there. absurd here;
+              past = λ k j' e. absurd (none_there k j' e);
+            })
+            j z lz ne)
+            (λ i y other l ne. let g = r.each i y l in let a = g.few in live_split (λ j z. i ≢ j → Apart y z) s.views id w x
+            (λ _. let b = r.apart i id y v other l (at, left) in record { numbers = b.numbers; tickets = b.tickets; past = b.past })
+            (λ _. record {
+              numbers = λ e. absurd (omega arith);
+              tickets = λ t here there. absurd there;
+              past = λ k j' k_at e. let p = g.past k j' k_at in let c = p.few in absurd (omega arith);
+            })
+            (λ j z _ k ne. r.apart i j y z ne l k)
+            j z lz ne)
+            i y ly ne;
+        where_is = place_push r.log s.words s.homes (set s.views id w) x refl
+            (place_other entries terms_of terms r.log s id v w (at, left) (idle_free v.stage idle) (idle_free v.stage idle) s.words r.where_is);
+      }
+
+  -- a fact of each live pass, after the pass at `other` was joined to the one at `id`
+  live_join : (P : ℕ → View → Type 0) (views : List View) (id other : ℕ) (b x : View) → x.spent ≡ true → P id b
+      → ((j : ℕ) (u : View) → j ≢ id → j ≢ other → IsLive views j u → P j u)
+      → (j : ℕ) (u : View) → IsLive (set (set views id b) other x) j u → P j u
+  live_join P views id other b x gone mine others j u live = ⊎_elim
+      (λ (t : (j ≡ other) × (x ≡ u)). absurd (true≢false (sym gone ∙ (ap (λ (v : View). v.spent) t.1 ∙ live.1))))
+      (λ (t : (j ≢ other) × (get_elem? (set views id b) j ≡ some u)).
+      live_set entries terms_of terms (λ j u. j ≢ other → P j u) views id b (λ _. mine) (λ j u ne l away. others j u ne away l) j u (t.1, live.1) t.0)
+      (at_set (set views id b) other j x u live.0)
+
+  longest_of : (s : St) (r : Rule s) (i j : ℕ) (v w : View) → IsLive s.views i v → IsLive s.views j w
+      → IsPrefix (longer v.seen w.seen) r.log × IsPrefix (shorter v.seen w.seen) (longer v.seen w.seen) × (made_by v.number (longer v.seen w.seen) ≡ made_by v.number r.log)
+  longest_of s r i j v w l k = let f = r.each i v l in let g = r.each j w k in
+      longest (ltb (length v.seen) (length w.seen)) v.number v.seen w.seen r.log f.seen g.seen (sym f.own ∙ f.mine)
+      (λ e. dite (dec_le (length v.seen) (length w.seen)) (λ le. le) (λ no_le. absurd (true≢false (sym e ∙ le-ltb _ _ (omega arith)))))
+      (λ e. dite (dec_le (length w.seen) (length v.seen)) (λ le. le) (λ no_le. absurd (true≢false (sym (lt-ltb _ _ (omega arith)) ∙ e))))
+
+  place_join : (s : St) (log : List Entry) (id other : ℕ) (v w b x : View) → other ≢ id → IsLive s.views id v → IsLive s.views other w
+      → v.stage ≡ Idle → w.stage ≡ Idle → b.stage ≡ Idle → x.spent ≡ true
+      → step.Place entries terms_of terms log s
+      → step.Place entries terms_of terms log record { words = s.words; homes = s.homes; views = set (set s.views id b) other x }
+  place_join s log id other v w b x apart live wlive idle widle bidle gone (inl h) = inl record {
+    value = h.value;
+    home = h.home;
+    log_is = h.log_is;
+    terms_are = h.terms_are;
+    free = live_join (λ _ u. Free u.stage) s.views id other b x gone (idle_free b.stage bidle) (λ j u _ _ l. h.free j u l);
+  }
+  place_join s log id other v w b x apart live wlive idle widle bidle gone (inr a) =
+      let one : a.place ≢ id = λ e. idle_free v.stage idle a.ticket (ap (λ (u : View). u.stage) (one_at s.views id a.place v a.holder live.0 a.live.0 e) ∙ a.holds) in
+      let two : a.place ≢ other = λ e. idle_free w.stage widle a.ticket (ap (λ (u : View). u.stage) (one_at s.views other a.place w a.holder wlive.0 a.live.0 e) ∙ a.holds) in
+      inr record {
+        home = a.home;
+        place = a.place;
+        holder = a.holder;
+        ticket = a.ticket;
+        live = (set_else (set s.views id b) other a.place x two ∙ (set_else s.views id a.place b one ∙ a.live.0), a.live.1);
+        holds = a.holds;
+        all = a.all;
+      }
+
+  fits_join : (s : St) (r : Rule s) (id other : ℕ) (v w : View) → other ≢ id → IsLive s.views id v → IsLive s.views other w
+      → Fits terms r.log r.count r.served r.drawn (joiner v w)
+  fits_join s r id other v w apart live wlive =
+      let f = r.each id v live in let g = r.each other w wlive in let h = longest_of s r id other v w live wlive in
+      let theirs = r.apart other id w v apart wlive live in record {
+        terms_are = f.terms_are;
+        seen = h.0;
+        told = h.1;
+        mine = f.mine;
+        own = f.mine ∙ sym h.2;
+        past = λ k j at. ⊎_elim (λ (l : get_elem? v.joined k ≡ some j). f.past k j l)
+            (λ (t : (i : ℕ) × (get_elem? (past_of w ∷ w.joined) i ≡ some j)). at_past t.0 j t.1)
+            (at_either v.joined (past_of w ∷ w.joined) k j at);
+        few = f.few;
+        first = f.first;
+        turn = f.turn;
+      }
+    where
+      at_past : (i : ℕ) (j : Joined) → get_elem? (past_of w ∷ w.joined) i ≡ some j → IsPast r.log r.count v.number j
+      at_past zero j e = let g = r.each other w wlive in subst (IsPast r.log r.count v.number) (some-injective (past_of w) j e)
+          record { mine = g.mine; few = g.few; other = (r.apart other id w v apart wlive live).numbers }
+      at_past (suc i) j e = let g = r.each other w wlive in let p = g.past i j e in
+          record { mine = p.mine; few = p.few; other = (r.apart other id w v apart wlive live).past i j e }
+
+  apart_join : (v w u : View) → Apart v u → Apart w u → Apart (joiner v w) u
+  apart_join v w u a b = record {
+    numbers = a.numbers;
+    tickets = a.tickets;
+    past = λ k j at. ⊎_elim (λ (l : get_elem? v.joined k ≡ some j). a.past k j l)
+        (λ (t : (i : ℕ) × (get_elem? (past_of w ∷ w.joined) i ≡ some j)). at_past t.0 j t.1)
+        (at_either v.joined (past_of w ∷ w.joined) k j at);
+  }
+    where
+      at_past : (i : ℕ) (j : Joined) → get_elem? (past_of w ∷ w.joined) i ≡ some j → j.number ≢ u.number
+      at_past zero j e same = b.numbers (ap (λ (z : Joined). z.number) (some-injective (past_of w) j e) ∙ same)
+      at_past (suc i) j e same = b.past i j e same
+
+  pub joins : (id : ℕ) (v : View) (other : ℕ) (w : View) → v.spent ≡ false → w.spent ≡ false → v.stage ≡ Idle → w.stage ≡ Idle
+      → Joins Rule id v other w (joiner v w) spent_view
+  joins id v other w left wleft idle widle s r at apart wat =
+      let b : View = joiner v w in let x : View = spent_view in
+      let w_at : get_elem? s.views other ≡ some w = sym (set_else s.views id other b apart) ∙ wat in
+      let live : IsLive s.views id v = (at, left) in let wlive : IsLive s.views other w = (w_at, wleft) in
+      let sums = total_set alive s.views id v b at in let sums' = total_set alive (set s.views id b) other w x wat in
+      let queues = total_set queued s.views id v b at in let queues' = total_set queued (set s.views id b) other w x wat in
+      let q0 : queued v ≡ queued b = refl in let a0 : alive v ≡ alive b = refl in
+      let q1 : queued w ≡ 0 = waits_in w wleft ∙ ap has_ticket widle in let a1 : alive w ≡ 1 = lives w wleft in
+      let queue = r.queue in let passes = r.passes in record {
+        log = r.log;
+        count = r.count;
+        drawn = r.drawn;
+        served = r.served;
+        words = r.words;
+        few = r.few;
+        queue = omega arith;
+        passes = omega arith;
+        makers = r.makers;
+        each = live_join (λ _ u. Fits terms r.log r.count r.served r.drawn u) s.views id other b x refl
+            (fits_join s r id other v w apart live wlive) (λ j u _ _ l. r.each j u l);
+        apart = λ i j y z ne ly lz. live_join (λ i y. i ≢ j → Apart y z) s.views id other b x refl
+            (λ ne. live_join (λ j z. id ≢ j → Apart b z) s.views id other b x refl
+            (λ same. absurd (same refl))
+            (λ j z one two l same. apart_join v w z (r.apart id j v z same live l) (r.apart other j w z (λ e. two (sym e)) wlive l))
+            j z lz ne)
+            (λ i y one two l ne. live_join (λ j z. i ≢ j → Apart y z) s.views id other b x refl
+            (λ _. let a = r.apart i id y v one l live in record { numbers = a.numbers; tickets = a.tickets; past = a.past })
+            (λ j z _ _ k ne. r.apart i j y z ne l k)
+            j z lz ne)
+            i y ly ne;
+        where_is = place_join s r.log id other v w b x apart live wlive idle widle idle refl r.where_is;
+      }
+
+  pub starts : (value : B) → entries value ≡ [] → terms_of value ≡ terms → Rule (opening (0 ∷ 0 ∷ 0 ∷ []) (Some value ∷ []) (beginner terms))
+  starts value empty same = record {
+    log = [];
+    count = 0;
+    drawn = 0;
+    served = 0;
+    words = refl;
+    few = omega arith;
+    queue = omega arith;
+    passes = omega arith;
+    makers = λ m _. refl;
+    each = λ i v live. only (λ _ v. Fits terms [] 0 0 0 v) (record {
+      terms_are = refl;
+      seen = ([], refl);
+      told = ([], refl);
+      mine = refl;
+      own = refl;
+      past = λ k j e. absurd (none_there k j e);
+      few = omega arith;
+      first = λ _. refl;
+      turn = tt;
+    }) i v live;
+    apart = λ i j v w ne l k. absurd (ne (only (λ i _. i ≡ 0) refl i v l ∙ sym (only (λ i _. i ≡ 0) refl j w k)));
+    where_is = inl record {
+      value = value;
+      home = refl;
+      log_is = empty;
+      terms_are = same;
+      free = λ i v live. only (λ _ v. Free v.stage) (idle_free Idle refl) i v live;
+    };
+  }
+    where
+      only : (P : ℕ → View → Type 0) → P 0 (beginner terms) → (i : ℕ) (v : View) → IsLive (beginner terms ∷ []) i v → P i v
+      only P here zero v live = subst (P 0) (some-injective (beginner terms) v live.0) here
+      only P here (suc i) v live = absurd (none_there i v live.0)

@@ -1,0 +1,35 @@
+-- Numbers of the passes, added up.
+use Rattle.std.proofs.Common.{◌≡◌, ℕ, zero, suc, ◌+◌, ◌<◌, ◌≤◌, List, [], ◌∷◌, ◌++◌, set, refl, ap, sym, ◌∙◌, arith, Bool, true, false}
+use mathlib.Core.Option.{some, some-injective, some-ne-none}
+use lib.ListN.{get_elem?}
+use Rattle.turnstile.specs.declared.view.View.{View}
+use Rattle.turnstile.specs.declared.view.Stage.{Stage}
+use Rattle.turnstile.specs.declared.view.Stage.TheVariants.{Idle, Waits, Holds}
+use Rattle.turnstile.specs.Turns.{total, alive, queued, has_ticket}
+
+pub total_set : (f : View → ℕ) (views : List View) (i : ℕ) (v w : View) → get_elem? views i ≡ some v → total f (set views i w) + f v ≡ total f views + f w
+total_set f [] i v w at = absurd (some-ne-none v (sym at))
+total_set f (x ∷ xs) zero v w at = let e : f x ≡ f v = ap f (some-injective x v at) in omega arith
+total_set f (x ∷ xs) (suc i) v w at = let e = total_set f xs i v w at in omega arith
+
+pub total_push : (f : View → ℕ) (views : List View) (v : View) → total f (views ++ v ∷ []) ≡ total f views + f v
+total_push f [] v = omega arith
+total_push f (x ∷ xs) v = let e = total_push f xs v in omega arith
+
+pub total_at : (f : View → ℕ) (views : List View) (i : ℕ) (v : View) → get_elem? views i ≡ some v → f v ≤ total f views
+total_at f [] i v at = absurd (some-ne-none v (sym at))
+total_at f (x ∷ xs) zero v at = let e : f x ≡ f v = ap f (some-injective x v at) in omega arith
+total_at f (x ∷ xs) (suc i) v at = let e = total_at f xs i v at in omega arith
+
+ticket_small : (st : Stage) → has_ticket st ≤ 1
+ticket_small Idle = omega arith
+ticket_small (Waits t) = omega arith
+ticket_small (Holds t) = omega arith
+
+bounded : (b : Bool) (n : ℕ) → n ≤ 1 → Rattle.std.proofs.Common.cond b 0 n ≤ Rattle.std.proofs.Common.cond b 0 1
+bounded true n le = omega arith
+bounded false n le = le
+
+pub queued_total : (views : List View) → total queued views ≤ total alive views
+queued_total [] = omega arith
+queued_total (v ∷ rest) = let e = queued_total rest in let b : queued v ≤ alive v = bounded v.spent (has_ticket v.stage) (ticket_small v.stage) in omega arith

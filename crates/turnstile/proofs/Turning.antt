@@ -1,0 +1,418 @@
+-- Each kind of step keeps the rule.
+use Rattle.std.proofs.Common.{◌≡◌, ◌≢◌, ◌⊎◌, ℕ, zero, suc, ◌+◌, ◌%◌, ◌^◌, ◌<◌, ◌≤◌, List, [], ◌∷◌, ◌++◌, length, set, get_or, Option, Some, None, Bool, true, false, refl, ap, sym, ◌∙◌, subst, ⊎_elim, inl, inr, arith, cond, eqb, length-append}
+use mathlib.Core.Logic.{dite}
+use mathlib.Core.List.{IsPrefix}
+use mathlib.Core.Option.{some, none, some-injective, some-ne-none}
+use mathlib.Core.Option as maybe
+use native.Mathlib.Decide.{ℕ_discrete, dec_le}
+use lib.ListN.{get_elem?}
+use lib.Seq.{set-get_or}
+use Rattle.atomic_table.specs.Table.{State, Me, put_back, rest, keeps, takes, gives, stepped, Allows, Splits, Joins, opening}
+use Rattle.atomic_table.proofs.Lists.{at_set, set_here, set_else, set_again, at_snoc, at_longer, one_turn}
+use Rattle.admission.specs.declared.entries.Entry.{Entry}
+use Rattle.turnstile.specs.declared.view.Joined.{Joined}
+use Rattle.turnstile.specs.declared.view.Stage.{Stage}
+use Rattle.turnstile.specs.declared.view.Stage.TheVariants.{Idle, Waits, Holds}
+use Rattle.turnstile.specs.declared.view.Terms.{Terms}
+use Rattle.turnstile.specs.declared.view.View.{View}
+use Rattle.admission.specs.Makers.{made_by}
+use Rattle.turnstile.specs.Turns.{total, alive, queued, has_ticket, IsLive, IsTicket, InTurn, IsPast, Fits, Apart, IsAway, IsHome, IsRuled}
+use Rattle.turnstile.specs.Passes.{longer}
+use Rattle.turnstile.specs.Steps.{shorter, beginner, splitter, newcomer, past_of, joiner, spent_view, Knows, Took, listed, Drew, Left, Told, Looked, Raised}
+use Rattle.turnstile.proofs.Prefixes.{prefix_self, prefix_trans, prefix_longer, prefix_shorter, made_other, made_own, made_nothing}
+use Rattle.turnstile.proofs.Sums.{total_set, total_push, total_at, queued_total}
+
+pub lives : (v : View) → v.spent ≡ false → alive v ≡ 1
+lives v e = ap (λ (b : Bool). cond b 0 1) e
+
+pub waits_in : (v : View) → v.spent ≡ false → queued v ≡ has_ticket v.stage
+waits_in v e = ap (λ (b : Bool). cond b 0 (has_ticket v.stage)) e
+
+abbrev pub IsHolding : Stage → Type 0
+IsHolding Idle = ⊥
+IsHolding (Waits t) = ⊥
+IsHolding (Holds t) = Unit {0}
+
+abbrev ticket_or : Stage → ℕ
+ticket_or Idle = 0
+ticket_or (Waits t) = t
+ticket_or (Holds t) = t
+
+abbrev pub Free : Stage → Type 0
+Free st = (t : ℕ) → st ≡ Holds t → ⊥
+
+pub idle_free : (st : Stage) → st ≡ Idle → Free st
+idle_free st is t e = subst IsHolding (sym e ∙ is) tt
+
+pub waits_free : (st : Stage) (u : ℕ) → st ≡ Waits u → Free st
+waits_free st u is t e = subst IsHolding (sym e ∙ is) tt
+
+pub ticket_low : (served drawn t : ℕ) (st : Stage) → InTurn served drawn st → IsTicket st t → (served ≤ t) × (t < drawn)
+ticket_low served drawn t Idle turn is = absurd is
+ticket_low served drawn t (Waits u) turn is = (omega (arith, turn.0, is), omega (arith, turn.1, is))
+ticket_low served drawn t (Holds u) turn is = (omega (arith, turn.0, is), omega (arith, turn.1, is))
+
+turn_more : (served drawn : ℕ) (st : Stage) → InTurn served drawn st → InTurn served (drawn + 1) st
+turn_more served drawn Idle turn = tt
+turn_more served drawn (Waits u) turn = (turn.0, omega (arith, turn.1))
+turn_more served drawn (Holds u) turn = (turn.0, omega (arith, turn.1))
+
+turn_next : (served drawn : ℕ) (st : Stage) → InTurn served drawn st → (IsTicket st served → ⊥) → InTurn (served + 1) drawn st
+turn_next served drawn Idle turn not_now = tt
+turn_next served drawn (Waits u) turn not_now =
+    dite (ℕ_discrete u served) (λ e. absurd (not_now e)) (λ (ne : u ≢ served). (let a = turn.0 in omega arith, turn.1))
+turn_next served drawn (Holds u) turn not_now = absurd (not_now turn.0)
+
+pub at_inside : {A : Type 0} (l : List A) (i : ℕ) (a : A) → get_elem? l i ≡ some a → i < length l
+at_inside [] i a e = absurd (some-ne-none a (sym e))
+at_inside (x ∷ xs) zero a e = omega arith
+at_inside (x ∷ xs) (suc i) a e = let h = at_inside xs i a e in omega arith
+
+pub one_at : {A : Type 0} (l : List A) (i j : ℕ) (a b : A) → get_elem? l i ≡ some a → get_elem? l j ≡ some b → j ≡ i → a ≡ b
+one_at l i j a b at bt e = some-injective a b (sym at ∙ (ap (get_elem? l) (sym e) ∙ bt))
+
+pub refit : (terms : Terms) (log : List Entry) (count served drawn served' drawn' : ℕ) (v : View)
+    → Fits terms log count served drawn v → InTurn served' drawn' v.stage → Fits terms log count served' drawn' v
+refit terms log count served drawn served' drawn' v f turn = record {
+  terms_are = f.terms_are;
+  seen = f.seen;
+  told = f.told;
+  mine = f.mine;
+  own = f.own;
+  past = f.past;
+  few = f.few;
+  first = f.first;
+  turn = turn;
+}
+
+pub restage : (terms : Terms) (log : List Entry) (count served drawn served' drawn' : ℕ) (v : View) (st : Stage)
+    → Fits terms log count served drawn v → InTurn served' drawn' st → Fits terms log count served' drawn' (record v { stage = st })
+restage terms log count served drawn served' drawn' v st f turn = record {
+  terms_are = f.terms_are;
+  seen = f.seen;
+  told = f.told;
+  mine = f.mine;
+  own = f.own;
+  past = f.past;
+  few = f.few;
+  first = f.first;
+  turn = turn;
+}
+
+module _ {B : Type 0} (entries : B → List Entry) (terms_of : B → Terms) (terms : Terms) where
+  abbrev pub St : Type 0
+  St = State (Option B) View
+
+  abbrev pub Homes : Type 0
+  Homes = List (maybe.Option (Option B))
+
+  abbrev pub Rule : St → Type 0
+  Rule = IsRuled entries terms_of terms
+
+  abbrev pub Place : List Entry → St → Type 0
+  Place log s = IsHome entries terms_of terms log s ⊎ IsAway log s
+
+  -- a fact of each live pass, after one of them has changed
+  pub live_set : (P : ℕ → View → Type 0) (views : List View) (id : ℕ) (w : View) → P id w
+      → ((j : ℕ) (u : View) → j ≢ id → IsLive views j u → P j u)
+      → (j : ℕ) (u : View) → IsLive (set views id w) j u → P j u
+  live_set P views id w mine others j u live = ⊎_elim
+      (λ (t : (j ≡ id) × (w ≡ u)). subst (λ (x : ℕ × View). P x.0 x.1) (λ i. (sym t.0 i, t.1 i)) mine)
+      (λ (t : (j ≢ id) × (get_elem? views j ≡ some u)). others j u t.0 (t.1, live.1))
+      (at_set views id j w u live.0)
+
+  pub changes : (s : St) (r : Rule s) (id : ℕ) (v w : View) → IsLive s.views id v → w.spent ≡ false
+      → (log : List Entry) (drawn served : ℕ) (words : List ℕ) (homes : Homes)
+      → words ≡ drawn % 2 ^ 64 ∷ served % 2 ^ 64 ∷ length log % 2 ^ 64 ∷ []
+      → served + total queued (set s.views id w) ≡ drawn
+      → ((m : ℕ) → r.count < m → made_by m log ≡ [])
+      → Fits terms log r.count served drawn w
+      → ((j : ℕ) (u : View) → j ≢ id → IsLive s.views j u → Fits terms log r.count served drawn u × Apart w u × Apart u w)
+      → Place log record { words = words; homes = homes; views = set s.views id w }
+      → Rule record { words = words; homes = homes; views = set s.views id w }
+  changes s r id v w live left log drawn served words homes words_are queue makers fits others place = record {
+    log = log;
+    count = r.count;
+    drawn = drawn;
+    served = served;
+    words = words_are;
+    few = r.few;
+    queue = queue;
+    passes =
+        (let e = total_set alive s.views id v w live.0 in let a = lives v live.1 in let b = lives w left in let p = r.passes in omega arith);
+    makers = makers;
+    each = live_set (λ _ u. Fits terms log r.count served drawn u) s.views id w fits (λ j u other l. (others j u other l).0);
+    apart = λ i j x y ne lx ly. live_set (λ i x. i ≢ j → Apart x y) s.views id w
+        (λ ne. live_set (λ j y. id ≢ j → Apart w y) s.views id w (λ same. absurd (same refl)) (λ j y other l _. (others j y other l).1) j y ly ne)
+        (λ i x other l ne. live_set (λ j y. i ≢ j → Apart x y) s.views id w (λ _. (others i x other l).2) (λ j y _ k ne. r.apart i j x y ne l k) j y ly ne)
+        i x lx ne;
+    where_is = place;
+  }
+
+  pub place_other : (log : List Entry) (s : St) (id : ℕ) (v w : View) → IsLive s.views id v → Free v.stage → Free w.stage
+      → (words : List ℕ) → Place log s → Place log record { words = words; homes = s.homes; views = set s.views id w }
+  place_other log s id v w live idle next words (inl h) = inl record {
+    value = h.value;
+    home = h.home;
+    log_is = h.log_is;
+    terms_are = h.terms_are;
+    free = live_set (λ _ u. Free u.stage) s.views id w next (λ j u _ l. h.free j u l);
+  }
+  place_other log s id v w live idle next words (inr a) =
+      let other : a.place ≢ id = λ e. idle a.ticket (ap (λ (u : View). u.stage) (one_at s.views id a.place v a.holder live.0 a.live.0 e) ∙ a.holds) in inr record {
+        home = a.home;
+        place = a.place;
+        holder = a.holder;
+        ticket = a.ticket;
+        live = (set_else s.views id a.place w other ∙ a.live.0, a.live.1);
+        holds = a.holds;
+        all = a.all;
+      }
+
+  pub unmoved : (s : St) → Rule s → (i id : ℕ) (v : View) → get_elem? s.views id ≡ some v
+      → Rule record { words = set s.words i (get_or s.words i 0); homes = s.homes; views = set s.views id v }
+  unmoved s r i id v at = subst (λ (x : List ℕ × List View). Rule record { words = x.0; homes = s.homes; views = x.1 })
+      (λ k. (sym (set-get_or s.words i 0) k, sym (set_again s.views id v at) k)) r
+
+  pub tells : (id slots : ℕ) (me : Me (Option B) View) → me.0.spent ≡ false
+      → Allows Rule slots id me 0 (λ n. n) (λ n next. (next ≡ me) × Knows me.0)
+  tells id slots me left s r deep at low = let f = r.each id me.0 (at, left) in
+      (me.0, keeps, tt, unmoved s r 0 id me.0 at, (refl, record { own = f.own; told = f.told }))
+
+  pub draws : (id slots : ℕ) (me : Me (Option B) View) → me.0.spent ≡ false → me.0.stage ≡ Idle → me.1 ≡ []
+      → Allows Rule slots id me 0 (λ n. (n + 1) % 2 ^ 64) (λ n next. (t : ℕ) × (n ≡ t % 2 ^ 64) × (next.0 ≡ record me.0 { stage = Waits t }) × (next.1 ≡ []))
+  draws id slots me left idle free s r deep at low =
+      let v = me.0 in let w : View = record v { stage = Waits r.drawn } in let f = r.each id v (at, left) in
+      let q0 : queued v ≡ 0 = waits_in v left ∙ ap has_ticket idle in
+      let q1 : queued w ≡ 1 = waits_in w left in
+      let sums = total_set queued s.views id v w at in
+      let queue = r.queue in (
+        w,
+        keeps,
+        tt,
+        changes s r id v w (at, left) left r.log (r.drawn + 1) r.served
+            (set s.words 0 ((get_or s.words 0 0 + 1) % 2 ^ 64)) s.homes
+            (ap (λ (ws : List ℕ). set ws 0 ((get_or ws 0 0 + 1) % 2 ^ 64)) r.words ∙ ap (λ (k : ℕ). k ∷ r.served % 2 ^ 64 ∷ length r.log % 2 ^ 64 ∷ []) (omega arith))
+            (omega arith)
+            r.makers
+            (restage terms r.log r.count r.served r.drawn r.served (r.drawn + 1) v (Waits r.drawn) f (omega arith, omega arith))
+            (λ j u other l. let g = r.each j u l in let a = r.apart id j v u (λ e. other (sym e)) (at, left) l in let b = r.apart j id u v other l (at, left) in (
+              refit terms r.log r.count r.served r.drawn r.served (r.drawn + 1) u g (turn_more r.served r.drawn u.stage g.turn),
+              record { numbers = a.numbers; tickets = λ t here there. let h = ticket_low r.served r.drawn t u.stage g.turn there in let e : r.drawn ≡ t = here in let z = h.1 in omega arith; past = a.past },
+              record { numbers = b.numbers; tickets = λ t there here. let h = ticket_low r.served r.drawn t u.stage g.turn there in let e : r.drawn ≡ t = here in let z = h.1 in omega arith; past = b.past },
+            ))
+            (place_other r.log s id v w (at, left) (idle_free v.stage idle) (waits_free w.stage r.drawn refl) (set s.words 0 ((get_or s.words 0 0 + 1) % 2 ^ 64)) r.where_is),
+        (r.drawn, ap (λ (ws : List ℕ). get_or ws 0 0) r.words, refl, free),
+      )
+
+  -- who holds a ticket that is served finds the value at home, while nobody has the turn
+  at_home : (s : St) (r : Rule s) (id : ℕ) (v : View) → IsLive s.views id v → (t : ℕ) → v.stage ≡ Waits t → t ≡ r.served
+      → IsHome entries terms_of terms r.log s
+  at_home s r id v live t is now = ⊎_elim (λ (h : IsHome entries terms_of terms r.log s). h)
+      (λ (a : IsAway r.log s).
+      let other : id ≢ a.place = λ e. waits_free v.stage t is a.ticket (ap (λ (u : View). u.stage) (one_at s.views id a.place v a.holder live.0 a.live.0 (sym e)) ∙ a.holds) in
+      let apart = r.apart id a.place v a.holder other live a.live in
+      let turn : InTurn r.served r.drawn (Holds a.ticket) = subst (InTurn r.served r.drawn) a.holds (r.each a.place a.holder a.live).turn in
+      absurd (apart.tickets r.served (subst (λ (st : Stage). IsTicket st r.served) (sym is) now) (subst (λ (st : Stage). IsTicket st r.served) (sym a.holds) turn.0)))
+      r.where_is
+
+  took : (id slots : ℕ) (me : Me (Option B) View) (t : ℕ) → me.0.spent ≡ false → me.0.stage ≡ Waits t → me.1 ≡ []
+      → (s : St) (r : Rule s) → get_elem? s.views id ≡ some me.0 → (h : IsHome entries terms_of terms r.log s) → t ≡ r.served
+      → Rule record { words = set s.words 1 (get_or s.words 1 0); homes = set s.homes 0 none; views = set s.views id (record me.0 { stage = Holds t; seen = entries h.value }) }
+  took id slots me t left is free s r at h now =
+      let v = me.0 in let w : View = record v { stage = Holds t; seen = entries h.value } in let f = r.each id v (at, left) in
+      let low : (r.served ≤ t) × (t < r.drawn) = ticket_low r.served r.drawn t v.stage f.turn (subst (λ (st : Stage). IsTicket st t) (sym is) refl) in
+      let q0 : queued v ≡ 1 = waits_in v left ∙ ap has_ticket is in
+      let q1 : queued w ≡ 1 = waits_in w left in
+      let sums = total_set queued s.views id v w at in
+      let queue = r.queue in
+      let drawn = low.1 in
+      changes s r id v w (at, left) left r.log r.drawn r.served
+      (set s.words 1 (get_or s.words 1 0)) (set s.homes 0 none)
+      (set-get_or s.words 1 0 ∙ r.words)
+      (omega arith)
+      r.makers
+      (record {
+        terms_are = f.terms_are;
+        seen = subst (λ (l : List Entry). IsPrefix l r.log) (sym h.log_is) (prefix_self r.log);
+        told = subst (IsPrefix v.told) (sym h.log_is) (prefix_trans v.told v.seen r.log f.told f.seen);
+        mine = f.mine;
+        own = f.mine ∙ ap (made_by v.number) (sym h.log_is);
+        past = f.past;
+        few = f.few;
+        first = f.first;
+        turn = (now, drawn);
+      })
+      (λ j u other l. let g = r.each j u l in let a = r.apart id j v u (λ e. other (sym e)) (at, left) l in let b = r.apart j id u v other l (at, left) in (
+        g,
+        record { numbers = a.numbers; tickets = λ x here there. a.tickets x (subst (λ (st : Stage). IsTicket st x) (sym is) here) there; past = a.past },
+        record { numbers = b.numbers; tickets = λ x there here. b.tickets x there (subst (λ (st : Stage). IsTicket st x) (sym is) here); past = b.past },
+      ))
+      (inr record {
+        home = ap (λ (hs : Homes). set hs 0 none) h.home;
+        place = id;
+        holder = w;
+        ticket = t;
+        live = (set_here s.views id w (at_inside s.views id v at), left);
+        holds = refl;
+        all = h.log_is;
+      })
+
+  pub looks : (id slots : ℕ) (me : Me (Option B) View) (t : ℕ) → me.0.spent ≡ false → me.0.stage ≡ Waits t → me.1 ≡ []
+      → Allows Rule slots id me 1 (λ n. n) (λ n next. (u : ℕ) → me.0.stage ≡ Waits u → (n ≡ u % 2 ^ 64 → Took entries terms_of u me next) × (n ≢ u % 2 ^ 64 → next ≡ me))
+  looks id slots me t left is free s r deep at low =
+      let v = me.0 in let f = r.each id v (at, left) in
+      let word : get_or s.words 1 0 ≡ r.served % 2 ^ 64 = ap (λ (ws : List ℕ). get_or ws 1 0) r.words in
+      let here : (r.served ≤ t) × (t < r.drawn) = ticket_low r.served r.drawn t v.stage f.turn (subst (λ (st : Stage). IsTicket st t) (sym is) refl) in
+      let queue = r.queue in let few = r.few in let passes = r.passes in let less = queued_total s.views in
+      let first = here.0 in let drawn = here.1 in
+      dite (ℕ_discrete (get_or s.words 1 0) (t % 2 ^ 64))
+      (λ (hit : get_or s.words 1 0 ≡ t % 2 ^ 64).
+      let same : r.served ≡ t = one_turn r.served t (2 ^ 64) first (omega arith) (sym word ∙ hit) in
+      let h = at_home s r id v (at, left) t is (sym same) in
+      let w : View = record v { stage = Holds t; seen = entries h.value } in (
+        w,
+        takes 0 (Some h.value),
+        ap (λ (hs : Homes). get_elem? hs 0) h.home,
+        took id slots me t left is free s r at h (sym same),
+        λ u is'. let e : t ≡ u = ap ticket_or (sym is ∙ is') in (
+          (λ _. subst (λ (x : ℕ). Took entries terms_of x me (w, (0, Some h.value) ∷ me.1)) e record {
+            value = h.value;
+            view = refl;
+            slot = ap (λ (cs : List (ℕ × Option B)). (0, Some h.value) ∷ cs) free;
+            terms = h.terms_are ∙ sym f.terms_are;
+            longer = subst (IsPrefix v.seen) (sym h.log_is) f.seen;
+            own = f.mine ∙ ap (made_by v.number) (sym h.log_is);
+          }),
+          (λ miss. absurd (miss (hit ∙ ap (λ (x : ℕ). x % 2 ^ 64) e))),
+        ),
+      ))
+      (λ (miss : get_or s.words 1 0 ≢ t % 2 ^ 64). (
+        v,
+        keeps,
+        tt,
+        unmoved s r 1 id v at,
+        λ u is'. let e : t ≡ u = ap ticket_or (sym is ∙ is') in (
+          (λ hit. absurd (miss (hit ∙ ap (λ (x : ℕ). x % 2 ^ 64) (sym e)))),
+          (λ _. refl),
+        ),
+      ))
+
+  -- who has the turn is the holder of the value that is away
+  pub holder_here : (s : St) (r : Rule s) (id : ℕ) (v : View) → IsLive s.views id v → (t : ℕ) → v.stage ≡ Holds t
+      → (s.homes ≡ none ∷ []) × (v.seen ≡ r.log) × (t ≡ r.served) × (t < r.drawn)
+  holder_here s r id v live t is =
+      let turn : InTurn r.served r.drawn (Holds t) = subst (InTurn r.served r.drawn) is (r.each id v live).turn in ⊎_elim
+      (λ (h : IsHome entries terms_of terms r.log s). absurd (h.free id v live t is))
+      (λ (a : IsAway r.log s).
+      let theirs : InTurn r.served r.drawn (Holds a.ticket) = subst (InTurn r.served r.drawn) a.holds (r.each a.place a.holder a.live).turn in
+      let same : a.place ≡ id = dite (ℕ_discrete a.place id) (λ e. e) (λ (ne : a.place ≢ id). absurd ((r.apart a.place id a.holder v ne a.live live).tickets r.served
+      (subst (λ (st : Stage). IsTicket st r.served) (sym a.holds) theirs.0) (subst (λ (st : Stage). IsTicket st r.served) (sym is) turn.0))) in
+      (a.home, ap (λ (u : View). u.seen) (one_at s.views id a.place v a.holder live.0 a.live.0 same) ∙ a.all, turn.0, turn.1))
+      r.where_is
+
+  -- another pass, once the list has an entry more
+  longer_list : (log : List Entry) (count served drawn : ℕ) (e : Entry) (u : View) → Fits terms log count served drawn u → e.maker ≢ u.number
+      → ((k : ℕ) (j : Joined) → get_elem? u.joined k ≡ some j → e.maker ≢ j.number) → Fits terms (log ++ e ∷ []) count served drawn u
+  longer_list log count served drawn e u f other past = record {
+    terms_are = f.terms_are;
+    seen = prefix_longer u.seen log (e ∷ []) f.seen;
+    told = f.told;
+    mine = f.mine ∙ sym (made_other u.number log e other);
+    own = f.own;
+    past = λ k j at. let p = f.past k j at in record { mine = p.mine ∙ sym (made_other j.number log e (past k j at)); few = p.few; other = p.other };
+    few = f.few;
+    first = f.first;
+    turn = f.turn;
+  }
+
+  raised : (s : St) (r : Rule s) (id : ℕ) (v : View) (t : ℕ) (e : Entry) → IsLive s.views id v → v.stage ≡ Holds t → e.maker ≡ v.number
+      → Rule record { words = set s.words 2 ((get_or s.words 2 0 + 1) % 2 ^ 64); homes = s.homes; views = set s.views id (record v { seen = v.seen ++ e ∷ []; mine = made_by v.number (v.seen ++ e ∷ []) }) }
+  raised s r id v t e live is own =
+      let w : View = record v { seen = v.seen ++ e ∷ []; mine = made_by v.number (v.seen ++ e ∷ []) } in
+      let f = r.each id v live in let h = holder_here s r id v live t is in
+      let log : List Entry = r.log ++ e ∷ [] in
+      let all : v.seen ++ e ∷ [] ≡ log = ap (λ (l : List Entry). l ++ e ∷ []) h.1 in
+      let queue = r.queue in
+      let q0 : queued v ≡ queued w = refl in
+      let sums = total_set queued s.views id v w live.0 in
+      changes s r id v w live live.1 log r.drawn r.served
+      (set s.words 2 ((get_or s.words 2 0 + 1) % 2 ^ 64)) s.homes
+      (ap (λ (ws : List ℕ). set ws 2 ((get_or ws 2 0 + 1) % 2 ^ 64)) r.words
+      ∙ ap (λ (k : ℕ). r.drawn % 2 ^ 64 ∷ r.served % 2 ^ 64 ∷ k ∷ []) (let n = length-append r.log (e ∷ []) in omega arith))
+      (omega arith)
+      (λ m more. made_other m r.log e (λ same. let few = f.few in omega arith) ∙ r.makers m more)
+      (record {
+        terms_are = f.terms_are;
+        seen = subst (λ (l : List Entry). IsPrefix l log) (sym all) (prefix_self log);
+        told = prefix_longer v.told v.seen (e ∷ []) f.told;
+        mine = ap (made_by v.number) all;
+        own = refl;
+        past = λ k j at. let p = f.past k j at in record { mine = p.mine ∙ sym (made_other j.number r.log e (λ same. p.other (sym same ∙ own))); few = p.few; other = p.other };
+        few = f.few;
+        first = f.first;
+        turn = f.turn;
+      })
+      (λ j u other l. let g = r.each j u l in let a = r.apart id j v u (λ z. other (sym z)) live l in let b = r.apart j id u v other l live in (
+        longer_list r.log r.count r.served r.drawn e u g (λ same. a.numbers (sym own ∙ same)) (λ k j' at same. b.past k j' at (sym same ∙ own)),
+        record { numbers = a.numbers; tickets = a.tickets; past = a.past },
+        record { numbers = b.numbers; tickets = b.tickets; past = b.past },
+      ))
+      (inr record {
+        home = h.0;
+        place = id;
+        holder = w;
+        ticket = t;
+        live = (set_here s.views id w (at_inside s.views id v live.0), live.1);
+        holds = is;
+        all = all;
+      })
+
+  pub raises : (id slots : ℕ) (me : Me (Option B) View) (t : ℕ) (e : Entry) → me.0.spent ≡ false → me.0.stage ≡ Holds t → e.maker ≡ me.0.number
+      → listed entries me.1 ≡ me.0.seen ++ e ∷ []
+      → Allows Rule slots id me 2 (λ n. (n + 1) % 2 ^ 64)
+      (λ n next. (next.0 ≡ record me.0 { seen = listed entries me.1; mine = made_by me.0.number (listed entries me.1) }) × (next.1 ≡ me.1))
+  raises id slots me t e left is own list s r deep at low = (
+    record me.0 { seen = me.0.seen ++ e ∷ []; mine = made_by me.0.number (me.0.seen ++ e ∷ []) },
+    keeps,
+    tt,
+    raised s r id me.0 t e (at, left) is own,
+    (ap (λ (l : List Entry). let w : View = record me.0 { seen = l; mine = made_by me.0.number l } in w) (sym list), refl),
+  )
+
+  pub leaves : (id slots : ℕ) (me : Me (Option B) View) (t : ℕ) (value : B) → me.0.spent ≡ false → me.0.stage ≡ Holds t
+      → me.1 ≡ (0, Some value) ∷ [] → entries value ≡ me.0.seen → terms_of value ≡ me.0.terms
+      → Allows Rule slots id me 1 (λ n. (n + 1) % 2 ^ 64) (λ n next. (next.0 ≡ record me.0 { stage = Idle }) × (next.1 ≡ []))
+  leaves id slots me t value left is slot list same s r deep at low =
+      let v = me.0 in let w : View = record v { stage = Idle } in let f = r.each id v (at, left) in let h = holder_here s r id v (at, left) t is in
+      let q0 : queued v ≡ 1 = waits_in v left ∙ ap has_ticket is in
+      let q1 : queued w ≡ 0 = waits_in w left in
+      let sums = total_set queued s.views id v w at in
+      let queue = r.queue in
+      let not_now : (j : ℕ) (u : View) → j ≢ id → IsLive s.views j u → IsTicket u.stage r.served → ⊥ =
+      λ j u other l there. (r.apart j id u v other l (at, left)).tickets r.served there (subst (λ (st : Stage). IsTicket st r.served) (sym is) h.2) in (
+        w,
+        gives,
+        tt,
+        changes s r id v w (at, left) left r.log r.drawn (r.served + 1)
+            (set s.words 1 ((get_or s.words 1 0 + 1) % 2 ^ 64)) (put_back s.homes me.1)
+            (ap (λ (ws : List ℕ). set ws 1 ((get_or ws 1 0 + 1) % 2 ^ 64)) r.words ∙ ap (λ (k : ℕ). r.drawn % 2 ^ 64 ∷ k ∷ length r.log % 2 ^ 64 ∷ []) (omega arith))
+            (omega arith)
+            r.makers
+            (restage terms r.log r.count r.served r.drawn (r.served + 1) r.drawn v Idle f tt)
+            (λ j u other l. let g = r.each j u l in let a = r.apart id j v u (λ e. other (sym e)) (at, left) l in let b = r.apart j id u v other l (at, left) in (
+              refit terms r.log r.count r.served r.drawn (r.served + 1) r.drawn u g (turn_next r.served r.drawn u.stage g.turn (not_now j u other l)),
+              record { numbers = a.numbers; tickets = λ x here there. absurd here; past = a.past },
+              record { numbers = b.numbers; tickets = λ x there here. absurd here; past = b.past },
+            ))
+            (inl record {
+              value = value;
+              home = ap (put_back s.homes) slot ∙ ap (λ (hs : Homes). set hs 0 (some (Some value))) h.0;
+              log_is = list ∙ h.1;
+              terms_are = same ∙ f.terms_are;
+              free = live_set (λ _ u. Free u.stage) s.views id w (idle_free Idle refl)
+                  (λ j u other l x holds. let theirs : InTurn r.served r.drawn (Holds x) = subst (InTurn r.served r.drawn) holds (r.each j u l).turn in
+                  not_now j u other l (subst (λ (st : Stage). IsTicket st r.served) (sym holds) theirs.0));
+            }),
+        (refl, ap rest slot),
+      )

@@ -1,0 +1,10 @@
+use Rattle.std.proofs.Common.{rules, arith, ap, ◌∙◌}
+use Rattle.turnstile.proofs.Turning.{looks}
+use Rattle.turnstile.proofs.steps.look.Goals as goal
+
+pub load-requires : goal.load-requires
+load-requires g c = let seat = c.requires.seat in let words = seat.sized.words in let waits = c.requires.waits in (
+  seat.here,
+  omega arith,
+  looks g.B.Kept.entries g.B.Kept.terms (g.B.Kept.terms c.args.top.now.key.value) c.args.place.now.id c.args.top.now.table_id.slots c.args.place.now.me waits.number waits.left waits.stage waits.empty,
+)

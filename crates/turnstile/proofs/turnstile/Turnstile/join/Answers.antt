@@ -1,0 +1,15 @@
+use Rattle.std.proofs.Common.{rules, arith, ◌≡◌, ap, sym, ◌∙◌}
+use Rattle.turnstile.proofs.Parts.{joins}
+use Rattle.turnstile.proofs.turnstile.Turnstile.join.Goals as goal
+
+pub join_seat-requires : goal.join_seat-requires
+join_seat-requires g c =
+    let free = c.rise-place.ensures.free in let theirs = c.rise-theirs.ensures.free in
+    let words = c.self.invariant.words in (
+      sym (ap (λ p. p.id) c.rise-place.ensures.old) ∙ (c.requires.own ∙ sym (ap (λ x. x.id) c.self.view_is)),
+      sym (ap (λ p. p.id) c.rise-theirs.ensures.old) ∙ (c.requires.other ∙ sym (ap (λ x. x.id) c.self.view_is)),
+      theirs.empty,
+      omega arith,
+      joins g.B.Kept.entries g.B.Kept.terms (g.B.Kept.terms c.self.inside.table.shared.key.value) c.rise-place.result.id c.rise-place.result.me.0
+          c.rise-theirs.result.id c.rise-theirs.result.me.0 free.left theirs.left free.idle theirs.idle,
+    )

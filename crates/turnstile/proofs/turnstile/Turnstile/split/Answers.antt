@@ -1,0 +1,13 @@
+use Rattle.std.proofs.Common.{rules, arith, ◌≡◌, ap, sym, ◌∙◌}
+use Rattle.turnstile.proofs.Parts.{splits}
+use Rattle.turnstile.proofs.turnstile.Turnstile.split.Goals as goal
+
+pub split_seat-other-requires : goal.split_seat-other-requires
+split_seat-other-requires g c =
+    let free = c.rise-place.ensures.free in let view = c.rise-place.ensures.view in let old = c.rise-place.ensures.old in
+    let words = c.self.invariant.words in let count = view.splits_is in let few = c.requires.few in (
+      sym (ap (λ p. p.id) old) ∙ (c.requires.own ∙ sym (ap (λ x. x.id) c.self.view_is)),
+      omega arith,
+      splits g.B.Kept.entries g.B.Kept.terms (g.B.Kept.terms c.self.inside.table.shared.key.value) c.rise-place.result.id c.rise-place.result.me.0
+          free.left free.idle (view.number_is ∙ c.requires.first) (omega arith),
+    )

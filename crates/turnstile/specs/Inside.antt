@@ -1,0 +1,43 @@
+-- How a pass is kept: its view rests in it, but while it has the turn.
+use Rattle.std.specs.Prelude.{◌≡◌, ℕ, ◌<◌, ◌^◌, Bool, true, false, List, [], ◌∷◌}
+use Rattle.turnstile.specs.declared.pass.Pass.TheInside.{Inside}
+use Rattle.turnstile.specs.declared.view.Stage.TheVariants.{Idle}
+use Rattle.turnstile.specs.declared.view.View.{View}
+use Rattle.admission.specs.Makers.{made_by}
+use Rattle.turnstile.specs.Passes.{Standing}
+use Rattle.turnstile.specs.Steps.{spent_view}
+
+abbrev pub resting : List View → View
+resting [] = spent_view
+resting (v ∷ rest) = v
+
+abbrev pub is_away : List View → Bool
+is_away [] = true
+is_away (v ∷ rest) = false
+
+abbrev pub standing_of : Inside → Standing
+standing_of p = record {
+  id = p.badge.table_id;
+  has_turn = is_away p.badge.views;
+  number = p.number;
+  terms = (resting p.badge.views).terms;
+  seen = (resting p.badge.views).seen;
+  mine = (resting p.badge.views).mine;
+  splits = p.splits;
+  joined = (resting p.badge.views).joined;
+}
+
+pub record IsResting (v : View) (number splits : ℕ) : Type 0 where
+  pub left : v.spent ≡ false
+  pub idle : v.stage ≡ Idle
+  pub number_is : v.number ≡ number
+  pub splits_is : v.splits ≡ splits
+  pub own : v.mine ≡ made_by v.number v.seen
+
+abbrev pub Rests : List View → ℕ → ℕ → Type 0
+Rests [] number splits = Unit {0}
+Rests (v ∷ []) number splits = IsResting v number splits
+Rests (v ∷ w ∷ rest) number splits = ⊥
+
+abbrev pub IsPass : Inside → Type 0
+IsPass p = Rests p.badge.views p.number p.splits

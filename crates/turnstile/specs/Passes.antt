@@ -1,0 +1,94 @@
+-- What contracts see of a turnstile and of its passes.
+use Rattle.std.specs.Prelude.{◌≡◌, ◌⊎◌, ℕ, ◌+◌, ◌<◌, ◌≤◌, Bool, false, if◌then◌else◌, ltb, List, [], ◌∷◌, ◌++◌, length, slice_index_or}
+use mathlib.Core.List.{IsPrefix}
+use Rattle.atomic_table.specs.Seated.{TableId}
+use Rattle.admission.specs.declared.entries.Entry.{Entry}
+use Rattle.turnstile.specs.declared.view.Joined.{Joined}
+use Rattle.admission.specs.Makers.{Placed}
+use Rattle.turnstile.specs.declared.view.Terms.{Terms}
+use Rattle.admission.specs.Makers.{made_by}
+
+-- which turnstile it is, and what stays of the kept value
+pub record Gate : Type 0 where
+  pub id : TableId
+  pub terms : Terms
+
+-- a pass: the turnstile that made it, whether it has the turn, its number, what stays of the kept value, the list as it has seen
+-- it, its own entries in it, how many passes were split from it, and what those that were joined to it had made
+pub record Standing : Type 0 where
+  pub id : TableId
+  pub has_turn : Bool
+  pub number : ℕ
+  pub terms : Terms
+  pub seen : List Entry
+  pub mine : List Placed
+  pub splits : ℕ
+  pub joined : List Joined
+
+-- a pass of this number was joined
+abbrev pub IsJoined : List Joined → ℕ → Type 0
+IsJoined [] number = ⊥
+IsJoined (j ∷ rest) number = (j.number ≡ number) ⊎ IsJoined rest number
+
+-- the first pass of a turnstile
+abbrev pub first_pass : Gate → Standing
+first_pass gate = record {
+  id = gate.id;
+  has_turn = false;
+  number = 0;
+  terms = gate.terms;
+  seen = [];
+  mine = [];
+  splits = 0;
+  joined = [];
+}
+
+-- a pass after one more was split from it
+abbrev pub after_split : Standing → Standing
+after_split pass = record pass { splits = pass.splits + 1 }
+
+-- the pass that was split from it
+abbrev pub new_pass : Standing → Standing
+new_pass pass = record {
+  id = pass.id;
+  has_turn = false;
+  number = pass.splits + 1;
+  terms = pass.terms;
+  seen = pass.seen;
+  mine = [];
+  splits = 0;
+  joined = [];
+}
+
+-- the longer of two lists
+abbrev pub longer : List Entry → List Entry → List Entry
+longer xs ys = if (ltb (length xs) (length ys)) then ys else xs
+
+-- a pass after another was joined to it
+abbrev pub after_join : Standing → Standing → Standing
+after_join pass other = record pass {
+  seen = longer pass.seen other.seen;
+  joined = pass.joined ++ record { number = other.number; mine = other.mine } ∷ other.joined;
+}
+
+-- every pass that was split from the first one was joined
+pub record AllJoined (standing : Standing) : Type 0 where
+  pub each : (number : ℕ) → 0 < number → number ≤ standing.splits → IsJoined standing.joined number
+
+-- the list is as it was seen, or has one more entry, of this maker
+abbrev pub MayLeave : List Entry → ℕ → List Entry → Type 0
+MayLeave seen maker list = (list ≡ seen) ⊎ ((e : Entry) × (list ≡ seen ++ e ∷ []) × (e.maker ≡ maker))
+
+-- a turn: the pass as it was when it took it, and the value
+pub record Turning (B : Type 0) : Type 0 where
+  pub pass : Standing
+  pub value : B
+
+-- The list once all passes are back in the first one: it begins with what that one has seen, and each entry in it is of the
+-- first pass or of one that was joined, as they know it.
+pub record IsWhole (pass : Standing) (list : List Entry) : Type 0 where
+  pub seen : IsPrefix pass.seen list
+  pub mine : pass.mine ≡ made_by pass.number list
+  pub joined : (i : ℕ) (none : Joined) → i < length pass.joined →
+      (slice_index_or pass.joined i none).mine ≡ made_by (slice_index_or pass.joined i none).number list
+  pub others : (maker : ℕ) → pass.splits < maker → made_by maker list ≡ []

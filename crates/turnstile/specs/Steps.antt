@@ -1,0 +1,107 @@
+-- What each kind of step tells its pass.
+use Rattle.std.specs.Prelude.{◌≡◌, ◌≢◌, ◌⊎◌, ℕ, ◌+◌, ◌%◌, ◌^◌, ◌<◌, Bool, true, false, List, [], ◌∷◌, ◌++◌, length, Option, Some, None, if◌then◌else◌, ltb}
+use mathlib.Core.List.{IsPrefix}
+use Rattle.atomic_table.specs.Table.{Me}
+use Rattle.admission.specs.declared.entries.Entry.{Entry}
+use Rattle.turnstile.specs.declared.view.Joined.{Joined}
+use Rattle.turnstile.specs.declared.view.Stage.{Stage}
+use Rattle.turnstile.specs.declared.view.Stage.TheVariants.{Idle, Waits, Holds}
+use Rattle.turnstile.specs.declared.view.Terms.{Terms}
+use Rattle.turnstile.specs.declared.view.View.{View}
+use Rattle.admission.specs.Makers.{made_by}
+use Rattle.turnstile.specs.Passes.{longer}
+
+abbrev pub shorter : List Entry → List Entry → List Entry
+shorter xs ys = if (ltb (length xs) (length ys)) then xs else ys
+
+-- the ticket of a stage; 0 where there is none
+abbrev pub ticket_of : Stage → ℕ
+ticket_of Idle = 0
+ticket_of (Waits t) = t
+ticket_of (Holds t) = t
+
+-- the first pass, before any step
+abbrev pub beginner : Terms → View
+beginner terms = record { spent = false; number = 0; stage = Idle; terms = terms; seen = []; told = []; mine = []; splits = 0; joined = [] }
+
+-- a pass after one more split
+abbrev pub splitter : View → View
+splitter v = record v { splits = v.splits + 1 }
+
+-- the pass that is split from it
+abbrev pub newcomer : View → View
+newcomer v = record { spent = false; number = v.splits + 1; stage = Idle; terms = v.terms; seen = v.seen; told = []; mine = []; splits = 0; joined = [] }
+
+abbrev pub past_of : View → Joined
+past_of w = record { number = w.number; mine = w.mine }
+
+-- a pass after another was joined to it
+abbrev pub joiner : View → View → View
+joiner v w = record v { seen = longer v.seen w.seen; told = shorter v.seen w.seen; joined = v.joined ++ past_of w ∷ w.joined }
+
+-- what is left of the other
+abbrev pub spent_view : View
+spent_view = record { spent = true; number = 0; stage = Idle; terms = record { steps = []; limit = 0 }; seen = []; told = []; mine = []; splits = 0; joined = [] }
+
+-- a pass that reads what it knows
+pub record Knows (v : View) : Type 0 where
+  pub own : v.mine ≡ made_by v.number v.seen
+  pub told : IsPrefix v.told v.seen
+
+module _ {B : Type 0} (entries : B → List Entry) (terms_of : B → Terms) where
+  -- the pass has the turn of its ticket, and the slot with the value, which begins with all that it had seen
+  pub record Took (t : ℕ) (me next : Me (Option B) View) : Type 0 where
+    pub value : B
+    pub view : next.0 ≡ record me.0 { stage = Holds t; seen = entries value }
+    pub slot : next.1 ≡ (0, Some value) ∷ []
+    pub terms : terms_of value ≡ me.0.terms
+    pub longer : IsPrefix me.0.seen (entries value)
+    pub own : me.0.mine ≡ made_by me.0.number (entries value)
+
+module _ {B : Type 0} (entries : B → List Entry) where
+  abbrev pub listed_in : Option B → List Entry
+  listed_in None = []
+  listed_in (Some value) = entries value
+
+  -- the list of the value in the slot that was taken last
+  abbrev pub listed : List (ℕ × Option B) → List Entry
+  listed [] = []
+  listed (x ∷ rest) = listed_in x.1
+
+module _ {B : Type 0} where
+  abbrev pub Drew : Me (Option B) View → ℕ → Me (Option B) View → Type 0
+  Drew me n next = (t : ℕ) × (n ≡ t % 2 ^ 64) × (next.0 ≡ record me.0 { stage = Waits t }) × (next.1 ≡ [])
+
+  abbrev pub Left : Me (Option B) View → ℕ → Me (Option B) View → Type 0
+  Left me n next = (next.0 ≡ record me.0 { stage = Idle }) × (next.1 ≡ [])
+
+  abbrev pub Told : Me (Option B) View → ℕ → Me (Option B) View → Type 0
+  Told me n next = (next ≡ me) × Knows me.0
+
+  -- a pass that waits for the turn of its ticket
+  pub record IsWaiting (me : Me (Option B) View) (ticket : ℕ) : Type 0 where
+    pub number : ℕ
+    pub stage : me.0.stage ≡ Waits number
+    pub word : ticket ≡ number % 2 ^ 64
+    pub left : me.0.spent ≡ false
+    pub empty : me.1 ≡ []
+
+  -- a pass that has the turn, with this in the slot
+  pub record IsTurn (me : Me (Option B) View) (slot : Option B) : Type 0 where
+    pub number : ℕ
+    pub stage : me.0.stage ≡ Holds number
+    pub left : me.0.spent ≡ false
+    pub held : me.1 ≡ (0, slot) ∷ []
+
+module _ {B : Type 0} (entries : B → List Entry) where
+  -- the pass once the word counts the entries of the value in its slot
+  abbrev pub noted : Me (Option B) View → Me (Option B) View
+  noted me = (record me.0 { seen = listed entries me.1; mine = made_by me.0.number (listed entries me.1) }, me.1)
+
+  abbrev pub Raised : Me (Option B) View → ℕ → Me (Option B) View → Type 0
+  Raised me n next = (next.0 ≡ (noted me).0) × (next.1 ≡ me.1)
+
+module _ {B : Type 0} (entries : B → List Entry) (terms_of : B → Terms) where
+  abbrev pub Looked : Me (Option B) View → ℕ → Me (Option B) View → Type 0
+  Looked me n next =
+      (t : ℕ) → me.0.stage ≡ Waits t → (n ≡ t % 2 ^ 64 → Took entries terms_of t me next) × (n ≢ t % 2 ^ 64 → next ≡ me)

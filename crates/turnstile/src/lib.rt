@@ -1,0 +1,18 @@
+//! A turn by ticket: one caller at a time has the value that all share, in the order in which they drew their tickets.
+#![tactic(auto)]
+
+mod kept;
+mod pass;
+mod splits;
+mod steps;
+mod table;
+mod taking;
+mod turn;
+mod turnstile;
+mod view;
+
+pub use kept::Kept;
+pub use pass::Pass;
+pub use turn::Turn;
+pub use turnstile::Turnstile;
+pub use view::{Joined, Made, Stage, Terms, View};

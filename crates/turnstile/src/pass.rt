@@ -1,0 +1,74 @@
+ghost use Rattle.std.specs.Prelude.{◌≡◌, false, true};
+ghost use Rattle.turnstile.specs.Sized.{IsFree};
+ghost use Rattle.turnstile.specs.Taken.{IsViewOf, stands_as};
+
+use crate::table::Place;
+use crate::view::View;
+use atomic_table::Badge;
+use std::marker::Model;
+use std::mem;
+
+/// The right of one caller to take turns. Its number is the maker of the entries that it makes.
+///
+/// Contracts see its turnstile, its number, the list as far as it has seen it, its own entries with their places, how many passes
+/// were split from it, and what those that were joined to it had made; and whether it has the turn.
+#[derive(Drop)]
+pub struct Pass {
+    badge: Badge<View>,
+    number: u32,
+    splits: u32,
+}
+
+impl Model for Pass {
+    ghost use Rattle.turnstile.specs.Passes.{Standing};
+
+    ghost Value = { Standing };
+
+    ghost use Rattle.turnstile.specs.Inside.{standing_of, IsPass};
+
+    ghost view = { standing_of };
+
+    ghost invariant = { IsPass };
+}
+
+impl Pass {
+    /// Its number: 0 for the first pass.
+    pub fn number(&self) -> u32
+        ensures { result ≡ self.now.number }
+    {
+        self.number
+    }
+
+    /// How many passes were split from it.
+    pub(crate) fn splits(&self) -> u32
+        ensures { result ≡ self.now.splits }
+    {
+        self.splits
+    }
+
+    /// A pass that rests.
+    pub(crate) fn resting<B>(place: Place<B>, number: u32, splits: u32) -> Pass
+        requires free { IsFree place.me }
+        requires view { IsViewOf number splits place.me.0 }
+        ensures { result ≡ stands_as place.table_id place.me.0 }
+    {
+        Pass {
+            badge: place.into_badge(),
+            number,
+            splits,
+        }
+    }
+
+    /// Takes the seat of a pass that rests.
+    pub(crate) fn rise<B>(&mut self) -> Place<B>
+        requires { self.old.has_turn ≡ false }
+        ensures free { IsFree result.me }
+        ensures view { IsViewOf self.old.number self.old.splits result.me.0 }
+        ensures old { self.old ≡ stands_as result.table_id result.me.0 }
+        ensures away { self.new.has_turn ≡ true }
+        ensures number { self.new.number ≡ self.old.number }
+        ensures splits { self.new.splits ≡ self.old.splits }
+    {
+        mem::replace(&mut self.badge, Badge::blank()).into_seat()
+    }
+}

@@ -1,0 +1,21 @@
+//! How a pass is split, and how two are joined.
+ghost use Rattle.turnstile.specs.Steps.{joiner, newcomer, spent_view, splitter};
+
+use crate::view::View;
+use atomic_table::{Join, Split};
+
+pub(crate) struct Splits;
+
+impl Split<View> for Splits {
+    ghost left = { splitter };
+
+    ghost right = { newcomer };
+}
+
+pub(crate) struct Joins;
+
+impl Join<View> for Joins {
+    ghost both = { joiner };
+
+    ghost spent = { spent_view };
+}

@@ -1,0 +1,114 @@
+//! Each atomic step of the turn, as a small function.
+ghost use Rattle.std.specs.Prelude.{◌≡◌, ◌++◌, [], ◌∷◌, Some, false, true};
+ghost use Rattle.admission.specs.declared.entries.Entry.{Entry};
+ghost use Rattle.turnstile.specs.declared.view.Stage.TheVariants.{Idle};
+ghost use Rattle.admission.specs.Makers.{made_by};
+ghost use Rattle.turnstile.specs.Sized.{IsSame, IsSeated, IsFree};
+ghost use Rattle.turnstile.specs.Steps.{Drew, IsTurn, IsWaiting, Knows, Left, Looked, Raised, Told, listed, noted};
+
+use crate::kept::Kept;
+use crate::table::{ENTRIES, Place, SERVING, TICKETS, Top};
+use crate::view::View;
+use atomic_table::Play;
+use std::marker::PhantomData;
+
+pub(crate) struct Draws;
+
+impl<B> Play<Option<B>, View> for Draws {
+    ghost then = { λ _. Drew };
+}
+
+pub(crate) struct Looks<B> {
+    marker: PhantomData<B>,
+}
+
+impl<B: Kept> Play<Option<B>, View> for Looks<B> {
+    ghost then = { λ _. Looked B.entries B.terms };
+}
+
+pub(crate) struct Raises<B> {
+    marker: PhantomData<B>,
+}
+
+impl<B: Kept> Play<Option<B>, View> for Raises<B> {
+    ghost then = { λ _. Raised B.entries };
+}
+
+pub(crate) struct Leaves;
+
+impl<B> Play<Option<B>, View> for Leaves {
+    ghost then = { λ _. Left };
+}
+
+pub(crate) struct Tells;
+
+impl<B> Play<Option<B>, View> for Tells {
+    ghost then = { λ _. Told };
+}
+
+/// Draws a ticket.
+pub(crate) fn draw<B: Kept>(top: &Top<B>, place: &mut Place<B>) -> u64
+    requires seat { IsSeated top.now.table_id place.old }
+    requires free { IsFree place.old.me }
+    ensures same { IsSame place.old place.new }
+    ensures drew { Drew place.old.me result place.new.me }
+{
+    top.fetch_add::<Draws>(place, TICKETS, 1)
+}
+
+/// Looks whose turn it is: where it is that of this pass's ticket, the pass has the turn and the slot.
+pub(crate) fn look<B: Kept>(top: &Top<B>, place: &mut Place<B>, ticket: u64) -> u64
+    requires seat { IsSeated top.now.table_id place.old }
+    requires waits { IsWaiting place.old.me ticket }
+    ensures same { IsSame place.old place.new }
+    ensures looked { Looked B.entries B.terms place.old.me result place.new.me }
+{
+    top.load::<Looks<B>>(place, SERVING)
+}
+
+/// Counts the entry that the value in the slot has more.
+pub(crate) fn raise<B: Kept>(top: &Top<B>, place: &mut Place<B>)
+    requires seat { IsSeated top.now.table_id place.old }
+    requires turn { (value : B) × IsTurn place.old.me (Some value) }
+    requires one { (e : Entry) × (listed B.entries place.old.me.1 ≡ place.old.me.0.seen ++ e ∷ []) × (e.maker ≡ place.old.me.0.number) }
+    ensures same { IsSame place.old place.new }
+    ensures raised { place.new.me ≡ noted B.entries place.old.me }
+{
+    top.fetch_add::<Raises<B>>(place, ENTRIES, 1);
+}
+
+/// Gives the slot back, and the turn to the next ticket.
+pub(crate) fn give_back<B: Kept>(top: &Top<B>, place: &mut Place<B>)
+    requires seat { IsSeated top.now.table_id place.old }
+    requires turn { (value : B) × IsTurn place.old.me (Some value) × (B.entries value ≡ place.old.me.0.seen) × (B.terms value ≡ place.old.me.0.terms) }
+    ensures same { IsSame place.old place.new }
+    ensures left { (place.new.me.0 ≡ record place.old.me.0 { stage = Idle }) × (place.new.me.1 ≡ []) }
+{
+    top.fetch_add::<Leaves>(place, SERVING, 1);
+}
+
+/// Reads what the pass knows, which stays.
+pub(crate) fn tell<B: Kept>(top: &Top<B>, place: &mut Place<B>)
+    requires seat { IsSeated top.now.table_id place.old }
+    requires left { place.old.me.0.spent ≡ false }
+    ensures same { IsSame place.old place.new }
+    ensures told { (place.new.me ≡ place.old.me) × Knows place.old.me.0 }
+{
+    top.load::<Tells>(place, TICKETS);
+}
+
+/// Counts the entry that the value in the slot has more, if it has one.
+pub(crate) fn settle<B: Kept>(top: &Top<B>, place: &mut Place<B>, grown: bool)
+    requires seat { IsSeated top.now.table_id place.old }
+    requires turn { (value : B) × IsTurn place.old.me (Some value) }
+    requires own { place.old.me.0.mine ≡ made_by place.old.me.0.number place.old.me.0.seen }
+    requires one { grown ≡ true → (e : Entry)
+        × (listed B.entries place.old.me.1 ≡ place.old.me.0.seen ++ e ∷ []) × (e.maker ≡ place.old.me.0.number) }
+    requires none { grown ≡ false → listed B.entries place.old.me.1 ≡ place.old.me.0.seen }
+    ensures same { IsSame place.old place.new }
+    ensures noted { place.new.me ≡ noted B.entries place.old.me }
+{
+    if grown {
+        raise(top, place);
+    }
+}

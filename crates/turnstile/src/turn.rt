@@ -1,0 +1,83 @@
+ghost use Rattle.std.specs.Prelude.{◌≡◌, Some, None};
+ghost use Rattle.std.specs.Borrow.{sem};
+ghost use Rattle.turnstile.specs.Lending.{LendsValue};
+ghost use Rattle.turnstile.specs.Passes.{MayLeave};
+ghost use Rattle.admission.specs.Makers.{made_by};
+ghost use Rattle.turnstile.specs.Sized.{IsFree, IsSeated, IsSized};
+ghost use Rattle.turnstile.specs.Steps.{IsTurn};
+ghost use Rattle.turnstile.specs.Taken.{IsViewOf, stands_as};
+
+use crate::kept::Kept;
+use crate::steps::{give_back, settle};
+use crate::table::{Place, Top, VALUE};
+use std::marker::Model;
+
+/// The turn of a pass, with the value. It must be handed to `Turnstile::leave`.
+///
+/// Contracts see the pass as it was when it took the turn, and the value.
+pub struct Turn<B: Kept> {
+    seat: Place<B>,
+    value: B,
+    before: u64,
+}
+
+impl<B: Kept> Model for Turn<B> {
+    ghost use Rattle.turnstile.specs.Passes.{Turning};
+
+    ghost Value = { Turning B };
+
+    ghost use Rattle.turnstile.specs.Taken.{IsTaken, stands_as};
+
+    ghost view = { λ t. record { pass = stands_as t.seat.table_id t.seat.me.0; value = t.value } };
+
+    ghost invariant = { λ t. IsTaken t.seat t.before };
+}
+
+impl<B: Kept> Turn<B> {
+    pub(crate) fn begin(seat: Place<B>, value: B) -> Turn<B>
+        requires turn { IsTurn seat.me None }
+        requires list { B.entries value ≡ seat.me.0.seen }
+        requires own { seat.me.0.mine ≡ made_by seat.me.0.number seat.me.0.seen }
+        ensures { result ≡ record { pass = stands_as seat.table_id seat.me.0; value = value } }
+    {
+        let before = value.count();
+        Turn {
+            seat,
+            value,
+            before,
+        }
+    }
+
+    /// Puts the value back, counts the entry that its list has more, and gives the turn to the next.
+    pub(crate) fn end(self, top: &Top<B>) -> Place<B>
+        requires sized { IsSized top.now.table_id }
+        requires here { self.pass.id ≡ top.now.table_id }
+        requires list { MayLeave self.pass.seen self.pass.number (B.entries self.value) }
+        requires terms { B.terms self.value ≡ self.pass.terms }
+        ensures free { IsFree result.me }
+        ensures here { result.table_id ≡ self.pass.id }
+        ensures view { IsViewOf self.pass.number self.pass.splits result.me.0 }
+        ensures pass { stands_as result.table_id result.me.0
+            ≡ record self.pass { seen = B.entries self.value; mine = made_by self.pass.number (B.entries self.value) } }
+    {
+        let Turn {
+            mut seat,
+            value,
+            before,
+        } = self;
+        let grown = value.count() != before;
+        let empty = top.exchange(&mut seat, VALUE, Some(value));
+        let None = empty else { unreachable!() };
+        settle(top, &mut seat, grown);
+        give_back(top, &mut seat);
+        seat
+    }
+
+    /// The value.
+    pub fn value(&mut self) -> &mut B
+        ensures* writes_back { sem 𝓛 (LendsValue B.row B.Kept self.entry result) }
+        ensures value { result.now ≡ self.old.value }
+    {
+        &mut self.value
+    }
+}

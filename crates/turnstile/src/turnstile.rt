@@ -1,0 +1,148 @@
+ghost use Rattle.std.specs.Prelude.{◌≡◌, ◌≢◌, ◌+◌, ◌^◌, ◌<◌, [], ◌∷◌, ◌++◌, IfOk, true, false};
+ghost use mathlib.Core.List.{IsPrefix};
+ghost use Rattle.admission.specs.Makers.{made_by};
+ghost use Rattle.turnstile.specs.Passes.{AllJoined, IsWhole, MayLeave, after_join, after_split, first_pass, new_pass};
+
+use crate::kept::Kept;
+use crate::pass::Pass;
+use crate::splits::{Joins, Splits};
+use crate::steps::tell;
+use crate::table::{Board, SERVING, VALUE};
+use crate::taking::take;
+use crate::turn::Turn;
+use atomic_table::{Refused, Table};
+use std::alloc::Global;
+use std::marker::Model;
+use std::snapshot::Snapshot;
+use std::sync::Wait;
+use vod_base::NoMemory;
+
+/// A value that one pass at a time has. Passes take turns in the order in which they drew their tickets, and sleep while they wait.
+///
+/// Contracts see which turnstile it is, and what stays of the value.
+#[derive(Drop)]
+pub struct Turnstile<B: Kept> {
+    table: Board<B>,
+}
+
+impl<B: Kept> Model for Turnstile<B> {
+    ghost use Rattle.turnstile.specs.Passes.{Gate};
+
+    ghost Value = { Gate };
+
+    ghost use Rattle.turnstile.specs.Sized.{IsSized};
+
+    ghost view = { λ t. record { id = t.table.shared.table_id; terms = B.terms t.table.shared.key.value } };
+
+    ghost invariant = { λ t. IsSized t.table.shared.table_id };
+}
+
+impl<B: Kept> Turnstile<B> {
+    /// A turnstile round a value whose list is empty, and its first pass.
+    ///
+    /// # Errors
+    ///
+    /// [`NoMemory`] where there is none. No other call takes memory.
+    pub fn new(alloc: Global, kept: B) -> Result<(Turnstile<B>, Pass), NoMemory>
+    where
+        B: Drop,
+        requires { B.entries kept ≡ [] }
+        ensures terms { IfOk result (λ made. made.0.terms ≡ B.terms kept) }
+        ensures pass { IfOk result (λ made. made.1 ≡ first_pass made.0) }
+    {
+        let about = Snapshot::of(&kept);
+        let Ok(mut slots) = Vec::with_capacity(alloc, 1) else {
+            return Err(NoMemory);
+        };
+        slots.push_reserved(Some(kept));
+        match Table::new(alloc, &[0, 0, 0], slots, &about) {
+            Ok((table, seat)) => Ok((Turnstile { table }, Pass::resting(seat, 0, 0))),
+            Err(_) => Err(NoMemory),
+        }
+    }
+
+    /// Waits for the turn of the pass, and takes the value.
+    pub fn enter<R: Wait>(&self, rt: &R, pass: &mut Pass) -> Turn<B>
+        requires own { pass.old.id ≡ self.now.id }
+        requires free { pass.old.has_turn ≡ false }
+        ensures away { pass.new.has_turn ≡ true }
+        ensures number { pass.new.number ≡ pass.old.number }
+        ensures splits { pass.new.splits ≡ pass.old.splits }
+        ensures pass { result.pass ≡ record pass.old { seen = B.entries result.value } }
+        ensures longer { IsPrefix pass.old.seen (B.entries result.value) }
+        ensures own { pass.old.mine ≡ made_by pass.old.number (B.entries result.value) }
+        ensures terms { B.terms result.value ≡ pass.old.terms }
+    {
+        let place = pass.rise();
+        take(rt, &self.table.shared, place)
+    }
+
+    /// Gives the value back, and the turn to the next ticket. The list is as it was at `enter`, or has one more entry, of this pass.
+    pub fn leave(&self, pass: &mut Pass, turn: Turn<B>)
+        requires own { turn.pass.id ≡ self.now.id }
+        requires away { pass.old.has_turn ≡ true }
+        requires number { turn.pass.number ≡ pass.old.number }
+        requires splits { turn.pass.splits ≡ pass.old.splits }
+        requires list { MayLeave turn.pass.seen turn.pass.number (B.entries turn.value) }
+        requires terms { B.terms turn.value ≡ turn.pass.terms }
+        ensures { pass.new ≡ record turn.pass { seen = B.entries turn.value; mine = made_by turn.pass.number (B.entries turn.value) } }
+    {
+        let place = turn.end(&self.table.shared);
+        self.table.shared.wake_all(SERVING);
+        *pass = Pass::resting(place, pass.number(), pass.splits());
+    }
+
+    /// A new pass, which has seen as much. The k-th that is split has the number k.
+    pub fn split(&self, pass: &mut Pass) -> Pass
+        requires own { pass.old.id ≡ self.now.id }
+        requires free { pass.old.has_turn ≡ false }
+        requires first { pass.old.number ≡ 0 }
+        requires few { pass.old.splits + 1 < 2 ^ 32 }
+        ensures same { pass.new ≡ after_split pass.old }
+        ensures new { result ≡ new_pass pass.old }
+        ensures none { made_by result.number result.seen ≡ [] }
+    {
+        let mut place = pass.rise();
+        let mut other = self.table.shared.split_seat::<Splits>(&mut place);
+        tell(&self.table.shared, &mut other);
+        let splits = pass.splits() + 1;
+        *pass = Pass::resting(place, 0, splits);
+        Pass::resting(other, splits, 0)
+    }
+
+    /// Takes in what another pass has seen and made.
+    pub fn join(&self, pass: &mut Pass, mut other: Pass)
+        requires own { pass.old.id ≡ self.now.id }
+        requires free { pass.old.has_turn ≡ false }
+        requires other { other.id ≡ self.now.id }
+        requires other_free { other.has_turn ≡ false }
+        requires not_first { other.number ≢ 0 }
+        ensures pass { pass.new ≡ after_join pass.old other }
+        ensures longer { IsPrefix pass.old.seen pass.new.seen }
+        ensures told { IsPrefix other.seen pass.new.seen }
+        ensures own { pass.new.mine ≡ made_by pass.new.number pass.new.seen }
+    {
+        let mut place = pass.rise();
+        let theirs = other.rise();
+        self.table.shared.join_seat::<Joins>(&mut place, theirs);
+        tell(&self.table.shared, &mut place);
+        *pass = Pass::resting(place, pass.number(), pass.splits());
+    }
+
+    /// The value, once every pass was joined to the first one.
+    pub fn close(self, mut pass: Pass) -> B
+        requires own { pass.id ≡ self.id }
+        requires free { pass.has_turn ≡ false }
+        requires first { pass.number ≡ 0 }
+        requires all { AllJoined pass }
+        ensures whole { IsWhole pass (B.entries result) }
+        ensures terms { B.terms result ≡ pass.terms }
+    {
+        let Turnstile { table } = self;
+        let mut closed = table.close_with(pass.rise());
+        let slot = closed.take(VALUE);
+        closed.free();
+        let Some(value) = slot else { unreachable!() };
+        value
+    }
+}
