@@ -212,30 +212,44 @@ impl<R: Clock> TcpLink<'_, R> {
         Ok(Heard::End)
     }
 
-    /// Writes all gathered bytes and ends the sending side, and then waits a little for the peer to end, so that a last reply
-    /// isn't lost where the peer sent more.
-    fn close(&mut self) -> io::Result<()> {
+    /// Writes all gathered bytes, within the time that a peer has for them.
+    fn flush_all(&mut self) -> io::Result<()> {
+        let begun = Instant::now(self.rt)?;
+        let patience = Duration::from_secs(PATIENCE);
         for _ in 0..u64::MAX {
             self.flush()?;
-            if self.gathered.waiting().is_empty() {
+            let waited = begun.elapsed(self.rt)?;
+            if self.gathered.waiting().is_empty() || waited >= patience {
                 break;
             }
-            self.wait(Duration::from_secs(PATIENCE))?;
+            self.wait(patience.saturating_sub(waited))?;
         }
-        self.socket.shutdown(Shutdown::Write)?;
-        let mut dropped = [0; 1024];
+        Ok(())
+    }
+
+    /// Waits a little for the peer to end, and drops what it still sends.
+    fn linger(&mut self) -> io::Result<()> {
         let begun = Instant::now(self.rt)?;
-        let linger = Duration::from_secs(LINGER);
+        let most = Duration::from_secs(LINGER);
+        let mut dropped = [0; 1024];
         for _ in 0..u64::MAX {
             let waited = begun.elapsed(self.rt)?;
-            if waited >= linger || self.read(&mut dropped)? == Some(0) {
+            if waited >= most || self.read(&mut dropped)? == Some(0) {
                 break;
             }
             if !self.readable {
-                self.wait(linger.saturating_sub(waited))?;
+                self.wait(most.saturating_sub(waited))?;
             }
         }
         Ok(())
+    }
+
+    /// Writes all gathered bytes and ends the sending side. It reads on for a little: a socket that is closed with bytes unread
+    /// is reset, and a last reply that is on its way is lost.
+    fn close(&mut self) -> io::Result<()> {
+        self.flush_all()?;
+        self.socket.shutdown(Shutdown::Write)?;
+        self.linger()
     }
 
     /// Ends the connection. A fault is no matter any more.
