@@ -1,5 +1,5 @@
 -- How an answer is kept: with room for all starts.
-use Rattle.std.specs.Prelude.{◌+◌, ◌≤◌, vec_capacity}
+use Rattle.std.specs.Prelude.{◌+◌, ◌≤◌, length, vec_capacity}
 use Rattle.early_start.specs.Offered.{Found}
 use Rattle.early_start.specs.declared.Offers.TheInside.{Inside}
 
@@ -8,4 +8,5 @@ found_of offers = record { wait = offers.wait; start = offers.start; tried = off
 
 pub record IsKept (offers : Inside) : Type 0 where
   pub few : offers.wait ≤ 255
+  pub few_tried : length offers.tried.items ≤ offers.wait + 1
   pub room : offers.wait + 1 ≤ vec_capacity offers.tried

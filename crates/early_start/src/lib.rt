@@ -3,8 +3,11 @@
 #![tactic(auto)]
 
 ghost use Rattle.std.specs.Prelude.{◌≡◌, ◌+◌, ◌^◌, ◌<◌, ◌≤◌, None, [], IfOk, MatchOption, length, vec_len, vec_capacity};
-ghost use Rattle.early_start.specs.Offered.{AreRefusals, CanStart, IsOffer, IsStart};
+ghost use Rattle.early_start.specs.Offered.{AreRefusalsIn, IsOfferIn, IsStartIn};
 
+mod laws;
+
+pub use laws::{law_offer_of_plays, law_one_offer};
 use plan_cert::Plan;
 use slot_calendar::{Calendar, Overflow};
 use std::alloc::Global;
@@ -42,7 +45,7 @@ impl Model for Offers {
 }
 
 /// The most slots that a play may start later than the first one.
-pub const MOST_WAIT: u64 = 255;
+pub const MAX_WAIT: u64 = 255;
 
 /// Tries the starts from `first` on, up to `wait` slots later, until the plan fits.
 fn search(
@@ -57,8 +60,8 @@ fn search(
     requires wait { wait ≤ 255 }
     requires empty { tried.old.items ≡ [] }
     requires room { wait + 1 ≤ vec_capacity tried.old }
-    ensures refusals { AreRefusals calendar.now plan.now first tried.new.items }
-    ensures start { IsStart calendar.now plan.now first wait (length tried.new.items) result }
+    ensures refusals { AreRefusalsIn calendar.now plan.now first tried.new.items }
+    ensures start { IsStartIn calendar.now plan.now first wait (length tried.new.items) result }
     ensures room { vec_capacity tried.old ≤ vec_capacity tried.new }
 {
     for later in 0..wait + 1 {
@@ -69,17 +72,6 @@ fn search(
         tried.push_reserved(Tried { start, over });
     }
     None
-}
-
-/// One calendar, plan and first start have one answer within a wait.
-pub fn law_one_offer(calendar: &Calendar, plan: &Plan, first: u64, one: &Offers, other: &Offers)
-    requires wait { one.now.wait ≡ other.now.wait }
-    requires one { IsOffer calendar.now plan.now first one.now }
-    requires other { IsOffer calendar.now plan.now first other.now }
-    ensures start { one.now.start ≡ other.now.start }
-    ensures tried { one.now.tried ≡ other.now.tried }
-{
-    let _read = (calendar.now(), plan.slots(), first, one.wait, other.wait);
 }
 
 impl Offers {
@@ -115,9 +107,10 @@ impl Offers {
         self.start
     }
 
-    /// The starts before it that were tried in vain, in order; all of them where there is none.
+    /// The starts before it that were tried in vain, in order; all of them where there is none. At most `wait() + 1` starts.
     pub fn tried(&self) -> &[Tried]
-        ensures { result.now ≡ self.now.tried }
+        ensures value { result.now ≡ self.now.tried }
+        ensures few { length result.now ≤ self.now.wait + 1 }
     {
         self.tried.as_slice()
     }
@@ -128,7 +121,7 @@ impl Offers {
         requires after { calendar.now.first < first }
         requires small { first ≤ 2 ^ 62 + 1 }
         ensures wait { self.new.wait ≡ self.old.wait }
-        ensures offer { IsOffer calendar.now plan.now first self.new }
+        ensures offer { IsOfferIn calendar.now plan.now first self.new }
     {
         self.tried.clear();
         self.start = search(calendar, plan, first, self.wait, &mut self.tried);

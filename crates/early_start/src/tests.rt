@@ -64,7 +64,7 @@ fn finds_the_least_start(rt: HostRuntime) -> Result<(), Fail> {
     assert!(rt; offers.tried().is_empty());
     let mut again = Offers::new(alloc, 4)?;
     again.find(&calendar, &plan, 4);
-    law_one_offer(&calendar, &plan, 4, &offers, &again);
+    law_one_offer();
     let mut shorter = Offers::new(alloc, 2)?;
     shorter.find(&calendar, &plan, 1);
     assert_eq!(rt; shorter.start(), None);

@@ -3,3 +3,4 @@ pub mod SlotLemmas
 pub mod LineLemmas
 pub mod KindLemmas
 pub mod FormLemmas
+pub mod StateLemmas

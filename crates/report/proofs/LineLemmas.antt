@@ -8,7 +8,6 @@ use Rattle.std.proofs.lemmas.List.Elements.{All-append, All-cons, All-get_or, Al
 use Rattle.plan_cert.specs.Reading.{lines_of}
 use Rattle.plan_cert.proofs.Decimals.{not_in_decimal, same_cut}
 use Rattle.plan_cert.proofs.Grammar.{lines-cut}
-use Rattle.slot_calendar.specs.Calendars.{Entries, booked_at}
 use Rattle.report.specs.Fields.{field}
 use Rattle.report.specs.CalendarTexts.{booked_among, booked_slots, calendar_lines, calendar_text, first_words, ring_slots, slot_line, slot_words}
 
@@ -31,67 +30,67 @@ clean_words slot booked small few =
     All-append (λ b. b ≢ 10) (field (codes "at ") slot) (field (codes " booked=") booked) (clean_field (codes "at ") slot refl small) (clean_field (codes " booked=") booked refl few)
 
 -- ---- the text as lines
-abbrev pub words_at : Entries → ℕ → List ℕ
-words_at calendar t = slot_words t (booked_at calendar t)
+abbrev pub words_at : (ℕ → ℕ) → ℕ → List ℕ
+words_at bytes t = slot_words t (bytes t)
 
 -- a slot of 64 bits with bytes of 64 bits
-abbrev IsFew : Entries → ℕ → Type 0
-IsFew calendar t = (t < 2 ^ 64) × (booked_at calendar t < 2 ^ 64)
+abbrev IsFew : (ℕ → ℕ) → ℕ → Type 0
+IsFew bytes t = (t < 2 ^ 64) × (bytes t < 2 ^ 64)
 
-lines-slots : (calendar : Entries) (slots : List ℕ) → All (IsFew calendar) slots →
-    (lines_of (flat_map (slot_line calendar) slots ++ codes "end\n")).whole ≡ map (words_at calendar) slots ++ codes "end" ∷ []
-lines-slots calendar [] few = refl
-lines-slots calendar (t ∷ rest) few =
-    let one : IsFew calendar t = All-head (IsFew calendar) t rest few in
-    let behind = flat_map (slot_line calendar) rest ++ codes "end\n" in
-    let shape : (slot_line calendar t ++ flat_map (slot_line calendar) rest) ++ codes "end\n" ≡ words_at calendar t ++ 10 ∷ behind =
-    append_assoc (slot_line calendar t) (flat_map (slot_line calendar) rest) (codes "end\n") ∙ append_assoc (words_at calendar t) (10 ∷ []) behind in
+lines-slots : (bytes : ℕ → ℕ) (slots : List ℕ) → All (IsFew bytes) slots →
+    (lines_of (flat_map (slot_line bytes) slots ++ codes "end\n")).whole ≡ map (words_at bytes) slots ++ codes "end" ∷ []
+lines-slots bytes [] few = refl
+lines-slots bytes (t ∷ rest) few =
+    let one : IsFew bytes t = All-head (IsFew bytes) t rest few in
+    let behind = flat_map (slot_line bytes) rest ++ codes "end\n" in
+    let shape : (slot_line bytes t ++ flat_map (slot_line bytes) rest) ++ codes "end\n" ≡ words_at bytes t ++ 10 ∷ behind =
+    append_assoc (slot_line bytes t) (flat_map (slot_line bytes) rest) (codes "end\n") ∙ append_assoc (words_at bytes t) (10 ∷ []) behind in
     ap (λ (l : List ℕ). (lines_of l).whole) shape
-    ∙ ap (λ ls. ls.whole) (lines-cut (words_at calendar t) behind (clean_words t (booked_at calendar t) one.0 one.1))
-    ∙ ap (λ (ls : List (List ℕ)). words_at calendar t ∷ ls) (lines-slots calendar rest (All-tail (IsFew calendar) t rest few))
+    ∙ ap (λ ls. ls.whole) (lines-cut (words_at bytes t) behind (clean_words t (bytes t) one.0 one.1))
+    ∙ ap (λ (ls : List (List ℕ)). words_at bytes t ∷ ls) (lines-slots bytes rest (All-tail (IsFew bytes) t rest few))
 
-abbrev lines_told : Entries → List (List ℕ)
-lines_told calendar = first_words calendar.first ∷ (map (words_at calendar) (booked_slots calendar) ++ codes "end" ∷ [])
+abbrev lines_told : ℕ → (ℕ → ℕ) → List (List ℕ)
+lines_told from bytes = first_words from ∷ (map (words_at bytes) (booked_slots from bytes) ++ codes "end" ∷ [])
 
-lines-calendar : (calendar : Entries) → calendar.first < 2 ^ 64 → All (IsFew calendar) (booked_slots calendar) → calendar_lines calendar ≡ lines_told calendar
+lines-calendar : (from : ℕ) (bytes : ℕ → ℕ) → from < 2 ^ 64 → All (IsFew bytes) (booked_slots from bytes) → calendar_lines from bytes ≡ lines_told from bytes
 unfolding calendar_lines
-lines-calendar calendar small few =
-    let first = first_words calendar.first in
-    let slots = flat_map (slot_line calendar) (booked_slots calendar) in
+lines-calendar from bytes small few =
+    let first = first_words from in
+    let slots = flat_map (slot_line bytes) (booked_slots from bytes) in
     let behind = slots ++ codes "end\n" in
-    let shape : calendar_text calendar ≡ first ++ 10 ∷ behind = append_assoc (first ++ codes "\n") slots (codes "end\n") ∙ append_assoc first (codes "\n") behind in
+    let shape : calendar_text from bytes ≡ first ++ 10 ∷ behind = append_assoc (first ++ codes "\n") slots (codes "end\n") ∙ append_assoc first (codes "\n") behind in
     ap (λ (l : List ℕ). (lines_of l).whole) shape
-    ∙ ap (λ ls. ls.whole) (lines-cut first behind (clean_field (codes "calendar from=") calendar.first refl small))
-    ∙ ap (λ (ls : List (List ℕ)). first ∷ ls) (lines-slots calendar (booked_slots calendar) few)
+    ∙ ap (λ ls. ls.whole) (lines-cut first behind (clean_field (codes "calendar from=") from refl small))
+    ∙ ap (λ (ls : List (List ℕ)). first ∷ ls) (lines-slots bytes (booked_slots from bytes) few)
 
 -- ---- the slots in which bytes are booked
-all_booked : (calendar : Entries) (Q : ℕ → Type 0) (a n : ℕ) → ((t : ℕ) → a ≤ t → t < a + n → 0 < booked_at calendar t → Q t) → All Q (booked_among calendar (range_with_len a n))
-all_booked calendar Q a zero each = All-nil Q
-all_booked calendar Q a (suc n) each =
-    pick (nat_lt 0 (booked_at calendar a)) refl (all_booked calendar Q (a + 1) n (λ t behind inside some. each t (omega arith) (omega arith) some))
+all_booked : (bytes : ℕ → ℕ) (Q : ℕ → Type 0) (a n : ℕ) → ((t : ℕ) → a ≤ t → t < a + n → 0 < bytes t → Q t) → All Q (booked_among bytes (range_with_len a n))
+all_booked bytes Q a zero each = All-nil Q
+all_booked bytes Q a (suc n) each =
+    pick (nat_lt 0 (bytes a)) refl (all_booked bytes Q (a + 1) n (λ t behind inside some. each t (omega arith) (omega arith) some))
   where
     rest : List ℕ
-    rest = booked_among calendar (range_with_len (a + 1) n)
+    rest = booked_among bytes (range_with_len (a + 1) n)
 
-    pick : (b : Bool) → nat_lt 0 (booked_at calendar a) ≡ b → All Q rest → All Q (cond b (a ∷ rest) rest)
-    pick true is others = All-cons Q a rest (each a (omega arith) (omega arith) (ltb-true 0 (booked_at calendar a) is)) others
+    pick : (b : Bool) → nat_lt 0 (bytes a) ≡ b → All Q rest → All Q (cond b (a ∷ rest) rest)
+    pick true is others = All-cons Q a rest (each a (omega arith) (omega arith) (ltb-true 0 (bytes a) is)) others
     pick false is others = others
 
-booked_stands : (calendar : Entries) (slot a n : ℕ) → a ≤ slot → slot < a + n → 0 < booked_at calendar slot → Contains (booked_among calendar (range_with_len a n)) slot
-booked_stands calendar slot a zero behind inside some = absurd (omega arith)
-booked_stands calendar slot a (suc n) behind inside some = elim (cases_lt a slot) [
-  | inl later ↦ over (nat_lt 0 (booked_at calendar a))
-      (booked_stands calendar slot (a + 1) n (omega arith) (omega arith) some)
+booked_stands : (bytes : ℕ → ℕ) (slot a n : ℕ) → a ≤ slot → slot < a + n → 0 < bytes slot → Contains (booked_among bytes (range_with_len a n)) slot
+booked_stands bytes slot a zero behind inside some = absurd (omega arith)
+booked_stands bytes slot a (suc n) behind inside some = elim (cases_lt a slot) [
+  | inl later ↦ over (nat_lt 0 (bytes a))
+      (booked_stands bytes slot (a + 1) n (omega arith) (omega arith) some)
   | inr first ↦ (
       let here : a ≡ slot = omega arith in
-      let booked : 0 < booked_at calendar a = subst (λ t. 0 < booked_at calendar t) (sym here) some in
-      let P : Bool → Type 0 = λ b. Contains (cond b (a ∷ booked_among calendar (range_with_len (a + 1) n)) (booked_among calendar (range_with_len (a + 1) n))) slot in
-      subst P (sym (lt-ltb 0 (booked_at calendar a) booked)) (0, omega arith, here)
+      let booked : 0 < bytes a = subst (λ t. 0 < bytes t) (sym here) some in
+      let P : Bool → Type 0 = λ b. Contains (cond b (a ∷ booked_among bytes (range_with_len (a + 1) n)) (booked_among bytes (range_with_len (a + 1) n))) slot in
+      subst P (sym (lt-ltb 0 (bytes a) booked)) (0, omega arith, here)
       )
 ]
   where
-    over : (b : Bool) → Contains (booked_among calendar (range_with_len (a + 1) n)) slot → Contains (cond b (a ∷ booked_among calendar (range_with_len (a + 1) n)) (booked_among calendar (range_with_len (a + 1) n))) slot
-    over true stands = Contains-append_right (a ∷ []) (booked_among calendar (range_with_len (a + 1) n)) slot stands
+    over : (b : Bool) → Contains (booked_among bytes (range_with_len (a + 1) n)) slot → Contains (cond b (a ∷ booked_among bytes (range_with_len (a + 1) n)) (booked_among bytes (range_with_len (a + 1) n))) slot
+    over true stands = Contains-append_right (a ∷ []) (booked_among bytes (range_with_len (a + 1) n)) slot stands
     over false stands = stands
 
 contains_map : (f : ℕ → List ℕ) (xs : List ℕ) (x : ℕ) → Contains xs x → Contains (map f xs) (f x)
@@ -114,45 +113,45 @@ same_words s b t c small few small' few' e =
     (decimal_injective s t small small' parts.0, decimal_injective b c few few' (append_cancel_left (codes "booked=") (decimal b) (decimal c) parts.1))
 
 -- a line that tells of this slot tells its booked bytes, above 0, and the slot isn't before now
-abbrev TellsOf : Entries → ℕ → ℕ → List ℕ → Type 0
-TellsOf calendar slot booked line = line ≡ slot_words slot booked → (booked ≡ booked_at calendar slot) × (0 < booked) × (calendar.first ≤ slot)
+abbrev TellsOf : ℕ → (ℕ → ℕ) → ℕ → ℕ → List ℕ → Type 0
+TellsOf from bytes slot booked line = line ≡ slot_words slot booked → (booked ≡ bytes slot) × (0 < booked) × (from ≤ slot)
 
 -- what holds of each calendar
-pub record IsKept (calendar : Entries) : Type 0 where
-  pub first_small : calendar.first ≤ 2 ^ 62
-  pub few : (t : ℕ) → calendar.first ≤ t → booked_at calendar t ≤ 2 ^ 42
+pub record IsKept (from : ℕ) (bytes : ℕ → ℕ) : Type 0 where
+  pub first_small : from ≤ 2 ^ 62
+  pub few : (t : ℕ) → from ≤ t → bytes t ≤ 2 ^ 42
 
-few_slots : (calendar : Entries) → IsKept calendar → ring_slots < 2 ^ 62 → All (IsFew calendar) (booked_slots calendar)
-few_slots calendar kept short =
-    all_booked calendar (IsFew calendar) calendar.first ring_slots (λ t behind inside some. (omega (arith, kept.first_small, inside, short), omega (arith, kept.few t behind)))
+few_slots : (from : ℕ) (bytes : ℕ → ℕ) → IsKept from bytes → ring_slots < 2 ^ 62 → All (IsFew bytes) (booked_slots from bytes)
+few_slots from bytes kept short =
+    all_booked bytes (IsFew bytes) from ring_slots (λ t behind inside some. (omega (arith, kept.first_small, inside, short), omega (arith, kept.few t behind)))
 
-tells_all : (calendar : Entries) (slot booked : ℕ) → slot < 2 ^ 64 → booked < 2 ^ 64 → IsKept calendar → ring_slots < 2 ^ 62 → All (TellsOf calendar slot booked) (map (words_at calendar) (booked_slots calendar))
-tells_all calendar slot booked small few kept short =
-    all_map (TellsOf calendar slot booked) (words_at calendar) (booked_slots calendar)
-    (all_booked calendar (λ t. TellsOf calendar slot booked (words_at calendar t)) calendar.first ring_slots (λ t behind inside some e.
-    let same = same_words slot booked t (booked_at calendar t) small few (omega (arith, kept.first_small, inside, short)) (omega (arith, kept.few t behind)) (sym e) in
-    (same.1 ∙ ap (booked_at calendar) (sym same.0), omega (arith, some, same.1), omega (arith, behind, same.0))))
+tells_all : (from : ℕ) (bytes : ℕ → ℕ) (slot booked : ℕ) → slot < 2 ^ 64 → booked < 2 ^ 64 → IsKept from bytes → ring_slots < 2 ^ 62 → All (TellsOf from bytes slot booked) (map (words_at bytes) (booked_slots from bytes))
+tells_all from bytes slot booked small few kept short =
+    all_map (TellsOf from bytes slot booked) (words_at bytes) (booked_slots from bytes)
+    (all_booked bytes (λ t. TellsOf from bytes slot booked (words_at bytes t)) from ring_slots (λ t behind inside some e.
+    let same = same_words slot booked t (bytes t) small few (omega (arith, kept.first_small, inside, short)) (omega (arith, kept.few t behind)) (sym e) in
+    (same.1 ∙ ap bytes (sym same.0), omega (arith, some, same.1), omega (arith, behind, same.0))))
 
-pub line_stands : (calendar : Entries) (slot : ℕ) → IsKept calendar → ring_slots < 2 ^ 62 → calendar.first ≤ slot → slot < calendar.first + ring_slots → 0 < booked_at calendar slot →
-    Contains (calendar_lines calendar) (words_at calendar slot)
-line_stands calendar slot kept short behind inside some =
-    let slots = map (words_at calendar) (booked_slots calendar) in
-    let line = words_at calendar slot in
-    let stands = contains_map (words_at calendar) (booked_slots calendar) slot (booked_stands calendar slot calendar.first ring_slots behind inside some) in
-    subst (λ (ls : List (List ℕ)). Contains ls line) (sym (lines-calendar calendar (omega (arith, kept.first_small)) (few_slots calendar kept short)))
-    (Contains-append_right (first_words calendar.first ∷ []) (slots ++ codes "end" ∷ []) line (Contains-append_left slots (codes "end" ∷ []) line stands))
+pub line_stands : (from : ℕ) (bytes : ℕ → ℕ) (slot : ℕ) → IsKept from bytes → ring_slots < 2 ^ 62 → from ≤ slot → slot < from + ring_slots → 0 < bytes slot →
+    Contains (calendar_lines from bytes) (words_at bytes slot)
+line_stands from bytes slot kept short behind inside some =
+    let slots = map (words_at bytes) (booked_slots from bytes) in
+    let line = words_at bytes slot in
+    let stands = contains_map (words_at bytes) (booked_slots from bytes) slot (booked_stands bytes slot from ring_slots behind inside some) in
+    subst (λ (ls : List (List ℕ)). Contains ls line) (sym (lines-calendar from bytes (omega (arith, kept.first_small)) (few_slots from bytes kept short)))
+    (Contains-append_right (first_words from ∷ []) (slots ++ codes "end" ∷ []) line (Contains-append_left slots (codes "end" ∷ []) line stands))
 
-pub line_tells : (calendar : Entries) (slot booked : ℕ) → IsKept calendar → ring_slots < 2 ^ 62 → slot < 2 ^ 64 → booked < 2 ^ 64 →
-    Contains (calendar_lines calendar) (slot_words slot booked) → (booked ≡ booked_at calendar slot) × (0 < booked) × (calendar.first ≤ slot)
-line_tells calendar slot booked kept short small few stands =
-    let P = TellsOf calendar slot booked in
+pub line_tells : (from : ℕ) (bytes : ℕ → ℕ) (slot booked : ℕ) → IsKept from bytes → ring_slots < 2 ^ 62 → slot < 2 ^ 64 → booked < 2 ^ 64 →
+    Contains (calendar_lines from bytes) (slot_words slot booked) → (booked ≡ bytes slot) × (0 < booked) × (from ≤ slot)
+line_tells from bytes slot booked kept short small few stands =
+    let P = TellsOf from bytes slot booked in
     let line = slot_words slot booked in
-    let slots = map (words_at calendar) (booked_slots calendar) in
-    let no_first : P (first_words calendar.first) = λ e. absurd (let first : 99 ≡ 97 = ap (λ (l : List ℕ). get_or l 0 0) e in omega (arith, first)) in
+    let slots = map (words_at bytes) (booked_slots from bytes) in
+    let no_first : P (first_words from) = λ e. absurd (let first : 99 ≡ 97 = ap (λ (l : List ℕ). get_or l 0 0) e in omega (arith, first)) in
     let no_end : P (codes "end") = λ e. absurd (let first : 101 ≡ 97 = ap (λ (l : List ℕ). get_or l 0 0) e in omega (arith, first)) in
-    let tells : All P (lines_told calendar) =
-    All-cons P (first_words calendar.first) (slots ++ codes "end" ∷ []) no_first
-    (All-append P slots (codes "end" ∷ []) (tells_all calendar slot booked small few kept short) (All-cons P (codes "end") [] no_end (All-nil P))) in
-    let among : Contains (lines_told calendar) line =
-    subst (λ (ls : List (List ℕ)). Contains ls line) (lines-calendar calendar (omega (arith, kept.first_small)) (few_slots calendar kept short)) stands in
-    All-get_or P (lines_told calendar) among.0 line among.1 tells among.2
+    let tells : All P (lines_told from bytes) =
+    All-cons P (first_words from) (slots ++ codes "end" ∷ []) no_first
+    (All-append P slots (codes "end" ∷ []) (tells_all from bytes slot booked small few kept short) (All-cons P (codes "end") [] no_end (All-nil P))) in
+    let among : Contains (lines_told from bytes) line =
+    subst (λ (ls : List (List ℕ)). Contains ls line) (lines-calendar from bytes (omega (arith, kept.first_small)) (few_slots from bytes kept short)) stands in
+    All-get_or P (lines_told from bytes) among.0 line among.1 tells among.2

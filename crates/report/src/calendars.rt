@@ -1,4 +1,5 @@
 ghost use Rattle.std.specs.Prelude.{◌++◌, codes, flat_map};
+ghost use Rattle.slot_calendar.specs.Calendars.{booked_at};
 ghost use Rattle.report.specs.Appends.{IsAppended};
 ghost use Rattle.report.specs.CalendarTexts.{booked_slots, calendar_text, slot_line, slot_words};
 
@@ -6,7 +7,7 @@ use crate::fields::{push, push_field};
 use slot_calendar::Calendar;
 use vod_base::NoMemory;
 
-/// The slots of a calendar's ring, from now on. No bytes are booked behind them.
+/// The slots of a calendar's ring, from now on. No bytes are booked after them.
 const RING: u64 = 1_048_576;
 
 /// Appends the line of a slot.
@@ -20,7 +21,9 @@ fn push_slot(out: &mut Vec<u8>, slot: u64, booked: u64) -> Result<(), NoMemory>
 
 /// Appends the lines of the slots in which bytes are booked.
 fn push_slots(out: &mut Vec<u8>, calendar: &Calendar) -> Result<(), NoMemory>
-    ensures { IsAppended out.old.items (flat_map (slot_line calendar.now) (booked_slots calendar.now)) out.new.items result }
+    ensures { IsAppended out.old.items
+        (flat_map (slot_line (booked_at calendar.now)) (booked_slots calendar.now.first (booked_at calendar.now)))
+        out.new.items result }
 {
     let now = calendar.now();
     for slot in now..now + RING {
@@ -38,7 +41,8 @@ fn push_slots(out: &mut Vec<u8>, calendar: &Calendar) -> Result<(), NoMemory>
 ///
 /// After `NoMemory` a front of the text was appended. One pass over the slots.
 pub fn calendar_text(calendar: &Calendar, out: &mut Vec<u8>) -> Result<(), NoMemory>
-    ensures { IsAppended out.old.items (calendar_text calendar.now) out.new.items result }
+    ensures { IsAppended out.old.items
+        (calendar_text calendar.now.first (booked_at calendar.now)) out.new.items result }
 {
     push_field(out, b"calendar from=", calendar.now())?;
     push(out, b"\n")?;

@@ -13,12 +13,12 @@ returns-in_err-push_slot c =
     let first = calendar.first in
     let slot = c.loop-slot.slot in
     let k = slot - first in
-    let before = lines calendar (range_with_len first k) in
-    let behind = lines calendar (range_with_len (slot + 1) (ring_slots - (k + 1))) in
+    let before = lines (booked_at calendar) (range_with_len first k) in
+    let behind = lines (booked_at calendar) (range_with_len (slot + 1) (ring_slots - (k + 1))) in
     let inside : k < ring_slots = omega (arith, ring-is, c.loop-slot-test.true, c.now-now.ensures.value, c.loop-slot.auto.slot) in
     let place : slot ≡ first + k = omega (arith, c.now-now.ensures.value, c.loop-slot.auto.slot) in
     let some : 0 < booked_at calendar slot = omega (arith, c.booked-booked.ensures.value, c.if-is_booked.true) in
-    let words = ap (λ n. before ++ ((slot_words slot n ++ codes "\n") ++ behind)) c.booked-booked.ensures.value ∙ lines-around calendar first k ring_slots slot place inside some in
+    let words = ap (λ n. before ++ ((slot_words slot n ++ codes "\n") ++ behind)) c.booked-booked.ensures.value ∙ lines-around (booked_at calendar) first k ring_slots slot place inside some in
     handed_on c.from_residual.result c.from_residual.ensures.0 (appended_as words (then_appended before c.loop-slot.invariant (cut_before behind c.in_err-push_slot.ensures)))
 
 pub loop-slot-preserved : goal.loop-slot-preserved
@@ -27,22 +27,22 @@ loop-slot-preserved c =
     let first = calendar.first in
     let slot = c.loop-slot.slot in
     let k = slot - first in
-    let before = lines calendar (range_with_len first k) in
+    let before = lines (booked_at calendar) (range_with_len first k) in
     let place : slot ≡ first + k = omega (arith, c.now-now.ensures.value, c.loop-slot.auto.slot) in
     let count : slot + 1 - first ≡ k + 1 = omega (arith, c.now-now.ensures.value, c.loop-slot.auto.slot) in
-    let more = lines-more calendar first k (slot + 1 - first) slot place count in
+    let more = lines-more (booked_at calendar) first k (slot + 1 - first) slot place count in
     let out = c.args.out.now.items in
     elim c.if-is_booked.branch [
       | then-is_booked+in_ok-push_slot w ↦ (
           let some : 0 < booked_at calendar slot = omega (arith, c.booked-booked.ensures.value, w.if-is_booked.true) in
           let line = slot_words slot c.booked-booked.result ++ codes "\n" in
-          let same = ap (λ n. slot_words slot n ++ codes "\n") c.booked-booked.ensures.value ∙ sym (line-booked calendar slot some) in
+          let same = ap (λ n. slot_words slot n ++ codes "\n") c.booked-booked.ensures.value ∙ sym (line-booked (booked_at calendar) slot some) in
           ap (λ (v : Vec ℕ Global). v.items) w.out-is ∙ both out before line _ _ c.loop-slot.invariant w.in_ok-push_slot.ensures.whole
           ∙ ap (λ (l : List ℕ). out ++ l) (ap (λ (l : List ℕ). before ++ l) same ∙ sym more)
           )
       | else-is_booked w ↦ (
           let none : booked_at calendar slot ≤ 0 = omega (arith, c.booked-booked.ensures.value, w.if-is_booked.false) in
-          let same = more ∙ ap (λ (l : List ℕ). before ++ l) (line-free calendar slot none) ∙ append-nil before in
+          let same = more ∙ ap (λ (l : List ℕ). before ++ l) (line-free (booked_at calendar) slot none) ∙ append-nil before in
           ap (λ (v : Vec ℕ Global). v.items) w.out-is ∙ c.loop-slot.invariant ∙ ap (λ (l : List ℕ). out ++ l) (sym same)
           )
     ]
@@ -51,4 +51,4 @@ pub returns : goal.returns
 returns c =
     let calendar = c.args.calendar.now in
     let all : c.loop-slot.slot - calendar.first ≡ ring_slots = omega (arith, ring-is, c.loop-slot-test.false, c.now-now.ensures.value, c.loop-slot.auto.slot, c.loop-slot.auto.slot-end) in
-    record { whole = c.loop-slot.invariant ∙ ap (λ n. c.args.out.now.items ++ lines calendar (range_with_len calendar.first n)) all; cut = tt }
+    record { whole = c.loop-slot.invariant ∙ ap (λ n. c.args.out.now.items ++ lines (booked_at calendar) (range_with_len calendar.first n)) all; cut = tt }

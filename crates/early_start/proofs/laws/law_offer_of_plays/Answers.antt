@@ -1,0 +1,5 @@
+use Rattle.early_start.proofs.Everywhere.{offer_everywhere}
+use Rattle.early_start.proofs.laws.law_offer_of_plays.Goals as goal
+
+pub returns : goal.returns
+returns c = offer_everywhere
