@@ -11,7 +11,7 @@ mod traces;
 pub use draws::Draws;
 pub use films::make_film;
 pub use systems::make_system;
-pub use traces::make_trace;
+pub use traces::{draw_sizes, draw_trace, make_trace};
 
 #[cfg(test)]
 mod tests;

@@ -2,7 +2,7 @@
 //! D. J. Bernstein's description, draws its words modulo n, and writes traces, films and system
 //! streams with them; it gives long texts as their length and their Adler-32.
 
-use crate::{Draws, make_film, make_system, make_trace};
+use crate::{Draws, draw_sizes, draw_trace, make_film, make_system, make_trace};
 use std::test::Fail;
 
 fn adler32(bytes: &[u8]) -> u32 {
@@ -44,6 +44,16 @@ fn traces_repeat(rt: HostRuntime) -> Result<(), Fail> {
         let trace = make_trace(rt.alloc(), 1, 24)?;
         assert_eq!(rt; trace.as_slice(), text.as_bytes());
     }
+    Ok(())
+}
+
+#[test]
+fn traces_go_on_from_the_middle(rt: HostRuntime) -> Result<(), Fail> {
+    let mut draws = Draws::new(1);
+    let first = draw_trace(rt.alloc(), &mut draws, 2)?;
+    assert_eq!(rt; first.as_slice(), b"6876\n553\n");
+    let sizes = draw_sizes(rt.alloc(), &mut draws, 2)?;
+    assert_eq!(rt; sizes.as_slice(), &[7608, 218]);
     Ok(())
 }
 

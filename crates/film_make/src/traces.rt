@@ -1,6 +1,6 @@
 ghost use Rattle.std.specs.Prelude.{◌≡◌, ℕ, ◌++◌, ◌≤◌, IfOk, ◌*◌, ◌+◌, ◌%◌, ◌==◌, [], ◌∷◌, if◌then◌else◌, decimal, OnOk};
 ghost use Rattle.film_make.specs.Generator.{after, words_left, words_of};
-ghost use Rattle.film_make.specs.Trace.{trace_of, trace_size};
+ghost use Rattle.film_make.specs.Trace.{sizes_of, trace_of, trace_size};
 
 use crate::draws::Draws;
 use crate::pictures::GROUP;
@@ -27,14 +27,26 @@ fn write_line(number: u32, out: &mut Vec<u8>) -> Result<(), AllocError>
     Ok(())
 }
 
-// The lines of a trace.
-fn trace_lines(alloc: Global, number: u64, pictures: u32) -> Result<Vec<u8>, AllocError>
-    ensures { IfOk result (λ trace. trace.items ≡ trace_of (words_of number) pictures) }
+/// The sizes of a trace by the next draws: one for each picture, in bytes, from 200 to 7,996.
+pub fn draw_sizes(alloc: Global, draws: &mut Draws, pictures: u32) -> Result<Vec<u64>, NoMemory>
+    ensures sizes { IfOk result (λ sizes. sizes.items ≡ sizes_of (words_left draws.old) pictures) }
+    ensures left { OnOk result (words_left draws.new ≡ after pictures (words_left draws.old)) }
 {
-    let mut draws = Draws::new(number);
+    let mut sizes = Vec::new(alloc);
+    for index in 0..pictures {
+        sizes.push(u64::from(next_size(draws, index)))?;
+    }
+    Ok(sizes)
+}
+
+/// The trace by the next draws: for each picture its size in bytes, from 200 to 7,996, one a line.
+pub fn draw_trace(alloc: Global, draws: &mut Draws, pictures: u32) -> Result<Vec<u8>, NoMemory>
+    ensures trace { IfOk result (λ trace. trace.items ≡ trace_of (words_left draws.old) pictures) }
+    ensures left { OnOk result (words_left draws.new ≡ after pictures (words_left draws.old)) }
+{
     let mut trace = Vec::new(alloc);
     for index in 0..pictures {
-        write_line(next_size(&mut draws, index), &mut trace)?;
+        write_line(next_size(draws, index), &mut trace)?;
     }
     Ok(trace)
 }
@@ -46,5 +58,6 @@ pub fn make_trace(alloc: Global, number: u64, pictures: u32) -> Result<Vec<u8>, 
     ensures trace { IfOk result (λ trace. trace.items ≡ trace_of (words_of number) pictures) }
     ensures in_range { (k : ℕ) → (200 ≤ trace_size (words_of number) k) × (trace_size (words_of number) k ≤ 7996) }
 {
-    trace_lines(alloc, number, pictures).map_err(|_| NoMemory)
+    let mut draws = Draws::new(number);
+    draw_trace(alloc, &mut draws, pictures)
 }

@@ -4,3 +4,4 @@ pub mod More
 pub mod Skips
 pub mod Streams
 pub mod Unique
+pub mod Exists

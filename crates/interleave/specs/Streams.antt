@@ -21,6 +21,10 @@ AreCut bytes (piece ∷ pieces) rest = (n : ℕ) × (IsPieceLength bytes n × (p
 abbrev pub IsStream : List ℕ → List (List ℕ) → List ℕ → Type 0
 IsStream bytes pieces rest = AreCut bytes pieces rest × ((n : ℕ) → ¬ IsPieceLength rest n)
 
+-- there are such pieces, and such a rest
+abbrev pub HasStream : List ℕ → Type 0
+HasStream bytes = (pieces : List (List ℕ)) × ((rest : List ℕ) × IsStream bytes pieces rest)
+
 -- the rest of one cut is cut further into the pieces that the other has more
 abbrev pub GoesOn : List (List ℕ) → List ℕ → List (List ℕ) → List ℕ → Type 0
 GoesOn one rest other end = (more : List (List ℕ)) × ((other ≡ one ++ more) × AreCut rest more end)

@@ -1,5 +1,5 @@
 ghost use Rattle.std.specs.Prelude.{◌≡◌, ℕ, ◌++◌, List, drop, Ok, Result};
-ghost use Rattle.interleave.specs.Streams.{AreCut, DoAgree, IsStream, TellsNone, told_length, told_pieces};
+ghost use Rattle.interleave.specs.Streams.{AreCut, DoAgree, HasStream, IsStream, TellsNone, told_length, told_pieces};
 ghost use Rattle.interleave.specs.declared.pieces.DemuxFault.{DemuxFault};
 ghost use Rattle.interleave.specs.declared.pieces.Step.{Step};
 ghost use Rattle.interleave.specs.Pieces.{IsFirst, IsLongerSkip, IsWhole};
@@ -65,8 +65,9 @@ pub fn law_next_pieces()
     ensures none { (rest : List ℕ) (answer : Result Step DemuxFault) → IsFirst rest answer → TellsNone rest answer }
 {}
 
-/// A stream is cut into pieces and a rest in one way alone. So the pieces are the same however the bytes came.
+/// All bytes heard are pieces and a rest, in one way alone. So the pieces are the same however the bytes came.
 pub fn law_one_stream()
-    ensures { (heard : List ℕ) (one other : List (List ℕ)) (rest end : List ℕ)
+    ensures some { (heard : List ℕ) → HasStream heard }
+    ensures one { (heard : List ℕ) (one other : List (List ℕ)) (rest end : List ℕ)
         → IsStream heard one rest → IsStream heard other end → (one ≡ other) × (rest ≡ end) }
 {}

@@ -1,5 +1,6 @@
+use Rattle.interleave.proofs.Exists.{has_stream}
 use Rattle.interleave.proofs.Streams.{stream_once}
 use Rattle.interleave.proofs.laws.law_one_stream.Goals as goal
 
 pub returns : goal.returns
-returns c = stream_once
+returns c = record { some = has_stream; one = stream_once }

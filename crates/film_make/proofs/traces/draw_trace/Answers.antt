@@ -2,12 +2,12 @@ use Rattle.std.proofs.Common.{sym, ◌∙◌}
 use Rattle.film_make.proofs.GeneratorLemmas.{after-zero}
 use Rattle.film_make.proofs.FilmLemmas.{joined-none, after-step}
 use Rattle.film_make.proofs.TraceLemmas.{line-step}
-use Rattle.film_make.proofs.traces.trace_lines.Goals as goal
+use Rattle.film_make.proofs.traces.draw_trace.Goals as goal
 
 pub loop-index-init : goal.loop-index-init
 loop-index-init c = record {
   bytes = c.new-trace.ensures.items ∙ sym (joined-none _);
-  left = c.new-draws.ensures ∙ sym (after-zero _);
+  left = sym (after-zero _);
 }
 
 pub loop-index-preserved : goal.loop-index-preserved

@@ -1,0 +1,11 @@
+use Rattle.std.proofs.Common.{◌≡◌}
+use Rattle.film_make.specs.Generator.{words_left, after}
+use Rattle.film_make.specs.Trace.{sizes_of}
+use Rattle.film_make.proofs.traces.draw_sizes.Given as goal
+
+abbrev pub invariant-loop-index : goal.invariant-loop-index
+invariant-loop-index l =
+    record {
+      sizes : l.sizes.items ≡ sizes_of (words_left l.initial.draws) l.index;
+      left : words_left l.draws ≡ after l.index (words_left l.initial.draws);
+    }
