@@ -51,9 +51,9 @@ fn traces_repeat(rt: HostRuntime) -> Result<(), Fail> {
 fn traces_go_on_from_the_middle(rt: HostRuntime) -> Result<(), Fail> {
     let mut draws = Draws::new(1);
     let first = draw_trace(rt.alloc(), &mut draws, 2)?;
-    assert_eq!(rt; first.as_slice(), b"6876\n553\n");
+    assert_eq!(rt; first.as_slice(), b"6876\n553\n".as_slice());
     let sizes = draw_sizes(rt.alloc(), &mut draws, 2)?;
-    assert_eq!(rt; sizes.as_slice(), &[7608, 218]);
+    assert_eq!(rt; sizes.as_slice(), [7608, 218].as_slice());
     Ok(())
 }
 

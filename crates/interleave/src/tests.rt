@@ -152,7 +152,9 @@ fn laws_run(_rt: HostRuntime) {
     law_cutting(b"$\x00\x00\x00", b"x", Ok(Step::Block(0, 4)));
     law_one_answer(b"", Ok(Step::More), Ok(Step::More));
     law_skipping(b"\r", b"\n", 1, Ok(Step::Skip(2)));
-    law_stream_grows(b"$\x00\x00\x00", b"x");
-    law_next_pieces(b"\r\n", Ok(Step::Skip(2)));
-    law_one_stream(b"a\n\n");
+    law_stream_grows();
+    law_cuts_join();
+    law_cuts_agree();
+    law_next_pieces();
+    law_one_stream();
 }
