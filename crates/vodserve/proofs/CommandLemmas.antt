@@ -1,5 +1,5 @@
 -- What the commands' answers mean, in terms of the definitions that the run cites.
-use Rattle.std.proofs.Common.{◌≡◌, ℕ, List, ◌++◌, Some, None, Result, Ok, Err, Vec, Global, subst, inl, inr}
+use Rattle.std.proofs.Common.{◌≡◌, ℕ, List, ◌++◌, Some, None, Result, Ok, Err, Vec, Global, sym, subst, inl, inr}
 use Rattle.std.specs.Prelude.{IfOk, codes}
 use Rattle.vod_base.specs.Outside.{File, file_named}
 use Rattle.wire_curve.specs.declared.curves.Curves.{Curves}
@@ -9,31 +9,20 @@ use Rattle.cert_check.specs.Best.{IsBestPlan}
 use Rattle.cert_check.specs.Fault.{IsFirstFault}
 use Rattle.cert_check.specs.declared.CertFault.{CertFault}
 use Rattle.mpeg_scan.specs.declared.units.Unit.{Unit as PictureUnit}
-use Rattle.vodserve.specs.Scanning.{HoldsFilm}
+use Rattle.troubles.specs.declared.faults.Fault.{Fault}
+use Rattle.inputs.specs.Files.{IsMissing}
+use Rattle.inputs.specs.Scans.{HoldsFilm}
 use Rattle.vodserve.specs.ScanText.{scan_text}
-use Rattle.vodserve.specs.Words.{Viewer, check_of, scan_of}
-use Rattle.vodserve.specs.Carrying.{HasCurves, IsDone}
+use Rattle.command_words.specs.Words.{Viewer}
+use Rattle.vodserve.specs.Carrying.{HasCurves, IsCertRefused, IsChecked, IsScanned, IsViewerRefused}
 use Rattle.vodserve.specs.Verdict.{cert_fault_text}
-use Rattle.vodserve.specs.Trouble.{IsInputTrouble}
-use Rattle.vodserve.specs.declared.commands.Done.{Done}
-use Rattle.vodserve.specs.declared.report.Fault.{Fault}
-use Rattle.vodserve.specs.declared.report.Trouble.{Trouble}
-use Rattle.vodserve.specs.declared.report.Trouble.TheVariants.{Usage, Refused, StoreFault, SinkFault, NoMemory}
-
--- a refusal that goes with one fact goes with each that follows from it
-pub trouble_map : (P Q : List ℕ → Fault → Type 0) (t : Trouble) → ((name : List ℕ) (fault : Fault) → P name fault → Q name fault) →
-    IsInputTrouble P t → IsInputTrouble Q t
-trouble_map P Q Usage f h = h
-trouble_map P Q (Refused name fault) f h = f name.now fault h
-trouble_map P Q (StoreFault name) f h = tt
-trouble_map P Q SinkFault f h = h
-trouble_map P Q NoMemory f h = tt
+use Rattle.vodserve.specs.declared.done.Done.{Done}
 
 pub ok_map : {T E : Type 0} (P Q : T → Type 0) (r : Result T E) → ((x : T) → P x → Q x) → IfOk r P → IfOk r Q
 ok_map P Q (Ok x) f h = f x h
 ok_map P Q (Err e) f h = tt
 
-text_of : {E : Type 0} (text : List ℕ) (r : Result (Vec ℕ Global) E) (made : Vec ℕ Global) → IfOk r (λ v. v.items ≡ text) → r ≡ Ok made → made.items ≡ text
+pub text_of : {E : Type 0} (text : List ℕ) (r : Result (Vec ℕ Global) E) (made : Vec ℕ Global) → IfOk r (λ v. v.items ≡ text) → r ≡ Ok made → made.items ≡ text
 text_of {E = E} text r made h e = subst (λ (x : Result (Vec ℕ Global) E). IfOk x (λ v. v.items ≡ text)) e h
 
 -- what `check` reads before its verdict
@@ -49,45 +38,48 @@ pub least_checked : {E : Type 0} (held : List File) (viewer : Viewer) (cert : Li
     IsBestPlan curves.from curves.low.items curves.up.items segments →
     (r : Result (Vec ℕ Global) E) → IfOk r (λ v. v.items ≡ codes "least\n") →
     (done : Done) → (done.status ≡ 0) × (r ≡ Ok done.text) × (done.plan ≡ None) →
-    IsDone held (check_of viewer cert) done.status done.text.items done.plan
-least_checked held viewer cert curves segments read best r text done is = (
-  record {
-    curves = curves;
-    has = read.has;
-    written = read.written;
-    found = read.found;
-    slots = read.slots;
-    bytes = read.bytes;
-    segments = segments;
-    certificate = read.certificate;
-    verdict = inl (is.0, best, text_of (codes "least\n") r done.text text is.1);
-  },
-  is.2,
-)
+    IsChecked held viewer cert done.status done.text.items
+least_checked held viewer cert curves segments read best r text done is = record {
+  curves = curves;
+  has = read.has;
+  written = read.written;
+  found = read.found;
+  slots = read.slots;
+  bytes = read.bytes;
+  segments = segments;
+  certificate = read.certificate;
+  verdict = inl (is.0, best, text_of (codes "least\n") r done.text text is.1);
+}
 
 pub fault_checked : {E : Type 0} (held : List File) (viewer : Viewer) (cert : List ℕ) (curves : Curves) (segments : List Segment) → HasCertificate held viewer cert curves segments →
     (fault : CertFault) → IsFirstFault curves.from curves.low.items curves.up.items segments fault →
     (r : Result (Vec ℕ Global) E) → IfOk r (λ v. v.items ≡ codes "refused " ++ cert_fault_text fault ++ codes "\n") →
     (done : Done) → (done.status ≡ 1) × (r ≡ Ok done.text) × (done.plan ≡ None) →
-    IsDone held (check_of viewer cert) done.status done.text.items done.plan
-fault_checked held viewer cert curves segments read fault first r text done is = (
-  record {
-    curves = curves;
-    has = read.has;
-    written = read.written;
-    found = read.found;
-    slots = read.slots;
-    bytes = read.bytes;
-    segments = segments;
-    certificate = read.certificate;
-    verdict = inr (fault, (is.0, first, text_of (codes "refused " ++ cert_fault_text fault ++ codes "\n") r done.text text is.1));
-  },
-  is.2,
-)
+    IsChecked held viewer cert done.status done.text.items
+fault_checked held viewer cert curves segments read fault first r text done is = record {
+  curves = curves;
+  has = read.has;
+  written = read.written;
+  found = read.found;
+  slots = read.slots;
+  bytes = read.bytes;
+  segments = segments;
+  certificate = read.certificate;
+  verdict = inr (fault, (is.0, first, text_of (codes "refused " ++ cert_fault_text fault ++ codes "\n") r done.text text is.1));
+}
 
 pub film_done : {E : Type 0} (held : List File) (film : List ℕ) (size rate : ℕ) (units : List PictureUnit) → HoldsFilm held film size rate units →
     (r : Result (Vec ℕ Global) E) → IfOk r (λ v. v.items ≡ scan_text size rate units) →
-    (done : Done) → (done.status ≡ 0) × (r ≡ Ok done.text) × (done.plan ≡ None) →
-    IsDone held (scan_of film) done.status done.text.items done.plan
+    (done : Done) → r ≡ Ok done.text → IsScanned held film done.text.items
 film_done held film size rate units holds r text done is =
-    (is.0, record { size = size; rate = rate; units = units; holds = holds; printed = text_of (scan_text size rate units) r done.text text is.1 }, is.2)
+    record { size = size; rate = rate; units = units; holds = holds; printed = text_of (scan_text size rate units) r done.text text is }
+
+-- a file that is missing, as the refusal of a trace or of a certificate
+pub trace_missing : (held : List File) (viewer : Viewer) (name : List ℕ) (fault : Fault) → name ≡ viewer.trace → IsMissing held name fault → IsViewerRefused held viewer fault
+trace_missing held viewer name fault is missing =
+    subst (IsViewerRefused held viewer) (sym missing.0) (subst (λ (n : List ℕ). file_named held n ≡ None) is missing.1)
+
+pub cert_missing : (held : List File) (viewer : Viewer) (cert : List ℕ) (curves : Curves) (name : List ℕ) (fault : Fault) → HasCurves held viewer curves →
+    name ≡ cert → IsMissing held name fault → IsCertRefused held viewer cert fault
+cert_missing held viewer cert curves name fault has is missing =
+    subst (IsCertRefused held viewer cert) (sym missing.0) ((curves, has), subst (λ (n : List ℕ). file_named held n ≡ None) is missing.1)

@@ -1,8 +1,4 @@
 pub mod CommandLemmas
 pub mod OneAnswer
-pub mod ReadLemmas
-pub mod SaidLemmas
-pub mod ScanLemmas
 pub mod ScanTextLemmas
-pub mod Tokens
-pub mod WordLemmas
+pub mod RunLemmas

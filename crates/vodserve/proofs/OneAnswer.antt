@@ -13,11 +13,11 @@ use Rattle.wire_curve.proofs.Exact.{accepted-no_fault}
 use Rattle.plan_cert.specs.declared.Segment.{Segment}
 use Rattle.plan_cert.specs.Text.{cert_text}
 use Rattle.cert_check.specs.Fault.{IsTaut}
-use Rattle.vodserve.specs.Trace.{Token, tokens_from, IsTrace, IsTraceText, IsBadTrace as IsBadTraceText}
-use Rattle.vodserve.specs.Words.{Viewer}
+use Rattle.inputs.specs.Traces.{Token, tokens_from, IsTrace, IsTraceText, IsBadTrace as IsBadTraceText}
+use Rattle.command_words.specs.Words.{Viewer}
 use Rattle.vodserve.specs.Carrying.{trace_timing, HoldsTrace, HasCurves, IsPlanned, IsViewerRefused}
-use Rattle.vodserve.specs.declared.report.Fault.{Fault}
-use Rattle.vodserve.specs.declared.report.Fault.TheVariants.{NotFound, BadTrace, Curves, BadCert, Film}
+use Rattle.troubles.specs.declared.faults.Fault.{Fault}
+use Rattle.troubles.specs.declared.faults.Fault.TheVariants.{NotFound, BadTrace, Curves, BadCert, Film, FilmTooLarge}
 
 some_once : (xs ys : List ℕ) → map (λ (x : ℕ). Some x) xs ≡ map (λ (x : ℕ). Some x) ys → xs ≡ ys
 some_once [] [] e = refl
@@ -98,3 +98,4 @@ curves_not_refused held viewer curves (Curves fault) has refused =
     (subst (λ (s : List ℕ). IsAccepted s (trace_timing viewer)) (holds_once held viewer.trace has.sizes refused.0 has.holds refused.1.0) has.accepted) refused.1.1
 curves_not_refused held viewer curves (BadCert line) has refused = refused
 curves_not_refused held viewer curves (Film fault) has refused = refused
+curves_not_refused held viewer curves FilmTooLarge has refused = refused

@@ -1,5 +1,6 @@
 -- What carrying out the words gives, as a library holds its files.
-use Rattle.std.specs.Prelude.{◌≡◌, ◌⊎◌, ◌++◌, ℕ, List, Option, Some, None, codes}
+use Rattle.std.specs.List.{Contains}
+use Rattle.std.specs.Prelude.{◌≡◌, ◌≤◌, ◌⊎◌, ◌++◌, ℕ, List, Option, Some, None, codes}
 use Rattle.vod_base.specs.Outside.{File, file_named}
 use Rattle.wire_curve.specs.declared.film.Timing.{Timing}
 use Rattle.wire_curve.specs.declared.curves.Curves.{Curves as CurvePair}
@@ -18,14 +19,15 @@ use Rattle.film_make.specs.Generator.{words_of}
 use Rattle.film_make.specs.Trace.{trace_of}
 use Rattle.film_make.specs.Film.{film_of}
 use Rattle.film_make.specs.System.{system_of}
-use Rattle.vodserve.specs.Trace.{IsTraceText, IsBadTrace as IsBadTraceText}
-use Rattle.vodserve.specs.Words.{Viewer, Made, Wanted, help, version, plan_of, check_of, make_of, scan_of, made_film, made_trace, made_system}
-use Rattle.vodserve.specs.Scanning.{HoldsFilm, IsNamedFilmRefused}
+use Rattle.inputs.specs.Traces.{IsTraceText, IsBadTrace as IsBadTraceText}
+use Rattle.command_words.specs.Words.{Viewer, Made, Serving, Order, help, version, plan_of, check_of, make_of, scan_of, serve_of, made_film, made_trace, made_system}
+use Rattle.inputs.specs.Films.{IsHeldRefused}
+use Rattle.inputs.specs.Scans.{HoldsFilm, IsFilmRefused}
 use Rattle.vodserve.specs.ScanText.{scan_text}
 use Rattle.mpeg_scan.specs.declared.units.Unit.{Unit as PictureUnit}
 use Rattle.vodserve.specs.Texts.{help_text, version_text}
-use Rattle.vodserve.specs.declared.report.Fault.{Fault}
-use Rattle.vodserve.specs.declared.report.Fault.TheVariants.{NotFound, BadTrace, Curves, BadCert, Film}
+use Rattle.troubles.specs.declared.faults.Fault.{Fault}
+use Rattle.troubles.specs.declared.faults.Fault.TheVariants.{NotFound, BadTrace, Curves, BadCert, Film, FilmTooLarge}
 
 -- a trace has one picture a slot; nothing of it was sent or played before
 abbrev pub trace_timing : Viewer → Timing
@@ -61,6 +63,10 @@ IsViewerRefused held viewer (BadTrace place) = (text : List ℕ) × ((file_named
 IsViewerRefused held viewer (Curves fault) = (sizes : List ℕ) × (HoldsTrace held viewer.trace sizes × HasFault sizes (trace_timing viewer) fault)
 IsViewerRefused held viewer (BadCert line) = ⊥
 IsViewerRefused held viewer (Film fault) = ⊥
+IsViewerRefused held viewer FilmTooLarge = ⊥
+
+abbrev pub IsTraceTrouble : Viewer → List File → List ℕ → Fault → Type 0
+IsTraceTrouble viewer held name fault = IsViewerRefused held viewer fault
 
 -- the verdict on the certificate that the library holds: status 0 where its segments are the best plan of the curves, and 1
 -- where a fault is there, of which the first is named
@@ -85,6 +91,7 @@ IsCertRefused held viewer cert (BadCert line) =
     ((curves : CurvePair) × HasCurves held viewer curves)
     × ((written : List ℕ) × ((file_named held cert ≡ Some written) × IsCertTextRefused written (BadCertLine line)))
 IsCertRefused held viewer cert (Film fault) = ⊥
+IsCertRefused held viewer cert FilmTooLarge = ⊥
 
 -- the film that the library holds is accepted, and its size, rate and units are printed
 pub record IsScanned (held : List File) (film text : List ℕ) : Type 0 where
@@ -100,21 +107,38 @@ made_text made_film seed pictures = film_of (words_of seed) pictures
 made_text made_trace seed pictures = trace_of (words_of seed) pictures
 made_text made_system seed pictures = system_of (film_of (words_of seed) pictures)
 
--- the status, the text for the output and the plan of what is wanted
-abbrev pub IsDone : List File → Wanted → ℕ → List ℕ → Option (List Segment) → Type 0
-IsDone held help status text plan = (status ≡ 0) × (text ≡ help_text)
-IsDone held version status text plan = (status ≡ 0) × (text ≡ version_text)
-IsDone held (plan_of viewer) status text plan = (status ≡ 0) × IsPlanned held viewer text plan
-IsDone held (check_of viewer cert) status text plan = IsChecked held viewer cert status text × (plan ≡ None)
-IsDone held (make_of kind seed pictures) status text plan = (status ≡ 0) × (text ≡ made_text kind seed pictures)
-IsDone held (scan_of film) status text plan = (status ≡ 0) × IsScanned held film text × (plan ≡ None)
+-- what holds of the files that a library tells, if it tells them
+abbrev pub IfTold : Option (List File) → (List File → Type 0) → Type 0
+IfTold told P = (held : List File) → told ≡ Some held → P held
+
+-- the status, the text for the output and the plan of what is asked for. What `--help`, `--version` and `make` give is the
+-- same over every library, also one that tells nothing; and status 1 is that of `check` alone
+abbrev pub IsDone : Option (List File) → Order → ℕ → List ℕ → Option (List Segment) → Type 0
+IsDone told help status text plan = (status ≡ 0) × (plan ≡ None) × (text ≡ help_text)
+IsDone told version status text plan = (status ≡ 0) × (plan ≡ None) × (text ≡ version_text)
+IsDone told (plan_of viewer) status text plan = (status ≡ 0) × IfTold told (λ held. IsPlanned held viewer text plan)
+IsDone told (check_of viewer cert) status text plan = (status ≤ 1) × (plan ≡ None) × IfTold told (λ held. IsChecked held viewer cert status text)
+IsDone told (make_of kind seed pictures) status text plan = (status ≡ 0) × (plan ≡ None) × (text ≡ made_text kind seed pictures)
+IsDone told (scan_of film) status text plan = (status ≡ 0) × (plan ≡ None) × IfTold told (λ held. IsScanned held film text)
+IsDone told (serve_of serving) status text plan = ⊥
+
+-- the inputs that are read
+abbrev pub IsRead : Order → List ℕ → Type 0
+IsRead help name = ⊥
+IsRead version name = ⊥
+IsRead (plan_of viewer) name = name ≡ viewer.trace
+IsRead (check_of viewer cert) name = (name ≡ viewer.trace) ⊎ (name ≡ cert)
+IsRead (make_of kind seed pictures) name = ⊥
+IsRead (scan_of film) name = name ≡ film
+IsRead (serve_of serving) name = Contains serving.films name
 
 -- the input that is refused, and why
-abbrev pub IsInputRefused : List File → Wanted → List ℕ → Fault → Type 0
-IsInputRefused held help name fault = ⊥
-IsInputRefused held version name fault = ⊥
-IsInputRefused held (plan_of viewer) name fault = (name ≡ viewer.trace) × IsViewerRefused held viewer fault
-IsInputRefused held (check_of viewer cert) name fault =
+abbrev pub IsInputRefused : Order → List File → List ℕ → Fault → Type 0
+IsInputRefused help held name fault = ⊥
+IsInputRefused version held name fault = ⊥
+IsInputRefused (plan_of viewer) held name fault = IsViewerRefused held viewer fault
+IsInputRefused (check_of viewer cert) held name fault =
     ((name ≡ viewer.trace) × IsViewerRefused held viewer fault) ⊎ ((name ≡ cert) × IsCertRefused held viewer cert fault)
-IsInputRefused held (make_of kind seed pictures) name fault = ⊥
-IsInputRefused held (scan_of film) name fault = IsNamedFilmRefused held film name fault
+IsInputRefused (make_of kind seed pictures) held name fault = ⊥
+IsInputRefused (scan_of film) held name fault = IsFilmRefused held name fault
+IsInputRefused (serve_of serving) held name fault = IsHeldRefused held name fault

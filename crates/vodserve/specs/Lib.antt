@@ -1,17 +1,5 @@
 pub mod Carrying
-pub mod Commands
-pub mod Given
-pub mod Orders
-pub mod Ranges
-pub mod Reading
-pub mod Report
 pub mod Run
-pub mod Said
 pub mod ScanText
-pub mod Scanning
 pub mod Texts
-pub mod Trace
-pub mod TraceRefusal
-pub mod Trouble
 pub mod Verdict
-pub mod Words

@@ -1,62 +1,98 @@
--- What a run of the program did: it carried out what is wanted, or it said what kept it from that.
-use Rattle.std.specs.Prelude.{◌≡◌, ℕ, ◌≤◌, Bool, List, Option, Some, None, ◌⊎◌}
+-- What a run of the program did: it carried out what the words ask for, or it said what kept it from that.
+use Rattle.std.specs.Prelude.{◌≡◌, ℕ, ◌≤◌, Bool, List, Option, Some, None, Result, Ok, Err, ◌⊎◌}
 use Rattle.vod_base.specs.Outside.{File, HasRisen, more, IsFrontMore}
 use Rattle.plan_cert.specs.declared.Segment.{Segment}
-use Rattle.vodserve.specs.Words.{Wanted}
-use Rattle.vodserve.specs.Carrying.{IsDone, IsInputRefused}
-use Rattle.vodserve.specs.Said.{IsSaid}
-use Rattle.vodserve.specs.Report.{trouble_text}
+use Rattle.command_words.specs.Words.{Serving, Order, help, version, plan_of, check_of, make_of, scan_of, serve_of}
+use Rattle.troubles.specs.Said.{IsSaid}
+use Rattle.troubles.specs.Lines.{trouble_text}
+use Rattle.troubles.specs.Statuses.{status_of}
+use Rattle.troubles.specs.Causes.{IsReadOnly, IsReadTrouble}
+use Rattle.troubles.specs.declared.faults.Trouble.{Trouble}
+use Rattle.troubles.specs.declared.faults.Trouble.TheVariants.{Usage, Refused, StoreFault, SinkFault, NoMemory, GateFault}
+use Rattle.vodserve.specs.Carrying.{IsDone, IsRead, IsInputRefused}
+use Rattle.vodserve.specs.declared.done.Done.{Done}
 use Rattle.vodserve.specs.declared.run.Ended.{Ended}
-use Rattle.vodserve.specs.declared.report.Trouble.{Trouble}
-use Rattle.vodserve.specs.declared.report.Trouble.TheVariants.{Usage, Refused, StoreFault, SinkFault, NoMemory}
 
 -- a library or a stream: how many faults it counted, and what it told of its content
 pub record Seen (T : Type 0) : Type 0 where
   pub faults : ℕ
   pub told : Option T
 
-abbrev pub status_of : Trouble → ℕ
-status_of Usage = 2
-status_of (Refused name fault) = 3
-status_of (StoreFault name) = 4
-status_of SinkFault = 5
-status_of NoMemory = 6
+-- the library, the output and the error stream
+pub record World : Type 0 where
+  pub store : Seen (List File)
+  pub out : Seen (List ℕ)
+  pub err : Seen (List ℕ)
 
--- all was done, and its whole text written
-pub record Finishes (store : Seen (List File)) (out out' : Seen (List ℕ)) (wanted : Wanted) (ended : Ended) : Type 0 where
-  pub text : List ℕ
-  pub done : (held : List File) → store.told ≡ Some held → IsDone held wanted ended.status text ended.plan
-  pub status : ended.status ≤ 1
-  pub wrote : out'.told ≡ more out.told text
-
--- all was done, but a fault left only a front of its text written
-pub record IsCut (store : Seen (List File)) (out out' : Seen (List ℕ)) (wanted : Wanted) : Type 0 where
-  pub status : ℕ
-  pub text : List ℕ
-  pub plan : Option (List Segment)
-  pub done : (held : List File) → store.told ≡ Some held → IsDone held wanted status text plan
-  pub risen : HasRisen out.faults out'.faults
-  pub front : IsFrontMore out.told out'.told text
-
--- what each trouble comes from, and what it leaves of the output
-abbrev pub IsCause : Seen (List File) → Seen (List File) → Seen (List ℕ) → Seen (List ℕ) → Option Wanted → Trouble → Type 0
-IsCause store store' out out' wanted Usage = (wanted ≡ None) × (out' ≡ out)
-IsCause store store' out out' wanted (Refused name fault) =
-    (w : Wanted) × ((wanted ≡ Some w) × ((held : List File) → store.told ≡ Some held → IsInputRefused held w name.now fault) × (out' ≡ out))
-IsCause store store' out out' wanted (StoreFault name) = (w : Wanted) × ((wanted ≡ Some w) × HasRisen store.faults store'.faults × (out' ≡ out))
-IsCause store store' out out' wanted SinkFault = (w : Wanted) × ((wanted ≡ Some w) × IsCut store out out' w)
-IsCause store store' out out' wanted NoMemory = (w : Wanted) × ((wanted ≡ Some w) × (out' ≡ out))
-
--- the trouble that the run came to, and its line on the error stream, or after a fault there a front of it
-pub record Fails (store store' : Seen (List File)) (out out' err err' : Seen (List ℕ)) (wanted : Option Wanted) (ended : Ended) : Type 0 where
-  pub trouble : Trouble
+-- a trouble's status, and its line on the error stream, or after a fault there a front of it
+pub record Fails (err err' : Seen (List ℕ)) (trouble : Trouble) (ended : Ended) : Type 0 where
   pub status : ended.status ≡ status_of trouble
   pub no_plan : ended.plan ≡ None
-  pub cause : IsCause store store' out out' wanted trouble
   pub whole : Bool
   pub said : IsSaid err.faults err'.faults err.told err'.told (trouble_text trouble) whole
 
-abbrev pub Ran : Seen (List File) → Seen (List File) → Seen (List ℕ) → Seen (List ℕ) → Seen (List ℕ) → Seen (List ℕ) → Option Wanted → Ended → Type 0
-Ran store store' out out' err err' wanted ended =
-    ((w : Wanted) × ((wanted ≡ Some w) × Finishes store out out' w ended × (err' ≡ err)))
-    ⊎ Fails store store' out out' err err' wanted ended
+-- all was done, and its whole text written
+pub record Finishes (before after : World) (order : Order) (ended : Ended) : Type 0 where
+  pub text : List ℕ
+  pub done : IsDone before.store.told order ended.status text ended.plan
+  pub wrote : after.out.told ≡ more before.out.told text
+  pub quiet : after.err ≡ before.err
+
+-- all was done, but a fault left only a front of its text written
+pub record IsCut (before after : World) (order : Order) : Type 0 where
+  pub status : ℕ
+  pub text : List ℕ
+  pub plan : Option (List Segment)
+  pub done : IsDone before.store.told order status text plan
+  pub risen : HasRisen before.out.faults after.out.faults
+  pub front : IsFrontMore before.out.told after.out.told text
+
+-- the text of what was done was written whole; or a fault left a front of it, and was said
+abbrev pub IsWritten : Seen (List ℕ) → Seen (List ℕ) → Seen (List ℕ) → Seen (List ℕ) → Done → Ended → Type 0
+IsWritten out out' err err' done ended =
+    ((ended.status ≡ done.status) × (ended.plan ≡ done.plan) × (out'.told ≡ more out.told done.text.items) × (err' ≡ err))
+    ⊎ (HasRisen out.faults out'.faults × IsFrontMore out.told out'.told done.text.items × Fails err err' SinkFault ended)
+
+-- the same of what was done; a trouble that kept from it was said alone
+abbrev pub Printed : Seen (List ℕ) → Seen (List ℕ) → Seen (List ℕ) → Seen (List ℕ) → Result Done Trouble → Ended → Type 0
+Printed out out' err err' (Ok done) ended = IsWritten out out' err err' done ended
+Printed out out' err err' (Err trouble) ended = (out' ≡ out) × Fails err err' trouble ended
+
+-- what a trouble comes from, and what it leaves of the output: before the text was made nothing was written
+abbrev pub IsCause : World → World → Order → Trouble → Type 0
+IsCause before after order Usage = ⊥
+IsCause before after order (Refused name fault) =
+    IsReadTrouble (IsRead order) (IsInputRefused order) before.store.told before.store.faults after.store.faults (Refused name fault)
+    × (after.out ≡ before.out)
+IsCause before after order (StoreFault name) =
+    IsReadTrouble (IsRead order) (IsInputRefused order) before.store.told before.store.faults after.store.faults (StoreFault name)
+    × (after.out ≡ before.out)
+IsCause before after order SinkFault = IsCut before after order
+IsCause before after order NoMemory = after.out ≡ before.out
+IsCause before after order GateFault = ⊥
+
+-- a command whose text is printed at its end
+abbrev pub Prints : World → World → Order → Ended → Type 0
+Prints before after order ended =
+    Finishes before after order ended
+    ⊎ ((trouble : Trouble) × (IsCause before after order trouble × Fails before.err after.err trouble ended))
+
+-- words without meaning: the line alone
+abbrev pub IsUsage : World → World → Ended → Type 0
+IsUsage before after ended = (after.out ≡ before.out) × Fails before.err after.err Usage ended
+
+-- one definition for each command
+abbrev pub Does : World → World → Order → Ended → Type 0
+Does before after help ended = Prints before after help ended
+Does before after version ended = Prints before after version ended
+Does before after (plan_of viewer) ended = Prints before after (plan_of viewer) ended
+Does before after (check_of viewer cert) ended = Prints before after (check_of viewer cert) ended
+Does before after (make_of kind seed pictures) ended = Prints before after (make_of kind seed pictures) ended
+Does before after (scan_of film) ended = Prints before after (scan_of film) ended
+Does before after (serve_of serving) ended = IsUsage before after ended
+
+-- the library is as it was, and what the words ask for was done, if they mean something
+pub record Ran (before after : World) (asked : Option Order) (ended : Ended) : Type 0 where
+  pub library : IsReadOnly before.store.told after.store.told before.store.faults after.store.faults
+  pub output : before.out.faults ≤ after.out.faults
+  pub does : ((order : Order) × ((asked ≡ Some order) × Does before after order ended)) ⊎ ((asked ≡ None) × IsUsage before after ended)

@@ -2,7 +2,7 @@
 use Rattle.std.specs.Prelude.{◌≡◌, ℕ, List, ◌++◌, Option, Some, None, codes}
 use Rattle.cert_check.specs.declared.CertFault.{CertFault}
 use Rattle.cert_check.specs.declared.CertFault.TheVariants.{EmptySegment, WrongLength, WrongTotal, BelowLow, AboveUp, EqualSlopes, RiseOffUpper, FallOffLower}
-use Rattle.vodserve.specs.Said.{number_text}
+use Rattle.troubles.specs.Said.{number_text}
 
 abbrev pub fault_name : CertFault → List ℕ
 fault_name (EmptySegment i) = codes "EmptySegment"

@@ -1,17 +1,18 @@
 //! `vodserve`: a video-on-demand server for RTSP 1.0 that sends each film by its optimal smoothing plan.
 #![tactic(auto)]
 
-mod commands;
-mod reading;
+mod checks;
+mod curves;
+mod done;
+mod makes;
+mod plans;
 mod real;
-mod report;
 mod run;
 mod scan_text;
-mod scanning;
+mod scans;
 #[cfg(test)]
 mod tests;
-mod traces;
-mod words;
+mod texts;
 
 use real::{FileLibrary, OutSink};
 use std::alloc::AllocError;

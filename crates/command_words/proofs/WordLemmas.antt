@@ -1,0 +1,91 @@
+-- The values that words give to a key, from the front on.
+use Rattle.std.proofs.Common.{◌≡◌, ℕ, ◌+◌, ◌<◌, ◌≤◌, List, [], ◌∷◌, ◌++◌, length, take, drop, get_or, sym, ap, ◌∙◌, arith, String, Global, string_bytes, length-append, Option, Some, None, Bool, true, false, ◌&&◌, Bor, refl}
+use Rattle.std.specs.Option.{option_to_list, option_copied, is_some}
+use Rattle.std.proofs.lemmas.List.{take_more, map-append, append-nil, take-append-drop, length-map}
+use Rattle.std.proofs.lemmas.Grind.{flat_map-append}
+use Rattle.std.proofs.lemmas.List.Folds.{list_all-append, list_all_at}
+use Rattle.std.proofs.Math.ListN.{get_or-map}
+use Rattle.std.specs.List.{list_all}
+use Rattle.command_words.specs.Settings.{texts, setting_value, values_of}
+
+-- what words in front and words behind give
+values_of-append : (key : List ℕ) (front back : List (List ℕ)) → values_of key (front ++ back) ≡ values_of key front ++ values_of key back
+values_of-append key front back = flat_map-append (λ (word : List ℕ). option_to_list (setting_value key word)) front back
+
+-- a word more
+pub values_of_more : (key : List ℕ) (words : List (String Global)) (i : ℕ) (word : String Global) → i < length words → word ≡ get_or words i word →
+    values_of key (texts (take (i + 1) words)) ≡ values_of key (texts (take i words)) ++ option_to_list (setting_value key (string_bytes word))
+values_of_more key words i word h at =
+    ap (λ (ws : List (String Global)). values_of key (texts ws)) (take_more words i word h)
+    ∙ ap (values_of key) (map-append string_bytes (take i words) (get_or words i word ∷ []))
+    ∙ values_of-append key (texts (take i words)) (string_bytes (get_or words i word) ∷ [])
+    ∙ ap (λ (vs : List (List ℕ)). values_of key (texts (take i words)) ++ vs) (append-nil (option_to_list (setting_value key (string_bytes (get_or words i word)))))
+    ∙ ap (λ (w : String Global). values_of key (texts (take i words)) ++ option_to_list (setting_value key (string_bytes w))) (sym at)
+
+-- words in front give no more values than all words
+pub values_of_front : (key : List ℕ) (words : List (String Global)) (i : ℕ) → length (values_of key (texts (take i words))) ≤ length (values_of key (texts words))
+values_of_front key words i =
+    let whole : values_of key (texts words) ≡ values_of key (texts (take i words)) ++ values_of key (texts (drop i words)) =
+    ap (λ (ws : List (String Global)). values_of key (texts ws)) (sym (take-append-drop i words))
+    ∙ ap (values_of key) (map-append string_bytes (take i words) (drop i words))
+    ∙ values_of-append key (texts (take i words)) (texts (drop i words)) in
+    omega (arith, ap length whole, length-append (values_of key (texts (take i words))) (values_of key (texts (drop i words))))
+
+none_found : (o : Option (Bor (List ℕ))) → is_some o ≡ false → option_copied o ≡ None
+none_found None h = refl
+none_found (Some v) h = cc
+
+some_found : (o : Option (Bor (List ℕ))) → is_some o ≡ true → length (option_to_list (option_copied o)) ≡ 1
+some_found None h = cc
+some_found (Some v) h = refl
+
+-- the first word that gives a value
+pub values_of_first : (key : List ℕ) (words : List (String Global)) (i : ℕ) (word : String Global) (found answer found' : Option (Bor (List ℕ))) →
+    i < length words → word ≡ get_or words i word → values_of key (texts (take i words)) ≡ option_to_list (option_copied found) →
+    option_copied answer ≡ setting_value key (string_bytes word) → is_some found ≡ false → found' ≡ answer →
+    values_of key (texts (take (i + 1) words)) ≡ option_to_list (option_copied found')
+values_of_first key words i word found answer found' h at before says none is =
+    values_of_more key words i word h at
+    ∙ ap (λ (vs : List (List ℕ)). vs ++ option_to_list (setting_value key (string_bytes word))) (before ∙ ap option_to_list (none_found found none))
+    ∙ ap option_to_list (sym says) ∙ ap (λ (o : Option (Bor (List ℕ))). option_to_list (option_copied o)) (sym is)
+
+-- a word that gives no value
+pub values_of_none : (key : List ℕ) (words : List (String Global)) (i : ℕ) (word : String Global) (found answer found' : Option (Bor (List ℕ))) →
+    i < length words → word ≡ get_or words i word → values_of key (texts (take i words)) ≡ option_to_list (option_copied found) →
+    option_copied answer ≡ setting_value key (string_bytes word) → answer ≡ None → found' ≡ found →
+    values_of key (texts (take (i + 1) words)) ≡ option_to_list (option_copied found')
+values_of_none key words i word found answer found' h at before says none is =
+    values_of_more key words i word h at
+    ∙ ap (λ (o : Option (List ℕ)). values_of key (texts (take i words)) ++ option_to_list o) (sym says ∙ ap option_copied none)
+    ∙ append-nil (values_of key (texts (take i words)))
+    ∙ before ∙ ap (λ (o : Option (Bor (List ℕ))). option_to_list (option_copied o)) (sym is)
+
+-- a second word that gives a value
+pub values_of_again : (key : List ℕ) (words : List (String Global)) (i : ℕ) (word : String Global) (found answer : Option (Bor (List ℕ))) (value : Bor (List ℕ)) →
+    i < length words → word ≡ get_or words i word → values_of key (texts (take i words)) ≡ option_to_list (option_copied found) →
+    option_copied answer ≡ setting_value key (string_bytes word) → is_some found ≡ true → answer ≡ Some value →
+    2 ≤ length (values_of key (texts words))
+values_of_again key words i word found answer value h at before says some is =
+    let grown : length (values_of key (texts (take (i + 1) words))) ≡ length (values_of key (texts (take i words)) ++ option_to_list (option_copied answer)) =
+    ap length (values_of_more key words i word h at) ∙ ap (λ (o : Option (List ℕ)). length (values_of key (texts (take i words)) ++ option_to_list o)) (sym says) in
+    let last : length (option_to_list (option_copied answer)) ≡ 1 = ap (λ (o : Option (Bor (List ℕ))). length (option_to_list (option_copied o))) is in
+    let first : length (values_of key (texts (take i words))) ≡ 1 = ap length before ∙ some_found found some in
+    omega (arith, grown, length-append (values_of key (texts (take i words))) (option_to_list (option_copied answer)), last, first, values_of_front key words (i + 1))
+
+-- a word more that passes
+pub all_more : (p : List ℕ → Bool) (words : List (String Global)) (i : ℕ) (word : String Global) → i < length words → word ≡ get_or words i word →
+    list_all p (texts (take i words)) ≡ true → p (string_bytes word) ≡ true → list_all p (texts (take (i + 1) words)) ≡ true
+all_more p words i word h at before passes =
+    ap (λ (ws : List (String Global)). list_all p (texts ws)) (take_more words i word h)
+    ∙ ap (list_all p) (map-append string_bytes (take i words) (get_or words i word ∷ []))
+    ∙ list_all-append p (texts (take i words)) (string_bytes (get_or words i word) ∷ [])
+    ∙ ap (λ (b : Bool). b && (p (string_bytes (get_or words i word)) && true)) before
+    ∙ ap (λ (w : String Global). p (string_bytes w) && true) (sym at)
+    ∙ ap (λ (b : Bool). b && true) passes
+
+-- a word that fails
+pub all_fails : (p : List ℕ → Bool) (words : List (String Global)) (i : ℕ) (word : String Global) → i < length words → word ≡ get_or words i word →
+    p (string_bytes word) ≡ false → list_all p (texts words) ≡ false
+all_fails p words i word h at fails =
+    list_all_at p (texts words) i (string_bytes word) (rw length-map h)
+    (ap p (get_or-map string_bytes words i word ∙ ap string_bytes (sym at)) ∙ fails)

@@ -1,0 +1,125 @@
+ghost use Rattle.std.specs.Prelude.{◌≡◌, ◌^◌, ◌≤◌, [], true, false, IfSome};
+ghost use Rattle.slot_calendar.specs.Profiles.{IsProfile};
+ghost use Rattle.command_words.specs.Settings.{texts, values_of};
+ghost use Rattle.command_words.specs.Capacities.{IsFront, capacity_of, flat_steps, may_follow, one_capacity, stands_after, step_of, steps_of, step_more};
+
+use crate::settings::{Given, find_given, number_within};
+use crate::steps::{MOST_STEPS, Steps};
+use slot_calendar::CapStep;
+use vod_base::read_number;
+
+/// The most bytes of a slot.
+const MOST_BYTES: u64 = 1 << 42;
+
+/// The greatest slot of a step.
+const LAST_SLOT: u64 = 1 << 62;
+
+/// The bytes of a slot where the words say nothing.
+const BYTES: u64 = 50_000;
+
+/// The step that a text SLOT:BYTES writes.
+fn read_step(text: &str) -> Option<CapStep>
+    ensures { result ≡ step_of text.now }
+{
+    let (slot, bytes) = text.split_once(':')?;
+    let Ok(from) = read_number(slot.as_bytes()) else {
+        return None;
+    };
+    let Ok(bytes) = read_number(bytes.as_bytes()) else {
+        return None;
+    };
+    Some(CapStep { from, bytes })
+}
+
+/// Whether a step at the slot may stand after these.
+fn stands_after(steps: &[CapStep], slot: u64) -> bool
+    ensures { result ≡ stands_after steps.now slot }
+{
+    if steps.is_empty() {
+        slot == 0
+    } else {
+        steps[steps.len() - 1].from < slot
+    }
+}
+
+/// Whether the step may follow these.
+fn may_follow(steps: &[CapStep], step: CapStep) -> bool
+    ensures { result ≡ may_follow steps.now step }
+{
+    steps.len() < MOST_STEPS
+        && stands_after(steps, step.from)
+        && step.from <= LAST_SLOT
+        && step.bytes <= MOST_BYTES
+}
+
+/// Puts the step that a part writes after these, and tells whether it may stand there.
+fn put_part(steps: &mut Steps, part: &str) -> bool
+    requires { IsFront steps.old }
+    ensures put { result ≡ true → step_more steps.old (step_of part.now) ≡ Some steps.new }
+    ensures refused { result ≡ false → step_more steps.old (step_of part.now) ≡ None }
+    ensures front { IsFront steps.new }
+{
+    let Some(step) = read_step(part) else {
+        return false;
+    };
+    if !may_follow(steps.as_slice(), step) {
+        return false;
+    }
+    steps.push(step);
+    true
+}
+
+/// The steps that a text writes, joined by commas.
+fn read_steps(text: &str) -> Option<Steps>
+    ensures steps { result ≡ steps_of text.now }
+    ensures profile { IfSome result IsProfile }
+{
+    let mut steps = Steps::new();
+    let mut rest = text;
+    while let Some((part, after)) = rest.split_once(',') {
+        if !put_part(&mut steps, part) {
+            return None;
+        }
+        rest = after;
+    }
+    if put_part(&mut steps, rest) {
+        Some(steps)
+    } else {
+        None
+    }
+}
+
+/// The steps of one capacity in all slots.
+fn flat(bytes: u64) -> Steps
+    requires { bytes ≤ 2 ^ 42 }
+    ensures steps { result ≡ flat_steps bytes }
+    ensures profile { IsProfile result }
+{
+    let mut steps = Steps::new();
+    steps.push(CapStep { from: 0, bytes });
+    steps
+}
+
+/// The steps of a capacity's text.
+fn read_capacity(text: &str) -> Option<Steps>
+    ensures steps { result ≡ capacity_of text.now }
+    ensures profile { IfSome result IsProfile }
+{
+    if text.split_once(':').is_some() {
+        return read_steps(text);
+    }
+    let bytes = number_within(text, 1, MOST_BYTES)?;
+    Some(flat(bytes))
+}
+
+/// The steps of the capacity that the words give.
+pub(crate) fn one_capacity(words: &[String], key: &str) -> Option<Steps>
+    ensures steps { result ≡ one_capacity (values_of key.now (texts words.now)) }
+    ensures profile { IfSome result IsProfile }
+{
+    match find_given(words, key) {
+        Given::Absent => Some(flat(BYTES)),
+        Given::Once(text) => read_capacity(text),
+        Given::Again => None,
+    }
+}

@@ -1,0 +1,78 @@
+use crate::steps::Steps;
+
+/// What the words of the command line ask for.
+#[derive(Debug, Drop)]
+pub enum Order<'a> {
+    /// `--help` alone.
+    Help,
+    /// `--version` alone.
+    Version,
+    /// `plan`: the plan of a trace.
+    Plan(Viewer<'a>),
+    /// `check`: whether a certificate is that of the best plan.
+    Check(Viewer<'a>, &'a str),
+    /// `make`: a trace, film or system stream from a number.
+    Make(Made, u64, u32),
+    /// `scan`: the units of a film.
+    Scan(&'a str),
+    /// `serve`: films over RTSP.
+    Serve(Serving<'a>),
+}
+
+/// A trace and the client that it is planned for.
+#[derive(Clone, Copy, Debug)]
+pub struct Viewer<'a> {
+    /// The name of the trace.
+    pub trace: &'a str,
+    /// The client's buffer, from 1 to 2^42 bytes.
+    pub buffer: u64,
+    /// The start delay, from 0 to 10,000 slots.
+    pub startup: u64,
+}
+
+/// What `make` makes.
+#[derive(Clone, Copy, Debug, PartialEq, Eq)]
+pub enum Made {
+    Film,
+    Trace,
+    System,
+}
+
+/// Where a server listens, and its workers.
+#[derive(Clone, Copy, Debug, PartialEq, Eq)]
+pub struct Listening {
+    /// The port, from 1 to 65,535.
+    pub port: u16,
+    /// Whether it listens at all addresses, and not at 127.0.0.1 alone.
+    pub all: bool,
+    /// How many workers it has, from 1 to 256.
+    pub workers: u32,
+    /// How many connections each worker takes; 0 is no end.
+    pub connections: u64,
+}
+
+/// The client that a play is planned for where its request says nothing else, and the length of a slot.
+#[derive(Clone, Copy, Debug, PartialEq, Eq)]
+pub struct Pace {
+    /// The client's buffer, from 1 to 2^42 bytes.
+    pub buffer: u64,
+    /// The start delay, from 0 to 10,000 slots.
+    pub startup: u64,
+    /// The length of a slot, from 360 to 360,000 in 1/360,000 second.
+    pub slot: u32,
+}
+
+/// A server's films, link and connections.
+#[derive(Debug, Drop)]
+pub struct Serving<'a> {
+    /// The words of the command, of which those of the key `film` name its films, 1 to 64, no two alike.
+    pub words: &'a [String],
+    /// The steps of its link's capacity.
+    pub capacity: Steps,
+    /// The most entries of its journal, from 2 to 1,048,576.
+    pub journal: u64,
+    /// Where it listens.
+    pub listening: Listening,
+    /// What it plans by.
+    pub pace: Pace,
+}

@@ -1,0 +1,87 @@
+ghost use Rattle.std.specs.Prelude.{◌≡◌, ◌≤◌, ◌^◌, IfSome};
+ghost use Rattle.std.specs.Option.{option_copied};
+ghost use Rattle.vod_base.specs.Numbers.{number_of};
+ghost use Rattle.command_words.specs.Settings.{texts, setting_value, values_of, one_name, in_range, one_number, number_or};
+ghost use Rattle.command_words.specs.Given.{IsGiven};
+
+use vod_base::{good_name, read_number};
+
+/// How often words give a value to a key.
+#[derive(Clone, Copy, Debug)]
+pub(crate) enum Given<'a> {
+    Absent,
+    Once(&'a str),
+    Again,
+}
+
+/// The value that the word gives to the key.
+pub(crate) fn setting<'a>(word: &'a str, key: &str) -> Option<&'a str>
+    ensures { option_copied result ≡ setting_value key.now word.entry.now }
+{
+    let (name, value) = word.split_once('=')?;
+    if name == key { Some(value) } else { None }
+}
+
+pub(crate) fn find_given<'a>(words: &'a [String], key: &str) -> Given<'a>
+    ensures { IsGiven result (values_of key.now (texts words.entry.now)) }
+{
+    let mut found = None;
+    for word in words {
+        if let Some(value) = setting(word.as_str(), key) {
+            if found.is_some() {
+                return Given::Again;
+            }
+            found = Some(value);
+        }
+    }
+    match found {
+        Some(value) => Given::Once(value),
+        None => Given::Absent,
+    }
+}
+
+pub(crate) fn one_name<'a>(words: &'a [String], key: &str) -> Option<&'a str>
+    ensures { option_copied result ≡ one_name (values_of key.now (texts words.entry.now)) }
+{
+    match find_given(words, key) {
+        Given::Once(name) if good_name(name.as_bytes()) => Some(name),
+        _ => None,
+    }
+}
+
+pub(crate) fn number_within(text: &str, least: u64, most: u64) -> Option<u64>
+    ensures number { result ≡ in_range least most (number_of text.now) }
+    ensures range { IfSome result (λ number. (least ≤ number) × (number ≤ most)) }
+{
+    match read_number(text.as_bytes()) {
+        Ok(number) if least <= number && number <= most => Some(number),
+        _ => None,
+    }
+}
+
+pub(crate) fn one_number(words: &[String], key: &str, least: u64, most: u64) -> Option<u64>
+    ensures { result ≡ one_number least most (values_of key.now (texts words.now)) }
+{
+    match find_given(words, key) {
+        Given::Once(text) => number_within(text, least, most),
+        _ => None,
+    }
+}
+
+pub(crate) fn number_or(
+    words: &[String],
+    key: &str,
+    default: u64,
+    least: u64,
+    most: u64,
+) -> Option<u64>
+    requires { (least ≤ default) × (default ≤ most) }
+    ensures number { result ≡ number_or default least most (values_of key.now (texts words.now)) }
+    ensures range { IfSome result (λ number. (least ≤ number) × (number ≤ most)) }
+{
+    match find_given(words, key) {
+        Given::Absent => Some(default),
+        Given::Once(text) => number_within(text, least, most),
+        Given::Again => None,
+    }
+}

@@ -1,0 +1,4 @@
+pub mod ReadLemmas
+pub mod ScanLemmas
+pub mod Tokens
+pub mod LoadLemmas

@@ -1,0 +1,114 @@
+ghost use Rattle.std.specs.Prelude.{◌≡◌, ◌<◌, ◌≤◌, Some, List, length, option_map, vec_len, true, IfErr, IfOk};
+ghost use Rattle.vod_base.specs.Outside.{File, file_named};
+ghost use Rattle.troubles.specs.Causes.{IsReadOnly, IsReadTrouble};
+ghost use Rattle.inputs.specs.Files.{IsFront, IsMissing, IsNamed, IsNever};
+
+use std::alloc::{AllocError, Global};
+use troubles::{Fault, Trouble};
+use vod_base::Library;
+
+/// The most bytes that one read asks for.
+pub(crate) const PIECE: usize = 65_536;
+
+/// That many zero bytes.
+pub(crate) fn zeros(alloc: Global, len: usize) -> Result<Vec<u8>, AllocError>
+    ensures { IfOk result (λ zeros. vec_len zeros ≡ len) }
+{
+    vec![in alloc; 0u8; len]
+}
+
+/// The size of a file that is there.
+pub(crate) fn find_file<'a, L: Library>(library: &mut L, name: &'a str) -> Result<u64, Trouble<'a>>
+    ensures library { IsReadOnly (L.files library.old) (L.files library.new) (L.faults library.old) (L.faults library.new) }
+    ensures found { (held : List File) → L.files library.old ≡ Some held
+        → IfOk result (λ size. Some size ≡ option_map length (file_named held name.entry.now)) }
+    ensures trouble { IfErr result (IsReadTrouble (IsNamed name.entry.now) IsMissing
+        (L.files library.old) (L.faults library.old) (L.faults library.new)) }
+{
+    match library.find(name) {
+        Ok(Some(size)) => Ok(size),
+        Ok(None) => Err(Trouble::Refused(name, Fault::NotFound)),
+        Err(_) => Err(Trouble::StoreFault(name)),
+    }
+}
+
+/// Reads one piece after the bytes read so far, and tells whether there was more to read.
+fn read_piece<'a, L: Library>(
+    library: &mut L,
+    name: &'a str,
+    size: u64,
+    piece: &mut [u8],
+    bytes: &mut Vec<u8>,
+) -> Result<bool, Trouble<'a>>
+    requires some { 0 < length piece.old }
+    requires before { vec_len bytes.old < size }
+    ensures library { IsReadOnly (L.files library.old) (L.files library.new) (L.faults library.old) (L.faults library.new) }
+    ensures longer { vec_len bytes.old ≤ vec_len bytes.new }
+    ensures grows { IfOk result (λ more. more ≡ true → vec_len bytes.old < vec_len bytes.new) }
+    ensures told { (held : List File) → L.files library.old ≡ Some held → IsFront held name.entry.now size bytes.old.items
+        → IfOk result (λ more. IsFront held name.entry.now size bytes.new.items × (more ≡ true)) }
+    ensures trouble { IfErr result (IsReadTrouble (IsNamed name.entry.now) IsNever
+        (L.files library.old) (L.faults library.old) (L.faults library.new)) }
+{
+    let at = bytes.len() as u64;
+    let count = match library.read(name, at, piece) {
+        Ok(count) => count.min((size - at) as usize),
+        Err(_) => return Err(Trouble::StoreFault(name)),
+    };
+    if count == 0 {
+        return Ok(false);
+    }
+    match bytes.extend_from_slice(&piece[..count]) {
+        Ok(()) => Ok(true),
+        Err(_) => Err(Trouble::NoMemory),
+    }
+}
+
+/// Reads a file of that size, by reads of at most 65,536 bytes from its beginning, until a read answers 0 or the size is
+/// reached.
+pub(crate) fn read_bytes<'a, L: Library>(
+    alloc: Global,
+    library: &mut L,
+    name: &'a str,
+    size: u64,
+) -> Result<Vec<u8>, Trouble<'a>>
+    ensures library { IsReadOnly (L.files library.old) (L.files library.new) (L.faults library.old) (L.faults library.new) }
+    ensures read { (held : List File) → L.files library.old ≡ Some held
+        → Some size ≡ option_map length (file_named held name.entry.now)
+        → IfOk result (λ bytes. file_named held name.entry.now ≡ Some bytes.items) }
+    ensures trouble { IfErr result (IsReadTrouble (IsNamed name.entry.now) IsNever
+        (L.files library.old) (L.faults library.old) (L.faults library.new)) }
+{
+    let mut bytes = Vec::new(alloc);
+    let mut piece = match zeros(alloc, PIECE) {
+        Ok(piece) => piece,
+        Err(_) => return Err(Trouble::NoMemory),
+    };
+    let mut more = true;
+    while more && (bytes.len() as u64) < size {
+        more = match read_piece(library, name, size, &mut piece, &mut bytes) {
+            Ok(more) => more,
+            Err(trouble) => return Err(trouble),
+        };
+    }
+    Ok(bytes)
+}
+
+/// Reads the whole input of that name, by reads of at most 65,536 bytes.
+pub fn read_input<'a, L: Library>(
+    alloc: Global,
+    library: &mut L,
+    name: &'a str,
+) -> Result<Vec<u8>, Trouble<'a>>
+    ensures library { IsReadOnly (L.files library.old) (L.files library.new) (L.faults library.old) (L.faults library.new) }
+    ensures found { (held : List File) → L.files library.old ≡ Some held
+        → IfOk result (λ text. file_named held name.entry.now ≡ Some text.items) }
+    ensures trouble { IfErr result (IsReadTrouble (IsNamed name.entry.now) IsMissing
+        (L.files library.old) (L.faults library.old) (L.faults library.new)) }
+{
+    let size = match find_file(library, name) {
+        Ok(size) => size,
+        Err(trouble) => return Err(trouble),
+    };
+    read_bytes(alloc, library, name, size)
+}

@@ -1,0 +1,54 @@
+use crate::{load_film, read_input, read_trace, scan_film};
+use std::alloc::{AllocError, Global};
+use std::test::Fail;
+use vod_base::MemoryLibrary;
+
+/// A sequence header, a group header, an I picture and one slice.
+const FILM: [u8; 34] = [
+    0, 0, 1, 0xb3, 0x16, 0x01, 0x20, 0x13, 0xff, 0xff, 0xe0, 0xa0, 0, 0, 1, 0xb8, 0, 8, 0, 0x40, 0,
+    0, 1, 0, 0, 0x0f, 0xff, 0xf8, 0, 0, 1, 1, 0x12, 0x34,
+];
+
+fn library(alloc: Global, bytes: &[u8]) -> Result<MemoryLibrary, AllocError> {
+    let name = String::from_str(alloc, "a.mpg")?;
+    let mut files = Vec::new(alloc);
+    files.push((name, Vec::from_slice(alloc, bytes)?))?;
+    Ok(MemoryLibrary::new(files, Vec::new(alloc)))
+}
+
+#[test]
+fn loads_and_scans_a_film(rt: HostRuntime) -> Result<(), Fail> {
+    let alloc = rt.alloc();
+    let mut held = library(alloc, FILM.as_slice())?;
+    let Ok(stored) = load_film(alloc, &mut held, "a.mpg") else {
+        return Err(Fail::from(AllocError));
+    };
+    assert_eq!(rt; stored.name.as_str(), "a.mpg");
+    assert_eq!(rt; stored.film.bytes.as_slice(), FILM.as_slice());
+    let Ok(scanned) = scan_film(alloc, &mut held, "a.mpg") else {
+        return Err(Fail::from(AllocError));
+    };
+    assert_eq!(rt;
+        (scanned.bytes, scanned.rate, scanned.units.len()),
+        (34, 3, 1)
+    );
+    assert!(rt; load_film(alloc, &mut held, "b.mpg").is_err());
+    Ok(())
+}
+
+#[test]
+fn reads_three_pieces(rt: HostRuntime) -> Result<(), Fail> {
+    let alloc = rt.alloc();
+    let mut bytes = vec![in alloc; b' '; 150_000]?;
+    bytes.extend_from_slice(b"12 7")?;
+    let mut held = library(alloc, bytes.as_slice())?;
+    let Ok(text) = read_input(alloc, &mut held, "a.mpg") else {
+        return Err(Fail::from(AllocError));
+    };
+    assert_eq!(rt; text.as_slice(), bytes.as_slice());
+    let Ok(sizes) = read_trace(alloc, text.as_slice()) else {
+        return Err(Fail::from(AllocError));
+    };
+    assert_eq!(rt; sizes.as_slice(), [12, 7].as_slice());
+    Ok(())
+}

@@ -1,0 +1,4 @@
+pub mod Said
+pub mod Lines
+pub mod Statuses
+pub mod Causes

@@ -1,0 +1,13 @@
+//! What keeps `vodserve` from its work: the troubles, the line that names each on the error stream, and its exit status.
+#![tactic(auto)]
+
+mod faults;
+mod lines;
+mod statuses;
+
+pub use faults::{Fault, Trouble};
+pub use lines::say;
+pub use statuses::status_of;
+
+#[cfg(test)]
+mod tests;

@@ -1,0 +1,30 @@
+use crate::{Fault, Trouble, say, status_of};
+use std::alloc::AllocError;
+use std::test::Fail;
+use vod_base::{MemorySink, NoMemory};
+
+#[test]
+fn says_each_trouble(rt: HostRuntime) -> Result<(), Fail> {
+    let alloc = rt.alloc();
+    for (trouble, status, line) in [
+        (Trouble::Usage, 2, "vodserve: usage\n"),
+        (
+            Trouble::Refused("a.mpg", Fault::FilmTooLarge),
+            3,
+            "vodserve: a.mpg: FilmTooLarge\n",
+        ),
+        (Trouble::StoreFault("t"), 4, "vodserve: t: StoreFault\n"),
+        (Trouble::SinkFault, 5, "vodserve: SinkFault\n"),
+        (Trouble::NoMemory, 6, "vodserve: NoMemory\n"),
+        (Trouble::GateFault, 7, "vodserve: GateFault\n"),
+    ] {
+        let mut sink = match MemorySink::new(alloc, 64, Vec::new(alloc)) {
+            Ok(sink) => sink,
+            Err(NoMemory) => return Err(Fail::from(AllocError)),
+        };
+        assert_eq!(rt; status_of(&trouble), status, "at {line}");
+        assert!(rt; say(&mut sink, trouble), "at {line}");
+        assert_eq!(rt; sink.bytes(), line.as_bytes());
+    }
+    Ok(())
+}

@@ -1,0 +1,66 @@
+-- What was printed of what was done.
+use Rattle.std.proofs.Common.{◌≡◌, ◌∙◌, ◌≤◌, ℕ, List, Option, Some, None, Result, Ok, Err, Vec, Global, inl, inr, sym, ap, subst}
+use Rattle.std.specs.Prelude.{IfOk, IfErr}
+use Rattle.command_words.specs.Words.{Made, Order, make_of}
+use Rattle.plan_cert.specs.declared.Segment.{Segment}
+use Rattle.troubles.specs.Causes.{IsReadOnly, IsReadTrouble}
+use Rattle.troubles.specs.declared.faults.Trouble.{Trouble}
+use Rattle.troubles.specs.declared.faults.Trouble.TheVariants.{Usage, Refused, StoreFault, SinkFault, NoMemory, GateFault}
+use Rattle.vod_base.specs.Outside.{more}
+use Rattle.vodserve.specs.Carrying.{IsDone, IsInputRefused, IsRead, made_text}
+use Rattle.vodserve.proofs.CommandLemmas.{text_of}
+use Rattle.vodserve.specs.Run.{World, Does, IsCause, IsWritten, Printed, Prints, Ran}
+use Rattle.vodserve.specs.declared.done.Done.{Done}
+use Rattle.vodserve.specs.declared.run.Ended.{Ended}
+
+written : (before after : World) (order : Order) (done : Done) (ended : Ended) → IsDone before.store.told order done.status done.text.items done.plan →
+    IsWritten before.out after.out before.err after.err done ended → Prints before after order ended
+written before after order done ended is (inl whole) = inl (record {
+  text = done.text.items;
+  done = subst (λ (status : ℕ). IsDone before.store.told order status done.text.items ended.plan) (sym whole.0)
+      (subst (λ (plan : Option (List Segment)). IsDone before.store.told order done.status done.text.items plan) (sym whole.1) is);
+  wrote = whole.2;
+  quiet = whole.3;
+})
+written before after order done ended is (inr cut) = inr (
+  SinkFault,
+  (
+    record { status = done.status; text = done.text.items; plan = done.plan; done = is; risen = cut.0; front = cut.1 },
+    cut.2,
+  ),
+)
+
+caused : (before after : World) (order : Order) (trouble : Trouble) → after.out ≡ before.out →
+    IsReadTrouble (IsRead order) (IsInputRefused order) before.store.told before.store.faults after.store.faults trouble → IsCause before after order trouble
+caused before after order Usage same cause = absurd cause
+caused before after order (Refused name fault) same cause = (cause, same)
+caused before after order (StoreFault name) same cause = (cause, same)
+caused before after order SinkFault same cause = absurd cause
+caused before after order NoMemory same cause = same
+caused before after order GateFault same cause = absurd cause
+
+-- a command was carried out, and its text printed
+pub printed : (before after : World) (order : Order) (result : Result Done Trouble) (ended : Ended) →
+    IfOk result (λ done. IsDone before.store.told order done.status done.text.items done.plan) →
+    IfErr result (IsReadTrouble (IsRead order) (IsInputRefused order) before.store.told before.store.faults after.store.faults) →
+    Printed before.out after.out before.err after.err result ended → Prints before after order ended
+printed before after order (Ok done) ended ok err is = written before after order done ended ok is
+printed before after order (Err trouble) ended ok err is = inr (trouble, (caused before after order trouble is.0 err, is.1))
+
+-- what the words ask for was done
+pub ran_as : (before after : World) (asked : Option Order) (order : Order) (ended : Ended) → asked ≡ Some order →
+    IsReadOnly before.store.told after.store.told before.store.faults after.store.faults → before.out.faults ≤ after.out.faults →
+    Does before after order ended → Ran before after asked ended
+ran_as before after asked order ended is library output does = record { library = library; output = output; does = inl (order, (is, does)) }
+
+pub made_done : {E : Type 0} (before : World) (kind : Made) (seed pictures : ℕ) (made : Result (Vec ℕ Global) E) → IfOk made (λ text. text.items ≡ made_text kind seed pictures) →
+    (result : Result Done Trouble) → IfOk result (λ done. (done.status ≡ 0) × (made ≡ Ok done.text) × (done.plan ≡ None)) →
+    IfOk result (λ done. IsDone before.store.told (make_of kind seed pictures) done.status done.text.items done.plan)
+made_done before kind seed pictures made text (Err trouble) is = tt
+made_done before kind seed pictures made text (Ok done) is = (is.0, is.2, text_of (made_text kind seed pictures) made done.text text is.1)
+
+pub made_trouble : (before after : World) (kind : Made) (seed pictures : ℕ) (result : Result Done Trouble) → IfErr result (λ trouble. trouble ≡ NoMemory) →
+    IfErr result (IsReadTrouble (IsRead (make_of kind seed pictures)) (IsInputRefused (make_of kind seed pictures)) before.store.told before.store.faults after.store.faults)
+made_trouble before after kind seed pictures (Ok done) is = tt
+made_trouble before after kind seed pictures (Err trouble) is =
+    subst (IsReadTrouble (IsRead (make_of kind seed pictures)) (IsInputRefused (make_of kind seed pictures)) before.store.told before.store.faults after.store.faults) (sym is) tt

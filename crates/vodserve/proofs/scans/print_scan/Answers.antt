@@ -1,0 +1,20 @@
+use Rattle.std.proofs.Common.{◌≡◌, None, Ok}
+use Rattle.command_words.specs.Words.{scan_of}
+use Rattle.inputs.specs.Scans.{HoldsFilm}
+use Rattle.vodserve.specs.Carrying.{IsDone}
+use Rattle.vodserve.proofs.CommandLemmas.{ok_map, film_done}
+use Rattle.vodserve.proofs.scans.print_scan.Goals as goal
+
+pub returns-clause-done : goal.returns-clause-done
+returns-clause-done g c =
+    ok_map (λ done. (done.status ≡ 0) × (c.scan_text.result ≡ Ok done.text) × (done.plan ≡ None))
+    (λ done. IsDone (g.L.Library.files c.args.library.now) (scan_of c.args.film.now) done.status done.text.items done.plan) c.finish.result
+    (λ done is. (
+      is.0,
+      is.2,
+      λ held told.
+          let holds : HoldsFilm held c.args.film.now c.in-Ok.scanned.bytes c.in-Ok.scanned.rate c.deref.result.now =
+          rw c.deref.ensures.value ((c.in-Ok.ensures {u = tt}).film held told) in
+          film_done held c.args.film.now c.in-Ok.scanned.bytes c.in-Ok.scanned.rate c.deref.result.now holds c.scan_text.result c.scan_text.ensures done is.1,
+    ))
+    c.finish.ensures.done

@@ -1,0 +1,34 @@
+ghost use Rattle.std.specs.Prelude.{IfOk, IfErr};
+ghost use Rattle.command_words.specs.Words.{scan_of};
+ghost use Rattle.troubles.specs.Causes.{IsReadOnly, IsReadTrouble};
+ghost use Rattle.vodserve.specs.Carrying.{IsDone, IsInputRefused, IsRead};
+
+use crate::done::{Done, finish};
+use crate::scan_text::scan_text;
+use inputs::scan_film;
+use std::alloc::Global;
+use troubles::Trouble;
+use vod_base::Library;
+
+/// The text of a film's units.
+pub(crate) fn print_scan<'a, L: Library>(
+    alloc: Global,
+    library: &mut L,
+    film: &'a str,
+) -> Result<Done, Trouble<'a>>
+    ensures library { IsReadOnly (L.files library.old) (L.files library.new) (L.faults library.old) (L.faults library.new) }
+    ensures done { IfOk result (λ done.
+        IsDone (L.files library.old) (scan_of film.entry.now) done.status done.text.items done.plan) }
+    ensures trouble { IfErr result (IsReadTrouble (IsRead (scan_of film.entry.now))
+        (IsInputRefused (scan_of film.entry.now))
+        (L.files library.old) (L.faults library.old) (L.faults library.new)) }
+{
+    let scanned = match scan_film(alloc, library, film) {
+        Ok(scanned) => scanned,
+        Err(trouble) => return Err(trouble),
+    };
+    finish(
+        0,
+        scan_text(alloc, scanned.bytes, scanned.rate, &scanned.units),
+    )
+}
