@@ -8,3 +8,4 @@ pub mod EdgeLaws
 pub mod FunnelLaws
 pub mod BandLaws
 pub mod WholeLaws
+pub mod Existence

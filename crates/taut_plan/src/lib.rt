@@ -2,10 +2,12 @@
 #![tactic(auto)]
 
 mod chains;
+mod laws;
 mod paths;
 mod plans;
 mod points;
 
+pub use laws::law_one_taut_list;
 pub use plans::plan;
 
 #[cfg(test)]

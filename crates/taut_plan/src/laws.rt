@@ -1,0 +1,11 @@
+ghost use Rattle.std.specs.Prelude.{◌≡◌, ℕ, List};
+ghost use Rattle.wire_curve.specs.Sound.{IsSound};
+ghost use Rattle.plan_cert.specs.declared.Segment.{Segment};
+ghost use Rattle.cert_check.specs.Fault.{IsTaut};
+
+/// Sound curves have exactly one taut list of segments.
+pub fn law_one_taut_list()
+    ensures { (from : ℕ) (low up : List ℕ) → IsSound from low up →
+        (segments : List Segment) × (IsTaut from low up segments ×
+        ((others : List Segment) → IsTaut from low up others → others ≡ segments)) }
+{}
