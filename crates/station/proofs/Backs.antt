@@ -1,0 +1,86 @@
+-- A seat that took the turn and gave it back.
+use Rattle.std.proofs.Common.{◌≡◌, ◌≢◌, ◌<◌, ◌≤◌, ◌+◌, ◌^◌, min, ℕ, zero, suc, List, [], ◌∷◌, ◌++◌, length, get_or, All, Some, arith, refl, sym, ap, subst, ◌∙◌, Result, Ok, Err, IfOk, IfErr}
+use mathlib.Core.List.{IsPrefix}
+use Rattle.std.proofs.lemmas.List.{get_or_push, length-append}
+use Rattle.std.proofs.lemmas.List.Elements.{All-push, All-weaker}
+use Rattle.plan_cert.specs.declared.Segment.{Segment}
+use Rattle.plan_cert.specs.Slots.{total_bytes}
+use Rattle.slot_calendar.specs.declared.profiles.CapStep.{CapStep}
+use Rattle.admission.specs.declared.entries.Answer.{Answer}
+use Rattle.admission.specs.declared.entries.Answer.TheVariants.{Admitted, Looked, Overflow}
+use Rattle.admission.specs.declared.entries.Command.{Command}
+use Rattle.admission.specs.declared.entries.Command.TheVariants.{Play, Halt, Look}
+use Rattle.admission.specs.declared.entries.Entry.{Entry}
+use Rattle.admission.specs.declared.entries.Full.{Full}
+use Rattle.admission.specs.Books.{Journal}
+use Rattle.admission.specs.Makers.{Placed, made_by}
+use Rattle.turnstile.specs.declared.view.Terms.{Terms}
+use Rattle.turnstile.specs.Passes.{Standing}
+use Rattle.turnstile.proofs.Prefixes.{prefix_self, prefix_trans}
+use Rattle.station.specs.declared.answers.Booking.{Booking}
+use Rattle.station.specs.declared.answers.Looked.{Looked as Seen}
+use Rattle.station.specs.declared.answers.PlayRefused.{PlayRefused}
+use Rattle.station.specs.declared.answers.PlayRefused.TheVariants.{JournalFull, Overflow as PlayOverflow}
+use Rattle.station.specs.Ledgers.{IsEntered, IsFullFor, IsPlayRefused, look_at, play_of}
+use Rattle.station.specs.Seats.{IsSameSeat, Sitting}
+use Rattle.station.proofs.Entered.{IsAt, seat_after}
+
+abbrev pub seat_of : Standing → Sitting
+seat_of p = record {
+  id = p.id;
+  steps = p.terms.steps;
+  limit = p.terms.limit;
+  number = p.number;
+  seen = p.seen;
+  mine = p.mine;
+  splits = p.splits;
+  joined = p.joined;
+}
+
+pub back_seat : (p taken back : Standing) (seat : Sitting) (old new : Journal) → seat_of p ≡ seat → taken ≡ record p { seen = old.entries }
+    → back ≡ record taken { seen = new.entries; mine = made_by taken.number new.entries } → seat_of back ≡ seat_after seat new
+back_seat p taken back seat old new v t n =
+    ap seat_of n ∙ (ap (λ (x : Standing). seat_of (record x { seen = new.entries; mine = made_by x.number new.entries })) t
+    ∙ ap (λ (s : Sitting). seat_after s new) v)
+
+pub back_at : (p : Standing) (seat : Sitting) (old : Journal) → seat_of p ≡ seat → IsPrefix p.seen old.entries → p.mine ≡ made_by p.number old.entries
+    → (let t : Terms = record { steps = old.steps; limit = old.limit } in t) ≡ p.terms → IsAt seat old
+back_at p seat old v longer own terms = record {
+  steps = ap (λ (t : Terms). t.steps) terms ∙ ap (λ (s : Sitting). s.steps) v;
+  limit = ap (λ (t : Terms). t.limit) terms ∙ ap (λ (s : Sitting). s.limit) v;
+  longer = subst (λ (s : Sitting). IsPrefix s.seen old.entries) v longer;
+  own = subst (λ (s : Sitting). s.mine ≡ made_by s.number old.entries) v own;
+}
+
+pub same_after : (seat : Sitting) (old new : Journal) → IsAt seat old → IsPrefix old.entries new.entries → IsSameSeat seat (seat_after seat new)
+same_after seat old new at longer = record {
+  id = refl;
+  steps = refl;
+  limit = refl;
+  number = refl;
+  splits = refl;
+  joined = refl;
+  longer = prefix_trans seat.seen old.entries new.entries at.longer longer;
+}
+
+pub entered_longer : (old new : Journal) (maker more : ℕ) (command : Command) (place : ℕ) (answer : Answer) → IsEntered old new maker more command place answer
+    → IsPrefix old.entries new.entries
+entered_longer old new maker more command place answer e =
+    let last : Entry = record { maker = maker; command = command; answer = answer } in (last ∷ [], sym (ap (λ (j : Journal). j.entries) e.noted.journal_is))
+
+pub full_longer : (old new : Journal) (more entries live_plays : ℕ) → IsFullFor old new more entries live_plays → IsPrefix old.entries new.entries
+full_longer old new more entries live_plays f = subst (λ (j : Journal). IsPrefix old.entries j.entries) (sym f.left) (prefix_self old.entries)
+
+pub play_longer : (r : Result Booking PlayRefused) (old new : Journal) (maker heard : ℕ) (plan : List Segment)
+    → IfOk r (λ b. IsEntered old new maker 2 (play_of heard plan) b.number (Admitted b.start)) → IfErr r (IsPlayRefused old new maker heard plan)
+    → IsPrefix old.entries new.entries
+play_longer (Ok b) old new maker heard plan is not = entered_longer old new maker 2 (play_of heard plan) b.number (Admitted b.start) is
+play_longer (Err (JournalFull back entries live_plays)) old new maker heard plan is not = full_longer old new 2 entries live_plays not.1
+play_longer (Err (PlayOverflow place slot booked asked)) old new maker heard plan is not =
+    entered_longer old new maker 2 (play_of heard plan) place (Overflow slot booked asked) not
+
+pub look_longer : (r : Result Seen Full) (old new : Journal) (maker slot : ℕ)
+    → IfOk r (λ l. IsEntered old new maker 1 (look_at slot) l.place (Looked l.now l.at l.booked)) → IfErr r (λ f. IsFullFor old new 1 f.entries f.live)
+    → IsPrefix old.entries new.entries
+look_longer (Ok l) old new maker slot is not = entered_longer old new maker 1 (look_at slot) l.place (Looked l.now l.at l.booked) is
+look_longer (Err f) old new maker slot is not = full_longer old new 1 f.entries f.live not

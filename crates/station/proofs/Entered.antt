@@ -1,0 +1,81 @@
+-- What a call at the book leaves of the seat that made it.
+use Rattle.std.proofs.Common.{◌≡◌, ◌≢◌, ◌<◌, ◌≤◌, ◌+◌, ◌^◌, min, ℕ, List, [], ◌∷◌, ◌++◌, length, get_or, All, Some, arith, refl, sym, ap, subst, ◌∙◌, Result, Ok, Err, IfOk, OnErr, true, false, true≢false}
+use mathlib.Core.List.{IsPrefix}
+use Rattle.std.proofs.lemmas.List.{get_or_push, length-append}
+use Rattle.plan_cert.specs.declared.Segment.{Segment}
+use Rattle.plan_cert.specs.Slots.{total_bytes}
+use Rattle.slot_calendar.specs.declared.profiles.CapStep.{CapStep}
+use Rattle.admission.specs.declared.entries.Answer.{Answer}
+use Rattle.admission.specs.declared.entries.Answer.TheVariants.{Admitted, Halted, Overflow, Looked}
+use Rattle.admission.specs.declared.entries.Command.{Command}
+use Rattle.admission.specs.declared.entries.Command.TheVariants.{Play, Halt, Look}
+use Rattle.admission.specs.declared.entries.Entry.{Entry}
+use Rattle.admission.specs.Machine.{IsAnswer}
+use Rattle.admission.specs.declared.entries.Noted.{Noted}
+use Rattle.admission.specs.Books.{IsNoted, Journal, taken}
+use Rattle.admission.specs.Histories.{Halts, IsLegal, is_halt, live, state_after}
+use Rattle.admission.specs.Makers.{AreHaltsOwn, IsOpenAmong, Placed, made_by}
+use Rattle.turnstile.proofs.Prefixes.{made_own}
+use Rattle.station.specs.declared.answers.PlayRefused.{PlayRefused}
+use Rattle.station.specs.declared.answers.PlayRefused.TheVariants.{JournalFull, Overflow as PlayOverflow}
+use Rattle.station.specs.Answers.{IsFull, IsRefused, Made}
+use Rattle.station.specs.Ledgers.{IsEntered, IsFullFor, IsPlayRefused, play_of}
+use Rattle.station.specs.Seats.{IsSameSeat, Sitting}
+use Rattle.station.proofs.Halts.{halts-push}
+
+-- an entry keeps each play halted by its own maker
+pub halts-noted : (old new : Journal) (maker : ℕ) (command : Command) (noted : Noted) → IsNoted old maker command noted new
+    → AreHaltsOwn old.entries → ((number keep : ℕ) (none : Entry) → command ≡ Halt number keep → maker ≡ (get_or old.entries number none).maker)
+    → AreHaltsOwn new.entries
+halts-noted old new maker command noted e own mine =
+    let last : Entry = record { maker = maker; command = command; answer = noted.answer } in
+    let entries : new.entries ≡ old.entries ++ last ∷ [] = ap (λ (j : Journal). j.entries) e.journal_is in
+    subst AreHaltsOwn (sym entries) (halts-push new.steps old.entries last (subst (IsLegal new.steps) entries e.legal) own mine)
+
+-- so does a call that halts nothing, with or without an entry
+pub halts-told : {E : Type 0} (r : Result Noted E) (old new : Journal) (maker : ℕ) (command : Command) → is_halt command ≡ false
+    → IfOk r (λ noted. IsNoted old maker command noted new) → OnErr r (new ≡ old) → AreHaltsOwn old.entries → AreHaltsOwn new.entries
+halts-told (Ok noted) old new maker command other is left own = halts-noted old new maker command noted is own
+    (λ number keep none e. absurd (true≢false (sym (ap is_halt e) ∙ other)))
+halts-told (Err why) old new maker command other is left own = subst (λ (j : Journal). AreHaltsOwn j.entries) (sym left) own
+
+-- a seat at a book that begins with what it has seen
+pub record IsAt (seat : Sitting) (book : Journal) : Type 0 where
+  pub steps : book.steps ≡ seat.steps
+  pub limit : book.limit ≡ seat.limit
+  pub longer : IsPrefix seat.seen book.entries
+  pub own : seat.mine ≡ made_by seat.number book.entries
+
+-- the seat once it gave the book back
+abbrev pub seat_after : Sitting → Journal → Sitting
+seat_after seat book = record seat { seen = book.entries; mine = made_by seat.number book.entries }
+
+pub made : (seat : Sitting) (old new : Journal) (more : ℕ) (command : Command) (place : ℕ) (answer : Answer) → IsAt seat old
+    → IsEntered old new seat.number more command place answer → Made seat (seat_after seat new) more command place answer
+made seat old new more command place answer at e =
+    let last : Entry = record { maker = seat.number; command = command; answer = answer } in
+    let entries : new.entries ≡ old.entries ++ last ∷ [] = ap (λ (j : Journal). j.entries) e.noted.journal_is in record {
+      before = old.entries;
+      place_is = e.noted.place_is;
+      seen = entries;
+      answer_is = subst (λ (s : List CapStep). IsAnswer s (state_after old.entries) command answer) at.steps e.noted.answer_is;
+      mine = ap (made_by seat.number) entries ∙ (made_own seat.number old.entries last refl
+          ∙ (ap (λ (xs : List Placed). xs ++ record { place = length old.entries; entry = last } ∷ []) (sym at.own)
+          ∙ ap (λ (k : ℕ). let p : Placed = record { place = k; entry = last } in seat.mine ++ p ∷ []) (sym e.noted.place_is)));
+      room = (let r = e.room in let l = at.limit in omega arith);
+    }
+
+pub full_for : (seat : Sitting) (old new : Journal) (more entries live_plays : ℕ) → IsAt seat old → IsFullFor old new more entries live_plays
+    → IsFull seat (seat_after seat new) more entries live_plays
+full_for seat old new more entries live_plays at f =
+    let same : new.entries ≡ old.entries = ap (λ (j : Journal). j.entries) f.left in record {
+      mine = ap (made_by seat.number) same ∙ sym at.own;
+      entries_are = f.entries_are ∙ ap (λ (xs : List Entry). length xs) (sym same);
+      live_is = f.live_is ∙ ap live (sym same);
+      full = (let r = f.full in let l = at.limit in omega arith);
+    }
+
+pub refused_for : (seat : Sitting) (old new : Journal) (heard : ℕ) (plan : List Segment) (why : PlayRefused) → IsAt seat old
+    → IsPlayRefused old new seat.number heard plan why → IsRefused seat (seat_after seat new) heard plan why
+refused_for seat old new heard plan (JournalFull back entries live_plays) at f = (f.0, full_for seat old new 2 entries live_plays at f.1)
+refused_for seat old new heard plan (PlayOverflow place slot booked asked) at e = made seat old new 2 (play_of heard plan) place (Overflow slot booked asked) at e

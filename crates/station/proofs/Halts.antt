@@ -1,0 +1,51 @@
+-- Each play is halted by its own maker, and plays stay open among the entries of their makers.
+use Rattle.std.proofs.Common.{◌≡◌, ◌≢◌, ◌<◌, ◌≤◌, ◌+◌, ℕ, zero, suc, List, [], ◌∷◌, ◌++◌, length, get_or, All, Some, arith, refl, sym, ap, subst, ◌∙◌}
+use mathlib.Core.Logic.{dite}
+use native.Mathlib.Decide.{dec_le}
+use Rattle.std.proofs.lemmas.List.{get_or_append_left, get_or_push, get_or_default, length-append}
+use Rattle.std.proofs.lemmas.List.Elements.{All-push, All-nil}
+use Rattle.plan_cert.specs.declared.Segment.{Segment}
+use Rattle.plan_cert.specs.Slots.{total_bytes}
+use Rattle.slot_calendar.specs.declared.profiles.CapStep.{CapStep}
+use Rattle.slot_calendar.specs.Plays.{whole_play}
+use Rattle.admission.specs.declared.entries.Answer.TheVariants.{Admitted}
+use Rattle.admission.specs.declared.entries.Command.{Command}
+use Rattle.admission.specs.declared.entries.Command.TheVariants.{Play, Halt, Look}
+use Rattle.admission.specs.declared.entries.Entry.{Entry}
+use Rattle.admission.specs.Histories.{Halts, IsHalt, IsLegal}
+use Rattle.admission.specs.Makers.{AreHaltsOwn, Placed, Admits, IsOpenAmong, made_by}
+use Rattle.admission.proofs.Opens.{halt-later}
+
+-- an entry that halts a play of its own maker leaves the history so, and so does one that halts none
+pub halts-push : (steps : List CapStep) (xs : List Entry) (e : Entry) → IsLegal steps (xs ++ e ∷ []) → AreHaltsOwn xs
+    → ((number keep : ℕ) (none : Entry) → e.command ≡ Halt number keep → e.maker ≡ (get_or xs number none).maker)
+    → AreHaltsOwn (xs ++ e ∷ [])
+halts-push steps xs e legal own last = record {
+  each = λ i number keep none halt.
+      let earlier : number < i = halt-later steps (xs ++ e ∷ []) number keep i legal halt in
+      let inside = halt.inside in
+      let long : length (xs ++ e ∷ []) ≡ length xs + 1 = length-append xs (e ∷ []) in
+      let front : number < length xs = omega arith in
+      let old : get_or (xs ++ e ∷ []) number none ≡ get_or xs number none = get_or_append_left xs (e ∷ []) none number front in
+      dite (dec_le (suc i) (length xs))
+      (λ (within : suc i ≤ length xs).
+      let here : i < length xs = omega arith in
+      let before : IsHalt xs i number keep = record { inside = here; command_is = λ d. ap (λ (z : Entry). z.command) (sym (get_or_append_left xs (e ∷ []) d i here)) ∙ halt.command_is d } in
+      ap (λ (z : Entry). z.maker) (get_or_append_left xs (e ∷ []) none i here) ∙ (own.each i number keep none before ∙ ap (λ (z : Entry). z.maker) (sym old)))
+      (λ outside.
+      let at : length xs ≡ i = omega arith in
+      let is : get_or (xs ++ e ∷ []) i none ≡ e = get_or_push xs e none i at in
+      ap (λ (z : Entry). z.maker) is ∙ (last number keep none (ap (λ (z : Entry). z.command) (sym is) ∙ halt.command_is none) ∙ ap (λ (z : Entry). z.maker) (sym old)));
+}
+
+-- what is open stays open while its maker halts other plays alone
+pub open-push : (mine : List Placed) (m : Placed) (number keep : ℕ) → (Halts number m.entry.command → ⊥) → IsOpenAmong mine number keep → IsOpenAmong (mine ++ m ∷ []) number keep
+open-push mine m number keep other o = record {
+  start = o.start;
+  segments = o.segments;
+  index = o.index;
+  inside = (let h = o.inside in let long = length-append mine (m ∷ []) in omega arith);
+  admission = λ none. subst (λ (p : Placed). Admits p number o.start o.segments) (sym (get_or_append_left mine (m ∷ []) none o.index o.inside)) (o.admission none);
+  unhalted = All-push (λ (p : Placed). Halts number p.entry.command → ⊥) mine m o.unhalted other;
+  small = o.small;
+}

@@ -1,0 +1,6 @@
+pub mod Halts
+pub mod Entered
+pub mod Makers
+pub mod Backs
+pub mod Plays
+pub mod Joins

@@ -1,0 +1,32 @@
+use Rattle.std.proofs.Common.{rules, arith, ◌≡◌, ◌≤◌, ◌+◌, ◌^◌, ℕ, List, length, max, min, take, ap, sym, subst, ◌∙◌}
+use Rattle.std.proofs.lemmas.List.{take_all}
+use Rattle.slot_calendar.specs.Plays.{booked_by}
+use Rattle.slot_calendar.specs.Profiles.{capacity_at}
+use Rattle.slot_calendar.specs.declared.profiles.CapStep.{CapStep}
+use Rattle.admission.specs.declared.entries.Entry.{Entry}
+use Rattle.admission.specs.Books.{Journal}
+use Rattle.admission.specs.Histories.{booked_after, state_after}
+use Rattle.admission.specs.Machine.{plays_of}
+use Rattle.early_start.specs.Offered.{IsOffer}
+use Rattle.station.specs.declared.answers.Offered.{Offered}
+use Rattle.station.specs.Ledgers.{IsOffered}
+use Rattle.station.proofs.ledger.Ledger.offer.Goals as goal
+
+pub returns-clause-offered : goal.returns-clause-offered
+returns-clause-offered c =
+    let book = c.self.inside.book in let cal = c.calendar-calendar.result.now in let seen = c.entries-entries.result.now in
+    let told : Offered = record { seen = length seen; first = c.max-first.result + 1 } in
+    let same : seen ≡ book.entries = c.entries-entries.ensures.value in
+    let now : c.now.result ≡ (state_after book.entries).now = c.now.ensures.value ∙ c.calendar-calendar.ensures.now in
+    let plays = plays_of (state_after book.entries) in
+    let within : (t : ℕ) → booked_by plays t ≤ capacity_at cal.steps t = λ t.
+    subst (λ (xs : List Entry). booked_after xs t ≤ capacity_at cal.steps t) (take_all (length seen) seen (omega arith) ∙ same)
+    (subst (λ (s : List CapStep). booked_after (take (length seen) seen) t ≤ capacity_at s t) c.profile.ensures (c.law_never_overbooked.ensures (length seen) t)) in
+    let later = c.max-first.ensures in let first = c.now.ensures.value in
+    let offer : IsOffer 0 (booked_by plays) (capacity_at cal.steps) c.args.plan.now told.first c.find.new.self =
+    c.law_offer_of_plays.ensures cal plays c.args.plan.now told.first c.find.new.self c.calendar-calendar.ensures.stands within (omega arith) c.find.ensures.offer in
+    subst (λ (j : Journal). IsOffered j.steps j.entries c.args.heard c.args.plan.now told c.find.new.self) c.self.view_is record {
+      seen_is = ap (λ (xs : List Entry). length xs) same;
+      first_is = ap (λ (k : ℕ). k + 1) (c.max-first.ensures ∙ (ap (λ (m : ℕ). max m c.min.result) now ∙ ap (λ (m : ℕ). max (state_after book.entries).now m) c.min.ensures));
+      offer = subst (λ (s : List CapStep). IsOffer 0 (booked_by plays) (capacity_at s) c.args.plan.now told.first c.find.new.self) c.calendar-calendar.ensures.steps offer;
+    }

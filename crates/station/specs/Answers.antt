@@ -1,0 +1,39 @@
+-- What a station answers.
+use Rattle.std.specs.Prelude.{◌≡◌, ℕ, ◌+◌, ◌<◌, ◌≤◌, ◌^◌, min, max, List, [], ◌∷◌, ◌++◌, length}
+use Rattle.plan_cert.specs.declared.Segment.{Segment}
+use Rattle.slot_calendar.specs.declared.profiles.CapStep.{CapStep}
+use Rattle.slot_calendar.specs.Calendars.{HasRoom, IsFirstOverflow}
+use Rattle.admission.specs.declared.entries.Answer.{Answer}
+use Rattle.admission.specs.declared.entries.Answer.TheVariants.{Admitted, Looked, Overflow}
+use Rattle.admission.specs.declared.entries.Command.{Command}
+use Rattle.admission.specs.declared.entries.Command.TheVariants.{Look, Play}
+use Rattle.admission.specs.declared.entries.Entry.{Entry}
+use Rattle.admission.specs.Machine.{IsAnswer}
+use Rattle.admission.specs.Books.{taken}
+use Rattle.admission.specs.Histories.{live, state_after}
+use Rattle.station.specs.declared.answers.PlayRefused.{PlayRefused}
+use Rattle.station.specs.declared.answers.PlayRefused.TheVariants.{JournalFull, Overflow as PlayOverflow}
+use Rattle.station.specs.Ledgers.{play_of}
+use Rattle.station.specs.Seats.{Sitting}
+
+-- The seat's call made this entry: it stands at `place`, the last of what the seat has seen, and is answered as the machine answers in
+-- the state after the entries before it. The journal had room for `more` entries beside those for the halts of its open plays.
+pub record Made (old new : Sitting) (more : ℕ) (command : Command) (place : ℕ) (answer : Answer) : Type 0 where
+  pub before : List Entry
+  pub place_is : place ≡ length before
+  pub seen : new.seen ≡ before ++ record { maker = old.number; command = command; answer = answer } ∷ []
+  pub answer_is : IsAnswer old.steps (state_after before) command answer
+  pub mine : new.mine ≡ old.mine ++ record { place = place; entry = record { maker = old.number; command = command; answer = answer } } ∷ []
+  pub room : taken before + more ≤ old.limit
+
+-- The journal had no room for `more` entries beside those for the halts of its open plays; these are its two numbers.
+pub record IsFull (old new : Sitting) (more entries live_plays : ℕ) : Type 0 where
+  pub mine : new.mine ≡ old.mine
+  pub entries_are : entries ≡ length new.seen
+  pub live_is : live_plays ≡ live new.seen
+  pub full : old.limit < entries + live_plays + more
+
+-- why a play is refused
+abbrev pub IsRefused : Sitting → Sitting → ℕ → List Segment → PlayRefused → Type 0
+IsRefused old new heard asked (JournalFull plan entries live) = (plan ≡ asked) × IsFull old new 2 entries live
+IsRefused old new heard asked (PlayOverflow place slot booked bytes) = Made old new 2 (play_of heard asked) place (Overflow slot booked bytes)

@@ -1,0 +1,4 @@
+pub mod Seats
+pub mod Ledgers
+pub mod Answers
+pub mod Inside

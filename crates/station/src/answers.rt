@@ -1,0 +1,56 @@
+use plan_cert::Plan;
+
+/// A play that was admitted and not halted. It must be spent, by `Station::halt`.
+pub struct Booking {
+    /// Its number, the place of its entry.
+    pub number: u64,
+    /// The slot in which it begins.
+    pub start: u64,
+}
+
+/// Why a play was refused.
+#[derive(Debug, Drop)]
+pub enum PlayRefused {
+    /// The journal has no room for the play's entry and its halt's; no entry was made.
+    JournalFull {
+        /// The plan that was asked for.
+        plan: Plan,
+        /// How many entries the journal has.
+        entries: u64,
+        /// How many plays are open.
+        live: u64,
+    },
+    /// A slot has no room for the plan; the answer is an entry.
+    Overflow {
+        /// The place of the entry.
+        place: u64,
+        /// The first such slot.
+        slot: u64,
+        /// The bytes that are booked in it.
+        booked: u64,
+        /// The bytes that the plan asks for in it.
+        asked: u64,
+    },
+}
+
+/// What is booked in a slot.
+#[derive(Clone, Copy, Debug, PartialEq, Eq)]
+pub struct Looked {
+    /// The place of the look's entry.
+    pub place: u64,
+    /// The slot up to which the book has come.
+    pub now: u64,
+    /// The slot that was looked at: the one asked for, or `now` where that is later.
+    pub at: u64,
+    /// The bytes that are booked in it.
+    pub booked: u64,
+}
+
+/// When an offer was made.
+#[derive(Clone, Copy, Debug, PartialEq, Eq)]
+pub struct Offered {
+    /// How many entries the journal had.
+    pub seen: u64,
+    /// The first slot in which the play may begin.
+    pub first: u64,
+}

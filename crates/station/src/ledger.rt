@@ -1,0 +1,147 @@
+ghost use Rattle.std.specs.Prelude.{◌≡◌, IfOk, IfErr, []};
+ghost use Rattle.admission.specs.declared.entries.Answer.{Answer};
+ghost use Rattle.admission.specs.declared.entries.Command.{Command};
+ghost use Rattle.admission.specs.Histories.{IsLegal, state_after};
+ghost use Rattle.admission.specs.Makers.{AreHaltsOwn, IsOpenAmong, made_by};
+ghost use Rattle.station.specs.Ledgers.{IsEntered, IsFullFor, IsOffered, IsPlayRefused, look_at, play_of};
+
+use crate::answers::{Booking, Looked, Offered, PlayRefused};
+use admission::{Answer, Book, Full, LATEST_SLOT, PlayFull, law_never_overbooked, law_own_play};
+use early_start::{Offers, law_offer_of_plays};
+use plan_cert::Plan;
+use std::marker::Model;
+use turnstile::Kept;
+
+/// The book that a station's seats share. Each play in it is halted by its own maker.
+#[derive(Drop)]
+pub(crate) struct Ledger {
+    book: Book,
+}
+
+impl Model for Ledger {
+    ghost use Rattle.admission.specs.Books.{Journal};
+    ghost use Rattle.admission.specs.Makers.{AreHaltsOwn};
+
+    ghost Value = { Journal };
+
+    ghost view = { λ l. l.book };
+
+    ghost invariant = { λ l. AreHaltsOwn l.book.entries };
+}
+
+impl Kept for Ledger {
+    ghost entries = { λ j. j.entries };
+
+    ghost terms = { λ j. record { steps = j.steps; limit = j.limit } };
+
+    fn count(&self) -> u64 {
+        self.book.entries().len() as u64
+    }
+}
+
+impl Ledger {
+    pub(crate) fn new(book: Book) -> Ledger
+        requires { book.entries ≡ [] }
+        ensures { result ≡ book }
+    {
+        Ledger { book }
+    }
+
+    /// What holds of every ledger.
+    pub(crate) fn holds(&self)
+        ensures legal { IsLegal self.now.steps self.now.entries }
+        ensures halts { AreHaltsOwn self.now.entries }
+    {
+        let _entries = self.book.entries();
+    }
+
+    /// As `Book::play`.
+    pub(crate) fn play(
+        &mut self,
+        maker: u32,
+        heard: u64,
+        plan: Plan,
+    ) -> Result<Booking, PlayRefused>
+        ensures made { IfOk result (λ booking.
+            IsEntered self.old self.new maker 2 (play_of heard plan) booking.number (Answer.Admitted booking.start)) }
+        ensures refused { IfErr result (IsPlayRefused self.old self.new maker heard plan) }
+    {
+        match self.book.play(maker, heard, plan) {
+            Ok(noted) => match noted.answer {
+                Answer::Admitted { start } => Ok(Booking {
+                    number: noted.place,
+                    start,
+                }),
+                Answer::Overflow {
+                    slot,
+                    booked,
+                    asked,
+                } => Err(PlayRefused::Overflow {
+                    place: noted.place,
+                    slot,
+                    booked,
+                    asked,
+                }),
+                _ => unreachable!(),
+            },
+            Err(PlayFull { plan, full }) => Err(PlayRefused::JournalFull {
+                plan,
+                entries: full.entries,
+                live: full.live,
+            }),
+        }
+    }
+
+    /// As `Book::halt`, of a play that is open among its maker's entries.
+    pub(crate) fn halt(&mut self, maker: u32, number: u64, keep: u64) -> u64
+        requires { IsOpenAmong (made_by maker self.old.entries) number keep }
+        ensures { IsEntered self.old self.new maker 0 (Command.Halt number keep) result Answer.Halted }
+    {
+        let _entries = self.book.entries();
+        law_own_play();
+        self.book.halt(maker, number, keep).place
+    }
+
+    /// As `Book::look`.
+    pub(crate) fn look(&mut self, maker: u32, slot: u64) -> Result<Looked, Full>
+        ensures made { IfOk result (λ looked.
+            IsEntered self.old self.new maker 1 (look_at slot) looked.place (Answer.Looked looked.now looked.at looked.booked)) }
+        ensures full { IfErr result (λ full. IsFullFor self.old self.new 1 full.entries full.live) }
+    {
+        let noted = self.book.look(maker, slot)?;
+        let Answer::Looked { now, at, booked } = noted.answer else {
+            unreachable!()
+        };
+        Ok(Looked {
+            place: noted.place,
+            now,
+            at,
+            booked,
+        })
+    }
+
+    /// Finds the earliest start of a plan within a wait. It makes no entry.
+    pub(crate) fn offer(&self, heard: u64, plan: &Plan, into: &mut Offers) -> Offered
+        ensures wait { into.new.wait ≡ into.old.wait }
+        ensures offered { IsOffered self.now.steps self.now.entries heard plan.now result into.new }
+    {
+        let calendar = self.book.calendar();
+        let entries = self.book.entries();
+        law_never_overbooked(calendar.profile(), entries);
+        law_offer_of_plays();
+        let first = calendar.now().max(heard.min(LATEST_SLOT)) + 1;
+        into.find(calendar, plan, first);
+        Offered {
+            seen: entries.len() as u64,
+            first,
+        }
+    }
+
+    pub(crate) fn into_book(self) -> Book
+        ensures same { result ≡ self }
+        ensures halts { AreHaltsOwn result.entries }
+    {
+        let Ledger { book } = self;
+        book
+    }
+}

@@ -1,0 +1,11 @@
+//! The book of a shared link for all threads: each takes the turn at it, and gets its answer from one legal history.
+#![tactic(auto)]
+
+mod answers;
+mod ledger;
+mod seat;
+mod station;
+
+pub use answers::{Booking, Looked, Offered, PlayRefused};
+pub use seat::Seat;
+pub use station::Station;

@@ -1,0 +1,34 @@
+ghost use Rattle.std.specs.Prelude.{◌≡◌};
+
+use std::marker::Model;
+use turnstile::Pass;
+
+/// The right of one caller to ask at the station. Its number is the maker of its entries.
+///
+/// Contracts see its station, the steps of the capacity, the most entries, its number, the journal as far as it has seen it, its own
+/// entries with their places, how many seats were split from it, and what those that were joined to it had made.
+#[derive(Drop)]
+pub struct Seat {
+    pub(crate) pass: Pass,
+}
+
+impl Model for Seat {
+    ghost use Rattle.station.specs.Seats.{Sitting};
+
+    ghost Value = { Sitting };
+
+    ghost use Rattle.station.specs.Inside.{sitting_of, IsKept};
+
+    ghost view = { sitting_of };
+
+    ghost invariant = { IsKept };
+}
+
+impl Seat {
+    /// Its number: 0 for the first seat.
+    pub fn number(&self) -> u32
+        ensures { result ≡ self.now.number }
+    {
+        self.pass.number()
+    }
+}
