@@ -1,0 +1,5 @@
+pub mod ContentSteps
+pub mod Parts
+pub mod Reached
+pub mod OneReading
+pub mod VideoBegins

@@ -1,0 +1,345 @@
+-- A stream is read in one way.
+use Rattle.std.proofs.Common.{◌≡◌, ◌≢◌, ℕ, ◌+◌, ◌*◌, ◌/◌, ◌<◌, ◌≤◌, true, false, zero, suc, List, [], ◌∷◌, ◌++◌, length, take, drop, Option, None, refl, sym, ap, subst, ◌∙◌, arith, inl, inr}
+use Rattle.std.specs.Prelude.{IsSome, replicate}
+use Rattle.std.proofs.lemmas.List.{append_assoc, append-nil, length-append, take_at, drop_at, take-append-drop, length-take-le, length-drop}
+use Rattle.sys_demux.specs.Contents.{video_in}
+use Rattle.sys_demux.specs.Items.{Item, prefixed, item_bytes, zeros_of, choose, is_chosen, chosen_next, chosen_after, IsItem, AreItems, video_of, bytes_of}
+use Rattle.sys_demux.specs.Items.Item.{Pack, Packet}
+use Rattle.sys_demux.specs.Streams.{IsEnd, IsCut, IsFault, IsSystem, IsRefused}
+use Rattle.sys_demux.specs.States.{IsShown}
+use Rattle.sys_demux.specs.declared.faults.SystemFault.{SystemFault}
+use Rattle.sys_demux.specs.declared.faults.SystemFault.TheVariants.{NotPack, BadCode, BadPacket, Truncated}
+use Rattle.sys_demux.proofs.Parts.{prefixed_more, length-prefixed}
+use Rattle.sys_demux.proofs.Reached.{fault_stays}
+
+-- heads and tails of lists
+head_same : (a b : ℕ) (x y : List ℕ) → a ∷ x ≡ b ∷ y → a ≡ b
+head_same a b x y e = cc
+
+tail_same : (a b : ℕ) (x y : List ℕ) → a ∷ x ≡ b ∷ y → x ≡ y
+tail_same a b x y e = cc
+
+one_zero : (x y : List ℕ) → 1 ∷ x ≡ 0 ∷ y → ⊥
+one_zero x y e = omega (arith, head_same 1 0 x y e)
+
+zero_one : (x y : List ℕ) → 0 ∷ x ≡ 1 ∷ y → ⊥
+zero_one x y e = omega (arith, head_same 0 1 x y e)
+
+-- bytes 00 and a prefix have one length
+record AreSamePrefix (n m : ℕ) (r s : List ℕ) : Type 0 where
+  zeros : n ≡ m
+  rest : r ≡ s
+
+prefix_once : (n m : ℕ) (r s : List ℕ) → prefixed n r ≡ prefixed m s → AreSamePrefix n m r s
+prefix_once zero zero r s e = record {
+  zeros = refl;
+  rest = tail_same 1 1 r s (tail_same 0 0 (1 ∷ r) (1 ∷ s) (tail_same 0 0 (0 ∷ 1 ∷ r) (0 ∷ 1 ∷ s) e));
+}
+prefix_once zero (suc zero) r s e =
+    absurd (one_zero r (1 ∷ s) (tail_same 0 0 (1 ∷ r) (0 ∷ 1 ∷ s) (tail_same 0 0 (0 ∷ 1 ∷ r) (0 ∷ 0 ∷ 1 ∷ s) e)))
+prefix_once zero (suc (suc m)) r s e =
+    absurd (first_zero m r s (tail_same 0 0 (1 ∷ r) (prefixed m s) (tail_same 0 0 (0 ∷ 1 ∷ r) (0 ∷ prefixed m s) e)))
+  where
+    first_zero : (m : ℕ) (r s : List ℕ) → 1 ∷ r ≡ prefixed m s → ⊥
+    first_zero zero r s e = one_zero r (0 ∷ 1 ∷ s) e
+    first_zero (suc m) r s e = one_zero r (prefixed m s) e
+prefix_once (suc zero) zero r s e =
+    absurd (zero_one (1 ∷ r) s (tail_same 0 0 (0 ∷ 1 ∷ r) (1 ∷ s) (tail_same 0 0 (0 ∷ 0 ∷ 1 ∷ r) (0 ∷ 1 ∷ s) e)))
+prefix_once (suc (suc n)) zero r s e =
+    absurd (first_one n r s (tail_same 0 0 (prefixed n r) (1 ∷ s) (tail_same 0 0 (0 ∷ prefixed n r) (0 ∷ 1 ∷ s) e)))
+  where
+    first_one : (n : ℕ) (r s : List ℕ) → prefixed n r ≡ 1 ∷ s → ⊥
+    first_one zero r s e = zero_one (0 ∷ 1 ∷ r) s e
+    first_one (suc n) r s e = zero_one (prefixed n r) s e
+prefix_once (suc n) (suc m) r s e =
+    let more = prefix_once n m r s (tail_same 0 0 (prefixed n r) (prefixed m s) e) in
+    record { zeros = omega (arith, more.zeros); rest = more.rest }
+
+-- bytes 00 alone have no prefix
+zeros_no_prefix : (n m : ℕ) (s : List ℕ) → replicate n 0 ≡ prefixed m s → ⊥
+zeros_no_prefix zero zero s e = let bad : 0 ≡ length (prefixed 0 s) = ap length e in omega (arith, bad)
+zeros_no_prefix (suc zero) zero s e = let bad : 1 ≡ length (prefixed 0 s) = ap length e in omega (arith, bad)
+zeros_no_prefix (suc (suc zero)) zero s e = let bad : 2 ≡ length (prefixed 0 s) = ap length e in omega (arith, bad)
+zeros_no_prefix (suc (suc (suc n))) zero s e =
+    zero_one (replicate n 0) s (tail_same 0 0 (0 ∷ replicate n 0) (1 ∷ s) (tail_same 0 0 (0 ∷ 0 ∷ replicate n 0) (0 ∷ 1 ∷ s) e))
+zeros_no_prefix zero (suc m) s e = let bad : 0 ≡ length (0 ∷ prefixed m s) = ap length e in omega (arith, bad)
+zeros_no_prefix (suc n) (suc m) s e = zeros_no_prefix n m s (tail_same 0 0 (replicate n 0) (prefixed m s) e)
+
+-- the front of bytes 00 and a prefix that is bytes 00 lacks a part of it
+zeros_front : (n m : ℕ) (l s : List ℕ) → replicate n 0 ++ l ≡ prefixed m s → n ≤ m + 2
+zeros_front zero m l s e = omega arith
+zeros_front (suc zero) m l s e = omega arith
+zeros_front (suc (suc zero)) m l s e = omega arith
+zeros_front (suc (suc (suc n))) zero l s e =
+    absurd (zero_one (replicate n 0 ++ l) s (tail_same 0 0 (0 ∷ (replicate n 0 ++ l)) (1 ∷ s) (tail_same 0 0 (0 ∷ 0 ∷ (replicate n 0 ++ l)) (0 ∷ 1 ∷ s) e)))
+zeros_front (suc (suc (suc n))) (suc m) l s e =
+    omega (arith, zeros_front (suc (suc n)) m l s (tail_same 0 0 (0 ∷ 0 ∷ (replicate n 0 ++ l)) (prefixed m s) e))
+
+-- a byte other than 00 after bytes 00 isn't where a prefix can have it
+bad_no_prefix : (n m byte : ℕ) (l s : List ℕ) → replicate n 0 ++ byte ∷ l ≡ prefixed m s → byte ≢ 0 → (byte ≡ 1 → n < 2) → ⊥
+bad_no_prefix zero zero byte l s e some early = some (head_same byte 0 l (0 ∷ 1 ∷ s) e)
+bad_no_prefix zero (suc m) byte l s e some early = some (head_same byte 0 l (prefixed m s) e)
+bad_no_prefix (suc zero) zero byte l s e some early = some (head_same byte 0 l (1 ∷ s) (tail_same 0 0 (byte ∷ l) (0 ∷ 1 ∷ s) e))
+bad_no_prefix (suc (suc zero)) zero byte l s e some early =
+    let one : byte ≡ 1 = head_same byte 1 l s (tail_same 0 0 (byte ∷ l) (1 ∷ s) (tail_same 0 0 (0 ∷ byte ∷ l) (0 ∷ 1 ∷ s) e)) in omega (arith, early one)
+bad_no_prefix (suc (suc (suc n))) zero byte l s e some early =
+    zero_one (replicate n 0 ++ byte ∷ l) s (tail_same 0 0 (0 ∷ (replicate n 0 ++ byte ∷ l)) (1 ∷ s) (tail_same 0 0 (0 ∷ 0 ∷ (replicate n 0 ++ byte ∷ l)) (0 ∷ 1 ∷ s) e))
+bad_no_prefix (suc n) (suc m) byte l s e some early =
+    bad_no_prefix n m byte l s (tail_same 0 0 (replicate n 0 ++ byte ∷ l) (prefixed m s) e) some (λ one. omega (arith, early one))
+
+-- bytes 00 and another byte
+zeros_no_bad : (n m byte : ℕ) (l : List ℕ) → replicate n 0 ≡ replicate m 0 ++ byte ∷ l → byte ≢ 0 → ⊥
+zeros_no_bad zero zero byte l e some = let bad : 0 ≡ length (byte ∷ l) = ap length e in omega (arith, bad)
+zeros_no_bad zero (suc m) byte l e some = let bad : 0 ≡ length (0 ∷ (replicate m 0 ++ byte ∷ l)) = ap length e in omega (arith, bad)
+zeros_no_bad (suc n) zero byte l e some = some (sym (head_same 0 byte (replicate n 0) l e))
+zeros_no_bad (suc n) (suc m) byte l e some = zeros_no_bad n m byte l (tail_same 0 0 (replicate n 0) (replicate m 0 ++ byte ∷ l) e) some
+
+bad_once : (n m a b : ℕ) (r s : List ℕ) → replicate n 0 ++ a ∷ r ≡ replicate m 0 ++ b ∷ s → a ≢ 0 → b ≢ 0 → n ≡ m
+bad_once zero zero a b r s e x y = refl
+bad_once zero (suc m) a b r s e x y = absurd (x (head_same a 0 r (replicate m 0 ++ b ∷ s) e))
+bad_once (suc n) zero a b r s e x y = absurd (y (sym (head_same 0 b (replicate n 0 ++ a ∷ r) s e)))
+bad_once (suc n) (suc m) a b r s e x y = let more = bad_once n m a b r s (tail_same 0 0 (replicate n 0 ++ a ∷ r) (replicate m 0 ++ b ∷ s) e) x y in omega (arith, more)
+
+-- the bytes after an item's prefix
+abbrev rest_of : Item → List ℕ
+rest_of (Pack _ rest) = 186 ∷ rest
+rest_of (Packet _ kind high low content) = kind ∷ high ∷ low ∷ content
+
+item_prefixed : (a : Item) → item_bytes a ≡ prefixed (zeros_of a) (rest_of a)
+item_prefixed (Pack _ rest) = refl
+item_prefixed (Packet _ kind high low content) = refl
+
+-- lists of one length in front
+front_once : (a b x y : List ℕ) → a ++ x ≡ b ++ y → length a ≡ length b → (a ≡ b) × (x ≡ y)
+front_once a b x y e long = (
+  sym (take_at a x (length a) refl) ∙ ap (take (length a)) e ∙ ap (λ n. take n (b ++ y)) long ∙ take_at b y (length b) refl,
+  sym (drop_at a x (length a) refl) ∙ ap (drop (length a)) e ∙ ap (λ n. drop n (b ++ y)) long ∙ drop_at b y (length b) refl,
+)
+
+-- one item stands in front
+pub record IsSameItem (a b : Item) (x y : List ℕ) : Type 0 where
+  pub item : a ≡ b
+  pub rest : x ≡ y
+
+rests_once : (chosen : Option ℕ) (a b : Item) (x y : List ℕ) → IsItem chosen a → IsItem chosen b → zeros_of a ≡ zeros_of b → rest_of a ++ x ≡ rest_of b ++ y → IsSameItem a b x y
+rests_once chosen (Pack n r) (Pack m s) x y p q zeros e =
+    let same = front_once r s x y (tail_same 186 186 (r ++ x) (s ++ y) e) (p.eight ∙ sym q.eight) in
+    record { item = ap (λ k. Pack k r) zeros ∙ ap (λ (l : List ℕ). Pack m l) same.0; rest = same.1 }
+rests_once chosen (Pack n r) (Packet m kind high low s) x y p q zeros e =
+    absurd (let bad : 186 ≡ kind = head_same 186 kind (r ++ x) (high ∷ low ∷ (s ++ y)) e in omega (arith, bad, q.kind_is))
+rests_once chosen (Packet n kind high low r) (Pack m s) x y p q zeros e =
+    absurd (let bad : kind ≡ 186 = head_same kind 186 (high ∷ low ∷ (r ++ x)) (s ++ y) e in omega (arith, bad, p.kind_is))
+rests_once chosen (Packet n k h l r) (Packet m k' h' l' s) x y p q zeros e =
+    let kind : k ≡ k' = head_same k k' (h ∷ l ∷ (r ++ x)) (h' ∷ l' ∷ (s ++ y)) e in
+    let e1 : h ∷ l ∷ (r ++ x) ≡ h' ∷ l' ∷ (s ++ y) = tail_same k k' (h ∷ l ∷ (r ++ x)) (h' ∷ l' ∷ (s ++ y)) e in
+    let high : h ≡ h' = head_same h h' (l ∷ (r ++ x)) (l' ∷ (s ++ y)) e1 in
+    let e2 : l ∷ (r ++ x) ≡ l' ∷ (s ++ y) = tail_same h h' (l ∷ (r ++ x)) (l' ∷ (s ++ y)) e1 in
+    let low : l ≡ l' = head_same l l' (r ++ x) (s ++ y) e2 in
+    let same = front_once r s x y (tail_same l l' (r ++ x) (s ++ y) e2) (omega (arith, p.length_is, q.length_is, high, low)) in
+    record {
+      item = ap (λ z. Packet z k h l r) zeros ∙ ap (λ z. Packet m z h l r) kind ∙ ap (λ z. Packet m k' z l r) high ∙ ap (λ z. Packet m k' h' z r) low ∙ ap (λ (z : List ℕ). Packet m k' h' l' z) same.0;
+      rest = same.1;
+    }
+
+pub item_once : (chosen : Option ℕ) (a b : Item) (x y : List ℕ) → IsItem chosen a → IsItem chosen b → item_bytes a ++ x ≡ item_bytes b ++ y → IsSameItem a b x y
+item_once chosen a b x y p q e =
+    let both : prefixed (zeros_of a) (rest_of a ++ x) ≡ prefixed (zeros_of b) (rest_of b ++ y) =
+    sym (ap (λ (l : List ℕ). l ++ x) (item_prefixed a) ∙ prefixed_more (zeros_of a) (rest_of a) x) ∙ e ∙ ap (λ (l : List ℕ). l ++ y) (item_prefixed b) ∙ prefixed_more (zeros_of b) (rest_of b) y in
+    let same = prefix_once (zeros_of a) (zeros_of b) (rest_of a ++ x) (rest_of b ++ y) both in
+    rests_once chosen a b x y p q same.zeros same.rest
+
+-- an item, from its prefix
+from_prefix : (a : Item) (x t : List ℕ) (m : ℕ) (s : List ℕ) → item_bytes a ++ x ≡ t → t ≡ prefixed m s → AreSamePrefix (zeros_of a) m (rest_of a ++ x) s
+from_prefix a x t m s e is =
+    prefix_once (zeros_of a) m (rest_of a ++ x) s (sym (ap (λ (l : List ℕ). l ++ x) (item_prefixed a) ∙ prefixed_more (zeros_of a) (rest_of a) x) ∙ e ∙ is)
+
+as_prefixed : (a : Item) (x t : List ℕ) → item_bytes a ++ x ≡ t → t ≡ prefixed (zeros_of a) (rest_of a ++ x)
+as_prefixed a x t e = sym e ∙ ap (λ (l : List ℕ). l ++ x) (item_prefixed a) ∙ prefixed_more (zeros_of a) (rest_of a) x
+
+-- an item's kind is BA or above
+kind_of_item : (chosen : Option ℕ) (a : Item) (x s : List ℕ) (kind : ℕ) → IsItem chosen a → rest_of a ++ x ≡ kind ∷ s → 186 ≤ kind
+kind_of_item chosen (Pack n r) x s kind p e = omega (arith, head_same 186 kind (r ++ x) s e)
+kind_of_item chosen (Packet n k h l r) x s kind p e = omega (arith, p.kind_is, head_same k kind (h ∷ l ∷ (r ++ x)) s e)
+
+-- no item stands where the stream ends
+pub item_no_end : (chosen : Option ℕ) (a : Item) (x t : List ℕ) → IsItem chosen a → item_bytes a ++ x ≡ t → IsEnd t → ⊥
+item_no_end chosen a x t p e (inl z) = zeros_no_prefix z.count (zeros_of a) (rest_of a ++ x) (sym z.are ∙ as_prefixed a x t e)
+item_no_end chosen a x t p e (inr c) =
+    let kind = kind_of_item chosen a x c.rest 185 p (from_prefix a x t c.zeros (185 ∷ c.rest) e c.is).rest in omega (arith, kind)
+
+-- nor where a fault does
+mark_other : (chosen : Option ℕ) (a : Item) (x rest : List ℕ) (mark : ℕ) → IsItem chosen a → rest_of a ++ x ≡ 186 ∷ mark ∷ rest → mark / 16 ≢ 2 → ⊥
+mark_other chosen (Pack n []) x rest mark p e other = omega (arith, p.eight)
+mark_other chosen (Pack n (b ∷ r)) x rest mark p e other =
+    other (ap (λ k. k / 16) (sym (head_same b mark (r ++ x) rest (tail_same 186 186 (b ∷ (r ++ x)) (mark ∷ rest) e))) ∙ p.mark)
+mark_other chosen (Packet n k h l r) x rest mark p e other = omega (arith, p.kind_is, head_same k 186 (h ∷ l ∷ (r ++ x)) (mark ∷ rest) e)
+
+-- a content that stands whole has a header
+content_bad : (chosen : Option ℕ) (a : Item) (x front rest : List ℕ) (kind high low : ℕ) → IsItem chosen a → rest_of a ++ x ≡ kind ∷ high ∷ low ∷ (front ++ rest) → 187 ≤ kind →
+    is_chosen (choose chosen kind) kind ≡ true → length front ≤ high * 256 + low → ((more : List ℕ) → length front + length more ≡ high * 256 + low → video_in (front ++ more) ≡ None) → ⊥
+content_bad chosen (Pack n r) x front rest kind high low p e kind_is is within none = omega (arith, kind_is, head_same 186 kind (r ++ x) (high ∷ low ∷ (front ++ rest)) e)
+content_bad chosen (Packet n k h l r) x front rest kind high low p e kind_is is within none =
+    let kinds : k ≡ kind = head_same k kind (h ∷ l ∷ (r ++ x)) (high ∷ low ∷ (front ++ rest)) e in
+    let e1 : h ∷ l ∷ (r ++ x) ≡ high ∷ low ∷ (front ++ rest) = tail_same k kind (h ∷ l ∷ (r ++ x)) (high ∷ low ∷ (front ++ rest)) e in
+    let highs : h ≡ high = head_same h high (l ∷ (r ++ x)) (low ∷ (front ++ rest)) e1 in
+    let e2 : l ∷ (r ++ x) ≡ low ∷ (front ++ rest) = tail_same h high (l ∷ (r ++ x)) (low ∷ (front ++ rest)) e1 in
+    let lows : l ≡ low = head_same l low (r ++ x) (front ++ rest) e2 in
+    let whole : r ++ x ≡ front ++ rest = tail_same l low (r ++ x) (front ++ rest) e2 in
+    let size : length r ≡ high * 256 + low = omega (arith, p.length_is, highs, lows) in
+    let cut : length (take (length front) r) ≡ length front = length-take-le (length front) r (omega (arith, size, within)) in
+    let fronts = front_once (take (length front) r) front (drop (length front) r ++ x) rest
+    (sym (append_assoc (take (length front) r) (drop (length front) r) x) ∙ ap (λ (t : List ℕ). t ++ x) (take-append-drop (length front) r) ∙ whole) cut in
+    let split : r ≡ front ++ drop (length front) r = sym (take-append-drop (length front) r) ∙ ap (λ (t : List ℕ). t ++ drop (length front) r) fronts.0 in
+    let nothing : video_in r ≡ None = ap video_in split ∙ none (drop (length front) r) (omega (arith, size, within, length-drop (length front) r)) in
+    let some = p.header (subst (λ z. is_chosen (choose chosen z) z ≡ true) (sym kinds) is) in
+    let bad : IsSome {T = List ℕ} None = subst (λ (o : Option (List ℕ)). IsSome o) nothing some in
+    let wrong : false ≡ true = bad in
+    cc
+
+fault_no_item : (chosen : Option ℕ) (start : ℕ) (a : Item) (x t : List ℕ) (fault : SystemFault) → IsItem chosen a → item_bytes a ++ x ≡ t → IsFault chosen start t fault → ⊥
+fault_no_item chosen start a x t (NotPack place) p e f = mark_other chosen a x f.rest f.mark p (from_prefix a x t f.zeros (186 ∷ f.mark ∷ f.rest) e f.is).rest f.other
+fault_no_item chosen start a x t (BadCode place) p e (inl f) =
+    bad_no_prefix f.count (zeros_of a) f.byte f.rest (rest_of a ++ x) (sym f.is ∙ as_prefixed a x t e) f.some f.early
+fault_no_item chosen start a x t (BadCode place) p e (inr f) =
+    let kind = kind_of_item chosen a x f.rest f.kind p (from_prefix a x t f.zeros (f.kind ∷ f.rest) e f.is).rest in omega (arith, kind, f.low)
+fault_no_item chosen start a x t (BadPacket place) p e f =
+    content_bad chosen a x f.front f.rest f.kind f.high f.low p (from_prefix a x t f.zeros (f.kind ∷ f.high ∷ f.low ∷ (f.front ++ f.rest)) e f.is).rest f.kind_is f.chosen_is f.within f.none
+fault_no_item chosen start a x t (Truncated place) p e f =
+    let same = item_once chosen a f.item (x ++ f.lacking) [] p f.is_item
+    (sym (append_assoc (item_bytes a) x f.lacking) ∙ ap (λ (l : List ℕ). l ++ f.lacking) e ∙ sym f.is ∙ sym (append-nil (item_bytes f.item))) in
+    omega (arith, ap length same.rest, length-append x f.lacking, f.some)
+
+-- where the stream ends or a fault stands
+kinds_once : (t : List ℕ) (z w k j : ℕ) (r s : List ℕ) → t ≡ prefixed z (k ∷ r) → t ≡ prefixed w (j ∷ s) → (z ≡ w) × (k ≡ j)
+kinds_once t z w k j r s a b =
+    let same = prefix_once z w (k ∷ r) (j ∷ s) (sym a ∙ b) in
+    (same.zeros, head_same k j r s same.rest)
+
+-- the front of an item with its whole prefix
+front_prefixed : (t l r : List ℕ) (z : ℕ) → t ++ l ≡ prefixed z r → z + 3 ≤ length t → t ≡ prefixed z (drop (z + 3) t)
+front_prefixed t l r z e long =
+    let size : length (take (z + 3) t) ≡ length (prefixed z []) = length-take-le (z + 3) t long ∙ sym (length-prefixed z [] ∙ omega arith) in
+    let fronts = front_once (take (z + 3) t) (prefixed z []) (drop (z + 3) t ++ l) r
+    (sym (append_assoc (take (z + 3) t) (drop (z + 3) t) l) ∙ ap (λ (x : List ℕ). x ++ l) (take-append-drop (z + 3) t) ∙ e ∙ sym (prefixed_more z [] r)) size in
+    sym (take-append-drop (z + 3) t) ∙ ap (λ (x : List ℕ). x ++ drop (z + 3) t) fronts.0 ∙ prefixed_more z [] (drop (z + 3) t)
+
+cut_prefixed : (chosen : Option ℕ) (start : ℕ) (t : List ℕ) (place : ℕ) (f : IsCut chosen start t place) → t ≡ prefixed (zeros_of f.item) (drop (zeros_of f.item + 3) t)
+cut_prefixed chosen start t place f = front_prefixed t f.lacking (rest_of f.item) (zeros_of f.item) (sym f.is ∙ item_prefixed f.item) f.begun
+
+-- a fault that bytes show stands in no front of an item
+cut_shows_none : (chosen : Option ℕ) (start : ℕ) (t : List ℕ) (place : ℕ) (fault : SystemFault) → IsCut chosen start t place → IsShown fault → IsFault chosen start t fault → ⊥
+cut_shows_none chosen start t place fault cut shown f =
+    fault_no_item chosen start cut.item [] (t ++ cut.lacking) fault cut.is_item (append-nil (item_bytes cut.item) ∙ cut.is) (fault_stays chosen start t cut.lacking fault shown f)
+
+-- an end is no fault
+pub end_no_fault : (chosen : Option ℕ) (start : ℕ) (t : List ℕ) (fault : SystemFault) → IsEnd t → IsFault chosen start t fault → ⊥
+end_no_fault chosen start t (NotPack place) (inl z) f = zeros_no_prefix z.count f.zeros (186 ∷ f.mark ∷ f.rest) (sym z.are ∙ f.is)
+end_no_fault chosen start t (NotPack place) (inr c) f = let bad = (kinds_once t c.zeros f.zeros 185 186 c.rest (f.mark ∷ f.rest) c.is f.is).1 in omega (arith, bad)
+end_no_fault chosen start t (BadCode place) (inl z) (inl f) = zeros_no_bad z.count f.count f.byte f.rest (sym z.are ∙ f.is) f.some
+end_no_fault chosen start t (BadCode place) (inl z) (inr f) = zeros_no_prefix z.count f.zeros (f.kind ∷ f.rest) (sym z.are ∙ f.is)
+end_no_fault chosen start t (BadCode place) (inr c) (inl f) = bad_no_prefix f.count c.zeros f.byte f.rest (185 ∷ c.rest) (sym f.is ∙ c.is) f.some f.early
+end_no_fault chosen start t (BadCode place) (inr c) (inr f) = let bad = (kinds_once t c.zeros f.zeros 185 f.kind c.rest f.rest c.is f.is).1 in omega (arith, bad, f.low)
+end_no_fault chosen start t (BadPacket place) (inl z) f = zeros_no_prefix z.count f.zeros (f.kind ∷ f.high ∷ f.low ∷ (f.front ++ f.rest)) (sym z.are ∙ f.is)
+end_no_fault chosen start t (BadPacket place) (inr c) f =
+    let bad = (kinds_once t c.zeros f.zeros 185 f.kind c.rest (f.high ∷ f.low ∷ (f.front ++ f.rest)) c.is f.is).1 in omega (arith, bad, f.kind_is)
+end_no_fault chosen start t (Truncated place) (inl z) f = zeros_no_prefix z.count (zeros_of f.item) (drop (zeros_of f.item + 3) t) (sym z.are ∙ cut_prefixed chosen start t place f)
+end_no_fault chosen start t (Truncated place) (inr c) f =
+    item_no_end chosen f.item [] (t ++ f.lacking) f.is_item (append-nil (item_bytes f.item) ∙ f.is)
+    (inr (record { zeros = c.zeros; rest = c.rest ++ f.lacking; is = ap (λ (l : List ℕ). l ++ f.lacking) c.is ∙ prefixed_more c.zeros (185 ∷ c.rest) f.lacking }))
+
+-- one fault stands there
+places_same : (start place place' n m : ℕ) → place ≡ start + n → place' ≡ start + m → n ≡ m → place ≡ place'
+places_same start place place' n m a b e = omega (arith, a, b, e)
+
+fault_once : (chosen : Option ℕ) (start : ℕ) (t : List ℕ) (one other : SystemFault) → IsFault chosen start t one → IsFault chosen start t other → one ≡ other
+fault_once chosen start t (NotPack p) (NotPack q) f g =
+    ap NotPack (places_same start p q f.zeros g.zeros f.place_is g.place_is (kinds_once t f.zeros g.zeros 186 186 (f.mark ∷ f.rest) (g.mark ∷ g.rest) f.is g.is).0)
+fault_once chosen start t (NotPack p) (BadCode q) f (inl g) = absurd (bad_no_prefix g.count f.zeros g.byte g.rest (186 ∷ f.mark ∷ f.rest) (sym g.is ∙ f.is) g.some g.early)
+fault_once chosen start t (NotPack p) (BadCode q) f (inr g) = absurd (let bad = (kinds_once t f.zeros g.zeros 186 g.kind (f.mark ∷ f.rest) g.rest f.is g.is).1 in omega (arith, bad, g.low))
+fault_once chosen start t (NotPack p) (BadPacket q) f g =
+    absurd (let bad = (kinds_once t f.zeros g.zeros 186 g.kind (f.mark ∷ f.rest) (g.high ∷ g.low ∷ (g.front ++ g.rest)) f.is g.is).1 in omega (arith, bad, g.kind_is))
+fault_once chosen start t (NotPack p) (Truncated q) f g = absurd (cut_shows_none chosen start t q (NotPack p) g tt f)
+fault_once chosen start t (BadCode p) (NotPack q) (inl f) g = absurd (bad_no_prefix f.count g.zeros f.byte f.rest (186 ∷ g.mark ∷ g.rest) (sym f.is ∙ g.is) f.some f.early)
+fault_once chosen start t (BadCode p) (NotPack q) (inr f) g = absurd (let bad = (kinds_once t f.zeros g.zeros f.kind 186 f.rest (g.mark ∷ g.rest) f.is g.is).1 in omega (arith, bad, f.low))
+fault_once chosen start t (BadCode p) (BadCode q) (inl f) (inl g) =
+    ap BadCode (places_same start p q f.count g.count f.place_is g.place_is (bad_once f.count g.count f.byte g.byte f.rest g.rest (sym f.is ∙ g.is) f.some g.some))
+fault_once chosen start t (BadCode p) (BadCode q) (inl f) (inr g) = absurd (bad_no_prefix f.count g.zeros f.byte f.rest (g.kind ∷ g.rest) (sym f.is ∙ g.is) f.some f.early)
+fault_once chosen start t (BadCode p) (BadCode q) (inr f) (inl g) = absurd (bad_no_prefix g.count f.zeros g.byte g.rest (f.kind ∷ f.rest) (sym g.is ∙ f.is) g.some g.early)
+fault_once chosen start t (BadCode p) (BadCode q) (inr f) (inr g) =
+    ap BadCode (places_same start p q f.zeros g.zeros f.place_is g.place_is (kinds_once t f.zeros g.zeros f.kind g.kind f.rest g.rest f.is g.is).0)
+fault_once chosen start t (BadCode p) (BadPacket q) (inl f) g =
+    absurd (bad_no_prefix f.count g.zeros f.byte f.rest (g.kind ∷ g.high ∷ g.low ∷ (g.front ++ g.rest)) (sym f.is ∙ g.is) f.some f.early)
+fault_once chosen start t (BadCode p) (BadPacket q) (inr f) g =
+    absurd (let bad = (kinds_once t f.zeros g.zeros f.kind g.kind f.rest (g.high ∷ g.low ∷ (g.front ++ g.rest)) f.is g.is).1 in omega (arith, bad, f.low, g.kind_is))
+fault_once chosen start t (BadCode p) (Truncated q) f g = absurd (cut_shows_none chosen start t q (BadCode p) g tt f)
+fault_once chosen start t (BadPacket p) (NotPack q) f g =
+    absurd (let bad = (kinds_once t f.zeros g.zeros f.kind 186 (f.high ∷ f.low ∷ (f.front ++ f.rest)) (g.mark ∷ g.rest) f.is g.is).1 in omega (arith, bad, f.kind_is))
+fault_once chosen start t (BadPacket p) (BadCode q) f (inl g) =
+    absurd (bad_no_prefix g.count f.zeros g.byte g.rest (f.kind ∷ f.high ∷ f.low ∷ (f.front ++ f.rest)) (sym g.is ∙ f.is) g.some g.early)
+fault_once chosen start t (BadPacket p) (BadCode q) f (inr g) =
+    absurd (let bad = (kinds_once t f.zeros g.zeros f.kind g.kind (f.high ∷ f.low ∷ (f.front ++ f.rest)) g.rest f.is g.is).1 in omega (arith, bad, g.low, f.kind_is))
+fault_once chosen start t (BadPacket p) (BadPacket q) f g =
+    ap BadPacket (places_same start p q f.zeros g.zeros f.place_is g.place_is
+    (kinds_once t f.zeros g.zeros f.kind g.kind (f.high ∷ f.low ∷ (f.front ++ f.rest)) (g.high ∷ g.low ∷ (g.front ++ g.rest)) f.is g.is).0)
+fault_once chosen start t (BadPacket p) (Truncated q) f g = absurd (cut_shows_none chosen start t q (BadPacket p) g tt f)
+fault_once chosen start t (Truncated p) (NotPack q) f g = absurd (cut_shows_none chosen start t p (NotPack q) f tt g)
+fault_once chosen start t (Truncated p) (BadCode q) f g = absurd (cut_shows_none chosen start t p (BadCode q) f tt g)
+fault_once chosen start t (Truncated p) (BadPacket q) f g = absurd (cut_shows_none chosen start t p (BadPacket q) f tt g)
+fault_once chosen start t (Truncated p) (Truncated q) f g =
+    ap Truncated (places_same start p q (zeros_of f.item) (zeros_of g.item) f.place_is g.place_is
+    (prefix_once (zeros_of f.item) (zeros_of g.item) (drop (zeros_of f.item + 3) t) (drop (zeros_of g.item + 3) t) (sym (cut_prefixed chosen start t p f) ∙ cut_prefixed chosen start t q g)).zeros)
+
+-- what no item stands in front of
+Stops : Option ℕ → List ℕ → Type 0
+Stops chosen t = (a : Item) (x : List ℕ) → IsItem chosen a → item_bytes a ++ x ≡ t → ⊥
+
+end_stops : (chosen : Option ℕ) (t : List ℕ) → IsEnd t → Stops chosen t
+unfolding Stops
+end_stops chosen t end = λ a x p e. item_no_end chosen a x t p e end
+
+fault_stops : (chosen : Option ℕ) (start : ℕ) (t : List ℕ) (fault : SystemFault) → IsFault chosen start t fault → Stops chosen t
+unfolding Stops
+fault_stops chosen start t fault f = λ a x p e. fault_no_item chosen start a x t fault p e f
+
+-- one list of items
+record AreSame (items items' : List Item) (t t' : List ℕ) : Type 0 where
+  items_are : items ≡ items'
+  tail_is : t ≡ t'
+
+items_once : (chosen : Option ℕ) (items items' : List Item) (t t' : List ℕ) → AreItems chosen items → AreItems chosen items' → bytes_of items ++ t ≡ bytes_of items' ++ t' →
+    Stops (chosen_after chosen items) t → Stops (chosen_after chosen items') t' → AreSame items items' t t'
+unfolding Stops
+items_once chosen [] [] t t' p q e s s' = record { items_are = refl; tail_is = e }
+items_once chosen [] (y ∷ ys) t t' p q e s s' = absurd (s y (bytes_of ys ++ t') q.0 (sym (append_assoc (item_bytes y) (bytes_of ys) t') ∙ sym e))
+items_once chosen (x ∷ xs) [] t t' p q e s s' = absurd (s' x (bytes_of xs ++ t) p.0 (sym (append_assoc (item_bytes x) (bytes_of xs) t) ∙ e))
+items_once chosen (x ∷ xs) (y ∷ ys) t t' p q e s s' =
+    let same = item_once chosen x y (bytes_of xs ++ t) (bytes_of ys ++ t') p.0 q.0
+    (sym (append_assoc (item_bytes x) (bytes_of xs) t) ∙ e ∙ append_assoc (item_bytes y) (bytes_of ys) t') in
+    let next : chosen_next chosen y ≡ chosen_next chosen x = ap (chosen_next chosen) (sym same.item) in
+    let more = items_once (chosen_next chosen x) xs ys t t' p.1 (subst (λ c. AreItems c ys) next q.1) same.rest s (subst (λ c. Stops (chosen_after c ys) t') next s') in
+    record { items_are = ap (λ z. z ∷ xs) same.item ∙ ap (λ zs. y ∷ zs) more.items_are; tail_is = more.tail_is }
+
+-- a stream has one list of items
+pub system_once : (bytes one other : List ℕ) (a : IsSystem bytes one) (b : IsSystem bytes other) → (a.items ≡ b.items) × (a.tail ≡ b.tail)
+system_once bytes one other a b =
+    let same = items_once None a.items b.items a.tail b.tail a.are b.are (sym a.bytes_are ∙ b.bytes_are) (end_stops (chosen_after None a.items) a.tail a.end) (end_stops (chosen_after None b.items) b.tail b.end) in
+    (same.items_are, same.tail_is)
+
+pub video_once : (bytes one other : List ℕ) → IsSystem bytes one → IsSystem bytes other → one ≡ other
+video_once bytes one other a b =
+    let same = items_once None a.items b.items a.tail b.tail a.are b.are (sym a.bytes_are ∙ b.bytes_are) (end_stops (chosen_after None a.items) a.tail a.end) (end_stops (chosen_after None b.items) b.tail b.end) in
+    a.video_is ∙ ap (video_of None) same.items_are ∙ sym b.video_is
+
+pub not_both : (bytes video : List ℕ) (fault : SystemFault) → IsSystem bytes video → IsRefused bytes fault → ⊥
+not_both bytes video fault a b =
+    let same = items_once None a.items b.items a.tail b.tail a.are b.are (sym a.bytes_are ∙ b.bytes_are) (end_stops (chosen_after None a.items) a.tail a.end)
+    (fault_stops (chosen_after None b.items) (length (bytes_of b.items)) b.tail fault b.fault_is) in
+    end_no_fault (chosen_after None b.items) (length (bytes_of b.items)) b.tail fault (subst IsEnd same.tail_is a.end) b.fault_is
+
+pub refused_once : (bytes : List ℕ) (one other : SystemFault) → IsRefused bytes one → IsRefused bytes other → one ≡ other
+refused_once bytes one other a b =
+    let same = items_once None a.items b.items a.tail b.tail a.are b.are (sym a.bytes_are ∙ b.bytes_are)
+    (fault_stops (chosen_after None a.items) (length (bytes_of a.items)) a.tail one a.fault_is) (fault_stops (chosen_after None b.items) (length (bytes_of b.items)) b.tail other b.fault_is) in
+    fault_once (chosen_after None b.items) (length (bytes_of b.items)) b.tail one other
+    (subst (λ (zs : List Item). IsFault (chosen_after None zs) (length (bytes_of zs)) b.tail one) same.items_are
+    (subst (λ (l : List ℕ). IsFault (chosen_after None a.items) (length (bytes_of a.items)) l one) same.tail_is a.fault_is)) b.fault_is

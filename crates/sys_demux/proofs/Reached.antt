@@ -1,0 +1,346 @@
+-- What was fed, some bytes more, and how it ends.
+use Rattle.std.proofs.Common.{◌≡◌, ℕ, ◌+◌, ◌-◌, ◌*◌, ◌<◌, ◌≤◌, true, nat_lt, nat_le, List, [], ◌∷◌, ◌++◌, length, drop, get_or, Option, Some, None, refl, sym, ap, subst, ◌∙◌, arith, inl, inr}
+use Rattle.std.specs.Prelude.{IsSome, replicate}
+use Rattle.std.proofs.lemmas.Bool.{and_parts, ltb-true, leb-true, le-leb, cond-true}
+use Rattle.std.proofs.lemmas.List.{append_assoc, append-nil, length-append, length-replicate}
+use Rattle.std.proofs.lemmas.List.Concat.{flat_map-append}
+use Rattle.sys_demux.specs.Contents.{video_in}
+use Rattle.sys_demux.specs.Items.{Item, prefixed, item_bytes, zeros_of, choose, chosen_next, chosen_after, IsPack, IsPacket, IsItem, AreItems, item_video, video_of, bytes_of}
+use Rattle.sys_demux.specs.Items.Item.{Pack, Packet}
+use Rattle.sys_demux.specs.Streams.{IsCut, IsEnd, IsFault, IsSystem, IsRefused}
+use Rattle.sys_demux.specs.Sound.{least_rest, is_sound}
+use Rattle.sys_demux.specs.States.{video_from, IsAtPrefix, IsAtHeader, IsAtZeros, IsAtRest, IsShown, IsPart, LeadsTo, IsReached, end_fault, fault_at}
+use Rattle.sys_demux.specs.declared.faults.SystemFault.{SystemFault}
+use Rattle.sys_demux.specs.declared.faults.SystemFault.TheVariants.{NotPack, BadCode, BadPacket, Truncated}
+use Rattle.sys_demux.specs.declared.headers.Header.{Header}
+use Rattle.sys_demux.specs.declared.headers.Header.TheVariants.{Stuffing, Second, Stamp, Rest}
+use Rattle.sys_demux.specs.declared.places.Place.{Place}
+use Rattle.sys_demux.specs.declared.places.Place.TheVariants.{Zeros, Kind, Mark, High, Low, InHeader, Pass, Video, End, Failed}
+use Rattle.sys_demux.proofs.ContentSteps.{stuffing_ends}
+use Rattle.sys_demux.proofs.Parts.{prefixed_more, length-prefixed}
+
+none_some : (fault : SystemFault) → None ≡ Some fault → ⊥
+none_some fault e = cc
+
+same_some : (a b : SystemFault) → Some a ≡ Some b → a ≡ b
+same_some a b e = cc
+
+-- items and one more
+are_more : (chosen : Option ℕ) (items : List Item) (item : Item) → AreItems chosen items → IsItem (chosen_after chosen items) item → AreItems chosen (items ++ item ∷ [])
+are_more chosen [] item are is = (is, tt)
+are_more chosen (x ∷ items) item are is = (are.0, are_more (chosen_next chosen x) items item are.1 is)
+
+chosen_more : (chosen : Option ℕ) (items : List Item) (item : Item) → chosen_after chosen (items ++ item ∷ []) ≡ chosen_next (chosen_after chosen items) item
+chosen_more chosen [] item = refl
+chosen_more chosen (x ∷ items) item = chosen_more (chosen_next chosen x) items item
+
+video_more : (chosen : Option ℕ) (items : List Item) (item : Item) → video_of chosen (items ++ item ∷ []) ≡ video_of chosen items ++ item_video (chosen_after chosen items) item
+video_more chosen [] item = append-nil (item_video chosen item)
+video_more chosen (x ∷ items) item =
+    ap (λ (l : List ℕ). item_video chosen x ++ l) (video_more (chosen_next chosen x) items item)
+    ∙ sym (append_assoc (item_video chosen x) (video_of (chosen_next chosen x) items) (item_video (chosen_after (chosen_next chosen x) items) item))
+
+bytes_more : (items : List Item) (item : Item) → bytes_of (items ++ item ∷ []) ≡ bytes_of items ++ item_bytes item
+bytes_more items item = flat_map-append item_bytes items (item ∷ []) ∙ ap (λ (l : List ℕ). bytes_of items ++ l) (append-nil (item_bytes item))
+
+-- a part that leads to a state, after items
+pub reached_leads : (items : List Item) (place : ℕ) (now : Option ℕ) (part kept : List ℕ) (state : Place) → AreItems None items →
+    LeadsTo (chosen_after None items) (length (bytes_of items)) place now part kept state → IsReached state place now (bytes_of items ++ part) (video_of None items ++ kept)
+reached_leads items place now part kept state are (inl is) = record {
+  items = items;
+  part = part;
+  kept = kept;
+  are = are;
+  seen_is = refl;
+  video_is = refl;
+  is_part = is;
+}
+reached_leads items place now part kept state are (inr done) =
+    let d = done.1.0 in
+    let all = items ++ d.item ∷ [] in
+    let at_zeros : IsAtZeros (chosen_after None all) 0 now [] [] = record {
+      count = 0;
+      are = refl;
+      zeros_are = omega arith;
+      now_is = sym (chosen_more None items d.item ∙ d.next_is);
+      none = refl;
+    } in
+    record {
+      items = all;
+      part = [];
+      kept = [];
+      are = are_more None items d.item are d.is_item;
+      seen_is = ap (λ (l : List ℕ). bytes_of items ++ l) (sym d.bytes_are) ∙ sym (bytes_more items d.item) ∙ sym (append-nil (bytes_of all));
+      video_is = ap (λ (l : List ℕ). video_of None items ++ l) (sym d.video_is) ∙ sym (video_more None items d.item) ∙ sym (append-nil (video_of None all));
+      is_part = subst (λ s. IsPart (chosen_after None all) (length (bytes_of all)) place now [] [] s) (sym done.1.1) at_zeros;
+    }
+
+-- bytes more
+pub step : (state next : Place) (place place' : ℕ) (now now' : Option ℕ) (seen video bytes more : List ℕ) → IsReached state place now seen video →
+    ((chosen : Option ℕ) (start : ℕ) (part kept : List ℕ) → start + length part ≡ length seen → IsPart chosen start place now part kept state → LeadsTo chosen start place' now' (part ++ bytes) (kept ++ more) next) →
+    IsReached next place' now' (seen ++ bytes) (video ++ more)
+step state next place place' now now' seen video bytes more r leads =
+    let size : length (bytes_of r.items) + length r.part ≡ length seen = sym (ap length r.seen_is ∙ length-append (bytes_of r.items) r.part) in
+    let after = reached_leads r.items place' now' (r.part ++ bytes) (r.kept ++ more) next r.are
+    (leads (chosen_after None r.items) (length (bytes_of r.items)) r.part r.kept size r.is_part) in
+    let seen_is : bytes_of r.items ++ (r.part ++ bytes) ≡ seen ++ bytes = sym (append_assoc (bytes_of r.items) r.part bytes) ∙ ap (λ (l : List ℕ). l ++ bytes) (sym r.seen_is) in
+    let video_is : video_of None r.items ++ (r.kept ++ more) ≡ video ++ more = sym (append_assoc (video_of None r.items) r.kept more) ∙ ap (λ (l : List ℕ). l ++ more) (sym r.video_is) in
+    subst (λ (s : List ℕ). IsReached next place' now' s (video ++ more)) seen_is (subst (λ (v : List ℕ). IsReached next place' now' (bytes_of r.items ++ (r.part ++ bytes)) v) video_is after)
+
+-- one byte more, and no video
+pub step_byte : (state next : Place) (place place' : ℕ) (now now' : Option ℕ) (seen video : List ℕ) (byte : ℕ) → IsReached state place now seen video →
+    ((chosen : Option ℕ) (start : ℕ) (part kept : List ℕ) → start + length part ≡ length seen → IsPart chosen start place now part kept state → LeadsTo chosen start place' now' (part ++ byte ∷ []) kept next) →
+    IsReached next place' now' (seen ++ byte ∷ []) video
+step_byte state next place place' now now' seen video byte r leads =
+    let more = step state next place place' now now' seen video (byte ∷ []) [] r (λ chosen start part kept size is.
+    subst (λ (k : List ℕ). LeadsTo chosen start place' now' (part ++ byte ∷ []) k next) (sym (append-nil kept)) (leads chosen start part kept size is)) in
+    subst (λ (v : List ℕ). IsReached next place' now' (seen ++ byte ∷ []) v) (append-nil video) more
+
+pub moved : (state state' : Place) (place place' : ℕ) (now now' : Option ℕ) (seen video : List ℕ) → state ≡ state' → place ≡ place' → now ≡ now' → IsReached state' place' now' seen video → IsReached state place now seen video
+moved state state' place place' now now' seen video s p n r =
+    subst (λ x. IsReached x place now seen video) (sym s) (subst (λ x. IsReached state' x now seen video) (sym p) (subst (λ x. IsReached state' place' x seen video) (sym n) r))
+
+-- a fault that bytes show stays
+more_after : (tail front rest more : List ℕ) → tail ≡ front ++ rest → tail ++ more ≡ front ++ (rest ++ more)
+more_after tail front rest more is = ap (λ (l : List ℕ). l ++ more) is ∙ append_assoc front rest more
+
+pub fault_stays : (chosen : Option ℕ) (start : ℕ) (tail more : List ℕ) (fault : SystemFault) → IsShown fault → IsFault chosen start tail fault → IsFault chosen start (tail ++ more) fault
+fault_stays chosen start tail more (NotPack place) shown f = record {
+  zeros = f.zeros;
+  mark = f.mark;
+  rest = f.rest ++ more;
+  is = ap (λ (l : List ℕ). l ++ more) f.is ∙ prefixed_more f.zeros (186 ∷ f.mark ∷ f.rest) more;
+  other = f.other;
+  place_is = f.place_is;
+}
+fault_stays chosen start tail more (BadCode place) shown (inl f) = inl (record {
+  count = f.count;
+  byte = f.byte;
+  rest = f.rest ++ more;
+  is = more_after tail (replicate f.count 0) (f.byte ∷ f.rest) more f.is;
+  some = f.some;
+  early = f.early;
+  place_is = f.place_is;
+})
+fault_stays chosen start tail more (BadCode place) shown (inr f) = inr (record {
+  zeros = f.zeros;
+  kind = f.kind;
+  rest = f.rest ++ more;
+  is = ap (λ (l : List ℕ). l ++ more) f.is ∙ prefixed_more f.zeros (f.kind ∷ f.rest) more;
+  low = f.low;
+  place_is = f.place_is;
+})
+fault_stays chosen start tail more (BadPacket place) shown f = record {
+  zeros = f.zeros;
+  kind = f.kind;
+  high = f.high;
+  low = f.low;
+  front = f.front;
+  rest = f.rest ++ more;
+  is = ap (λ (l : List ℕ). l ++ more) f.is ∙ prefixed_more f.zeros (f.kind ∷ f.high ∷ f.low ∷ (f.front ++ f.rest)) more
+      ∙ ap (λ (l : List ℕ). prefixed f.zeros (f.kind ∷ f.high ∷ f.low ∷ l)) (append_assoc f.front f.rest more);
+  kind_is = f.kind_is;
+  chosen_is = f.chosen_is;
+  within = f.within;
+  none = f.none;
+  place_is = f.place_is;
+}
+fault_stays chosen start tail more (Truncated place) shown f = absurd shown
+
+pub failed_refused : (fault : SystemFault) (place : ℕ) (now : Option ℕ) (seen video more : List ℕ) → IsReached (Failed fault) place now seen video → IsRefused (seen ++ more) fault
+failed_refused fault place now seen video more r = record {
+  items = r.items;
+  tail = r.part ++ more;
+  are = r.are;
+  bytes_are = more_after seen (bytes_of r.items) r.part more r.seen_is;
+  fault_is = fault_stays (chosen_after None r.items) (length (bytes_of r.items)) r.part more fault r.is_part.2 r.is_part.0;
+}
+
+-- a place in a header, or in an item
+pub sound_header : (header : Header) (left : ℕ) → is_sound (InHeader header left) ≡ true → (0 < least_rest header) × (least_rest header ≤ left)
+sound_header header left sound =
+    let parts = and_parts (nat_lt 0 (least_rest header)) (nat_le (least_rest header) left) sound in
+    (ltb-true 0 (least_rest header) parts.0, leb-true (least_rest header) left parts.1)
+
+-- a header can go on to its end
+record CanEnd (header : Header) (left : ℕ) : Type 0 where
+  rest : List ℕ
+  long : length rest ≡ left
+  video : List ℕ
+  is : video_from header rest ≡ Some video
+
+can_end : (header : Header) (left : ℕ) → least_rest header ≤ left → CanEnd header left
+can_end (Stuffing count) left enough = record {
+  rest = 15 ∷ replicate (left - 1) 0;
+  long = omega (arith, length-replicate {A = ℕ} (left - 1) 0, enough);
+  video = replicate (left - 1) 0;
+  is = stuffing_ends count 15 (replicate (left - 1) 0) (inl (λ e. omega (arith, e)));
+}
+can_end Second left enough = record {
+  rest = 0 ∷ 15 ∷ replicate (left - 2) 0;
+  long = omega (arith, length-replicate {A = ℕ} (left - 2) 0, enough);
+  video = replicate (left - 2) 0;
+  is = refl;
+}
+can_end Stamp left enough = record {
+  rest = 15 ∷ replicate (left - 1) 0;
+  long = omega (arith, length-replicate {A = ℕ} (left - 1) 0, enough);
+  video = replicate (left - 1) 0;
+  is = refl;
+}
+can_end (Rest count) left enough = record {
+  rest = replicate left 0;
+  long = length-replicate {A = ℕ} left 0;
+  video = drop count (replicate left 0);
+  is = cond-true (nat_le count (length (replicate left 0))) (Some (drop count (replicate left 0))) None (le-leb count (length (replicate left 0)) (omega (arith, length-replicate {A = ℕ} left 0, enough)));
+}
+
+header_cut : (chosen : Option ℕ) (start place : ℕ) (now : Option ℕ) (part kept : List ℕ) (header : Header) (left : ℕ) → IsAtHeader chosen start place now part kept header left →
+    0 < least_rest header → least_rest header ≤ left → IsCut chosen start part place
+header_cut chosen start place now part kept header left h some enough =
+    let end = can_end header left enough in
+    let found : video_in (h.front ++ end.rest) ≡ Some end.video = h.video_is end.rest end.long ∙ end.is in
+    record {
+      item = Packet h.zeros h.kind h.high h.low (h.front ++ end.rest);
+      lacking = end.rest;
+      is_item = record {
+        kind_is = h.kind_is;
+        length_is = omega (arith, length-append h.front end.rest, end.long, h.length_is);
+        header = λ _. subst (λ (o : Option (List ℕ)). IsSome o) (sym found) refl;
+      };
+      is = sym (ap (λ (l : List ℕ). l ++ end.rest) h.are ∙ prefixed_more h.zeros (h.kind ∷ h.high ∷ h.low ∷ h.front) end.rest);
+      begun = omega (arith, ap length h.are, length-prefixed h.zeros (h.kind ∷ h.high ∷ h.low ∷ h.front));
+      some = omega (arith, end.long, some, enough);
+      place_is = h.place_is;
+    }
+
+rest_cut : (chosen : Option ℕ) (start place : ℕ) (now : Option ℕ) (part kept : List ℕ) (left : ℕ) (video : List ℕ → List ℕ) → IsAtRest chosen start place now part kept left video → IsCut chosen start part place
+rest_cut chosen start place now part kept left video h =
+    let size = length-replicate {A = ℕ} left 0 in
+    let d = h.ends (replicate left 0) size in
+    record {
+      item = d.item;
+      lacking = replicate left 0;
+      is_item = d.is_item;
+      is = d.bytes_are;
+      begun = omega (arith, h.begun, d.zeros_are);
+      some = omega (arith, size, h.some);
+      place_is = h.place_is ∙ ap (λ n. start + n) (sym d.zeros_are);
+    }
+
+pack_whole : IsPack (32 ∷ replicate 7 0)
+pack_whole = record { eight = refl; mark = refl }
+
+prefix_cut : (chosen : Option ℕ) (start place : ℕ) (now wanted : Option ℕ) (rest lacking part kept : List ℕ) (item : ℕ → Item) → IsAtPrefix start place rest now wanted part kept →
+    ((zeros : ℕ) → IsItem chosen (item zeros)) → ((zeros : ℕ) → zeros_of (item zeros) ≡ zeros) → ((zeros : ℕ) → item_bytes (item zeros) ≡ prefixed zeros (rest ++ lacking)) → 0 < length lacking → IsCut chosen start part place
+prefix_cut chosen start place now wanted rest lacking part kept item h is zeros_are bytes some = record {
+  item = item h.zeros;
+  lacking = lacking;
+  is_item = is h.zeros;
+  is = bytes h.zeros ∙ sym (ap (λ (l : List ℕ). l ++ lacking) h.are ∙ prefixed_more h.zeros rest lacking);
+  begun = omega (arith, zeros_are h.zeros, ap length h.are, length-prefixed h.zeros rest);
+  some = some;
+  place_is = h.place_is ∙ ap (λ n. start + n) (sym (zeros_are h.zeros));
+}
+
+packet_whole : (chosen : Option ℕ) (kind high : ℕ) → 187 ≤ kind → IsPacket chosen kind high 1 (15 ∷ replicate (high * 256) 0)
+unfolding video_in
+packet_whole chosen kind high kind_is = record {
+  kind_is = kind_is;
+  length_is = omega (arith, length-replicate {A = ℕ} (high * 256) 0);
+  header = λ _. refl;
+}
+
+-- the stream ends inside an item
+inside_cut : (chosen : Option ℕ) (start place : ℕ) (now : Option ℕ) (part kept : List ℕ) (state : Place) (fault : SystemFault) → is_sound state ≡ true → IsPart chosen start place now part kept state →
+    end_fault state place ≡ Some fault → IsFault chosen start part fault
+inside_cut chosen start place now part kept (Zeros zeros) fault sound is ends = absurd (none_some fault ends)
+inside_cut chosen start place now part kept Kind fault sound is ends =
+    subst (λ f. IsFault chosen start part f) (same_some (Truncated place) fault ends)
+    (prefix_cut chosen start place now chosen [] (186 ∷ 32 ∷ replicate 7 0) part kept (λ zeros. Pack zeros (32 ∷ replicate 7 0)) is (λ zeros. pack_whole) (λ zeros. refl) (λ zeros. refl) (omega arith))
+inside_cut chosen start place now part kept Mark fault sound is ends =
+    subst (λ f. IsFault chosen start part f) (same_some (Truncated place) fault ends)
+    (prefix_cut chosen start place now chosen (186 ∷ []) (32 ∷ replicate 7 0) part kept (λ zeros. Pack zeros (32 ∷ replicate 7 0)) is (λ zeros. pack_whole) (λ zeros. refl) (λ zeros. refl) (omega arith))
+inside_cut chosen start place now part kept (High kind) fault sound is ends =
+    subst (λ f. IsFault chosen start part f) (same_some (Truncated place) fault ends)
+    (prefix_cut chosen start place now (choose chosen kind) (kind ∷ []) (0 ∷ 1 ∷ 15 ∷ replicate (0 * 256) 0) part kept (λ zeros. Packet zeros kind 0 1 (15 ∷ replicate (0 * 256) 0)) is.0 (λ zeros. packet_whole chosen kind 0 is.1)
+    (λ zeros. refl) (λ zeros. refl) (omega arith))
+inside_cut chosen start place now part kept (Low kind high) fault sound is ends =
+    subst (λ f. IsFault chosen start part f) (same_some (Truncated place) fault ends)
+    (prefix_cut chosen start place now (choose chosen kind) (kind ∷ high ∷ []) (1 ∷ 15 ∷ replicate (high * 256) 0) part kept (λ zeros. Packet zeros kind high 1 (15 ∷ replicate (high * 256) 0)) is.0 (λ zeros. packet_whole chosen kind high is.1)
+    (λ zeros. refl) (λ zeros. refl) (omega arith))
+inside_cut chosen start place now part kept (InHeader header left) fault sound is ends =
+    let enough = sound_header header left sound in
+    subst (λ f. IsFault chosen start part f) (same_some (Truncated place) fault ends) (header_cut chosen start place now part kept header left is enough.0 enough.1)
+inside_cut chosen start place now part kept (Pass left) fault sound is ends =
+    subst (λ f. IsFault chosen start part f) (same_some (Truncated place) fault ends) (rest_cut chosen start place now part kept left (λ rest. []) is)
+inside_cut chosen start place now part kept (Video left) fault sound is ends =
+    subst (λ f. IsFault chosen start part f) (same_some (Truncated place) fault ends) (rest_cut chosen start place now part kept left (λ rest. rest) is)
+inside_cut chosen start place now part kept End fault sound is ends = absurd (none_some fault ends)
+inside_cut chosen start place now part kept (Failed other) fault sound is ends = subst (λ f. IsFault chosen start part f) (same_some other fault ends) is.0
+
+pub ended_refused : (state : Place) (place : ℕ) (now : Option ℕ) (seen video : List ℕ) (fault : SystemFault) → is_sound state ≡ true → IsReached state place now seen video → end_fault state place ≡ Some fault → IsRefused seen fault
+ended_refused state place now seen video fault sound r ends = record {
+  items = r.items;
+  tail = r.part;
+  are = r.are;
+  bytes_are = r.seen_is;
+  fault_is = inside_cut (chosen_after None r.items) (length (bytes_of r.items)) place now r.part r.kept state fault sound r.is_part ends;
+}
+
+-- the stream ends where it may
+at_end : (chosen : Option ℕ) (start place : ℕ) (now : Option ℕ) (part kept : List ℕ) (state : Place) → IsPart chosen start place now part kept state → end_fault state place ≡ None → IsEnd part × (kept ≡ [])
+at_end chosen start place now part kept (Zeros zeros) is ends = (inl (record { count = is.count; are = is.are }), is.none)
+at_end chosen start place now part kept Kind is ends = absurd (none_some (Truncated place) (sym ends))
+at_end chosen start place now part kept Mark is ends = absurd (none_some (Truncated place) (sym ends))
+at_end chosen start place now part kept (High kind) is ends = absurd (none_some (Truncated place) (sym ends))
+at_end chosen start place now part kept (Low kind high) is ends = absurd (none_some (Truncated place) (sym ends))
+at_end chosen start place now part kept (InHeader header left) is ends = absurd (none_some (Truncated place) (sym ends))
+at_end chosen start place now part kept (Pass left) is ends = absurd (none_some (Truncated place) (sym ends))
+at_end chosen start place now part kept (Video left) is ends = absurd (none_some (Truncated place) (sym ends))
+at_end chosen start place now part kept End is ends = (inr (record { zeros = is.zeros; rest = is.rest; is = is.are }), is.none)
+at_end chosen start place now part kept (Failed fault) is ends = absurd (none_some fault (sym ends))
+
+pub ended_system : (state : Place) (place : ℕ) (now : Option ℕ) (seen video : List ℕ) → IsReached state place now seen video → end_fault state place ≡ None → IsSystem seen video
+ended_system state place now seen video r ends =
+    let end = at_end (chosen_after None r.items) (length (bytes_of r.items)) place now r.part r.kept state r.is_part ends in
+    record {
+      items = r.items;
+      tail = r.part;
+      are = r.are;
+      bytes_are = r.seen_is;
+      end = end.0;
+      video_is = r.video_is ∙ ap (λ (l : List ℕ). video_of None r.items ++ l) end.1 ∙ append-nil (video_of None r.items);
+    }
+
+-- a fault that was answered
+pub failed_at : (state : Place) (fault : SystemFault) → fault_at state ≡ Some fault → state ≡ Failed fault
+failed_at (Zeros zeros) fault e = absurd (none_some fault e)
+failed_at Kind fault e = absurd (none_some fault e)
+failed_at Mark fault e = absurd (none_some fault e)
+failed_at (High kind) fault e = absurd (none_some fault e)
+failed_at (Low kind high) fault e = absurd (none_some fault e)
+failed_at (InHeader header left) fault e = absurd (none_some fault e)
+failed_at (Pass left) fault e = absurd (none_some fault e)
+failed_at (Video left) fault e = absurd (none_some fault e)
+failed_at End fault e = absurd (none_some fault e)
+failed_at (Failed other) fault e = ap Failed (same_some other fault e)
+
+-- the first byte of a piece was taken, and the rest follows
+pub first_taken : (seen piece more : List ℕ) → 0 < length piece → (seen ++ get_or piece 0 0 ∷ []) ++ (drop 1 piece ++ more) ≡ (seen ++ piece) ++ more
+first_taken seen [] more some = absurd (omega (arith, some))
+first_taken seen (b ∷ piece) more some =
+    append_assoc seen (b ∷ []) (piece ++ more) ∙ sym (append_assoc seen (b ∷ piece) more)
+
+-- at the end a fault that bytes show was answered before
+pub end_shown : (state : Place) (item : ℕ) (fault : SystemFault) → end_fault state item ≡ Some fault → IsShown fault → fault_at state ≡ Some fault
+end_shown (Zeros zeros) item fault e shown = absurd (none_some fault e)
+end_shown Kind item fault e shown = absurd (subst IsShown (sym (same_some (Truncated item) fault e)) shown)
+end_shown Mark item fault e shown = absurd (subst IsShown (sym (same_some (Truncated item) fault e)) shown)
+end_shown (High kind) item fault e shown = absurd (subst IsShown (sym (same_some (Truncated item) fault e)) shown)
+end_shown (Low kind high) item fault e shown = absurd (subst IsShown (sym (same_some (Truncated item) fault e)) shown)
+end_shown (InHeader header left) item fault e shown = absurd (subst IsShown (sym (same_some (Truncated item) fault e)) shown)
+end_shown (Pass left) item fault e shown = absurd (subst IsShown (sym (same_some (Truncated item) fault e)) shown)
+end_shown (Video left) item fault e shown = absurd (subst IsShown (sym (same_some (Truncated item) fault e)) shown)
+end_shown End item fault e shown = absurd (none_some fault e)
+end_shown (Failed other) item fault e shown = e

@@ -1,0 +1,99 @@
+-- A system stream as a list of items and what stands after them: its video, or why it is refused.
+use Rattle.std.specs.Prelude.{◌≡◌, ◌≢◌, ℕ, ◌+◌, ◌*◌, ◌/◌, ◌<◌, ◌≤◌, ◌⊎◌, true, List, ◌∷◌, ◌++◌, length, replicate, Option, None}
+use Rattle.sys_demux.specs.Contents.{video_in}
+use Rattle.sys_demux.specs.Items.{Item, prefixed, item_bytes, zeros_of, choose, is_chosen, chosen_after, IsItem, AreItems, video_of, bytes_of}
+use Rattle.sys_demux.specs.declared.faults.SystemFault.{SystemFault}
+use Rattle.sys_demux.specs.declared.faults.SystemFault.TheVariants.{NotPack, BadCode, BadPacket, Truncated}
+
+-- bytes 00 alone
+pub record AreZeros (tail : List ℕ) : Type 0 where
+  pub count : ℕ
+  pub are : tail ≡ replicate count 0
+
+-- the code of the end, and any bytes after it
+pub record IsEndCode (tail : List ℕ) : Type 0 where
+  pub zeros : ℕ
+  pub rest : List ℕ
+  pub is : tail ≡ prefixed zeros (185 ∷ rest)
+
+-- what may stand after the last item
+abbrev pub IsEnd : List ℕ → Type 0
+IsEnd tail = AreZeros tail ⊎ IsEndCode tail
+
+-- a pack header whose fifth byte has other high bits; the place is that of its prefix
+pub record IsNotPack (start : ℕ) (tail : List ℕ) (place : ℕ) : Type 0 where
+  pub zeros : ℕ
+  pub mark : ℕ
+  pub rest : List ℕ
+  pub is : tail ≡ prefixed zeros (186 ∷ mark ∷ rest)
+  pub other : mark / 16 ≢ 2
+  pub place_is : place ≡ start + zeros
+
+-- where an item must stand, a byte that no bytes 00 and prefix can have; the place is its own
+pub record IsBadByte (start : ℕ) (tail : List ℕ) (place : ℕ) : Type 0 where
+  pub count : ℕ
+  pub byte : ℕ
+  pub rest : List ℕ
+  pub is : tail ≡ replicate count 0 ++ byte ∷ rest
+  pub some : byte ≢ 0
+  pub early : byte ≡ 1 → count < 2
+  pub place_is : place ≡ start + count
+
+-- a prefix and a kind below B9; the place is that of the prefix
+pub record IsBadKind (start : ℕ) (tail : List ℕ) (place : ℕ) : Type 0 where
+  pub zeros : ℕ
+  pub kind : ℕ
+  pub rest : List ℕ
+  pub is : tail ≡ prefixed zeros (kind ∷ rest)
+  pub low : kind < 185
+  pub place_is : place ≡ start + zeros
+
+-- a packet of the chosen kind, of whose content so many bytes stand that no content of its length that begins so has a header; the
+-- place is that of its prefix
+pub record IsBadPacket (chosen : Option ℕ) (start : ℕ) (tail : List ℕ) (place : ℕ) : Type 0 where
+  pub zeros : ℕ
+  pub kind : ℕ
+  pub high : ℕ
+  pub low : ℕ
+  pub front : List ℕ
+  pub rest : List ℕ
+  pub is : tail ≡ prefixed zeros (kind ∷ high ∷ low ∷ (front ++ rest))
+  pub kind_is : 187 ≤ kind
+  pub chosen_is : is_chosen (choose chosen kind) kind ≡ true
+  pub within : length front ≤ high * 256 + low
+  pub none : (more : List ℕ) → length front + length more ≡ high * 256 + low → video_in (front ++ more) ≡ None
+  pub place_is : place ≡ start + zeros
+
+-- a front of an item, from its prefix on, that lacks a byte or more; the place is that of the prefix
+pub record IsCut (chosen : Option ℕ) (start : ℕ) (tail : List ℕ) (place : ℕ) : Type 0 where
+  pub item : Item
+  pub lacking : List ℕ
+  pub is_item : IsItem chosen item
+  pub is : item_bytes item ≡ tail ++ lacking
+  pub begun : zeros_of item + 3 ≤ length tail
+  pub some : 0 < length lacking
+  pub place_is : place ≡ start + zeros_of item
+
+-- why the bytes after some items are no system stream
+abbrev pub IsFault : Option ℕ → ℕ → List ℕ → SystemFault → Type 0
+IsFault chosen start tail (NotPack place) = IsNotPack start tail place
+IsFault chosen start tail (BadCode place) = IsBadByte start tail place ⊎ IsBadKind start tail place
+IsFault chosen start tail (BadPacket place) = IsBadPacket chosen start tail place
+IsFault chosen start tail (Truncated place) = IsCut chosen start tail place
+
+-- the bytes are a system stream with this video: items, and an end
+pub record IsSystem (bytes video : List ℕ) : Type 0 where
+  pub items : List Item
+  pub tail : List ℕ
+  pub are : AreItems None items
+  pub bytes_are : bytes ≡ bytes_of items ++ tail
+  pub end : IsEnd tail
+  pub video_is : video ≡ video_of None items
+
+-- the bytes are no system stream: after some items stands this fault
+pub record IsRefused (bytes : List ℕ) (fault : SystemFault) : Type 0 where
+  pub items : List Item
+  pub tail : List ℕ
+  pub are : AreItems None items
+  pub bytes_are : bytes ≡ bytes_of items ++ tail
+  pub fault_is : IsFault (chosen_after None items) (length (bytes_of items)) tail fault

@@ -1,0 +1,165 @@
+ghost use Rattle.std.specs.Prelude.{◌≡◌, ℕ, ◌+◌, ◌^◌, ◌<◌, ◌≤◌, ◌⊎◌, IsTrue, List, [], ◌∷◌, ◌++◌, length, take, Option, Some, Err, IfOk, IfErr, MatchResult};
+ghost use Rattle.sys_demux.specs.Items.{choose};
+ghost use Rattle.sys_demux.specs.Streams.{IsSystem, IsRefused};
+ghost use Rattle.sys_demux.specs.Sound.{is_sound};
+ghost use Rattle.sys_demux.specs.States.{WasFed, IsByByte, IsShown, fault_of};
+ghost use Rattle.sys_demux.specs.declared.faults.SystemFault.{SystemFault};
+
+use crate::faults::SystemFault;
+use crate::places::{
+    Place, end_fault, header_place, kind_next, length_next, mark_next, pass, video, zeros_next,
+};
+use crate::unwrapper::Unwrapper;
+
+/// What a call of [`Unwrapper::feed`] took.
+#[derive(Clone, Copy, Debug)]
+pub struct Fed<'p> {
+    /// How many bytes of the piece were taken, at least one.
+    pub taken: usize,
+    /// The video among them: all of them, or none.
+    pub video: &'p [u8],
+}
+
+/// The chosen kind once a packet of this kind stands.
+fn choose(chosen: Option<u8>, kind: u8) -> Option<u8>
+    ensures { result ≡ choose chosen kind }
+{
+    match chosen {
+        Some(first) => Some(first),
+        None if 0xe0 <= kind && kind <= 0xef => Some(kind),
+        None => None,
+    }
+}
+
+impl Unwrapper {
+    /// Before the first byte of a stream.
+    pub fn new() -> Unwrapper
+        ensures { WasFed result [] [] }
+    {
+        Unwrapper {
+            place: Place::Zeros(0),
+            item: 0,
+            chosen: None,
+            fed: 0,
+        }
+    }
+
+    /// Takes a byte that is neither video nor passed over.
+    fn take(&mut self, byte: u8)
+        requires place { IsByByte self.old.place }
+        requires room { self.old.fed < 2 ^ 40 }
+        ensures fed { self.new.fed ≡ self.old.fed + 1 }
+        ensures next { (seen video : List ℕ) → WasFed self.old seen video → WasFed self.new (seen ++ byte ∷ []) video }
+    {
+        let (at, mut item, mut chosen) = (self.fed, self.item, self.chosen);
+        let place = match self.place {
+            Place::Zeros(zeros) => {
+                item = at.saturating_sub(2);
+                zeros_next(zeros, byte, at)
+            }
+            Place::Kind => {
+                chosen = choose(chosen, byte);
+                kind_next(byte, item)
+            }
+            Place::Mark => mark_next(byte, item),
+            Place::High(kind) => Place::Low(kind, byte),
+            Place::Low(kind, high) => length_next(chosen, kind, high, byte, item),
+            Place::InHeader(header, left) => header_place(header, byte, left - 1, item),
+            Place::Pass(_) | Place::Video(_) | Place::End | Place::Failed(_) => unreachable!(),
+        };
+        *self = Unwrapper {
+            place,
+            item,
+            chosen,
+            fed: at + 1,
+        };
+    }
+
+    /// Takes bytes that are video or passed over, and goes to the place after them.
+    fn skip(&mut self, count: usize, place: Place)
+        requires room { self.old.fed + count ≤ 2 ^ 40 }
+        requires sound { IsTrue (is_sound place) }
+        ensures place { self.new.place ≡ place }
+        ensures item { self.new.item ≡ self.old.item }
+        ensures chosen { self.new.chosen ≡ self.old.chosen }
+        ensures fed { self.new.fed ≡ self.old.fed + count }
+    {
+        *self = Unwrapper {
+            place,
+            item: self.item,
+            chosen: self.chosen,
+            fed: self.fed + count as u64,
+        };
+    }
+
+    /// Takes bytes from the front of a piece of the stream, at least one, and lends the video among them.
+    ///
+    /// A fault comes as soon as the bytes show it, whatever follows them, and again in each later call. `Truncated` never comes.
+    /// At most 2^40 bytes may be fed in all.
+    pub fn feed<'p>(&mut self, piece: &'p [u8]) -> Result<Fed<'p>, SystemFault>
+        requires some { 0 < length piece.now }
+        requires room { self.old.fed + length piece.now ≤ 2 ^ 40 }
+        ensures taken { IfOk result (λ fed. (0 < fed.taken) × (fed.taken ≤ length piece.now)) }
+        ensures video { IfOk result (λ fed. (fed.video.now ≡ []) ⊎ (fed.video.now ≡ take fed.taken piece.now)) }
+        ensures count { IfOk result (λ fed. self.new.fed ≡ self.old.fed + fed.taken) }
+        ensures next { (seen video : List ℕ) → WasFed self.old seen video →
+            IfOk result (λ fed. WasFed self.new (seen ++ take fed.taken piece.now) (video ++ fed.video.now)) }
+        ensures fault { (seen video : List ℕ) → WasFed self.old seen video →
+            IfErr result (λ fault. (more : List ℕ) → IsRefused (seen ++ piece.now ++ more) fault) }
+        ensures shown { (seen video : List ℕ) → WasFed self.old seen video → IfErr result IsShown }
+        ensures kept { IfErr result (λ fault. fault_of self.new ≡ Some fault) }
+        ensures again { (fault : SystemFault) → fault_of self.old ≡ Some fault → result ≡ Err fault }
+    {
+        match self.place {
+            Place::Failed(fault) => Err(fault),
+            Place::Pass(left) => {
+                let taken = piece.len().min(usize::from(left));
+                self.skip(taken, pass(left - taken as u16));
+                Ok(Fed {
+                    taken,
+                    video: &piece[..0],
+                })
+            }
+            Place::Video(left) => {
+                let taken = piece.len().min(usize::from(left));
+                self.skip(taken, video(left - taken as u16));
+                Ok(Fed {
+                    taken,
+                    video: &piece[..taken],
+                })
+            }
+            Place::End => {
+                self.skip(piece.len(), Place::End);
+                Ok(Fed {
+                    taken: piece.len(),
+                    video: &piece[..0],
+                })
+            }
+            _ => {
+                self.take(piece[0]);
+                match self.place {
+                    Place::Failed(fault) => Err(fault),
+                    _ => Ok(Fed {
+                        taken: 1,
+                        video: &piece[..0],
+                    }),
+                }
+            }
+        }
+    }
+
+    /// Whether the bytes fed are a whole system stream, whose video is what was lent; or why they are none.
+    ///
+    /// Another fault than `Truncated` comes only where [`Unwrapper::feed`] answered it.
+    pub fn finish(&self) -> Result<(), SystemFault>
+        ensures end { (seen video : List ℕ) → WasFed self.now seen video →
+            MatchResult result (λ _. IsSystem seen video) (λ fault. IsRefused seen fault) }
+        ensures again { (fault : SystemFault) → fault_of self.now ≡ Some fault → result ≡ Err fault }
+        ensures only { IfErr result (λ fault. IsShown fault → fault_of self.now ≡ Some fault) }
+    {
+        match end_fault(self.place, self.item) {
+            None => Ok(()),
+            Some(fault) => Err(fault),
+        }
+    }
+}

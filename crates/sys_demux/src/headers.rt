@@ -1,0 +1,92 @@
+ghost use Rattle.std.specs.Prelude.{◌≡◌, ℕ, ◌+◌, ◌≤◌, ◌<◌, List, ◌∷◌, length, None, MatchOption};
+ghost use Rattle.sys_demux.specs.Contents.{from_stamp, from_size, after_bytes};
+ghost use Rattle.sys_demux.specs.Sound.{least_rest};
+ghost use Rattle.sys_demux.specs.States.{video_from};
+
+/// Where in the header of a packet's content the next byte stands (ISO/IEC 11172-1, section 2.4.3.3).
+#[derive(Clone, Copy, Debug)]
+pub(crate) enum Header {
+    /// After this many bytes FF of stuffing, at most 16.
+    Stuffing(u8),
+    /// At the second byte of the buffer size.
+    Second,
+    /// At the time stamp's first byte.
+    Stamp,
+    /// At the last so many bytes of the time stamp; with 0, after the header.
+    Rest(u8),
+}
+
+/// How many bytes of the time stamp stand after its first one.
+fn stamp_rest(byte: u8) -> Option<u8>
+    ensures { MatchOption result ((rest : List ℕ) → from_stamp (byte ∷ rest) ≡ None)
+        (λ more. (rest : List ℕ) → from_stamp (byte ∷ rest) ≡ after_bytes more rest) }
+{
+    if byte / 16 == 2 {
+        Some(4)
+    } else if byte / 16 == 3 {
+        Some(9)
+    } else if byte == 0x0f {
+        Some(0)
+    } else {
+        None
+    }
+}
+
+/// Where the header goes on after the first byte of the time stamp, with `left` bytes of the content after it.
+fn after_stamp(byte: u8, left: u16) -> Option<Header>
+    ensures { MatchOption result ((rest : List ℕ) → length rest ≡ left → from_stamp (byte ∷ rest) ≡ None)
+        (λ next. (least_rest next ≤ left)
+        × ((rest : List ℕ) → length rest ≡ left → from_stamp (byte ∷ rest) ≡ video_from next rest)) }
+{
+    match stamp_rest(byte) {
+        Some(more) if u16::from(more) <= left => Some(Header::Rest(more)),
+        _ => None,
+    }
+}
+
+/// Where the header goes on after a byte that is no stuffing, with `left` bytes of the content after it.
+fn after_size(byte: u8, left: u16) -> Option<Header>
+    ensures { MatchOption result ((rest : List ℕ) → length rest ≡ left → from_size (byte ∷ rest) ≡ None)
+        (λ next. (least_rest next ≤ left)
+        × ((rest : List ℕ) → length rest ≡ left → from_size (byte ∷ rest) ≡ video_from next rest)) }
+{
+    if byte / 64 != 1 {
+        return after_stamp(byte, left);
+    }
+    if left < 2 {
+        return None;
+    }
+    Some(Header::Second)
+}
+
+/// Where the header goes on after this byte of stuffing, or after the one that ends it, with `left` bytes of the content after it.
+fn after_stuffing(count: u8, byte: u8, left: u16) -> Option<Header>
+    ensures { MatchOption result ((rest : List ℕ) → length rest ≡ left → video_from (Header.Stuffing count) (byte ∷ rest) ≡ None)
+        (λ next. (least_rest next ≤ left)
+        × ((rest : List ℕ) → length rest ≡ left → video_from (Header.Stuffing count) (byte ∷ rest) ≡ video_from next rest)) }
+{
+    if byte != 0xff || count >= 16 {
+        return after_size(byte, left);
+    }
+    if left == 0 {
+        return None;
+    }
+    Some(Header::Stuffing(count + 1))
+}
+
+/// Where the header goes on after a byte, with `left` bytes of the content after it; None where no content of this length that
+/// begins so has a header.
+pub(crate) fn header_next(header: Header, byte: u8, left: u16) -> Option<Header>
+    requires some { 0 < least_rest header }
+    requires enough { least_rest header ≤ left + 1 }
+    ensures { MatchOption result ((rest : List ℕ) → length rest ≡ left → video_from header (byte ∷ rest) ≡ None)
+        (λ next. (least_rest next ≤ left)
+        × ((rest : List ℕ) → length rest ≡ left → video_from header (byte ∷ rest) ≡ video_from next rest)) }
+{
+    match header {
+        Header::Stuffing(count) => after_stuffing(count, byte, left),
+        Header::Second => Some(Header::Stamp),
+        Header::Stamp => after_stamp(byte, left),
+        Header::Rest(count) => Some(Header::Rest(count - 1)),
+    }
+}

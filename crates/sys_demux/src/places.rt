@@ -1,0 +1,162 @@
+ghost use Rattle.std.specs.Prelude.{◌≡◌, ℕ, ◌+◌, ◌-◌, ◌≤◌, ◌<◌, ◌==◌, if◌then◌else◌, IsTrue, List, [], ◌∷◌, ◌++◌, length, Option};
+ghost use Rattle.sys_demux.specs.Items.{choose, is_chosen};
+ghost use Rattle.sys_demux.specs.Sound.{least_rest, is_sound};
+ghost use Rattle.sys_demux.specs.States.{IsAtZeros, IsAtPrefix, IsAtHeader, IsPart, LeadsTo, place_in, end_fault};
+
+use crate::faults::SystemFault;
+use crate::headers::{Header, header_next};
+
+/// Where in a stream the next byte stands.
+#[derive(Clone, Copy, Debug)]
+pub(crate) enum Place {
+    /// Where an item must stand, after bytes 00: none, one, or two or more.
+    Zeros(u8),
+    /// After a prefix 00 00 01.
+    Kind,
+    /// At the fifth byte of a pack header.
+    Mark,
+    /// At the first byte of the length of a packet of this kind.
+    High(u8),
+    /// At the second byte of the length, after the first.
+    Low(u8, u8),
+    /// In the header of a packet of the chosen kind, with this many bytes of the packet to come.
+    InHeader(Header, u16),
+    /// In an item, of which this many bytes are to come and to be passed over.
+    Pass(u16),
+    /// In a packet of the chosen kind, of which this many bytes are to come and are video.
+    Video(u16),
+    /// After the code of the end.
+    End,
+    /// After a fault.
+    Failed(SystemFault),
+}
+
+/// The place after a byte where an item must stand; `at` is the byte's own place.
+pub(crate) fn zeros_next(zeros: u8, byte: u8, at: u64) -> Place
+    ensures sound { IsTrue (is_sound result) }
+    ensures next { (chosen now : Option ℕ) (start : ℕ) (part kept : List ℕ) → IsAtZeros chosen zeros now part kept →
+        at ≡ start + length part → IsPart chosen start (at - 2) now (part ++ byte ∷ []) kept result }
+{
+    match byte {
+        0 => Place::Zeros((zeros.min(1)) + 1),
+        1 if zeros >= 2 => Place::Kind,
+        _ => Place::Failed(SystemFault::BadCode(at)),
+    }
+}
+
+/// The place after the kind of the item at `item`.
+pub(crate) fn kind_next(kind: u8, item: u64) -> Place
+    ensures sound { IsTrue (is_sound result) }
+    ensures next { (chosen now : Option ℕ) (start : ℕ) (part kept : List ℕ) → IsAtPrefix start item [] now chosen part kept →
+        IsPart chosen start item (choose now kind) (part ++ kind ∷ []) kept result }
+{
+    if kind == 0xb9 {
+        Place::End
+    } else if kind == 0xba {
+        Place::Mark
+    } else if kind > 0xba {
+        Place::High(kind)
+    } else {
+        Place::Failed(SystemFault::BadCode(item))
+    }
+}
+
+/// The place after the fifth byte of the pack header at `item`.
+pub(crate) fn mark_next(mark: u8, item: u64) -> Place
+    ensures sound { IsTrue (is_sound result) }
+    ensures next { (chosen now : Option ℕ) (start : ℕ) (part kept : List ℕ) → IsAtPrefix start item (186 ∷ []) now chosen part kept →
+        IsPart chosen start item now (part ++ mark ∷ []) kept result }
+{
+    if mark / 16 == 2 {
+        Place::Pass(7)
+    } else {
+        Place::Failed(SystemFault::NotPack(item))
+    }
+}
+
+/// The place where this many bytes of an item are to come and to be passed over.
+pub(crate) fn pass(left: u16) -> Place
+    ensures { result ≡ (if left == 0 then Place.Zeros 0 else Place.Pass left) }
+{
+    if left == 0 {
+        Place::Zeros(0)
+    } else {
+        Place::Pass(left)
+    }
+}
+
+/// The place where this many bytes of a packet are to come and are video.
+pub(crate) fn video(left: u16) -> Place
+    ensures { result ≡ (if left == 0 then Place.Zeros 0 else Place.Video left) }
+{
+    if left == 0 {
+        Place::Zeros(0)
+    } else {
+        Place::Video(left)
+    }
+}
+
+/// Whether a packet of this kind is one of the chosen kind.
+fn is_chosen(chosen: Option<u8>, kind: u8) -> bool
+    ensures { result ≡ is_chosen chosen kind }
+{
+    match chosen {
+        Some(first) => first == kind,
+        None => false,
+    }
+}
+
+/// The place after the length of the packet of this kind at `item`.
+pub(crate) fn length_next(chosen: Option<u8>, kind: u8, high: u8, low: u8, item: u64) -> Place
+    ensures sound { IsTrue (is_sound result) }
+    ensures next { (before : Option ℕ) (start : ℕ) (part kept : List ℕ) →
+        IsAtPrefix start item (kind ∷ high ∷ []) chosen (choose before kind) part kept → 187 ≤ kind →
+        LeadsTo before start item chosen (part ++ low ∷ []) kept result }
+{
+    let length = u16::from(high) * 256 + u16::from(low);
+    if !is_chosen(chosen, kind) {
+        pass(length)
+    } else if length == 0 {
+        Place::Failed(SystemFault::BadPacket(item))
+    } else {
+        Place::InHeader(Header::Stuffing(0), length)
+    }
+}
+
+/// The place where the header of a packet goes on so, with `left` bytes of the packet to come.
+fn header_goes_on(next: Header, left: u16) -> Place
+    requires { least_rest next ≤ left }
+    ensures sound { IsTrue (is_sound result) }
+    ensures place { result ≡ place_in next left }
+{
+    match next {
+        Header::Rest(0) => video(left),
+        _ => Place::InHeader(next, left),
+    }
+}
+
+/// The place after a byte of the header of the packet at `item`, with `left` bytes of the packet after it.
+pub(crate) fn header_place(header: Header, byte: u8, left: u16, item: u64) -> Place
+    requires some { 0 < least_rest header }
+    requires enough { least_rest header ≤ left + 1 }
+    ensures sound { IsTrue (is_sound result) }
+    ensures next { (chosen now : Option ℕ) (start : ℕ) (part kept : List ℕ) →
+        IsAtHeader chosen start item now part kept header (left + 1) →
+        LeadsTo chosen start item now (part ++ byte ∷ []) kept result }
+{
+    match header_next(header, byte, left) {
+        None => Place::Failed(SystemFault::BadPacket(item)),
+        Some(next) => header_goes_on(next, left),
+    }
+}
+
+/// Why a stream that ends at this place, in the item at `item`, is none.
+pub(crate) fn end_fault(place: Place, item: u64) -> Option<SystemFault>
+    ensures { result ≡ end_fault place item }
+{
+    match place {
+        Place::Zeros(_) | Place::End => None,
+        Place::Failed(fault) => Some(fault),
+        _ => Some(SystemFault::Truncated(item)),
+    }
+}

@@ -1,0 +1,17 @@
+ghost use Rattle.std.specs.Prelude.{IsTrue};
+ghost use Rattle.sys_demux.specs.Sound.{is_sound};
+
+use crate::places::Place;
+
+/// Takes the video bytes out of an MPEG-1 system stream (ISO/IEC 11172-1), piece by piece. It takes no memory.
+#[derive(Debug, Drop)]
+pub struct Unwrapper {
+    pub(crate) place: Place,
+    /// The place of the item's prefix.
+    pub(crate) item: u64,
+    /// The kind of the first packet of video.
+    pub(crate) chosen: Option<u8>,
+    /// How many bytes were taken.
+    pub(crate) fed: u64,
+    ghost sound: { IsTrue (is_sound place) },
+}
