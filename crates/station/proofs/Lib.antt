@@ -4,3 +4,4 @@ pub mod Makers
 pub mod Backs
 pub mod Plays
 pub mod Joins
+pub mod Grown

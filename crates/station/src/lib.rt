@@ -2,10 +2,15 @@
 #![tactic(auto)]
 
 mod answers;
+mod laws;
 mod ledger;
 mod seat;
 mod station;
 
 pub use answers::{Booking, Looked, Offered, PlayRefused};
+pub use laws::{law_last_entry, law_longer_journal, law_still_open};
 pub use seat::Seat;
 pub use station::Station;
+
+#[cfg(test)]
+mod tests;

@@ -1,0 +1,8 @@
+use Rattle.station.proofs.Grown.{last-entry, last-place}
+use Rattle.station.proofs.laws.law_last_entry.Goals as goal
+
+pub returns-clause-entry : goal.returns-clause-entry
+returns-clause-entry c = last-entry
+
+pub returns-clause-last : goal.returns-clause-last
+returns-clause-last c = last-place
