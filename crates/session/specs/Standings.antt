@@ -1,8 +1,7 @@
 -- What contracts see of a session, and the words in which its callers speak of it.
-use Rattle.std.specs.Prelude.{ℕ, ◌≡◌, ◌≢◌, ◌<◌, ◌≤◌, ◌^◌, ◌&&◌, ◌++◌, ◌∷◌, Bool, true, false, if◌then◌else◌, nat_lt, nat_le, List, [], All, length, map, Option, Some, None, ⊤, string_bytes, slice_index_or}
-use Rattle.vod_base.specs.Names.{is_good_name}
+use Rattle.std.specs.Prelude.{ℕ, ◌≡◌, ◌≤◌, ◌^◌, ◌&&◌, ◌++◌, ◌∷◌, Bool, true, false, if◌then◌else◌, nat_lt, nat_le, List, [], Option, Some, None, ⊤}
 use Rattle.plan_cert.specs.declared.Segment.{Segment}
-use Rattle.film_frames.specs.declared.stores.Stored.{Stored}
+pub use Rattle.session.specs.Ranges.{AreFilms, AreSettings}
 use Rattle.session.specs.declared.settings.Settings.{Settings}
 use Rattle.session.specs.declared.notes.Receipt.{Receipt}
 use Rattle.session.specs.declared.notes.PlayNote.{PlayNote}
@@ -15,37 +14,33 @@ use Rattle.session.specs.declared.asks.Slotted.TheVariants.{Going, Finished}
 use Rattle.session.specs.declared.states.Awaited.{Awaited}
 use Rattle.session.specs.declared.states.Awaited.TheVariants.{Nothing, Play, Halt, Look, Offer}
 use Rattle.session.specs.declared.states.State.{State}
-use Rattle.session.specs.declared.states.State.TheVariants.{Init, Ready, Playing}
-
--- the settings are in their ranges
-pub record AreSettings (settings : Settings) : Type 0 where
-  pub long_slots : 360 ≤ settings.slot_units
-  pub short_slots : settings.slot_units ≤ 360000
-  pub some_buffer : 1 ≤ settings.buffer
-  pub most_buffer : settings.buffer ≤ 2 ^ 42
-  pub most_startup : settings.startup ≤ 10000
-
-abbrev pub names_of : List Stored → List (List ℕ)
-names_of films = map (λ film. string_bytes film.name) films
-
--- at most 64 films, whose names are good and differ
-pub record AreFilms (films : List Stored) : Type 0 where
-  pub few : length films ≤ 64
-  pub good : All (λ name. is_good_name name ≡ true) (names_of films)
-  pub differ : (i j : ℕ) → i < j → j < length films → slice_index_or (names_of films) i [] ≢ slice_index_or (names_of films) j []
+use Rattle.session.specs.declared.states.State.TheVariants.{Init, Ready, Playing, Stopping}
+use Rattle.session.specs.declared.states.Counts.{Counts}
+use Rattle.session.specs.declared.states.Source.{Source}
 
 pub record Standing : Type 0 where
+  -- how many films the server has, its settings, the session's id, and what its stream begins with
+  pub films : ℕ
+  pub settings : Settings
+  pub id : List ℕ
+  pub source : Source
+  -- the state, and what was sent before the run in hand, or in all where there is none
   pub state : State
+  pub counts : Counts
   pub awaited : Awaited
-  -- the reply, and whether it waits
+  -- the reply, or its front, and whether it waits
   pub text : List ℕ
   pub waits : Bool
   -- a TEARDOWN was answered 200, and that reply was sent
   pub tearing : Bool
   pub torn : Bool
+  -- a call of the link failed
+  pub lost : Bool
   -- the last slot that was heard, and the slots that were missed
   pub heard : ℕ
   pub late : ℕ
+  -- how many more looks there is room for from the beginning
+  pub looks_left : ℕ
   pub receipts : List Receipt
   pub plays : List PlayNote
   pub offers : List OfferNote
@@ -61,7 +56,7 @@ pub data Awaits : Type 0 where
 abbrev pub awaits_of : Awaited → Awaits
 awaits_of Nothing = NoAnswer
 awaits_of (Play prepared) = PlayAnswer prepared.plan
-awaits_of (Halt keep sequence) = HaltAnswer keep
+awaits_of (Halt keep next) = HaltAnswer keep
 awaits_of (Look sequence) = LookAnswer
 awaits_of (Offer sequence) = OfferAnswer
 
@@ -77,7 +72,8 @@ pub record Open : Type 0 where
 abbrev pub open_in : State → Option Open
 open_in Init = None
 open_in (Ready setup paused) = None
-open_in (Playing setup play) = Some (record { plan = play.plan; start = play.start; due = play.due })
+open_in (Playing setup play) = Some (record { plan = play.plan; start = play.start; due = play.pacer.due })
+open_in (Stopping setup stop) = None
 
 abbrev pub open_of : Standing → Option Open
 open_of standing = open_in standing.state
@@ -179,17 +175,38 @@ pub record IsSameBusiness (old new : Standing) : Type 0 where
   pub offers : new.offers ≡ old.offers
   pub late : new.late ≡ old.late
   pub torn : new.torn ≡ old.torn
+  pub lost : new.lost ≡ old.lost
 
 -- an answer was handed in: a receipt is noted, and nothing is awaited
 pub record IsHandedIn (old : Standing) (receipt : Receipt) (new : Standing) : Type 0 where
   pub receipts : new.receipts ≡ old.receipts ++ receipt ∷ []
   pub at_rest : IsAtRest new
   pub heard : new.heard ≡ old.heard
-  pub tearing : new.tearing ≡ old.tearing
   pub torn : new.torn ≡ old.torn
+  pub lost : new.lost ≡ old.lost
 
 -- no play and no offer was noted, and no slot was missed
 pub record AreNotesKept (old new : Standing) : Type 0 where
   pub plays : new.plays ≡ old.plays
   pub offers : new.offers ≡ old.offers
   pub late : new.late ≡ old.late
+
+-- a request can be heard: nothing is awaited, no reply waits, and the connection goes on
+pub record CanHear (standing : Standing) : Type 0 where
+  pub rest : IsAtRest standing
+  pub replied : standing.waits ≡ false
+  pub torn : standing.torn ≡ false
+  pub lost : standing.lost ≡ false
+
+-- the session exists, or it is Playing
+abbrev pub has_session_in : State → Bool
+has_session_in Init = false
+has_session_in (Ready setup paused) = true
+has_session_in (Playing setup play) = true
+has_session_in (Stopping setup stop) = true
+
+abbrev pub is_playing_in : State → Bool
+is_playing_in Init = false
+is_playing_in (Ready setup paused) = false
+is_playing_in (Playing setup play) = true
+is_playing_in (Stopping setup stop) = false

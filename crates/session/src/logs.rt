@@ -1,4 +1,4 @@
-ghost use Rattle.std.specs.Prelude.{◌≡◌, ◌-◌, ◌≤◌, ◌++◌, [], ◌∷◌, IfOk, OnOk, IsOk};
+ghost use Rattle.std.specs.Prelude.{◌≡◌, ◌+◌, ◌-◌, ◌≤◌, ◌++◌, [], ◌∷◌, IfOk, OnOk, IsOk};
 ghost use Rattle.session.specs.Logs.{IsSameLists};
 
 use crate::notes::{Notes, OfferNote, PlayNote, Receipt};
@@ -72,6 +72,7 @@ impl Log {
     pub(crate) fn reserve_play(&mut self) -> Result<(), NoMemory>
         ensures lists { IsSameLists self.old self.new }
         ensures room { OnOk result (1 ≤ self.new.play_room) }
+        ensures more { self.old.play_room ≤ self.new.play_room }
         ensures others { (self.new.receipt_room ≡ self.old.receipt_room) × (self.new.offer_room ≡ self.old.offer_room) }
     {
         match self.plays.reserve(1) {
@@ -80,10 +81,24 @@ impl Log {
         }
     }
 
+    /// Makes room for the receipts of so many looks, and for the two receipts and the note of a play.
+    pub(crate) fn reserve_for_play(&mut self, looks: usize) -> Result<(), NoMemory>
+        requires { looks ≤ 1024 }
+        ensures lists { IsSameLists self.old self.new }
+        ensures room { OnOk result (looks + 2 ≤ self.new.receipt_room) }
+        ensures plays { OnOk result (1 ≤ self.new.play_room) }
+        ensures more { (self.old.receipt_room ≤ self.new.receipt_room) × (self.old.play_room ≤ self.new.play_room) }
+        ensures others { self.new.offer_room ≡ self.old.offer_room }
+    {
+        self.reserve_receipts(looks + 2)?;
+        self.reserve_play()
+    }
+
     /// Makes room for one more offer.
     pub(crate) fn reserve_offer(&mut self) -> Result<(), NoMemory>
         ensures lists { IsSameLists self.old self.new }
         ensures room { OnOk result (1 ≤ self.new.offer_room) }
+        ensures more { self.old.offer_room ≤ self.new.offer_room }
         ensures others { (self.new.receipt_room ≡ self.old.receipt_room) × (self.new.play_room ≡ self.old.play_room) }
     {
         match self.offers.reserve(1) {

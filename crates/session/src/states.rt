@@ -1,6 +1,11 @@
 //! Where a session stands (RFC 2326 appendix A.2).
 
+ghost use Rattle.std.specs.Prelude.{◌<◌, ◌≤◌, length};
+
+use film_frames::{Frames, Stored};
+use pacer::Pacer;
 use plan_cert::Plan;
+use rtp_pack::Identity;
 
 /// What SETUP settled.
 #[derive(Clone, Copy, Debug, PartialEq, Eq)]
@@ -39,9 +44,18 @@ pub(crate) struct Counts {
     pub(crate) octets: u32,
 }
 
+/// What a connection's random words give its stream: the SSRC, and what the first frame's sequence number and the film's
+/// beginning have as sequence number and timestamp (RFC 3550 section 5.1).
+#[derive(Clone, Copy, Debug, PartialEq, Eq)]
+pub(crate) struct Source {
+    pub(crate) ssrc: u32,
+    pub(crate) sequence: u16,
+    pub(crate) timestamp: u32,
+}
+
 /// A play whose booking is open.
-#[derive(Debug, Drop)]
-pub(crate) struct Play {
+#[derive(Drop)]
+pub(crate) struct Play<'a> {
     /// The run as the play began.
     pub(crate) run: Run,
     /// The place of its admission.
@@ -50,39 +64,123 @@ pub(crate) struct Play {
     pub(crate) start: u64,
     /// Its plan.
     pub(crate) plan: Plan,
-    /// What is due of the plan, in bytes.
-    pub(crate) due: u64,
+    /// What sends it.
+    pub(crate) pacer: Pacer<Frames<'a>>,
 }
 
-/// A session's state. Init has no session; a Ready one may have a run that was paused.
-#[derive(Debug, Drop)]
-pub(crate) enum State {
+/// A play that was halted: the piece in hand is sent to its end.
+#[derive(Drop)]
+pub(crate) struct Stop<'a> {
+    /// The run as the pause leaves it; None where the session is torn down.
+    pub(crate) paused: Option<Run>,
+    /// The slot in which the play began.
+    pub(crate) start: u64,
+    /// What sends the rest.
+    pub(crate) pacer: Pacer<Frames<'a>>,
+}
+
+/// A session's state. Init has no session; a Ready one may have a run that was paused; a Stopping one will be Ready as soon
+/// as its reply is sent.
+#[derive(Drop)]
+pub(crate) enum State<'a> {
     Init,
     Ready(Setup, Option<Run>),
-    Playing(Setup, Play),
+    Playing(Setup, Play<'a>),
+    Stopping(Setup, Stop<'a>),
 }
 
 /// A play that the station is asked for.
-#[derive(Debug, Drop)]
-pub(crate) struct Prepared {
+#[derive(Drop)]
+pub(crate) struct Prepared<'a> {
     /// The run as the play will begin.
     pub(crate) run: Run,
-    /// Its plan.
+    /// What the session sent before the run.
+    pub(crate) counts: Counts,
+    /// What will be sent.
+    pub(crate) frames: Frames<'a>,
+    /// Its plan, twice: for the note of the play, and for what sends it.
     pub(crate) plan: Plan,
+    pub(crate) paced: Plan,
     /// The number of the request.
     pub(crate) sequence: u64,
 }
 
+/// What a halt leads to.
+#[derive(Clone, Copy, Debug, PartialEq, Eq)]
+pub(crate) enum Next {
+    /// The play is done.
+    Done,
+    /// The run is paused, as it is then.
+    Paused(Run),
+    /// The session is torn down.
+    Torn,
+}
+
 /// What the station was asked and hasn't answered.
-#[derive(Debug, Drop)]
-pub(crate) enum Awaited {
+#[derive(Drop)]
+pub(crate) enum Awaited<'a> {
     Nothing,
     /// A play.
-    Play(Prepared),
-    /// A halt that keeps so many bytes. A request of that number is to be answered, or the play is done.
-    Halt(u64, Option<u64>),
+    Play(Prepared<'a>),
+    /// A halt that keeps so many bytes.
+    Halt(u64, Next),
     /// A look, for the request of that number.
     Look(u64),
     /// An offer, for the request of that number.
     Offer(u64),
+}
+
+/// The identity of a run that begins after so many frames and octets (RFC 3550 section 5.1).
+pub(crate) fn identity_of(source: Source, setup: &Setup, counts: Counts) -> Identity {
+    Identity {
+        channel: setup.media,
+        control: setup.control,
+        ssrc: source.ssrc,
+        sequence: source
+            .sequence
+            .wrapping_add((counts.frames & 0xffff) as u16),
+        timestamp: source.timestamp,
+        packets: counts.frames,
+        octets: counts.octets,
+    }
+}
+
+/// The frames of a run that is sent under an identity.
+pub(crate) fn frames_of<'a>(
+    stored: &'a Stored,
+    source: Source,
+    setup: &Setup,
+    counts: Counts,
+    run: &Run,
+) -> Frames<'a>
+    requires order { run.now.first_unit < run.now.end_unit }
+    requires within { run.now.end_unit ≤ length stored.now.film.units.items }
+{
+    Frames::new(
+        stored,
+        run.first_unit,
+        run.end_unit,
+        identity_of(source, setup, counts),
+    )
+}
+
+/// What the session has sent in all, where so many bytes of these frames were sent.
+pub(crate) fn counts_after(counts: Counts, frames: &Frames<'_>, sent: u64) -> Counts {
+    Counts {
+        frames: counts
+            .frames
+            .wrapping_add((frames.frames_before(sent) & 0xffff_ffff) as u32),
+        octets: counts
+            .octets
+            .wrapping_add((frames.octets_before(sent) & 0xffff_ffff) as u32),
+    }
+}
+
+/// What a connection's words give its stream.
+pub(crate) fn source_of(words: &[u32; 5]) -> Source {
+    Source {
+        ssrc: words[2],
+        sequence: (words[3] & 0xffff) as u16,
+        timestamp: words[4],
+    }
 }

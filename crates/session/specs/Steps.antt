@@ -1,0 +1,78 @@
+-- How a slot carries a state on.
+use Rattle.std.specs.Prelude.{ℕ, ◌≡◌, ◌≤◌, ⊤}
+use Rattle.plan_cert.specs.Slots.{total_bytes}
+use Rattle.pacer.specs.Pacings.{IsPacing, Pacing}
+use Rattle.session.specs.declared.states.State.{State}
+use Rattle.session.specs.declared.states.State.TheVariants.{Init, Ready, Playing, Stopping}
+use Rattle.session.specs.Plans.{IsPlay}
+
+-- the same sending, in which only more may be due
+pub record IsSamePacing (old new : Pacing) : Type 0 where
+  pub pacing : IsPacing new
+  pub before : new.before ≡ old.before
+  pub plan : new.plan ≡ old.plan
+  pub start : new.start ≡ old.start
+  pub due : old.due ≤ new.due
+
+-- the same state, but for what was sent
+abbrev pub IsCarried : State → State → Type 0
+IsCarried Init Init = ⊤
+IsCarried Init (Ready s p) = ⊥
+IsCarried Init (Playing s p) = ⊥
+IsCarried Init (Stopping s p) = ⊥
+IsCarried (Ready setup paused) Init = ⊥
+IsCarried (Ready setup paused) (Ready s p) = (s ≡ setup) × (p ≡ paused)
+IsCarried (Ready setup paused) (Playing s p) = ⊥
+IsCarried (Ready setup paused) (Stopping s p) = ⊥
+IsCarried (Playing setup play) Init = ⊥
+IsCarried (Playing setup play) (Ready s p) = ⊥
+IsCarried (Playing setup play) (Playing s p) =
+    (s ≡ setup) × (p.run ≡ play.run) × (p.place ≡ play.place) × (p.start ≡ play.start) × (p.plan ≡ play.plan)
+    × IsSamePacing play.pacer p.pacer
+IsCarried (Playing setup play) (Stopping s p) = ⊥
+IsCarried (Stopping setup stop) Init = ⊥
+IsCarried (Stopping setup stop) (Ready s p) = ⊥
+IsCarried (Stopping setup stop) (Playing s p) = ⊥
+IsCarried (Stopping setup stop) (Stopping s p) =
+    (s ≡ setup) × (p.paused ≡ stop.paused) × (p.start ≡ stop.start) × IsSamePacing stop.pacer p.pacer
+
+-- all that is due was sent
+abbrev pub IsEven : State → Type 0
+IsEven Init = ⊤
+IsEven (Ready setup paused) = ⊤
+IsEven (Playing setup play) = play.pacer.due ≡ play.pacer.sent
+IsEven (Stopping setup stop) = stop.pacer.due ≡ stop.pacer.sent
+
+abbrev pub IsPacingIn : State → Type 0
+IsPacingIn Init = ⊤
+IsPacingIn (Ready setup paused) = ⊤
+IsPacingIn (Playing setup play) = IsPacing play.pacer
+IsPacingIn (Stopping setup stop) = IsPacing stop.pacer
+
+-- so many bytes are due and weren't sent
+abbrev pub IsLeft : State → ℕ → Type 0
+IsLeft Init left = ⊤
+IsLeft (Ready setup paused) left = ⊤
+IsLeft (Playing setup play) left = left ≡ 0 → play.pacer.due ≡ play.pacer.sent
+IsLeft (Stopping setup stop) left = left ≡ 0 → stop.pacer.due ≡ stop.pacer.sent
+
+-- a halt is asked for in Playing, within the plan
+abbrev pub IsHaltIn : State → ℕ → Type 0
+IsHaltIn Init keep = ⊥
+IsHaltIn (Ready setup paused) keep = ⊥
+IsHaltIn (Playing setup play) keep = keep ≤ total_bytes play.plan
+IsHaltIn (Stopping setup stop) keep = ⊥
+
+-- a play's pacing, with the play's plan
+abbrev pub IsPlayIn : State → Type 0
+IsPlayIn Init = ⊤
+IsPlayIn (Ready setup paused) = ⊤
+IsPlayIn (Playing setup play) = IsPlay play
+IsPlayIn (Stopping setup stop) = ⊤
+
+-- the state as soon as the reply of a PAUSE or a TEARDOWN was sent
+abbrev pub settled : State → State
+settled Init = Init
+settled (Ready setup paused) = Ready setup paused
+settled (Playing setup play) = Playing setup play
+settled (Stopping setup stop) = Ready setup stop.paused

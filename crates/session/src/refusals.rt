@@ -1,0 +1,217 @@
+ghost use Rattle.std.specs.Prelude.{◌≡◌, ◌<◌, ◌≤◌, true, length, is_some, IfOk, IsTrue, IfSome};
+ghost use Rattle.rtsp_text.specs.Lines.{is_one_line};
+ghost use Rattle.session.specs.Tasks.{IsAsked, IsTask, IsValid, NeedsSession};
+
+use crate::methods::{Method, read_method};
+use film_frames::Stored;
+use rtsp_fields::{read_url, session_matches};
+use rtsp_text::{Request, RequestFault, header};
+
+/// Why a request is refused; none changes the state (RFC 2326 section 7.1.1).
+#[derive(Clone, Copy, Debug, PartialEq, Eq)]
+pub(crate) enum Refusal {
+    /// It is no request of RTSP.
+    BadRequest,
+    /// Its version isn't 1.0.
+    Version,
+    /// Its method isn't spoken.
+    Method,
+    /// It requires an option; none is known.
+    Option,
+    /// It needs a session that doesn't exist, or names another.
+    Session,
+    /// It names no film of the server, or another than the session's.
+    Film,
+    /// Its method isn't valid in this state.
+    State,
+    /// It asks for a transport that isn't offered.
+    Transport,
+    /// A parameter has no meaning.
+    Parameter,
+    /// The client's buffer is too small: it must hold at least so many bytes.
+    Buffer(u64),
+    /// Its range has no meaning for the film.
+    Range,
+    /// Want of memory.
+    Memory,
+}
+
+/// The film that a request names, and how its URL names it.
+#[derive(Clone, Copy, Debug)]
+pub(crate) struct Asked<'m> {
+    /// The number of the film.
+    pub(crate) film: usize,
+    /// The authority of the URL.
+    pub(crate) authority: &'m [u8],
+}
+
+/// A request that is taken up.
+#[derive(Clone, Copy, Debug)]
+pub(crate) enum Task<'m> {
+    Options,
+    Describe(Asked<'m>),
+    Setup(usize),
+    Play(Asked<'m>),
+    Pause,
+    Teardown,
+    GetParameter,
+}
+
+/// Where a session stands, as far as refusals go by it.
+#[derive(Clone, Copy, Debug)]
+pub(crate) struct Place {
+    /// The film of the session, where there is one.
+    pub(crate) film: Option<usize>,
+    /// Whether it is Playing.
+    pub(crate) playing: bool,
+}
+
+/// The refusal of a request that isn't well formed.
+pub(crate) fn refusal_of(fault: RequestFault) -> Refusal {
+    match fault {
+        RequestFault::BadVersion => Refusal::Version,
+        _ => Refusal::BadRequest,
+    }
+}
+
+/// The options that a request requires.
+fn required<'m>(request: &Request<'m>) -> Option<&'m [u8]>
+    ensures short { IfSome result (λ option. length option.now ≤ length request.now.head.now) }
+    ensures line { IfSome result (λ option. is_one_line option.now ≡ true) }
+{
+    match header(request, b"Require") {
+        Some(option) => Some(option),
+        None => header(request, b"Proxy-Require"),
+    }
+}
+
+/// What a reply says of the options that a request requires.
+pub(crate) fn option_of<'m>(request: &Request<'m>) -> &'m [u8]
+    ensures short { length result.now ≤ length request.now.head.now }
+    ensures line { is_one_line result.now ≡ true }
+{
+    match required(request) {
+        Some(option) => option,
+        None => b"",
+    }
+}
+
+/// Whether the session that a request names, or names not, goes with its method.
+fn has_session(method: Method, exists: bool, id: &[u8; 16], named: Option<&[u8]>) -> bool
+    ensures { IsTrue result → NeedsSession method exists }
+{
+    let matches = match named {
+        Some(value) => exists && session_matches(value, id),
+        None => false,
+    };
+    match method {
+        Method::Options | Method::Describe => true,
+        Method::Setup | Method::GetParameter => named.is_none() || matches,
+        Method::Play | Method::Pause | Method::Teardown => matches,
+    }
+}
+
+/// The number of the film of that name.
+fn find(films: &[Stored], name: &[u8]) -> Option<usize>
+    ensures within { IfSome result (λ film. film < length films.now) }
+{
+    for (number, film) in films.iter().enumerate() {
+        if film.name.as_bytes() == name {
+            return Some(number);
+        }
+    }
+    None
+}
+
+/// The film that a URL names.
+fn asked_film<'m>(films: &[Stored], url: &'m [u8]) -> Option<Asked<'m>>
+    ensures within { IfSome result (λ asked. asked.film < length films.now) }
+    ensures authority { IfSome result (λ asked. length asked.authority.now ≤ length url.now) }
+    ensures authority_line { IfSome result (λ asked. is_one_line asked.authority.now ≡ true) }
+{
+    let read = read_url(url)?;
+    let name = read.name?;
+    let film = find(films, name)?;
+    Some(Asked {
+        film,
+        authority: read.authority,
+    })
+}
+
+/// Whether a method may be asked of that film: it is the session's, or there is none, or it is to be described.
+fn is_own(method: Method, session: Option<usize>, film: usize) -> bool {
+    match (method, session) {
+        (Method::Describe, _) | (_, None) => true,
+        (_, Some(own)) => own == film,
+    }
+}
+
+/// Whether a method is valid in a state.
+fn is_valid(method: Method, place: Place, has_range: bool) -> bool
+    ensures { IsTrue result → IsValid method place }
+{
+    match method {
+        Method::Setup => place.film.is_none(),
+        Method::Play => !place.playing || !has_range,
+        Method::Pause => place.playing,
+        _ => true,
+    }
+}
+
+fn task_of(films: usize, place: Place, method: Method, asked: Asked<'_>) -> Task<'_>
+    requires asked { IsAsked films asked }
+    requires session { NeedsSession method (is_some place.film) }
+    requires valid { IsValid method place }
+    ensures { IsTask films place result }
+{
+    let _ = (films, place);
+    match method {
+        Method::Options => Task::Options,
+        Method::Describe => Task::Describe(asked),
+        Method::Setup => Task::Setup(asked.film),
+        Method::Play => Task::Play(asked),
+        Method::Pause => Task::Pause,
+        Method::Teardown => Task::Teardown,
+        Method::GetParameter => Task::GetParameter,
+    }
+}
+
+/// Judges a well formed request by the refusals that all methods share, in their order: the method isn't spoken, an option is
+/// required, the session, the film, the state.
+pub(crate) fn judge<'m>(
+    films: &[Stored],
+    id: &[u8; 16],
+    place: Place,
+    request: &Request<'m>,
+) -> Result<Task<'m>, Refusal>
+    requires { length request.now.url.now ≤ 16384 }
+    ensures { IfOk result (IsTask (length films.now) place) }
+{
+    let Some(method) = read_method(request.method) else {
+        return Err(Refusal::Method);
+    };
+    if required(request).is_some() {
+        return Err(Refusal::Option);
+    }
+    if !has_session(
+        method,
+        place.film.is_some(),
+        id,
+        header(request, b"Session"),
+    ) {
+        return Err(Refusal::Session);
+    }
+    if let Method::Options = method {
+        return Ok(Task::Options);
+    }
+    let Some(asked) = asked_film(films, request.url) else {
+        return Err(Refusal::Film);
+    };
+    if !is_own(method, place.film, asked.film) {
+        return Err(Refusal::Film);
+    }
+    if !is_valid(method, place, header(request, b"Range").is_some()) {
+        return Err(Refusal::State);
+    }
+    Ok(task_of(films.len(), place, method, asked))
+}

@@ -1,0 +1,275 @@
+//! The replies, each from its status line to its body (RFC 2326 section 7).
+
+ghost use Rattle.std.specs.Prelude.{◌≡◌, ◌≤◌, IsTrue, true, length, string_bytes};
+ghost use Rattle.std.specs.Int.{w32, to_be_bytes};
+ghost use Rattle.hex.specs.Hex.{encode_lower};
+ghost use Rattle.vod_base.specs.Names.{is_good_name};
+ghost use Rattle.rtsp_text.specs.Lines.{is_one_line};
+ghost use Rattle.rtsp_text.specs.Replies.{is_code};
+
+use crate::refusals::Refusal;
+use crate::runs::picture_time;
+use crate::states::{Prepared, Setup, Source, counts_after, identity_of};
+use film_frames::Stored;
+use itoa::Buffer;
+use rtsp_fields::{description, seconds_text};
+use rtsp_text::Reply;
+
+/// The code of a refusal.
+fn code_of(refusal: Refusal) -> u16
+    ensures { IsTrue (is_code result) }
+{
+    match refusal {
+        Refusal::BadRequest => 400,
+        Refusal::Version => 505,
+        Refusal::Method => 501,
+        Refusal::Option => 551,
+        Refusal::Session => 454,
+        Refusal::Film => 404,
+        Refusal::State => 455,
+        Refusal::Transport => 461,
+        Refusal::Parameter | Refusal::Buffer(_) => 451,
+        Refusal::Range => 457,
+        Refusal::Memory => 500,
+    }
+}
+
+/// A refusal, of a request that requires this option.
+pub(crate) fn put_refusal(reply: &mut Reply, sequence: Option<u64>, refusal: Refusal, option: &[u8])
+    requires short { length option.now ≤ 16384 }
+    requires line { is_one_line option.now ≡ true }
+{
+    reply.clear();
+    reply.start(code_of(refusal), sequence);
+    match refusal {
+        Refusal::Option => reply.field(b"Unsupported", option),
+        Refusal::Buffer(least) => reply.number_field(b"x-Least-Buffer", least),
+        _ => {}
+    }
+    reply.finish(&[]);
+}
+
+/// The 200 of an OPTIONS.
+pub(crate) fn put_public(reply: &mut Reply, sequence: u64) {
+    reply.clear();
+    reply.start(200, Some(sequence));
+    reply.field(
+        b"Public",
+        b"OPTIONS, DESCRIBE, SETUP, PLAY, PAUSE, TEARDOWN, GET_PARAMETER",
+    );
+    reply.finish(&[]);
+}
+
+/// The 200 of a DESCRIBE of a film that takes so many milliseconds.
+pub(crate) fn put_description(
+    reply: &mut Reply,
+    sequence: u64,
+    authority: &[u8],
+    name: &str,
+    end_ms: u64,
+)
+    requires authority { length authority.now ≤ 16384 }
+    requires authority_line { is_one_line authority.now ≡ true }
+    requires name { is_good_name name.now ≡ true }
+{
+    let mut text = [0u8; 512];
+    let length = description(name, end_ms, &mut text);
+    reply.clear();
+    reply.start(200, Some(sequence));
+    reply.field_of(
+        b"Content-Base",
+        &[
+            b"rtsp://".as_slice(),
+            authority,
+            b"/".as_slice(),
+            name.as_bytes(),
+            b"/".as_slice(),
+        ],
+    );
+    reply.field(b"Content-Type", b"application/sdp");
+    reply.number_field(b"Content-Length", length as u64);
+    reply.finish(&text[..length]);
+}
+
+/// The decimal digits of a number.
+fn digits<'b>(number: u64, buffer: &'b mut Buffer) -> &'b [u8]
+    ensures line { is_one_line result.now ≡ true }
+    ensures short { length result.now ≤ 40 }
+{
+    buffer.format(number).as_bytes()
+}
+
+/// An SSRC in eight hexadecimal digits.
+fn ssrc_text(ssrc: u32) -> [u8; 8]
+    ensures text { result ≡ encode_lower (to_be_bytes w32 ssrc) }
+    ensures line { is_one_line result ≡ true }
+{
+    let mut text = [0u8; 8];
+    match hex::encode_to_slice(ssrc.to_be_bytes(), &mut text) {
+        Ok(()) => text,
+        Err(_) => unreachable!(),
+    }
+}
+
+/// The 200 of a SETUP: the channels, the SSRC in eight hexadecimal digits, and the session's id.
+pub(crate) fn put_setup(reply: &mut Reply, sequence: u64, setup: &Setup, ssrc: u32, id: &[u8; 16])
+    requires { is_one_line id.now ≡ true }
+{
+    let ssrc = ssrc_text(ssrc);
+    let (mut media, mut control) = (Buffer::new(), Buffer::new());
+    reply.clear();
+    reply.start(200, Some(sequence));
+    reply.field_of(
+        b"Transport",
+        &[
+            b"RTP/AVP/TCP;unicast;interleaved=".as_slice(),
+            digits(u64::from(setup.media), &mut media),
+            b"-".as_slice(),
+            digits(u64::from(setup.control), &mut control),
+            b";ssrc=".as_slice(),
+            ssrc.as_slice(),
+        ],
+    );
+    reply.field(b"Session", id);
+    reply.finish(&[]);
+}
+
+/// A 200 with the session's id alone.
+pub(crate) fn put_session(reply: &mut Reply, sequence: u64, id: &[u8; 16])
+    requires id { is_one_line id.now ≡ true }
+{
+    reply.clear();
+    reply.start(200, Some(sequence));
+    reply.field(b"Session", id);
+    reply.finish(&[]);
+}
+
+/// A 200 without fields.
+pub(crate) fn put_plain(reply: &mut Reply, sequence: u64) {
+    reply.clear();
+    reply.start(200, Some(sequence));
+    reply.finish(&[]);
+}
+
+/// What a play's reply says of its run.
+#[derive(Clone, Copy, Debug)]
+pub(crate) struct Info<'m> {
+    /// From and to which time it is, in milliseconds.
+    pub(crate) first_ms: u64,
+    pub(crate) end_ms: u64,
+    /// The authority of the request's URL, and the film's name.
+    pub(crate) authority: &'m [u8],
+    pub(crate) name: &'m [u8],
+    /// The sequence number of the next frame, and the timestamp of the first unplayed unit.
+    pub(crate) sequence: u16,
+    pub(crate) timestamp: u32,
+}
+
+/// Where a play begins and ends in time, and from which frame it goes on.
+pub(crate) fn info_of<'m>(
+    stored: &'m Stored,
+    source: Source,
+    setup: &Setup,
+    prepared: &Prepared<'_>,
+    authority: &'m [u8],
+) -> Info<'m>
+    requires order { prepared.now.run.from_unit ≤ prepared.now.run.end_unit }
+    requires few { prepared.now.run.end_unit ≤ 4194304 }
+    ensures authority { result.authority.now ≡ authority.now }
+    ensures name { result.name.now ≡ string_bytes stored.now.name }
+{
+    let run = prepared.run;
+    let time = u64::from(picture_time(&stored.film));
+    let sent = counts_after(prepared.counts, &prepared.frames, run.sent);
+    Info {
+        first_ms: run.from_unit as u64 * time / 360,
+        end_ms: run.end_unit as u64 * time / 360,
+        authority,
+        name: stored.name.as_bytes(),
+        sequence: identity_of(source, setup, sent).sequence,
+        timestamp: timestamp_of(source, run.from_unit as u64 * time),
+    }
+}
+
+/// The timestamp, in 1/90,000 second, at which a unit that begins at this time in 1/360,000 second is played.
+fn timestamp_of(source: Source, time: u64) -> u32 {
+    source
+        .timestamp
+        .wrapping_add((time / 4 & 0xffff_ffff) as u32)
+}
+
+/// The front of the 200 of a PLAY: all but the start.
+pub(crate) fn put_play(reply: &mut Reply, sequence: u64, id: &[u8; 16], info: &Info<'_>)
+    requires id { is_one_line id.now ≡ true }
+    requires authority { length info.now.authority.now ≤ 16384 }
+    requires authority_line { is_one_line info.now.authority.now ≡ true }
+    requires name { length info.now.name.now ≤ 64 }
+    requires name_line { is_one_line info.now.name.now ≡ true }
+    ensures { length reply.new ≤ 20000 }
+{
+    let (mut first, mut end) = ([0u8; 24], [0u8; 24]);
+    let (mut number, mut time) = (Buffer::new(), Buffer::new());
+    reply.clear();
+    reply.start(200, Some(sequence));
+    reply.field(b"Session", id);
+    reply.field_of(
+        b"Range",
+        &[
+            b"npt=".as_slice(),
+            seconds_text(info.first_ms, &mut first),
+            b"-".as_slice(),
+            seconds_text(info.end_ms, &mut end),
+        ],
+    );
+    reply.field_of(
+        b"RTP-Info",
+        &[
+            b"url=rtsp://".as_slice(),
+            info.authority,
+            b"/".as_slice(),
+            info.name,
+            b"/video;seq=".as_slice(),
+            digits(u64::from(info.sequence), &mut number),
+            b";rtptime=".as_slice(),
+            digits(u64::from(info.timestamp), &mut time),
+        ],
+    );
+}
+
+/// The end of the 200 of a PLAY that begins so many slots after the heard one.
+pub(crate) fn put_start(reply: &mut Reply, slots: u64)
+    requires { length reply.old ≤ 20000 }
+{
+    reply.number_field(b"x-Start", slots);
+    reply.finish(&[]);
+}
+
+/// The 453 of a play for which the link has no room.
+pub(crate) fn put_overflow(reply: &mut Reply, sequence: u64, slot: u64, booked: u64, asked: u64) {
+    reply.clear();
+    reply.start(453, Some(sequence));
+    reply.number_field(b"x-Slot", slot);
+    reply.number_field(b"x-Booked", booked);
+    reply.number_field(b"x-Asked", asked);
+    reply.finish(&[]);
+}
+
+/// The 503 of a full journal.
+pub(crate) fn put_full(reply: &mut Reply, sequence: u64, entries: u64, live: u64) {
+    reply.clear();
+    reply.start(503, Some(sequence));
+    reply.number_field(b"x-Entries", entries);
+    reply.number_field(b"x-Open", live);
+    reply.finish(&[]);
+}
+
+/// The 200 of a GET_PARAMETER with this body.
+pub(crate) fn put_parameters(reply: &mut Reply, sequence: u64, body: &[u8])
+    requires { length body.now ≤ 24576 }
+{
+    reply.clear();
+    reply.start(200, Some(sequence));
+    reply.field(b"Content-Type", b"text/parameters");
+    reply.number_field(b"Content-Length", body.len() as u64);
+    reply.finish(body);
+}

@@ -1,0 +1,61 @@
+//! What a SETUP asks for.
+
+ghost use Rattle.std.specs.Prelude.{◌<◌, ◌≤◌, ◌^◌, ℕ, IfOk, IfSome};
+ghost use Rattle.session.specs.Ranges.{AreSettings, IsSetup};
+
+use crate::refusals::Refusal;
+use crate::settings::Settings;
+use crate::states::Setup;
+use rtsp_fields::{read_buffer, read_startup, read_transport};
+use rtsp_text::{Request, header};
+
+/// The client's buffer.
+fn buffer_of(request: &Request<'_>, settings: &Settings) -> Option<u64>
+    requires { AreSettings settings.now }
+    ensures some { IfSome result (λ buffer. 1 ≤ buffer) }
+    ensures most { IfSome result (λ buffer. buffer ≤ 2 ^ 42) }
+{
+    match header(request, b"x-Buffer") {
+        Some(value) => read_buffer(value),
+        None => Some(settings.buffer),
+    }
+}
+
+/// The slots before the first picture is used.
+fn delay_of(request: &Request<'_>, settings: &Settings) -> Option<u64>
+    requires { AreSettings settings.now }
+    ensures { IfSome result (λ delay. delay ≤ 10000) }
+{
+    match header(request, b"x-Startup") {
+        Some(value) => read_startup(value),
+        None => Some(settings.startup),
+    }
+}
+
+/// What a SETUP asks for: the transport first, then the client's buffer and the start delay.
+pub(crate) fn read_setup(
+    request: &Request<'_>,
+    film: usize,
+    settings: &Settings,
+) -> Result<Setup, Refusal>
+    requires { AreSettings settings.now }
+    ensures { (films : ℕ) → film < films → IfOk result (IsSetup films) }
+{
+    let Some(transport) = header(request, b"Transport") else {
+        return Err(Refusal::Transport);
+    };
+    let Some(channels) = read_transport(transport) else {
+        return Err(Refusal::Transport);
+    };
+    let (Some(buffer), Some(delay)) = (buffer_of(request, settings), delay_of(request, settings))
+    else {
+        return Err(Refusal::Parameter);
+    };
+    Ok(Setup {
+        film,
+        media: channels.media,
+        control: channels.control,
+        buffer,
+        delay,
+    })
+}

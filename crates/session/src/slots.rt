@@ -1,0 +1,205 @@
+//! Slots, and the replies that go out between frames.
+
+ghost use Rattle.std.specs.Prelude.{◌≡◌, ◌-◌, ◌≤◌, IfOk, IfSome, OnErr, OnOk, false, true, max};
+ghost use Rattle.vod_base.specs.Outside.{HasRisen};
+ghost use Rattle.session.specs.Steps.{IsCarried, IsEven, IsHaltIn, IsLeft, IsPacingIn, IsPlayIn, settled};
+ghost use Rattle.session.specs.Standings.{AreNotesKept, Brings, IsAtRest, IsSameBooking, open_of, taken_up};
+
+use crate::asks::Slotted;
+use crate::sessions::Session;
+use crate::states::{Awaited, Next, State};
+use rtsp_text::Reply;
+use std::mem;
+use vod_base::{Link, LinkFault};
+
+/// The latest slot that is taken up.
+const LATEST_SLOT: u64 = 1 << 62;
+
+/// The slots from a play's start on that were not heard between two heard ones.
+fn missed(before: u64, start: u64, slot: u64) -> u64
+    requires { before ≤ slot }
+    ensures { result ≡ slot - 1 - max before (start - 1) }
+{
+    (slot.saturating_sub(1)).saturating_sub(before.max(start.saturating_sub(1)))
+}
+
+/// The start of the play that is being sent.
+fn start_of(state: &State<'_>) -> Option<u64> {
+    match state {
+        State::Playing(_, play) => Some(play.start),
+        State::Stopping(_, stop) => Some(stop.start),
+        _ => None,
+    }
+}
+
+/// Sends what is due in a slot, with a stop up to the end of the piece in hand alone. It tells how many bytes are left.
+fn step<K: Link>(
+    state: &mut State<'_>,
+    slot: u64,
+    stop: bool,
+    link: &mut K,
+) -> Result<u64, LinkFault>
+    requires { IsPacingIn state.old }
+    ensures count { K.faults link.old ≤ K.faults link.new }
+    ensures fault { OnErr result (HasRisen (K.faults link.old) (K.faults link.new)) }
+    ensures carried { IsCarried state.old state.new }
+    ensures left { IfOk result (IsLeft state.new) }
+    ensures whole { OnOk result (stop ≡ false → IsEven state.new) }
+{
+    match state {
+        State::Playing(_, play) => match play.pacer.step(slot, stop, link) {
+            Ok(stepped) => Ok(stepped.left),
+            Err(LinkFault) => Err(LinkFault),
+        },
+        State::Stopping(_, halted) => match halted.pacer.step(slot, stop, link) {
+            Ok(stepped) => Ok(stepped.left),
+            Err(LinkFault) => Err(LinkFault),
+        },
+        _ => Ok(0),
+    }
+}
+
+/// Whether no frame and no report is cut.
+fn is_between(state: &State<'_>) -> bool {
+    match state {
+        State::Playing(_, play) => play.pacer.at_boundary(),
+        State::Stopping(_, stop) => stop.pacer.at_boundary(),
+        _ => true,
+    }
+}
+
+/// Sends what is due in a slot, and the reply, if one waits, at the first boundary that is reached. It tells whether the reply
+/// was sent.
+fn send_due<K: Link>(
+    state: &mut State<'_>,
+    reply: &Reply,
+    waits: bool,
+    slot: u64,
+    link: &mut K,
+) -> Result<bool, LinkFault>
+    requires { IsPacingIn state.old }
+    ensures count { K.faults link.old ≤ K.faults link.new }
+    ensures fault { OnErr result (HasRisen (K.faults link.old) (K.faults link.new)) }
+    ensures carried { IsCarried state.old state.new }
+    ensures even { OnOk result (IsEven state.new) }
+    ensures waited { IfOk result (λ sent. sent ≡ true → waits ≡ true) }
+{
+    if !waits {
+        step(state, slot, false, link)?;
+        return Ok(false);
+    }
+    let left = step(state, slot, true, link)?;
+    if left == 0 && !is_between(state) {
+        return Ok(false);
+    }
+    link.send(reply.bytes())?;
+    step(state, slot, false, link)?;
+    Ok(true)
+}
+
+/// All bytes of a play that is done.
+fn done_bytes(state: &State<'_>) -> Option<u64>
+    requires { IsPlayIn state.now }
+    ensures { IfSome result (IsHaltIn state.now) }
+{
+    match state {
+        State::Playing(_, play) if play.pacer.done() => Some(play.pacer.sent()),
+        _ => None,
+    }
+}
+
+/// The state as soon as the reply of a PAUSE or a TEARDOWN was sent.
+fn settled(state: State<'_>) -> State<'_>
+    ensures { result ≡ settled state.entry }
+{
+    match state {
+        State::Stopping(setup, stop) => State::Ready(setup, stop.paused),
+        other => other,
+    }
+}
+
+impl<'a> Session<'a> {
+    /// Takes up a slot, if it is a later one than the last and none above 2^62, and sends what is due in it. A waiting reply
+    /// goes out at the first boundary that is reached.
+    ///
+    /// # Errors
+    ///
+    /// [`LinkFault`] only where the link's count rose.
+    pub fn slot<K: Link>(&mut self, t: u64, link: &mut K) -> Result<Slotted, LinkFault>
+        requires rest { IsAtRest self.old }
+        requires lost { self.old.lost ≡ false }
+        ensures heard { self.new.heard ≡ taken_up self.old.heard t }
+        ensures brings { IfOk result (λ slotted. Brings slotted self.new) }
+        ensures kept { OnOk result (self.new.lost ≡ false) }
+        ensures lost { OnErr result (IsAtRest self.new) }
+        ensures open { IsSameBooking (open_of self.old) (open_of self.new) }
+        ensures receipts { self.new.receipts ≡ self.old.receipts }
+        ensures plays { self.new.plays ≡ self.old.plays }
+        ensures offers { self.new.offers ≡ self.old.offers }
+        ensures fault { OnErr result (HasRisen (K.faults link.old) (K.faults link.new)) }
+    {
+        if t <= self.heard || t > LATEST_SLOT {
+            return Ok(Slotted::Going);
+        }
+        let before = mem::replace(&mut self.heard, t);
+        let Some(start) = start_of(&self.state) else {
+            return Ok(Slotted::Going);
+        };
+        self.late += missed(before, start, t);
+        let Ok(replied) = send_due(&mut self.state, &self.reply, self.waits, t, link) else {
+            self.lost = true;
+            return Err(LinkFault);
+        };
+        if replied {
+            self.waits = false;
+            self.torn = self.tearing;
+            self.state = settled(mem::replace(&mut self.state, State::Init));
+            return Ok(self.finish());
+        }
+        Ok(self.finish())
+    }
+
+    /// Asks for the halt of a play that is done.
+    fn finish(&mut self) -> Slotted
+        requires { IsAtRest self.old }
+        ensures brings { Brings result self.new }
+        ensures same { self.new ≡ record self.old { awaited = self.new.awaited } }
+    {
+        match done_bytes(&self.state) {
+            Some(bytes) => {
+                self.awaited = Awaited::Halt(bytes, Next::Done);
+                Slotted::Finished(bytes)
+            }
+            None => Slotted::Going,
+        }
+    }
+
+    /// Sends the waiting reply in one send where no frame and no report is cut; else it does nothing.
+    ///
+    /// # Errors
+    ///
+    /// [`LinkFault`] only where the link's count rose.
+    pub fn reply<K: Link>(&mut self, link: &mut K) -> Result<(), LinkFault>
+        requires rest { IsAtRest self.old }
+        requires lost { self.old.lost ≡ false }
+        ensures rest { IsAtRest self.new }
+        ensures kept { OnOk result (self.new.lost ≡ false) }
+        ensures heard { self.new.heard ≡ self.old.heard }
+        ensures open { open_of self.new ≡ open_of self.old }
+        ensures receipts { self.new.receipts ≡ self.old.receipts }
+        ensures notes { AreNotesKept self.old self.new }
+        ensures fault { OnErr result (HasRisen (K.faults link.old) (K.faults link.new)) }
+    {
+        if !self.waits || !is_between(&self.state) {
+            return Ok(());
+        }
+        let Ok(()) = link.send(self.reply.bytes()) else {
+            self.lost = true;
+            return Err(LinkFault);
+        };
+        self.waits = false;
+        self.torn = self.tearing;
+        self.state = settled(mem::replace(&mut self.state, State::Init));
+        Ok(())
+    }
+}
