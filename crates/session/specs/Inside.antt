@@ -91,11 +91,11 @@ IsAwaitedKept lost state (Look sequence) = IsGoing lost state
 IsAwaitedKept lost state (Offer sequence) = IsGoing lost state
 
 -- the reply to a request that stopped a play waits until it is sent
-abbrev pub IsStopAnswered : State → Bool → Bool → Type 0
-IsStopAnswered Init waits lost = ⊤
-IsStopAnswered (Ready setup paused) waits lost = ⊤
-IsStopAnswered (Playing setup play) waits lost = ⊤
-IsStopAnswered (Stopping setup stop) waits lost = lost ≡ false → waits ≡ true
+abbrev pub IsStopAnswered : State → Bool → Type 0
+IsStopAnswered Init waits = ⊤
+IsStopAnswered (Ready setup paused) waits = ⊤
+IsStopAnswered (Playing setup play) waits = ⊤
+IsStopAnswered (Stopping setup stop) waits = waits ≡ true
 
 pub record IsKept (session : Inside) : Type 0 where
   pub films : AreFilms session.films.now
@@ -103,7 +103,7 @@ pub record IsKept (session : Inside) : Type 0 where
   pub id : is_one_line session.id ≡ true
   pub state : IsStateKept (length session.films.now) session.state
   pub awaited : IsAwaitedKept session.lost session.state session.awaited
-  pub stop : IsStopAnswered session.state session.waits session.lost
+  pub stop : IsStopAnswered session.state session.waits
   pub receipt_room : session.looks_left + (open_receipts session.state + awaited_receipts session.awaited) ≤ session.log.receipt_room
   pub play_room : open_receipts session.state + awaited_plays session.awaited ≤ session.log.play_room
   pub offer_room : awaited_offers session.awaited ≤ session.log.offer_room

@@ -38,11 +38,14 @@ impl<'a> Session<'a> {
         requires rest { IsAtRest self.old }
         requires replied { self.old.waits ≡ false }
         requires torn { self.old.torn ≡ false }
-        requires lost { self.old.lost ≡ false }
         requires whole { IsRequestLength message.now (length message.now) }
         ensures asks { AsksFor result self.new }
         ensures same { IsSameBusiness self.old self.new }
     {
+        if self.lost {
+            // what is due can't be sent any more, so no play can be stopped at the end of a piece
+            return self.refuse(sequence_of(message), Refusal::Memory, b"");
+        }
         match read_request(message) {
             Ok(request) => self.hear_request(&request),
             Err(fault) => self.refuse(sequence_of(message), refusal_of(fault), b""),
@@ -105,7 +108,7 @@ impl<'a> Session<'a> {
 
     /// Refuses a request. The option is the one that it requires, if any.
     fn refuse(&mut self, sequence: Option<u64>, refusal: Refusal, option: &[u8]) -> Ask
-        requires hear { CanHear self.old }
+        requires rest { IsAtRest self.old }
         requires short { length option.now ≤ 16384 }
         requires line { is_one_line option.now ≡ true }
         ensures asks { AsksFor result self.new }

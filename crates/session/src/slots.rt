@@ -127,10 +127,9 @@ impl<'a> Session<'a> {
     /// [`LinkFault`] only where the link's count rose.
     pub fn slot<K: Link>(&mut self, t: u64, link: &mut K) -> Result<Slotted, LinkFault>
         requires rest { IsAtRest self.old }
-        requires lost { self.old.lost ≡ false }
         ensures heard { self.new.heard ≡ taken_up self.old.heard t }
         ensures brings { IfOk result (λ slotted. Brings slotted self.new) }
-        ensures kept { OnOk result (self.new.lost ≡ false) }
+        ensures kept { OnOk result (self.new.lost ≡ self.old.lost) }
         ensures lost { OnErr result (IsAtRest self.new) }
         ensures open { IsSameBooking (open_of self.old) (open_of self.new) }
         ensures receipts { self.new.receipts ≡ self.old.receipts }
@@ -181,9 +180,8 @@ impl<'a> Session<'a> {
     /// [`LinkFault`] only where the link's count rose.
     pub fn reply<K: Link>(&mut self, link: &mut K) -> Result<(), LinkFault>
         requires rest { IsAtRest self.old }
-        requires lost { self.old.lost ≡ false }
         ensures rest { IsAtRest self.new }
-        ensures kept { OnOk result (self.new.lost ≡ false) }
+        ensures kept { OnOk result (self.new.lost ≡ self.old.lost) }
         ensures heard { self.new.heard ≡ self.old.heard }
         ensures open { open_of self.new ≡ open_of self.old }
         ensures receipts { self.new.receipts ≡ self.old.receipts }
