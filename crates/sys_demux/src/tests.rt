@@ -1,3 +1,6 @@
+ghost use Rattle.std.specs.Prelude.{◌≤◌, ◌^◌, length, IfOk, MatchResult};
+ghost use Rattle.sys_demux.specs.Streams.{IsSystem, IsRefused};
+
 use super::*;
 use std::alloc::Global;
 use std::test::Fail;
@@ -12,15 +15,18 @@ const PACK: &[u8] = b"\0\0\x01\xba\x21\0\x01\0\x01\x80\0\x03";
 /// The code of the end.
 const END: &[u8] = b"\0\0\x01\xb9";
 
-/// The video of a stream that is fed in pieces of this size, and how it ends.
+/// The video of a stream that is fed in pieces of this size, and how it ends: what the bytes are, for every size.
 fn unwrapped(
     alloc: Global,
     bytes: &[u8],
     size: usize,
-) -> Result<(Vec<u8>, Result<(), SystemFault>), Fail> {
+) -> Result<(Vec<u8>, Result<(), SystemFault>), Fail>
+    requires { length bytes.now ≤ 2 ^ 40 }
+    ensures { IfOk result (λ r. MatchResult r.1 (λ _. IsSystem bytes.now r.0.items) (λ fault. IsRefused bytes.now fault)) }
+{
     let mut unwrapper = Unwrapper::new();
     let mut video = Vec::new(alloc);
-    let mut rest = &bytes[..bytes.len().min(1000)];
+    let mut rest = bytes;
     while !rest.is_empty() {
         let piece = &rest[..rest.len().min(size.max(1))];
         match unwrapper.feed(piece) {
@@ -51,7 +57,7 @@ fn unwraps_streams(rt: HostRuntime) -> Result<(), Fail> {
         bytes.extend_from_slice(FILM)?;
         bytes.extend_from_slice(end)?;
         for size in [1, 7, 1000] {
-            let (video, ended) = unwrapped(rt.alloc(), &bytes, size)?;
+            let (video, ended) = unwrapped(rt.alloc(), &bytes[..bytes.len().min(1000)], size)?;
             assert_eq!(rt; ended, Ok(()), "at {size}");
             assert_eq!(rt; video.as_slice(), FILM, "at {size}");
         }
@@ -79,7 +85,7 @@ fn refuses_streams(rt: HostRuntime) -> Result<(), Fail> {
         let mut bytes = Vec::from_slice(rt.alloc(), PACK)?;
         bytes.extend_from_slice(rest)?;
         for size in [1, 1000] {
-            let (_, ended) = unwrapped(rt.alloc(), &bytes, size)?;
+            let (_, ended) = unwrapped(rt.alloc(), &bytes[..bytes.len().min(1000)], size)?;
             assert_eq!(rt; ended, Err(fault), "at {size}");
         }
     }
