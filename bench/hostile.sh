@@ -1,0 +1,27 @@
+#!/bin/sh
+# Bad input over the socket while a good client plays: bench/hostile.sh [PROGRAM]
+#
+# PROGRAM is the built vodserve (default: ../crates/vodserve/out/vodserve). Needs python3 and ffmpeg, and about two
+# minutes, since the server waits a minute for a client that stops reading. One line an attack; ends with status 1 where
+# something isn't as it should be, and 2 where nothing could be tried. All files are made in a folder that is removed
+# again, and the server is stopped in any case.
+set -u
+here=$(cd "$(dirname "$0")" && pwd)
+program=$(realpath "${1:-$here/../crates/vodserve/out/vodserve}")
+for tool in python3 ffmpeg; do
+    command -v "$tool" >/dev/null || { echo "hostile.sh: $tool is missing; nothing is tried"; exit 2; }
+done
+[ -x "$program" ] || { echo "hostile.sh: no program $program"; exit 2; }
+"$program" serve >/dev/null 2>&1
+[ $? -eq 2 ] || { echo "hostile.sh: $program has no command serve"; exit 2; }
+
+folder=$(mktemp -d)
+trap 'rm -rf "$folder"' EXIT
+trap 'exit 130' INT TERM
+cd "$folder" || exit 2
+ffmpeg -v error -f lavfi -i testsrc2=size=352x288:rate=25 -t 8 -c:v mpeg1video -bf 2 -b:v 1150k -f mpeg1video film.mpg || exit 2
+# About 3 MB a second: the buffers of the connection are full after a few seconds.
+ffmpeg -v error -f lavfi -i nullsrc=size=352x288:rate=25,geq=random\(1\)*255:128:128 -t 2 -c:v mpeg1video -qscale:v 2 \
+    -f mpeg1video part.mpg || exit 2
+cat part.mpg part.mpg part.mpg part.mpg part.mpg part.mpg part.mpg part.mpg >large.mpg
+python3 "$here/hostile/attack.py" "$program" "$folder" film.mpg large.mpg

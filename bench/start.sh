@@ -1,0 +1,32 @@
+#!/bin/sh
+# From the start to the first answer with a film of 1 GiB: bench/start.sh [PROGRAM] [ROUNDS]
+#
+# PROGRAM is the built vodserve (default: ../crates/vodserve/out/vodserve). Needs python3 and ffmpeg, and about 1.1 GB in
+# the folder for temporary files, which is given back, and as much memory. The film is a short one of about 1.5 Mbit a
+# second many times behind itself, filled up to 1 GiB with zero bytes, which are bytes of the last slice. One byte more
+# has to be refused. Ends with status 2 where nothing could be tried. The server is stopped in any case.
+set -u
+here=$(cd "$(dirname "$0")" && pwd)
+program=$(realpath "${1:-$here/../crates/vodserve/out/vodserve}")
+rounds=${2:-3}
+for tool in python3 ffmpeg; do
+    command -v "$tool" >/dev/null || { echo "start.sh: $tool is missing; nothing is tried"; exit 2; }
+done
+[ -x "$program" ] || { echo "start.sh: no program $program"; exit 2; }
+"$program" serve >/dev/null 2>&1
+[ $? -eq 2 ] || { echo "start.sh: $program has no command serve"; exit 2; }
+
+folder=$(mktemp -d)
+trap 'rm -rf "$folder"' EXIT
+trap 'exit 130' INT TERM
+cd "$folder" || exit 2
+ffmpeg -v error -f lavfi -i testsrc2=size=352x288:rate=25 -t 6 -c:v mpeg1video -bf 2 -b:v 1500k -f mpeg1video part.mpg || exit 2
+limit=1073741824
+copies=$((limit / $(wc -c <part.mpg)))
+yes part.mpg | head -n "$copies" | xargs cat >film.mpg
+truncate -s "$limit" film.mpg
+python3 "$here/start/start.py" "$program" "$folder" film.mpg part.mpg "$copies" "$rounds" || exit 1
+
+truncate -s $((limit + 1)) film.mpg
+said=$(timeout 60 "$program" serve film=film.mpg workers=1 connections=1 2>&1)
+echo "  one byte more: status $?, $said"
