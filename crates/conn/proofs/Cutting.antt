@@ -1,0 +1,57 @@
+-- Lemmas on pieces, on what was sent, and on a seat, one step after another.
+use Rattle.std.proofs.Common.{◌≡◌, ℕ, ◌<◌, ◌≤◌, List, [], ◌++◌, length, drop, Ok, refl, ap, sym, ◌∙◌, subst, arith}
+use Rattle.std.proofs.lemmas.List.{append-nil, append_assoc, length-drop}
+use mathlib.Core.List.{IsPrefix}
+use Rattle.admission.specs.declared.entries.Entry.{Entry}
+use Rattle.interleave.specs.Streams.{AreCut, told_length, told_pieces}
+use Rattle.interleave.specs.Pieces.{IsFirst}
+use Rattle.interleave.specs.declared.pieces.Step.{Step}
+use Rattle.interleave.proofs.Streams.{next_pieces}
+use Rattle.station.specs.Seats.{Sitting, IsSameSeat}
+use Rattle.conn.specs.Events.{CutsOn}
+
+pub cuts_none : (input : List ℕ) → CutsOn input input
+cuts_none input = record { each = λ bytes pieces cut. (pieces, cut) }
+
+pub cuts_on : (a b c : List ℕ) → CutsOn a b → CutsOn b c → CutsOn a c
+cuts_on a b c first second = record { each = λ bytes pieces cut. let next = first.each bytes pieces cut in second.each bytes next.0 next.1 }
+
+-- the piece in front is dropped
+pub cuts_drop : (input rest : List ℕ) (step : Step) (n : ℕ) → IsFirst input (Ok step) → told_length (Ok step) ≡ n → rest ≡ drop n input → CutsOn input rest
+cuts_drop input rest step n first length_is dropped = record {
+  each = λ bytes pieces cut.
+      let is : drop (told_length (Ok step)) input ≡ rest = ap (λ k. drop k input) length_is ∙ sym dropped in
+      (pieces ++ told_pieces input (Ok step), subst (λ x. AreCut bytes (pieces ++ told_pieces input (Ok step)) x) is (next_pieces input (Ok step) first bytes pieces cut));
+}
+
+-- bytes came behind those that wait
+pub cuts_same : (old new : List ℕ) → new ≡ old → CutsOn old new
+cuts_same old new same = subst (CutsOn old) (sym same) (cuts_none old)
+
+-- what stands in front of the same bytes is the same step
+pub first_is : (b w : List ℕ) (s t : Step) → IsFirst b (Ok s) → w ≡ b → s ≡ t → IsFirst w (Ok t)
+first_is b w s t first same is = subst (λ x. IsFirst x (Ok t)) (sym same) (subst (λ x. IsFirst b (Ok x)) is first)
+
+prefix_on : (a b c : List Entry) → IsPrefix a b → IsPrefix b c → IsPrefix a c
+prefix_on a b c p q = (p.0 ++ q.0, sym (append_assoc a p.0 q.0) ∙ (ap (λ w. w ++ q.0) p.1 ∙ q.1))
+
+prefix_none : (a : List Entry) → IsPrefix a a
+prefix_none a = ([], append-nil a)
+
+pub seat_none : (seat : Sitting) → IsSameSeat seat seat
+seat_none seat = record { id = refl; steps = refl; limit = refl; number = refl; splits = refl; joined = refl; longer = prefix_none seat.seen }
+
+pub seat_on : (a b c : Sitting) → IsSameSeat a b → IsSameSeat b c → IsSameSeat a c
+seat_on a b c first second = record {
+  id = second.id ∙ first.id;
+  steps = second.steps ∙ first.steps;
+  limit = second.limit ∙ first.limit;
+  number = second.number ∙ first.number;
+  splits = second.splits ∙ first.splits;
+  joined = second.joined ∙ first.joined;
+  longer = prefix_on a.seen b.seen c.seen first.longer second.longer;
+}
+
+-- fewer bytes wait once a piece is gone
+pub fewer : (input rest : List ℕ) (n : ℕ) → 0 < n → n ≤ length input → rest ≡ drop n input → length rest < length input
+fewer input rest n some within dropped = omega (arith, some, within, ap length dropped, length-drop n input)

@@ -1,0 +1,135 @@
+-- Lemmas on what a connection makes of the journal, one call after another.
+use Rattle.std.proofs.Common.{◌≡◌, ℕ, ◌≤◌, List, [], ◌∷◌, ◌++◌, map, Option, Some, None, ◌==◌, true, if◌then◌else◌, refl, ap, sym, ◌∙◌, subst, arith}
+use Rattle.std.proofs.lemmas.List.{append-nil, append_assoc, map-append, length-append, get_or_append_left}
+use Rattle.std.proofs.lemmas.List.Sums.{fold-append}
+use Rattle.std.proofs.lemmas.List.Elements.{All-append, All-cons, All-nil}
+use Rattle.admission.specs.declared.entries.Command.{Command}
+use Rattle.admission.specs.declared.entries.Command.TheVariants.{Play, Halt, Look}
+use Rattle.admission.specs.declared.entries.Answer.TheVariants.{Admitted, Overflow, Halted, Looked}
+use Rattle.admission.specs.Histories.{Halts}
+use Rattle.admission.specs.Makers.{Placed, Admits, IsOpenAmong}
+use Rattle.session.specs.declared.notes.Receipt.{Receipt}
+use Rattle.session.specs.declared.notes.Receipt.TheVariants.{Entry as EntryReceipt, Full as FullReceipt}
+use Rattle.plan_cert.specs.declared.Segment.{Segment}
+use Rattle.plan_cert.specs.Slots.{total_bytes}
+use Rattle.session.specs.Standings.{Open, IsSameBooking}
+use Rattle.station.specs.declared.answers.Booking.{Booking}
+use Rattle.conn.specs.Keeping.{Business, HasGone, IsHeld, entry_receipts, receipt_for, Closed, Broken, course_with, course_from, course_of}
+
+entry_receipts-append : (xs ys : List Receipt) → entry_receipts (xs ++ ys) ≡ entry_receipts xs ++ entry_receipts ys
+entry_receipts-append [] ys = refl
+entry_receipts-append (EntryReceipt place answer ∷ xs) ys = ap (λ rs. EntryReceipt place answer ∷ rs) (entry_receipts-append xs ys)
+entry_receipts-append (FullReceipt entries live ∷ xs) ys = entry_receipts-append xs ys
+
+-- no entry was made, and the receipts tell none
+pub gone_none : (old new : Business) (full : List Receipt) → new.mine ≡ old.mine → new.booking ≡ old.booking → new.receipts ≡ old.receipts ++ full → entry_receipts full ≡ [] →
+    HasGone old new
+gone_none old new full mine booking receipts none = record {
+  made = [];
+  mine_is = mine ∙ sym (append-nil old.mine);
+  receipts_are = ap entry_receipts receipts ∙ entry_receipts-append old.receipts full ∙ ap (λ rs. entry_receipts old.receipts ++ rs) none;
+  course_is = ap course_of (sym booking);
+}
+
+-- nothing was answered
+pub gone_still : (old new : Business) → new.mine ≡ old.mine → new.booking ≡ old.booking → new.receipts ≡ old.receipts → HasGone old new
+gone_still old new mine booking receipts = gone_none old new [] mine booking (receipts ∙ sym (append-nil old.receipts)) refl
+
+-- one entry was made
+pub gone_one : (old new : Business) (placed : Placed) → new.mine ≡ old.mine ++ placed ∷ [] → new.receipts ≡ old.receipts ++ receipt_for placed ∷ [] →
+    course_with (course_of old.booking) placed ≡ course_of new.booking → HasGone old new
+gone_one old new placed mine receipts course = record {
+  made = placed ∷ [];
+  mine_is = mine;
+  receipts_are = ap entry_receipts receipts ∙ entry_receipts-append old.receipts (receipt_for placed ∷ []);
+  course_is = course;
+}
+
+-- one after the other
+pub gone_on : (a b c : Business) → HasGone a b → HasGone b c → HasGone a c
+gone_on a b c first second = record {
+  made = first.made ++ second.made;
+  mine_is = second.mine_is ∙ ap (λ xs. xs ++ second.made) first.mine_is ∙ append_assoc a.mine first.made second.made;
+  receipts_are = second.receipts_are ∙ ap (λ xs. xs ++ map receipt_for second.made) first.receipts_are
+      ∙ append_assoc (entry_receipts a.receipts) (map receipt_for first.made) (map receipt_for second.made)
+      ∙ ap (λ xs. entry_receipts a.receipts ++ xs) (sym (map-append receipt_for first.made second.made));
+  course_is = fold-append course_with (course_of a.booking) first.made second.made
+      ∙ ap (λ course. course_from course second.made) first.course_is ∙ second.course_is;
+}
+
+-- a play stays open as an entry is made that doesn't halt it
+open_among_more : (mine : List Placed) (placed : Placed) (number keep : ℕ) → ¬ Halts number placed.entry.command → IsOpenAmong mine number keep →
+    IsOpenAmong (mine ++ placed ∷ []) number keep
+open_among_more mine placed number keep other among = record {
+  start = among.start;
+  segments = among.segments;
+  index = among.index;
+  inside = omega (arith, among.inside, length-append mine (placed ∷ []));
+  admission = λ none. subst (λ (p : Placed). Admits p number among.start among.segments)
+      (sym (get_or_append_left mine (placed ∷ []) none among.index among.inside)) (among.admission none);
+  unhalted = All-append (λ (p : Placed). ¬ Halts number p.entry.command) mine (placed ∷ []) among.unhalted
+      (All-cons (λ (p : Placed). ¬ Halts number p.entry.command) placed [] other (All-nil (λ (p : Placed). ¬ Halts number p.entry.command)));
+  small = among.small;
+}
+
+-- a booking is held as a look is noted
+pub held_at_look : (mine : List Placed) (placed : Placed) (slot : ℕ) (booking : Option Booking) (play : Option Open) → placed.entry.command ≡ Look slot →
+    IsHeld mine booking play → IsHeld (mine ++ placed ∷ []) booking play
+held_at_look mine placed slot None None is held = held
+held_at_look mine placed slot None (Some play) is held = held
+held_at_look mine placed slot (Some booking) None is held = held
+held_at_look mine placed slot (Some booking) (Some play) is held =
+    λ keep small. open_among_more mine placed booking.number keep (subst (λ (c : Command). ¬ Halts booking.number c) (sym is) (λ h. h)) (held keep small)
+
+-- a booking is held as more of its plan becomes due
+pub held_same : (mine : List Placed) (booking : Option Booking) (old new : Option Open) → IsSameBooking old new → IsHeld mine booking old → IsHeld mine booking new
+held_same mine booking None new same held = subst (IsHeld mine booking) (sym same) held
+held_same mine booking (Some old) None same held = absurd same
+held_same mine None (Some old) (Some new) same held = held
+held_same mine (Some booking) (Some old) (Some new) same held =
+    λ keep small. held keep (subst (λ (plan : List Segment). keep ≤ total_bytes plan) same.0 small)
+
+-- the calls at the station, each with what it leaves
+pub gone_full : (old new : Business) (entries live : ℕ) → new.mine ≡ old.mine → new.booking ≡ old.booking →
+    new.receipts ≡ old.receipts ++ FullReceipt entries live ∷ [] → HasGone old new
+gone_full old new entries live mine booking receipts = gone_none old new (FullReceipt entries live ∷ []) mine booking receipts refl
+
+at_look : (booking : Option Booking) (maker place slot now at booked : ℕ) →
+    course_with (course_of booking) (record { place = place; entry = record { maker = maker; command = Look slot; answer = Looked now at booked } }) ≡ course_of booking
+at_look None maker place slot now at booked = refl
+at_look (Some booking) maker place slot now at booked = refl
+
+pub gone_look : (old new : Business) (maker place slot now at booked : ℕ) → new.booking ≡ old.booking →
+    new.mine ≡ old.mine ++ record { place = place; entry = record { maker = maker; command = Look slot; answer = Looked now at booked } } ∷ [] →
+    new.receipts ≡ old.receipts ++ EntryReceipt place (Looked now at booked) ∷ [] → HasGone old new
+gone_look old new maker place slot now at booked same mine receipts =
+    gone_one old new _ mine receipts (at_look old.booking maker place slot now at booked ∙ ap course_of (sym same))
+
+pub gone_overflow : (old new : Business) (maker place slot : ℕ) (plan : List Segment) (over booked asked : ℕ) → old.booking ≡ None → new.booking ≡ old.booking →
+    new.mine ≡ old.mine ++ record { place = place; entry = record { maker = maker; command = Play slot plan; answer = Overflow over booked asked } } ∷ [] →
+    new.receipts ≡ old.receipts ++ EntryReceipt place (Overflow over booked asked) ∷ [] → HasGone old new
+gone_overflow old new maker place slot plan over booked asked none same mine receipts =
+    gone_one old new _ mine receipts (ap (λ b. course_with (course_of b) (record { place = place; entry = record { maker = maker; command = Play slot plan; answer = Overflow over booked asked } })) none
+    ∙ ap course_of (sym (same ∙ none)))
+
+pub gone_play : (old new : Business) (maker slot : ℕ) (plan : List Segment) (made : Booking) → old.booking ≡ None → new.booking ≡ Some made →
+    new.mine ≡ old.mine ++ record { place = made.number; entry = record { maker = maker; command = Play slot plan; answer = Admitted made.start } } ∷ [] →
+    new.receipts ≡ old.receipts ++ EntryReceipt made.number (Admitted made.start) ∷ [] → HasGone old new
+gone_play old new maker slot plan made none some mine receipts =
+    gone_one old new _ mine receipts (ap (λ b. course_with (course_of b) (record { place = made.number; entry = record { maker = maker; command = Play slot plan; answer = Admitted made.start } })) none
+    ∙ ap course_of (sym some))
+
+at_halt : (number : ℕ) → (if number == number then Closed else Broken) ≡ Closed
+at_halt number = let same : (number == number) ≡ true = grind arith in ap (λ b. if b then Closed else Broken) same
+
+pub gone_halt : (old new : Business) (maker place keep : ℕ) (made : Booking) → old.booking ≡ Some made → new.booking ≡ None →
+    new.mine ≡ old.mine ++ record { place = place; entry = record { maker = maker; command = Halt made.number keep; answer = Halted } } ∷ [] →
+    new.receipts ≡ old.receipts ++ EntryReceipt place Halted ∷ [] → HasGone old new
+gone_halt old new maker place keep made some none mine receipts =
+    gone_one old new _ mine receipts (ap (λ b. course_with (course_of b) (record { place = place; entry = record { maker = maker; command = Halt made.number keep; answer = Halted } })) some
+    ∙ at_halt made.number ∙ ap course_of (sym none))
+
+-- no booking is held where the session has none open
+pub held_none : (mine : List Placed) (booking : Option Booking) (play : Option Open) → play ≡ None → IsHeld mine booking play → booking ≡ None
+held_none mine None play none held = refl
+held_none mine (Some booking) play none held = absurd (subst (IsHeld mine (Some booking)) none held)

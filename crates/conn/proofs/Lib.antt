@@ -1,0 +1,4 @@
+pub mod Cutting
+pub mod Going
+pub mod Workers
+pub mod Taking

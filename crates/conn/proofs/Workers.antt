@@ -1,0 +1,119 @@
+-- Lemmas on a worker's connections, one after another.
+use Rattle.std.proofs.Common.{◌≡◌, ℕ, ◌+◌, ◌<◌, List, [], ◌∷◌, ◌++◌, length, map, get_or, Option, Some, None, option_map, refl, ap, sym, ◌∙◌, subst, arith, inl, inr}
+use Rattle.std.specs.Prelude.{IfSome}
+use Rattle.std.proofs.lemmas.List.{append-nil, append_assoc, map-append, length-append, get_or_append_left}
+use Rattle.std.proofs.lemmas.List.Sums.{fold-append}
+use Rattle.std.proofs.Math.Seq.{get_or-append_seam}
+use Rattle.std.proofs.lemmas.Bool.{cases_lt}
+use Rattle.vod_base.specs.Gates.{Content, Returned, LastTake, HasOut, gave, gave_none, got_back}
+use Rattle.admission.specs.Makers.{Placed}
+use Rattle.session.specs.declared.notes.Receipt.{Receipt}
+use Rattle.station.specs.declared.answers.Booking.{Booking}
+use Rattle.conn.specs.declared.reports.ConnReport.{ConnReport}
+use Rattle.conn.specs.Keeping.{HasGone, Closed, at_rest, course_from, course_of, course_with, entry_receipts, receipt_for}
+use Rattle.conn.specs.Parts.{IsUntouched, IsServed, AreOf, entries_told, HasServed}
+use Rattle.conn.specs.Words.{words_of}
+
+-- a connection from beginning to end: no booking is open before and after
+pub gone_whole : (mine new : List Placed) (booking next : Option Booking) (receipts told lists : List Receipt) → booking ≡ None → receipts ≡ [] → next ≡ None → lists ≡ told →
+    HasGone (record { mine = mine; booking = booking; receipts = receipts }) (record { mine = new; booking = next; receipts = told }) → HasGone (at_rest mine []) (at_rest new lists)
+gone_whole mine new booking next receipts told lists closed none open_none same gone = record {
+  made = gone.made;
+  mine_is = gone.mine_is;
+  receipts_are = ap entry_receipts same ∙ gone.receipts_are ∙ ap (λ rs. entry_receipts rs ++ map receipt_for gone.made) none;
+  course_is = ap (λ b. course_from (course_of b) gone.made) (sym closed) ∙ gone.course_is ∙ ap course_of open_none;
+}
+
+pub served_none : (part : Option Content) → IfSome part IsUntouched → IsServed part part 0
+served_none None untouched = refl
+served_none (Some part) untouched = record {
+  opening = refl;
+  parts = refl;
+  number = refl;
+  given = untouched.given;
+  back = ap length untouched.back;
+}
+
+pub served_out : (old mid new : Option Content) (count : ℕ) → IsServed old mid count → new ≡ option_map gave mid → IfSome new HasOut
+served_out None mid new count served is = subst (λ c. IfSome c HasOut) (sym (is ∙ ap (option_map gave) served)) tt
+served_out (Some old) None new count served is = absurd served
+served_out (Some old) (Some mid) new count served is =
+    subst (λ c. IfSome c HasOut) (sym is) (omega (arith, served.given, served.back))
+
+pub served_one : (old mid taken new : Option Content) (count : ℕ) (conn : Returned) → IsServed old mid count → taken ≡ option_map gave mid →
+    new ≡ option_map (got_back conn) taken → IsServed old new (count + 1)
+served_one None mid taken new count conn served is back = back ∙ ap (option_map (got_back conn)) (is ∙ ap (option_map gave) served)
+served_one (Some old) None taken new count conn served is back = absurd served
+served_one (Some old) (Some mid) taken new count conn served is back =
+    subst (λ c. IsServed (Some old) c (count + 1)) (sym (back ∙ ap (option_map (got_back conn)) is)) (record {
+      opening = served.opening;
+      parts = served.parts;
+      number = served.number;
+      given = ap (λ n. n + 1) served.given;
+      back = length-append mid.own.back (conn ∷ []) ∙ ap (λ n. n + 1) served.back;
+    })
+
+pub served_last : (old mid new : Option Content) (count : ℕ) (last : LastTake) → IsServed old mid count → new ≡ option_map (gave_none last) mid → IsServed old new count
+served_last None mid new count last served is = is ∙ ap (option_map (gave_none last)) served
+served_last (Some old) None new count last served is = absurd served
+served_last (Some old) (Some mid) new count last served is =
+    subst (λ c. IsServed (Some old) c count) (sym is) (record {
+      opening = served.opening;
+      parts = served.parts;
+      number = served.number;
+      given = served.given;
+      back = served.back;
+    })
+
+pub told_last : (mid new : Option Content) (last : LastTake) → new ≡ option_map (gave_none last) mid → IfSome new (λ c. c.own.last ≡ last)
+told_last None new last is = subst (λ c. IfSome c (λ (p : Content). p.own.last ≡ last)) (sym is) tt
+told_last (Some mid) new last is = subst (λ c. IfSome c (λ (p : Content). p.own.last ≡ last)) (sym is) refl
+
+pub are_none : (seed : List ℕ) (worker : ℕ) (reports : List ConnReport) → reports ≡ [] → AreOf seed worker reports
+are_none seed worker reports none = subst (AreOf seed worker) (sym none) (record {
+  worker_is = λ k d h. absurd (omega (arith, h));
+  words_are = λ k d h. absurd (omega (arith, h));
+})
+
+entries_told-append : (xs ys : List ConnReport) → entries_told (xs ++ ys) ≡ entries_told xs ++ entries_told ys
+entries_told-append [] ys = refl
+entries_told-append (x ∷ xs) ys =
+    ap (λ rs. entry_receipts x.receipts.items ++ rs) (entries_told-append xs ys)
+    ∙ sym (append_assoc (entry_receipts x.receipts.items) (entries_told xs) (entries_told ys))
+
+pub has_none : (mine : List Placed) (reports : List ConnReport) → reports ≡ [] → HasServed mine reports mine
+has_none mine reports none = record {
+  made = [];
+  mine_is = sym (append-nil mine);
+  receipts_are = ap entries_told none;
+  course_is = refl;
+}
+
+pub has_one : (mine mid new : List Placed) (reports more : List ConnReport) (report : ConnReport) → HasServed mine reports mid →
+    HasGone (at_rest mid []) (at_rest new report.receipts.items) → more ≡ reports ++ report ∷ [] → HasServed mine more new
+has_one mine mid new reports more report served gone is = record {
+  made = served.made ++ gone.made;
+  mine_is = gone.mine_is ∙ ap (λ xs. xs ++ gone.made) served.mine_is ∙ append_assoc mine served.made gone.made;
+  receipts_are = ap entries_told is ∙ entries_told-append reports (report ∷ [])
+      ∙ ap (λ rs. entries_told reports ++ rs) (append-nil (entry_receipts report.receipts.items) ∙ gone.receipts_are)
+      ∙ ap (λ rs. rs ++ map receipt_for gone.made) served.receipts_are ∙ sym (map-append receipt_for served.made gone.made);
+  course_is = fold-append course_with Closed served.made gone.made ∙ ap (λ course. course_from course gone.made) served.course_is ∙ gone.course_is;
+}
+
+at_end : (P : ConnReport → ℕ → Type 0) (reports : List ConnReport) (report : ConnReport) → ((k : ℕ) (none : ConnReport) → k < length reports → P (get_or reports k none) k) →
+    P report (length reports) → (k : ℕ) (none : ConnReport) → k < length (reports ++ report ∷ []) → P (get_or (reports ++ report ∷ []) k none) k
+at_end P reports report each here k none within =
+    elim (cases_lt k (length reports)) [
+      | inl before ↦ subst (λ r. P r k) (sym (get_or_append_left reports (report ∷ []) none k before)) (each k none before)
+      | inr after ↦
+          let is : length reports ≡ k = omega (arith, after, within, length-append reports (report ∷ [])) in
+          subst (λ n. P (get_or (reports ++ report ∷ []) n none) n) is
+          (subst (λ r. P r (length reports)) (sym (get_or-append_seam reports report [] none)) here)
+    ]
+
+pub are_more : (seed : List ℕ) (worker : ℕ) (reports more : List ConnReport) (report : ConnReport) → AreOf seed worker reports → report.worker ≡ worker →
+    report.words ≡ words_of seed worker (length reports) → more ≡ reports ++ report ∷ [] → AreOf seed worker more
+are_more seed worker reports more report are number words is = subst (AreOf seed worker) (sym is) (record {
+  worker_is = at_end (λ r k. r.worker ≡ worker) reports report are.worker_is number;
+  words_are = at_end (λ r k. r.words ≡ words_of seed worker k) reports report are.words_are words;
+})

@@ -1,0 +1,11 @@
+use Rattle.std.proofs.Common.{rules}
+use Rattle.conn.specs.Keeping.{business}
+use Rattle.conn.proofs.Going.{gone_halt}
+use Rattle.conn.proofs.connections.Connection.halt.Goals as goal
+
+pub returns-clause-gone : goal.returns-clause-gone
+returns-clause-gone g c =
+    gone_halt (business c.args.seat.now.mine c.args.self.now)
+    (business c.halt-place.new.seat.mine (record { session = c.halted.new.self; input = c.args.self.now.input; booking = c.replace.new.dest }))
+    c.args.seat.now.number c.halt-place.result c.args.keep c.in-Some.booking (search rules) (search rules) c.halt-place.ensures.made.mine
+    c.halted.ensures.handed.receipts

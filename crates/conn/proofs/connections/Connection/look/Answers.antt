@@ -1,0 +1,17 @@
+use Rattle.std.proofs.Common.{refl}
+use Rattle.conn.specs.Keeping.{business}
+use Rattle.conn.proofs.Going.{gone_look, gone_full}
+use Rattle.conn.proofs.connections.Connection.look.Goals as goal
+
+pub returns-in-Ok-clause-gone : goal.returns-in-Ok-clause-gone
+returns-in-Ok-clause-gone g c =
+    gone_look (business c.args.seat.now.mine c.args.self.now)
+    (business c.look.new.seat.mine (record { session = c.looked.new.self; input = c.args.self.now.input; booking = c.args.self.now.booking }))
+    _ c.in-Ok.looked.place _ c.in-Ok.looked.now c.in-Ok.looked.at c.in-Ok.looked.booked refl c.in-Ok.ensures.made.mine
+    c.looked.ensures.handed.receipts
+
+pub returns-in-Err-clause-gone : goal.returns-in-Err-clause-gone
+returns-in-Err-clause-gone g c =
+    gone_full (business c.args.seat.now.mine c.args.self.now)
+    (business c.look.new.seat.mine (record { session = c.full.new.self; input = c.args.self.now.input; booking = c.args.self.now.booking }))
+    c.in-Err.full.entries c.in-Err.full.live c.in-Err.ensures.full.mine refl c.full.ensures.handed.receipts

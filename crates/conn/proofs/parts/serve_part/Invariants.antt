@@ -1,0 +1,12 @@
+use Rattle.std.proofs.Common.{◌≤◌, length}
+use Rattle.station.specs.Seats.{IsSameSeat}
+use Rattle.conn.specs.Parts.{AreOf, HasServed, IsServed}
+use Rattle.conn.proofs.parts.serve_part.Given as goal
+
+abbrev pub invariant-connections : goal.invariant-connections
+invariant-connections g l =
+    IsSameSeat l.initial.seat l.seat
+    × HasServed l.initial.seat.mine l.reports.items l.seat.mine
+    × AreOf l.seed l.worker l.reports.items
+    × IsServed (g.G.Gate.told l.initial.part) (g.G.Gate.told l.part) (length l.reports.items)
+    × (g.G.Gate.faults l.initial.part ≤ g.G.Gate.faults l.part)

@@ -1,0 +1,12 @@
+use Rattle.std.proofs.Common.{◌≡◌, false}
+use Rattle.conn.specs.Keeping.{HasGone, IsQuiet, business}
+use Rattle.station.specs.Seats.{IsSameSeat}
+use Rattle.conn.proofs.serving.hear_all.Given as goal
+
+abbrev pub invariant-events : goal.invariant-events
+invariant-events g l =
+    IsSameSeat l.initial.seat l.seat
+    × IsQuiet l.seat.mine l.connection
+    × HasGone (business l.initial.seat.mine l.initial.connection) (business l.seat.mine l.connection)
+    × (l.connection.session.torn ≡ false)
+    × (l.connection.session.lost ≡ false)

@@ -1,0 +1,58 @@
+-- What an event brings: what was taken up, and how the connection ended, if it did.
+use Rattle.std.specs.Prelude.{◌≡◌, ℕ, ◌+◌, ◌<◌, ◌⊎◌, ◌++◌, ⊤, true, false, if◌then◌else◌, nat_lt, List, length, take, Option, Some, None, Ok, Err}
+use Rattle.vod_base.specs.declared.links.Heard.{Heard}
+use Rattle.vod_base.specs.declared.links.Heard.TheVariants.{Bytes, Slot, End as PeerEnd}
+use Rattle.interleave.specs.Pieces.{IsFirst}
+use Rattle.interleave.specs.Streams.{AreCut}
+use Rattle.interleave.specs.declared.pieces.Step.TheVariants.{Request, More}
+use Rattle.interleave.specs.declared.pieces.DemuxFault.{DemuxFault}
+use Rattle.interleave.specs.declared.pieces.DemuxFault.TheVariants.{HeadTooLong as LongHead, BodyTooLong as LongBody}
+use Rattle.conn.specs.declared.connections.Connection.{Connection}
+use Rattle.conn.specs.declared.connections.Taken.{Taken}
+use Rattle.conn.specs.declared.connections.Taken.TheVariants.{Gone, Waits, End}
+use Rattle.conn.specs.declared.reports.ConnEnd.{ConnEnd}
+use Rattle.conn.specs.declared.reports.ConnEnd.TheVariants.{Ended, TornDown, LinkFault, TooMuchInput, HeadTooLong, BodyTooLong, TurnsSpent, NoMemory}
+
+-- a framing fault as the end of a connection
+abbrev pub IsEndOf : DemuxFault → ConnEnd → Type 0
+IsEndOf LongHead end = end ≡ HeadTooLong
+IsEndOf LongBody end = end ≡ BodyTooLong
+
+-- nothing more can be taken up: no whole piece waits, or a request waits for a reply that isn't sent
+abbrev pub IsWaiting : Connection → Type 0
+IsWaiting c = IsFirst c.input (Ok More) ⊎ ((n : ℕ) × (IsFirst c.input (Ok (Request n)) × (c.session.waits ≡ true)))
+
+-- what waits was taken up, and the connection goes on; or it ended, for this cause
+abbrev pub IsTakenUp : Option ConnEnd → Connection → Type 0
+IsTakenUp None c = (c.session.torn ≡ false) × (c.session.lost ≡ false) × IsWaiting c
+IsTakenUp (Some TornDown) c = c.session.torn ≡ true
+IsTakenUp (Some LinkFault) c = ⊤
+IsTakenUp (Some HeadTooLong) c = IsFirst c.input (Err LongHead)
+IsTakenUp (Some BodyTooLong) c = IsFirst c.input (Err LongBody)
+IsTakenUp (Some Ended) c = ⊥
+IsTakenUp (Some TooMuchInput) c = ⊥
+IsTakenUp (Some TurnsSpent) c = ⊥
+IsTakenUp (Some NoMemory) c = ⊥
+
+-- an event was taken up, where so many bytes waited before it
+abbrev pub HasHeard : Heard → ℕ → Option ConnEnd → Connection → Type 0
+HasHeard PeerEnd waiting end c = end ≡ Some Ended
+HasHeard (Slot slot) waiting end c = IsTakenUp end c
+HasHeard (Bytes n) waiting end c =
+    ((131072 < waiting + n) × (end ≡ Some TooMuchInput)) ⊎ ((waiting + n < 131073) × IsTakenUp end c)
+
+-- however bytes were cut into pieces and this rest, they are cut into pieces and that one too
+pub record CutsOn (old new : List ℕ) : Type 0 where
+  pub each : (bytes : List ℕ) (pieces : List (List ℕ)) → AreCut bytes pieces old → (more : List (List ℕ)) × AreCut bytes more new
+
+-- what waits, with the bytes that an event brought; where too many would wait, without them
+abbrev pub with_heard : List ℕ → Heard → List ℕ → List ℕ
+with_heard input (Bytes n) into = if nat_lt 131072 (length input + n) then input else input ++ take n into
+with_heard input (Slot slot) into = input
+with_heard input PeerEnd into = input
+
+-- what came of the piece in front: it was taken up and is gone; nothing more can be taken up; or the connection ended
+abbrev pub IsTaken : Taken → ℕ → Connection → Type 0
+IsTaken Gone waiting c = (c.session.lost ≡ false) × (length c.input < waiting)
+IsTaken Waits waiting c = IsTakenUp None c
+IsTaken (End end) waiting c = IsTakenUp (Some end) c

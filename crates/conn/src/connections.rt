@@ -1,0 +1,372 @@
+//! A connection as it goes on: its input, its session, and the booking that is open for it.
+
+ghost use Rattle.std.specs.Prelude.{◌≡◌, ◌≤◌, false, None, [], drop, length as list_length, IfOk, OnOk, OnErr};
+ghost use Rattle.vod_base.specs.Links.{IsWithin};
+ghost use Rattle.interleave.specs.Pieces.{IsRequestLength};
+ghost use Rattle.station.specs.Seats.{IsSameSeat};
+ghost use Rattle.session.specs.Standings.{AreFilms, AreSettings, CanKeep, IsAtRest, IsHalt, PlayAnswer, LookAnswer, OfferAnswer, awaits, open_of};
+ghost use Rattle.conn.specs.Keeping.{HasGone, IsHeld, IsQuiet, business};
+ghost use Rattle.conn.specs.Events.{CutsOn, HasHeard, IsEndOf, IsTaken, IsTakenUp, with_heard};
+
+use crate::reports::ConnEnd;
+use early_start::Offers;
+use film_frames::Stored;
+use interleave::{Demux, DemuxFault, Step};
+use plan_cert::Plan;
+use session::{Ask, Notes, Session, Settings, Slotted};
+use station::{Booking, PlayRefused, Seat, Station};
+use std::alloc::Global;
+use std::mem;
+use std::sync::Wait;
+use vod_base::{Heard, Link, LinkFault, NoMemory};
+
+/// A connection between two events.
+pub(crate) struct Connection<'a> {
+    session: Session<'a>,
+    input: Demux,
+    booking: Option<Booking>,
+}
+
+impl<'a> Connection<'a> {
+    /// A connection that heard nothing yet.
+    pub(crate) fn new(
+        alloc: Global,
+        films: &'a [Stored],
+        settings: &Settings,
+        words: [u32; 5],
+    ) -> Result<Connection<'a>, NoMemory>
+        requires settings { AreSettings settings.now }
+        requires films { AreFilms films.now }
+        ensures input { IfOk result (λ connection. connection.input ≡ []) }
+        ensures booking { IfOk result (λ connection. connection.booking ≡ None) }
+        ensures session { IfOk result (λ connection. IsAtRest connection.session) }
+        ensures open { IfOk result (λ connection. open_of connection.session ≡ None) }
+        ensures receipts { IfOk result (λ connection. connection.session.receipts ≡ []) }
+        ensures waits { IfOk result (λ connection. connection.session.waits ≡ false) }
+        ensures torn { IfOk result (λ connection. connection.session.torn ≡ false) }
+        ensures lost { IfOk result (λ connection. connection.session.lost ≡ false) }
+    {
+        let input = Demux::new(alloc)?;
+        let session = Session::new(alloc, films, *settings, words)?;
+        Ok(Connection {
+            session,
+            input,
+            booking: None,
+        })
+    }
+
+    /// Takes up an event, and answers how it ended the connection, if it did. The bytes that came stand in front of `bytes`.
+    pub(crate) fn hear<R: Wait, K: Link>(
+        &mut self,
+        rt: &R,
+        station: &Station,
+        seat: &mut Seat,
+        link: &mut K,
+        heard: Heard,
+        bytes: &[u8],
+    ) -> Option<ConnEnd>
+        requires seat { seat.old.id ≡ station.now.id }
+        requires quiet { IsQuiet seat.old.mine self.old }
+        requires torn { self.old.session.torn ≡ false }
+        requires heard { IsWithin heard (list_length bytes.now) }
+        requires lost { self.old.session.lost ≡ false }
+        ensures seat { IsSameSeat seat.old seat.new }
+        ensures quiet { IsQuiet seat.new.mine self.new }
+        ensures gone { HasGone (business seat.old.mine self.old) (business seat.new.mine self.new) }
+        ensures cut { CutsOn (with_heard self.old.input heard bytes.now) self.new.input }
+        ensures taken { HasHeard heard (list_length self.old.input) result self.new }
+    {
+        match heard {
+            Heard::End => Some(ConnEnd::Ended),
+            Heard::Bytes(count) => {
+                if self.input.put(&bytes[..count]).is_err() {
+                    return Some(ConnEnd::TooMuchInput);
+                }
+                self.take_up(rt, station, seat, link)
+            }
+            Heard::Slot(slot) => {
+                if self.step(rt, station, seat, link, slot).is_err() {
+                    return Some(ConnEnd::LinkFault);
+                }
+                self.take_up(rt, station, seat, link)
+            }
+        }
+    }
+
+    /// Takes up a slot: what is due is sent, a waiting reply goes out, and a play that is done is halted.
+    #[tactic(auto, using(crate::proofs::Going::gone_still, crate::proofs::Going::gone_on, crate::proofs::Going::held_same))]
+    fn step<R: Wait, K: Link>(
+        &mut self,
+        rt: &R,
+        station: &Station,
+        seat: &mut Seat,
+        link: &mut K,
+        slot: u64,
+    ) -> Result<(), LinkFault>
+        requires seat { seat.old.id ≡ station.now.id }
+        requires quiet { IsQuiet seat.old.mine self.old }
+        requires lost { self.old.session.lost ≡ false }
+        ensures seat { IsSameSeat seat.old seat.new }
+        ensures quiet { IsQuiet seat.new.mine self.new }
+        ensures gone { HasGone (business seat.old.mine self.old) (business seat.new.mine self.new) }
+        ensures input { self.new.input ≡ self.old.input }
+        ensures lost { OnOk result (self.new.session.lost ≡ false) }
+    {
+        match self.session.slot(slot, link)? {
+            Slotted::Going => {}
+            Slotted::Finished(keep) => self.halt(rt, station, seat, keep),
+        }
+        Ok(())
+    }
+
+    /// Takes up what waits, and answers how it ended the connection, if it did.
+    fn take_up<R: Wait, K: Link>(
+        &mut self,
+        rt: &R,
+        station: &Station,
+        seat: &mut Seat,
+        link: &mut K,
+    ) -> Option<ConnEnd>
+        requires seat { seat.old.id ≡ station.now.id }
+        requires quiet { IsQuiet seat.old.mine self.old }
+        requires lost { self.old.session.lost ≡ false }
+        ensures seat { IsSameSeat seat.old seat.new }
+        ensures quiet { IsQuiet seat.new.mine self.new }
+        ensures gone { HasGone (business seat.old.mine self.old) (business seat.new.mine self.new) }
+        ensures cut { CutsOn self.old.input self.new.input }
+        ensures taken { IsTakenUp result self.new }
+    {
+        'pieces: loop {
+            match self.take_next(rt, station, seat, link) {
+                Taken::Gone => {}
+                Taken::Waits => return None,
+                Taken::End(end) => return Some(end),
+            }
+        }
+    }
+
+    /// Takes up the piece in front. A request is taken up only where no reply waits, and none is once a TEARDOWN was answered 200.
+    fn take_next<R: Wait, K: Link>(
+        &mut self,
+        rt: &R,
+        station: &Station,
+        seat: &mut Seat,
+        link: &mut K,
+    ) -> Taken
+        requires seat { seat.old.id ≡ station.now.id }
+        requires quiet { IsQuiet seat.old.mine self.old }
+        requires lost { self.old.session.lost ≡ false }
+        ensures seat { IsSameSeat seat.old seat.new }
+        ensures quiet { IsQuiet seat.new.mine self.new }
+        ensures gone { HasGone (business seat.old.mine self.old) (business seat.new.mine self.new) }
+        ensures cut { CutsOn self.old.input self.new.input }
+        ensures taken { IsTaken result (list_length self.old.input) self.new }
+    {
+        if self.session.torn() {
+            return Taken::End(ConnEnd::TornDown);
+        }
+        match self.input.look() {
+            Err(fault) => Taken::End(end_of(fault)),
+            Ok(Step::More) => Taken::Waits,
+            Ok(Step::Skip(count)) => {
+                self.input.drop_front(count);
+                Taken::Gone
+            }
+            Ok(Step::Block(_, count)) => {
+                self.input.drop_front(count);
+                Taken::Gone
+            }
+            Ok(Step::Request(length)) => {
+                if self.session.waits() {
+                    return Taken::Waits;
+                }
+                self.take_request(rt, station, seat, length);
+                if self.session.reply(link).is_err() {
+                    return Taken::End(ConnEnd::LinkFault);
+                }
+                Taken::Gone
+            }
+        }
+    }
+
+    /// Takes up the request in front, which has this length.
+    fn take_request<R: Wait>(&mut self, rt: &R, station: &Station, seat: &mut Seat, length: usize)
+        requires seat { seat.old.id ≡ station.now.id }
+        requires quiet { IsQuiet seat.old.mine self.old }
+        requires waits { self.old.session.waits ≡ false }
+        requires torn { self.old.session.torn ≡ false }
+        requires whole { IsRequestLength self.old.input length }
+        requires within { length ≤ list_length self.old.input }
+        requires lost { self.old.session.lost ≡ false }
+        ensures seat { IsSameSeat seat.old seat.new }
+        ensures quiet { IsQuiet seat.new.mine self.new }
+        ensures gone { HasGone (business seat.old.mine self.old) (business seat.new.mine self.new) }
+        ensures input { self.new.input ≡ drop length self.old.input }
+        ensures lost { self.new.session.lost ≡ self.old.session.lost }
+    {
+        let ask = self.session.hear(&self.input.waiting()[..length]);
+        self.input.drop_front(length);
+        match ask {
+            Ask::Reply => {}
+            Ask::Play(plan) => self.play(rt, station, seat, plan),
+            Ask::Halt(keep) => self.halt(rt, station, seat, keep),
+            Ask::Look(slot) => self.look(rt, station, seat, slot),
+            Ask::Offer(plan, offers) => self.offer(rt, station, seat, plan, offers),
+        }
+    }
+
+    /// Asks the station for a play.
+    fn play<R: Wait>(&mut self, rt: &R, station: &Station, seat: &mut Seat, plan: Plan)
+        requires seat { seat.old.id ≡ station.now.id }
+        requires held { IsHeld seat.old.mine self.old.booking (open_of self.old.session) }
+        requires asked { awaits self.old.session ≡ PlayAnswer plan }
+        requires closed { open_of self.old.session ≡ None }
+        ensures seat { IsSameSeat seat.old seat.new }
+        ensures quiet { IsQuiet seat.new.mine self.new }
+        ensures gone { HasGone (business seat.old.mine self.old) (business seat.new.mine self.new) }
+        ensures input { self.new.input ≡ self.old.input }
+        ensures lost { self.new.session.lost ≡ self.old.session.lost }
+    {
+        match station.play(rt, seat, self.session.heard_slot(), plan) {
+            Ok(booking) => {
+                self.session.admitted(booking.number, booking.start);
+                match mem::replace(&mut self.booking, Some(booking)) {
+                    None => {}
+                    Some(_) => unreachable!(),
+                }
+            }
+            Err(
+                PlayRefused::Overflow {
+                    place,
+                    slot,
+                    booked,
+                    asked,
+                },
+            ) => self.session.overflowed(place, slot, booked, asked),
+            Err(PlayRefused::JournalFull { entries, live, .. }) => self.session.full(entries, live),
+        }
+    }
+
+    /// Halts the open booking, which keeps so many bytes.
+    fn halt<R: Wait>(&mut self, rt: &R, station: &Station, seat: &mut Seat, keep: u64)
+        requires seat { seat.old.id ≡ station.now.id }
+        requires held { IsHeld seat.old.mine self.old.booking (open_of self.old.session) }
+        requires asked { IsHalt (awaits self.old.session) (open_of self.old.session) }
+        requires keep { CanKeep (open_of self.old.session) keep }
+        ensures seat { IsSameSeat seat.old seat.new }
+        ensures quiet { IsQuiet seat.new.mine self.new }
+        ensures gone { HasGone (business seat.old.mine self.old) (business seat.new.mine self.new) }
+        ensures input { self.new.input ≡ self.old.input }
+        ensures open { open_of self.new.session ≡ None }
+        ensures booking { self.new.booking ≡ None }
+        ensures lost { self.new.session.lost ≡ self.old.session.lost }
+    {
+        let Some(booking) = mem::replace(&mut self.booking, None) else {
+            unreachable!()
+        };
+        let place = station.halt(rt, seat, booking, keep);
+        self.session.halted(place);
+    }
+
+    /// Looks at a slot.
+    #[tactic(auto, using(crate::proofs::Going::held_at_look))]
+    fn look<R: Wait>(&mut self, rt: &R, station: &Station, seat: &mut Seat, slot: u64)
+        requires seat { seat.old.id ≡ station.now.id }
+        requires held { IsHeld seat.old.mine self.old.booking (open_of self.old.session) }
+        requires asked { awaits self.old.session ≡ LookAnswer }
+        requires slot { slot ≡ self.old.session.heard }
+        ensures seat { IsSameSeat seat.old seat.new }
+        ensures quiet { IsQuiet seat.new.mine self.new }
+        ensures gone { HasGone (business seat.old.mine self.old) (business seat.new.mine self.new) }
+        ensures input { self.new.input ≡ self.old.input }
+        ensures lost { self.new.session.lost ≡ self.old.session.lost }
+    {
+        match station.look(rt, seat, slot) {
+            Ok(looked) => {
+                self.session
+                    .looked(looked.place, looked.now, looked.at, looked.booked)
+            }
+            Err(full) => self.session.full(full.entries, full.live),
+        }
+    }
+
+    /// Asks from which slot on a plan fits.
+    #[tactic(auto, using(crate::proofs::Going::gone_still))]
+    fn offer<R: Wait>(
+        &mut self,
+        rt: &R,
+        station: &Station,
+        seat: &mut Seat,
+        plan: Plan,
+        mut offers: Offers,
+    )
+        requires seat { seat.old.id ≡ station.now.id }
+        requires held { IsHeld seat.old.mine self.old.booking (open_of self.old.session) }
+        requires asked { awaits self.old.session ≡ OfferAnswer }
+        ensures seat { IsSameSeat seat.old seat.new }
+        ensures quiet { IsQuiet seat.new.mine self.new }
+        ensures gone { HasGone (business seat.old.mine self.old) (business seat.new.mine self.new) }
+        ensures input { self.new.input ≡ self.old.input }
+        ensures lost { self.new.session.lost ≡ self.old.session.lost }
+    {
+        let heard = self.session.heard_slot();
+        let offered = station.offer(rt, seat, heard, &plan, &mut offers);
+        self.session
+            .offered(offered.seen, offered.first, plan, offers);
+    }
+
+    /// Ends the connection: an open booking is halted at what is due.
+    #[tactic(auto, using(crate::proofs::Going::gone_still, crate::proofs::Going::held_none, crate::proofs::Cutting::seat_none))]
+    pub(crate) fn close<R: Wait>(&mut self, rt: &R, station: &Station, seat: &mut Seat)
+        requires seat { seat.old.id ≡ station.now.id }
+        requires quiet { IsQuiet seat.old.mine self.old }
+        ensures seat { IsSameSeat seat.old seat.new }
+        ensures quiet { IsQuiet seat.new.mine self.new }
+        ensures gone { HasGone (business seat.old.mine self.old) (business seat.new.mine self.new) }
+        ensures open { open_of self.new.session ≡ None }
+        ensures booking { self.new.booking ≡ None }
+    {
+        match self.session.open_due() {
+            Some(due) => self.halt(rt, station, seat, due),
+            None => {}
+        }
+    }
+
+    /// What a closed connection leaves for its report.
+    pub(crate) fn notes(self) -> Notes
+        requires rest { IsAtRest self.session }
+        requires open { open_of self.session ≡ None }
+        requires booking { self.booking ≡ None }
+        ensures receipts { result.receipts.items ≡ self.entry.session.receipts }
+    {
+        let Connection {
+            session,
+            input: _input,
+            booking,
+        } = self;
+        match booking {
+            None => session.notes(),
+            Some(_) => unreachable!(),
+        }
+    }
+}
+
+/// What came of the piece in front.
+pub(crate) enum Taken {
+    /// It was taken up and is gone.
+    Gone,
+    /// Nothing more can be taken up: no whole piece waits, or a request waits for a reply to be sent.
+    Waits,
+    /// The connection ended.
+    End(ConnEnd),
+}
+
+/// How a framing fault ends a connection.
+fn end_of(fault: DemuxFault) -> ConnEnd
+    ensures { IsEndOf fault result }
+{
+    match fault {
+        DemuxFault::HeadTooLong => ConnEnd::HeadTooLong,
+        DemuxFault::BodyTooLong => ConnEnd::BodyTooLong,
+    }
+}

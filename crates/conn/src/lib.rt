@@ -1,0 +1,13 @@
+//! One RTSP connection over a link, from its first event to its report, and one worker's connections, one after another.
+#![tactic(auto)]
+
+mod connections;
+mod parts;
+mod reports;
+mod serving;
+mod words;
+
+pub use parts::serve_part;
+pub use reports::{ConnEnd, ConnReport, PartEnd, PartReport};
+pub use serving::serve_connection;
+pub use words::connection_words;

@@ -1,0 +1,118 @@
+//! One connection from its first event to its report.
+
+ghost use Rattle.std.specs.Prelude.{◌≡◌, ◌≤◌, [], false};
+ghost use Rattle.session.specs.Standings.{AreFilms, AreSettings};
+ghost use Rattle.station.specs.Seats.{IsSameSeat};
+ghost use Rattle.conn.specs.Keeping.{HasGone, IsQuiet, at_rest, business};
+
+use crate::connections::Connection;
+use crate::reports::{ConnEnd, ConnReport};
+use film_frames::Stored;
+use session::{Notes, Settings};
+use station::{Seat, Station};
+use std::alloc::Global;
+use std::sync::Wait;
+use vod_base::Link;
+
+/// The most bytes that are heard at once.
+const MOST_HEARD: usize = 16_384;
+
+/// The most events of a connection.
+const MOST_EVENTS: u64 = 1 << 40;
+
+/// Serves a connection from its first event to its end.
+///
+/// Bytes that come are cut into requests, which a session answers; plays are booked with the station, and what is due is sent
+/// as slots begin. An open booking is halted at the end, whatever ends the connection.
+#[allow(clippy::too_many_arguments)]
+pub fn serve_connection<R: Wait, K: Link>(
+    rt: &R,
+    alloc: Global,
+    station: &Station,
+    seat: &mut Seat,
+    films: &[Stored],
+    settings: &Settings,
+    words: [u32; 5],
+    worker: u32,
+    link: &mut K,
+) -> ConnReport
+    requires seat { seat.old.id ≡ station.now.id }
+    requires settings { AreSettings settings.now }
+    requires films { AreFilms films.now }
+    ensures seat { IsSameSeat seat.old seat.new }
+    ensures worker { result.worker ≡ worker }
+    ensures words { result.words ≡ words }
+    ensures entries { HasGone (at_rest seat.old.mine []) (at_rest seat.new.mine result.receipts.items) }
+{
+    let Ok(mut connection) = Connection::new(alloc, films, settings, words) else {
+        let none = Notes {
+            receipts: Vec::new(alloc),
+            plays: Vec::new(alloc),
+            late: 0,
+            offers: Vec::new(alloc),
+        };
+        return report_of(worker, words, ConnEnd::NoMemory, none);
+    };
+    let end = hear_all(rt, station, seat, link, &mut connection);
+    connection.close(rt, station, seat);
+    report_of(worker, words, end, connection.notes())
+}
+
+/// Hears events until one of them ends the connection.
+#[tactic(auto, using(crate::proofs::Cutting::seat_on, crate::proofs::Cutting::seat_none, crate::proofs::Going::gone_on, crate::proofs::Going::gone_still))]
+fn hear_all<R: Wait, K: Link>(
+    rt: &R,
+    station: &Station,
+    seat: &mut Seat,
+    link: &mut K,
+    connection: &mut Connection<'_>,
+) -> ConnEnd
+    requires seat { seat.old.id ≡ station.now.id }
+    requires quiet { IsQuiet seat.old.mine connection.old }
+    requires torn { connection.old.session.torn ≡ false }
+    requires lost { connection.old.session.lost ≡ false }
+    ensures seat { IsSameSeat seat.old seat.new }
+    ensures quiet { IsQuiet seat.new.mine connection.new }
+    ensures gone { HasGone (business seat.old.mine connection.old) (business seat.new.mine connection.new) }
+{
+    let mut into = [0; MOST_HEARD];
+    'events: for _ in 0..MOST_EVENTS {
+        let Ok(heard) = link.next(&mut into) else {
+            return ConnEnd::LinkFault;
+        };
+        if let Some(end) = connection.hear(rt, station, seat, link, heard, &into) {
+            return end;
+        }
+    }
+    ConnEnd::TurnsSpent
+}
+
+/// The report of a connection, whose lists keep no more memory than they need.
+fn report_of(worker: u32, words: [u32; 5], end: ConnEnd, notes: Notes) -> ConnReport
+    ensures worker { result.worker ≡ worker }
+    ensures words { result.words ≡ words }
+    ensures end { result.end ≡ end }
+    ensures receipts { result.receipts.items ≡ notes.receipts.items }
+    ensures plays { result.plays.items ≡ notes.plays.items }
+    ensures late { result.late ≡ notes.late }
+    ensures offers { result.offers.items ≡ notes.offers.items }
+{
+    let Notes {
+        mut receipts,
+        mut plays,
+        late,
+        mut offers,
+    } = notes;
+    receipts.shrink_to_fit();
+    plays.shrink_to_fit();
+    offers.shrink_to_fit();
+    ConnReport {
+        worker,
+        words,
+        end,
+        receipts,
+        plays,
+        late,
+        offers,
+    }
+}
