@@ -11,3 +11,5 @@ pub mod LaidLemmas
 pub mod TextLemmas
 pub mod FirstLemmas
 pub mod RoomLemmas
+pub mod OpenLemmas
+pub mod StandardLemmas

@@ -329,7 +329,7 @@ need-span false Zero = omega arith
 need-span false Zeros = omega arith
 need-span false Whole = omega arith
 
-room-after : (past : List Code) (p : Prefix) (n : ℕ) → Room past p n → After n past
+pub room-after : (past : List Code) (p : Prefix) (n : ℕ) → Room past p n → After n past
 room-after [] p n room = tt
 room-after (d ∷ past) p n room = omega (arith, need-span (eqb d.kind 0) p)
 

@@ -13,3 +13,4 @@ pub mod Counts
 pub mod Places
 pub mod Grammar
 pub mod Layout
+pub mod Standard

@@ -5,6 +5,7 @@ ghost use Rattle.mpeg_scan.specs.Faults.{first_fault};
 ghost use Rattle.mpeg_scan.specs.Films.{refusal, told_of};
 ghost use Rattle.mpeg_scan.specs.Grammar.{IsGrammatical};
 ghost use Rattle.mpeg_scan.specs.Layout.{AreInFilm, BeginsSequence, IsLaid, OfUnit};
+ghost use Rattle.mpeg_scan.specs.Standard.{AreFalling, ArePresented, IsUnitOf};
 ghost use Rattle.mpeg_scan.specs.Tiles.{Tiles};
 ghost use Rattle.mpeg_scan.specs.Words.{pictures_of};
 
@@ -46,4 +47,19 @@ pub fn law_refused_early()
     ensures code { (front rest : List ℕ) (f : FilmFault) → length (front ++ rest) ≤ 2 ^ 40
         → first_fault (codes_of (read [] front)) ≡ Some f → refusal (front ++ rest) ≡ Some f }
     ensures long { (bytes : List ℕ) → 2 ^ 40 < length bytes → refusal bytes ≡ Some FilmFault.TooLong }
+{}
+
+/// Each unit in the words of ISO/IEC 11172-2, over the start codes that stand in the film's bytes: where it begins and
+/// ends, that one picture stands in its head, that its fields are the bits of that picture's header, which other headers
+/// stand in the head, and its presentation number.
+pub fn law_standard_units(film: &Film)
+    ensures units { (k : ℕ) → OfUnit film.now.units.items k (λ u. IsUnitOf film.now.bytes.items u) }
+    ensures presented { ArePresented 0 0 film.now.units.items }
+{
+    let _read = film.bytes.len();
+}
+
+/// The start codes of bytes are listed in their order, each once.
+pub fn law_codes_in_order()
+    ensures { (bytes : List ℕ) → AreFalling (codes_of (read [] bytes)) }
 {}

@@ -17,7 +17,7 @@ mod units;
 pub use faults::{FilmFault, ScanRefused};
 pub use films::{Film, scan, start_codes_stand};
 pub use found::Found;
-pub use laws::{law_film, law_refused_early, law_units};
+pub use laws::{law_codes_in_order, law_film, law_refused_early, law_standard_units, law_units};
 pub use scanner::{Ending, Scanner};
 pub use units::{Kind, Unit, picture_units};
 

@@ -1,0 +1,390 @@
+-- What the start codes of an accepted film say of its latest unit, code by code.
+use Rattle.std.proofs.Common.{ℕ, Bool, true, false, cond, eqb, leb, ◌&&◌, ◌||◌, ◌+◌, ◌<◌, ◌≤◌, ◌≡◌, ◌⊎◌, List, [], ◌∷◌, Option, Some, None, sym, ap, refl, subst, inl, inr, arith}
+use Rattle.std.specs.Option.{is_some}
+use Rattle.std.proofs.lemmas.Bool.{eqb-true, eq-eqb, leb-true, le-leb, and_parts, and_from, true≢false, false≢true}
+use Rattle.mpeg_scan.specs.declared.codes.Code.{Code}
+use Rattle.mpeg_scan.specs.declared.tallies.Header.{Header}
+use Rattle.mpeg_scan.specs.Words.{header_of, is_slice}
+use Rattle.mpeg_scan.specs.Places.{HasCode}
+use Rattle.mpeg_scan.specs.Standard.{IsHeadKind, IsSliceKind}
+
+-- one of these codes
+abbrev pub Member : Code → List Code → Type 0
+Member c [] = ⊥
+Member c (d ∷ past) = (d ≡ c) ⊎ Member c past
+
+pub member-has : (c : Code) (past : List Code) → Member c past → HasCode c.place c.kind past
+member-has c [] m = m
+member-has c (d ∷ past) (inl same) = inl (ap (λ (e : Code). e.place) same, ap (λ (e : Code). e.kind) same)
+member-has c (d ∷ past) (inr m) = inr (member-has c past m)
+
+-- none of these codes from a place on is of such a kind
+abbrev pub NoneFrom : List Code → ℕ → (ℕ → Type 0) → Type 0
+NoneFrom past from OfKind = (place kind : ℕ) → HasCode place kind past → from ≤ place → OfKind kind → ⊥
+
+abbrev pub Zero : ℕ → Type 0
+Zero kind = kind ≡ 0
+
+-- all codes from a place on
+abbrev pub Firsts : List Code → ℕ → Type 0
+Firsts past from = (place kind : ℕ) → HasCode place kind past → from ≤ place
+
+-- the picture of the latest unit, whose head ends at a place if it has slices
+pub record Pictured (past : List Code) (from head_end n : ℕ) (h : Header) : Type 0 where
+  pub code : Code
+  pub member : Member code past
+  pub kind : code.kind ≡ 0
+  pub header : h ≡ header_of code
+  pub after : from ≤ code.place
+  pub only : (other : ℕ) → HasCode other 0 past → from ≤ other → other ≡ code.place
+  pub last : NoneFrom past (code.place + 1) IsHeadKind
+  pub before : 0 < n → code.place < head_end
+
+abbrev pub PictureIs : List Code → ℕ → ℕ → ℕ → Option Header → Type 0
+PictureIs past from head_end n None = NoneFrom past from Zero
+PictureIs past from head_end n (Some h) = Pictured past from head_end n h
+
+pub record Open (past : List Code) (from head_end n : ℕ) (picture : Option Header) (seq grp : Bool) : Type 0 where
+  pub begins : (kind : ℕ) × (HasCode from kind past × IsHeadKind kind)
+  pub bare : n ≡ 0 → NoneFrom past from IsSliceKind
+  pub head : 0 < n → (place kind : ℕ) → HasCode place kind past → from ≤ place → place < head_end → IsSliceKind kind → ⊥
+  pub head_ends : 0 < n → (kind : ℕ) × (HasCode head_end kind past × IsSliceKind kind)
+  pub order : 0 < n → from < head_end
+  pub some : 0 < n → is_some picture ≡ true
+  pub sliced : 0 < n → NoneFrom past head_end IsHeadKind
+  pub picture_is : PictureIs past from head_end n picture
+  pub seq_there : seq ≡ true → (place : ℕ) × (HasCode place 0xb3 past × (from ≤ place))
+  pub seq_set : (place : ℕ) → HasCode place 0xb3 past → from ≤ place → seq ≡ true
+  pub grp_there : grp ≡ true → Firsts past from ⊎ ((place : ℕ) × (HasCode place 0xb8 past × (from ≤ place)))
+  pub grp_set : (place : ℕ) → HasCode place 0xb8 past → from ≤ place → grp ≡ true
+  pub grp_first : Firsts past from → grp ≡ true
+
+-- ---- the kind of a code, by the tests on it
+pub record Kinds (t0 t3 t8 s : Bool) (kind : ℕ) : Type 0 where
+  pub zero_is : t0 ≡ true → kind ≡ 0
+  pub three_is : t3 ≡ true → kind ≡ 0xb3
+  pub eight_is : t8 ≡ true → kind ≡ 0xb8
+  pub slice_is : s ≡ true → IsSliceKind kind
+  pub is_zero : kind ≡ 0 → t0 ≡ true
+  pub is_three : kind ≡ 0xb3 → t3 ≡ true
+  pub is_eight : kind ≡ 0xb8 → t8 ≡ true
+  pub is_slice : IsSliceKind kind → s ≡ true
+
+pub kinds-of : (kind : ℕ) → Kinds (eqb kind 0) (eqb kind 0xb3) (eqb kind 0xb8) (is_slice kind) kind
+kinds-of kind = record {
+  zero_is = eqb-true kind 0;
+  three_is = eqb-true kind 0xb3;
+  eight_is = eqb-true kind 0xb8;
+  slice_is = λ e. let parts = and_parts (leb 1 kind) (leb kind 0xaf) e in (leb-true 1 kind parts.0, leb-true kind 0xaf parts.1);
+  is_zero = eq-eqb kind 0;
+  is_three = eq-eqb kind 0xb3;
+  is_eight = eq-eqb kind 0xb8;
+  is_slice = λ e. and_from (leb 1 kind) (leb kind 0xaf) (le-leb 1 kind e.0) (le-leb kind 0xaf e.1);
+}
+
+-- a slice is no head, by numbers
+apart : (kind : ℕ) → IsSliceKind kind → IsHeadKind kind → ⊥
+apart kind slice (inl e) = omega (arith, slice.0, e)
+apart kind slice (inr (inl e)) = omega (arith, slice.1, e)
+apart kind slice (inr (inr e)) = omega (arith, slice.1, e)
+
+-- a code more of a kind that isn't such
+none-more : (c : Code) (past : List Code) (from : ℕ) (OfKind : ℕ → Type 0) → (OfKind c.kind → ⊥) → NoneFrom past from OfKind → NoneFrom (c ∷ past) from OfKind
+none-more c past from OfKind other none place kind (inl new) after is = other (subst (λ k. OfKind k) (sym new.1) is)
+none-more c past from OfKind other none place kind (inr old) after is = none place kind old after is
+
+-- the same where the code stands before
+none-before : (c : Code) (past : List Code) (from : ℕ) (OfKind : ℕ → Type 0) → c.place < from → NoneFrom past from OfKind → NoneFrom (c ∷ past) from OfKind
+none-before c past from OfKind before none place kind (inl new) after is = omega (arith, new.0, before, after)
+none-before c past from OfKind before none place kind (inr old) after is = none place kind old after is
+
+-- none of the older codes stands from the new one on
+none-new : (c : Code) (past : List Code) (OfKind : ℕ → Type 0) → ((place kind : ℕ) → HasCode place kind past → place < c.place) → (OfKind c.kind → ⊥) → NoneFrom (c ∷ past) c.place OfKind
+none-new c past OfKind below other place kind (inl new) after is = other (subst (λ k. OfKind k) (sym new.1) is)
+none-new c past OfKind below other place kind (inr old) after is = omega (arith, below place kind old, after)
+
+abbrev pub Below : Code → List Code → Type 0
+Below c past = (place kind : ℕ) → HasCode place kind past → place < c.place
+
+-- a code of that kind that is not the new one
+seq-more : (c : Code) (past : List Code) (from k : ℕ) (seq : Bool) → (c.kind ≡ k → ⊥) → ((place : ℕ) → HasCode place k past → from ≤ place → seq ≡ true) → (place : ℕ) → HasCode place k (c ∷ past) → from ≤ place → seq ≡ true
+seq-more c past from k seq other set place (inl new) after = absurd (other new.1)
+seq-more c past from k seq other set place (inr old) after = set place old after
+
+-- ---- the picture as codes come
+
+pictured-only : (c : Code) (past : List Code) (from place its : ℕ) → (c.kind ≡ 0 → ⊥) → ((other : ℕ) → HasCode other 0 past → from ≤ other → other ≡ its) → HasCode place 0 (c ∷ past) → from ≤ place → place ≡ its
+pictured-only c past from place its other only (inl new) after = absurd (other new.1)
+pictured-only c past from place its other only (inr old) after = only place old after
+
+picture-more : (c : Code) (past : List Code) (from head_end n m : ℕ) (o : Option Header) → (IsHeadKind c.kind → ⊥) → (0 < m → 0 < n) → PictureIs past from head_end n o → PictureIs (c ∷ past) from head_end m o
+picture-more c past from head_end n m None other grows none = none-more c past from Zero (λ e. other (inl e)) none
+picture-more c past from head_end n m (Some h) other grows is = record {
+  code = is.code;
+  member = inr is.member;
+  kind = is.kind;
+  header = is.header;
+  after = is.after;
+  only = λ place has after. pictured-only c past from place is.code.place (λ e. other (inl e)) is.only has after;
+  last = none-more c past (is.code.place + 1) IsHeadKind other is.last;
+  before = λ some. is.before (grows some);
+}
+
+-- the first slice
+picture-first : (c : Code) (past : List Code) (from head_end n : ℕ) (o : Option Header) → Below c past → (IsHeadKind c.kind → ⊥) → is_some o ≡ true → PictureIs past from head_end n o → PictureIs (c ∷ past) from c.place (n + 1) o
+picture-first c past from head_end n None below other some is = absurd (false≢true some)
+picture-first c past from head_end n (Some h) below other some is = record {
+  code = is.code;
+  member = inr is.member;
+  kind = is.kind;
+  header = is.header;
+  after = is.after;
+  only = λ place has after. pictured-only c past from place is.code.place (λ e. other (inl e)) is.only has after;
+  last = none-more c past (is.code.place + 1) IsHeadKind other is.last;
+  before = λ _. below is.code.place 0 (subst (λ k. HasCode is.code.place k past) is.kind (member-has is.code past is.member));
+}
+
+new-only : (c : Code) (past : List Code) (from place : ℕ) → NoneFrom past from Zero → HasCode place 0 (c ∷ past) → from ≤ place → place ≡ c.place
+new-only c past from place none (inl new) after = sym new.0
+new-only c past from place none (inr old) after = absurd (none place 0 old after refl)
+
+new-last : (c : Code) (past : List Code) (place kind : ℕ) → Below c past → HasCode place kind (c ∷ past) → c.place + 1 ≤ place → ⊥
+new-last c past place kind below (inl new) far = omega (arith, new.0, far)
+new-last c past place kind below (inr old) far = omega (arith, below place kind old, far)
+
+-- a picture
+picture-new : (c : Code) (past : List Code) (from head_end : ℕ) → Below c past → c.kind ≡ 0 → from ≤ c.place → NoneFrom past from Zero → Pictured (c ∷ past) from head_end 0 (header_of c)
+picture-new c past from head_end below zero_kind after none = record {
+  code = c;
+  member = inl refl;
+  kind = zero_kind;
+  header = refl;
+  after = after;
+  only = λ place has far. new-only c past from place none has far;
+  last = λ place kind has far is. new-last c past place kind below has far;
+  before = λ some. absurd (omega (arith, some));
+}
+
+-- ---- one code more
+
+later-code : (c : Code) (past : List Code) (k : ℕ) → (place : ℕ) × (HasCode place 0xb3 past × (k ≤ place)) → (place : ℕ) × (HasCode place 0xb3 (c ∷ past) × (k ≤ place))
+later-code c past k (place, has) = (place, (inr has.0, has.1))
+
+firsts-more : (c : Code) (past : List Code) (from place kind : ℕ) → from ≤ c.place → Firsts past from → HasCode place kind (c ∷ past) → from ≤ place
+firsts-more c past from place kind after firsts (inl new) = omega (arith, new.0, after)
+firsts-more c past from place kind after firsts (inr old) = firsts place kind old
+
+later-group : (c : Code) (past : List Code) (from : ℕ) → from ≤ c.place → Firsts past from ⊎ ((place : ℕ) × (HasCode place 0xb8 past × (from ≤ place))) → Firsts (c ∷ past) from ⊎ ((place : ℕ) × (HasCode place 0xb8 (c ∷ past) × (from ≤ place)))
+later-group c past from after (inl firsts) = inl (λ place kind has. firsts-more c past from place kind after firsts has)
+later-group c past from after (inr (place, has)) = inr (place, (inr has.0, has.1))
+
+head-old : (c : Code) (past : List Code) (from head_end place kind : ℕ) → head_end ≤ c.place → ((p k : ℕ) → HasCode p k past → from ≤ p → p < head_end → IsSliceKind k → ⊥) → HasCode place kind (c ∷ past) → from ≤ place → place < head_end → IsSliceKind kind → ⊥
+head-old c past from head_end place kind far none (inl new) after before is = omega (arith, new.0, far, before)
+head-old c past from head_end place kind far none (inr old) after before is = none place kind old after before is
+
+head-other : (c : Code) (past : List Code) (from head_end place kind : ℕ) → (IsSliceKind c.kind → ⊥) → ((p k : ℕ) → HasCode p k past → from ≤ p → p < head_end → IsSliceKind k → ⊥) → HasCode place kind (c ∷ past) → from ≤ place → place < head_end → IsSliceKind kind → ⊥
+head-other c past from head_end place kind other none (inl new) after before is = other (subst (λ k. IsSliceKind k) (sym new.1) is)
+head-other c past from head_end place kind other none (inr old) after before is = none place kind old after before is
+
+head-first : (c : Code) (past : List Code) (from place kind : ℕ) → NoneFrom past from IsSliceKind → HasCode place kind (c ∷ past) → from ≤ place → place < c.place → IsSliceKind kind → ⊥
+head-first c past from place kind none (inl new) after before is = omega (arith, new.0, before)
+head-first c past from place kind none (inr old) after before is = none place kind old after is
+
+-- a slice after others of its unit
+later-slice : (c : Code) (past : List Code) (from head_end n : ℕ) (o : Option Header) (seq grp : Bool) → Below c past → IsSliceKind c.kind → 0 < n → Open past from head_end n o seq grp → Open (c ∷ past) from head_end (n + 1) o seq grp
+later-slice c past from head_end n o seq grp below slice some open_ =
+    let other = λ (h : IsHeadKind c.kind). apart c.kind slice h in
+    let after : from ≤ c.place = omega (arith, below from open_.begins.0 open_.begins.1.0) in
+    let far : head_end ≤ c.place = omega (arith, below head_end (open_.head_ends some).0 (open_.head_ends some).1.0) in
+    record {
+      begins = (open_.begins.0, (inr open_.begins.1.0, open_.begins.1.1));
+      bare = λ none. absurd (omega (arith, none));
+      head = λ _ place kind has from_ before is. head-old c past from head_end place kind far (open_.head some) has from_ before is;
+      head_ends = λ _. ((open_.head_ends some).0, (inr (open_.head_ends some).1.0, (open_.head_ends some).1.1));
+      order = λ _. open_.order some;
+      some = λ _. open_.some some;
+      sliced = λ _. none-more c past head_end IsHeadKind other (open_.sliced some);
+      picture_is = picture-more c past from head_end n (n + 1) o other (λ _. some) open_.picture_is;
+      seq_there = λ e. later-code c past from (open_.seq_there e);
+      seq_set = seq-more c past from 0xb3 seq (λ e. other (inr (inl e))) open_.seq_set;
+      grp_there = λ e. later-group c past from after (open_.grp_there e);
+      grp_set = seq-more c past from 0xb8 grp (λ e. other (inr (inr e))) open_.grp_set;
+      grp_first = λ firsts. open_.grp_first (λ place kind has. firsts place kind (inr has));
+    }
+
+-- the first slice of its unit
+first-slice : (c : Code) (past : List Code) (from head_end n : ℕ) (o : Option Header) (seq grp : Bool) → Below c past → IsSliceKind c.kind → n ≡ 0 → is_some o ≡ true → Open past from head_end n o seq grp → Open (c ∷ past) from c.place (n + 1) o seq grp
+first-slice c past from head_end n o seq grp below slice none with_picture open_ =
+    let other = λ (h : IsHeadKind c.kind). apart c.kind slice h in
+    let after : from < c.place = below from open_.begins.0 open_.begins.1.0 in
+    record {
+      begins = (open_.begins.0, (inr open_.begins.1.0, open_.begins.1.1));
+      bare = λ e. absurd (omega (arith, e));
+      head = λ _ place kind has from_ before is. head-first c past from place kind (open_.bare none) has from_ before is;
+      head_ends = λ _. (c.kind, (inl (refl, refl), slice));
+      order = λ _. after;
+      some = λ _. with_picture;
+      sliced = λ _. none-new c past IsHeadKind below other;
+      picture_is = picture-first c past from head_end n o below other with_picture open_.picture_is;
+      seq_there = λ e. later-code c past from (open_.seq_there e);
+      seq_set = seq-more c past from 0xb3 seq (λ e. other (inr (inl e))) open_.seq_set;
+      grp_there = λ e. later-group c past from (omega (arith, after)) (open_.grp_there e);
+      grp_set = seq-more c past from 0xb8 grp (λ e. other (inr (inr e))) open_.grp_set;
+      grp_first = λ firsts. open_.grp_first (λ place kind has. firsts place kind (inr has));
+    }
+
+-- a code that is neither a head's nor a slice's
+other-code : (c : Code) (past : List Code) (from head_end n : ℕ) (o : Option Header) (seq grp : Bool) → Below c past → (IsHeadKind c.kind → ⊥) → (IsSliceKind c.kind → ⊥) → Open past from head_end n o seq grp → Open (c ∷ past) from head_end n o seq grp
+other-code c past from head_end n o seq grp below other no_slice open_ =
+    let after : from ≤ c.place = omega (arith, below from open_.begins.0 open_.begins.1.0) in
+    record {
+      begins = (open_.begins.0, (inr open_.begins.1.0, open_.begins.1.1));
+      bare = λ none. none-more c past from IsSliceKind no_slice (open_.bare none);
+      head = λ some place kind has from_ before is. head-other c past from head_end place kind no_slice (open_.head some) has from_ before is;
+      head_ends = λ some. ((open_.head_ends some).0, (inr (open_.head_ends some).1.0, (open_.head_ends some).1.1));
+      order = open_.order;
+      some = open_.some;
+      sliced = λ some. none-more c past head_end IsHeadKind other (open_.sliced some);
+      picture_is = picture-more c past from head_end n n o other (λ some. some) open_.picture_is;
+      seq_there = λ e. later-code c past from (open_.seq_there e);
+      seq_set = seq-more c past from 0xb3 seq (λ e. other (inr (inl e))) open_.seq_set;
+      grp_there = λ e. later-group c past from after (open_.grp_there e);
+      grp_set = seq-more c past from 0xb8 grp (λ e. other (inr (inr e))) open_.grp_set;
+      grp_first = λ firsts. open_.grp_first (λ place kind has. firsts place kind (inr has));
+    }
+
+-- ---- a code of a head, by the tests on its kind
+
+picture-head : (t0 : Bool) (c : Code) (past : List Code) (from head_end n : ℕ) (o : Option Header) → Below c past → (t0 ≡ true → c.kind ≡ 0) → (c.kind ≡ 0 → t0 ≡ true) → from ≤ c.place → is_some o ≡ false → PictureIs past from head_end n o → PictureIs (c ∷ past) from head_end 0 (cond t0 (Some (header_of c)) o)
+picture-head t0 c past from head_end n (Some h) below is set after none picture = absurd (true≢false none)
+picture-head true c past from head_end n None below is set after none picture = picture-new c past from head_end below (is refl) after picture
+picture-head false c past from head_end n None below is set after none picture = none-more c past from Zero (λ e. false≢true (set e)) picture
+
+flag-there : (t seq : Bool) (c : Code) (past : List Code) (from k : ℕ) → from ≤ c.place → (t ≡ true → c.kind ≡ k) → (seq ≡ true → (place : ℕ) × (HasCode place k past × (from ≤ place))) → cond t true seq ≡ true → (place : ℕ) × (HasCode place k (c ∷ past) × (from ≤ place))
+flag-there true seq c past from k after is there e = (c.place, (inl (refl, is refl), after))
+flag-there false seq c past from k after is there e = let old = there e in (old.0, (inr old.1.0, old.1.1))
+
+flag-set : (t seq : Bool) (c : Code) (past : List Code) (from k : ℕ) → (c.kind ≡ k → t ≡ true) → ((place : ℕ) → HasCode place k past → from ≤ place → seq ≡ true) → (place : ℕ) → HasCode place k (c ∷ past) → from ≤ place → cond t true seq ≡ true
+flag-set true seq c past from k set there place has after = refl
+flag-set false seq c past from k set there place (inl new) after = absurd (false≢true (set new.1))
+flag-set false seq c past from k set there place (inr old) after = there place old after
+
+group-there : (t grp : Bool) (c : Code) (past : List Code) (from : ℕ) → from ≤ c.place → (t ≡ true → c.kind ≡ 0xb8) → (grp ≡ true → Firsts past from ⊎ ((place : ℕ) × (HasCode place 0xb8 past × (from ≤ place)))) → cond t true grp ≡ true → Firsts (c ∷ past) from ⊎ ((place : ℕ) × (HasCode place 0xb8 (c ∷ past) × (from ≤ place)))
+group-there true grp c past from after is there e = inr (c.place, (inl (refl, is refl), after))
+group-there false grp c past from after is there e = later-group c past from after (there e)
+
+set-first : (t grp : Bool) → grp ≡ true → cond t true grp ≡ true
+set-first true grp e = refl
+set-first false grp e = e
+
+-- in the head of the latest unit
+more-head : (t0 t3 t8 : Bool) (c : Code) (past : List Code) (from head_end n : ℕ) (o : Option Header) (seq grp : Bool) → Below c past → Kinds t0 t3 t8 false c.kind → IsHeadKind c.kind → n ≡ 0 → is_some o ≡ false → Open past from head_end n o seq grp
+    → Open (c ∷ past) from head_end 0 (cond t0 (Some (header_of c)) o) (cond t3 true seq) (cond t8 true grp)
+more-head t0 t3 t8 c past from head_end n o seq grp below kinds head none bare open_ =
+    let after : from ≤ c.place = omega (arith, below from open_.begins.0 open_.begins.1.0) in
+    record {
+      begins = (open_.begins.0, (inr open_.begins.1.0, open_.begins.1.1));
+      bare = λ _. none-more c past from IsSliceKind (λ slice. apart c.kind slice head) (open_.bare none);
+      head = λ some. absurd (omega (arith, some));
+      head_ends = λ some. absurd (omega (arith, some));
+      order = λ some. absurd (omega (arith, some));
+      some = λ some. absurd (omega (arith, some));
+      sliced = λ some. absurd (omega (arith, some));
+      picture_is = picture-head t0 c past from head_end n o below kinds.zero_is kinds.is_zero after bare open_.picture_is;
+      seq_there = flag-there t3 seq c past from 0xb3 after kinds.three_is open_.seq_there;
+      seq_set = flag-set t3 seq c past from 0xb3 kinds.is_three open_.seq_set;
+      grp_there = group-there t8 grp c past from after kinds.eight_is open_.grp_there;
+      grp_set = flag-set t8 grp c past from 0xb8 kinds.is_eight open_.grp_set;
+      grp_first = λ firsts. set-first t8 grp (open_.grp_first (λ place kind has. firsts place kind (inr has)));
+    }
+
+nothing-there : (c : Code) (past : List Code) (k : ℕ) → Below c past → (place : ℕ) → HasCode place k past → c.place ≤ place → false ≡ true
+nothing-there c past k below place has after = absurd (omega (arith, below place k has, after))
+
+picture-begun : (t0 : Bool) (c : Code) (past : List Code) (head_end : ℕ) → Below c past → (t0 ≡ true → c.kind ≡ 0) → (c.kind ≡ 0 → t0 ≡ true) → PictureIs (c ∷ past) c.place head_end 0 (cond t0 (Some (header_of c)) None)
+picture-begun true c past head_end below is set = picture-new c past c.place head_end below (is refl) (omega arith) (λ place kind has after _. omega (arith, below place kind has, after))
+picture-begun false c past head_end below is set = none-new c past Zero below (λ e. false≢true (set e))
+
+begun-flag : (t : Bool) (c : Code) (past : List Code) (k : ℕ) → (t ≡ true → c.kind ≡ k) → cond t true false ≡ true → (place : ℕ) × (HasCode place k (c ∷ past) × (c.place ≤ place))
+begun-flag true c past k is e = (c.place, (inl (refl, is refl), omega arith))
+begun-flag false c past k is e = absurd (false≢true e)
+
+begun-group : (t : Bool) (c : Code) (past : List Code) → (t ≡ true → c.kind ≡ 0xb8) → cond t true false ≡ true → Firsts (c ∷ past) c.place ⊎ ((place : ℕ) × (HasCode place 0xb8 (c ∷ past) × (c.place ≤ place)))
+begun-group t c past is e = inr (begun-flag t c past 0xb8 is e)
+
+-- a new unit
+new-unit : (t0 t3 t8 : Bool) (c : Code) (past : List Code) (from head_end n : ℕ) (o : Option Header) (seq grp : Bool) → Below c past → Kinds t0 t3 t8 false c.kind → IsHeadKind c.kind → Open past from head_end n o seq grp
+    → Open (c ∷ past) c.place head_end 0 (cond t0 (Some (header_of c)) None) (cond t3 true false) (cond t8 true false)
+new-unit t0 t3 t8 c past from head_end n o seq grp below kinds head open_ =
+    record {
+      begins = (c.kind, (inl (refl, refl), head));
+      bare = λ _. none-new c past IsSliceKind below (λ slice. apart c.kind slice head);
+      head = λ some. absurd (omega (arith, some));
+      head_ends = λ some. absurd (omega (arith, some));
+      order = λ some. absurd (omega (arith, some));
+      some = λ some. absurd (omega (arith, some));
+      sliced = λ some. absurd (omega (arith, some));
+      picture_is = picture-begun t0 c past head_end below kinds.zero_is kinds.is_zero;
+      seq_there = begun-flag t3 c past 0xb3 kinds.three_is;
+      seq_set = flag-set t3 false c past c.place 0xb3 kinds.is_three (nothing-there c past 0xb3 below);
+      grp_there = begun-group t8 c past kinds.eight_is;
+      grp_set = flag-set t8 false c past c.place 0xb8 kinds.is_eight (nothing-there c past 0xb8 below);
+      grp_first = λ firsts. absurd (omega (arith, below from open_.begins.0 open_.begins.1.0, firsts from open_.begins.0 (inr open_.begins.1.0)));
+    }
+
+only-slice : (c : Code) (place kind : ℕ) → c.kind ≡ 0xb3 → HasCode place kind (c ∷ []) → IsSliceKind kind → ⊥
+only-slice c place kind is (inl new) slice = omega (arith, new.1, is, slice.1)
+only-slice c place kind is (inr old) slice = old
+
+only-zero : (c : Code) (place kind : ℕ) → c.kind ≡ 0xb3 → HasCode place kind (c ∷ []) → kind ≡ 0 → ⊥
+only-zero c place kind is (inl new) zero_kind = omega (arith, new.1, is, zero_kind)
+only-zero c place kind is (inr old) zero_kind = old
+
+only-place : (c : Code) (place kind : ℕ) → HasCode place kind (c ∷ []) → c.place ≤ place
+only-place c place kind (inl new) = omega (arith, new.0)
+only-place c place kind (inr old) = absurd old
+
+pub first-code : (c : Code) → c.kind ≡ 0xb3 → Open (c ∷ []) c.place 0 0 None true true
+first-code c is = record {
+  begins = (c.kind, (inl (refl, refl), inr (inl is)));
+  bare = λ _ place kind has after slice. only-slice c place kind is has slice;
+  head = λ some. absurd (omega (arith, some));
+  head_ends = λ some. absurd (omega (arith, some));
+  order = λ some. absurd (omega (arith, some));
+  some = λ some. absurd (omega (arith, some));
+  sliced = λ some. absurd (omega (arith, some));
+  picture_is = λ place kind has after zero_kind. only-zero c place kind is has zero_kind;
+  seq_there = λ _. (c.place, (inl (refl, is), omega arith));
+  seq_set = λ place has after. refl;
+  grp_there = λ _. inl (λ place kind has. only-place c place kind has);
+  grp_set = λ place has after. refl;
+  grp_first = λ _. refl;
+}
+
+-- ---- all of them as one step: q and e: there were slices, there were none
+
+no-head : (kind : ℕ) → Kinds false false false false kind → IsHeadKind kind → ⊥
+no-head kind kinds (inl e) = false≢true (kinds.is_zero e)
+no-head kind kinds (inr (inl e)) = false≢true (kinds.is_three e)
+no-head kind kinds (inr (inr e)) = false≢true (kinds.is_eight e)
+
+pub step-open : (t0 t3 t8 s q e : Bool) (c : Code) (past : List Code) (from head_end n : ℕ) (o : Option Header) (seq grp : Bool)
+    → Kinds t0 t3 t8 s c.kind → Below c past → (q ≡ true → 0 < n) → (q ≡ false → n ≡ 0) → (e ≡ true → n ≡ 0) → (e ≡ false → 0 < n)
+    → ((t0 || (t3 || t8)) ≡ true → n ≡ 0 → is_some o ≡ false) → (s ≡ true → n ≡ 0 → is_some o ≡ true) → Open past from head_end n o seq grp
+    → Open (c ∷ past) (cond ((t0 || (t3 || t8)) && q) c.place from) (cond (s && e) c.place head_end) (cond (t0 || (t3 || t8)) 0 (cond s (n + 1) n))
+    (cond t0 (Some (header_of c)) (cond ((t0 || (t3 || t8)) && q) None o)) (cond t3 true (cond ((t0 || (t3 || t8)) && q) false seq)) (cond (t8 || false) true (cond ((t0 || (t3 || t8)) && q) false grp))
+step-open true t3 t8 true q e c past from he n o seq grp kinds below some none zero_ more alone with_ open_ = absurd (apart c.kind (kinds.slice_is refl) (inl (kinds.zero_is refl)))
+step-open false true t8 true q e c past from he n o seq grp kinds below some none zero_ more alone with_ open_ = absurd (apart c.kind (kinds.slice_is refl) (inr (inl (kinds.three_is refl))))
+step-open false false true true q e c past from he n o seq grp kinds below some none zero_ more alone with_ open_ = absurd (apart c.kind (kinds.slice_is refl) (inr (inr (kinds.eight_is refl))))
+step-open false false false true q true c past from he n o seq grp kinds below some none zero_ more alone with_ open_ = first-slice c past from he n o seq grp below (kinds.slice_is refl) (zero_ refl) (with_ refl (zero_ refl)) open_
+step-open false false false true q false c past from he n o seq grp kinds below some none zero_ more alone with_ open_ = later-slice c past from he n o seq grp below (kinds.slice_is refl) (more refl) open_
+step-open false false false false q e c past from he n o seq grp kinds below some none zero_ more alone with_ open_ = other-code c past from he n o seq grp below (λ h. no-head c.kind kinds h) (λ slice. false≢true (kinds.is_slice slice)) open_
+step-open true true t8 false q e c past from he n o seq grp kinds below some none zero_ more alone with_ open_ = absurd (omega (arith, kinds.zero_is refl, kinds.three_is refl))
+step-open true false true false q e c past from he n o seq grp kinds below some none zero_ more alone with_ open_ = absurd (omega (arith, kinds.zero_is refl, kinds.eight_is refl))
+step-open true false false false true e c past from he n o seq grp kinds below some none zero_ more alone with_ open_ = new-unit true false false c past from he n o seq grp below kinds (inl (kinds.zero_is refl)) open_
+step-open true false false false false e c past from he n o seq grp kinds below some none zero_ more alone with_ open_ = more-head true false false c past from he n o seq grp below kinds (inl (kinds.zero_is refl)) (none refl) (alone refl (none refl)) open_
+step-open false true true false q e c past from he n o seq grp kinds below some none zero_ more alone with_ open_ = absurd (omega (arith, kinds.three_is refl, kinds.eight_is refl))
+step-open false true false false true e c past from he n o seq grp kinds below some none zero_ more alone with_ open_ = new-unit false true false c past from he n o seq grp below kinds (inr (inl (kinds.three_is refl))) open_
+step-open false true false false false e c past from he n o seq grp kinds below some none zero_ more alone with_ open_ = more-head false true false c past from he n o seq grp below kinds (inr (inl (kinds.three_is refl))) (none refl) (alone refl (none refl)) open_
+step-open false false true false true e c past from he n o seq grp kinds below some none zero_ more alone with_ open_ = new-unit false false true c past from he n o seq grp below kinds (inr (inr (kinds.eight_is refl))) open_
+step-open false false true false false e c past from he n o seq grp kinds below some none zero_ more alone with_ open_ = more-head false false true c past from he n o seq grp below kinds (inr (inr (kinds.eight_is refl))) (none refl) (alone refl (none refl)) open_

@@ -1,0 +1,479 @@
+-- The units of an accepted film are those of the standard's words.
+use Rattle.std.proofs.Common.{ℕ, zero, suc, Bool, true, false, cond, eqb, ltb, leb, ◌&&◌, ◌||◌, ◌+◌, ◌-◌, ◌*◌, ◌/◌, ◌%◌, ◌<◌, ◌≤◌, ◌≡◌, ◌⊎◌, ◌↔◌, List, [], ◌∷◌, ◌++◌, Option, Some, None, IsSome, length, get_or, slice_get, sym, ◌∙◌, ap, refl, subst, inl, inr, arith}
+use Rattle.std.specs.Prelude.{unwrap_or}
+use Rattle.std.proofs.lemmas.Bool.{cases_lt, eqb-true, eq-eqb, ne_eqb, leb-true, ltb-true, ltb-false, or_parts, and_parts, true≢false, false≢true}
+use Rattle.mpeg_scan.specs.declared.codes.Code.{Code}
+use Rattle.mpeg_scan.specs.declared.faults.FilmFault.{FilmFault}
+use Rattle.mpeg_scan.specs.declared.faults.FilmFault.TheVariants.{BadType, ShortHeader}
+use Rattle.mpeg_scan.specs.declared.tallies.Header.{Header}
+use Rattle.mpeg_scan.specs.declared.units.Kind.{Kind}
+use Rattle.mpeg_scan.specs.declared.units.Unit.{Unit as PictureUnit}
+use Rattle.mpeg_scan.specs.Codes.{read, codes_of}
+use Rattle.mpeg_scan.specs.Words.{backward_of, forward_of, has_sequence, head_end_of, header_of, is_head, is_slice, picture_of, slices_of, starts_group, tally_of, temporal_of, type_of, unit_of, rate_of, vectors_of}
+use Rattle.mpeg_scan.specs.Faults.{end_fault, first_fault, header_fault, last_fault, latest_fault, picture_fault, rate_fault}
+use Rattle.mpeg_scan.specs.Calls.{Call, head_call, slice_call, unit_call, calls_at, kind_of, no_header, told, all_told, unit_at, unit_end}
+use Rattle.mpeg_scan.specs.Counts.{Count, counts_after, group_of, no_count}
+use Rattle.mpeg_scan.specs.Films.{IsFilm, units_in}
+use Rattle.mpeg_scan.specs.Places.{HasCode, StandsAt}
+use Rattle.mpeg_scan.specs.Standard.{AreFalling, ArePresented, HasFields, HasPicture, IsFirstCode, IsHeadKind, IsSliceKind, IsUnitOf, NoneIn, StandsIn, UnitIs, type_number, vector_fields}
+use Rattle.mpeg_scan.proofs.StepLemmas.{accepted-older, code-accepted, otherwise-first, otherwise-second}
+use Rattle.mpeg_scan.proofs.TileLemmas.{After, Spaced, accepted-whole, ended-none, first-is, first_slice-accepted, placed-codes, room-after, slice-apart, told-cons, told-nil}
+use Rattle.mpeg_scan.proofs.CountLemmas.{empty-count, film-numbered, first-some, second-accepted, second-none}
+use Rattle.mpeg_scan.proofs.BoundLemmas.{older-judged, some-cond-none}
+use Rattle.mpeg_scan.proofs.FilmLemmas.{length-read, units_in-append}
+use Rattle.mpeg_scan.proofs.PlaceLemmas.{at as at_byte, at-bytes, codes-stand}
+use Rattle.mpeg_scan.proofs.TextLemmas.{TextIs, TextsAre, codes-texts, text-byte}
+use Rattle.mpeg_scan.proofs.OpenLemmas.{Below, Firsts, Member, Open, Pictured, first-code, kinds-of, member-has, step-open}
+use Rattle.mpeg_scan.specs.Codes.{matched}
+
+-- ---- the places of codes rise
+
+three : (b : Bool) → 3 ≤ cond b 3 4
+three true = omega arith
+three false = omega arith
+
+pub all-below : (past : List Code) (at : ℕ) → Spaced past → After at past → (place kind : ℕ) → HasCode place kind past → place < at
+all-below [] at spaced after place kind has = absurd has
+all-below (d ∷ past) at spaced after place kind (inl new) = omega (arith, three (eqb d.kind 0), after, new.0)
+all-below (d ∷ past) at spaced after place kind (inr old) =
+    omega (arith, three (eqb d.kind 0), after, all-below past d.place spaced.1 spaced.0 place kind old)
+
+-- ---- the latest unit, code by code
+
+abbrev OpenOf : List Code → Type 0
+OpenOf past = Open past (unit_of past) (head_end_of past) (slices_of past) (picture_of past) (has_sequence past) (starts_group past)
+
+none-some : (n : ℕ) → eqb n 0 ≡ false → 0 < n
+none-some zero e = absurd (true≢false e)
+none-some (suc n) e = omega arith
+
+open-three : (c : Code) → c.kind ≡ 0xb3 → OpenOf (c ∷ [])
+open-three c is =
+    subst (λ m. Open (c ∷ []) c.place (cond (is_slice m && eqb 0 0) c.place 0) (cond (is_head m) 0 (cond (is_slice m) (0 + 1) 0)) (cond (eqb m 0) (Some (header_of c)) None) (cond (eqb m 0xb3) true false) (cond (eqb m 0xb8 || true) true false)) (sym is) (first-code c is)
+
+open-first : (c : Code) → first_fault (c ∷ []) ≡ None → OpenOf (c ∷ [])
+open-first c accepted = open-three c (first-is c accepted)
+
+open-codes : (c : Code) (past : List Code) → first_fault (c ∷ past) ≡ None → Spaced (c ∷ past) → OpenOf (c ∷ past)
+open-codes c [] accepted spaced = open-first c accepted
+open-codes c (d ∷ past) accepted spaced =
+    let older : List Code = d ∷ past in
+    let t = tally_of older in
+    let n = slices_of older in
+    let fault = code-accepted c older accepted in
+    step-open (eqb c.kind 0) (eqb c.kind 0xb3) (eqb c.kind 0xb8) (is_slice c.kind) (ltb 0 n) (eqb n 0) c older (unit_of older) (head_end_of older) n (picture_of older) (has_sequence older) (starts_group older)
+    (kinds-of c.kind) (all-below older c.place spaced.1 spaced.0) (ltb-true 0 n) (empty-count n) (eqb-true n 0) (none-some n)
+    (λ head none. second-none t c.kind (second-accepted t c.place c.kind fault) head none)
+    (λ slice none. first-some t c.place c.kind (first_slice-accepted t c.place c.kind fault) slice none)
+    (open-codes d past (accepted-older c older accepted) spaced.1)
+
+-- ---- a unit that has ended
+
+-- the fields of a picture, from its code
+pub record CodeFields (past : List Code) (place : ℕ) (unit : PictureUnit) : Type 0 where
+  pub code : Code
+  pub member : Member code past
+  pub zero_is : code.kind ≡ 0
+  pub place_is : code.place ≡ place
+  pub temporal : unit.temporal ≡ temporal_of code
+  pub kind : unit.kind ≡ kind_of (type_of code)
+  pub vectors : unit.vectors ≡ vectors_of code
+
+abbrev Has : List Code → ℕ → ℕ → Type 0
+Has past place kind = HasCode place kind past
+
+pub record Closed (past : List Code) (unit : PictureUnit) : Type 0 where
+  pub unit_is : UnitIs (Has past) (CodeFields past) unit
+  pub head_some : unit.from < unit.head_end
+  pub rest_some : unit.head_end < unit.to
+
+close-picture : (past : List Code) (unit : PictureUnit) (n : ℕ) (h : Header) → 0 < n → unit.temporal ≡ h.temporal → unit.kind ≡ kind_of h.coding → unit.vectors ≡ h.vectors → Pictured past unit.from unit.head_end n h → HasPicture (Has past) (CodeFields past) unit
+close-picture past unit n h some temporal kind vectors is = record {
+  place = is.code.place;
+  code = subst (λ k. HasCode is.code.place k past) is.kind (member-has is.code past is.member);
+  after = is.after;
+  before = is.before some;
+  only = λ other has after before. is.only other has after;
+  last = λ place kind has after before head. is.last place kind has after head;
+  fields = record {
+    code = is.code;
+    member = is.member;
+    zero_is = is.kind;
+    place_is = refl;
+    temporal = temporal ∙ ap (λ (v : Header). v.temporal) is.header;
+    kind = kind ∙ ap (λ (v : Header). kind_of v.coding) is.header;
+    vectors = vectors ∙ ap (λ (v : Header). v.vectors) is.header;
+  };
+}
+
+in-head : (past : List Code) (unit : PictureUnit) (n place kind : ℕ) (o : Option Header) (seq grp : Bool) → Open past unit.from unit.head_end n o seq grp → 0 < n → HasCode place kind past → IsHeadKind kind → place < unit.head_end
+in-head past unit n place kind o seq grp open_ some has head = elim (cases_lt place unit.head_end) [
+  | inl before ↦ before
+  | inr after ↦ absurd (open_.sliced some place kind has after head)
+]
+
+group-closed : (past : List Code) (unit : PictureUnit) (n : ℕ) (o : Option Header) → Open past unit.from unit.head_end n o unit.has_sequence unit.starts_group → 0 < n → Firsts past unit.from ⊎ ((place : ℕ) × (HasCode place 0xb8 past × (unit.from ≤ place))) → IsFirstCode (Has past) unit.from ⊎ StandsIn (Has past) unit.from unit.head_end 0xb8
+group-closed past unit n o open_ some (inl firsts) = inl firsts
+group-closed past unit n o open_ some (inr it) = inr (record { place = it.0; code = it.1.0; after = it.1.1; before = in-head past unit n it.0 0xb8 o unit.has_sequence unit.starts_group open_ some it.1.0 (inr (inr refl)) })
+
+group-open : (past : List Code) (unit : PictureUnit) (n : ℕ) (o : Option Header) → Open past unit.from unit.head_end n o unit.has_sequence unit.starts_group → IsFirstCode (Has past) unit.from ⊎ StandsIn (Has past) unit.from unit.head_end 0xb8 → unit.starts_group ≡ true
+group-open past unit n o open_ (inl firsts) = open_.grp_first firsts
+group-open past unit n o open_ (inr it) = open_.grp_set it.place it.code it.after
+
+close-by : (past : List Code) (unit : PictureUnit) (n : ℕ) (o : Option Header) → Open past unit.from unit.head_end n o unit.has_sequence unit.starts_group → 0 < n
+    → unit.temporal ≡ (unwrap_or o no_header).temporal → unit.kind ≡ kind_of (unwrap_or o no_header).coding → unit.vectors ≡ (unwrap_or o no_header).vectors
+    → ((place kind : ℕ) → HasCode place kind past → place < unit.to) → Closed past unit
+close-by past unit n None open_ some temporal kind vectors below = absurd (false≢true (open_.some some))
+close-by past unit n (Some h) open_ some temporal kind vectors below = record {
+  unit_is = record {
+    begins = open_.begins;
+    head = open_.head some;
+    head_ends = open_.head_ends some;
+    slices = λ place k has after before is. open_.sliced some place k has after is;
+    picture = close-picture past unit n h some temporal kind vectors open_.picture_is;
+    sequence = (
+      λ e. let it = open_.seq_there e in record { place = it.0; code = it.1.0; after = it.1.1; before = in-head past unit n it.0 0xb3 (Some h) unit.has_sequence unit.starts_group open_ some it.1.0 (inr (inl refl)) },
+      λ it. open_.seq_set it.place it.code it.after,
+    );
+    group = (
+      λ e. group-closed past unit n (Some h) open_ some (open_.grp_there e),
+      λ it. group-open past unit n (Some h) open_ it,
+    );
+  };
+  head_some = open_.order some;
+  rest_some = below unit.head_end (open_.head_ends some).0 (open_.head_ends some).1.0;
+}
+
+close : (past : List Code) (to : ℕ) → OpenOf past → 0 < slices_of past → ((place kind : ℕ) → HasCode place kind past → place < to) → Closed past (unit_at (tally_of past) to)
+close past to open_ some below = close-by past (unit_at (tally_of past) to) (slices_of past) (picture_of past) open_ some refl refl refl below
+
+-- ---- it stays so as codes come
+
+none-grows : (c : Code) (past : List Code) (from to : ℕ) (OfKind : ℕ → Type 0) → to ≤ c.place → NoneIn (Has past) from to OfKind → NoneIn (Has (c ∷ past)) from to OfKind
+none-grows c past from to OfKind far none place kind (inl new) after before is = omega (arith, new.0, far, before)
+none-grows c past from to OfKind far none place kind (inr old) after before is = none place kind old after before is
+
+stands-grows : (c : Code) (past : List Code) (from to kind : ℕ) → StandsIn (Has past) from to kind → StandsIn (Has (c ∷ past)) from to kind
+stands-grows c past from to kind it = record { place = it.place; code = inr it.code; after = it.after; before = it.before }
+
+shrinks-by : (c : Code) (past : List Code) (from to kind place : ℕ) → to ≤ c.place → HasCode place kind (c ∷ past) → from ≤ place → place < to → StandsIn (Has past) from to kind
+shrinks-by c past from to kind place far (inl new) after before = absurd (omega (arith, new.0, far, before))
+shrinks-by c past from to kind place far (inr old) after before = record { place = place; code = old; after = after; before = before }
+
+stands-shrinks : (c : Code) (past : List Code) (from to kind : ℕ) → to ≤ c.place → StandsIn (Has (c ∷ past)) from to kind → StandsIn (Has past) from to kind
+stands-shrinks c past from to kind far it = shrinks-by c past from to kind it.place far it.code it.after it.before
+
+only-grows : (c : Code) (past : List Code) (from to its : ℕ) → to ≤ c.place → ((other : ℕ) → HasCode other 0 past → from ≤ other → other < to → other ≡ its) → (other : ℕ) → HasCode other 0 (c ∷ past) → from ≤ other → other < to → other ≡ its
+only-grows c past from to its far only other (inl new) after before = absurd (omega (arith, new.0, far, before))
+only-grows c past from to its far only other (inr old) after before = only other old after before
+
+firsts-grow : (c : Code) (past : List Code) (from : ℕ) → from ≤ c.place → IsFirstCode (Has past) from → IsFirstCode (Has (c ∷ past)) from
+firsts-grow c past from far firsts place kind (inl new) = omega (arith, new.0, far)
+firsts-grow c past from far firsts place kind (inr old) = firsts place kind old
+
+group-grows : (c : Code) (past : List Code) (from to : ℕ) → from ≤ c.place → IsFirstCode (Has past) from ⊎ StandsIn (Has past) from to 0xb8 → IsFirstCode (Has (c ∷ past)) from ⊎ StandsIn (Has (c ∷ past)) from to 0xb8
+group-grows c past from to far (inl firsts) = inl (firsts-grow c past from far firsts)
+group-grows c past from to far (inr it) = inr (stands-grows c past from to 0xb8 it)
+
+group-shrinks : (c : Code) (past : List Code) (from to : ℕ) → to ≤ c.place → IsFirstCode (Has (c ∷ past)) from ⊎ StandsIn (Has (c ∷ past)) from to 0xb8 → IsFirstCode (Has past) from ⊎ StandsIn (Has past) from to 0xb8
+group-shrinks c past from to far (inl firsts) = inl (λ place kind has. firsts place kind (inr has))
+group-shrinks c past from to far (inr it) = inr (stands-shrinks c past from to 0xb8 far it)
+
+closed-grows : (c : Code) (past : List Code) (unit : PictureUnit) → unit.to ≤ c.place → Closed past unit → Closed (c ∷ past) unit
+closed-grows c past unit far closed =
+    let u = closed.unit_is in
+    let p = u.picture in
+    let head_far : unit.head_end ≤ c.place = omega (arith, far, closed.rest_some) in
+    let from_far : unit.from ≤ c.place = omega (arith, head_far, closed.head_some) in
+    record {
+      unit_is = record {
+        begins = (u.begins.0, (inr u.begins.1.0, u.begins.1.1));
+        head = none-grows c past unit.from unit.head_end IsSliceKind head_far u.head;
+        head_ends = (u.head_ends.0, (inr u.head_ends.1.0, u.head_ends.1.1));
+        slices = none-grows c past unit.head_end unit.to IsHeadKind far u.slices;
+        picture = record {
+          place = p.place;
+          code = inr p.code;
+          after = p.after;
+          before = p.before;
+          only = only-grows c past unit.from unit.head_end p.place head_far p.only;
+          last = none-grows c past (p.place + 1) unit.head_end IsHeadKind head_far p.last;
+          fields = record { code = p.fields.code; member = inr p.fields.member; zero_is = p.fields.zero_is; place_is = p.fields.place_is; temporal = p.fields.temporal; kind = p.fields.kind; vectors = p.fields.vectors };
+        };
+        sequence = (λ e. stands-grows c past unit.from unit.head_end 0xb3 (u.sequence.0 e), λ it. u.sequence.1 (stands-shrinks c past unit.from unit.head_end 0xb3 head_far it));
+        group = (λ e. group-grows c past unit.from unit.head_end from_far (u.group.0 e), λ it. u.group.1 (group-shrinks c past unit.from unit.head_end head_far it));
+      };
+      head_some = closed.head_some;
+      rest_some = closed.rest_some;
+    }
+
+-- ---- all units
+
+abbrev AllClosed : List Code → ℕ → List PictureUnit → Type 0
+AllClosed past at [] = Unit {0}
+AllClosed past at (unit ∷ units) = (Closed past unit × (unit.to ≤ at)) × AllClosed past at units
+
+all-grow : (c : Code) (past : List Code) (at : ℕ) (units : List PictureUnit) → at ≤ c.place → AllClosed past at units → AllClosed (c ∷ past) c.place units
+all-grow c past at [] far all = tt
+all-grow c past at (unit ∷ units) far all =
+    ((closed-grows c past unit (omega (arith, far, all.0.1)) all.0.0, omega (arith, far, all.0.1)), all-grow c past at units far all.1)
+
+all-append : (past : List Code) (at : ℕ) (xs ys : List PictureUnit) → AllClosed past at xs → AllClosed past at ys → AllClosed past at (xs ++ ys)
+all-append past at [] ys one other = other
+all-append past at (x ∷ xs) ys one other = (one.0, all-append past at xs ys one.1 other)
+
+all-later : (past : List Code) (at to : ℕ) (units : List PictureUnit) → at ≤ to → AllClosed past at units → AllClosed past to units
+all-later past at to [] far all = tt
+all-later past at to (unit ∷ units) far all = ((all.0.0, omega (arith, far, all.0.1)), all-later past at to units far all.1)
+
+all-at : (past : List Code) (at : ℕ) (units : List PictureUnit) (k : ℕ) (unit : PictureUnit) → slice_get units k ≡ Some unit → AllClosed past at units → Closed past unit
+all-at past at [] k unit is all = cc
+all-at past at (u ∷ units) zero unit is all = let same : u ≡ unit = cc in subst (λ (v : PictureUnit). Closed past v) same all.0.0
+all-at past at (u ∷ units) (suc k) unit is all = all-at past at units k unit is all.1
+
+-- the unit that ends at a code, over plain values
+closed-call : (s h q e : Bool) (c : Code) (past : List Code) (unit : PictureUnit) (a b x y : ℕ) → (s ≡ true → h ≡ false) → (h ≡ true → q ≡ true → Closed (c ∷ past) unit × (unit.to ≤ c.place))
+    → AllClosed (c ∷ past) c.place (units_in (cond s (cond e (head_call a b ∷ []) (slice_call x y ∷ [])) (cond (h && q) (slice_call x y ∷ unit_call unit ∷ []) [])))
+closed-call true h q true c past unit a b x y apart closed = tt
+closed-call true h q false c past unit a b x y apart closed = tt
+closed-call false true true e c past unit a b x y apart closed = (closed refl refl, tt)
+closed-call false true false e c past unit a b x y apart closed = tt
+closed-call false false q e c past unit a b x y apart closed = tt
+
+closed-step : (c d : Code) (past : List Code) → OpenOf (d ∷ past) → Below c (d ∷ past) → AllClosed (c ∷ (d ∷ past)) c.place (units_in (calls_at (tally_of (d ∷ past)) c.place c.kind))
+unfolding calls_at
+closed-step c d past open_ below =
+    let older : List Code = d ∷ past in
+    let t = tally_of older in
+    let unit = unit_at t c.place in
+    closed-call (is_slice c.kind) (is_head c.kind) (ltb 0 (slices_of older)) (eqb (slices_of older) 0) c older unit t.unit c.place t.slice c.place (slice-apart c.kind)
+    (λ head some. (closed-grows c older unit (omega arith) (close older c.place open_ (ltb-true 0 (slices_of older) some) below), omega arith))
+
+closed-first : (c : Code) → c.kind ≡ 0xb3 → AllClosed (c ∷ []) c.place (units_in (calls_at (tally_of []) c.place c.kind))
+unfolding calls_at
+closed-first c is =
+    subst (λ m. AllClosed (c ∷ []) c.place (units_in (cond (is_slice m) (cond (eqb 0 0) (head_call 0 c.place ∷ []) (slice_call 0 c.place ∷ [])) (cond (is_head m && ltb 0 0) (unit_end (tally_of []) c.place) [])))) (sym is) tt
+
+told-closed : (c : Code) (past : List Code) → first_fault (c ∷ past) ≡ None → Spaced (c ∷ past) → AllClosed (c ∷ past) c.place (units_in (told (c ∷ past)))
+told-closed c [] accepted spaced =
+    subst (λ (l : List Call). AllClosed (c ∷ []) c.place (units_in l)) (sym (told-cons c [] ∙ ap (λ (l : List Call). l ++ calls_at (tally_of []) c.place c.kind) told-nil)) (closed-first c (first-is c accepted))
+told-closed c (d ∷ past) accepted spaced =
+    let older : List Code = d ∷ past in
+    let calls = calls_at (tally_of older) c.place c.kind in
+    let below = all-below older c.place spaced.1 spaced.0 in
+    let before = told-closed d past (accepted-older c older accepted) spaced.1 in
+    subst (λ (l : List PictureUnit). AllClosed (c ∷ older) c.place l) (sym (ap units_in (told-cons c older) ∙ units_in-append (told older) calls))
+    (all-append (c ∷ older) c.place (units_in (told older)) (units_in calls) (all-grow c older d.place (units_in (told older)) (omega (arith, below d.place d.kind (inl (refl, refl)))) before)
+    (closed-step c d past (open-codes d past (accepted-older c older accepted) spaced.1) below))
+
+whole-closed : (past : List Code) (n : ℕ) → first_fault past ≡ None → end_fault past n ≡ None → Spaced past → After n past → AllClosed past n (units_in (told past ++ unit_end (tally_of past) n))
+unfolding end_fault
+whole-closed [] n accepted ended spaced after = absurd (omega (arith, ended-none (tally_of []) ended))
+whole-closed (c ∷ past) n accepted ended spaced after =
+    let all : List Code = c ∷ past in
+    let some = ended-none (tally_of all) (otherwise-second (latest_fault all n) (last_fault (tally_of all)) ended) in
+    let below = all-below all n spaced after in
+    let last : AllClosed all n (units_in (unit_end (tally_of all) n)) = ((close all n (open-codes c past accepted spaced) some below, omega arith), tt) in
+    subst (λ (l : List PictureUnit). AllClosed all n l) (sym (units_in-append (told all) (unit_end (tally_of all) n)))
+    (all-append all n (units_in (told all)) (units_in (unit_end (tally_of all) n)) (all-later all c.place n (units_in (told all)) (omega (arith, below c.place c.kind (inl (refl, refl)))) (told-closed c past accepted spaced)) last)
+
+-- ---- from codes to bytes
+
+-- a code's text and what its header has at least
+record CodeText (r : List ℕ) (c : Code) : Type 0 where
+  stop : ℕ
+  end : ℕ
+  rate : ℕ
+  is : TextIs r stop c
+  judged : header_fault rate c end ≡ None
+  far : end ≤ stop
+
+code-text : (r : List ℕ) (c : Code) (past : List Code) (its : Code) (end stop : ℕ) → first_fault (c ∷ past) ≡ None → latest_fault (c ∷ past) end ≡ None → end ≤ stop → TextsAre r stop (c ∷ past) → Member its (c ∷ past) → CodeText r its
+code-text r c past its end stop accepted judged far texts (inl same) =
+    subst (λ (v : Code). CodeText r v) same (record { stop = stop; end = end; rate = rate_of past; is = texts.0; judged = judged; far = far })
+code-text r c [] its end stop accepted judged far texts (inr m) = absurd m
+code-text r c (d ∷ past) its end stop accepted judged far texts (inr m) =
+    code-text r d past its c.place (c.place + 4) (accepted-older c (d ∷ past) accepted) (older-judged c (d ∷ past) accepted) (omega arith) texts.1 m
+
+picture-judged : (a b z : Bool) (f g h : Option FilmFault) → a ≡ false → b ≡ false → z ≡ true → cond a f (cond b g (cond z h None)) ≡ None → h ≡ None
+picture-judged true b z f g h na nb is e = absurd (true≢false na)
+picture-judged false true z f g h na nb is e = absurd (true≢false nb)
+picture-judged false false true f g h na nb is e = e
+picture-judged false false false f g h na nb is e = absurd (false≢true is)
+
+type-judged : (b : Bool) (f : FilmFault) → cond b None (Some f) ≡ None → b ≡ true
+type-judged true f e = refl
+type-judged false f e = absurd (cc)
+
+record PictureLong (c : Code) (end : ℕ) : Type 0 where
+  eight : c.place + 8 ≤ end
+  nine : (type_of c ≡ 2) ⊎ (type_of c ≡ 3) → c.place + 9 ≤ end
+  low : 1 ≤ type_of c
+  high : type_of c ≤ 4
+
+or-true : (a b : Bool) → b ≡ true → (a || b) ≡ true
+or-true true b e = refl
+or-true false b e = e
+
+or-set : (t : ℕ) → (t ≡ 2) ⊎ (t ≡ 3) → (eqb t 2 || eqb t 3) ≡ true
+or-set t (inl e) = ap (λ b. b || eqb t 3) (eq-eqb t 2 e)
+or-set t (inr e) = or-true (eqb t 2) (eqb t 3) (eq-eqb t 3 e)
+
+nine-by : (a b : Bool) → (a && b) ≡ false → a ≡ true → b ≡ false
+nine-by true b none is = none
+nine-by false b none is = absurd (false≢true is)
+
+picture-long : (rate : ℕ) (c : Code) (end : ℕ) → c.kind ≡ 0 → header_fault rate c end ≡ None → PictureLong c end
+picture-long rate c end is e =
+    let judged = picture-judged (eqb c.kind 0xb3) (eqb c.kind 0xb8) (eqb c.kind 0) (cond (ltb (end - c.place) 12) (Some (ShortHeader c.place)) (rate_fault rate c)) (cond (ltb (end - c.place) 8) (Some (ShortHeader c.place)) None) (picture_fault c end)
+    (ne_eqb c.kind 0xb3 (λ k. absurd (omega (arith, is, k)))) (ne_eqb c.kind 0xb8 (λ k. absurd (omega (arith, is, k)))) (eq-eqb c.kind 0 is) e in
+    let parts = some-cond-none (ltb (end - c.place) 8 || ((eqb (type_of c) 2 || eqb (type_of c) 3) && ltb (end - c.place) 9)) (ShortHeader c.place) (cond (leb 1 (type_of c) && leb (type_of c) 4) None (Some (BadType c.place))) judged in
+    let lengths = or_parts (ltb (end - c.place) 8) ((eqb (type_of c) 2 || eqb (type_of c) 3) && ltb (end - c.place) 9) parts.0 in
+    let types = and_parts (leb 1 (type_of c)) (leb (type_of c) 4) (type-judged (leb 1 (type_of c) && leb (type_of c) 4) (BadType c.place) parts.1) in
+    record {
+      eight = omega (arith, ltb-false (end - c.place) 8 lengths.0);
+      nine = λ two. omega (arith, ltb-false (end - c.place) 9 (nine-by (eqb (type_of c) 2 || eqb (type_of c) 3) (ltb (end - c.place) 9) lengths.1 (or-set (type_of c) two)));
+      low = leb-true 1 (type_of c) types.0;
+      high = leb-true (type_of c) 4 types.1;
+    }
+
+-- the kind of a type
+data FourTypes (t : ℕ) : Type 0 where
+  one_type : t ≡ 1 → FourTypes t
+  two_type : t ≡ 2 → FourTypes t
+  three_type : t ≡ 3 → FourTypes t
+  four_type : t ≡ 4 → FourTypes t
+
+four-types : (t : ℕ) → 1 ≤ t → t ≤ 4 → FourTypes t
+four-types t low high = elim (cases_lt t 2) [
+  | inl a ↦ one_type (omega arith)
+  | inr a ↦ elim (cases_lt t 3) [
+    | inl b ↦ two_type (omega arith)
+    | inr b ↦ elim (cases_lt t 4) [
+      | inl d ↦ three_type (omega arith)
+      | inr d ↦ four_type (omega arith)
+    ]
+  ]
+]
+
+abbrev vectors_by : ℕ → ℕ → ℕ → ℕ
+vectors_by t forward backward = cond (eqb t 3) (backward * 16 + forward) (cond (eqb t 2) forward 0)
+
+record TypeFits (t : ℕ) (bytes : List ℕ) (place forward backward : ℕ) : Type 0 where
+  number : type_number (kind_of t) ≡ t
+  vectors : vectors_by t forward backward ≡ vector_fields bytes place (kind_of t)
+
+type-fits : (t : ℕ) (bytes : List ℕ) (place forward backward : ℕ) → FourTypes t → ((t ≡ 2) ⊎ (t ≡ 3) → (forward ≡ get_or bytes (place + 7) 0 % 8 * 2 + get_or bytes (place + 8) 0 / 128) × (backward ≡ get_or bytes (place + 8) 0 / 8 % 16)) → TypeFits t bytes place forward backward
+type-fits t bytes place forward backward (one_type e) both = subst (λ m. TypeFits m bytes place forward backward) (sym e) (record { number = refl; vectors = refl })
+type-fits t bytes place forward backward (two_type e) both = subst (λ m. TypeFits m bytes place forward backward) (sym e) (record { number = refl; vectors = (both (inl e)).0 })
+type-fits t bytes place forward backward (three_type e) both =
+    let its = both (inr e) in subst (λ m. TypeFits m bytes place forward backward) (sym e) (record { number = refl; vectors = ap (λ b. b * 16 + forward) its.1 ∙ ap (λ f. (get_or bytes (place + 8) 0 / 8 % 16) * 16 + f) its.0 })
+type-fits t bytes place forward backward (four_type e) both = subst (λ m. TypeFits m bytes place forward backward) (sym e) (record { number = refl; vectors = refl })
+
+-- the fields of a picture's code are those of its header's bytes
+fields-fit : (bytes r : List ℕ) (c : Code) (place : ℕ) (unit : PictureUnit) → r ≡ read [] bytes → c.kind ≡ 0 → c.place ≡ place → unit.temporal ≡ temporal_of c → unit.kind ≡ kind_of (type_of c) → unit.vectors ≡ vectors_of c → CodeText r c → HasFields bytes place unit
+fields-fit bytes r c place unit is zero_kind at temporal kind vectors text =
+    let long = picture-long text.rate c text.end zero_kind text.judged in
+    let count : length r ≡ length bytes = ap length is ∙ length-read bytes [] ∙ omega arith in
+    let same = λ (i : ℕ). ap (λ (l : List ℕ). at_byte l i) is ∙ at-bytes bytes i in
+    let here = λ (k p : ℕ) (small : k < 5) (far : c.place + 4 + k < text.stop) (where_ : c.place + 4 + k ≡ p). text-byte bytes r text.stop c k same small far text.is count ∙ ap (λ i. get_or bytes i 0) where_ in
+    let b0 : get_or c.text 0 0 ≡ get_or bytes (place + 4) 0 = here 0 (place + 4) (omega arith) (omega (arith, long.eight, text.far)) (omega (arith, at)) in
+    let b1 : get_or c.text 1 0 ≡ get_or bytes (place + 5) 0 = here 1 (place + 5) (omega arith) (omega (arith, long.eight, text.far)) (omega (arith, at)) in
+    let b3 : get_or c.text 3 0 ≡ get_or bytes (place + 7) 0 = here 3 (place + 7) (omega arith) (omega (arith, long.eight, text.far)) (omega (arith, at)) in
+    let type_is : type_of c ≡ get_or bytes (place + 5) 0 / 8 % 8 = ap (λ b. b / 8 % 8) b1 in
+    let fits = type-fits (type_of c) bytes place (forward_of c) (backward_of c) (four-types (type_of c) long.low long.high)
+    (λ two. let b4 : get_or c.text 4 0 ≡ get_or bytes (place + 8) 0 = here 4 (place + 8) (omega arith) (omega (arith, long.nine two, text.far)) (omega (arith, at)) in
+    (ap (λ b. b % 8 * 2 + get_or c.text 4 0 / 128) b3 ∙ ap (λ b. get_or bytes (place + 7) 0 % 8 * 2 + b / 128) b4, ap (λ b. b / 8 % 16) b4)) in
+    record {
+      temporal = temporal ∙ ap (λ b. b * 4 + get_or c.text 1 0 / 64) b0 ∙ ap (λ b. get_or bytes (place + 4) 0 * 4 + b / 64) b1;
+      kind = ap type_number kind ∙ fits.number ∙ type_is;
+      vectors = vectors ∙ fits.vectors ∙ ap (λ (v : Kind). vector_fields bytes place v) (sym kind);
+    }
+
+-- a unit over these codes is one over the bytes
+none-bytes : (bytes : List ℕ) (past : List Code) (from to : ℕ) (OfKind : ℕ → Type 0) → ((place kind : ℕ) → HasCode place kind past ↔ StandsAt bytes place kind) → NoneIn (Has past) from to OfKind → NoneIn (StandsAt bytes) from to OfKind
+none-bytes bytes past from to OfKind both none place kind has after before is = none place kind ((both place kind).1 has) after before is
+
+stands-bytes : (bytes : List ℕ) (past : List Code) (from to k : ℕ) → ((place kind : ℕ) → HasCode place kind past ↔ StandsAt bytes place kind) → StandsIn (Has past) from to k → StandsIn (StandsAt bytes) from to k
+stands-bytes bytes past from to k both it = record { place = it.place; code = (both it.place k).0 it.code; after = it.after; before = it.before }
+
+stands-codes : (bytes : List ℕ) (past : List Code) (from to k : ℕ) → ((place kind : ℕ) → HasCode place kind past ↔ StandsAt bytes place kind) → StandsIn (StandsAt bytes) from to k → StandsIn (Has past) from to k
+stands-codes bytes past from to k both it = record { place = it.place; code = (both it.place k).1 it.code; after = it.after; before = it.before }
+
+group-bytes : (bytes : List ℕ) (past : List Code) (from to : ℕ) → ((place kind : ℕ) → HasCode place kind past ↔ StandsAt bytes place kind) → IsFirstCode (Has past) from ⊎ StandsIn (Has past) from to 0xb8 → IsFirstCode (StandsAt bytes) from ⊎ StandsIn (StandsAt bytes) from to 0xb8
+group-bytes bytes past from to both (inl firsts) = inl (λ place kind has. firsts place kind ((both place kind).1 has))
+group-bytes bytes past from to both (inr it) = inr (stands-bytes bytes past from to 0xb8 both it)
+
+group-codes : (bytes : List ℕ) (past : List Code) (from to : ℕ) → ((place kind : ℕ) → HasCode place kind past ↔ StandsAt bytes place kind) → IsFirstCode (StandsAt bytes) from ⊎ StandsIn (StandsAt bytes) from to 0xb8 → IsFirstCode (Has past) from ⊎ StandsIn (Has past) from to 0xb8
+group-codes bytes past from to both (inl firsts) = inl (λ place kind has. firsts place kind ((both place kind).0 has))
+group-codes bytes past from to both (inr it) = inr (stands-codes bytes past from to 0xb8 both it)
+
+unit-bytes : (bytes : List ℕ) (past : List Code) (unit : PictureUnit) → ((place kind : ℕ) → HasCode place kind past ↔ StandsAt bytes place kind) → ((c : Code) → Member c past → CodeText (read [] bytes) c) → Closed past unit → IsUnitOf bytes unit
+unit-bytes bytes past unit both texts closed =
+    let u = closed.unit_is in
+    let p = u.picture in
+    let f = p.fields in
+    record {
+      begins = (u.begins.0, ((both unit.from u.begins.0).0 u.begins.1.0, u.begins.1.1));
+      head = none-bytes bytes past unit.from unit.head_end IsSliceKind both u.head;
+      head_ends = (u.head_ends.0, ((both unit.head_end u.head_ends.0).0 u.head_ends.1.0, u.head_ends.1.1));
+      slices = none-bytes bytes past unit.head_end unit.to IsHeadKind both u.slices;
+      picture = record {
+        place = p.place;
+        code = (both p.place 0).0 p.code;
+        after = p.after;
+        before = p.before;
+        only = λ other has after before. p.only other ((both other 0).1 has) after before;
+        last = none-bytes bytes past (p.place + 1) unit.head_end IsHeadKind both p.last;
+        fields = fields-fit bytes (read [] bytes) f.code p.place unit refl f.zero_is f.place_is f.temporal f.kind f.vectors (texts f.code f.member);
+      };
+      sequence = (λ e. stands-bytes bytes past unit.from unit.head_end 0xb3 both (u.sequence.0 e), λ it. u.sequence.1 (stands-codes bytes past unit.from unit.head_end 0xb3 both it));
+      group = (λ e. group-bytes bytes past unit.from unit.head_end both (u.group.0 e), λ it. u.group.1 (group-codes bytes past unit.from unit.head_end both it));
+    }
+
+whole-texts : (r : List ℕ) (past : List Code) (n : ℕ) → first_fault past ≡ None → end_fault past n ≡ None → TextsAre r n past → (c : Code) → Member c past → CodeText r c
+unfolding end_fault
+whole-texts r [] n accepted ended texts c m = absurd m
+whole-texts r (d ∷ past) n accepted ended texts c m =
+    code-text r d past c n n accepted (otherwise-first (latest_fault (d ∷ past) n) (last_fault (tally_of (d ∷ past))) ended) (omega arith) texts m
+
+pub film-standard : (bytes : List ℕ) (rate : ℕ) (units : List PictureUnit) (starts : List ℕ) → IsFilm bytes rate units starts → (k : ℕ) (unit : PictureUnit) → slice_get units k ≡ Some unit → IsUnitOf bytes unit
+film-standard bytes rate units starts film k unit is =
+    let r = read [] bytes in
+    let past = codes_of r in
+    let none = accepted-whole r film.accepted in
+    let accepted = otherwise-first (first_fault past) (end_fault past (length r)) none in
+    let ended = otherwise-second (first_fault past) (end_fault past (length r)) none in
+    let placed = placed-codes r in
+    let all = whole-closed past (length r) accepted ended placed.spaced (room-after past (matched r) (length r) placed.room) in
+    let mine : AllClosed past (length r) units = subst (λ (l : List PictureUnit). AllClosed past (length r) l) (sym film.units) all in
+    unit-bytes bytes past unit (codes-stand bytes) (whole-texts r past (length r) accepted ended (codes-texts r)) (all-at past (length r) units k unit is mine)
+
+-- ---- units and codes in their order
+
+codes-fall : (past : List Code) (at : ℕ) → Spaced past → AreFalling past
+codes-fall [] at spaced = tt
+codes-fall (c ∷ past) at spaced = (all-below past c.place spaced.1 spaced.0, codes-fall past c.place spaced.1)
+
+pub codes-falling : (r : List ℕ) → AreFalling (codes_of r)
+codes-falling r = codes-fall (codes_of r) (length r) (placed-codes r).spaced
+
+count-fits : (b : Bool) (k : Count) (calls : List Call) → IsSome (counts_after (cond b (Some k) None) calls) → (b ≡ true) × IsSome (counts_after (Some k) calls)
+count-fits true k calls e = (refl, e)
+count-fits false k [] e = cc
+count-fits false k (call ∷ calls) e = cc
+
+counts-present : (calls : List Call) (k : Count) → IsSome (counts_after (Some k) calls) → ArePresented k.units k.before_group (units_in calls)
+counts-present [] k some = tt
+counts-present (head_call from to ∷ calls) k some = counts-present calls k some
+counts-present (slice_call from to ∷ calls) k some = counts-present calls (record k { slices = k.slices + 1 }) some
+counts-present (unit_call unit ∷ calls) k some =
+    let next : Count = record { units = k.units + 1; slices = k.slices; before_group = group_of k unit } in
+    let fits = count-fits (eqb (unit.first_slice + unit.slices) k.slices && eqb unit.presentation (group_of k unit + unit.temporal)) next calls some in
+    let shown = (and_parts (eqb (unit.first_slice + unit.slices) k.slices) (eqb unit.presentation (group_of k unit + unit.temporal)) fits.0).1 in
+    (eqb-true unit.presentation (group_of k unit + unit.temporal) shown, counts-present calls next fits.1)
+
+pub film-presented : (bytes : List ℕ) (rate : ℕ) (units : List PictureUnit) (starts : List ℕ) → IsFilm bytes rate units starts → ArePresented 0 0 units
+film-presented bytes rate units starts film =
+    let r = read [] bytes in
+    subst (λ (l : List PictureUnit). ArePresented 0 0 l) (sym film.units) (counts-present (all_told r) no_count (film-numbered r film.accepted))

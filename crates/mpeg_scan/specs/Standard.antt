@@ -1,0 +1,112 @@
+-- The units of a film in the words of ISO/IEC 11172-2, over the start codes that stand in its bytes and nothing else. A
+-- word of it takes `Has`: that a code of a kind stands at a place.
+use Rattle.std.specs.Prelude.{ℕ, ◌+◌, ◌*◌, ◌/◌, ◌%◌, ◌<◌, ◌≤◌, ◌≡◌, ◌⊎◌, ◌↔◌, true, if◌then◌else◌, List, [], ◌∷◌, slice_index}
+use Rattle.mpeg_scan.specs.declared.codes.Code.{Code}
+use Rattle.mpeg_scan.specs.declared.units.Kind.{Kind}
+use Rattle.mpeg_scan.specs.declared.units.Kind.TheVariants.{I, P, B, D}
+use Rattle.mpeg_scan.specs.declared.units.Unit.{Unit as PictureUnit}
+use Rattle.mpeg_scan.specs.Places.{HasCode, StandsAt}
+
+-- ---- kinds of start codes (table 2-D.1)
+
+-- of a picture header, a sequence header or a group header
+abbrev pub IsHeadKind : ℕ → Type 0
+IsHeadKind kind = (kind ≡ 0) ⊎ ((kind ≡ 0xb3) ⊎ (kind ≡ 0xb8))
+
+abbrev pub IsSliceKind : ℕ → Type 0
+IsSliceKind kind = (1 ≤ kind) × (kind ≤ 0xaf)
+
+-- a code of this kind stands from one place on before another
+pub record StandsIn (Has : ℕ → ℕ → Type 0) (from to kind : ℕ) : Type 0 where
+  pub place : ℕ
+  pub code : Has place kind
+  pub after : from ≤ place
+  pub before : place < to
+
+-- no code of such a kind stands there
+abbrev pub NoneIn : (ℕ → ℕ → Type 0) → ℕ → ℕ → (ℕ → Type 0) → Type 0
+NoneIn Has from to OfKind = (place kind : ℕ) → Has place kind → from ≤ place → place < to → OfKind kind → ⊥
+
+-- no code at all stands before a place
+abbrev pub IsFirstCode : (ℕ → ℕ → Type 0) → ℕ → Type 0
+IsFirstCode Has from = (place kind : ℕ) → Has place kind → from ≤ place
+
+-- a code of such a kind stands at a place
+abbrev pub StandsThere : (ℕ → ℕ → Type 0) → ℕ → (ℕ → Type 0) → Type 0
+StandsThere Has place OfKind = (kind : ℕ) × (Has place kind × OfKind kind)
+
+-- ---- the fields of a picture header whose code stands at a place (2.4.2.5): temporal_reference 10 bits,
+-- picture_coding_type 3, vbv_delay 16, full_pel_forward_vector 1, forward_f_code 3, full_pel_backward_vector 1,
+-- backward_f_code 3, from the fifth byte on
+abbrev pub temporal_reference : List ℕ → ℕ → ℕ
+temporal_reference bytes place = slice_index bytes (place + 4) * 4 + slice_index bytes (place + 5) / 64
+
+abbrev pub picture_coding_type : List ℕ → ℕ → ℕ
+picture_coding_type bytes place = slice_index bytes (place + 5) / 8 % 8
+
+-- full_pel_forward_vector and forward_f_code, 4 bits
+abbrev pub forward_vector : List ℕ → ℕ → ℕ
+forward_vector bytes place = slice_index bytes (place + 7) % 8 * 2 + slice_index bytes (place + 8) / 128
+
+-- full_pel_backward_vector and backward_f_code, 4 bits
+abbrev pub backward_vector : List ℕ → ℕ → ℕ
+backward_vector bytes place = slice_index bytes (place + 8) / 8 % 16
+
+abbrev pub type_number : Kind → ℕ
+type_number I = 1
+type_number P = 2
+type_number B = 3
+type_number D = 4
+
+-- a P picture has the forward fields, a B picture the backward ones in the high half besides
+abbrev pub vector_fields : List ℕ → ℕ → Kind → ℕ
+vector_fields bytes place I = 0
+vector_fields bytes place P = forward_vector bytes place
+vector_fields bytes place B = backward_vector bytes place * 16 + forward_vector bytes place
+vector_fields bytes place D = 0
+
+pub record HasFields (bytes : List ℕ) (place : ℕ) (unit : PictureUnit) : Type 0 where
+  pub temporal : unit.temporal ≡ temporal_reference bytes place
+  pub kind : type_number unit.kind ≡ picture_coding_type bytes place
+  pub vectors : unit.vectors ≡ vector_fields bytes place unit.kind
+
+-- ---- a unit
+
+-- the one picture of a unit's head: no other header comes after it
+pub record HasPicture (Has : ℕ → ℕ → Type 0) (Fields : ℕ → PictureUnit → Type 0) (unit : PictureUnit) : Type 0 where
+  pub place : ℕ
+  pub code : Has place 0
+  pub after : unit.from ≤ place
+  pub before : place < unit.head_end
+  pub only : (other : ℕ) → Has other 0 → unit.from ≤ other → other < unit.head_end → other ≡ place
+  pub last : NoneIn Has (place + 1) unit.head_end IsHeadKind
+  pub fields : Fields place unit
+
+-- a unit goes from a code of a head to its first slice code, and from there to the next code of a head or the end
+pub record UnitIs (Has : ℕ → ℕ → Type 0) (Fields : ℕ → PictureUnit → Type 0) (unit : PictureUnit) : Type 0 where
+  pub begins : StandsThere Has unit.from IsHeadKind
+  pub head : NoneIn Has unit.from unit.head_end IsSliceKind
+  pub head_ends : StandsThere Has unit.head_end IsSliceKind
+  pub slices : NoneIn Has unit.head_end unit.to IsHeadKind
+  pub picture : HasPicture Has Fields unit
+  pub sequence : (unit.has_sequence ≡ true) ↔ StandsIn Has unit.from unit.head_end 0xb3
+  pub group : (unit.starts_group ≡ true) ↔ (IsFirstCode Has unit.from ⊎ StandsIn Has unit.from unit.head_end 0xb8)
+
+-- a unit of these bytes
+abbrev pub IsUnitOf : List ℕ → PictureUnit → Type 0
+IsUnitOf bytes unit = UnitIs (StandsAt bytes) (HasFields bytes) unit
+
+-- ---- units in their order
+
+-- the presentation number of each of these units is the number of units before its group, and its temporal_reference more,
+-- where so many units come before these, and so many before the latest group
+abbrev pub ArePresented : ℕ → ℕ → List PictureUnit → Type 0
+ArePresented number group [] = Unit {0}
+ArePresented number group (unit ∷ units) =
+    (unit.presentation ≡ (if unit.starts_group then number else group) + unit.temporal)
+    × ArePresented (number + 1) (if unit.starts_group then number else group) units
+
+-- codes that are given the latest first stand in falling order, each place once
+abbrev pub AreFalling : List Code → Type 0
+AreFalling [] = Unit {0}
+AreFalling (c ∷ past) = ((place kind : ℕ) → HasCode place kind past → place < c.place) × AreFalling past
