@@ -111,7 +111,7 @@ short-uncut (n ∷ slices) f cuts order (inr x) =
 
 -- ---- the last fragment ends its piece
 
-among-full : (x start count : ℕ) (cuts : List ℕ) → among x cuts ≡ true → among x (full_ends start count ++ cuts) ≡ true
+pub among-full : (x start count : ℕ) (cuts : List ℕ) → among x cuts ≡ true → among x (full_ends start count ++ cuts) ≡ true
 among-full x start zero cuts is = is
 among-full x start (suc count) cuts is = or-right (eqb x (start + 1380)) (among x (full_ends (start + 1380) count ++ cuts)) (among-full x (start + 1380) count cuts is)
 

@@ -5,3 +5,4 @@ pub mod FlagLemmas
 pub mod UnitLemmas
 pub mod LawLemmas
 pub mod MarkLemmas
+pub mod RuleLemmas

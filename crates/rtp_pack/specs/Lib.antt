@@ -4,3 +4,4 @@ pub mod Heads
 pub mod Reports
 pub mod Sizes
 pub mod Laws
+pub mod Rules

@@ -1,7 +1,8 @@
-ghost use Rattle.std.specs.Prelude.{◌≡◌, ◌+◌, ◌<◌, ◌≤◌, ◌++◌, length, sum, Ok};
+ghost use Rattle.std.specs.Prelude.{◌≡◌, ◌+◌, ◌<◌, ◌≤◌, ◌++◌, ℕ, List, length, sum, Ok};
 ghost use Rattle.rtp_pack.specs.Cutting.{IsCutting};
 ghost use Rattle.rtp_pack.specs.Heads.{head_bytes, head_of};
 ghost use Rattle.rtp_pack.specs.Laws.{ArePieces, AreShortUncut, DoLongEndPieces, IsLastMarked, IsUncut};
+ghost use Rattle.rtp_pack.specs.Rules.{HaveBytes, MeetsRules};
 ghost use Rattle.rtp_pack.specs.Packets.{ArePackets, DoCover, IsLaid, OfUnit};
 
 use crate::heads::Head;
@@ -55,3 +56,15 @@ pub fn law_head_read_back(head: Head, payload: &[u8])
 {
     let _read = (head, payload.len());
 }
+
+/// The rules of cutting as conditions on the list of cut points: exactly one list meets them, and it is the packer's.
+pub fn law_rules()
+    ensures some { (from head_end : ℕ) (slices : List ℕ) → from < head_end → head_end ≤ from + 1380 → HaveBytes slices
+        → (cuts : List ℕ) × MeetsRules from head_end slices cuts }
+    ensures one { (from head_end : ℕ) (slices one other : List ℕ)
+        → MeetsRules from head_end slices one → MeetsRules from head_end slices other → one ≡ other }
+    ensures meets { (from head_end : ℕ) (slices cuts : List ℕ) → from < head_end → head_end ≤ from + 1380 → HaveBytes slices
+        → IsCutting from head_end slices cuts → MeetsRules from head_end slices cuts }
+    ensures cutting { (from head_end : ℕ) (slices cuts : List ℕ) → from < head_end → head_end ≤ from + 1380 → HaveBytes slices
+        → MeetsRules from head_end slices cuts → IsCutting from head_end slices cuts }
+{}

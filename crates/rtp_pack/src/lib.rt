@@ -13,7 +13,9 @@ mod sizes;
 pub use heads::{
     Head, HeadFault, media_timestamp, packet_head, read_head, video_header, write_head,
 };
-pub use laws::{law_cutting, law_head_read_back, law_last_marked, law_one_cutting, law_unit_laid};
+pub use laws::{
+    law_cutting, law_head_read_back, law_last_marked, law_one_cutting, law_rules, law_unit_laid,
+};
 pub use payloads::{Packet, packets};
 pub use reports::{Identity, Report, unit_report, write_report};
 pub use sizes::UnitSize;

@@ -1,0 +1,294 @@
+-- Exactly one list of cut points meets the rules, and it is the packer's.
+use Rattle.std.proofs.Common.{◌≡◌, ℕ, zero, suc, ◌+◌, ◌*◌, ◌<◌, ◌≤◌, ◌⊎◌, Bool, true, false, cond, eqb, leb, ◌||◌, List, [], ◌∷◌, ◌++◌, sum, refl, sym, ap, subst, ◌∙◌, arith, inl, inr}
+use Rattle.std.proofs.lemmas.Bool.{cases_lt, cases_order, eq-eqb, ne_eqb, le-leb, lt-leb, leb-false, le-ltb, ltb-false}
+use Rattle.mpeg_scan.specs.declared.units.Kind.TheVariants.{I}
+use Rattle.mpeg_scan.specs.declared.units.Unit.{Unit as PictureUnit}
+use Rattle.rtp_pack.specs.declared.filling.Filling.{Filling}
+use Rattle.rtp_pack.specs.declared.filling.Holds.{Holds}
+use Rattle.rtp_pack.specs.declared.filling.Holds.TheVariants.{HeadAlone, Slices, LastFragment}
+use Rattle.rtp_pack.specs.Cutting.{Cuts, IsCutting, filled, first_piece, full_ends, goes_in, goes_in_cut, goes_in_whole, held}
+use Rattle.rtp_pack.specs.Laws.{ArePieces, AreShortUncut, DoLongEndPieces, IsUncut}
+use Rattle.rtp_pack.specs.Packets.{among, packets_from}
+use Rattle.rtp_pack.specs.Rules.{HaveBytes, IsCutPlace, MayAllEnd, MayEnd, MeetsRules, SliceAt}
+use Rattle.rtp_pack.proofs.CutLemmas.{AreSome, ends, not_both, packets-cut}
+use Rattle.rtp_pack.proofs.FlagLemmas.{or-right}
+use Rattle.rtp_pack.proofs.LawLemmas.{among-full, cuts-behind, head-uncut, long-ends, pieces-cover, short-uncut}
+
+-- ---- one list
+
+-- what two lists are compared by, from the place on where a piece begins
+record Rest (Must : ℕ → Type 0) (Fits : ℕ → ℕ → Type 0) (May : ℕ → ℕ → Type 0) (start end : ℕ) (cuts : List ℕ) : Type 0 where
+  pieces : ArePieces start cuts end
+  short : (place length : ℕ) → Fits place length → IsUncut place (place + length) cuts
+  must : (place : ℕ) → start < place → Must place → among place cuts ≡ true
+  ends : MayAllEnd May start cuts
+
+-- the reasons of an end
+abbrev Reasons : (ℕ → Type 0) → (ℕ → ℕ → Type 0) → (ℕ → ℕ → Type 0) → Type 0
+Reasons Must Fits May =
+    (start cut : ℕ) → May start cut → (cut ≡ start + 1380) ⊎ (Must cut ⊎ ((length : ℕ) × (Fits cut length × (start + 1380 < cut + length))))
+
+pieces-rise : (start end first : ℕ) (cuts : List ℕ) → ArePieces start cuts end → first < start → among first cuts ≡ true → ⊥
+pieces-rise start end first [] pieces less e = cc
+pieces-rise start end first (cut ∷ cuts) pieces less e =
+    let other : eqb first cut ≡ false = ne_eqb first cut (λ is. absurd (omega (arith, is, pieces.0, less))) in
+    pieces-rise cut end first cuts pieces.1.1 (omega (arith, less, pieces.0)) (sym (ap (λ b. b || among first cuts) other) ∙ e)
+
+pieces-end : (start end : ℕ) (cuts : List ℕ) → ArePieces start cuts end → start ≤ end
+pieces-end start end [] pieces = omega (arith, pieces)
+pieces-end start end (cut ∷ cuts) pieces = omega (arith, pieces.0, pieces-end cut end cuts pieces.1.1)
+
+among-rest : (place cut : ℕ) (cuts : List ℕ) → cut < place → among place (cut ∷ cuts) ≡ true → among place cuts ≡ true
+among-rest place cut cuts less e =
+    let other : eqb place cut ≡ false = ne_eqb place cut (λ is. absurd (omega (arith, is, less))) in
+    sym (ap (λ b. b || among place cuts) other) ∙ e
+
+ends-next : (May : ℕ → ℕ → Type 0) (start cut : ℕ) (cuts : List ℕ) → MayAllEnd May start (cut ∷ cuts) → MayAllEnd May cut cuts
+ends-next May start cut [] ends_ = tt
+ends-next May start cut (next ∷ cuts) ends_ = ends_.1
+
+rest-next : (Must : ℕ → Type 0) (Fits May : ℕ → ℕ → Type 0) (start end cut : ℕ) (cuts : List ℕ) → Rest Must Fits May start end (cut ∷ cuts) → Rest Must Fits May cut end cuts
+rest-next Must Fits May start end cut cuts rest = record {
+  pieces = rest.pieces.1.1;
+  short = λ place length fits. (rest.short place length fits).1;
+  must = λ place after is. among-rest place cut cuts after (rest.must place (omega (arith, after, rest.pieces.0)) is);
+  ends = ends-next May start cut cuts rest.ends;
+}
+
+cut-inside : (c d length : ℕ) → (d ≤ c) ⊎ (c + length ≤ d) → c < d → d < c + length → ⊥
+cut-inside c d length (inl low) less inside = omega (arith, low, less)
+cut-inside c d length (inr high) less inside = omega (arith, high, inside)
+
+-- a cut of one list is no place that the other passes over
+passed-by : (Must : ℕ → Type 0) (Fits May : ℕ → ℕ → Type 0) (start end c d : ℕ) (bs : List ℕ) → Rest Must Fits May start end (d ∷ bs) → start < c → c < d → (c ≡ start + 1380) ⊎ (Must c ⊎ ((length : ℕ) × (Fits c length × (start + 1380 < c + length)))) → ⊥
+passed-by Must Fits May start end c d bs b some less (inl full) = omega (arith, full, less, b.pieces.1.0)
+passed-by Must Fits May start end c d bs b some less (inr (inl must)) =
+    let there = b.must c some must in
+    let other : eqb c d ≡ false = ne_eqb c d (λ is. absurd (omega (arith, is, less))) in
+    pieces-rise d end c bs b.pieces.1.1 less (sym (ap (λ e. e || among c bs) other) ∙ there)
+passed-by Must Fits May start end c d bs b some less (inr (inr fit)) =
+    cut-inside c d fit.0 (b.short c fit.0 fit.1.0).0 less (omega (arith, fit.1.1, b.pieces.1.0))
+
+passed : (Must : ℕ → Type 0) (Fits May : ℕ → ℕ → Type 0) (start end c d : ℕ) (cs bs : List ℕ) → Reasons Must Fits May → Rest Must Fits May start end (c ∷ cs) → Rest Must Fits May start end (d ∷ bs) → c < d → ⊥
+passed Must Fits May start end c d [] bs reasons a b less = omega (arith, a.pieces.1.1, less, pieces-end d end bs b.pieces.1.1)
+passed Must Fits May start end c d (next ∷ cs) bs reasons a b less =
+    passed-by Must Fits May start end c d bs b (omega (arith, a.pieces.0)) less (reasons start c a.ends.0)
+
+one-rest : (Must : ℕ → Type 0) (Fits May : ℕ → ℕ → Type 0) (start end : ℕ) (cs bs : List ℕ) → Reasons Must Fits May → Rest Must Fits May start end cs → Rest Must Fits May start end bs → cs ≡ bs
+one-rest Must Fits May start end [] [] reasons a b = refl
+one-rest Must Fits May start end [] (d ∷ bs) reasons a b = absurd (omega (arith, a.pieces, b.pieces.0, pieces-end d end bs b.pieces.1.1))
+one-rest Must Fits May start end (c ∷ cs) [] reasons a b = absurd (omega (arith, b.pieces, a.pieces.0, pieces-end c end cs a.pieces.1.1))
+one-rest Must Fits May start end (c ∷ cs) (d ∷ bs) reasons a b = elim (cases_order c d) [
+  | inl same ↦ (let P : ℕ → Type 0 = λ s. Rest Must Fits May s end bs in
+      let rest = one-rest Must Fits May c end cs bs reasons (rest-next Must Fits May start end c cs a) (subst P (sym same) (rest-next Must Fits May start end d bs b)) in
+      ap (λ n. n ∷ cs) same ∙ ap (λ (l : List ℕ). d ∷ l) rest)
+  | inr (inl less) ↦ absurd (passed Must Fits May start end c d cs bs reasons a b less)
+  | inr (inr more) ↦ absurd (passed Must Fits May start end d c bs cs reasons b a more)
+]
+
+-- a slice that is short
+abbrev Short : ℕ → List ℕ → ℕ → ℕ → Type 0
+Short head_end slices place length = SliceAt head_end slices place length × (length ≤ 1380)
+
+the-reasons : (from head_end : ℕ) (slices : List ℕ) → Reasons (IsCutPlace from head_end slices) (Short head_end slices) (MayEnd from head_end slices)
+the-reasons from head_end slices start cut (inl full) = inl full
+the-reasons from head_end slices start cut (inr (inl place)) = inr (inl place)
+the-reasons from head_end slices start cut (inr (inr over)) = inr (inr (over.length, ((over.slice, over.short), over.over)))
+
+the-rest : (from head_end : ℕ) (slices cuts : List ℕ) → MeetsRules from head_end slices cuts → Rest (IsCutPlace from head_end slices) (Short head_end slices) (MayEnd from head_end slices) from (head_end + sum slices) cuts
+the-rest from head_end slices cuts meets = record {
+  pieces = meets.pieces;
+  short = λ place length is. meets.short place length is.0 is.1;
+  must = λ place after is. meets.long place is;
+  ends = meets.ends;
+}
+
+pub one-meets : (from head_end : ℕ) (slices one other : List ℕ) → MeetsRules from head_end slices one → MeetsRules from head_end slices other → one ≡ other
+one-meets from head_end slices one other a b =
+    one-rest (IsCutPlace from head_end slices) (Short head_end slices) (MayEnd from head_end slices) from (head_end + sum slices) one other (the-reasons from head_end slices) (the-rest from head_end slices one a) (the-rest from head_end slices other b)
+
+-- ---- the packer's list meets them
+
+pub some-bytes : (slices : List ℕ) → HaveBytes slices → AreSome slices
+some-bytes [] have = tt
+some-bytes (n ∷ slices) have = (have.0, some-bytes slices have.1)
+
+slice-after : (slices : List ℕ) (at place length : ℕ) → SliceAt at slices place length → at ≤ place
+slice-after [] at place length is = absurd is
+slice-after (n ∷ slices) at place length (inl here) = omega (arith, here.0)
+slice-after (n ∷ slices) at place length (inr later) = omega (arith, slice-after slices (at + n) place length later)
+
+short-at : (slices : List ℕ) (at : ℕ) (cuts : List ℕ) → AreShortUncut at slices cuts → (place length : ℕ) → SliceAt at slices place length → length ≤ 1380 → IsUncut place (place + length) cuts
+short-at [] at cuts uncut place length is short = absurd is
+short-at (n ∷ slices) at cuts uncut place length (inl here) short =
+    let P : ℕ → Type 0 = λ p. IsUncut p (p + length) cuts in
+    let Q : ℕ → Type 0 = λ m. IsUncut at (at + m) cuts in
+    subst P here.0 (subst Q here.1 (uncut.0 (omega (arith, here.1, short))))
+short-at (n ∷ slices) at cuts uncut place length (inr later) short = short-at slices (at + n) cuts uncut.1 place length later short
+
+leb-not : (n : ℕ) → 1380 < n → leb n 1380 ≡ false
+leb-not n long = lt-leb n 1380 long
+
+-- a long slice that isn't first in a unit doesn't go in
+long-not : (f : Filling) (n : ℕ) → 1380 < n → f.holds ≡ Slices ⊎ f.holds ≡ LastFragment → goes_in f n ≡ false
+long-not f n long (inl e) = ap (λ b. cond b (goes_in_whole f.from f.at f.holds n) (goes_in_cut f.from f.at f.holds)) (leb-not n long) ∙ ap (λ (h : Holds). goes_in_cut f.from f.at h) e
+long-not f n long (inr e) = ap (λ b. cond b (goes_in_whole f.from f.at f.holds n) (goes_in_cut f.from f.at f.holds)) (leb-not n long) ∙ ap (λ (h : Holds). goes_in_cut f.from f.at h) e
+
+held-by : (b : Bool) → (cond b Slices LastFragment ≡ Slices) ⊎ (cond b Slices LastFragment ≡ LastFragment)
+held-by true = inl refl
+held-by false = inr refl
+
+held-is : (n : ℕ) → (held n ≡ Slices) ⊎ (held n ≡ LastFragment)
+held-is n = held-by (leb n 1380)
+
+first-there : (place at : ℕ) (cuts : List ℕ) → at ≡ place → among place (at ∷ cuts) ≡ true
+first-there place at cuts here = ap (λ b. b || among place cuts) (eq-eqb place at (sym here))
+
+-- a long slice begins with a piece where it doesn't go in
+begin-cut : (slices : List ℕ) (f : Filling) (cuts : List ℕ) → Cuts f slices cuts → (place length : ℕ) → SliceAt f.at slices place length → 1380 < length → (place ≡ f.at → goes_in f length ≡ false) → among place cuts ≡ true
+begin-cut [] f cuts e place length is long goes = absurd is
+begin-cut (n ∷ slices) f cuts (inl x) place length (inl here) long goes =
+    absurd (not_both (goes_in f n) x.0 (ap (λ m. goes_in f m) here.1 ∙ goes (sym here.0)))
+begin-cut (n ∷ slices) f cuts (inl x) place length (inr later) long goes =
+    let g = filled f n (f.from + 1380 * x.1.full) in
+    ap (λ (l : List ℕ). among place l) x.1.filled ∙ among-full place f.from x.1.full x.1.rest (begin-cut slices g x.1.rest x.1.goes_on place length later long (λ _. long-not g length long (held-is n)))
+begin-cut (n ∷ slices) f cuts (inr x) place length (inl here) long goes =
+    ap (λ (l : List ℕ). among place l) x.1.1.0 ∙ first-there place f.at x.1.0 here.0
+begin-cut (n ∷ slices) f cuts (inr x) place length (inr later) long goes =
+    let fills = x.1.1.1 in
+    let g = filled f n (f.at + 1380 * fills.full) in
+    ap (λ (l : List ℕ). among place l) x.1.1.0
+    ∙ or-right (eqb place f.at) (among place x.1.0) (ap (λ (l : List ℕ). among place l) fills.filled ∙ among-full place f.at fills.full fills.rest (begin-cut slices g fills.rest fills.goes_on place length later long (λ _. long-not g length long (held-is n))))
+
+end-by : (slices : List ℕ) (at : ℕ) (cuts : List ℕ) → DoLongEndPieces at slices cuts → (start length : ℕ) → SliceAt at slices start length → 1380 < length → among (start + length) cuts ≡ true
+end-by [] at cuts ends_ start length is long = absurd is
+end-by (n ∷ slices) at cuts ends_ start length (inl here) long = ap (λ p. among p cuts) (omega (arith, here.0, here.1)) ∙ ends_.0 (omega (arith, here.1, long))
+end-by (n ∷ slices) at cuts ends_ start length (inr later) long = end-by slices (at + n) cuts ends_.1 start length later long
+
+-- a long slice ends with a piece
+end-cut : (slices : List ℕ) (f : Filling) (cuts : List ℕ) → Cuts f slices cuts → (start length : ℕ) → SliceAt f.at slices start length → 1380 < length → among (start + length) cuts ≡ true
+end-cut slices f cuts cutting start length is long = end-by slices f.at cuts (long-ends slices f cuts cutting) start length is long
+
+-- each piece ends where it may
+record Reads (Must : ℕ → Type 0) (Begins : ℕ → ℕ → Type 0) (f : Filling) (slices : List ℕ) : Type 0 where
+  begins : (place length : ℕ) → SliceAt f.at slices place length → Begins place length
+  long : (place length : ℕ) → SliceAt f.at slices place length → 1380 < length → (place ≡ f.at → goes_in f length ≡ false) → Must place
+  long_end : (start length : ℕ) → SliceAt f.at slices start length → 1380 < length → Must (start + length)
+  last : f.holds ≡ LastFragment → Must f.at
+
+abbrev MayBy : (ℕ → Type 0) → (ℕ → ℕ → Type 0) → ℕ → ℕ → Type 0
+MayBy Must Begins start cut = (cut ≡ start + 1380) ⊎ (Must cut ⊎ ((length : ℕ) × (Begins cut length × ((length ≤ 1380) × (start + 1380 < cut + length)))))
+
+may-cons : (May : ℕ → ℕ → Type 0) (start cut : ℕ) (cuts : List ℕ) → May start cut → MayAllEnd May cut cuts → MayAllEnd May start (cut ∷ cuts)
+may-cons May start cut [] one rest = tt
+may-cons May start cut (next ∷ cuts) one rest = (one, rest)
+
+full-may : (Must : ℕ → Type 0) (Begins : ℕ → ℕ → Type 0) (start count : ℕ) (rest : List ℕ) → MayAllEnd (MayBy Must Begins) (start + 1380 * count) rest → MayAllEnd (MayBy Must Begins) start (full_ends start count ++ rest)
+full-may Must Begins start zero rest may = subst (λ s. MayAllEnd (MayBy Must Begins) s rest) (omega arith) may
+full-may Must Begins start (suc count) rest may =
+    may-cons (MayBy Must Begins) start (start + 1380) (full_ends (start + 1380) count ++ rest) (inl refl) (full-may Must Begins (start + 1380) count rest (subst (λ s. MayAllEnd (MayBy Must Begins) s rest) (omega arith) may))
+
+-- why a slice doesn't go in
+why-short : (Must : ℕ → Type 0) (Begins : ℕ → ℕ → Type 0) (from at n : ℕ) (holds : Holds) → n ≤ 1380 → Begins at n → (holds ≡ LastFragment → Must at) → goes_in_whole from at holds n ≡ false → MayBy Must Begins from at
+why-short Must Begins from at n HeadAlone short begins last goes = inr (inr (n, (begins, (short, leb-false (at + n) (from + 1380) goes))))
+why-short Must Begins from at n Slices short begins last goes = inr (inr (n, (begins, (short, leb-false (at + n) (from + 1380) goes))))
+why-short Must Begins from at n LastFragment short begins last goes = inr (inl (last refl))
+
+why : (Must : ℕ → Type 0) (Begins : ℕ → ℕ → Type 0) (f : Filling) (n : ℕ) (slices : List ℕ) → Reads Must Begins f (n ∷ slices) → goes_in f n ≡ false → MayBy Must Begins f.from f.at
+why Must Begins f n slices reads goes = elim (cases_lt 1380 n) [
+  | inl long ↦ inr (inl (reads.long f.at n (inl (refl, refl)) long (λ _. goes)))
+  | inr short ↦ why-short Must Begins f.from f.at n f.holds short (reads.begins f.at n (inl (refl, refl))) reads.last
+      (sym (ap (λ b. cond b (goes_in_whole f.from f.at f.holds n) (goes_in_cut f.from f.at f.holds)) (le-leb n 1380 short)) ∙ goes)
+]
+
+last-by : (b : Bool) (n : ℕ) → leb n 1380 ≡ b → cond b Slices LastFragment ≡ LastFragment → 1380 < n
+last-by true n e is = cc
+last-by false n e is = leb-false n 1380 e
+
+last-long : (n : ℕ) → held n ≡ LastFragment → 1380 < n
+last-long n is = last-by (leb n 1380) n refl is
+
+reads-next : (Must : ℕ → Type 0) (Begins : ℕ → ℕ → Type 0) (f : Filling) (n last : ℕ) (slices : List ℕ) → 0 < n → Reads Must Begins f (n ∷ slices) → Reads Must Begins (filled f n last) slices
+reads-next Must Begins f n last slices some reads = record {
+  begins = λ place length is. reads.begins place length (inr is);
+  long = λ place length is long goes. reads.long place length (inr is) long (λ here. absurd (omega (arith, here, some, slice-after slices (f.at + n) place length is)));
+  long_end = λ start length is long. reads.long_end start length (inr is) long;
+  last = λ is. reads.long_end f.at n (inl (refl, refl)) (last-long n is);
+}
+
+may-end : (Must : ℕ → Type 0) (Begins : ℕ → ℕ → Type 0) (slices : List ℕ) (f : Filling) (cuts : List ℕ) → AreSome slices → Reads Must Begins f slices → Cuts f slices cuts → MayAllEnd (MayBy Must Begins) f.from cuts
+may-end Must Begins [] f cuts some reads e = subst (λ (l : List ℕ). MayAllEnd (MayBy Must Begins) f.from l) (sym e) tt
+may-end Must Begins (n ∷ slices) f cuts some reads (inl x) =
+    let last = f.from + 1380 * x.1.full in
+    let rest = may-end Must Begins slices (filled f n last) x.1.rest some.1 (reads-next Must Begins f n last slices some.0 reads) x.1.goes_on in
+    subst (λ (l : List ℕ). MayAllEnd (MayBy Must Begins) f.from l) (sym x.1.filled) (full-may Must Begins f.from x.1.full x.1.rest rest)
+may-end Must Begins (n ∷ slices) f cuts some reads (inr x) =
+    let fills = x.1.1.1 in
+    let last = f.at + 1380 * fills.full in
+    let rest = may-end Must Begins slices (filled f n last) fills.rest some.1 (reads-next Must Begins f n last slices some.0 reads) fills.goes_on in
+    let tail : MayAllEnd (MayBy Must Begins) f.at x.1.0 = subst (λ (l : List ℕ). MayAllEnd (MayBy Must Begins) f.at l) (sym fills.filled) (full-may Must Begins f.at fills.full fills.rest rest) in
+    subst (λ (l : List ℕ). MayAllEnd (MayBy Must Begins) f.from l) (sym x.1.1.0) (may-cons (MayBy Must Begins) f.from f.at x.1.0 (why Must Begins f n slices reads x.0) tail)
+
+may-cs : (from head_end : ℕ) (slices : List ℕ) (start cut : ℕ) → MayBy (IsCutPlace from head_end slices) (SliceAt head_end slices) start cut → MayEnd from head_end slices start cut
+may-cs from head_end slices start cut (inl full) = inl full
+may-cs from head_end slices start cut (inr (inl place)) = inr (inl place)
+may-cs from head_end slices start cut (inr (inr (length, over))) = inr (inr (record { length = length; slice = over.0; short = over.1.0; over = over.1.1 }))
+
+may-map : (May Other : ℕ → ℕ → Type 0) (start : ℕ) (cuts : List ℕ) → ((s c : ℕ) → May s c → Other s c) → MayAllEnd May start cuts → MayAllEnd Other start cuts
+may-map May Other start [] cs may = tt
+may-map May Other start (cut ∷ []) cs may = tt
+may-map May Other start (cut ∷ (next ∷ cuts)) cs may = (cs start cut may.0, may-map May Other cut (next ∷ cuts) cs may.1)
+
+-- in the first piece a long slice goes in where the head leaves room
+head-goes : (from head_end n : ℕ) → 1380 < n → goes_in (first_piece from head_end) n ≡ false → from + 1380 ≤ head_end
+head-goes from head_end n long goes =
+    ltb-false head_end (from + 1380) (sym (ap (λ b. cond b (goes_in_whole from head_end HeadAlone n) (goes_in_cut from head_end HeadAlone)) (leb-not n long)) ∙ goes)
+
+goes-head : (from head_end n : ℕ) → 1380 < n → from + 1380 ≤ head_end → goes_in (first_piece from head_end) n ≡ false
+goes-head from head_end n long full =
+    ap (λ b. cond b (goes_in_whole from head_end HeadAlone n) (goes_in_cut from head_end HeadAlone)) (leb-not n long) ∙ le-ltb head_end (from + 1380) full
+
+first-reads : (from head_end : ℕ) (slices : List ℕ) → Reads (IsCutPlace from head_end slices) (SliceAt head_end slices) (first_piece from head_end) slices
+first-reads from head_end slices = record {
+  begins = λ place length is. is;
+  long = λ place length is long goes. inl (record { length = length; slice = is; long = long; apart = λ here. head-goes from head_end length long (goes here) });
+  long_end = λ start length is long. inr (record { start = start; length = length; slice = is; long = long; place_is = refl });
+  last = λ is. cc;
+}
+
+long-cut : (from head_end : ℕ) (slices cuts : List ℕ) → IsCutting from head_end slices cuts → (place : ℕ) → IsCutPlace from head_end slices place → among place cuts ≡ true
+long-cut from head_end slices cuts cutting place (inl b) =
+    begin-cut slices (first_piece from head_end) cuts cutting place b.length b.slice b.long (λ here. goes-head from head_end b.length b.long (b.apart here))
+long-cut from head_end slices cuts cutting place (inr e) =
+    ap (λ p. among p cuts) e.place_is ∙ end-cut slices (first_piece from head_end) cuts cutting e.start e.length e.slice e.long
+
+pub cutting-meets : (from head_end : ℕ) (slices cuts : List ℕ) → from < head_end → head_end ≤ from + 1380 → HaveBytes slices → IsCutting from head_end slices cuts → MeetsRules from head_end slices cuts
+cutting-meets from head_end slices cuts some short have cutting =
+    let f = first_piece from head_end in
+    let order : from ≤ head_end = omega (arith, some) in record {
+      pieces = pieces-cover slices f cuts (some, short) cutting;
+      head = head-uncut from head_end cuts (cuts-behind slices f cuts order cutting);
+      short = short-at slices head_end cuts (short-uncut slices f cuts order cutting);
+      long = long-cut from head_end slices cuts cutting;
+      ends = may-map (MayBy (IsCutPlace from head_end slices) (SliceAt head_end slices)) (MayEnd from head_end slices) from cuts (may-cs from head_end slices)
+          (may-end (IsCutPlace from head_end slices) (SliceAt head_end slices) slices f cuts (some-bytes slices have) (first-reads from head_end slices) cutting);
+    }
+
+no_unit : PictureUnit
+no_unit = record { from = 0; head_end = 0; to = 0; first_slice = 0; slices = 0; temporal = 0; presentation = 0; kind = I; vectors = 0; has_sequence = false; starts_group = false }
+
+-- there is such a list
+pub some-meets : (from head_end : ℕ) (slices : List ℕ) → from < head_end → head_end ≤ from + 1380 → HaveBytes slices → (cuts : List ℕ) × MeetsRules from head_end slices cuts
+some-meets from head_end slices some short have =
+    let f = first_piece from head_end in
+    let cuts = ends (packets_from no_unit f slices) in
+    (cuts, cutting-meets from head_end slices cuts some short have (packets-cut no_unit slices f (omega (arith, some)) (some-bytes slices have)))
+
+-- and it is the packer's
+pub meets-cutting : (from head_end : ℕ) (slices cuts : List ℕ) → from < head_end → head_end ≤ from + 1380 → HaveBytes slices → MeetsRules from head_end slices cuts → IsCutting from head_end slices cuts
+meets-cutting from head_end slices cuts some short have meets =
+    let f = first_piece from head_end in
+    let made = ends (packets_from no_unit f slices) in
+    let cutting = packets-cut no_unit slices f (omega (arith, some)) (some-bytes slices have) in
+    let same = one-meets from head_end slices made cuts (cutting-meets from head_end slices made some short have cutting) meets in
+    subst (λ (l : List ℕ). IsCutting from head_end slices l) same cutting
