@@ -1,4 +1,5 @@
 mod films;
+mod sizes;
 
 use crate::{TraceTrack, Track};
 use std::test::Fail;
