@@ -60,7 +60,7 @@ by_mpeg2enc() { # NAME SIZE RATE CODE WORDS
     fi
 }
 
-"$program" make kind=film seed=1 pictures=150 >made.mpg && add made.mpg
+"$program" make kind=film seed=1 pictures=144 >made.mpg && add made.mpg
 by_ffmpeg 25-b.mpg testsrc2=size=352x288:rate=25 -bf 2 -b:v 1150k
 by_ffmpeg 2997.mpg testsrc2=size=352x240:rate=30000/1001 -bf 0 -b:v 1500k
 by_ffmpeg 24-small.mpg testsrc2=size=176x144:rate=24 -bf 2 -b:v 300k

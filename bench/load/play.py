@@ -42,13 +42,15 @@ def plan_of(program, folder, units):
 
 def lateness(reads, sums):
     """For each slot, in seconds, how long after its beginning its last byte came, by the session's earliest slot."""
-    came, k = [], 0
+    came, k, before = [], 0, 0
     for slot, due in enumerate(sums):
         while k < len(reads) and reads[k][1] < due:
             k += 1
         if k == len(reads):
             break
-        came.append(reads[k][0] - slot * SLOT)
+        if due > before:
+            came.append(reads[k][0] - slot * SLOT)
+        before = due
     origin = min(came)
     return [at - origin for at in came]
 
@@ -93,10 +95,13 @@ def tell_late(sessions, sums):
     """How late the slots of all sessions came, in words."""
     late = sorted(at for session in sessions.all if session.fault is None for at in lateness(session.reads, sums))
     over = sum(at > SLOT for at in late)
+    ends = set(sums)
+    reads = [got for session in sessions.all for _, got in session.reads]
+    at_ends = sum(got in ends for got in reads) * 100 // len(reads)
     middle, most = share(late, 0.5), share(late, 0.99)
     return (
         f"  slots late by {middle * 1000:.1f} ms (half), {most * 1000:.1f} ms (99 of 100), {late[-1] * 1000:.1f} ms (most);"
-        f" {over} of {len(late)} by more than a slot"
+        f" {over} of {len(late)} by more than a slot; {at_ends} of 100 reads ended with a slot of the plan"
     )
 
 
