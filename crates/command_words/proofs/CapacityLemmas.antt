@@ -1,5 +1,5 @@
 -- Steps, each of which may follow the ones before it.
-use Rattle.std.proofs.Common.{◌≡◌, ◌+◌, ◌-◌, ◌^◌, ◌<◌, ◌≤◌, ℕ, Bool, true, false, ◌&&◌, ◌==◌, nat_lt, nat_le, List, [], ◌∷◌, ◌++◌, length, slice_index_or, Option, Some, None, inl, inr, arith, refl, sym, ap, ◌∙◌, length-append, if◌then◌else◌}
+use Rattle.std.proofs.Common.{◌≡◌, ◌+◌, ◌-◌, ◌^◌, ◌<◌, ◌≤◌, ℕ, true, false, ◌&&◌, ◌==◌, nat_lt, nat_le, List, [], ◌∷◌, ◌++◌, length, Option, Some, None, inl, inr, arith, refl, sym, ap, ◌∙◌, length-append}
 use Rattle.std.specs.List.{before_first, after_first, position_or_len, slice_split, fold}
 use Rattle.std.proofs.lemmas.Bool.{and_parts, cases_lt, ltb-true, leb-true, eqb-true, eq-eqb, ne_eqb}
 use Rattle.std.proofs.lemmas.List.Elements.{All-from_get_or}
@@ -9,7 +9,7 @@ use Rattle.std.proofs.Math.ListN.{get_or-append}
 use Rattle.std.proofs.Math.Seq.{get_or-append_seam}
 use Rattle.slot_calendar.specs.declared.profiles.CapStep.{CapStep}
 use Rattle.slot_calendar.specs.Profiles.{IsProfile, no_step, step_at}
-use Rattle.command_words.specs.Capacities.{IsFront, may_follow, part_more, stands_after, step_more, step_of, steps_of}
+use Rattle.command_words.specs.Capacities.{IsFront, may_follow, part_more, stands_after, step_more, step_of}
 
 -- what a step that may follow is known for
 pub record Follows (steps : List CapStep) (step : CapStep) : Type 0 where

@@ -1,6 +1,6 @@
-use Rattle.std.proofs.Common.{◌≡◌, ◌∙◌, ◌<◌, ◌==◌, ℕ, List, length, Some, sym, ap, lit<, rules}
-use Rattle.std.specs.List.{before_first, after_first, position_or_len, slice_split, fold}
-use Rattle.std.specs.Prelude.{MatchOption, Option, None}
+use Rattle.std.proofs.Common.{◌∙◌, ◌==◌, List, sym, ap, lit<, rules}
+use Rattle.std.specs.List.{slice_split, fold}
+use Rattle.std.specs.Prelude.{Option}
 use Rattle.std.proofs.lemmas.Str.Pattern.{split_once_first}
 use Rattle.slot_calendar.specs.declared.profiles.CapStep.{CapStep}
 use Rattle.command_words.specs.Capacities.{part_more}
