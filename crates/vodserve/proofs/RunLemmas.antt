@@ -1,13 +1,14 @@
 -- What was printed of what was done.
 use Rattle.std.proofs.Common.{◌≡◌, ◌∙◌, ◌≤◌, ℕ, List, Option, Some, None, Result, Ok, Err, Vec, Global, inl, inr, sym, ap, subst}
 use Rattle.std.specs.Prelude.{IfOk, IfErr}
-use Rattle.command_words.specs.Words.{Made, Order, make_of}
+use Rattle.command_words.specs.Words.{Made, Order, help, make_of, version}
 use Rattle.plan_cert.specs.declared.Segment.{Segment}
 use Rattle.troubles.specs.Causes.{IsReadOnly, IsReadTrouble}
 use Rattle.troubles.specs.declared.faults.Trouble.{Trouble}
 use Rattle.troubles.specs.declared.faults.Trouble.TheVariants.{Usage, Refused, StoreFault, SinkFault, NoMemory, GateFault}
 use Rattle.vod_base.specs.Outside.{more}
 use Rattle.vodserve.specs.Carrying.{IsDone, IsInputRefused, IsRead, made_text}
+use Rattle.vodserve.specs.Texts.{help_text, version_text}
 use Rattle.vodserve.proofs.CommandLemmas.{text_of}
 use Rattle.vodserve.specs.Run.{World, Does, IsCause, IsWritten, Printed, Prints, Ran}
 use Rattle.vodserve.specs.declared.done.Done.{Done}
@@ -49,9 +50,9 @@ printed before after order (Err trouble) ended ok err is = inr (trouble, (caused
 
 -- what the words ask for was done
 pub ran_as : (before after : World) (asked : Option Order) (order : Order) (ended : Ended) → asked ≡ Some order →
-    IsReadOnly before.store.told after.store.told before.store.faults after.store.faults → before.out.faults ≤ after.out.faults →
+    IsReadOnly before.store.told after.store.told before.store.faults after.store.faults → before.out.faults ≤ after.out.faults → before.gate ≤ after.gate →
     Does before after order ended → Ran before after asked ended
-ran_as before after asked order ended is library output does = record { library = library; output = output; does = inl (order, (is, does)) }
+ran_as before after asked order ended is library output gate does = record { library = library; output = output; gate = gate; does = inl (order, (is, does)) }
 
 pub made_done : {E : Type 0} (before : World) (kind : Made) (seed pictures : ℕ) (made : Result (Vec ℕ Global) E) → IfOk made (λ text. text.items ≡ made_text kind seed pictures) →
     (result : Result Done Trouble) → IfOk result (λ done. (done.status ≡ 0) × (made ≡ Ok done.text) × (done.plan ≡ None)) →
@@ -59,8 +60,21 @@ pub made_done : {E : Type 0} (before : World) (kind : Made) (seed pictures : ℕ
 made_done before kind seed pictures made text (Err trouble) is = tt
 made_done before kind seed pictures made text (Ok done) is = (is.0, is.2, text_of (made_text kind seed pictures) made done.text text is.1)
 
-pub made_trouble : (before after : World) (kind : Made) (seed pictures : ℕ) (result : Result Done Trouble) → IfErr result (λ trouble. trouble ≡ NoMemory) →
-    IfErr result (IsReadTrouble (IsRead (make_of kind seed pictures)) (IsInputRefused (make_of kind seed pictures)) before.store.told before.store.faults after.store.faults)
-made_trouble before after kind seed pictures (Ok done) is = tt
-made_trouble before after kind seed pictures (Err trouble) is =
-    subst (IsReadTrouble (IsRead (make_of kind seed pictures)) (IsInputRefused (make_of kind seed pictures)) before.store.told before.store.faults after.store.faults) (sym is) tt
+pub help_done : {E : Type 0} (before : World) (made : Result (Vec ℕ Global) E) → IfOk made (λ text. text.items ≡ help_text) →
+    (result : Result Done Trouble) → IfOk result (λ done. (done.status ≡ 0) × (made ≡ Ok done.text) × (done.plan ≡ None)) →
+    IfOk result (λ done. IsDone before.store.told help done.status done.text.items done.plan)
+help_done before made text (Err trouble) is = tt
+help_done before made text (Ok done) is = (is.0, is.2, text_of help_text made done.text text is.1)
+
+pub version_done : {E : Type 0} (before : World) (made : Result (Vec ℕ Global) E) → IfOk made (λ text. text.items ≡ version_text) →
+    (result : Result Done Trouble) → IfOk result (λ done. (done.status ≡ 0) × (made ≡ Ok done.text) × (done.plan ≡ None)) →
+    IfOk result (λ done. IsDone before.store.told version done.status done.text.items done.plan)
+version_done before made text (Err trouble) is = tt
+version_done before made text (Ok done) is = (is.0, is.2, text_of version_text made done.text text is.1)
+
+-- want of memory keeps from each order
+pub no_memory : (before after : World) (order : Order) (result : Result Done Trouble) → IfErr result (λ trouble. trouble ≡ NoMemory) →
+    IfErr result (IsReadTrouble (IsRead order) (IsInputRefused order) before.store.told before.store.faults after.store.faults)
+no_memory before after order (Ok done) is = tt
+no_memory before after order (Err trouble) is =
+    subst (IsReadTrouble (IsRead order) (IsInputRefused order) before.store.told before.store.faults after.store.faults) (sym is) tt

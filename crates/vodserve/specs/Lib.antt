@@ -3,3 +3,5 @@ pub mod Run
 pub mod ScanText
 pub mod Texts
 pub mod Verdict
+pub mod Workers
+pub mod Served

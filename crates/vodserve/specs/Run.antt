@@ -1,5 +1,5 @@
 -- What a run of the program did: it carried out what the words ask for, or it said what kept it from that.
-use Rattle.std.specs.Prelude.{◌≡◌, ℕ, ◌≤◌, Bool, List, Option, Some, None, Result, Ok, Err, ◌⊎◌}
+use Rattle.std.specs.Prelude.{◌≡◌, ℕ, ◌≤◌, Bool, List, [], length, Option, Some, None, Result, Ok, Err, ◌⊎◌}
 use Rattle.vod_base.specs.Outside.{File, HasRisen, more, IsFrontMore}
 use Rattle.plan_cert.specs.declared.Segment.{Segment}
 use Rattle.command_words.specs.Words.{Serving, Order, help, version, plan_of, check_of, make_of, scan_of, serve_of}
@@ -9,6 +9,9 @@ use Rattle.troubles.specs.Statuses.{status_of}
 use Rattle.troubles.specs.Causes.{IsReadOnly, IsReadTrouble}
 use Rattle.troubles.specs.declared.faults.Trouble.{Trouble}
 use Rattle.troubles.specs.declared.faults.Trouble.TheVariants.{Usage, Refused, StoreFault, SinkFault, NoMemory, GateFault}
+use Rattle.conn.specs.declared.reports.PartEnd.{PartEnd}
+use Rattle.conn.specs.declared.reports.PartEnd.TheVariants.{GateFault as PartFault}
+use Rattle.vodserve.specs.Served.{IsJournal, IsPrinted, IsServeTrouble, served_text}
 use Rattle.vodserve.specs.Carrying.{IsDone, IsRead, IsInputRefused}
 use Rattle.vodserve.specs.declared.done.Done.{Done}
 use Rattle.vodserve.specs.declared.run.Ended.{Ended}
@@ -18,11 +21,12 @@ pub record Seen (T : Type 0) : Type 0 where
   pub faults : ℕ
   pub told : Option T
 
--- the library, the output and the error stream
+-- the library, the output and the error stream, and how many faults the gate counted
 pub record World : Type 0 where
   pub store : Seen (List File)
   pub out : Seen (List ℕ)
   pub err : Seen (List ℕ)
+  pub gate : ℕ
 
 -- a trouble's status, and its line on the error stream, or after a fault there a front of it
 pub record Fails (err err' : Seen (List ℕ)) (trouble : Trouble) (ended : Ended) : Type 0 where
@@ -77,6 +81,30 @@ Prints before after order ended =
     Finishes before after order ended
     ⊎ ((trouble : Trouble) × (IsCause before after order trouble × Fails before.err after.err trouble ended))
 
+-- no journal, and no reports
+abbrev pub HasServedNothing : Ended → Type 0
+HasServedNothing ended = (ended.journal.items ≡ []) × (ended.reports.items ≡ [])
+
+-- a server's end: its text was written whole; or what went wrong was said
+abbrev pub Ends : Seen (List ℕ) → Seen (List ℕ) → Seen (List ℕ) → Seen (List ℕ) → List ℕ → PartEnd → Ended → Type 0
+Ends out out' err err' text end ended =
+    (IsPrinted out.faults out'.faults out.told out'.told text end None × (ended.status ≡ 0) × (ended.plan ≡ None) × (err' ≡ err))
+    ⊎ ((trouble : Trouble) × (IsPrinted out.faults out'.faults out.told out'.told text end (Some trouble) × Fails err err' trouble ended))
+
+-- a server that served: its journal, and its end; where a worker ended by a fault of the gate, the gate counted one
+pub record HasServed (before after : World) (serving : Serving) (ended : Ended) : Type 0 where
+  pub journal : IsJournal serving ended.journal.items
+  pub end : PartEnd
+  pub fault : end ≡ PartFault → HasRisen before.gate after.gate
+  pub ends : Ends before.out after.out before.err after.err (served_text ended.journal.items (length ended.reports.items)) end ended
+
+-- a server: what kept it from its work, and then nothing was written; or it served
+abbrev pub Serves : World → World → Serving → Ended → Type 0
+Serves before after serving ended =
+    ((trouble : Trouble) × (IsServeTrouble serving.films before.store.told before.store.faults after.store.faults before.gate after.gate trouble
+    × (after.out ≡ before.out) × HasServedNothing ended × Fails before.err after.err trouble ended))
+    ⊎ HasServed before after serving ended
+
 -- words without meaning: the line alone
 abbrev pub IsUsage : World → World → Ended → Type 0
 IsUsage before after ended = (after.out ≡ before.out) × Fails before.err after.err Usage ended
@@ -89,10 +117,11 @@ Does before after (plan_of viewer) ended = Prints before after (plan_of viewer) 
 Does before after (check_of viewer cert) ended = Prints before after (check_of viewer cert) ended
 Does before after (make_of kind seed pictures) ended = Prints before after (make_of kind seed pictures) ended
 Does before after (scan_of film) ended = Prints before after (scan_of film) ended
-Does before after (serve_of serving) ended = IsUsage before after ended
+Does before after (serve_of serving) ended = Serves before after serving ended
 
 -- the library is as it was, and what the words ask for was done, if they mean something
 pub record Ran (before after : World) (asked : Option Order) (ended : Ended) : Type 0 where
   pub library : IsReadOnly before.store.told after.store.told before.store.faults after.store.faults
   pub output : before.out.faults ≤ after.out.faults
+  pub gate : before.gate ≤ after.gate
   pub does : ((order : Order) × ((asked ≡ Some order) × Does before after order ended)) ⊎ ((asked ≡ None) × IsUsage before after ended)

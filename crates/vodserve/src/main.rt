@@ -6,23 +6,26 @@ mod curves;
 mod done;
 mod makes;
 mod plans;
-mod real;
 mod run;
 mod scan_text;
 mod scans;
+mod served;
+mod serving;
 #[cfg(test)]
 mod tests;
 mod texts;
+mod workers;
 
-use real::{FileLibrary, OutSink};
+use net_edge::{FileLibrary, OutSink, TcpGate};
 use std::alloc::AllocError;
 use std::env;
 use std::io::ErrorKind;
 use std::process::ExitCode;
+use std::random::RandomSource;
 use std::rt::Env;
 
-/// The words behind the program's name. One that isn't UTF-8 leaves none, which mean nothing.
-fn command_words(rt: &(impl Env + AllocGlobal)) -> Result<Vec<String>, AllocError> {
+/// The words after the program's name. One that isn't UTF-8 leaves none, which mean nothing.
+fn program_words(rt: &(impl Env + AllocGlobal)) -> Result<Vec<String>, AllocError> {
     match env::args(rt) {
         Ok(args) => args.skip(1).collect(rt.alloc()),
         Err(error) if error.kind() == ErrorKind::OutOfMemory => Err(AllocError),
@@ -31,12 +34,26 @@ fn command_words(rt: &(impl Env + AllocGlobal)) -> Result<Vec<String>, AllocErro
 }
 
 fn main(rt: HostRuntime) -> ExitCode {
-    let Ok(words) = command_words(&rt) else {
+    let Ok(words) = program_words(&rt) else {
         return ExitCode::from(6);
     };
-    let mut library = FileLibrary::new(&rt);
+    let mut seed = [0; 32];
+    if rt.fill_bytes(&mut seed).is_err() {
+        return ExitCode::from(6);
+    }
+    let mut library = FileLibrary::new(&rt, rt.alloc());
     let mut out = OutSink::new(rt.stdout());
     let mut err = OutSink::new(rt.stderr());
-    let ended = run::run(rt.alloc(), &words, &mut library, &mut out, &mut err);
+    let mut gate = TcpGate::new(&rt, rt.alloc());
+    let ended = run::run(
+        &rt,
+        rt.alloc(),
+        &words,
+        &mut library,
+        &mut out,
+        &mut err,
+        &mut gate,
+        seed,
+    );
     ExitCode::from(ended.status)
 }

@@ -1,4 +1,4 @@
-ghost use Rattle.std.specs.Prelude.{◌≡◌, ◌≤◌, ◌⊎◌, None, Bool, ℕ, List, Option, Result, IfOk, IfErr};
+ghost use Rattle.std.specs.Prelude.{◌≡◌, ◌≤◌, ◌⊎◌, None, Bool, length, ℕ, List, Option, Result, IfOk, IfErr};
 ghost use Rattle.command_words.specs.Words.{Order, meaning};
 ghost use Rattle.command_words.specs.Settings.{texts};
 ghost use Rattle.plan_cert.specs.declared.Segment.{Segment};
@@ -7,58 +7,85 @@ ghost use Rattle.troubles.specs.declared.faults.Fault.{Fault};
 ghost use Rattle.vod_base.specs.Outside.{File};
 ghost use Rattle.command_words.specs.Words.{Viewer};
 ghost use Rattle.vodserve.specs.Carrying.{IsDone, IsInputRefused, IsPlanned, IsRead, IsViewerRefused};
-ghost use Rattle.vodserve.specs.Run.{Fails, Printed, Ran};
+ghost use Rattle.command_words.specs.Orders.{serving_of};
+ghost use Rattle.command_words.specs.Ranges.{IsServingInRange};
+ghost use Rattle.vodserve.specs.Served.{served_text};
+ghost use Rattle.vodserve.specs.Run.{Ends, Fails, HasServedNothing, Printed, Ran, Serves};
 
 use crate::checks::check_trace;
 use crate::done::{Done, finish};
 use crate::makes::make;
 use crate::plans::plan_trace;
 use crate::scans::print_scan;
+use crate::served::print_served;
+use crate::serving::{Closed, prepare, run_server};
 use crate::texts::{help, version};
-use command_words::{Order, read_words};
+use admission::Entry;
+use command_words::{Order, Serving, read_words};
+use conn::ConnReport;
 use plan_cert::Plan;
 use std::alloc::Global;
+use std::sync::Wait;
+use std::thread::Threads;
 use troubles::{Trouble, say, status_of};
-use vod_base::{Library, Sink};
+use vod_base::{Gate, Library, Sink};
 
 /// How a run ended.
 #[derive(Debug, Drop)]
 pub struct Ended {
     /// The exit status: 0 done, 1 a certificate was refused, 2 the words mean nothing, 3 an input is
-    /// refused, 4 the library failed, 5 the output failed, 6 want of memory.
+    /// refused, 4 the library failed, 5 the output failed, 6 want of memory, 7 the gate failed.
     pub status: u8,
     /// The plan, for `plan` with status 0.
     pub plan: Option<Plan>,
+    /// The journal of a server.
+    pub journal: Vec<Entry>,
+    /// What is left of a server's connections: those of worker 0, then of worker 1, and so on.
+    pub reports: Vec<ConnReport>,
 }
 
 /// Ends with a trouble: says its line, whose own faults change nothing.
-fn end_with<E: Sink>(err: &mut E, trouble: Trouble<'_>) -> Ended
-    ensures { Fails (record { faults = E.faults err.old; told = E.written err.old })
+fn end_with<E: Sink>(alloc: Global, err: &mut E, trouble: Trouble<'_>) -> Ended
+    ensures fails { Fails (record { faults = E.faults err.old; told = E.written err.old })
         (record { faults = E.faults err.new; told = E.written err.new }) trouble.entry result }
+    ensures nothing { HasServedNothing result }
 {
     let status = status_of(&trouble);
     let _ = say(err, trouble);
-    Ended { status, plan: None }
+    Ended {
+        status,
+        plan: None,
+        journal: Vec::new(alloc),
+        reports: Vec::new(alloc),
+    }
 }
 
 /// Writes the text of what was done, or says what kept from it.
-fn print<O: Sink, E: Sink>(out: &mut O, err: &mut E, done: Result<Done, Trouble<'_>>) -> Ended
+fn print<O: Sink, E: Sink>(
+    alloc: Global,
+    out: &mut O,
+    err: &mut E,
+    done: Result<Done, Trouble<'_>>,
+) -> Ended
     ensures printed { Printed (record { faults = O.faults out.old; told = O.written out.old })
         (record { faults = O.faults out.new; told = O.written out.new })
         (record { faults = E.faults err.old; told = E.written err.old })
         (record { faults = E.faults err.new; told = E.written err.new }) done.entry result }
     ensures count { O.faults out.old ≤ O.faults out.new }
+    ensures nothing { HasServedNothing result }
 {
     let done = match done {
         Ok(done) => done,
-        Err(trouble) => return end_with(err, trouble),
+        Err(trouble) => return end_with(alloc, err, trouble),
     };
     match out.write_all(&done.text) {
         Ok(()) => Ended {
             status: done.status,
             plan: done.plan,
+            journal: Vec::new(alloc),
+            reports: Vec::new(alloc),
         },
-        Err(_) => end_with(err, Trouble::SinkFault),
+        Err(_) => end_with(alloc, err, Trouble::SinkFault),
     }
 }
 
@@ -69,51 +96,139 @@ pub fn law_one_plan()
     ensures not_refused { (held : List File) → (viewer : Viewer) → (text : List ℕ) → (plan : Option (List Segment)) → (fault : Fault) → IsPlanned held viewer text plan → IsViewerRefused held viewer fault → ⊥ }
 {}
 
-/// Carries out the words of the command line, which come without the program's name.
-///
-/// Each command's text goes to `out` when all of it is known, and a trouble's line to `err`. With the statuses 2, 3 and 4
-/// nothing is written to `out`, with 5 a front of the text; a fault of `err` changes no status.
-pub fn run<L: Library, O: Sink, E: Sink>(
+/// Ends a server: prints its journal, what is still booked and a last line, and hands journal and reports out.
+fn end_server<O: Sink, E: Sink>(alloc: Global, out: &mut O, err: &mut E, closed: Closed) -> Ended
+    ensures journal { result.journal.items ≡ closed.book.entries }
+    ensures reports { result.reports.items ≡ closed.reports.items }
+    ensures count { O.faults out.old ≤ O.faults out.new }
+    ensures ends { Ends (record { faults = O.faults out.old; told = O.written out.old })
+        (record { faults = O.faults out.new; told = O.written out.new })
+        (record { faults = E.faults err.old; told = E.written err.old })
+        (record { faults = E.faults err.new; told = E.written err.new })
+        (served_text closed.book.entries (length closed.reports.items)) closed.end result }
+{
+    let trouble = print_served(alloc, out, &closed);
+    let Closed {
+        book,
+        reports,
+        end: _,
+    } = closed;
+    let status = match trouble {
+        Some(trouble) => {
+            let status = status_of(&trouble);
+            let _ = say(err, trouble);
+            status
+        }
+        None => 0,
+    };
+    Ended {
+        status,
+        plan: None,
+        journal: book.into_entries(),
+        reports,
+    }
+}
+
+/// Serves films until no worker takes a connection any more.
+fn serve<R: Threads + Wait + Sync, L: Library, O: Sink, E: Sink, G: Gate + Send + Drop>(
+    rt: &R,
     alloc: Global,
-    words: &[String],
     library: &mut L,
     out: &mut O,
     err: &mut E,
+    gate: &mut G,
+    seed: [u8; 32],
+    serving: &Serving<'_>,
 ) -> Ended
-    ensures ran { Ran
+where
+    G::Conn: Send,
+    requires { IsServingInRange serving.now }
+    ensures library { IsReadOnly (L.files library.old) (L.files library.new) (L.faults library.old) (L.faults library.new) }
+    ensures output { O.faults out.old ≤ O.faults out.new }
+    ensures gate { G.faults gate.old ≤ G.faults gate.new }
+    ensures serves { Serves
         (record {
           store = record { faults = L.faults library.old; told = L.files library.old };
           out = record { faults = O.faults out.old; told = O.written out.old };
           err = record { faults = E.faults err.old; told = E.written err.old };
+          gate = G.faults gate.old;
         })
         (record {
           store = record { faults = L.faults library.new; told = L.files library.new };
           out = record { faults = O.faults out.new; told = O.written out.new };
           err = record { faults = E.faults err.new; told = E.written err.new };
+          gate = G.faults gate.new;
+        })
+        (serving_of serving.entry.now) result }
+{
+    let prepared = match prepare(alloc, library, gate, serving) {
+        Ok(prepared) => prepared,
+        Err(trouble) => return end_with(alloc, err, trouble),
+    };
+    match run_server(rt, alloc, gate, seed, serving, prepared) {
+        Ok(closed) => end_server(alloc, out, err, closed),
+        Err(trouble) => end_with(alloc, err, trouble),
+    }
+}
+
+/// Carries out the words of the command line, which come without the program's name.
+///
+/// Each command's text goes to `out` when all of it is known, and a trouble's line to `err`. With the statuses 2, 3 and 4
+/// nothing is written to `out`, with 5 a front of the text; a fault of `err` changes no status. `serve` takes its
+/// connections from `gate`, and draws their identities from `seed`.
+pub fn run<R: Threads + Wait + Sync, L: Library, O: Sink, E: Sink, G: Gate + Send + Drop>(
+    rt: &R,
+    alloc: Global,
+    words: &[String],
+    library: &mut L,
+    out: &mut O,
+    err: &mut E,
+    gate: &mut G,
+    seed: [u8; 32],
+) -> Ended
+where
+    G::Conn: Send,
+    ensures ran { Ran
+        (record {
+          store = record { faults = L.faults library.old; told = L.files library.old };
+          out = record { faults = O.faults out.old; told = O.written out.old };
+          err = record { faults = E.faults err.old; told = E.written err.old };
+          gate = G.faults gate.old;
+        })
+        (record {
+          store = record { faults = L.faults library.new; told = L.files library.new };
+          out = record { faults = O.faults out.new; told = O.written out.new };
+          err = record { faults = E.faults err.new; told = E.written err.new };
+          gate = G.faults gate.new;
         })
         (meaning (texts words.now)) result }
 {
     let Some(order) = read_words(words) else {
-        return end_with(err, Trouble::Usage);
+        return end_with(alloc, err, Trouble::Usage);
     };
     match order {
-        Order::Help => print(out, err, finish(0, help(alloc))),
-        Order::Version => print(out, err, finish(0, version(alloc))),
+        Order::Help => print(alloc, out, err, finish(0, help(alloc))),
+        Order::Version => print(alloc, out, err, finish(0, version(alloc))),
         Order::Plan(viewer) => {
             let done = plan_trace(alloc, library, viewer);
-            print(out, err, done)
+            print(alloc, out, err, done)
         }
         Order::Check(viewer, cert) => {
             let done = check_trace(alloc, library, viewer, cert);
-            print(out, err, done)
+            print(alloc, out, err, done)
         }
         Order::Make(kind, seed, pictures) => {
-            print(out, err, finish(0, make(alloc, kind, seed, pictures)))
+            print(
+                alloc,
+                out,
+                err,
+                finish(0, make(alloc, kind, seed, pictures)),
+            )
         }
         Order::Scan(film) => {
             let done = print_scan(alloc, library, film);
-            print(out, err, done)
+            print(alloc, out, err, done)
         }
-        Order::Serve(_) => end_with(err, Trouble::Usage),
+        Order::Serve(serving) => serve(rt, alloc, library, out, err, gate, seed, &serving),
     }
 }

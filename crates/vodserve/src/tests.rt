@@ -1,7 +1,9 @@
 use crate::run::run;
 use std::alloc::Global;
+use std::sync::Wait;
 use std::test::Fail;
-use vod_base::{MemoryLibrary, MemorySink, NoMemory};
+use std::thread::Threads;
+use vod_base::{Event, MemoryGate, MemoryLibrary, MemoryLink, MemoryPart, MemorySink, NoMemory};
 
 /// What a run over objects in memory gave: its status, output and error line.
 #[derive(Drop)]
@@ -35,7 +37,16 @@ fn sink(alloc: Global, failing: Vec<u64>) -> Result<MemorySink, Fail> {
     }
 }
 
-fn ran(
+/// A gate of these parts.
+fn gate(alloc: Global, parts: Vec<MemoryPart>) -> Result<MemoryGate, Fail> {
+    match MemoryGate::new(alloc, parts, Vec::new(alloc)) {
+        Ok(gate) => Ok(gate),
+        Err(NoMemory) => Err(Fail::from(std::alloc::AllocError)),
+    }
+}
+
+fn ran<R: Threads + Wait + Sync>(
+    rt: &R,
     alloc: Global,
     line: &str,
     files: &[(&str, &str)],
@@ -55,7 +66,17 @@ fn ran(
     let mut library = MemoryLibrary::new(held, failing.library);
     let mut out = sink(alloc, failing.out)?;
     let mut err = sink(alloc, failing.err)?;
-    let ended = run(alloc, &words, &mut library, &mut out, &mut err);
+    let mut gate = gate(alloc, Vec::new(alloc))?;
+    let ended = run(
+        rt,
+        alloc,
+        &words,
+        &mut library,
+        &mut out,
+        &mut err,
+        &mut gate,
+        [0; 32],
+    );
     Ok(Outcome {
         status: ended.status,
         planned: ended.plan.is_some(),
@@ -105,7 +126,13 @@ fn plans_traces(rt: HostRuntime) -> Result<(), Fail> {
             "smooth 1\nslots 26\nbytes 26\nsegment 26 26\nend\n",
         ),
     ] {
-        let got = ran(rt.alloc(), line, &[("t", trace)], no_failing(rt.alloc()))?;
+        let got = ran(
+            &rt,
+            rt.alloc(),
+            line,
+            &[("t", trace)],
+            no_failing(rt.alloc()),
+        )?;
         assert_eq!(rt; got.out.as_slice(), want.as_bytes(), "at {line}");
         assert_eq!(rt; got.status, 0, "at {line}");
         assert!(rt; got.planned, "at {line}");
@@ -174,7 +201,7 @@ fn names_every_refusal(rt: HostRuntime) -> Result<(), Fail> {
             "vodserve: cut: BadCert 3\n",
         ),
     ] {
-        let got = ran(rt.alloc(), line, &files, no_failing(rt.alloc()))?;
+        let got = ran(&rt, rt.alloc(), line, &files, no_failing(rt.alloc()))?;
         assert_eq!(rt; got.err.as_slice(), err.as_bytes(), "at {line}");
         assert_eq!(rt; got.status, status, "at {line}");
         assert!(rt; got.out.is_empty(), "at {line}");
@@ -218,6 +245,7 @@ fn checks_certificates(rt: HostRuntime) -> Result<(), Fail> {
         ),
     ] {
         let got = ran(
+            &rt,
             rt.alloc(),
             line,
             &[("t", trace), ("c", cert)],
@@ -232,8 +260,8 @@ fn checks_certificates(rt: HostRuntime) -> Result<(), Fail> {
 #[test]
 fn makes_the_same_from_a_number(rt: HostRuntime) -> Result<(), Fail> {
     let line = "make kind=trace seed=1 pictures=24";
-    let first = ran(rt.alloc(), line, &[], no_failing(rt.alloc()))?;
-    let second = ran(rt.alloc(), line, &[], no_failing(rt.alloc()))?;
+    let first = ran(&rt, rt.alloc(), line, &[], no_failing(rt.alloc()))?;
+    let second = ran(&rt, rt.alloc(), line, &[], no_failing(rt.alloc()))?;
     assert_eq!(rt; first.status, 0);
     assert_eq!(rt; first.out.iter().filter(|byte| **byte == b'\n').count(), 24);
     assert!(rt; first.out.as_slice() == second.out.as_slice());
@@ -243,7 +271,7 @@ fn makes_the_same_from_a_number(rt: HostRuntime) -> Result<(), Fail> {
         "--help",
         "--version",
     ] {
-        let got = ran(rt.alloc(), line, &[], no_failing(rt.alloc()))?;
+        let got = ran(&rt, rt.alloc(), line, &[], no_failing(rt.alloc()))?;
         assert_eq!(rt; got.status, 0, "at {line}");
         assert!(rt; !got.out.is_empty(), "at {line}");
     }
@@ -263,7 +291,7 @@ fn says_what_failed(rt: HostRuntime) -> Result<(), Fail> {
     ] {
         let mut failing = no_failing(alloc);
         failing.library.push(call)?;
-        let got = ran(alloc, line, &files, failing)?;
+        let got = ran(&rt, alloc, line, &files, failing)?;
         assert_eq!(rt; got.err.as_slice(), want.as_bytes(), "at call {call}");
         assert_eq!(rt; got.status, 4, "at call {call}");
         assert!(rt; got.out.is_empty(), "at call {call}");
@@ -276,7 +304,7 @@ fn says_what_failed(rt: HostRuntime) -> Result<(), Fail> {
     ] {
         let mut failing = no_failing(alloc);
         failing.out.push(1)?;
-        let got = ran(alloc, line, &files, failing)?;
+        let got = ran(&rt, alloc, line, &files, failing)?;
         assert_eq!(rt;
             got.err.as_slice(),
             b"vodserve: SinkFault\n".as_slice(),
@@ -287,7 +315,7 @@ fn says_what_failed(rt: HostRuntime) -> Result<(), Fail> {
     }
     let mut failing = no_failing(alloc);
     failing.err.push(1)?;
-    let got = ran(alloc, "plan trace=none", &files, failing)?;
+    let got = ran(&rt, alloc, "plan trace=none", &files, failing)?;
     assert_eq!(rt; got.status, 3);
     assert!(rt; got.err.is_empty());
     Ok(())
@@ -319,7 +347,11 @@ const SEQUENCE: &str = "000001b316012013ffffe0a0";
 const FIRST_PICTURE: &str = "000001b800080040 00000100000ffff8 000001011234";
 
 /// The output and the error line of `scan` on a film of these bytes.
-fn scanned(alloc: Global, film: Vec<u8>) -> Result<Outcome, Fail> {
+fn scanned<R: Threads + Wait + Sync>(
+    rt: &R,
+    alloc: Global,
+    film: Vec<u8>,
+) -> Result<Outcome, Fail> {
     let mut held = Vec::new(alloc);
     held.push((String::from_str(alloc, "a.mpg")?, film))?;
     let mut library = MemoryLibrary::new(held, Vec::new(alloc));
@@ -328,7 +360,17 @@ fn scanned(alloc: Global, film: Vec<u8>) -> Result<Outcome, Fail> {
     let mut words = Vec::new(alloc);
     words.push(String::from_str(alloc, "scan")?)?;
     words.push(String::from_str(alloc, "film=a.mpg")?)?;
-    let ended = run(alloc, &words, &mut library, &mut out, &mut err);
+    let mut gate = gate(alloc, Vec::new(alloc))?;
+    let ended = run(
+        rt,
+        alloc,
+        &words,
+        &mut library,
+        &mut out,
+        &mut err,
+        &mut gate,
+        [0; 32],
+    );
     Ok(Outcome {
         status: ended.status,
         planned: ended.plan.is_some(),
@@ -343,7 +385,7 @@ fn scans_films(rt: HostRuntime) -> Result<(), Fail> {
     let first = "0 I show=0 from=0 head=28 to=34 slices=1 sequence group\n";
     let second = "1 P show=1 from=34 head=43 to=49 slices=1\n";
     let film = hex(alloc, &format!(in alloc; "{SEQUENCE}{FIRST_PICTURE}")?)?;
-    let got = scanned(alloc, film)?;
+    let got = scanned(&rt, alloc, film)?;
     let want = format!(in alloc; "film bytes=34 rate=3 pictures=1\n{first}end\n")?;
     assert_eq!(rt; got.out.as_slice(), want.as_bytes());
     assert_eq!(rt; got.status, 0);
@@ -351,7 +393,7 @@ fn scans_films(rt: HostRuntime) -> Result<(), Fail> {
         alloc,
         &format!(in alloc; "{SEQUENCE}{FIRST_PICTURE}000001000057fff880000001011234")?,
     )?;
-    let got = scanned(alloc, film)?;
+    let got = scanned(&rt, alloc, film)?;
     let want = format!(in alloc; "film bytes=49 rate=3 pictures=2\n{first}{second}end\n")?;
     assert_eq!(rt; got.out.as_slice(), want.as_bytes());
     assert_eq!(rt; got.status, 0);
@@ -388,7 +430,7 @@ fn names_a_film_s_refusal(rt: HostRuntime) -> Result<(), Fail> {
     ] {
         let mut bytes = hex(alloc, film)?;
         bytes.truncate(front);
-        let got = scanned(alloc, bytes)?;
+        let got = scanned(&rt, alloc, bytes)?;
         assert_eq!(rt; got.err.as_slice(), err.as_bytes(), "at {film}");
         assert_eq!(rt; got.status, 3, "at {film}");
         assert!(rt; got.out.is_empty(), "at {film}");
@@ -400,12 +442,13 @@ fn names_a_film_s_refusal(rt: HostRuntime) -> Result<(), Fail> {
 fn scans_what_it_makes(rt: HostRuntime) -> Result<(), Fail> {
     let alloc = rt.alloc();
     let made = ran(
+        &rt,
         alloc,
         "make kind=film seed=1 pictures=250",
         &[],
         no_failing(alloc),
     )?;
-    let got = scanned(alloc, made.out)?;
+    let got = scanned(&rt, alloc, made.out)?;
     assert_eq!(rt; got.status, 0);
     assert!(rt;
         got.out.as_slice().starts_with(b"film bytes=268101 rate=3 pictures=250\n0 I show=0 from=0 ")
@@ -428,11 +471,130 @@ fn refuses_a_film_of_too_many_pictures(rt: HostRuntime) -> Result<(), Fail> {
     }
     film.extend_from_slice(&group)?;
     film.extend_from_slice(&picture)?;
-    let got = scanned(alloc, film)?;
+    let got = scanned(&rt, alloc, film)?;
     assert_eq!(rt;
         got.err.as_slice(),
         b"vodserve: a.mpg: TooLong\n".as_slice()
     );
     assert_eq!(rt; got.status, 3);
+    Ok(())
+}
+
+/// A link that says these requests and then hears so many slots.
+fn link(alloc: Global, requests: &str, slots: u64) -> Result<MemoryLink, Fail> {
+    let mut events = Vec::new(alloc);
+    if !requests.is_empty() {
+        events.push(Event::Bytes(Vec::from_slice(alloc, requests.as_bytes())?))?;
+    }
+    for slot in 0..slots {
+        events.push(Event::Slot(slot + 1))?;
+    }
+    match MemoryLink::new(alloc, events, 1 << 16, Vec::new(alloc), Vec::new(alloc)) {
+        Ok(link) => Ok(link),
+        Err(NoMemory) => Err(Fail::from(std::alloc::AllocError)),
+    }
+}
+
+/// A part with one link, whose calls of those numbers fail.
+fn part(alloc: Global, link: MemoryLink, failing: &[u64]) -> Result<MemoryPart, Fail> {
+    let mut links = Vec::new(alloc);
+    links.push(link)?;
+    Ok(MemoryPart {
+        links,
+        failing: Vec::from_slice(alloc, failing)?,
+    })
+}
+
+/// The requests of a connection of that worker that sets film b.mpg up and plays it.
+fn play_b(alloc: Global, worker: u32) -> Result<String, Fail> {
+    let words = conn::connection_words([7; 32], worker, 0);
+    let (first, second) = (words[0], words[1]);
+    Ok(format!(in alloc;
+        "SETUP rtsp://h/b.mpg RTSP/1.0\r\nCSeq: 1\r\nTransport: RTP/AVP/TCP;unicast;interleaved=0-1\r\nx-Startup: 2\r\n\r\n\
+         PLAY rtsp://h/b.mpg RTSP/1.0\r\nCSeq: 2\r\nSession: {first:08x}{second:08x}\r\n\r\n"
+    )?)
+}
+
+/// What `serve` with these words over that gate gave, and how many reports.
+fn served<R: Threads + Wait + Sync>(
+    rt: &R,
+    alloc: Global,
+    line: &str,
+    parts: Vec<MemoryPart>,
+) -> Result<(Outcome, usize, usize), Fail> {
+    let mut bytes = hex(alloc, SEQUENCE)?;
+    bytes.extend_from_slice(&hex(alloc, FIRST_PICTURE)?)?;
+    bytes.extend_from_slice(&hex(alloc, "000001000057fff880 000001011234")?)?;
+    let mut held = Vec::new(alloc);
+    held.push((String::from_str(alloc, "b.mpg")?, bytes))?;
+    let mut words = Vec::new(alloc);
+    for word in line.split_whitespace() {
+        words.push(String::from_str(alloc, word)?)?;
+    }
+    let mut library = MemoryLibrary::new(held, Vec::new(alloc));
+    let mut out = sink(alloc, Vec::new(alloc))?;
+    let mut err = sink(alloc, Vec::new(alloc))?;
+    let mut gate = gate(alloc, parts)?;
+    let ended = run(
+        rt,
+        alloc,
+        &words,
+        &mut library,
+        &mut out,
+        &mut err,
+        &mut gate,
+        [7; 32],
+    );
+    let outcome = Outcome {
+        status: ended.status,
+        planned: ended.plan.is_some(),
+        out: Vec::from_slice(alloc, out.bytes())?,
+        err: Vec::from_slice(alloc, err.bytes())?,
+    };
+    Ok((outcome, ended.reports.len(), ended.journal.len()))
+}
+
+#[test]
+fn serves_two_that_race(rt: HostRuntime) -> Result<(), Fail> {
+    let alloc = rt.alloc();
+    let mut parts = Vec::new(alloc);
+    for worker in 0..2 {
+        let requests = play_b(alloc, worker)?;
+        parts.push(part(alloc, link(alloc, requests.as_str(), 4)?, &[])?)?;
+    }
+    let (got, reports, entries) = served(
+        &rt,
+        alloc,
+        "serve film=b.mpg workers=2 capacity=36",
+        parts,
+    )?;
+    assert_eq!(rt; (got.status, reports, entries), (0, 2, 3));
+    assert!(rt; got.err.is_empty());
+    assert!(rt;
+        got.out
+            .ends_with(b"\nend\nserved connections=2 entries=3\n")
+    );
+    Ok(())
+}
+
+#[test]
+fn serves_on_when_a_part_fails(rt: HostRuntime) -> Result<(), Fail> {
+    let alloc = rt.alloc();
+    let mut parts = Vec::new(alloc);
+    parts.push(part(alloc, link(alloc, "", 0)?, &[1])?)?;
+    parts.push(part(alloc, link(alloc, "", 0)?, &[])?)?;
+    let (got, reports, _) = served(&rt, alloc, "serve film=b.mpg workers=2", parts)?;
+    assert_eq!(rt; (got.status, reports), (7, 1));
+    assert_eq!(rt; got.err.as_slice(), b"vodserve: GateFault\n".as_slice());
+    assert_eq!(rt;
+        got.out.as_slice(),
+        b"calendar from=0\nend\nserved connections=1 entries=0\n".as_slice()
+    );
+    let (got, _, _) = served(&rt, alloc, "serve film=c.mpg", Vec::new(alloc))?;
+    assert_eq!(rt; got.status, 3);
+    assert_eq!(rt;
+        got.err.as_slice(),
+        b"vodserve: c.mpg: NotFound\n".as_slice()
+    );
     Ok(())
 }

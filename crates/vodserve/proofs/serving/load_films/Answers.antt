@@ -1,0 +1,29 @@
+use Rattle.std.proofs.Common.{◌≡◌, ◌∙◌, ◌≤◌, ◌++◌, List, ℕ, [], ap, arith, sym, length, drop, string_bytes}
+use Rattle.std.specs.Prelude.{codes}
+use Rattle.std.specs.List.{Contains}
+use Rattle.std.proofs.lemmas.List.{append-nil, drop_all}
+use Rattle.session.specs.Ranges.{names_of}
+use Rattle.command_words.specs.Settings.{texts, values_of}
+use Rattle.troubles.proofs.CauseLemmas.{trouble_map}
+use Rattle.inputs.specs.Films.{IsHeldRefused}
+use Rattle.vodserve.specs.Served.{IsWordNamed}
+use Rattle.vodserve.proofs.ServeLemmas.{films_are, word_film}
+use Rattle.vodserve.proofs.serving.load_films.Goals as goal
+
+pub returns-in-Err-clause-trouble : goal.returns-in-Err-clause-trouble
+returns-in-Err-clause-trouble g c =
+    trouble_map (IsWordNamed c.as_str.result.now) (Contains (values_of (codes "film") (texts c.args.words.now))) IsHeldRefused IsHeldRefused
+    (g.L.Library.files c.loop-word.library) (g.L.Library.files c.args.library.now)
+    (g.L.Library.faults c.loop-word.library) (g.L.Library.faults c.add_film.new.library) (g.L.Library.faults c.args.library.now) (g.L.Library.faults c.add_film.new.library)
+    c.in-Err.trouble
+    (λ name named. word_film c.args.words.now c.loop-word.word-index c.word-item.result (names_of c.loop-word.films.items) name c.loop-word-test.true c.word-item.is
+    c.loop-word.invariant.names (rw c.as_str.ensures.value at named))
+    (λ held name fault told named refused. refused) (λ held told. c.loop-word.invariant.library.kept ∙ told)
+    (omega (arith, c.loop-word.invariant.library.count)) (omega arith) ((c.in-Err.ensures {u = tt}).trouble)
+
+pub returns-clause-films : goal.returns-clause-films
+returns-clause-films g c =
+    let ends : length c.args.words.now ≤ c.loop-word.word-index = c.loop-word-test.false in
+    films_are c.loop-word.films.items (values_of (codes "film") (texts c.args.words.now)) c.requires
+    (c.loop-word.invariant.names ∙ ap (λ (ws : List _). names_of c.loop-word.films.items ++ values_of (codes "film") (texts ws)) (drop_all c.loop-word.word-index c.args.words.now ends)
+    ∙ append-nil (names_of c.loop-word.films.items))

@@ -1,0 +1,72 @@
+-- What a server prints and leaves.
+use Rattle.std.specs.Prelude.{◌≡◌, ℕ, ◌+◌, ◌<◌, List, [], ◌∷◌, ◌++◌, length, codes, decimal, ◌⊎◌, Option, Some, None, IfSome}
+use Rattle.std.specs.List.{Contains}
+use Rattle.vod_base.specs.Outside.{File, HasRisen, IsFrontMore, more}
+use Rattle.vod_base.specs.Gates.{Content, IsOpen}
+use Rattle.slot_calendar.specs.declared.profiles.CapStep.{CapStep}
+use Rattle.admission.specs.declared.entries.Entry.{Entry}
+use Rattle.admission.specs.Machine.{booked_in}
+use Rattle.admission.specs.Histories.{IsLegal, state_after}
+use Rattle.admission.specs.Makers.{AreHaltsOwn, made_by}
+use Rattle.conn.specs.declared.reports.PartEnd.{PartEnd}
+use Rattle.conn.specs.declared.reports.PartEnd.TheVariants.{AllTaken, GateFault as PartFault}
+use Rattle.report.specs.EntryLines.{entry_line}
+use Rattle.report.specs.CalendarTexts.{calendar_text}
+use Rattle.inputs.specs.Films.{IsHeldRefused}
+use Rattle.troubles.specs.Causes.{IsReadTrouble}
+use Rattle.troubles.specs.declared.faults.Trouble.{Trouble}
+use Rattle.troubles.specs.declared.faults.Trouble.TheVariants.{Usage, Refused, StoreFault, SinkFault, NoMemory, GateFault}
+use Rattle.command_words.specs.Settings.{setting_value}
+use Rattle.command_words.specs.Words.{Serving}
+
+-- the lines of entries, of which the first stands at a place
+abbrev pub journal_lines : ℕ → List Entry → List ℕ
+journal_lines place [] = []
+journal_lines place (entry ∷ entries) = entry_line place entry ++ journal_lines (place + 1) entries
+
+-- how many connections were served, and how many entries the journal has
+abbrev pub last_line : ℕ → ℕ → List ℕ
+last_line connections entries = codes "served connections=" ++ decimal connections ++ codes " entries=" ++ decimal entries ++ codes "\n"
+
+-- the journal, what is booked from the machine's now on, and the last line
+abbrev pub served_text : List Entry → ℕ → List ℕ
+served_text entries connections =
+    journal_lines 0 entries ++ calendar_text (state_after entries).now (booked_in (state_after entries)) ++ last_line connections (length entries)
+
+-- the journal of a closed server: a legal history over its capacity, in which each play is halted by its own maker, with entries of
+-- the seats 1 up to that of the last worker alone
+pub record IsJournal (serving : Serving) (entries : List Entry) : Type 0 where
+  pub legal : IsLegal serving.capacity entries
+  pub halts : AreHaltsOwn entries
+  pub first : made_by 0 entries ≡ []
+  pub others : (maker : ℕ) → serving.listening.workers < maker → made_by maker entries ≡ []
+
+-- what keeps a server from its work: a film, the library, memory, or the gate, which counted a fault
+abbrev pub IsServeTrouble : List (List ℕ) → Option (List File) → ℕ → ℕ → ℕ → ℕ → Trouble → Type 0
+IsServeTrouble films told faults faults' gate gate' Usage = ⊥
+IsServeTrouble films told faults faults' gate gate' (Refused name fault) =
+    IsReadTrouble (Contains films) IsHeldRefused told faults faults' (Refused name fault)
+IsServeTrouble films told faults faults' gate gate' (StoreFault name) =
+    IsReadTrouble (Contains films) IsHeldRefused told faults faults' (StoreFault name)
+IsServeTrouble films told faults faults' gate gate' SinkFault = ⊥
+IsServeTrouble films told faults faults' gate gate' NoMemory = Unit {0}
+IsServeTrouble films told faults faults' gate gate' GateFault = HasRisen gate gate'
+
+-- a gate that was opened, and not split since
+abbrev pub IsNewlyOpen : Option Content → Type 0
+IsNewlyOpen told = IfSome told (λ content. IsOpen content × (content.parts ≡ []))
+
+-- the name that a word gives to the key `film`
+abbrev pub IsWordNamed : List ℕ → List ℕ → Type 0
+IsWordNamed word name = setting_value (codes "film") word ≡ Some name
+
+-- the text was written whole and each part of the gate gave all its connections; or what went wrong: a fault of the output, which was counted, left a front of it; want of memory
+-- left a front of it; a part of the gate failed
+abbrev pub IsPrinted : ℕ → ℕ → Option (List ℕ) → Option (List ℕ) → List ℕ → PartEnd → Option Trouble → Type 0
+IsPrinted faults faults' told told' text end None = (told' ≡ more told text) × (end ≡ AllTaken)
+IsPrinted faults faults' told told' text end (Some Usage) = ⊥
+IsPrinted faults faults' told told' text end (Some (Refused name fault)) = ⊥
+IsPrinted faults faults' told told' text end (Some (StoreFault name)) = ⊥
+IsPrinted faults faults' told told' text end (Some SinkFault) = HasRisen faults faults' × IsFrontMore told told' text
+IsPrinted faults faults' told told' text end (Some NoMemory) = IsFrontMore told told' text
+IsPrinted faults faults' told told' text end (Some GateFault) = (told' ≡ more told text) × (end ≡ PartFault)

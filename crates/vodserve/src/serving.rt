@@ -1,0 +1,218 @@
+ghost use Rattle.std.specs.Prelude.{◌≡◌, ◌≤◌, ◌++◌, Some, true, codes, IfSome, IfOk, IfErr, OnOk};
+ghost use Rattle.std.specs.List.{Contains};
+ghost use Rattle.std.specs.Option.{option_to_list};
+ghost use Rattle.vod_base.specs.Outside.{HasRisen};
+ghost use Rattle.slot_calendar.specs.Profiles.{IsProfile};
+ghost use Rattle.session.specs.Ranges.{AreFilms, names_of};
+ghost use Rattle.station.specs.Seats.{first_seat};
+ghost use Rattle.command_words.specs.Settings.{setting_value, texts, values_of};
+ghost use Rattle.command_words.specs.Words.{are_films};
+ghost use Rattle.command_words.specs.Orders.{serving_of};
+ghost use Rattle.command_words.specs.Ranges.{IsServingInRange};
+ghost use Rattle.troubles.specs.Causes.{IsReadOnly, IsReadTrouble};
+ghost use Rattle.inputs.specs.Films.{IsHeldRefused};
+ghost use Rattle.vodserve.specs.Served.{IsJournal, IsNewlyOpen, IsServeTrouble, IsWordNamed};
+ghost use Rattle.vodserve.specs.Workers.{IsMakeTrouble};
+
+use crate::workers::{Service, join_workers, make_workers, run_workers};
+use admission::Book;
+use command_words::{Serving, film_named};
+use conn::{ConnReport, PartEnd};
+use film_frames::Stored;
+use inputs::load_film;
+use session::Settings;
+use slot_calendar::{CapStep, Profile};
+use station::{Seat, Station};
+use std::alloc::Global;
+use std::sync::Wait;
+use std::thread::Threads;
+use troubles::Trouble;
+use vod_base::{Gate, Library, NoMemory, Opening};
+
+/// A server before its workers: its films, and its station with the first seat.
+#[derive(Drop)]
+pub(crate) struct Prepared {
+    pub(crate) films: Vec<Stored>,
+    pub(crate) station: Station,
+    pub(crate) seat: Seat,
+}
+
+/// A server after its workers: its book, what is left of its connections, and the worst end of a worker.
+#[derive(Drop)]
+pub(crate) struct Closed {
+    pub(crate) book: Book,
+    pub(crate) reports: Vec<ConnReport>,
+    pub(crate) end: PartEnd,
+}
+
+/// Loads the film that a word names, if it names one.
+fn add_film<'a, L: Library>(
+    alloc: Global,
+    library: &mut L,
+    films: &mut Vec<Stored>,
+    word: &'a str,
+) -> Result<(), Trouble<'a>>
+    ensures library { IsReadOnly (L.files library.old) (L.files library.new) (L.faults library.old) (L.faults library.new) }
+    ensures added { OnOk result (names_of films.new.items
+        ≡ names_of films.old.items ++ option_to_list (setting_value (codes "film") word.entry.now)) }
+    ensures trouble { IfErr result (IsReadTrouble (IsWordNamed word.entry.now) IsHeldRefused
+        (L.files library.old) (L.faults library.old) (L.faults library.new)) }
+{
+    let Some(name) = film_named(word) else {
+        return Ok(());
+    };
+    let film = match load_film(alloc, library, name) {
+        Ok(film) => film,
+        Err(trouble) => return Err(trouble),
+    };
+    match films.push(film) {
+        Ok(()) => Ok(()),
+        Err(_) => Err(Trouble::NoMemory),
+    }
+}
+
+/// Loads the films that the words name, one by one.
+fn load_films<'a, L: Library>(
+    alloc: Global,
+    library: &mut L,
+    words: &'a [String],
+) -> Result<Vec<Stored>, Trouble<'a>>
+    requires { are_films (values_of (codes "film") (texts words.now)) ≡ true }
+    ensures library { IsReadOnly (L.files library.old) (L.files library.new) (L.faults library.old) (L.faults library.new) }
+    ensures films { IfOk result (λ films. AreFilms films.items) }
+    ensures trouble { IfErr result (IsReadTrouble (Contains (values_of (codes "film") (texts words.entry.now))) IsHeldRefused
+        (L.files library.old) (L.faults library.old) (L.faults library.new)) }
+{
+    let mut films = Vec::new(alloc);
+    for word in words {
+        match add_film(alloc, library, &mut films, word.as_str()) {
+            Ok(()) => {}
+            Err(trouble) => return Err(trouble),
+        }
+    }
+    Ok(films)
+}
+
+/// The capacity of these steps.
+fn profile_of(alloc: Global, steps: &[CapStep]) -> Result<Profile, NoMemory>
+    requires { IsProfile steps.now }
+    ensures { IfOk result (λ profile. profile ≡ steps.now) }
+{
+    match Vec::from_slice(alloc, steps) {
+        Ok(steps) => Ok(Profile::new(steps)),
+        Err(_) => Err(NoMemory),
+    }
+}
+
+/// A station of that capacity, and its first seat.
+fn make_station(alloc: Global, steps: &[CapStep], limit: u64) -> Result<(Station, Seat), NoMemory>
+    requires profile { IsProfile steps.now }
+    requires some { 2 ≤ limit }
+    requires few { limit ≤ 1048576 }
+    ensures steps { IfOk result (λ made. made.0.steps ≡ steps.now) }
+    ensures seat { IfOk result (λ made. made.1 ≡ first_seat made.0) }
+{
+    let profile = match profile_of(alloc, steps) {
+        Ok(profile) => profile,
+        Err(NoMemory) => return Err(NoMemory),
+    };
+    Station::new(alloc, profile, limit)
+}
+
+/// Loads the films, opens the gate and makes the station, in this order.
+pub(crate) fn prepare<'a, L: Library, G: Gate>(
+    alloc: Global,
+    library: &mut L,
+    gate: &mut G,
+    serving: &Serving<'a>,
+) -> Result<Prepared, Trouble<'a>>
+    requires { IsServingInRange serving.now }
+    ensures library { IsReadOnly (L.files library.old) (L.files library.new) (L.faults library.old) (L.faults library.new) }
+    ensures count { G.faults gate.old ≤ G.faults gate.new }
+    ensures films { IfOk result (λ prepared. AreFilms prepared.films.items) }
+    ensures steps { IfOk result (λ prepared. prepared.station.steps ≡ serving.entry.now.capacity) }
+    ensures seat { IfOk result (λ prepared. prepared.seat ≡ first_seat prepared.station) }
+    ensures opened { IfOk result (λ prepared. IsNewlyOpen (G.told gate.new)) }
+    ensures trouble { IfErr result (IsServeTrouble (serving_of serving.entry.now).films
+        (L.files library.old) (L.faults library.old) (L.faults library.new) (G.faults gate.old) (G.faults gate.new)) }
+{
+    let films = match load_films(alloc, library, serving.words) {
+        Ok(films) => films,
+        Err(trouble) => return Err(trouble),
+    };
+    let opening = Opening {
+        port: serving.listening.port,
+        all: serving.listening.all,
+        connections: serving.listening.connections,
+        slot_units: serving.pace.slot,
+    };
+    if gate.open(&opening).is_err() {
+        return Err(Trouble::GateFault);
+    }
+    match make_station(alloc, serving.capacity.as_slice(), serving.journal) {
+        Ok((station, seat)) => Ok(Prepared {
+            films,
+            station,
+            seat,
+        }),
+        Err(NoMemory) => Err(Trouble::NoMemory),
+    }
+}
+
+/// Runs the workers over the open gate and closes the station. Where a seat or a part can't be made no worker runs.
+pub(crate) fn run_server<R: Threads + Wait + Sync, G: Gate + Send + Drop>(
+    rt: &R,
+    alloc: Global,
+    gate: &mut G,
+    seed: [u8; 32],
+    serving: &Serving<'_>,
+    prepared: Prepared,
+) -> Result<Closed, Trouble<'static>>
+where
+    G::Conn: Send,
+    requires range { IsServingInRange serving.now }
+    requires films { AreFilms prepared.films.items }
+    requires steps { prepared.station.steps ≡ serving.now.capacity }
+    requires seat { prepared.seat ≡ first_seat prepared.station }
+    requires opened { IsNewlyOpen (G.told gate.old) }
+    ensures count { G.faults gate.old ≤ G.faults gate.new }
+    ensures closed { IfOk result (λ closed. IsJournal (serving_of serving.entry.now) closed.book.entries) }
+    ensures fault { IfOk result (λ closed. closed.end ≡ PartEnd.GateFault → HasRisen (G.faults gate.old) (G.faults gate.new)) }
+    ensures trouble { IfErr result (IsMakeTrouble (G.faults gate.old) (G.faults gate.new)) }
+{
+    let Prepared {
+        films,
+        station,
+        mut seat,
+    } = prepared;
+    let settings = Settings {
+        slot_units: serving.pace.slot,
+        buffer: serving.pace.buffer,
+        startup: serving.pace.startup,
+    };
+    let mut workers = Vec::new(alloc);
+    let mut reports = Vec::new(alloc);
+    let made = make_workers(
+        alloc,
+        &station,
+        &mut seat,
+        gate,
+        serving.listening.workers,
+        &mut workers,
+    );
+    if made.is_ok() {
+        let service = Service {
+            station: &station,
+            films: films.as_slice(),
+            settings: &settings,
+            seed,
+        };
+        run_workers(rt, alloc, service, &mut workers);
+    }
+    let end = join_workers(&station, &mut seat, gate, workers, &mut reports);
+    let book = station.close(seat);
+    match made {
+        Ok(()) => Ok(Closed { book, reports, end }),
+        Err(trouble) => Err(trouble),
+    }
+}

@@ -1,0 +1,176 @@
+ghost use Rattle.std.specs.Prelude.{◌≡◌, ◌≤◌, ◌⊎◌, [], length, All, IfSome, IfErr, OnOk};
+ghost use Rattle.vod_base.specs.Outside.{HasRisen};
+ghost use Rattle.vodserve.specs.Served.{IsNewlyOpen};
+ghost use Rattle.session.specs.Standings.{AreFilms, AreSettings};
+ghost use Rattle.station.specs.Seats.{first_seat};
+ghost use Rattle.vodserve.specs.Workers.{AreOut, AreWorkers, IsBack, IsFresh, IsMakeTrouble, IsWorker, split_seat};
+
+use conn::{ConnReport, PartEnd, PartReport, serve_part};
+use film_frames::Stored;
+use session::Settings;
+use station::{Seat, Station};
+use std::alloc::Global;
+use std::sync::Wait;
+use std::thread;
+use std::thread::Threads;
+use troubles::Trouble;
+use vod_base::Gate;
+
+/// A worker of a server: its number from 0, its seat at the station, its part of the gate, and what is left of its
+/// connections.
+#[derive(Drop)]
+pub(crate) struct Worker<G> {
+    number: u32,
+    seat: Seat,
+    part: G,
+    report: PartReport,
+}
+
+/// What workers serve: films over a station, under settings, with identities drawn from a seed.
+#[derive(Clone, Copy)]
+pub(crate) struct Service<'a> {
+    pub(crate) station: &'a Station,
+    pub(crate) films: &'a [Stored],
+    pub(crate) settings: &'a Settings,
+    pub(crate) seed: [u8; 32],
+}
+
+/// Makes workers, each with a part of the gate and a seat. After a trouble there are those that were made before it.
+pub(crate) fn make_workers<G: Gate + Drop>(
+    alloc: Global,
+    station: &Station,
+    seat: &mut Seat,
+    gate: &mut G,
+    count: u32,
+    workers: &mut Vec<Worker<G>>,
+) -> Result<(), Trouble<'static>>
+    requires seat { seat.old ≡ first_seat station.now }
+    requires opened { IsNewlyOpen (G.told gate.old) }
+    requires few { count ≤ 256 }
+    requires none { workers.old.items ≡ [] }
+    ensures count { G.faults gate.old ≤ G.faults gate.new }
+    ensures seat { seat.new ≡ split_seat station.now (length workers.new.items) }
+    ensures workers { AreWorkers G.told G.faults station.now 0 workers.new.items }
+    ensures untouched { All (IsFresh G.told) workers.new.items }
+    ensures parts { IfSome (G.told gate.new) (AreOut 0 (length workers.new.items)) }
+    ensures made { OnOk result (length workers.new.items ≡ count) }
+    ensures few { length workers.new.items ≤ count }
+    ensures trouble { IfErr result (IsMakeTrouble (G.faults gate.old) (G.faults gate.new)) }
+{
+    for number in 0..count {
+        if workers.reserve(1).is_err() {
+            return Err(Trouble::NoMemory);
+        }
+        let Ok(part) = gate.split() else {
+            return Err(Trouble::GateFault);
+        };
+        workers.push_reserved(Worker {
+            number,
+            seat: station.split(seat),
+            part,
+            report: PartReport {
+                end: PartEnd::AllTaken,
+                reports: Vec::new(alloc),
+            },
+        });
+    }
+    Ok(())
+}
+
+/// Serves the connections of the worker's part.
+fn work<R: Wait, G: Gate>(rt: &R, alloc: Global, service: Service<'_>, worker: &mut Worker<G>)
+    requires worker { IsWorker G.told G.faults service.station.now worker.old }
+    requires untouched { IsFresh G.told worker.old }
+    requires settings { AreSettings service.settings.now }
+    requires films { AreFilms service.films.now }
+    ensures number { worker.new.number ≡ worker.old.number }
+    ensures worker { IsWorker G.told G.faults service.entry.station.now worker.new }
+{
+    worker.report = serve_part(
+        rt,
+        alloc,
+        service.station,
+        &mut worker.seat,
+        service.films,
+        service.settings,
+        service.seed,
+        worker.number,
+        &mut worker.part,
+    );
+}
+
+/// Runs the workers side by side, or one after another where no thread can be made.
+pub(crate) fn run_workers<R: Threads + Wait + Sync, G: Gate + Send + Drop>(
+    rt: &R,
+    alloc: Global,
+    service: Service<'_>,
+    workers: &mut Vec<Worker<G>>,
+)
+where
+    G::Conn: Send,
+    requires workers { AreWorkers G.told G.faults service.station.now 0 workers.old.items }
+    requires each { All (IsWorker G.told G.faults service.station.now) workers.old.items }
+    requires untouched { All (IsFresh G.told) workers.old.items }
+    requires settings { AreSettings service.settings.now }
+    requires films { AreFilms service.films.now }
+    ensures workers { AreWorkers G.told G.faults service.entry.station.now 0 workers.new.items }
+    ensures count { length workers.new.items ≡ length workers.old.items }
+{
+    let count = workers.len().max(1);
+    thread::for_each_mut(
+        rt,
+        workers.as_mut_slice(),
+        count,
+        &|_: usize, worker: &mut Worker<G>|
+            requires { IsWorker G.told G.faults service.station.now worker.now × IsFresh G.told worker.now
+                × AreSettings service.settings.now × AreFilms service.films.now }
+            ensures { (worker.exit.now.number ≡ worker.entry.now.number)
+                × IsWorker G.told G.faults service.entry.station.now worker.exit.now }
+        { work(rt, alloc, service, worker) },
+    );
+}
+
+/// The worse of two ends: want of memory before a fault of the gate.
+fn worse(one: PartEnd, other: PartEnd) -> PartEnd
+    ensures { result ≡ PartEnd.GateFault → (one ≡ PartEnd.GateFault) ⊎ (other ≡ PartEnd.GateFault) }
+{
+    match (one, other) {
+        (PartEnd::NoMemory, _) | (_, PartEnd::NoMemory) => PartEnd::NoMemory,
+        (PartEnd::GateFault, _) => PartEnd::GateFault,
+        (PartEnd::AllTaken, other) => other,
+    }
+}
+
+/// Joins the workers' seats and parts, collects their reports in the order of the workers, and answers the worst of their
+/// ends, or want of memory where there was none for the reports.
+pub(crate) fn join_workers<G: Gate + Drop>(
+    station: &Station,
+    seat: &mut Seat,
+    gate: &mut G,
+    mut workers: Vec<Worker<G>>,
+    reports: &mut Vec<ConnReport>,
+) -> PartEnd
+    requires seat { seat.old ≡ split_seat station.now (length workers.items) }
+    requires workers { AreWorkers G.told G.faults station.now 0 workers.items }
+    requires parts { IfSome (G.told gate.old) (AreOut 0 (length workers.items)) }
+    ensures seat { IsBack station.now (length workers.items) seat.new }
+    ensures count { G.faults gate.old ≤ G.faults gate.new }
+    ensures fault { result ≡ PartEnd.GateFault → HasRisen (G.faults gate.old) (G.faults gate.new) }
+{
+    let mut end = PartEnd::AllTaken;
+    while !workers.is_empty() {
+        let Worker {
+            number: _,
+            seat: other,
+            part,
+            mut report,
+        } = workers.remove(0);
+        station.join(seat, other);
+        gate.rejoin(part);
+        end = worse(end, report.end);
+        if reports.append(&mut report.reports).is_err() {
+            end = PartEnd::NoMemory;
+        }
+    }
+    end
+}
