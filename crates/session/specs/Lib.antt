@@ -1,7 +1,11 @@
 pub mod Logs
+pub mod Replies
 pub mod Ranges
+pub mod Titles
 pub mod Plans
 pub mod Tasks
+pub mod Judging
 pub mod Steps
 pub mod Standings
+pub mod Sendings
 pub mod Inside

@@ -1,6 +1,7 @@
 -- What contracts see of a session, and the words in which its callers speak of it.
 use Rattle.std.specs.Prelude.{ℕ, ◌≡◌, ◌≤◌, ◌^◌, ◌&&◌, ◌++◌, ◌∷◌, Bool, true, false, if◌then◌else◌, nat_lt, nat_le, List, [], Option, Some, None, ⊤}
 use Rattle.plan_cert.specs.declared.Segment.{Segment}
+use Rattle.session.specs.Titles.{Title}
 pub use Rattle.session.specs.Ranges.{AreFilms, AreSettings}
 use Rattle.session.specs.declared.settings.Settings.{Settings}
 use Rattle.session.specs.declared.notes.Receipt.{Receipt}
@@ -19,8 +20,9 @@ use Rattle.session.specs.declared.states.Counts.{Counts}
 use Rattle.session.specs.declared.states.Source.{Source}
 
 pub record Standing : Type 0 where
-  -- how many films the server has, its settings, the session's id, and what its stream begins with
+  -- how many films the server has, the films, its settings, the session's id, and what its stream begins with
   pub films : ℕ
+  pub titles : List Title
   pub settings : Settings
   pub id : List ℕ
   pub source : Source
@@ -210,3 +212,28 @@ is_playing_in Init = false
 is_playing_in (Ready setup paused) = false
 is_playing_in (Playing setup play) = true
 is_playing_in (Stopping setup stop) = false
+
+-- the request that waits for the station's answer
+abbrev pub sequence_of : Awaited → ℕ
+sequence_of Nothing = 0
+sequence_of (Play prepared) = prepared.sequence
+sequence_of (Halt keep next) = 0
+sequence_of (Look sequence) = sequence
+sequence_of (Offer sequence) = sequence
+
+-- the session after the station's answer to a request: a receipt is noted, and the reply waits
+abbrev pub answered : Standing → Receipt → List ℕ → Standing
+answered old receipt text = record old {
+  awaited = Nothing;
+  text = text;
+  waits = true;
+  receipts = old.receipts ++ receipt ∷ [];
+}
+
+-- the session after a reply of its own
+abbrev pub replied : Standing → List ℕ → Standing
+replied old text = record old { text = text; waits = true }
+
+-- the session once the station is asked, with the reply's text so far
+abbrev pub asking : Standing → Awaited → List ℕ → Standing
+asking old awaited text = record old { awaited = awaited; text = text }

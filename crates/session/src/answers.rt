@@ -1,10 +1,14 @@
 //! The station's answers.
 
-ghost use Rattle.std.specs.Prelude.{◌≡◌, ◌<◌, ◌^◌, ◌++◌, [], ◌∷◌, true, None};
+ghost use Rattle.std.specs.Prelude.{◌≡◌, ◌<◌, ◌^◌, ◌++◌, [], ◌∷◌, true, None, ◌-◌, List, Some};
+ghost use Rattle.rtsp_text.specs.Replies.{Field, reply_front};
+ghost use Rattle.session.specs.Sendings.{admitted_in, halted_in, halted_notes, kept_of, next_of};
 ghost use Rattle.admission.specs.declared.entries.Answer.{Answer};
 ghost use Rattle.session.specs.declared.notes.Receipt.{Receipt};
 ghost use Rattle.session.specs.Standings.{AreNotesKept, IsAtRest, IsHalt, IsHandedIn, IsLook, IsOffer, IsPlay, IsPlayOrLook};
-ghost use Rattle.session.specs.Standings.{awaits, booking_of, open_of};
+ghost use Rattle.session.specs.Standings.{answered, awaits, booking_of, open_of, sequence_of};
+ghost use Rattle.session.specs.Replies.{full_text, look_body, offer_body, overflow_text, parameters_text, play_text};
+ghost use Rattle.session.specs.declared.states.Awaited.{Awaited};
 
 use crate::bodies::{put_look, put_offer};
 use crate::notes::{OfferNote, PlayNote, Receipt};
@@ -22,6 +26,12 @@ impl<'a> Session<'a> {
     pub fn admitted(&mut self, place: u64, start: u64)
         requires asked { IsPlay (awaits self.old) }
         requires start { self.old.heard < start }
+        ensures exact { self.new ≡ record (answered self.old (Receipt.Entry place (Answer.Admitted start)) self.new.text) {
+          state = admitted_in self.old.state self.old.awaited place start;
+          counts = self.new.counts;
+        } }
+        ensures text { (fields : List Field) → self.old.text ≡ reply_front 200 (Some (sequence_of self.old.awaited)) fields
+            → self.new.text ≡ play_text (sequence_of self.old.awaited) fields (start - self.old.heard) }
         ensures handed { IsHandedIn self.old (Receipt.Entry place (Answer.Admitted start)) self.new }
         ensures replies { self.new.waits ≡ true }
         ensures open { open_of self.new ≡ booking_of (awaits self.old) start }
@@ -65,6 +75,8 @@ impl<'a> Session<'a> {
     /// the plan asks for there.
     pub fn overflowed(&mut self, place: u64, slot: u64, booked: u64, asked: u64)
         requires asked { IsPlay (awaits self.old) }
+        ensures exact { self.new ≡ answered self.old (Receipt.Entry place (Answer.Overflow slot booked asked))
+            (overflow_text (sequence_of self.old.awaited) slot booked asked) }
         ensures handed { IsHandedIn self.old (Receipt.Entry place (Answer.Overflow slot booked asked)) self.new }
         ensures replies { self.new.waits ≡ true }
         ensures open { open_of self.new ≡ None }
@@ -88,6 +100,8 @@ impl<'a> Session<'a> {
     /// The journal had no room for the play or the look that was asked for: its entries and the open plays.
     pub fn full(&mut self, entries: u64, live: u64)
         requires asked { IsPlayOrLook (awaits self.old) }
+        ensures exact { self.new ≡ answered self.old (Receipt.Full entries live)
+            (full_text (sequence_of self.old.awaited) entries live) }
         ensures handed { IsHandedIn self.old (Receipt.Full entries live) self.new }
         ensures replies { self.new.waits ≡ true }
         ensures open { open_of self.new ≡ open_of self.old }
@@ -107,6 +121,12 @@ impl<'a> Session<'a> {
     /// is due.
     pub fn halted(&mut self, place: u64)
         requires asked { IsHalt (awaits self.old) (open_of self.old) }
+        ensures state { self.new.state ≡ halted_in self.old.state self.old.awaited }
+        ensures plays { self.new.plays ≡ self.old.plays ++ halted_notes self.old.state self.old.awaited }
+        ensures text { self.new.text ≡ self.old.text }
+        ensures late { self.new.late ≡ self.old.late }
+        ensures looks { self.new.looks_left ≡ self.old.looks_left }
+        ensures offers { self.new.offers ≡ self.old.offers }
         ensures handed { IsHandedIn self.old (Receipt.Entry place Answer.Halted) self.new }
         ensures open { open_of self.new ≡ None }
     {
@@ -114,10 +134,7 @@ impl<'a> Session<'a> {
         let State::Playing(setup, play) = mem::replace(&mut self.state, State::Init) else {
             unreachable!()
         };
-        let (keep, next) = match asked {
-            Awaited::Halt(keep, next) => (keep, next),
-            _ => (play.pacer.due(), Next::Done),
-        };
+        let (keep, next) = kept_and_next(&asked, play.pacer.due());
         let Play {
             run,
             place: number,
@@ -131,27 +148,43 @@ impl<'a> Session<'a> {
         });
         self.log
             .note_play(note_of(&setup, &run, number, start, plan, keep));
-        if let Next::Done = next {
-            let (frames, _) = pacer.end();
-            self.counts = counts_after(self.counts, &frames, run.sent + keep);
-            self.state = State::Ready(setup, None);
-        } else {
-            self.tearing = next == Next::Torn;
-            self.state = State::Stopping(
-                setup,
-                Stop {
-                    paused: paused_in(next),
-                    start,
-                    pacer,
-                },
-            );
-            self.waits = true;
+        match next {
+            Next::Done => {
+                let (frames, _) = pacer.end();
+                self.counts = counts_after(self.counts, &frames, run.sent + keep);
+                self.state = State::Ready(setup, None);
+            }
+            Next::Paused(rest) => {
+                self.state = State::Stopping(
+                    setup,
+                    Stop {
+                        paused: Some(rest),
+                        start,
+                        pacer,
+                    },
+                );
+                self.waits = true;
+            }
+            Next::Torn => {
+                self.tearing = true;
+                self.state = State::Stopping(
+                    setup,
+                    Stop {
+                        paused: None,
+                        start,
+                        pacer,
+                    },
+                );
+                self.waits = true;
+            }
         }
     }
 
     /// What the station saw: the slot up to which its book has come, the slot that was looked at and what is booked in it.
     pub fn looked(&mut self, place: u64, now: u64, at: u64, booked: u64)
         requires asked { IsLook (awaits self.old) }
+        ensures exact { self.new ≡ answered self.old (Receipt.Entry place (Answer.Looked now at booked))
+            (parameters_text (sequence_of self.old.awaited) (look_body now at booked)) }
         ensures handed { IsHandedIn self.old (Receipt.Entry place (Answer.Looked now at booked)) self.new }
         ensures replies { self.new.waits ≡ true }
         ensures open { open_of self.new ≡ open_of self.old }
@@ -173,6 +206,12 @@ impl<'a> Session<'a> {
     /// offers that were handed out.
     pub fn offered(&mut self, seen: u64, first: u64, plan: Plan, offers: Offers)
         requires asked { IsOffer (awaits self.old) }
+        ensures exact { self.new ≡ record self.old {
+          awaited = Awaited.Nothing;
+          text = parameters_text (sequence_of self.old.awaited) (offer_body offers.start offers.tried);
+          waits = true;
+          offers = self.old.offers ++ record { seen = seen; first = first; plan = plan; offers = offers } ∷ [];
+        } }
         ensures rest { IsAtRest self.new }
         ensures replies { self.new.waits ≡ true }
         ensures open { open_of self.new ≡ open_of self.old }
@@ -203,6 +242,20 @@ impl<'a> Session<'a> {
 /// The note of a play whose booking keeps so many bytes.
 fn note_of(setup: &Setup, run: &Run, place: u64, start: u64, plan: Plan, keep: u64) -> PlayNote
     requires { setup.now.film < 2 ^ 32 }
+    ensures { result ≡ record {
+      place = place;
+      film = setup.now.film;
+      first_unit = run.now.first_unit;
+      end_unit = run.now.end_unit;
+      from_unit = run.now.from_unit;
+      buffer = setup.now.buffer;
+      delay = setup.now.delay;
+      played = run.now.played;
+      sent_before = run.now.sent;
+      plan = plan;
+      start = start;
+      keep = keep;
+    } }
 {
     PlayNote {
         place,
@@ -220,10 +273,16 @@ fn note_of(setup: &Setup, run: &Run, place: u64, start: u64, plan: Plan, keep: u
     }
 }
 
-/// The run that a halt leaves.
-fn paused_in(next: Next) -> Option<Run> {
-    match next {
-        Next::Paused(run) => Some(run),
-        _ => None,
+/// What a halt keeps, and what it leads to: what was asked for, or what is due as the connection ends.
+fn kept_and_next(asked: &Awaited<'_>, due: u64) -> (u64, Next)
+    ensures keep { result.0 ≡ kept_of asked.now due }
+    ensures next { result.1 ≡ next_of asked.now }
+{
+    match asked {
+        Awaited::Halt(keep, next) => (*keep, *next),
+        Awaited::Nothing => (due, Next::Done),
+        Awaited::Play(_) => (due, Next::Done),
+        Awaited::Look(_) => (due, Next::Done),
+        Awaited::Offer(_) => (due, Next::Done),
     }
 }

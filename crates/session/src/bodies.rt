@@ -1,13 +1,15 @@
 //! The bodies of the replies to GET_PARAMETER (RFC 2326 section 10.8), line by line.
 
-ghost use Rattle.std.specs.Prelude.{◌+◌, ◌≤◌, length};
+ghost use Rattle.std.specs.Prelude.{◌≡◌, ◌+◌, ◌≤◌, ◌++◌, length};
+ghost use Rattle.session.specs.Replies.{look_body, offer_body, over_line, start_line, start_text};
 
 use crate::texts::Text;
 use early_start::{Offers, Tried};
 
 /// What is booked in a slot.
 pub(crate) fn put_look(body: &mut Text, now: u64, at: u64, booked: u64)
-    ensures { length body.new ≤ 24576 }
+    ensures text { body.new ≡ look_body now at booked }
+    ensures short { length body.new ≤ 24576 }
 {
     body.clear();
     body.put(b"x-Now: ");
@@ -19,21 +21,31 @@ pub(crate) fn put_look(body: &mut Text, now: u64, at: u64, booked: u64)
     body.put(b"\r\n");
 }
 
-fn put_start_line(body: &mut Text, start: Option<u64>)
-    requires { length body.old + 31 ≤ 24576 }
-    ensures { length body.new ≤ length body.old + 31 }
+fn put_start_text(body: &mut Text, start: Option<u64>)
+    requires { length body.old + 20 ≤ 24576 }
+    ensures text { body.new ≡ body.old ++ start_text start }
+    ensures short { length body.new ≤ length body.old + 20 }
 {
-    body.put(b"x-Start: ");
     match start {
         Some(start) => body.put_number(start),
         None => body.put(b"none"),
     }
+}
+
+fn put_start_line(body: &mut Text, start: Option<u64>)
+    requires { length body.old + 31 ≤ 24576 }
+    ensures text { body.new ≡ body.old ++ start_line start }
+    ensures short { length body.new ≤ length body.old + 31 }
+{
+    body.put(b"x-Start: ");
+    put_start_text(body, start);
     body.put(b"\r\n");
 }
 
 fn put_over_line(body: &mut Text, tried: &Tried)
     requires { length body.old + 93 ≤ 24576 }
-    ensures { length body.new ≤ length body.old + 93 }
+    ensures text { body.new ≡ body.old ++ over_line tried.now }
+    ensures short { length body.new ≤ length body.old + 93 }
 {
     body.put(b"x-Over: ");
     body.put_number(tried.start);
@@ -48,7 +60,8 @@ fn put_over_line(body: &mut Text, tried: &Tried)
 
 /// From which slot on a play would fit, and the first slot without room for each start that was tried in vain.
 pub(crate) fn put_offer(body: &mut Text, offers: &Offers)
-    ensures { length body.new ≤ 24576 }
+    ensures text { body.new ≡ offer_body offers.now.start offers.now.tried }
+    ensures short { length body.new ≤ 24576 }
 {
     let _most = offers.wait(); // at most 255, so at most 256 starts were tried
     body.clear();

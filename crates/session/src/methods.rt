@@ -1,4 +1,6 @@
-ghost use Rattle.std.specs.Prelude.{◌≡◌};
+ghost use Rattle.std.specs.Prelude.{◌≡◌, ◌≢◌, MatchOption};
+ghost use Rattle.session.specs.declared.methods.Method.{Method};
+ghost use Rattle.session.specs.Judging.{name_of};
 
 /// A method of RTSP that is spoken (RFC 2326 section 10).
 #[derive(Clone, Copy, Debug, PartialEq, Eq)]
@@ -13,16 +15,25 @@ pub(crate) enum Method {
 }
 
 /// The method of a request, where it is spoken.
-pub(crate) fn read_method(text: &[u8]) -> Option<Method> {
-    match text {
-        b"OPTIONS" => Some(Method::Options),
-        b"DESCRIBE" => Some(Method::Describe),
-        b"SETUP" => Some(Method::Setup),
-        b"PLAY" => Some(Method::Play),
-        b"PAUSE" => Some(Method::Pause),
-        b"TEARDOWN" => Some(Method::Teardown),
-        b"GET_PARAMETER" => Some(Method::GetParameter),
-        _ => None,
+pub(crate) fn read_method(text: &[u8]) -> Option<Method>
+    ensures { MatchOption result ((method : Method) → text.now ≢ name_of method) (λ method. text.now ≡ name_of method) }
+{
+    if text == b"OPTIONS".as_slice() {
+        Some(Method::Options)
+    } else if text == b"DESCRIBE".as_slice() {
+        Some(Method::Describe)
+    } else if text == b"SETUP".as_slice() {
+        Some(Method::Setup)
+    } else if text == b"PLAY".as_slice() {
+        Some(Method::Play)
+    } else if text == b"PAUSE".as_slice() {
+        Some(Method::Pause)
+    } else if text == b"TEARDOWN".as_slice() {
+        Some(Method::Teardown)
+    } else if text == b"GET_PARAMETER".as_slice() {
+        Some(Method::GetParameter)
+    } else {
+        None
     }
 }
 

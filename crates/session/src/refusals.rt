@@ -1,4 +1,5 @@
-ghost use Rattle.std.specs.Prelude.{◌≡◌, ◌<◌, ◌≤◌, true, length, is_some, IfOk, IsTrue, IfSome};
+ghost use Rattle.std.specs.Prelude.{◌≡◌, ◌<◌, ◌≤◌, true, length, is_some, IfOk, IsTrue, IfSome, ◌↔◌, option_map};
+ghost use Rattle.session.specs.Judging.{FitsSession, FitsState, IsJudged, method_of, required_of};
 ghost use Rattle.rtsp_text.specs.Lines.{is_one_line};
 ghost use Rattle.session.specs.Tasks.{IsAsked, IsTask, IsValid, NeedsSession};
 
@@ -76,6 +77,7 @@ pub(crate) fn refusal_of(fault: RequestFault) -> Refusal {
 
 /// The options that a request requires.
 fn required<'m>(request: &Request<'m>) -> Option<&'m [u8]>
+    ensures value { option_map (λ option. option.now) result ≡ required_of request.now.head.now }
     ensures short { IfSome result (λ option. length option.now ≤ length request.now.head.now) }
     ensures line { IfSome result (λ option. is_one_line option.now ≡ true) }
 {
@@ -98,7 +100,8 @@ pub(crate) fn option_of<'m>(request: &Request<'m>) -> &'m [u8]
 
 /// Whether the session that a request names, or names not, goes with its method.
 fn has_session(method: Method, exists: bool, id: &[u8; 16], named: Option<&[u8]>) -> bool
-    ensures { IsTrue result → NeedsSession method exists }
+    ensures fits { IsTrue result ↔ FitsSession method exists id.now (option_map (λ value. value.now) named.entry) }
+    ensures needs { IsTrue result → NeedsSession method exists }
 {
     let matches = match named {
         Some(value) => exists && session_matches(value, id),
@@ -148,7 +151,8 @@ fn is_own(method: Method, session: Option<usize>, film: usize) -> bool {
 
 /// Whether a method is valid in a state.
 fn is_valid(method: Method, place: Place, has_range: bool) -> bool
-    ensures { IsTrue result → IsValid method place }
+    ensures fits { IsTrue result ↔ FitsState method place has_range }
+    ensures valid { IsTrue result → IsValid method place }
 {
     match method {
         Method::Setup => place.film.is_none(),
@@ -162,7 +166,8 @@ fn task_of(films: usize, place: Place, method: Method, asked: Asked<'_>) -> Task
     requires asked { IsAsked films asked }
     requires session { NeedsSession method (is_some place.film) }
     requires valid { IsValid method place }
-    ensures { IsTask films place result }
+    ensures task { IsTask films place result }
+    ensures method { method_of result ≡ method }
 {
     let _ = (films, place);
     match method {
@@ -185,7 +190,8 @@ pub(crate) fn judge<'m>(
     request: &Request<'m>,
 ) -> Result<Task<'m>, Refusal>
     requires { length request.now.url.now ≤ 16384 }
-    ensures { IfOk result (IsTask (length films.now) place) }
+    ensures task { IfOk result (IsTask (length films.now) place) }
+    ensures judged { IsJudged request.now.method.now request.now.head.now id.now place result }
 {
     let Some(method) = read_method(request.method) else {
         return Err(Refusal::Method);

@@ -1,11 +1,13 @@
 //! The replies, each from its status line to its body (RFC 2326 section 7).
 
-ghost use Rattle.std.specs.Prelude.{◌≡◌, ◌≤◌, IsTrue, true, length, string_bytes};
+ghost use Rattle.session.specs.Replies.{code_of, refusal_fields, refusal_text, public_text, describe_text, setup_text, session_text};
+ghost use Rattle.session.specs.Replies.{plain_text, play_fields, play_text, overflow_text, full_text, parameters_text};
+ghost use Rattle.std.specs.Prelude.{◌≡◌, ◌≤◌, IsTrue, true, length, string_bytes, ℕ, List, Option, Some, [], decimal};
 ghost use Rattle.std.specs.Int.{w32, to_be_bytes};
 ghost use Rattle.hex.specs.Hex.{encode_lower};
 ghost use Rattle.vod_base.specs.Names.{is_good_name};
 ghost use Rattle.rtsp_text.specs.Lines.{is_one_line};
-ghost use Rattle.rtsp_text.specs.Replies.{is_code};
+ghost use Rattle.rtsp_text.specs.Replies.{Field, is_code, reply_front};
 
 use crate::refusals::Refusal;
 use crate::runs::picture_time;
@@ -17,7 +19,8 @@ use rtsp_text::Reply;
 
 /// The code of a refusal.
 fn code_of(refusal: Refusal) -> u16
-    ensures { IsTrue (is_code result) }
+    ensures code { result ≡ code_of refusal }
+    ensures known { IsTrue (is_code result) }
 {
     match refusal {
         Refusal::BadRequest => 400,
@@ -34,23 +37,47 @@ fn code_of(refusal: Refusal) -> u16
     }
 }
 
+/// What a refusal says besides.
+fn put_refusal_field(reply: &mut Reply, refusal: Refusal, option: &[u8])
+    requires fits { length reply.old ≤ 75 }
+    requires short { length option.now ≤ 16384 }
+    requires line { is_one_line option.now ≡ true }
+    ensures short { length reply.new ≤ 16500 }
+    ensures front { (code : ℕ) (sequence : Option ℕ) → reply.old ≡ reply_front code sequence []
+        → reply.new ≡ reply_front code sequence (refusal_fields refusal option.now) }
+{
+    match refusal {
+        Refusal::Option => reply.field(b"Unsupported", option),
+        Refusal::Buffer(least) => reply.number_field(b"x-Least-Buffer", least),
+        Refusal::BadRequest => {}
+        Refusal::Version => {}
+        Refusal::Method => {}
+        Refusal::Session => {}
+        Refusal::Film => {}
+        Refusal::State => {}
+        Refusal::Transport => {}
+        Refusal::Parameter => {}
+        Refusal::Range => {}
+        Refusal::Memory => {}
+    }
+}
+
 /// A refusal, of a request that requires this option.
 pub(crate) fn put_refusal(reply: &mut Reply, sequence: Option<u64>, refusal: Refusal, option: &[u8])
     requires short { length option.now ≤ 16384 }
     requires line { is_one_line option.now ≡ true }
+    ensures { reply.new ≡ refusal_text sequence refusal option.now }
 {
     reply.clear();
     reply.start(code_of(refusal), sequence);
-    match refusal {
-        Refusal::Option => reply.field(b"Unsupported", option),
-        Refusal::Buffer(least) => reply.number_field(b"x-Least-Buffer", least),
-        _ => {}
-    }
+    put_refusal_field(reply, refusal, option);
     reply.finish(&[]);
 }
 
 /// The 200 of an OPTIONS.
-pub(crate) fn put_public(reply: &mut Reply, sequence: u64) {
+pub(crate) fn put_public(reply: &mut Reply, sequence: u64)
+    ensures { reply.new ≡ public_text sequence }
+{
     reply.clear();
     reply.start(200, Some(sequence));
     reply.field(
@@ -71,6 +98,7 @@ pub(crate) fn put_description(
     requires authority { length authority.now ≤ 16384 }
     requires authority_line { is_one_line authority.now ≡ true }
     requires name { is_good_name name.now ≡ true }
+    ensures { reply.new ≡ describe_text sequence authority.now name.now end_ms }
 {
     let mut text = [0u8; 512];
     let length = description(name, end_ms, &mut text);
@@ -93,6 +121,7 @@ pub(crate) fn put_description(
 
 /// The decimal digits of a number.
 fn digits<'b>(number: u64, buffer: &'b mut Buffer) -> &'b [u8]
+    ensures text { result.now ≡ decimal number }
     ensures line { is_one_line result.now ≡ true }
     ensures short { length result.now ≤ 40 }
 {
@@ -114,6 +143,7 @@ fn ssrc_text(ssrc: u32) -> [u8; 8]
 /// The 200 of a SETUP: the channels, the SSRC in eight hexadecimal digits, and the session's id.
 pub(crate) fn put_setup(reply: &mut Reply, sequence: u64, setup: &Setup, ssrc: u32, id: &[u8; 16])
     requires { is_one_line id.now ≡ true }
+    ensures { reply.new ≡ setup_text sequence setup.now.media setup.now.control ssrc id.now }
 {
     let ssrc = ssrc_text(ssrc);
     let (mut media, mut control) = (Buffer::new(), Buffer::new());
@@ -137,6 +167,7 @@ pub(crate) fn put_setup(reply: &mut Reply, sequence: u64, setup: &Setup, ssrc: u
 /// A 200 with the session's id alone.
 pub(crate) fn put_session(reply: &mut Reply, sequence: u64, id: &[u8; 16])
     requires id { is_one_line id.now ≡ true }
+    ensures { reply.new ≡ session_text sequence id.now }
 {
     reply.clear();
     reply.start(200, Some(sequence));
@@ -145,7 +176,9 @@ pub(crate) fn put_session(reply: &mut Reply, sequence: u64, id: &[u8; 16])
 }
 
 /// A 200 without fields.
-pub(crate) fn put_plain(reply: &mut Reply, sequence: u64) {
+pub(crate) fn put_plain(reply: &mut Reply, sequence: u64)
+    ensures { reply.new ≡ plain_text sequence }
+{
     reply.clear();
     reply.start(200, Some(sequence));
     reply.finish(&[]);
@@ -205,7 +238,9 @@ pub(crate) fn put_play(reply: &mut Reply, sequence: u64, id: &[u8; 16], info: &I
     requires authority_line { is_one_line info.now.authority.now ≡ true }
     requires name { length info.now.name.now ≤ 64 }
     requires name_line { is_one_line info.now.name.now ≡ true }
-    ensures { length reply.new ≤ 20000 }
+    ensures text { reply.new ≡ reply_front 200 (Some sequence) (play_fields id.now info.now.first_ms info.now.end_ms
+        info.now.authority.now info.now.name.now info.now.sequence info.now.timestamp) }
+    ensures short { length reply.new ≤ 20000 }
 {
     let (mut first, mut end) = ([0u8; 24], [0u8; 24]);
     let (mut number, mut time) = (Buffer::new(), Buffer::new());
@@ -239,13 +274,17 @@ pub(crate) fn put_play(reply: &mut Reply, sequence: u64, id: &[u8; 16], info: &I
 /// The end of the 200 of a PLAY that begins so many slots after the heard one.
 pub(crate) fn put_start(reply: &mut Reply, slots: u64)
     requires { length reply.old ≤ 20000 }
+    ensures { (sequence : ℕ) (fields : List Field) → reply.old ≡ reply_front 200 (Some sequence) fields
+        → reply.new ≡ play_text sequence fields slots }
 {
     reply.number_field(b"x-Start", slots);
     reply.finish(&[]);
 }
 
 /// The 453 of a play for which the link has no room.
-pub(crate) fn put_overflow(reply: &mut Reply, sequence: u64, slot: u64, booked: u64, asked: u64) {
+pub(crate) fn put_overflow(reply: &mut Reply, sequence: u64, slot: u64, booked: u64, asked: u64)
+    ensures { reply.new ≡ overflow_text sequence slot booked asked }
+{
     reply.clear();
     reply.start(453, Some(sequence));
     reply.number_field(b"x-Slot", slot);
@@ -255,7 +294,9 @@ pub(crate) fn put_overflow(reply: &mut Reply, sequence: u64, slot: u64, booked: 
 }
 
 /// The 503 of a full journal.
-pub(crate) fn put_full(reply: &mut Reply, sequence: u64, entries: u64, live: u64) {
+pub(crate) fn put_full(reply: &mut Reply, sequence: u64, entries: u64, live: u64)
+    ensures { reply.new ≡ full_text sequence entries live }
+{
     reply.clear();
     reply.start(503, Some(sequence));
     reply.number_field(b"x-Entries", entries);
@@ -266,6 +307,7 @@ pub(crate) fn put_full(reply: &mut Reply, sequence: u64, entries: u64, live: u64
 /// The 200 of a GET_PARAMETER with this body.
 pub(crate) fn put_parameters(reply: &mut Reply, sequence: u64, body: &[u8])
     requires { length body.now ≤ 24576 }
+    ensures { reply.new ≡ parameters_text sequence body.now }
 {
     reply.clear();
     reply.start(200, Some(sequence));

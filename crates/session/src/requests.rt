@@ -6,8 +6,10 @@ ghost use Rattle.vod_base.specs.Names.{is_good_name};
 ghost use Rattle.rtsp_text.specs.Lines.{is_one_line};
 ghost use Rattle.session.specs.declared.asks.Ask.{Ask};
 ghost use Rattle.session.specs.Ranges.{AreFilms, IsSetup};
+ghost use Rattle.session.specs.Titles.{ms_at, title_at, title_of, titles_of};
+ghost use Rattle.session.specs.Replies.{describe_text, refusal_text};
 ghost use Rattle.session.specs.Plans.{IsPrepared};
-ghost use Rattle.session.specs.Standings.{AsksFor, CanHear, IsAtRest, IsSameBusiness, has_session_in, is_playing_in};
+ghost use Rattle.session.specs.Standings.{AsksFor, CanHear, IsAtRest, IsSameBusiness, has_session_in, is_playing_in, replied};
 
 use crate::asks::Ask;
 use crate::methods::{Topic, read_topic};
@@ -111,6 +113,8 @@ impl<'a> Session<'a> {
         requires rest { IsAtRest self.old }
         requires short { length option.now ≤ 16384 }
         requires line { is_one_line option.now ≡ true }
+        ensures ask { result ≡ Ask.Reply }
+        ensures exact { self.new ≡ replied self.old (refusal_text sequence refusal option.now) }
         ensures asks { AsksFor result self.new }
         ensures same { IsSameBusiness self.old self.new }
     {
@@ -124,6 +128,9 @@ impl<'a> Session<'a> {
         requires film { film < self.old.films }
         requires authority { length authority.now ≤ 16384 }
         requires authority_line { is_one_line authority.now ≡ true }
+        ensures ask { result ≡ Ask.Reply }
+        ensures exact { self.new ≡ replied self.old (describe_text sequence authority.now
+            (title_at self.old.titles film).name (ms_at (title_at self.old.titles film) (length (title_at self.old.titles film).units))) }
         ensures asks { AsksFor result self.new }
         ensures same { IsSameBusiness self.old self.new }
     {
@@ -387,7 +394,8 @@ fn two_more(plan: &Plan) -> Result<(Plan, Plan), NoMemory>
 fn stored_at(films: &[Stored], film: usize) -> &Stored
     requires films { AreFilms films.now }
     requires within { film < length films.now }
-    ensures { is_good_name (string_bytes result.now.name) ≡ true }
+    ensures good { is_good_name (string_bytes result.now.name) ≡ true }
+    ensures title { title_at (titles_of films.now) film ≡ title_of result.now }
 {
     &films[film]
 }

@@ -1,6 +1,7 @@
 //! Which units a PLAY sends, and what a pause leaves of them.
 
 ghost use Rattle.std.specs.Prelude.{◌≡◌, ◌+◌, ◌-◌, ◌*◌, ◌<◌, ◌≤◌, ◌^◌, length, IsTrue, IfSome};
+ghost use Rattle.mpeg_scan.specs.Rates.{picture_time};
 ghost use Rattle.session.specs.Plans.{IsWanted};
 
 use crate::states::Run;
@@ -56,6 +57,7 @@ fn group_after(units: &[Unit], place: usize) -> usize
 
 /// The time of a picture in 1/360,000 second.
 pub(crate) fn picture_time(film: &Film) -> u32
+    ensures time { result ≡ picture_time film.now.rate }
     ensures some { 1 ≤ result }
     ensures fits { result ≤ 360000 }
 {

@@ -1,7 +1,10 @@
 //! Slots, and the replies that go out between frames.
 
-ghost use Rattle.std.specs.Prelude.{◌≡◌, ◌-◌, ◌≤◌, IfOk, IfSome, OnErr, OnOk, false, true, max};
+ghost use Rattle.std.specs.Prelude.{◌≡◌, ◌-◌, ◌<◌, ◌≤◌, ◌++◌, ◌&&◌, is_some, IfOk, IfSome, OnErr, OnOk, false, true, max, if◌then◌else◌};
 ghost use Rattle.vod_base.specs.Outside.{HasRisen};
+ghost use Rattle.vod_base.specs.Links.{IsFrontTold, sends, told_more};
+ghost use Rattle.session.specs.Sendings.{IsTold, can_reply, due_bytes, due_state, finished, is_between, is_done_in, is_sending, is_taken};
+ghost use Rattle.session.specs.Sendings.{sent_in, sent_reply, slotted, start_in, step_bytes, stepped_in};
 ghost use Rattle.session.specs.Steps.{IsCarried, IsEven, IsHaltIn, IsLeft, IsPacingIn, IsPlayIn, settled};
 ghost use Rattle.session.specs.Standings.{AreNotesKept, Brings, IsAtRest, IsSameBooking, open_of, taken_up};
 
@@ -24,7 +27,10 @@ fn missed(before: u64, start: u64, slot: u64) -> u64
 }
 
 /// The start of the play that is being sent.
-fn start_of(state: &State<'_>) -> Option<u64> {
+fn start_of(state: &State<'_>) -> Option<u64>
+    ensures sending { is_some result ≡ is_sending state.now }
+    ensures start { IfSome result (λ start. start ≡ start_in state.now) }
+{
     match state {
         State::Playing(_, play) => Some(play.start),
         State::Stopping(_, stop) => Some(stop.start),
@@ -45,6 +51,10 @@ fn step<K: Link>(
     ensures carried { IsCarried state.old state.new }
     ensures left { IfOk result (IsLeft state.new) }
     ensures whole { OnOk result (stop ≡ false → IsEven state.new) }
+    ensures exact { OnOk result (state.new ≡ stepped_in stop slot state.old) }
+    ensures between { IfOk result (λ left. 0 < left → stop ≡ true → is_between state.new ≡ true) }
+    ensures told { OnOk result
+        (IsTold (is_sending state.old) (K.told link.old) (step_bytes stop slot state.old) (K.told link.new)) }
 {
     match state {
         State::Playing(_, play) => match play.pacer.step(slot, stop, link) {
@@ -60,7 +70,9 @@ fn step<K: Link>(
 }
 
 /// Whether no frame and no report is cut.
-fn is_between(state: &State<'_>) -> bool {
+fn is_between(state: &State<'_>) -> bool
+    ensures { result ≡ is_between state.now }
+{
     match state {
         State::Playing(_, play) => play.pacer.at_boundary(),
         State::Stopping(_, stop) => stop.pacer.at_boundary(),
@@ -77,30 +89,58 @@ fn send_due<K: Link>(
     slot: u64,
     link: &mut K,
 ) -> Result<bool, LinkFault>
-    requires { IsPacingIn state.old }
+    requires pacing { IsPacingIn state.old }
+    requires sending { is_sending state.old ≡ true }
     ensures count { K.faults link.old ≤ K.faults link.new }
     ensures fault { OnErr result (HasRisen (K.faults link.old) (K.faults link.new)) }
     ensures carried { IsCarried state.old state.new }
     ensures even { OnOk result (IsEven state.new) }
+    ensures exact { OnOk result (state.new ≡ due_state waits state.old slot) }
+    ensures sent { IfOk result (λ sent. sent ≡ (waits && is_between (stepped_in true slot state.old))) }
+    ensures told { OnOk result
+        (K.told link.new ≡ told_more (K.told link.old) (sends (due_bytes waits state.old reply.now slot))) }
     ensures waited { IfOk result (λ sent. sent ≡ true → waits ≡ true) }
 {
     if !waits {
         step(state, slot, false, link)?;
         return Ok(false);
     }
-    let left = step(state, slot, true, link)?;
-    if left == 0 && !is_between(state) {
+    step(state, slot, true, link)?;
+    if !is_between(state) {
         return Ok(false);
     }
+    send_both(state, reply, slot, link)?;
+    Ok(true)
+}
+
+/// Sends the reply, and then what is due.
+fn send_both<K: Link>(
+    state: &mut State<'_>,
+    reply: &Reply,
+    slot: u64,
+    link: &mut K,
+) -> Result<(), LinkFault>
+    requires pacing { IsPacingIn state.old }
+    requires sending { is_sending state.old ≡ true }
+    ensures count { K.faults link.old ≤ K.faults link.new }
+    ensures fault { OnErr result (HasRisen (K.faults link.old) (K.faults link.new)) }
+    ensures carried { IsCarried state.old state.new }
+    ensures even { OnOk result (IsEven state.new) }
+    ensures exact { OnOk result (state.new ≡ stepped_in false slot state.old) }
+    ensures told { OnOk result
+        (K.told link.new ≡ told_more (K.told link.old) (sends (reply.now ++ step_bytes false slot state.old))) }
+{
     link.send(reply.bytes())?;
     step(state, slot, false, link)?;
-    Ok(true)
+    Ok(())
 }
 
 /// All bytes of a play that is done.
 fn done_bytes(state: &State<'_>) -> Option<u64>
     requires { IsPlayIn state.now }
-    ensures { IfSome result (IsHaltIn state.now) }
+    ensures done { is_some result ≡ is_done_in state.now }
+    ensures bytes { IfSome result (λ bytes. bytes ≡ sent_in state.now) }
+    ensures halt { IfSome result (IsHaltIn state.now) }
 {
     match state {
         State::Playing(_, play) if play.pacer.done() => Some(play.pacer.sent()),
@@ -127,6 +167,9 @@ impl<'a> Session<'a> {
     /// [`LinkFault`] only where the link's count rose.
     pub fn slot<K: Link>(&mut self, t: u64, link: &mut K) -> Result<Slotted, LinkFault>
         requires rest { IsAtRest self.old }
+        ensures exact { OnOk result (self.new ≡ slotted self.old t) }
+        ensures told { OnOk result (IsTold (is_taken self.old t && is_sending self.old.state) (K.told link.old)
+            (due_bytes self.old.waits self.old.state self.old.text t) (K.told link.new)) }
         ensures heard { self.new.heard ≡ taken_up self.old.heard t }
         ensures brings { IfOk result (λ slotted. Brings slotted self.new) }
         ensures kept { OnOk result (self.new.lost ≡ self.old.lost) }
@@ -161,6 +204,7 @@ impl<'a> Session<'a> {
     /// Asks for the halt of a play that is done.
     fn finish(&mut self) -> Slotted
         requires { IsAtRest self.old }
+        ensures exact { self.new ≡ finished self.old }
         ensures brings { Brings result self.new }
         ensures same { self.new ≡ record self.old { awaited = self.new.awaited } }
     {
@@ -180,6 +224,10 @@ impl<'a> Session<'a> {
     /// [`LinkFault`] only where the link's count rose.
     pub fn reply<K: Link>(&mut self, link: &mut K) -> Result<(), LinkFault>
         requires rest { IsAtRest self.old }
+        ensures exact { OnOk result (self.new ≡ (if can_reply self.old then sent_reply self.old else self.old)) }
+        ensures told { OnOk result (IsTold (can_reply self.old) (K.told link.old) self.old.text (K.told link.new)) }
+        ensures failed { OnErr result (self.new ≡ record self.old { lost = true }) }
+        ensures front { OnErr result (IsFrontTold (K.told link.old) (K.told link.new) self.old.text) }
         ensures rest { IsAtRest self.new }
         ensures kept { OnOk result (self.new.lost ≡ self.old.lost) }
         ensures heard { self.new.heard ≡ self.old.heard }

@@ -6,4 +6,4 @@ use Rattle.session.proofs.sessions.Session.play.Goals as goal
 pub put_play-requires-clause-name_line : goal.put_play-requires-clause-name_line
 put_play-requires-clause-name_line c =
     ap is_one_line c.info_of-info.ensures.name
-    ∙ one_line-name (string_bytes c.stored_at-stored.result.now.name) c.stored_at-stored.ensures
+    ∙ one_line-name (string_bytes c.stored_at-stored.result.now.name) c.stored_at-stored.ensures.good

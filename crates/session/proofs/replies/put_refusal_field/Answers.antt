@@ -1,0 +1,15 @@
+use Rattle.std.proofs.Common.{◌≡◌, ◌++◌, ℕ, true, List, [], ◌∷◌, Some, length, take, codes, decimal, refl, sym, ap, subst, ◌∙◌, string_bytes, arith}
+use Rattle.rtsp_text.specs.Replies.{reply_front, reply_text}
+use Rattle.session.specs.Replies.{field, joined}
+use Rattle.session.specs.Replies.{refusal_fields}
+use Rattle.session.proofs.replies.put_refusal_field.Goals as goal
+
+pub returns-in-Option-clause-front : goal.returns-in-Option-clause-front
+returns-in-Option-clause-front c code sequence front =
+    c.field.ensures.front code sequence [] front
+    ∙ ap (λ refusal. reply_front code sequence (refusal_fields refusal c.args.option.now)) (sym c.in-Option.is)
+
+pub returns-in-Buffer-clause-front : goal.returns-in-Buffer-clause-front
+returns-in-Buffer-clause-front c code sequence front =
+    c.number_field.ensures.front code sequence [] front
+    ∙ ap (λ refusal. reply_front code sequence (refusal_fields refusal c.args.option.now)) (sym c.in-Buffer.is)

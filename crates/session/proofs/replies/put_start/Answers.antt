@@ -1,0 +1,8 @@
+use Rattle.std.proofs.Common.{◌≡◌, ◌++◌, ℕ, true, List, [], ◌∷◌, Some, length, codes, decimal, refl, sym, ap, subst, ◌∙◌, string_bytes}
+use Rattle.session.specs.Replies.{field}
+use Rattle.session.proofs.replies.put_start.Goals as goal
+
+pub returns : goal.returns
+returns c sequence fields front =
+    c.finish.ensures.whole 200 (Some sequence) (fields ++ field (codes "x-Start") (decimal c.args.slots) ∷ [])
+    (c.number_field.ensures.front 200 (Some sequence) fields front)
