@@ -1,8 +1,8 @@
 #!/bin/sh
 # Bad input over the socket while a good client plays: bench/hostile.sh [PROGRAM]
 #
-# PROGRAM is the built vodserve (default: ../crates/vodserve/out/vodserve). Needs python3 and ffmpeg, and about two
-# minutes, since the server waits a minute for a client that stops reading. One line an attack; ends with status 1 where
+# PROGRAM is the built vodserve (default: ../crates/vodserve/out/vodserve). Needs python3 and ffmpeg, and up to three
+# minutes, since the server waits for a client that stops reading. One line an attack; ends with status 1 where
 # something isn't as it should be, and 2 where nothing could be tried. All files are made in a folder that is removed
 # again, and the server is stopped in any case.
 set -u

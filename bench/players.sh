@@ -73,6 +73,20 @@ if command -v mpeg2enc >/dev/null; then
     by_mpeg2enc m2997.mpg 352x240 30000/1001 4 -b 1150 -R 0
 fi
 
+# The same pictures as video alone and in a system stream.
+if ffmpeg -v error -f lavfi -i testsrc2=size=352x288:rate=25 -t 6 -c:v mpeg1video -bf 2 -b:v 1150k system.mkv &&
+    ffmpeg -v quiet -i system.mkv -c copy -f mpeg system.mpg &&
+    ffmpeg -v quiet -i system.mkv -c copy -f mpeg1video system.video; then
+    # The server is asked by a scan, since it would end at the first film that it doesn't take.
+    if "$program" scan film=system.mpg >/dev/null 2>scan.txt; then
+        add system.mpg
+    else
+        echo "system.mpg: isn't taken as a film: $(cat scan.txt)"
+    fi
+else
+    failed system.mpg
+fi
+
 # Unquoted, since the names are words without blanks.
 python3 "$here/players/play.py" "$program" "$folder" $films || bad=1
 "$program" make kind=film seed=2 pictures=200 >asked.mpg

@@ -17,7 +17,7 @@ from pathlib import Path
 
 TICKS = os.sysconf("SC_CLK_TCK")
 ENTRY = re.compile(r"(\d+) seat=(\d+) (play|halt|look) (.*)")
-LISTENS = "0A"
+LISTENS, ESTABLISHED = "0A", "01"
 
 
 class NotServed(Exception):
@@ -36,6 +36,17 @@ def is_listening(port):
         next(lines)
         words = (line.split() for line in lines)
         return any(word[3] == LISTENS and int(word[1].split(":")[1], 16) == port for word in words)
+
+
+def is_established(port, peer):
+    """Whether this machine's side at the port still has the connection from the port `peer`, both ends of this machine."""
+    with open("/proc/net/tcp", encoding="ascii") as lines:
+        next(lines)
+        for line in lines:
+            word = line.split()
+            if (int(word[1].split(":")[1], 16), int(word[2].split(":")[1], 16)) == (port, peer):
+                return word[3] == ESTABLISHED
+    return False
 
 
 def processor_seconds(pid):

@@ -21,8 +21,9 @@ import serving
 
 WORKERS = 8
 EACH = 120
-# For how long the server lets a peer take nothing while bytes wait for it, and some more.
-PATIENCE = 60 + 20
+# The server lets a peer take nothing for a minute while bytes wait for it. It sees only what the socket takes, whose buffer
+# may grow meanwhile and take some more, and then its minute begins anew.
+PATIENCE = 150
 OPTIONS = b"OPTIONS * RTSP/1.0\r\nCSeq: 77\r\n\r\n"
 
 
@@ -200,26 +201,27 @@ def vanish(port, name):
 
 
 class StopsReading:
-    """A client that plays and takes nothing; after the server's patience it reads what there is, up to the end."""
+    """A client that plays and takes nothing until the server has given it up; then it reads what there is, up to the end."""
 
     def __init__(self, port, name, size):
-        self.size = size
+        self.port, self.size = port, size
         self.begun = time.monotonic()
         self.client = rtsp.Client(port, name, room=4096)
+        self.own = self.client.socket.getsockname()[1]
         self.client.set_up()
         self.client.must("PLAY")
 
     def end(self):
-        # So long, besides, until the buffers are full.
-        time.sleep(max(self.begun + PATIENCE + 15 - time.monotonic(), 0))
+        while serving.is_established(self.port, self.own):
+            if time.monotonic() > self.begun + PATIENCE:
+                return False, f"a client that stopped reading isn't given up after {PATIENCE} seconds"
+            time.sleep(0.5)
+        after = time.monotonic() - self.begun
         media = rtsp.Media()
-        try:
-            with self.client:
-                rtsp.read_film(self.client, media, self.size, 5)
-        except (rtsp.Ended, rtsp.TooLate, rtsp.Wrong, OSError) as error:
-            told = f"given up after {len(media.film)} of {self.size} bytes ({type(error).__name__})"
-            return not isinstance(error, rtsp.TooLate), f"a client that stopped reading: {told}"
-        return False, "a client that stopped reading: it got the whole film after all"
+        with self.client, contextlib.suppress(rtsp.Ended, rtsp.TooLate, rtsp.Wrong, OSError):
+            rtsp.read_film(self.client, media, self.size, 5)
+        told = f"given up after {after:.0f} seconds, with {len(media.film)} of {self.size} bytes of the film"
+        return len(media.film) < self.size, f"a client that stopped reading: {told}"
 
 
 def main():

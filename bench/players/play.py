@@ -1,7 +1,8 @@
 #!/usr/bin/env python3
 """Plays films through with players that people have, and compares what they wrote: play.py PROGRAM FOLDER FILM...
 
-One server serves all films. Each film is played by ffmpeg, GStreamer, mpv (those that are installed) and the client of
+One server serves all films. What arrives of NAME.mpg is compared with NAME.video where there is such a file, the video of a
+system stream, and else with NAME.mpg. Each film is played by ffmpeg, GStreamer, mpv (those that are installed) and the client of
 rtsp.py at once. Prints one line for each film and player; ends with status 1 where one didn't get the film.
 
 The server says nothing at a film's end, and a player waits for more. So ffmpeg and mpv are told to give up after
@@ -40,7 +41,8 @@ class Play:
         self.server = server
         self.folder = folder
         self.name = name
-        self.film = (folder / name).read_bytes()
+        video = (folder / name).with_suffix(".video")
+        self.film = (video if video.exists() else folder / name).read_bytes()
         self.url = f"rtsp://127.0.0.1:{server.port}/{name}"
         self.seconds = self.length()
 
