@@ -68,11 +68,16 @@ impl Gathered {
         }
     }
 
-    /// Drops the first `count` waiting bytes.
+    /// Drops the first `count` waiting bytes. Once none waits the front of the buffer is used again, so that no more of its memory
+    /// is touched than waited at once.
     pub(crate) fn drop_front(&mut self, count: usize)
         requires { count ≤ length self.old }
         ensures { self.new ≡ drop count self.old }
     {
         self.start += count;
+        if self.start == self.bytes.len() {
+            self.bytes.clear();
+            self.start = 0;
+        }
     }
 }

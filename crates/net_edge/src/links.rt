@@ -16,6 +16,9 @@ use vod_base::{Heard, Link, LinkFault};
 /// For how many seconds a peer may take nothing of the bytes that wait for it.
 const PATIENCE: u64 = 60;
 
+/// After how many seconds a write is tried again without an event: the system makes room in its own buffer that it tells of late.
+const RETRY: u64 = 1;
+
 /// For how many seconds a connection that was given back waits for its peer to end.
 const LINGER: u64 = 1;
 
@@ -162,7 +165,7 @@ impl<R: Clock> TcpLink<'_, R> {
             }
             self.flush()?;
             if self.stuck.is_some() {
-                self.wait(Duration::from_secs(PATIENCE))?;
+                self.wait(Duration::from_secs(RETRY))?;
             }
         }
         Ok(())
