@@ -18,7 +18,7 @@ use Rattle.cert_check.proofs.SlotExcess.{line_over, over-plan_slots}
 use Rattle.cert_check.proofs.LeastExcess.{KeepsBetween, least}
 use Rattle.cert_check.proofs.LineKeeps.{KeepsAt, line_keeps}
 use Rattle.cert_check.proofs.OneList.{one_list}
-use Rattle.cert_check.proofs.TautForms.{AreClosed, bound_behind, slots_are, runs_from_taut, ends_from_taut}
+use Rattle.cert_check.proofs.TautForms.{AreClosed, bound_after, slots_are, runs_from_taut, ends_from_taut}
 
 -- a segment that stays between curves has slots
 no_empties : (lo hi : ℕ → ℕ) (k v : ℕ) (segments : List Segment) → RunsTaut lo hi k v segments → All (λ s. 1 ≤ s.slots) segments
@@ -36,11 +36,11 @@ feasible from low up segments slots runs = record {
   same_length = length-plan_slots segments ∙ slots;
   above = λ t inside.
       let keeps = keeps_at from low up segments runs t (omega (arith, slots)) in
-      let at : bound_at from low (0 + (t + 1)) ≡ slice_index low t = ap (bound_at from low) (omega arith) ∙ bound_behind from low t in
+      let at : bound_at from low (0 + (t + 1)) ≡ slice_index low t = ap (bound_at from low) (omega arith) ∙ bound_after from low t in
       omega (arith, keeps.above, at);
   below = λ t inside.
       let keeps = keeps_at from low up segments runs t (omega (arith, slots)) in
-      let at : bound_at from up (0 + (t + 1)) ≡ slice_index up t = ap (bound_at from up) (omega arith) ∙ bound_behind from up t in
+      let at : bound_at from up (0 + (t + 1)) ≡ slice_index up t = ap (bound_at from up) (omega arith) ∙ bound_after from up t in
       omega (arith, keeps.below, at);
 }
 
@@ -56,7 +56,7 @@ keeps_from_feasible m from low up y fine = record {
     | inl later ↦ (
         let t = j - 1 in
         let is : t + 1 ≡ j = omega arith in
-        let at : m * bound_at from low (0 + (t + 1)) ≡ m * slice_index low t = ap (λ x. m * x) (ap (bound_at from low) (omega arith) ∙ bound_behind from low t) in
+        let at : m * bound_at from low (0 + (t + 1)) ≡ m * slice_index low t = ap (λ x. m * x) (ap (bound_at from low) (omega arith) ∙ bound_after from low t) in
         let h : m * bound_at from low (0 + (t + 1)) ≤ m * from + sum (take (t + 1) y) = omega (arith, fine.above t (omega (arith, fine.same_length)), at) in
         subst (λ c. m * bound_at from low (0 + c) ≤ m * from + sum (take c y)) is h
         )
@@ -70,7 +70,7 @@ keeps_from_feasible m from low up y fine = record {
     | inl later ↦ (
         let t = j - 1 in
         let is : t + 1 ≡ j = omega arith in
-        let at : m * bound_at from up (0 + (t + 1)) ≡ m * slice_index up t = ap (λ x. m * x) (ap (bound_at from up) (omega arith) ∙ bound_behind from up t) in
+        let at : m * bound_at from up (0 + (t + 1)) ≡ m * slice_index up t = ap (λ x. m * x) (ap (bound_at from up) (omega arith) ∙ bound_after from up t) in
         let h : m * from + sum (take (t + 1) y) ≤ m * bound_at from up (0 + (t + 1)) = omega (arith, fine.below t (omega (arith, fine.same_length)), at) in
         subst (λ c. m * from + sum (take c y) ≤ m * bound_at from up (0 + c)) is h
         )

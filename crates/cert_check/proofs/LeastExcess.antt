@@ -18,7 +18,7 @@ pub record KeepsBetween (m : ℕ) (lo hi : ℕ → ℕ) (k held : ℕ) (ys : Lis
   pub above : (j : ℕ) → j ≤ length ys → m * lo (k + j) ≤ held + sum (take j ys)
   pub below : (j : ℕ) → j ≤ length ys → held + sum (take j ys) ≤ m * hi (k + j)
 
--- taking j numbers of what is left behind n numbers
+-- taking j numbers of what is left after n numbers
 sum-take-drop : (n j : ℕ) (ys : List ℕ) → n + j ≤ length ys → sum (take n ys) + sum (take j (drop n ys)) ≡ sum (take (n + j) ys)
 sum-take-drop n j ys fits =
     let first : length (take n ys) ≡ n = length-take-le n ys (omega arith) in
@@ -27,7 +27,7 @@ sum-take-drop n j ys fits =
     let seam' : take (n + j) ys ≡ take n ys ++ take j (drop n ys) = ap (λ c. take (c + j) ys) (sym first) ∙ ap (λ zs. take (length (take n ys) + j) zs) (sym joined) ∙ seam in
     sym (ap sum seam' ∙ sum_by-append (λ b. b) (take n ys) (take j (drop n ys)))
 
--- what is left behind n numbers keeps between the curves from there
+-- what is left after n numbers keeps between the curves from there
 pub keeps_on : (m : ℕ) (lo hi : ℕ → ℕ) (k held n : ℕ) (ys : List ℕ) → n ≤ length ys → KeepsBetween m lo hi k held ys →
     KeepsBetween m lo hi (k + n) (held + sum (take n ys)) (drop n ys)
 keeps_on m lo hi k held n ys fits keeps = record {
@@ -61,7 +61,7 @@ pub record Bounds (m p v held : ℕ) (segments : List Segment) (ys : List ℕ) :
   pub hot : IsHot p segments → m * line_over p segments + m * v ≤ over (m * p) ys + held
   pub cold : IsCold p segments → m * line_over p segments ≤ over (m * p) ys
 
--- one hot segment of n slots and b bytes: `a` are the numbers of its slots, `rest_over` and `rest_line` what comes behind it
+-- one hot segment of n slots and b bytes: `a` are the numbers of its slots, `rest_over` and `rest_line` what comes after it
 hot_step : (m p v held n b sum_a over_a rest_over rest_line : ℕ) → n * p < b → sum_a ≤ over_a + n * (m * p) →
     m * rest_line + m * (v + b) ≤ rest_over + (held + sum_a) → m * ((b - n * p) + rest_line) + m * v ≤ over_a + rest_over + held
 hot_step m p v held n b sum_a over_a rest_over rest_line is_hot few rest =
@@ -84,12 +84,12 @@ no_fall p n b n' b' is_cold is_hot falls =
     let two : b * n' ≤ n * p * n' = mul-le-mul_right n' is_cold in
     omega (arith, one, two, falls)
 
--- what comes behind a hot segment, in the form that `hot_step` takes
-behind_hot : (m p : ℕ) (lo hi : ℕ → ℕ) (k v held : ℕ) (s : Segment) (rest : List Segment) (zs : List ℕ) →
+-- what comes after a hot segment, in the form that `hot_step` takes
+after_hot : (m p : ℕ) (lo hi : ℕ → ℕ) (k v held : ℕ) (s : Segment) (rest : List Segment) (zs : List ℕ) →
     s.slots * p < s.bytes → Bends lo hi k v s rest → KeepsBetween m lo hi k held zs → Bounds m p v held rest zs →
     m * line_over p rest + m * v ≤ over (m * p) zs + held
-behind_hot m p lo hi k v held s [] zs is_hot bend keeps bounds = bounds.hot tt
-behind_hot m p lo hi k v held s (next ∷ others) zs is_hot bend keeps bounds =
+after_hot m p lo hi k v held s [] zs is_hot bend keeps bounds = bounds.hot tt
+after_hot m p lo hi k v held s (next ∷ others) zs is_hot bend keeps bounds =
     elim (cases_lt (next.slots * p) next.bytes) [
       | inl next_hot ↦ bounds.hot next_hot
       | inr next_cold ↦ elim bend [
@@ -104,12 +104,12 @@ behind_hot m p lo hi k v held s (next ∷ others) zs is_hot bend keeps bounds =
       ]
     ]
 
--- what comes behind a cold segment
-behind_cold : (m p : ℕ) (lo hi : ℕ → ℕ) (k v held : ℕ) (s : Segment) (rest : List Segment) (zs : List ℕ) →
+-- what comes after a cold segment
+after_cold : (m p : ℕ) (lo hi : ℕ → ℕ) (k v held : ℕ) (s : Segment) (rest : List Segment) (zs : List ℕ) →
     s.bytes ≤ s.slots * p → Bends lo hi k v s rest → KeepsBetween m lo hi k held zs → Bounds m p v held rest zs →
     m * line_over p rest ≤ over (m * p) zs
-behind_cold m p lo hi k v held s [] zs is_cold bend keeps bounds = bounds.cold tt
-behind_cold m p lo hi k v held s (next ∷ others) zs is_cold bend keeps bounds =
+after_cold m p lo hi k v held s [] zs is_cold bend keeps bounds = bounds.cold tt
+after_cold m p lo hi k v held s (next ∷ others) zs is_cold bend keeps bounds =
     elim (cases_lt (next.slots * p) next.bytes) [
       | inr next_cold ↦ bounds.cold next_cold
       | inl next_hot ↦ elim bend [
@@ -155,11 +155,11 @@ bounds m p lo hi k v held (s ∷ rest) ys runs ends same keeps =
     let few' : sum (take s.slots ys) ≤ over (m * p) (take s.slots ys) + s.slots * (m * p) = subst (λ c. sum (take s.slots ys) ≤ over (m * p) (take s.slots ys) + c * (m * p)) count few in
     record {
       hot = λ is_hot. rw (line, whole) (hot_step m p v held s.slots s.bytes (sum (take s.slots ys)) (over (m * p) (take s.slots ys)) (over (m * p) (drop s.slots ys)) (line_over p rest) is_hot few'
-          (behind_hot m p lo hi (k + s.slots) (v + s.bytes) (held + sum (take s.slots ys)) s rest (drop s.slots ys) is_hot runs.1 keeps' rest'));
+          (after_hot m p lo hi (k + s.slots) (v + s.bytes) (held + sum (take s.slots ys)) s rest (drop s.slots ys) is_hot runs.1 keeps' rest'));
       cold = λ is_cold.
-          let behind : m * line_over p rest ≤ over (m * p) (drop s.slots ys) = behind_cold m p lo hi (k + s.slots) (v + s.bytes) (held + sum (take s.slots ys)) s rest (drop s.slots ys) is_cold runs.1 keeps' rest' in
+          let after : m * line_over p rest ≤ over (m * p) (drop s.slots ys) = after_cold m p lo hi (k + s.slots) (v + s.bytes) (held + sum (take s.slots ys)) s rest (drop s.slots ys) is_cold runs.1 keeps' rest' in
           let none : s.bytes - s.slots * p ≡ 0 = omega arith in
-          rw (line, whole, none) (omega (arith, behind));
+          rw (line, whole, none) (omega (arith, after));
     }
 
 -- from a place where the curves meet, or where the first segment is cold, the line goes over p by no more than ys

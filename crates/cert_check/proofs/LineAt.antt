@@ -41,14 +41,14 @@ line_in v (s ∷ rest) zero j inside some few = record {
   under = ap (line_under (s ∷ rest)) (omega arith) ∙ line_under-in s rest j few;
 }
 line_in v (s ∷ rest) (suc i) j inside some few =
-    let behind : LineIn (v + s.bytes) rest i j = line_in (v + s.bytes) rest i j (omega (arith, inside)) some few in
+    let after : LineIn (v + s.bytes) rest i j = line_in (v + s.bytes) rest i j (omega (arith, inside)) some few in
     let slots : total_slots (s ∷ take i rest) ≡ s.slots + total_slots (take i rest) = sum_by-cons (λ x. x.slots) s (take i rest) in
     let bytes : total_bytes (s ∷ take i rest) ≡ s.bytes + total_bytes (take i rest) = sum_by-cons (λ x. x.bytes) s (take i rest) in
     let place : total_slots (s ∷ take i rest) + j ≡ s.slots + (total_slots (take i rest) + j) = omega (arith, slots) in
     let later : 1 ≤ total_slots (take i rest) + j = omega arith in
     let height : (v + s.bytes + total_bytes (take i rest)) * (segment_at rest i).slots ≡ (v + total_bytes (s ∷ take i rest)) * (segment_at rest i).slots = ap (λ x. x * (segment_at rest i).slots) (omega (arith, bytes)) in
     record {
-      top = ap (line_top v (s ∷ rest)) place ∙ line_top-past v s rest (total_slots (take i rest) + j) later ∙ behind.top
+      top = ap (line_top v (s ∷ rest)) place ∙ line_top-past v s rest (total_slots (take i rest) + j) later ∙ after.top
           ∙ ap (λ x. x + j * (segment_at rest i).bytes) height;
-      under = ap (line_under (s ∷ rest)) place ∙ line_under-past s rest (total_slots (take i rest) + j) later ∙ behind.under;
+      under = ap (line_under (s ∷ rest)) place ∙ line_under-past s rest (total_slots (take i rest) + j) later ∙ after.under;
     }

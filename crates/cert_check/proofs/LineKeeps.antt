@@ -51,15 +51,15 @@ line_keeps lo hi k v s (next ∷ rest) runs t few =
           let d = t - s.slots in
           let is : t ≡ s.slots + d = omega arith in
           let slots : total_slots (s ∷ next ∷ rest) ≡ s.slots + total_slots (next ∷ rest) = sum_by-cons (λ x. x.slots) s (next ∷ rest) in
-          let behind : KeepsAt lo hi (k + s.slots) (v + s.bytes) d (next ∷ rest) = line_keeps lo hi (k + s.slots) (v + s.bytes) next rest runs.2 d (omega (arith, few, slots)) in
+          let after : KeepsAt lo hi (k + s.slots) (v + s.bytes) d (next ∷ rest) = line_keeps lo hi (k + s.slots) (v + s.bytes) next rest runs.2 d (omega (arith, few, slots)) in
           let joined : sum (take (s.slots + d) (plan_slots (s ∷ next ∷ rest))) ≡ s.bytes + sum (take d (plan_slots (next ∷ rest))) = sum-take-past s (next ∷ rest) d runs.0.some in
           let whole : sum (take t (plan_slots (s ∷ next ∷ rest))) ≡ s.bytes + sum (take d (plan_slots (next ∷ rest))) = ap (λ n. sum (take n (plan_slots (s ∷ next ∷ rest)))) is ∙ joined in
           let place : k + s.slots + d ≡ k + t = omega (arith, is) in
           let low : lo (k + s.slots + d) ≡ lo (k + t) = ap lo place in
           let high : hi (k + s.slots + d) ≡ hi (k + t) = ap hi place in
           record {
-            above = omega (arith, whole, low, behind.above);
-            below = omega (arith, whole, high, behind.below);
+            above = omega (arith, whole, low, after.above);
+            below = omega (arith, whole, high, after.below);
           }
           )
     ]

@@ -29,7 +29,7 @@ cut_above n b n' b' c d v j h pos level level' above =
     let all : ((v + b) * n' + j * b') * c ≤ h * n' * c = omega (arith, one, two, three) in
     le_of_mul-le-mul_right all pos
 
--- the part of a segment of n + n' slots that is left behind n of them stays between the curves
+-- the part of a segment of n + n' slots that is left after n of them stays between the curves
 cut_stays : (lo hi : ℕ → ℕ) (k v n b n' b' : ℕ) (t : Segment) → t.slots ≡ n + n' → 1 ≤ n' → t.bytes * n' ≡ b' * t.slots → b * n' ≡ b' * n →
     StaysBetween lo hi k v t → StaysBetween lo hi (k + n) (v + b) (record { slots = n'; bytes = b' })
 cut_stays lo hi k v n b n' b' t slots some level level' stays = record {
@@ -44,7 +44,7 @@ cut_stays lo hi k v n b n' b' t slots some level level' stays = record {
       cut_above n b n' b' t.slots t.bytes v j (hi (k + n + j)) stays.some level level' (omega (arith, h, place));
 }
 
--- a bend behind a segment is one behind its last part, which has the same slope
+-- a bend after a segment is one after its last part, which has the same slope
 cut_bends : (lo hi : ℕ → ℕ) (k v n' b' : ℕ) (t : Segment) (rest : List Segment) → 1 ≤ n' → 1 ≤ t.slots → b' * t.slots ≡ t.bytes * n' →
     Bends lo hi k v t rest → Bends lo hi k v (record { slots = n'; bytes = b' }) rest
 cut_bends lo hi k v n' b' t [] some some' level bend = tt

@@ -23,15 +23,15 @@ pub record Faultless (lo hi : ℕ → ℕ) (k v : ℕ) (segments : List Segment)
   pub falls_on_lower : (i : ℕ) → i + 1 < length segments → IsBelow (slope_of (segment_at segments (i + 1))) (slope_of (segment_at segments i)) →
       v + total_bytes (take (i + 1) segments) ≡ lo (k + total_slots (take (i + 1) segments))
 
--- sums over the first i + 1 segments, behind the first one
-slots_behind : (s : Segment) (rest : List Segment) (i : ℕ) → total_slots (take (i + 1 + 1) (s ∷ rest)) ≡ s.slots + total_slots (take (i + 1) rest)
-slots_behind s rest i = ap (λ n. total_slots (take n (s ∷ rest))) (add-one (i + 1)) ∙ sum_by-cons (λ x. x.slots) s (take (i + 1) rest)
+-- sums over the first i + 1 segments, after the first one
+slots_after : (s : Segment) (rest : List Segment) (i : ℕ) → total_slots (take (i + 1 + 1) (s ∷ rest)) ≡ s.slots + total_slots (take (i + 1) rest)
+slots_after s rest i = ap (λ n. total_slots (take n (s ∷ rest))) (add-one (i + 1)) ∙ sum_by-cons (λ x. x.slots) s (take (i + 1) rest)
 
-bytes_behind : (s : Segment) (rest : List Segment) (i : ℕ) → total_bytes (take (i + 1 + 1) (s ∷ rest)) ≡ s.bytes + total_bytes (take (i + 1) rest)
-bytes_behind s rest i = ap (λ n. total_bytes (take n (s ∷ rest))) (add-one (i + 1)) ∙ sum_by-cons (λ x. x.bytes) s (take (i + 1) rest)
+bytes_after : (s : Segment) (rest : List Segment) (i : ℕ) → total_bytes (take (i + 1 + 1) (s ∷ rest)) ≡ s.bytes + total_bytes (take (i + 1) rest)
+bytes_after s rest i = ap (λ n. total_bytes (take n (s ∷ rest))) (add-one (i + 1)) ∙ sum_by-cons (λ x. x.bytes) s (take (i + 1) rest)
 
-at_behind : (s : Segment) (rest : List Segment) (i : ℕ) → segment_at (s ∷ rest) (i + 1) ≡ segment_at rest i
-at_behind s rest i = ap (segment_at (s ∷ rest)) (add-one i)
+at_after : (s : Segment) (rest : List Segment) (i : ℕ) → segment_at (s ∷ rest) (i + 1) ≡ segment_at rest i
+at_after s rest i = ap (segment_at (s ∷ rest)) (add-one i)
 
 first_slots : (s : Segment) (rest : List Segment) → total_slots (take (0 + 1) (s ∷ rest)) ≡ s.slots
 first_slots s rest = omega (arith, sum_by-cons (λ x. x.slots) s [])
@@ -72,7 +72,7 @@ first_stays lo hi k v s rest clean =
       ];
     }
 
--- what a faultless list leaves behind its first segment is faultless from there
+-- what a faultless list leaves after its first segment is faultless from there
 rest_faultless : (lo hi : ℕ → ℕ) (k v : ℕ) (s : Segment) (rest : List Segment) → Faultless lo hi k v (s ∷ rest) → StaysBetween lo hi k v s →
     Faultless lo hi (k + s.slots) (v + s.bytes) rest
 rest_faultless lo hi k v s rest clean stays =
@@ -98,28 +98,28 @@ rest_faultless lo hi k v s rest clean stays =
           subst (λ c. line_top (v + s.bytes) rest j ≤ hi c * line_under rest j) (same_place k s.slots j) h';
       no_equal = λ i inside level.
           clean.no_equal (i + 1) (omega (arith, inside))
-          (subst (λ a. IsLevel (slope_of a) (slope_of (segment_at (s ∷ rest) (i + 1 + 1)))) (sym (at_behind s rest i))
-          (subst (λ a. IsLevel (slope_of (segment_at rest i)) (slope_of a)) (sym (at_behind s rest (i + 1))) level));
+          (subst (λ a. IsLevel (slope_of a) (slope_of (segment_at (s ∷ rest) (i + 1 + 1)))) (sym (at_after s rest i))
+          (subst (λ a. IsLevel (slope_of (segment_at rest i)) (slope_of a)) (sym (at_after s rest (i + 1))) level));
       rises_on_upper = λ i inside rise.
           let h = clean.rises_on_upper (i + 1) (omega (arith, inside))
-          (subst (λ a. IsBelow (slope_of a) (slope_of (segment_at (s ∷ rest) (i + 1 + 1)))) (sym (at_behind s rest i))
-          (subst (λ a. IsBelow (slope_of (segment_at rest i)) (slope_of a)) (sym (at_behind s rest (i + 1))) rise)) in
-          let height : v + total_bytes (take (i + 1 + 1) (s ∷ rest)) ≡ v + s.bytes + total_bytes (take (i + 1) rest) = omega (arith, bytes_behind s rest i) in
-          let place : k + total_slots (take (i + 1 + 1) (s ∷ rest)) ≡ k + s.slots + total_slots (take (i + 1) rest) = omega (arith, slots_behind s rest i) in
+          (subst (λ a. IsBelow (slope_of a) (slope_of (segment_at (s ∷ rest) (i + 1 + 1)))) (sym (at_after s rest i))
+          (subst (λ a. IsBelow (slope_of (segment_at rest i)) (slope_of a)) (sym (at_after s rest (i + 1))) rise)) in
+          let height : v + total_bytes (take (i + 1 + 1) (s ∷ rest)) ≡ v + s.bytes + total_bytes (take (i + 1) rest) = omega (arith, bytes_after s rest i) in
+          let place : k + total_slots (take (i + 1 + 1) (s ∷ rest)) ≡ k + s.slots + total_slots (take (i + 1) rest) = omega (arith, slots_after s rest i) in
           sym height ∙ h ∙ ap hi place;
       falls_on_lower = λ i inside fall.
           let h = clean.falls_on_lower (i + 1) (omega (arith, inside))
-          (subst (λ a. IsBelow (slope_of (segment_at (s ∷ rest) (i + 1 + 1))) (slope_of a)) (sym (at_behind s rest i))
-          (subst (λ a. IsBelow (slope_of a) (slope_of (segment_at rest i))) (sym (at_behind s rest (i + 1))) fall)) in
-          let height : v + total_bytes (take (i + 1 + 1) (s ∷ rest)) ≡ v + s.bytes + total_bytes (take (i + 1) rest) = omega (arith, bytes_behind s rest i) in
-          let place : k + total_slots (take (i + 1 + 1) (s ∷ rest)) ≡ k + s.slots + total_slots (take (i + 1) rest) = omega (arith, slots_behind s rest i) in
+          (subst (λ a. IsBelow (slope_of (segment_at (s ∷ rest) (i + 1 + 1))) (slope_of a)) (sym (at_after s rest i))
+          (subst (λ a. IsBelow (slope_of a) (slope_of (segment_at rest i))) (sym (at_after s rest (i + 1))) fall)) in
+          let height : v + total_bytes (take (i + 1 + 1) (s ∷ rest)) ≡ v + s.bytes + total_bytes (take (i + 1) rest) = omega (arith, bytes_after s rest i) in
+          let place : k + total_slots (take (i + 1 + 1) (s ∷ rest)) ≡ k + s.slots + total_slots (take (i + 1) rest) = omega (arith, slots_after s rest i) in
           sym height ∙ h ∙ ap lo place;
     }
   where
     same_place : (k n j : ℕ) → k + (n + j) ≡ k + n + j
     same_place k n j = omega arith
 
--- the bend behind the first segment of a faultless list
+-- the bend after the first segment of a faultless list
 first_bends : (lo hi : ℕ → ℕ) (k v : ℕ) (s : Segment) (rest : List Segment) → Faultless lo hi k v (s ∷ rest) → Bends lo hi (k + s.slots) (v + s.bytes) s rest
 first_bends lo hi k v s [] clean = tt
 first_bends lo hi k v s (next ∷ rest) clean =
@@ -142,7 +142,7 @@ runs_from_faultless lo hi k v (s ∷ rest) clean =
 -- and back, one segment put in front
 front_faultless : (lo hi : ℕ → ℕ) (k v : ℕ) (s : Segment) (rest : List Segment) → StaysBetween lo hi k v s → Bends lo hi (k + s.slots) (v + s.bytes) s rest →
     Faultless lo hi (k + s.slots) (v + s.bytes) rest → Faultless lo hi k v (s ∷ rest)
-front_faultless lo hi k v s rest stays bend behind =
+front_faultless lo hi k v s rest stays bend after =
     let slots : total_slots (s ∷ rest) ≡ s.slots + total_slots rest = sum_by-cons (λ x. x.slots) s rest in
     let pos : 0 < s.slots = stays.some in
     record {
@@ -162,7 +162,7 @@ front_faultless lo hi k v s rest stays bend behind =
         | inl past ↦ (
             let d = j - s.slots in
             let is : s.slots + d ≡ j = omega arith in
-            let h : lo (k + s.slots + d) * line_under rest d ≤ line_top (v + s.bytes) rest d = behind.above d (omega arith) (omega (arith, slots, few)) in
+            let h : lo (k + s.slots + d) * line_under rest d ≤ line_top (v + s.bytes) rest d = after.above d (omega arith) (omega (arith, slots, few)) in
             let place : k + s.slots + d ≡ k + j = omega (arith, is) in
             let top : line_top v (s ∷ rest) j ≡ line_top (v + s.bytes) rest d = ap (line_top v (s ∷ rest)) (sym is) ∙ line_top-past v s rest d (omega arith) in
             let under : line_under (s ∷ rest) j ≡ line_under rest d = ap (line_under (s ∷ rest)) (sym is) ∙ line_under-past s rest d (omega arith) in
@@ -175,7 +175,7 @@ front_faultless lo hi k v s rest stays bend behind =
         | inl past ↦ (
             let d = j - s.slots in
             let is : s.slots + d ≡ j = omega arith in
-            let h : line_top (v + s.bytes) rest d ≤ hi (k + s.slots + d) * line_under rest d = behind.below d (omega arith) (omega (arith, slots, few)) in
+            let h : line_top (v + s.bytes) rest d ≤ hi (k + s.slots + d) * line_under rest d = after.below d (omega arith) (omega (arith, slots, few)) in
             let place : k + s.slots + d ≡ k + j = omega (arith, is) in
             let top : line_top v (s ∷ rest) j ≡ line_top (v + s.bytes) rest d = ap (line_top v (s ∷ rest)) (sym is) ∙ line_top-past v s rest d (omega arith) in
             let under : line_under (s ∷ rest) j ≡ line_under rest d = ap (line_under (s ∷ rest)) (sym is) ∙ line_under-past s rest d (omega arith) in
@@ -183,57 +183,57 @@ front_faultless lo hi k v s rest stays bend behind =
             rw (top, under) h'
             )
       ];
-      no_equal = no_level rest bend behind;
-      rises_on_upper = rises rest bend behind;
-      falls_on_lower = falls rest bend behind;
+      no_equal = no_level rest bend after;
+      rises_on_upper = rises rest bend after;
+      falls_on_lower = falls rest bend after;
     }
   where
     empties : (i : ℕ) → i < length (s ∷ rest) → 1 ≤ (segment_at (s ∷ rest) i).slots
     empties zero inside = stays.some
-    empties (suc i) inside = behind.no_empty i (omega (arith, inside))
+    empties (suc i) inside = after.no_empty i (omega (arith, inside))
 
     no_level : (rest : List Segment) → Bends lo hi (k + s.slots) (v + s.bytes) s rest → Faultless lo hi (k + s.slots) (v + s.bytes) rest →
         (i : ℕ) → i + 1 < length (s ∷ rest) → IsLevel (slope_of (segment_at (s ∷ rest) i)) (slope_of (segment_at (s ∷ rest) (i + 1))) → ⊥
-    no_level [] bend behind i inside level = omega (arith, inside)
-    no_level (next ∷ others) bend behind zero inside level = elim bend [ inl rise ↦ omega (arith, rise.0, level) | inr fall ↦ omega (arith, fall.0, level) ]
-    no_level (next ∷ others) bend behind (suc i) inside level =
-        behind.no_equal i (omega (arith, inside))
+    no_level [] bend after i inside level = omega (arith, inside)
+    no_level (next ∷ others) bend after zero inside level = elim bend [ inl rise ↦ omega (arith, rise.0, level) | inr fall ↦ omega (arith, fall.0, level) ]
+    no_level (next ∷ others) bend after (suc i) inside level =
+        after.no_equal i (omega (arith, inside))
         (subst (λ a. IsLevel (slope_of (segment_at (next ∷ others) i)) (slope_of a)) (ap (segment_at (s ∷ next ∷ others)) (add-one (suc i)) ∙ ap (segment_at (next ∷ others)) (sym (add-one i))) level)
 
     rises : (rest : List Segment) → Bends lo hi (k + s.slots) (v + s.bytes) s rest → Faultless lo hi (k + s.slots) (v + s.bytes) rest →
         (i : ℕ) → i + 1 < length (s ∷ rest) → IsBelow (slope_of (segment_at (s ∷ rest) i)) (slope_of (segment_at (s ∷ rest) (i + 1))) →
         v + total_bytes (take (i + 1) (s ∷ rest)) ≡ hi (k + total_slots (take (i + 1) (s ∷ rest)))
-    rises [] bend behind i inside rise = absurd (omega (arith, inside))
-    rises (next ∷ others) bend behind zero inside rise =
+    rises [] bend after i inside rise = absurd (omega (arith, inside))
+    rises (next ∷ others) bend after zero inside rise =
         let height : v + total_bytes (take (0 + 1) (s ∷ next ∷ others)) ≡ v + s.bytes = omega (arith, first_bytes s (next ∷ others)) in
         let place : k + total_slots (take (0 + 1) (s ∷ next ∷ others)) ≡ k + s.slots = omega (arith, first_slots s (next ∷ others)) in
         elim bend [ inl up ↦ height ∙ up.1 ∙ ap hi (sym place) | inr down ↦ absurd (omega (arith, down.0, rise)) ]
-    rises (next ∷ others) bend behind (suc i) inside rise =
-        let h = behind.rises_on_upper i (omega (arith, inside))
+    rises (next ∷ others) bend after (suc i) inside rise =
+        let h = after.rises_on_upper i (omega (arith, inside))
         (subst (λ a. IsBelow (slope_of (segment_at (next ∷ others) i)) (slope_of a)) (ap (segment_at (s ∷ next ∷ others)) (add-one (suc i)) ∙ ap (segment_at (next ∷ others)) (sym (add-one i))) rise) in
         let count : suc i + 1 ≡ i + 1 + 1 = omega arith in
         let height : v + total_bytes (take (suc i + 1) (s ∷ next ∷ others)) ≡ v + s.bytes + total_bytes (take (i + 1) (next ∷ others)) =
-        ap (λ c. v + total_bytes (take c (s ∷ next ∷ others))) count ∙ omega (arith, bytes_behind s (next ∷ others) i) in
+        ap (λ c. v + total_bytes (take c (s ∷ next ∷ others))) count ∙ omega (arith, bytes_after s (next ∷ others) i) in
         let place : k + total_slots (take (suc i + 1) (s ∷ next ∷ others)) ≡ k + s.slots + total_slots (take (i + 1) (next ∷ others)) =
-        ap (λ c. k + total_slots (take c (s ∷ next ∷ others))) count ∙ omega (arith, slots_behind s (next ∷ others) i) in
+        ap (λ c. k + total_slots (take c (s ∷ next ∷ others))) count ∙ omega (arith, slots_after s (next ∷ others) i) in
         height ∙ h ∙ ap hi (sym place)
 
     falls : (rest : List Segment) → Bends lo hi (k + s.slots) (v + s.bytes) s rest → Faultless lo hi (k + s.slots) (v + s.bytes) rest →
         (i : ℕ) → i + 1 < length (s ∷ rest) → IsBelow (slope_of (segment_at (s ∷ rest) (i + 1))) (slope_of (segment_at (s ∷ rest) i)) →
         v + total_bytes (take (i + 1) (s ∷ rest)) ≡ lo (k + total_slots (take (i + 1) (s ∷ rest)))
-    falls [] bend behind i inside fall = absurd (omega (arith, inside))
-    falls (next ∷ others) bend behind zero inside fall =
+    falls [] bend after i inside fall = absurd (omega (arith, inside))
+    falls (next ∷ others) bend after zero inside fall =
         let height : v + total_bytes (take (0 + 1) (s ∷ next ∷ others)) ≡ v + s.bytes = omega (arith, first_bytes s (next ∷ others)) in
         let place : k + total_slots (take (0 + 1) (s ∷ next ∷ others)) ≡ k + s.slots = omega (arith, first_slots s (next ∷ others)) in
         elim bend [ inl up ↦ absurd (omega (arith, up.0, fall)) | inr down ↦ height ∙ down.1 ∙ ap lo (sym place) ]
-    falls (next ∷ others) bend behind (suc i) inside fall =
-        let h = behind.falls_on_lower i (omega (arith, inside))
+    falls (next ∷ others) bend after (suc i) inside fall =
+        let h = after.falls_on_lower i (omega (arith, inside))
         (subst (λ a. IsBelow (slope_of a) (slope_of (segment_at (next ∷ others) i))) (ap (segment_at (s ∷ next ∷ others)) (add-one (suc i)) ∙ ap (segment_at (next ∷ others)) (sym (add-one i))) fall) in
         let count : suc i + 1 ≡ i + 1 + 1 = omega arith in
         let height : v + total_bytes (take (suc i + 1) (s ∷ next ∷ others)) ≡ v + s.bytes + total_bytes (take (i + 1) (next ∷ others)) =
-        ap (λ c. v + total_bytes (take c (s ∷ next ∷ others))) count ∙ omega (arith, bytes_behind s (next ∷ others) i) in
+        ap (λ c. v + total_bytes (take c (s ∷ next ∷ others))) count ∙ omega (arith, bytes_after s (next ∷ others) i) in
         let place : k + total_slots (take (suc i + 1) (s ∷ next ∷ others)) ≡ k + s.slots + total_slots (take (i + 1) (next ∷ others)) =
-        ap (λ c. k + total_slots (take c (s ∷ next ∷ others))) count ∙ omega (arith, slots_behind s (next ∷ others) i) in
+        ap (λ c. k + total_slots (take c (s ∷ next ∷ others))) count ∙ omega (arith, slots_after s (next ∷ others) i) in
         height ∙ h ∙ ap lo (sym place)
 
 -- the line's end on both curves starts the induction

@@ -16,11 +16,11 @@ pub record AreClosed (low up : List ℕ) : Type 0 where
   pub same_length : length up ≡ length low
   pub meet : slice_index low (length low - 1) ≡ slice_index up (length low - 1)
 
-pub bound_behind : (from : ℕ) (curve : List ℕ) (t : ℕ) → bound_at from curve (t + 1) ≡ slice_index curve t
-bound_behind from curve t = ap (bound_at from curve) (add-one t)
+pub bound_after : (from : ℕ) (curve : List ℕ) (t : ℕ) → bound_at from curve (t + 1) ≡ slice_index curve t
+bound_after from curve t = ap (bound_at from curve) (add-one t)
 
 pub bound_end : (from : ℕ) (curve : List ℕ) (n : ℕ) → 0 < n → bound_at from curve n ≡ slice_index curve (n - 1)
-bound_end from curve n some = ap (bound_at from curve) (omega arith) ∙ bound_behind from curve (n - 1)
+bound_end from curve n some = ap (bound_at from curve) (omega arith) ∙ bound_after from curve (n - 1)
 
 -- numbers that aren't different are one
 not_different : (a b : ℕ) → (a ≢ b → ⊥) → a ≡ b
@@ -46,7 +46,7 @@ faultless from low up segments closed taut =
       above = λ j later few.
           let t = j - 1 in
           let is : t + 1 ≡ j = omega arith in
-          let at : bound_at from low (0 + j) ≡ slice_index low t = ap (bound_at from low) (omega arith) ∙ bound_behind from low t in
+          let at : bound_at from low (0 + j) ≡ slice_index low t = ap (bound_at from low) (omega arith) ∙ bound_after from low t in
           elim (cases_lt (line_top from segments j) (slice_index low t * line_under segments j)) [
             | inl below ↦ absurd (taut.above t (omega (arith, slots, few), subst (λ c. line_top from segments c < slice_index low t * line_under segments c) (sym is) below))
             | inr fine ↦ rw at fine
@@ -54,7 +54,7 @@ faultless from low up segments closed taut =
       below = λ j later few.
           let t = j - 1 in
           let is : t + 1 ≡ j = omega arith in
-          let at : bound_at from up (0 + j) ≡ slice_index up t = ap (bound_at from up) (omega arith) ∙ bound_behind from up t in
+          let at : bound_at from up (0 + j) ≡ slice_index up t = ap (bound_at from up) (omega arith) ∙ bound_after from up t in
           elim (cases_lt (slice_index up t * line_under segments j) (line_top from segments j)) [
             | inl above ↦ absurd (taut.below t (omega (arith, slots, few, closed.same_length), subst (λ c. slice_index up t * line_under segments c < line_top from segments c) (sym is) above))
             | inr fine ↦ rw at fine
@@ -104,12 +104,12 @@ taut_from_runs from low up segments closed runs slots total =
       right_total = λ off. off (total ∙ ap (λ n. slice_index up (n - 1)) (sym closed.same_length));
       above = λ t fault.
           let h : bound_at from low (0 + (t + 1)) * line_under segments (t + 1) ≤ line_top from segments (t + 1) = clean.above (t + 1) (omega arith) (omega (arith, slots, fault.0)) in
-          let at : bound_at from low (0 + (t + 1)) ≡ slice_index low t = ap (bound_at from low) (omega arith) ∙ bound_behind from low t in
+          let at : bound_at from low (0 + (t + 1)) ≡ slice_index low t = ap (bound_at from low) (omega arith) ∙ bound_after from low t in
           let h' : slice_index low t * line_under segments (t + 1) ≤ line_top from segments (t + 1) = rw at at h in
           omega (arith, h', fault.1);
       below = λ t fault.
           let h : line_top from segments (t + 1) ≤ bound_at from up (0 + (t + 1)) * line_under segments (t + 1) = clean.below (t + 1) (omega arith) (omega (arith, slots, fault.0, closed.same_length)) in
-          let at : bound_at from up (0 + (t + 1)) ≡ slice_index up t = ap (bound_at from up) (omega arith) ∙ bound_behind from up t in
+          let at : bound_at from up (0 + (t + 1)) ≡ slice_index up t = ap (bound_at from up) (omega arith) ∙ bound_after from up t in
           let h' : line_top from segments (t + 1) ≤ slice_index up t * line_under segments (t + 1) = rw at at h in
           omega (arith, h', fault.1);
       no_equal = λ i fault. clean.no_equal i fault.0 fault.1;

@@ -60,7 +60,7 @@ pub no_steeper : (lo hi : ℕ → ℕ) (k v n b n' b' : ℕ) → MeetsHigh lo hi
 no_steeper lo hi k v n b n' b' flat steep steeper =
     elim (cases_lt steep.far flat.far) [
       | inl before ↦ apart v n b n' b' steep.far (lo (k + steep.far)) steep.later steeper (flat.free steep.far (omega arith)) steep.touches
-      | inr behind ↦ apart v n b n' b' flat.far (hi (k + flat.far)) flat.later steeper flat.touches (steep.free flat.far behind)
+      | inr after ↦ apart v n b n' b' flat.far (hi (k + flat.far)) flat.later steeper flat.touches (steep.free flat.far after)
     ]
 
 first_meets_low : (lo hi : ℕ → ℕ) (k v : ℕ) (s : Segment) → StaysBetween lo hi k v s → v + s.bytes ≡ lo (k + s.slots) → MeetsLow lo hi k v s.slots s.bytes
@@ -126,7 +126,7 @@ high_further lo hi k v s next stays some flatter meets = record {
   ];
 }
 
--- what is left behind the first segment ends on both curves too
+-- what is left after the first segment ends on both curves too
 pub ends_on : (lo hi : ℕ → ℕ) (k v : ℕ) (s : Segment) (rest : List Segment) → EndsOn lo hi k v (s ∷ rest) → EndsOn lo hi (k + s.slots) (v + s.bytes) rest
 ends_on lo hi k v s rest ends =
     let slots : total_slots (s ∷ rest) ≡ s.slots + total_slots rest = sum_by-cons (λ x. x.slots) s rest in

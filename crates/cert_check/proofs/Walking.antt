@@ -12,9 +12,9 @@ use Rattle.cert_check.specs.Whole.{IsWhole, StandsAt, next_walk}
 use Rattle.cert_check.proofs.LineAt.{LineIn, line_in}
 use Rattle.cert_check.proofs.Turns.{end_place_is, end_height_is}
 
--- a list whose segment i ends before its last slot has a segment behind it
-one_behind : (segments : List Segment) (i : ℕ) → end_place segments i < total_slots segments → i + 1 < length segments
-one_behind segments i before =
+-- a list whose segment i ends before its last slot has a segment after it
+one_after : (segments : List Segment) (i : ℕ) → end_place segments i < total_slots segments → i + 1 < length segments
+one_after segments i before =
     elim (cases_lt (i + 1) (length segments)) [
       | inl inside ↦ inside
       | inr short ↦ (
@@ -38,11 +38,11 @@ goes_on from low up segments t walk whole stands few =
       | inl over ↦ (
           let next : Walk = record { index = walk.index + 1; passed = 1; height = walk.height + s.bytes } in
           let is : next_walk segments walk ≡ next = cond-true (nat_eq walk.passed s.slots) next (record { index = walk.index; passed = walk.passed + 1; height = walk.height }) (eq-eqb walk.passed s.slots over) in
-          let behind : walk.index + 1 < length segments = one_behind segments walk.index (omega (arith, ends, stands.place, over, whole.slots, few)) in
+          let after : walk.index + 1 < length segments = one_after segments walk.index (omega (arith, ends, stands.place, over, whole.slots, few)) in
           let stands' : Goes from segments (t + 1) next = record {
             stands = record {
-              inside = behind;
-              within = whole.some (walk.index + 1) behind;
+              inside = after;
+              within = whole.some (walk.index + 1) after;
               place = omega (arith, ends, stands.place, over);
               height_is = omega (arith, height, stands.height_is);
             };

@@ -11,6 +11,8 @@ mod sums;
 mod walk;
 
 pub use checker::{check, law_best};
+use std::error::Error;
+use std::fmt;
 
 /// What is wrong with a list of segments. Faults are tried in this order, and within one kind the least number is named.
 #[derive(Clone, Copy, Debug, PartialEq, Eq)]
@@ -32,6 +34,35 @@ pub enum CertFault {
     /// The slope falls after this segment, and the line there isn't on the lower curve.
     FallOffLower(u64),
 }
+
+impl fmt::Display for CertFault {
+    fn fmt<W: fmt::Write>(&self, f: &mut fmt::Formatter<W>) -> fmt::Result {
+        match self {
+            CertFault::EmptySegment(segment) => write!(f, "segment {segment} has no slots"),
+            CertFault::WrongLength => f.write_str("the slots aren't those of the curves"),
+            CertFault::WrongTotal => f.write_str("the bytes aren't those of the curves"),
+            CertFault::BelowLow(slot) => write!(f, "slot {slot} ends below the lower curve"),
+            CertFault::AboveUp(slot) => write!(f, "slot {slot} ends above the upper curve"),
+            CertFault::EqualSlopes(segment) => {
+                write!(f, "segment {segment} and the next have equal slopes")
+            }
+            CertFault::RiseOffUpper(segment) => {
+                write!(
+                    f,
+                    "the slope rises after segment {segment} off the upper curve"
+                )
+            }
+            CertFault::FallOffLower(segment) => {
+                write!(
+                    f,
+                    "the slope falls after segment {segment} off the lower curve"
+                )
+            }
+        }
+    }
+}
+
+impl Error for CertFault {}
 
 #[cfg(test)]
 mod tests;

@@ -54,7 +54,7 @@ pub IsKnown-append : (w v : List ℕ) (known : Known) → IsKnown w known → Is
 IsKnown-append w v (Searched to) h = (omega (arith, length-append w v, h.0), h.1, HasNoHead-append w v to h.0 h.2)
 IsKnown-append w v (Length total) h = IsRequestLength-append w v total h
 
--- the same, where the bytes are kept behind others and were moved before more came
+-- the same, where the bytes are kept after others and were moved before more came
 pub kept_known : (items old more : List ℕ) (start from : ℕ) (known : Known) →
     start ≤ length items → drop start items ≡ drop from old → IsKnown (drop from old) known → IsKnown (drop start (items ++ more)) known
 kept_known items old more start from known within same h =
@@ -66,7 +66,7 @@ pub settled_known : (w : List ℕ) (known : Known) → IsSettled w known → IsK
 settled_known w (Searched to) h = (omega (arith, h.0), omega (arith, h.1), h.2)
 settled_known w (Length total) h = h
 
--- the same of the bytes that are kept behind others
+-- the same of the bytes that are kept after others
 pub settled_rest : (items : List ℕ) (start : ℕ) (known : Known) → IsSettled (take (length items - start) (drop start items)) known → IsKnown (drop start items) known
 settled_rest items start known h =
     let whole : take (length items - start) (drop start items) ≡ drop start items = take_all (length items - start) (drop start items) (omega (arith, length-drop start items)) in

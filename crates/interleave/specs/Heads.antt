@@ -5,7 +5,7 @@ use Rattle.std.specs.Prelude.{◌≡◌, ℕ, ◌+◌, ◌-◌, ◌<◌, ◌≤�
 abbrev pub is_line_end : ℕ → Bool
 is_line_end c = c == 13 || c == 10
 
--- whether an empty line ends with the byte at `k`: an LF directly behind a line's LF, or with a CR between them
+-- whether an empty line ends with the byte at `k`: an LF directly after a line's LF, or with a CR between them
 abbrev pub empty_line_ends : List ℕ → ℕ → Bool
 empty_line_ends bytes k =
     (slice_index bytes k == 10)

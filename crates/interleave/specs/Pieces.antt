@@ -59,7 +59,7 @@ IsFirst bytes (Ok More) =
 IsFirst bytes (Err HeadTooLong) = StartsRequest bytes × (16384 ≤ length bytes) × HasNoHead bytes 16384
 IsFirst bytes (Err BodyTooLong) = StartsRequest bytes × IsBodyTooLong bytes
 
--- the answer is a fault or a whole piece, and no byte that comes later belongs to it: behind CR and LF another byte waits
+-- the answer is a fault or a whole piece, and no byte that comes later belongs to it: after CR and LF another byte waits
 abbrev pub IsWhole : List ℕ → Result Step DemuxFault → Type 0
 IsWhole bytes (Ok (Skip n)) = n < length bytes
 IsWhole bytes (Ok (Block channel n)) = Unit {0}

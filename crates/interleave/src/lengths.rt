@@ -31,7 +31,7 @@ fn is_length_line(head: &[u8], at: usize) -> bool
         && head[at..at + CONTENT_LENGTH.len()].eq_ignore_ascii_case(CONTENT_LENGTH)
 }
 
-/// The length that stands at `at`, behind the name, or None where it is above 65,536.
+/// The length that stands at `at`, after the name, or None where it is above 65,536.
 fn length_at(head: &[u8], at: usize) -> Option<usize>
     requires { at ≤ length head.now }
     ensures { MatchOption result (IsLongAt head.now at) (λ n. (n ≤ 65536) × IsWrittenAt head.now at n) }

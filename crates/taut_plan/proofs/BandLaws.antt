@@ -2,12 +2,12 @@
 use Rattle.std.proofs.Common.{◌≡◌, ℕ, ◌+◌, ◌-◌, ◌<◌, ◌≤◌, List, length, slice_index, arith, sym, refl, subst, ap, ◌∙◌, inl, inr, zero, suc}
 use Rattle.std.proofs.lemmas.Bool.{cases_lt}
 use Rattle.wire_curve.specs.Sound.{IsSound, bound_at}
-use Rattle.cert_check.proofs.TautForms.{bound_behind, bound_end}
+use Rattle.cert_check.proofs.TautForms.{bound_after, bound_end}
 use Rattle.taut_plan.specs.Funnel.{IsBand}
 
--- a place behind the start is the end of a slot
+-- a place beyond the start is the end of a slot
 pub bound_past : (from : ℕ) (curve : List ℕ) (j : ℕ) → 0 < j → bound_at from curve j ≡ slice_index curve (j - 1)
-bound_past from curve j past = let e : j ≡ (j - 1) + 1 = omega arith in ap (bound_at from curve) e ∙ bound_behind from curve (j - 1)
+bound_past from curve j past = let e : j ≡ (j - 1) + 1 = omega arith in ap (bound_at from curve) e ∙ bound_after from curve (j - 1)
 
 le_through : (a b c : ℕ) → a ≤ b → b ≤ c → a ≤ c
 le_through a b c h k = omega arith
@@ -46,10 +46,10 @@ band_of_sound from low up sound =
     step from low up sound t fits = elim (cases_lt 0 t) [
       | inl past ↦ (let e : t - 1 + 1 ≡ t = omega (arith, past) in
           let le : slice_index up (t - 1) ≤ slice_index up t = subst (λ k. slice_index up (t - 1) ≤ slice_index up k) e (sound.up_never_falls (t - 1) (omega (arith, past, fits))) in
-          omega (arith, le, bound_past from up t past, bound_behind from up t))
+          omega (arith, le, bound_past from up t past, bound_after from up t))
       | inr none ↦ (let e : t ≡ 0 = omega (arith, none) in
           let first : bound_at from up t ≡ from = ap (bound_at from up) e in
-          let next : bound_at from up (t + 1) ≡ slice_index up 0 = bound_behind from up t ∙ ap (slice_index up) e in
+          let next : bound_at from up (t + 1) ≡ slice_index up 0 = bound_after from up t ∙ ap (slice_index up) e in
           let start = sound.starts_within in
           let both = sound.low_below_up 0 sound.some_slot in
           omega (arith, first, next, start, both))

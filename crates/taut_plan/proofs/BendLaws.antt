@@ -46,7 +46,7 @@ pub record IsCorner (side : Side) (curve other : ℕ → ℕ) (t s : ℕ) (o b :
   pub on : b.height ≡ other b.place
   pub own_within : (i : ℕ) → o.place < i → i < t → IsWithin side o (on_curve curve i) b
   pub others_beyond : (j : ℕ) → o.place < j → j ≤ b.place → IsWithin side o b (on_curve other j)
-  pub others_behind : (j : ℕ) → b.place < j → j ≤ s → IsInside side o b (on_curve other j)
+  pub others_after : (j : ℕ) → b.place < j → j ≤ s → IsInside side o b (on_curve other j)
   pub crossed : IsInside side o b (on_curve curve t)
 
 pub corner_of : (side : Side) (curve other : ℕ → ℕ) (t s : ℕ) (o : Point) (own : List Point) (b : Point) (rest : List Point)
@@ -73,7 +73,7 @@ corner_of side curve other t s o own b rest state ordered crossed =
       own_within = λ i after before. subst (λ h. IsWithin side o (on_curve curve i) (record { place = b.place; height = h })) (sym on)
           (state.apart.apart i b.place after before later near);
       others_beyond = λ j after upto. other_within side o (on_curve other j) b (edge.before j after upto);
-      others_behind = λ j past upto. other_inside side o (on_curve other j) b (edge.behind j past upto);
+      others_after = λ j past upto. other_inside side o (on_curve other j) b (edge.beyond j past upto);
       crossed = crossed;
     }
 
@@ -89,7 +89,7 @@ own_moves side curve other t s o (p ∷ rest) b chain corner =
     let gone = corner.before_new in
     elim (cases_lt p.place t) [
       | inl lt ↦ (let within_p : IsWithin side o p b = subst (λ h. IsWithin side o (record { place = p.place; height = h }) b) (sym on) (corner.own_within p.place later lt) in
-          let new = inside_within side o (on_curve curve t) p b corner.later (edge.behind t lt (omega arith)) within_p in
+          let new = inside_within side o (on_curve curve t) p b corner.later (edge.beyond t lt (omega arith)) within_p in
           absurd (inside_not_within side o b (on_curve curve t) corner.crossed (inside_weaker side o (on_curve curve t) b new)))
       | inr ge ↦ (let at : p.place ≡ t = omega (arith, ge, near) in
           let is : p ≡ on_curve curve t = is_on_curve curve p on ∙ ap (on_curve curve) at in
@@ -105,7 +105,7 @@ own_moves side curve other t s o (p ∷ rest) b chain corner =
                     let e : p ≡ on_curve curve j = is ∙ ap (on_curve curve) (sym same) in
                     subst (λ q. IsWithin side b (on_curve curve j) q) (sym e) (within_itself side b (on_curve curve j)))
               ];
-              behind = λ j past upto. absurd (omega (arith, past, upto, at));
+              beyond = λ j past upto. absurd (omega (arith, past, upto, at));
             },
             chain.1,
           ))
@@ -119,7 +119,7 @@ crossing_moves side curve other t s o own b rest state corner =
     let first = corner.later in
     record {
       newest = state.newest;
-      behind = corner.before_new;
+      beyond = corner.before_new;
       not_past = state.not_past;
       own = own_moves side curve other t s o own b state.own corner;
       others = state.others.1;
@@ -127,7 +127,7 @@ crossing_moves side curve other t s o own b rest state corner =
         apart = λ i j i_past i_before j_past j_upto.
             turns_apart side o b (on_curve curve i) (on_curve other j) first (omega (arith, i_past)) (omega (arith, j_past))
             (corner.own_within i (omega (arith, i_past, first)) i_before)
-            (inside_weaker side o b (on_curve other j) (corner.others_behind j j_past j_upto));
+            (inside_weaker side o b (on_curve other j) (corner.others_after j j_past j_upto));
       };
     }
 
@@ -142,7 +142,7 @@ uncrossed_within side curve other t s o (b ∷ rest) chain un j after upto =
     let later = edge.later in
     within_within side o (on_curve curve t) b (on_curve other j) later un
     (elim (cases_lt b.place j) [
-      | inl behind ↦ inside_weaker side o b (on_curve other j) (other_inside side o (on_curve other j) b (edge.behind j behind upto))
+      | inl beyond ↦ inside_weaker side o b (on_curve other j) (other_inside side o (on_curve other j) b (edge.beyond j beyond upto))
       | inr before ↦ other_within side o (on_curve other j) b (edge.before j after before)
     ])
 

@@ -7,7 +7,7 @@ use Rattle.taut_plan.specs.Slopes.{IsWithin, IsInside}
 use Rattle.taut_plan.specs.Chain.{on_curve, IsFurthest, IsChain, last_point}
 use Rattle.taut_plan.proofs.SlopeLaws.{within_within, within_itself, inside_weaker, turns_on}
 
--- A chain up to place s that place s + 1 is to join: behind its last point, place s + 1 is the furthest out.
+-- A chain up to place s that place s + 1 is to join: beyond its last point, place s + 1 is the furthest out.
 abbrev pub IsOpen : Side → (ℕ → ℕ) → ℕ → Point → List Point → Type 0
 IsOpen side curve s o [] = (o.place ≤ s) × ((j : ℕ) → o.place < j → j ≤ s → IsWithin side o (on_curve curve j) (on_curve curve (s + 1)))
 IsOpen side curve s o (p ∷ rest) = IsFurthest side curve s o p × IsOpen side curve s p rest
@@ -27,7 +27,7 @@ open_pops side curve s o [] q open_ out =
     let near = edge.near in (
       omega (arith, later, near),
       λ j after upto. elim (cases_lt q.place j) [
-        | inl behind ↦ within_within side o (on_curve curve j) q (on_curve curve (s + 1)) later (inside_weaker side o (on_curve curve j) q (edge.behind j behind upto)) out
+        | inl beyond ↦ within_within side o (on_curve curve j) q (on_curve curve (s + 1)) later (inside_weaker side o (on_curve curve j) q (edge.beyond j beyond upto)) out
         | inr before ↦ within_within side o (on_curve curve j) q (on_curve curve (s + 1)) later (edge.before j after before) out
       ],
     )
@@ -46,12 +46,12 @@ open_joins_alone side curve s o open_ =
           | inl past ↦ let e : s + 1 ≡ j = omega (arith, past, upto) in subst (λ i. IsWithin side o (on_curve curve i) (on_curve curve (s + 1))) e (within_itself side o (on_curve curve (s + 1)))
           | inr within ↦ open_.1 j after within
         ];
-        behind = λ j past upto. absurd (omega (arith, past, upto));
+        beyond = λ j past upto. absurd (omega (arith, past, upto));
       },
       refl,
     )
 
--- place s + 1 stands inside the first edge of what is behind p
+-- place s + 1 stands inside the first edge of what is beyond p
 abbrev pub FirstTurns : Side → (ℕ → ℕ) → ℕ → Point → List Point → Type 0
 FirstTurns side curve s p [] = ⊥
 FirstTurns side curve s p (x ∷ rest) = IsInside side p (on_curve curve (s + 1)) x
@@ -67,8 +67,8 @@ turns_before side curve s o p (x ∷ rest) edge open_ turns =
     let two = next.later in
     let three = next.near in
     let same = next.on in
-    let behind = edge.behind x.place two three in
-    turns_on side o p x (on_curve curve (s + 1)) one two (omega (arith, two, three)) (subst (λ y. IsInside side o (record { place = x.place; height = y }) p) (sym same) behind) turns
+    let beyond = edge.beyond x.place two three in
+    turns_on side o p x (on_curve curve (s + 1)) one two (omega (arith, two, three)) (subst (λ y. IsInside side o (record { place = x.place; height = y }) p) (sym same) beyond) turns
 
 -- the edge of a point that place s + 1 stands inside of goes on
 longer : (side : Side) (curve : ℕ → ℕ) (s : ℕ) (o p : Point) → IsFurthest side curve s o p
@@ -78,9 +78,9 @@ longer side curve s o p edge turns = record {
   near = let near = edge.near in omega (arith, near);
   on = edge.on;
   before = edge.before;
-  behind = λ j past upto. elim (cases_lt s j) [
+  beyond = λ j past upto. elim (cases_lt s j) [
     | inl new ↦ let e : s + 1 ≡ j = omega (arith, new, upto) in subst (λ i. IsInside side o (on_curve curve i) p) e turns
-    | inr old ↦ edge.behind j past old
+    | inr old ↦ edge.beyond j past old
   ];
 }
 

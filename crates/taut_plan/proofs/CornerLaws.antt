@@ -103,7 +103,7 @@ rise_of_corner lo hi t s o b corner newest above below up ordered =
       later = omega (arith, later, new);
       leaves = subst (λ p. o.height * n + (t - o.place) * (b.height - o.height) < lo p * n) (sym far) leaves;
       free = λ i past upto. elim (cases_lt s (o.place + i)) [
-        | inr known ↦ line_under hi o b i up (corner.others_behind (o.place + i) (omega (arith, past, end)) known)
+        | inr known ↦ line_under hi o b i up (corner.others_after (o.place + i) (omega (arith, past, end)) known)
         | inl last ↦ (let at : t ≡ o.place + i = omega (arith, last, newest, upto, far) in
             let same : t - o.place ≡ i = omega (arith, at) in
             let height : lo t * n ≤ hi t * n = mul-le-mul_right n ordered in
@@ -141,7 +141,7 @@ fall_of_corner lo hi t s o b corner newest above below up ordered =
       later = omega (arith, later, new);
       leaves = subst (λ p. hi p * n < o.height * n + (t - o.place) * (b.height - o.height)) (sym far) leaves;
       free = λ i past upto. elim (cases_lt s (o.place + i)) [
-        | inr known ↦ line_over lo o b i up (corner.others_behind (o.place + i) (omega (arith, past, end)) known)
+        | inr known ↦ line_over lo o b i up (corner.others_after (o.place + i) (omega (arith, past, end)) known)
         | inl last ↦ (let at : t ≡ o.place + i = omega (arith, last, newest, upto, far) in
             let same : t - o.place ≡ i = omega (arith, at) in
             let height : lo t * n ≤ hi t * n = mul-le-mul_right n ordered in

@@ -78,7 +78,7 @@ crosses side lo hi from n t s o segments own [] band fits path state = record {
   others = [];
   path = path;
   funnel = crossing_ends side (curve_on lo hi side) (curve_on lo hi (other_side side)) t s o own [] (on_curve (curve_on lo hi side) t) refl state tt;
-  after = state.behind;
+  after = state.beyond;
 }
 crosses side lo hi from n t s o segments own (corner ∷ rest) band fits path state =
     let point = on_curve (curve_on lo hi side) t in
@@ -95,7 +95,7 @@ crosses side lo hi from n t s o segments own (corner ∷ rest) band fits path st
         others = corner ∷ rest;
         path = path;
         funnel = crossing_ends side (curve_on lo hi side) (curve_on lo hi (other_side side)) t s o own (corner ∷ rest) point refl state within;
-        after = state.behind;
+        after = state.beyond;
       }
     ]
 

@@ -19,10 +19,10 @@ pub known_most : (side : Side) (slot : ℕ) → others_known side slot ≤ slot 
 known_most Lower slot = omega arith
 known_most Upper slot = omega arith
 
-chain_behind : (side : Side) (curve : ℕ → ℕ) (t : ℕ) (o : Point) (chain : List Point)
+chain_beyond : (side : Side) (curve : ℕ → ℕ) (t : ℕ) (o : Point) (chain : List Point)
     → IsChain side curve t o chain → o.place ≤ t
-chain_behind side curve t o [] at_end = omega (arith, at_end)
-chain_behind side curve t o (p ∷ rest) chain = let later = chain.0.later in let near = chain.0.near in omega (arith, later, near)
+chain_beyond side curve t o [] at_end = omega (arith, at_end)
+chain_beyond side curve t o (p ∷ rest) chain = let later = chain.0.later in let near = chain.0.near in omega (arith, later, near)
 
 pub crossing_starts : (side : Side) (curve other : ℕ → ℕ) (slot : ℕ) (o : Point) (own joined others : List Point)
     → IsFunnel side curve other slot (others_known side slot) o own others → IsChain side curve (slot + 1) o joined
@@ -30,7 +30,7 @@ pub crossing_starts : (side : Side) (curve other : ℕ → ℕ) (slot : ℕ) (o 
 crossing_starts side curve other slot o own joined others funnel chain = record {
   newest = let le = known_least side slot in omega (arith, le);
   not_past = known_most side slot;
-  behind = let le = chain_behind side curve slot o own funnel.own in omega (arith, le);
+  beyond = let le = chain_beyond side curve slot o own funnel.own in omega (arith, le);
   own = chain;
   others = funnel.others;
   apart = funnel.keeps;
@@ -73,8 +73,8 @@ bends_at side lo hi from n t s o corner segments own others left point band fits
     let later = there.later in
     record {
       later = omega (arith, later);
-      higher = corner_rises side lo hi from n t s o corner band fits state.not_past state.behind path.below there;
-      path = path_bends side lo hi from n t s o corner segments band fits state.newest state.not_past state.behind path there;
+      higher = corner_rises side lo hi from n t s o corner band fits state.not_past state.beyond path.below there;
+      path = path_bends side lo hi from n t s o corner segments band fits state.newest state.not_past state.beyond path there;
       crossing = subst (IsCrossing side (curve_on lo hi side) (curve_on lo hi (other_side side)) t s corner own) (sym e)
           (crossing_moves side (curve_on lo hi side) (curve_on lo hi (other_side side)) t s o own corner crossed.rest state' there);
     }

@@ -117,7 +117,7 @@ rise_slope lo hi k v s rest rise =
         far = rise.far;
         later = omega (arith, later);
         touches = let h = rise.leaves in omega (arith, h);
-        free = λ i near. elim (cases_lt s.slots i) [ inl behind ↦ (let h = rise.free i behind near in omega (arith, h)) | inr before ↦ rise.below i before ];
+        free = λ i near. elim (cases_lt s.slots i) [ inl beyond ↦ (let h = rise.free i beyond near in omega (arith, h)) | inr before ↦ rise.below i before ];
       },
       record {
         far = s.slots;
@@ -142,7 +142,7 @@ fall_slope lo hi k v s rest fall =
         far = fall.far;
         later = omega (arith, later);
         touches = let h = fall.leaves in omega (arith, h);
-        free = λ i near. elim (cases_lt s.slots i) [ inl behind ↦ (let h = fall.free i behind near in omega (arith, h)) | inr before ↦ fall.above i before ];
+        free = λ i near. elim (cases_lt s.slots i) [ inl beyond ↦ (let h = fall.free i beyond near in omega (arith, h)) | inr before ↦ fall.above i before ];
       },
     )
 

@@ -82,7 +82,7 @@ pub inside_not_within : (side : Side) (o a b : Point) → IsInside side o a b �
 inside_not_within Lower o a b h k = omega (arith, h, k)
 inside_not_within Upper o a b h k = omega (arith, h, k)
 
--- a chain that turns at p and again at x keeps what is behind inside
+-- a chain that turns at p and again at x keeps what is beyond inside
 pub turns_on : (side : Side) (o p x c : Point) → o.place < p.place → p.place < x.place → p.place < c.place
     → IsInside side o x p → IsInside side p c x → IsInside side o c p
 turns_on Lower o p x c op px pc a b =

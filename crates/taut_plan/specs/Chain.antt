@@ -8,20 +8,20 @@ use Rattle.taut_plan.specs.Slopes.{IsWithin, IsInside}
 abbrev pub on_curve : (ℕ → ℕ) → ℕ → Point
 on_curve curve j = record { place = j; height = curve j }
 
--- Seen from o, the point p of the curve is furthest out up to place `last`: all before it stand within, all behind it inside.
+-- Seen from o, the point p of the curve is furthest out up to place `last`: all before it stand within, all beyond it inside.
 pub record IsFurthest (side : Side) (curve : ℕ → ℕ) (last : ℕ) (o p : Point) : Type 0 where
   pub later : o.place < p.place
   pub near : p.place ≤ last
   pub on : p.height ≡ curve p.place
   pub before : (j : ℕ) → o.place < j → j ≤ p.place → IsWithin side o (on_curve curve j) p
-  pub behind : (j : ℕ) → p.place < j → j ≤ last → IsInside side o (on_curve curve j) p
+  pub beyond : (j : ℕ) → p.place < j → j ≤ last → IsInside side o (on_curve curve j) p
 
 -- the chain from o to place `last`
 abbrev pub IsChain : Side → (ℕ → ℕ) → ℕ → Point → List Point → Type 0
 IsChain side curve last o [] = o.place ≡ last
 IsChain side curve last o (p ∷ rest) = IsFurthest side curve last o p × IsChain side curve last p rest
 
--- the point behind which the chain goes on
+-- the point beyond which the chain goes on
 abbrev pub last_point : Point → List Point → Point
 last_point o [] = o
 last_point o (p ∷ rest) = last_point p rest
@@ -49,7 +49,7 @@ pub record IsHeld (side : Side) (o : Point) (chain : List Point) (point : Point)
 abbrev pub IsReady : Side → Point → List Point → Point → Type 0
 IsReady side o chain point = (chain ≡ []) ⊎ IsHeld side o chain point
 
--- the last edge leads on, and the new point is behind it
+-- the last edge leads on, and the new point is beyond it
 abbrev pub EdgesAscend : Point → List Point → Point → Type 0
 EdgesAscend o chain point =
     (first second : Point) → IsLastEdge o chain first second → (first.place ≤ second.place) × (second.place ≤ point.place)

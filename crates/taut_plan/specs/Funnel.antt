@@ -33,7 +33,7 @@ pub record IsCrossing (side : Side) (curve other : ℕ → ℕ) (t s : ℕ) (o :
     (own_chain other_chain : List Point) : Type 0 where
   pub newest : t ≤ s + 1
   pub not_past : s ≤ t
-  pub behind : o.place < t
+  pub beyond : o.place < t
   pub own : IsChain side curve t o own_chain
   pub others : IsChain (other_side side) other s o other_chain
   pub apart : KeepsApart side curve other t s o

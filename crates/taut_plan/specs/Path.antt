@@ -25,7 +25,7 @@ abbrev pub HasOneSlope : (lo hi : ℕ → ℕ) → ℕ → ℕ → List Segment 
 HasOneSlope lo hi k v [] = Unit {0}
 HasOneSlope lo hi k v (s ∷ rest) = (1 ≤ s.slots) × MeetsLower lo hi k v s × MeetsUpper lo hi k v s
 
--- What runs taut on from place k and height v by that slope, runs taut behind these segments.
+-- What runs taut on from place k and height v by that slope, runs taut beyond these segments.
 pub record GoesOn (lo hi : ℕ → ℕ) (from k v : ℕ) (segments : List Segment) : Type 0 where
   pub on : (rest : List Segment) → HasOneSlope lo hi k v rest → RunsTaut lo hi k v rest
       → RunsTaut lo hi 0 from (segments ++ rest)

@@ -23,7 +23,7 @@ fn last_edge(apex: Point, chain: &VecDeque<Point>) -> Option<(Point, Point)>
     Some((first, second))
 }
 
-/// Whether the chain's last point no longer stands out, where `point` is to come behind it.
+/// Whether the chain's last point no longer stands out, where `point` is to come beyond it.
 fn is_passed(side: Side, apex: Point, chain: &VecDeque<Point>, point: Point) -> bool
     requires { EdgesAscend apex chain.now.items point }
     ensures { MatchBool result

@@ -52,7 +52,7 @@ fn extend(
         path.new.apex path.new.segments.items) }
     ensures funnel { OnOk result (IsFunnel side (side_of curves.now side) (side_of curves.now (other_side side))
         (slot + 1) (others_known side slot) path.new.apex own.new.items others.new.items) }
-    ensures behind { OnOk result (path.new.apex.place ≤ slot) }
+    ensures beyond { OnOk result (path.new.apex.place ≤ slot) }
 {
     let point = join(curves, side, path.apex, own, slot)?;
     while let Some(corner) = crossed(side, path.apex, others, point) {

@@ -96,9 +96,9 @@ fn weights(first: Point, middle: Point, last: Point) -> (u128, u128)
     ensures point { result.1 ≡ (last.place - first.place) * middle.height }
 {
     let before = u128::from(middle.place - first.place);
-    let behind = u128::from(last.place - middle.place);
+    let beyond = u128::from(last.place - middle.place);
     (
-        behind * u128::from(first.height) + before * u128::from(last.height),
-        (before + behind) * u128::from(middle.height),
+        beyond * u128::from(first.height) + before * u128::from(last.height),
+        (before + beyond) * u128::from(middle.height),
     )
 }

@@ -9,7 +9,7 @@ use Rattle.vod_base.specs.Outside.{File, file_named}
 abbrev pub file_of : String Global × Vec ℕ Global → File
 file_of f = record { name = string_bytes f.0; bytes = f.1.items }
 
--- one file more: it is the one, or the search goes on behind it
+-- one file more: it is the one, or the search goes on after it
 named_step : (files : List File) (name : List ℕ) (i : ℕ) (file : File) → i < length files → get_or files i file ≡ file →
     file_named (drop i files) name ≡ (if bytes_eq file.name name then Some file.bytes else file_named (drop (i + 1) files) name)
 named_step files name i file h e =
@@ -33,10 +33,10 @@ stored_here files items name i item are h e same =
     let step = stored_step items name i item h e in
     rw are (step ∙ ap (λ b. if b then Some item.1.items else file_named (drop (i + 1) (map file_of items)) name) same)
 
-pub stored_behind : (files : List File) (items : List (String Global × Vec ℕ Global)) (name : List ℕ) (i : ℕ) (item : String Global × Vec ℕ Global) →
+pub stored_after : (files : List File) (items : List (String Global × Vec ℕ Global)) (name : List ℕ) (i : ℕ) (item : String Global × Vec ℕ Global) →
     files ≡ map file_of items → i < length items → item ≡ get_or items i item → bytes_eq (string_bytes item.0) name ≡ false →
     file_named (drop i files) name ≡ file_named (drop (i + 1) files) name
-stored_behind files items name i item are h e other =
+stored_after files items name i item are h e other =
     let step = stored_step items name i item h e in
     rw are (step ∙ ap (λ b. if b then Some item.1.items else file_named (drop (i + 1) (map file_of items)) name) other)
 

@@ -8,6 +8,8 @@ ghost use Rattle.wire_curve.specs.Refusal.{IsAccepted, IsOverfull, HasFault, IsR
 
 use crate::curves::Curves;
 use std::alloc::{AllocError, Global};
+use std::error::Error;
+use std::fmt;
 
 /// The most slots that a plan may have.
 const MOST_SLOTS: u64 = 1_000_000;
@@ -52,6 +54,34 @@ pub enum CurveRefused {
     /// No memory was found.
     NoMemory,
 }
+
+impl fmt::Display for CurveFault {
+    fn fmt<W: fmt::Write>(&self, f: &mut fmt::Formatter<W>) -> fmt::Result {
+        match self {
+            CurveFault::NoPictures => f.write_str("there is no picture"),
+            CurveFault::TooManySlots { slots } => write!(f, "{slots} slots are too many"),
+            CurveFault::BufferTooSmall { slot, used, least } => {
+                write!(
+                    f,
+                    "slot {slot} uses {used} bytes; the least buffer is {least}"
+                )
+            }
+        }
+    }
+}
+
+impl Error for CurveFault {}
+
+impl fmt::Display for CurveRefused {
+    fn fmt<W: fmt::Write>(&self, f: &mut fmt::Formatter<W>) -> fmt::Result {
+        match self {
+            CurveRefused::Fault(fault) => write!(f, "{fault}"),
+            CurveRefused::NoMemory => f.write_str("no memory"),
+        }
+    }
+}
+
+impl Error for CurveRefused {}
 
 impl From<AllocError> for CurveRefused {
     ghost use Rattle.wire_curve.specs.declared.film.CurveRefused.TheVariants.{NoMemory};

@@ -1,7 +1,7 @@
 use Rattle.std.proofs.Common.{◌≡◌, map, ap, ◌∙◌, sym, true, false, string_bytes}
 use Rattle.std.specs.Str.{bytes_eq}
 use Rattle.vod_base.specs.Memory.{LibraryState}
-use Rattle.vod_base.proofs.FileSearch.{file_of, stored_here, stored_behind, stored_none}
+use Rattle.vod_base.proofs.FileSearch.{file_of, stored_here, stored_after, stored_none}
 use Rattle.vod_base.proofs.memory_libraries.MemoryLibrary.file.Goals as goal
 
 pub returns-then-eq : goal.returns-then-eq
@@ -21,7 +21,7 @@ loop-file_name-preserved c =
     let other : bytes_eq (string_bytes c.loop-file_name-item.result.0) c.args.name.now ≡ false =
     rw (← c.as_str.ensures.value) (sym (c.if-eq.ensures {u = tt})) in
     c.loop-file_name.invariant
-    ∙ stored_behind c.args.self.now.files c.deref-file_name-items.result.now c.args.name.now c.loop-file_name.file_name-index
+    ∙ stored_after c.args.self.now.files c.deref-file_name-items.result.now c.args.name.now c.loop-file_name.file_name-index
     c.loop-file_name-item.result are c.loop-file_name-test.true c.loop-file_name-item.is other
 
 pub returns : goal.returns
