@@ -9,3 +9,4 @@ pub mod Steps
 pub mod Standings
 pub mod Sendings
 pub mod Inside
+pub mod Hearings

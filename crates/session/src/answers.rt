@@ -2,13 +2,13 @@
 
 ghost use Rattle.std.specs.Prelude.{◌≡◌, ◌<◌, ◌^◌, ◌++◌, [], ◌∷◌, true, None, ◌-◌, List, Some};
 ghost use Rattle.rtsp_text.specs.Replies.{Field, reply_front};
-ghost use Rattle.session.specs.Sendings.{admitted_in, halted_in, halted_notes, kept_of, next_of};
+ghost use Rattle.session.specs.Sendings.{halted_in, halted_notes, kept_of, next_of};
 ghost use Rattle.admission.specs.declared.entries.Answer.{Answer};
 ghost use Rattle.session.specs.declared.notes.Receipt.{Receipt};
 ghost use Rattle.session.specs.Standings.{AreNotesKept, IsAtRest, IsHalt, IsHandedIn, IsLook, IsOffer, IsPlay, IsPlayOrLook};
-ghost use Rattle.session.specs.Standings.{answered, awaits, booking_of, open_of, sequence_of};
-ghost use Rattle.session.specs.Replies.{full_text, look_body, offer_body, overflow_text, parameters_text, play_text};
-ghost use Rattle.session.specs.declared.states.Awaited.{Awaited};
+ghost use Rattle.session.specs.Standings.{awaits, booking_of, open_of, sequence_of};
+ghost use Rattle.session.specs.Hearings.{Halts, after_admission, after_full, after_look, after_offer, after_overflow};
+ghost use Rattle.session.specs.Replies.{play_text};
 
 use crate::bodies::{put_look, put_offer};
 use crate::notes::{OfferNote, PlayNote, Receipt};
@@ -26,10 +26,7 @@ impl<'a> Session<'a> {
     pub fn admitted(&mut self, place: u64, start: u64)
         requires asked { IsPlay (awaits self.old) }
         requires start { self.old.heard < start }
-        ensures exact { self.new ≡ record (answered self.old (Receipt.Entry place (Answer.Admitted start)) self.new.text) {
-          state = admitted_in self.old.state self.old.awaited place start;
-          counts = self.new.counts;
-        } }
+        ensures exact { self.new ≡ after_admission self.old place start }
         ensures text { (fields : List Field) → self.old.text ≡ reply_front 200 (Some (sequence_of self.old.awaited)) fields
             → self.new.text ≡ play_text (sequence_of self.old.awaited) fields (start - self.old.heard) }
         ensures handed { IsHandedIn self.old (Receipt.Entry place (Answer.Admitted start)) self.new }
@@ -75,8 +72,7 @@ impl<'a> Session<'a> {
     /// the plan asks for there.
     pub fn overflowed(&mut self, place: u64, slot: u64, booked: u64, asked: u64)
         requires asked { IsPlay (awaits self.old) }
-        ensures exact { self.new ≡ answered self.old (Receipt.Entry place (Answer.Overflow slot booked asked))
-            (overflow_text (sequence_of self.old.awaited) slot booked asked) }
+        ensures exact { self.new ≡ after_overflow self.old place slot booked asked }
         ensures handed { IsHandedIn self.old (Receipt.Entry place (Answer.Overflow slot booked asked)) self.new }
         ensures replies { self.new.waits ≡ true }
         ensures open { open_of self.new ≡ None }
@@ -100,8 +96,7 @@ impl<'a> Session<'a> {
     /// The journal had no room for the play or the look that was asked for: its entries and the open plays.
     pub fn full(&mut self, entries: u64, live: u64)
         requires asked { IsPlayOrLook (awaits self.old) }
-        ensures exact { self.new ≡ answered self.old (Receipt.Full entries live)
-            (full_text (sequence_of self.old.awaited) entries live) }
+        ensures exact { self.new ≡ after_full self.old entries live }
         ensures handed { IsHandedIn self.old (Receipt.Full entries live) self.new }
         ensures replies { self.new.waits ≡ true }
         ensures open { open_of self.new ≡ open_of self.old }
@@ -121,6 +116,7 @@ impl<'a> Session<'a> {
     /// is due.
     pub fn halted(&mut self, place: u64)
         requires asked { IsHalt (awaits self.old) (open_of self.old) }
+        ensures halts { Halts self.old place self.new }
         ensures state { self.new.state ≡ halted_in self.old.state self.old.awaited }
         ensures plays { self.new.plays ≡ self.old.plays ++ halted_notes self.old.state self.old.awaited }
         ensures text { self.new.text ≡ self.old.text }
@@ -183,8 +179,7 @@ impl<'a> Session<'a> {
     /// What the station saw: the slot up to which its book has come, the slot that was looked at and what is booked in it.
     pub fn looked(&mut self, place: u64, now: u64, at: u64, booked: u64)
         requires asked { IsLook (awaits self.old) }
-        ensures exact { self.new ≡ answered self.old (Receipt.Entry place (Answer.Looked now at booked))
-            (parameters_text (sequence_of self.old.awaited) (look_body now at booked)) }
+        ensures exact { self.new ≡ after_look self.old place now at booked }
         ensures handed { IsHandedIn self.old (Receipt.Entry place (Answer.Looked now at booked)) self.new }
         ensures replies { self.new.waits ≡ true }
         ensures open { open_of self.new ≡ open_of self.old }
@@ -206,12 +201,7 @@ impl<'a> Session<'a> {
     /// offers that were handed out.
     pub fn offered(&mut self, seen: u64, first: u64, plan: Plan, offers: Offers)
         requires asked { IsOffer (awaits self.old) }
-        ensures exact { self.new ≡ record self.old {
-          awaited = Awaited.Nothing;
-          text = parameters_text (sequence_of self.old.awaited) (offer_body offers.start offers.tried);
-          waits = true;
-          offers = self.old.offers ++ record { seen = seen; first = first; plan = plan; offers = offers } ∷ [];
-        } }
+        ensures exact { self.new ≡ after_offer self.old (record { seen = seen; first = first; plan = plan; offers = offers }) }
         ensures rest { IsAtRest self.new }
         ensures replies { self.new.waits ≡ true }
         ensures open { open_of self.new ≡ open_of self.old }

@@ -3,6 +3,7 @@
 ghost use Rattle.session.specs.Replies.{code_of, refusal_fields, refusal_text, public_text, describe_text, setup_text, session_text};
 ghost use Rattle.session.specs.Replies.{plain_text, play_fields, play_text, overflow_text, full_text, parameters_text};
 ghost use Rattle.std.specs.Prelude.{◌≡◌, ◌≤◌, IsTrue, true, length, string_bytes, ℕ, List, Option, Some, [], decimal};
+ghost use Rattle.session.specs.Hearings.{started_text};
 ghost use Rattle.std.specs.Int.{w32, to_be_bytes};
 ghost use Rattle.hex.specs.Hex.{encode_lower};
 ghost use Rattle.vod_base.specs.Names.{is_good_name};
@@ -274,7 +275,8 @@ pub(crate) fn put_play(reply: &mut Reply, sequence: u64, id: &[u8; 16], info: &I
 /// The end of the 200 of a PLAY that begins so many slots after the heard one.
 pub(crate) fn put_start(reply: &mut Reply, slots: u64)
     requires { length reply.old ≤ 20000 }
-    ensures { (sequence : ℕ) (fields : List Field) → reply.old ≡ reply_front 200 (Some sequence) fields
+    ensures text { reply.new ≡ started_text reply.old slots }
+    ensures whole { (sequence : ℕ) (fields : List Field) → reply.old ≡ reply_front 200 (Some sequence) fields
         → reply.new ≡ play_text sequence fields slots }
 {
     reply.number_field(b"x-Start", slots);

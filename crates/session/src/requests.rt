@@ -5,6 +5,7 @@ ghost use Rattle.interleave.specs.Pieces.{IsRequestLength};
 ghost use Rattle.vod_base.specs.Names.{is_good_name};
 ghost use Rattle.rtsp_text.specs.Lines.{is_one_line};
 ghost use Rattle.session.specs.declared.asks.Ask.{Ask};
+ghost use Rattle.session.specs.Hearings.{Hears};
 ghost use Rattle.session.specs.Ranges.{AreFilms, IsSetup};
 ghost use Rattle.session.specs.Titles.{ms_at, title_at, title_of, titles_of};
 ghost use Rattle.session.specs.Replies.{describe_text, refusal_text};
@@ -41,6 +42,7 @@ impl<'a> Session<'a> {
         requires replied { self.old.waits ≡ false }
         requires torn { self.old.torn ≡ false }
         requires whole { IsRequestLength message.now (length message.now) }
+        ensures hears { Hears self.old message.now result self.new }
         ensures asks { AsksFor result self.new }
         ensures same { IsSameBusiness self.old self.new }
     {
