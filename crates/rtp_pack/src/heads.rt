@@ -5,6 +5,8 @@ use crate::payloads::Packet;
 use crate::reports::Identity;
 use byteorder::{BigEndian, ByteOrder};
 use mpeg_scan::{Kind, Unit};
+use std::error::Error;
+use std::fmt;
 
 /// What the RTP header and the video header of a packet say (RFC 3550 section 5.1, RFC 2250 section 3.4).
 #[derive(Clone, Copy, Debug, PartialEq, Eq)]
@@ -31,6 +33,18 @@ pub enum HeadFault {
     /// The payload type isn't 32.
     NotVideo,
 }
+
+impl fmt::Display for HeadFault {
+    fn fmt<W: fmt::Write>(&self, f: &mut fmt::Formatter<W>) -> fmt::Result {
+        match self {
+            HeadFault::Short => write!(f, "the packet is shorter than its headers"),
+            HeadFault::NotRtp => write!(f, "the packet isn't of RTP version 2"),
+            HeadFault::NotVideo => write!(f, "the packet isn't MPEG video"),
+        }
+    }
+}
+
+impl Error for HeadFault {}
 
 /// The bytes of a head.
 const HEAD: usize = 16;

@@ -16,7 +16,7 @@ pub use heads::{
 pub use laws::{
     law_cutting, law_head_read_back, law_last_marked, law_one_cutting, law_rules, law_unit_laid,
 };
-pub use payloads::{Packet, packets};
+pub use payloads::{Packet, packets, refill_packets};
 pub use reports::{Identity, Report, unit_report, write_report};
 pub use sizes::UnitSize;
 

@@ -6,7 +6,6 @@ ghost use Rattle.rtp_pack.specs.Sizes.{unit_size};
 use crate::filling::{Filling, Holds, PAYLOAD, full_before, goes_in, held};
 use crate::payloads::Packet;
 use mpeg_scan::Unit;
-use std::alloc::Global;
 use vod_base::NoMemory;
 
 /// The packet of a piece, where it is known whether it begins and ends with a slice.
@@ -99,22 +98,23 @@ fn slice_end(starts: &[u64], index: usize, to: u64) -> u64
     }
 }
 
-/// The packets of a unit, by the places of its film's slices.
+/// The packets of a unit, by the places of its film's slices, in place of what the list has.
 pub(crate) fn pack(
-    alloc: Global,
+    packets: &mut Vec<Packet>,
     unit: &Unit,
     slice_starts: &[u64],
-) -> Result<Vec<Packet>, NoMemory>
+) -> Result<(), NoMemory>
     requires { IsLaid slice_starts.now unit.now }
-    ensures list { IfOk result (λ packets. packets.items ≡ unit_packets slice_starts.now unit.now) }
-    ensures rules { IfOk result (λ packets. ArePackets slice_starts.now unit.now packets.items) }
-    ensures cover { IfOk result (λ packets. DoCover unit.now.from packets.items unit.now.to) }
-    ensures size { IfOk result (λ packets. frames_size packets.items ≡ unit_size slice_starts.now unit.now) }
-    ensures bound { IfOk result (λ packets. frames_size packets.items + 52 ≤ 2 * (unit.now.to - unit.now.from) + 112) }
+    ensures list { OnOk result (packets.new.items ≡ unit_packets slice_starts.now unit.now) }
+    ensures rules { OnOk result (ArePackets slice_starts.now unit.now packets.new.items) }
+    ensures cover { OnOk result (DoCover unit.now.from packets.new.items unit.now.to) }
+    ensures size { OnOk result (frames_size packets.new.items ≡ unit_size slice_starts.now unit.now) }
+    ensures bound { OnOk result
+        (frames_size packets.new.items + 52 ≤ 2 * (unit.now.to - unit.now.from) + 112) }
 {
     let first = unit.first_slice as usize;
     let starts = &slice_starts[first..first + unit.slices as usize];
-    let mut packets = Vec::new(alloc);
+    packets.clear();
     let mut filling = Filling {
         from: unit.from,
         at: unit.head_end,
@@ -122,8 +122,8 @@ pub(crate) fn pack(
     };
     for index in 0..starts.len() {
         let end = slice_end(starts, index, unit.to);
-        filling = put_slice(&mut packets, unit, filling, end)?;
+        filling = put_slice(packets, unit, filling, end)?;
     }
-    close(&mut packets, unit, filling)?;
-    Ok(packets)
+    close(packets, unit, filling)?;
+    Ok(())
 }

@@ -1,4 +1,4 @@
-ghost use Rattle.std.specs.Prelude.{◌≡◌, ◌+◌, ◌-◌, ◌*◌, ◌<◌, ◌≤◌, length, IfOk};
+ghost use Rattle.std.specs.Prelude.{◌≡◌, ◌+◌, ◌-◌, ◌*◌, ◌<◌, ◌≤◌, length, IfOk, OnOk};
 ghost use Rattle.rtp_pack.specs.Packets.{ArePackets, DoCover, OfUnit, frames_size, unit_packets};
 ghost use Rattle.rtp_pack.specs.Sizes.{unit_size};
 
@@ -33,5 +33,21 @@ pub fn packets(alloc: Global, film: &Film, unit: usize) -> Result<Vec<Packet>, N
     ensures size { OfUnit film.now.units.items unit (λ u. IfOk result (λ p. frames_size p.items ≡ unit_size film.now.slice_starts.items u)) }
     ensures bound { OfUnit film.now.units.items unit (λ u. IfOk result (λ p. frames_size p.items + 52 ≤ 2 * (u.to - u.from) + 112)) }
 {
-    pack(alloc, &film.units[unit], &film.slice_starts)
+    let mut packets = Vec::new(alloc);
+    pack(&mut packets, &film.units[unit], &film.slice_starts)?;
+    Ok(packets)
+}
+
+/// The packets of a unit of the film, in order, in place of those that the list has. It takes memory
+/// only where they are more than the list had room for.
+pub fn refill_packets(
+    packets: &mut Vec<Packet>,
+    film: &Film,
+    unit: usize,
+) -> Result<(), NoMemory>
+    requires { unit < length film.now.units.items }
+    ensures { OfUnit film.now.units.items unit
+        (λ u. OnOk result (packets.new.items ≡ unit_packets film.now.slice_starts.items u)) }
+{
+    pack(packets, &film.units[unit], &film.slice_starts)
 }

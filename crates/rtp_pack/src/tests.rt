@@ -6,7 +6,7 @@ ghost use Rattle.std.specs.Prelude.{◌≤◌, ◌^◌};
 use crate::{
     Head, HeadFault, Identity, Packet, Report, UnitSize, law_cutting, law_head_read_back,
     law_last_marked, law_one_cutting, law_unit_laid, media_timestamp, packet_head, packets,
-    read_head, unit_report, video_header, write_head, write_report,
+    read_head, refill_packets, unit_report, video_header, write_head, write_report,
 };
 use mpeg_scan::{Film, Kind, ScanRefused, Unit, scan};
 use std::alloc::Global;
@@ -82,6 +82,7 @@ fn piece(from: u64, to: u64, set: &str) -> Packet {
 
 #[test]
 fn cuts_units(rt: HostRuntime) -> Result<(), Fail> {
+    let mut again = Vec::new(rt.alloc());
     for (head, slices, want) in [
         (28, [6].as_slice(), [(0, 34, "MBES")].as_slice()),
         (28, &[1352], &[(0, 1380, "MBES")]),
@@ -132,6 +133,8 @@ fn cuts_units(rt: HostRuntime) -> Result<(), Fail> {
         for (packet, (from, to, set)) in packets.iter().zip(want) {
             assert_eq!(rt; *packet, piece(*from, *to, set), "at {slices:?}");
         }
+        refill_packets(&mut again, &film, 0)?;
+        assert_eq!(rt; again.as_slice(), packets.as_slice(), "at {slices:?}");
     }
     Ok(())
 }
@@ -334,4 +337,16 @@ fn reports_units(rt: HostRuntime) -> Result<(), Fail> {
 fn laws_run(_rt: HostRuntime) {
     law_one_cutting(0, 28, &[], &[28], &[28]);
     law_cutting(0, 28, &[], &[28]);
+}
+
+#[test]
+fn faults_tell(rt: HostRuntime) -> Result<(), Fail> {
+    for (fault, want) in [
+        (HeadFault::Short, "the packet is shorter than its headers"),
+        (HeadFault::NotRtp, "the packet isn't of RTP version 2"),
+        (HeadFault::NotVideo, "the packet isn't MPEG video"),
+    ] {
+        assert_eq!(rt; format!(in rt.alloc(); "{fault}")?.as_str(), want);
+    }
+    Ok(())
 }
