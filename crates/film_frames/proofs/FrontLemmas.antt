@@ -2,7 +2,6 @@
 use Rattle.std.proofs.Common.{◌≡◌, ℕ, ◌+◌, ◌^◌, ◌<◌, ◌≤◌, List, [], ◌∷◌, ◌++◌, append_assoc, map, length, take, drop, get_or, Some, true, false, cond, slice_get, sym, ap, subst, ◌∙◌, arith}
 use Rattle.std.proofs.lemmas.List.{append-nil, map-append, map_more, take-append-drop, take-take, take_all, take_more}
 use Rattle.std.proofs.lemmas.List.Concat.{flat_map-append}
-use Rattle.std.proofs.lemmas.List.Sums.{sum_by-cons}
 use Rattle.std.proofs.lemmas.Option.{get_or_from_slice_get, slice_get-get_or, slice_get-map, slice_get_within}
 use Rattle.mpeg_scan.specs.declared.units.Unit.{Unit as PictureUnit}
 use Rattle.mpeg_scan.specs.declared.films.Film.{Film}
@@ -12,7 +11,7 @@ use Rattle.mpeg_scan.proofs.LaidLemmas.{laid-at}
 use Rattle.film_frames.specs.declared.pieces.Piece.{Piece}
 use Rattle.film_frames.specs.declared.pieces.Piece.TheVariants.{Report, Frame}
 use Rattle.film_frames.specs.declared.tables.FrameTable.{FrameTable}
-use Rattle.film_frames.specs.Pieces.{count_of, film_pieces, frames_in, front_pieces, pieces_of, unit_pieces, unit_reports, wire_in, wire_of}
+use Rattle.film_frames.specs.Pieces.{film_pieces, front_pieces, pieces_of, unit_pieces, unit_reports, wire_in}
 use Rattle.film_frames.specs.Tables.{HasRoom, IsSound, IsTable}
 use Rattle.film_frames.proofs.PieceLemmas.{AreSound, sound-at, sound-right, unit-sound, wire-append}
 use Rattle.film_frames.proofs.FilmLemmas.{film-bound, film-wire, laid-film}
@@ -39,22 +38,13 @@ front-bound film number =
 
 -- ---- room for one more piece
 
-counts-le : (pieces : List Piece) → frames_in pieces ≤ wire_in pieces
-counts-le [] = omega arith
-counts-le (Report unit ∷ pieces) = omega (arith, counts-le pieces, sum_by-cons count_of (Report unit) pieces, sum_by-cons wire_of (Report unit) pieces)
-counts-le (Frame unit p ∷ pieces) = omega (arith, counts-le pieces, sum_by-cons count_of (Frame unit p) pieces, sum_by-cons wire_of (Frame unit p) pieces)
-
 pub room : (units : List PictureUnit) (pieces : List Piece) (table : FrameTable) → IsTable units pieces table → wire_in pieces ≤ 2 ^ 42 → HasRoom table
 room units pieces table is most =
     let wire = is.place (length pieces) (omega arith) ∙ ap (λ l. wire_in l) (take_all (length pieces) pieces (omega arith)) in
-    let frames = is.frame (length pieces) (omega arith) ∙ ap (λ l. frames_in l) (take_all (length pieces) pieces (omega arith)) in
     let place : get_or table.places.items (length table.rows.items) 0 ≡ get_or table.places.items (length pieces) 0 = ap (λ n. get_or table.places.items n 0) is.rows_count in
-    let frame : get_or table.frames.items (length table.rows.items) 0 ≡ get_or table.frames.items (length pieces) 0 = ap (λ n. get_or table.frames.items n 0) is.rows_count in
     record {
       places_count = omega (arith, is.places_count, is.rows_count);
-      frames_count = omega (arith, is.frames_count, is.rows_count);
       places = omega (arith, place, wire, most);
-      frames = omega (arith, frame, frames, most, counts-le pieces);
     }
 
 -- ---- the frames of a unit, one behind another

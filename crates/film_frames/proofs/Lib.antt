@@ -11,3 +11,5 @@ pub mod CountLemmas
 pub mod BackLemmas
 pub mod ReportLemmas
 pub mod RunFronts
+pub mod ReportNumbers
+pub mod PlaceLemmas

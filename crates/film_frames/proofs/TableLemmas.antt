@@ -13,11 +13,12 @@ use Rattle.rtp_pack.specs.Packets.{packet}
 use Rattle.mpeg_scan.proofs.BoundLemmas.{film-bytes}
 use Rattle.film_frames.specs.declared.rows.Row.{Row}
 use Rattle.film_frames.specs.declared.tables.FrameTable.{FrameTable}
-use Rattle.film_frames.specs.Pieces.{count_of, film_pieces, front_pieces, pieces_of, unit_of, unit_pieces, wire_in, wire_of, wire_size}
-use Rattle.film_frames.specs.Tables.{IsRow, IsSound, IsTable, IsTableOf}
+use Rattle.film_frames.specs.Pieces.{film_pieces, from_of, front_pieces, pieces_of, unit_of, unit_pieces, wire_in, wire_of, wire_size}
+use Rattle.film_frames.specs.Tables.{IsRow, IsSound, IsTable, IsTableOf, with_report}
 use Rattle.film_frames.proofs.PieceLemmas.{sound-at, unit-wire, wire-append}
 use Rattle.film_frames.proofs.FilmLemmas.{film-sound, unit-laid}
 use Rattle.film_frames.proofs.FrontLemmas.{front-back, front-more}
+use Rattle.film_frames.proofs.ReportNumbers.{reports-push}
 use Rattle.mpeg_scan.specs.declared.films.Film.{Film}
 
 -- ---- one more piece
@@ -71,29 +72,23 @@ rows-push units pieces piece rows row count is each k some its at =
           subst P (sym (get_or_push rows row some k (omega (arith, count, last)))) (subst Q (push-last pieces piece its k at last) is)
     ]
 
-pub table-push : (units : List PictureUnit) (pieces : List Piece) (piece : Piece) (row : Row) (old new : FrameTable) (end count : ℕ) → IsTable units pieces old → IsRow units row piece
-    → new.places.items ≡ old.places.items ++ end ∷ [] → new.frames.items ≡ old.frames.items ++ count ∷ [] → new.rows.items ≡ old.rows.items ++ row ∷ []
-    → end ≡ get_or old.places.items (length old.rows.items) 0 + wire_of piece → count ≡ get_or old.frames.items (length old.rows.items) 0 + count_of piece
+pub table-push : (units : List PictureUnit) (pieces : List Piece) (piece : Piece) (row : Row) (old new : FrameTable) (end : ℕ) → IsTable units pieces old → IsRow units row piece
+    → new.places.items ≡ old.places.items ++ end ∷ [] → new.rows.items ≡ old.rows.items ++ row ∷ [] → new.reports.items ≡ with_report (length old.rows.items) piece old.reports.items
+    → end ≡ get_or old.places.items (length old.rows.items) 0 + wire_of piece
     → IsTable units (pieces ++ piece ∷ []) new
-table-push units pieces piece row old new end count is its places frames rows end_is count_is =
+table-push units pieces piece row old new end is its places rows reports end_is =
     let last = is.rows_count in
     let place : get_or old.places.items (length old.rows.items) 0 ≡ get_or old.places.items (length pieces) 0 = ap (λ n. get_or old.places.items n 0) last in
-    let frame : get_or old.frames.items (length old.rows.items) 0 ≡ get_or old.frames.items (length pieces) 0 = ap (λ n. get_or old.frames.items n 0) last in
     let wires : AreSums wire_of pieces old.places.items = record { count = is.places_count; each = is.place } in
-    let counts : AreSums count_of pieces old.frames.items = record { count = is.frames_count; each = is.frame } in
     let w = sums-push wire_of pieces piece old.places.items end wires (omega (arith, end_is, place)) in
-    let f = sums-push count_of pieces piece old.frames.items count counts (omega (arith, count_is, frame)) in
     let P : List ℕ → Type 0 = λ l. AreSums wire_of (pieces ++ piece ∷ []) l in
-    let Q : List ℕ → Type 0 = λ l. AreSums count_of (pieces ++ piece ∷ []) l in
     let R : List Row → Type 0 = λ l. (k : ℕ) (some : Row) (other : Piece) → slice_get (pieces ++ piece ∷ []) k ≡ Some other → IsRow units (get_or l k some) other in
     let w_new = subst P (sym places) w in
-    let f_new = subst Q (sym frames) f in
     record {
       places_count = w_new.count;
-      frames_count = f_new.count;
       rows_count = ap length rows ∙ length_push old.rows.items row ∙ ap (λ n. n + 1) last ∙ sym (length_push pieces piece);
       place = w_new.each;
-      frame = f_new.each;
+      reports = reports ∙ ap (λ l. with_report (length old.rows.items) piece l) is.reports ∙ reports-push 0 (length old.rows.items) pieces piece (omega (arith, last));
       row = subst R (sym rows) (rows-push units pieces piece old.rows.items row last its is.row);
     }
 
@@ -171,9 +166,9 @@ frame-from film false unit its (Frame other that) same frame sound =
     let P : Packet → Type 0 = λ p. p.to ≤ length film in
     let e : that ≡ its = cc in subst P e sound.within
 
-pub row-within : (film : Film) (row : Row) (piece : Piece) → IsRow film.units.items row piece → IsSound film.bytes.items piece → row.report ≡ false → row.from + wire_of piece ≤ length film.bytes.items + 20
+pub row-within : (film : Film) (row : Row) (piece : Piece) → IsRow film.units.items row piece → IsSound film.bytes.items piece → row.report ≡ false → from_of piece + wire_of piece ≤ length film.bytes.items + 20
 row-within film row piece is sound frame =
-    let to = frame-from film.bytes.items row.report (unit_of piece) (packet (unit_of piece) row.from (row.from + (wire_of piece - 20)) row.begin row.end) piece is.piece_is frame sound in
+    let to = frame-from film.bytes.items row.report (unit_of piece) (packet (unit_of piece) (from_of piece) (from_of piece + (wire_of piece - 20)) row.begin row.end) piece is.piece_is frame sound in
     omega (arith, to, wire-least film.bytes.items piece sound)
 
 pub film-short : (film : Film) → length film.bytes.items ≤ 2 ^ 40

@@ -1,5 +1,5 @@
 -- The reports and frames of units, in the order in which they are sent, and what each takes.
-use Rattle.std.specs.Prelude.{ℕ, ◌+◌, ◌-◌, if◌then◌else◌, List, [], ◌∷◌, ◌++◌, map, flat_map, take}
+use Rattle.std.specs.Prelude.{ℕ, ◌+◌, ◌-◌, ◌≡◌, if◌then◌else◌, List, [], ◌∷◌, ◌++◌, map, flat_map, take, slice_get, Some}
 use Rattle.std.specs.List.{sum_by}
 use Rattle.mpeg_scan.specs.declared.units.Unit.{Unit as PictureUnit}
 use Rattle.mpeg_scan.specs.declared.films.Film.{Film}
@@ -30,6 +30,15 @@ front_pieces film units = pieces_of film.slice_starts.items (take units film.uni
 abbrev pub unit_of : Piece → PictureUnit
 unit_of (Report unit) = unit
 unit_of (Frame unit packet) = unit
+
+-- a fact of a piece, by its number
+abbrev pub OfPiece : List Piece → ℕ → (Piece → Type 0) → Type 0
+OfPiece pieces number Fact = (piece : Piece) → slice_get pieces number ≡ Some piece → Fact piece
+
+-- where the bytes of a film that a piece carries begin; a report carries none, and stands before its unit
+abbrev pub from_of : Piece → ℕ
+from_of (Report unit) = unit.from
+from_of (Frame unit packet) = packet.from
 
 -- the bytes of a piece: 52 of a report; 4 of the interleaved head, 16 of the packet's and the payload of a frame
 abbrev pub wire_of : Piece → ℕ

@@ -1,5 +1,5 @@
 -- The table of a film's reports and frames.
-use Rattle.std.specs.Prelude.{ℕ, ◌+◌, ◌-◌, ◌^◌, ◌≤◌, ◌<◌, ◌≡◌, if◌then◌else◌, List, length, take, get_or, slice_get, Some}
+use Rattle.std.specs.Prelude.{ℕ, ◌+◌, ◌-◌, ◌^◌, ◌≤◌, ◌<◌, ◌≡◌, if◌then◌else◌, List, [], ◌∷◌, ◌++◌, length, take, get_or, slice_get, Some}
 use Rattle.mpeg_scan.specs.declared.units.Unit.{Unit as PictureUnit}
 use Rattle.mpeg_scan.specs.declared.films.Film.{Film}
 use Rattle.rtp_pack.specs.declared.payloads.Packet.{Packet}
@@ -8,13 +8,13 @@ use Rattle.film_frames.specs.declared.pieces.Piece.{Piece}
 use Rattle.film_frames.specs.declared.pieces.Piece.TheVariants.{Report, Frame}
 use Rattle.film_frames.specs.declared.rows.Row.{Row}
 use Rattle.film_frames.specs.declared.tables.FrameTable.{FrameTable}
-use Rattle.film_frames.specs.Pieces.{film_pieces, pieces_of, unit_of, wire_of, wire_in, frames_in}
+use Rattle.film_frames.specs.Pieces.{film_pieces, pieces_of, from_of, unit_of, wire_of, wire_in}
 
--- the piece of a row, where its unit and its bytes are known
-abbrev pub row_piece : Row → PictureUnit → ℕ → Piece
-row_piece row unit size =
+-- the piece of a row, where its unit, the place of its payload and its bytes are known
+abbrev pub row_piece : Row → PictureUnit → ℕ → ℕ → Piece
+row_piece row unit from size =
     if row.report then Report unit
-    else Frame unit (packet unit row.from (row.from + (size - 20)) row.begin row.end)
+    else Frame unit (packet unit from (from + (size - 20)) row.begin row.end)
 
 -- a frame's packet has 1 to 1,380 bytes of the film, and its flags are those of its place in the unit
 pub record IsCut (film : List ℕ) (unit : PictureUnit) (its : Packet) : Type 0 where
@@ -30,15 +30,25 @@ IsSound film (Frame unit its) = IsCut film unit its
 -- a row tells of a piece: the number of its unit, and what is in it
 pub record IsRow (units : List PictureUnit) (row : Row) (piece : Piece) : Type 0 where
   pub unit : slice_get units row.unit ≡ Some (unit_of piece)
-  pub piece_is : row_piece row (unit_of piece) (wire_of piece) ≡ piece
+  pub piece_is : row_piece row (unit_of piece) (from_of piece) (wire_of piece) ≡ piece
 
--- a table of pieces: where each begins and how many frames come before it, with the end of the last; and its row
+-- the numbers of the pieces that are reports, where the first piece has a number
+abbrev pub report_numbers : ℕ → List Piece → List ℕ
+report_numbers number [] = []
+report_numbers number (Report unit ∷ pieces) = number ∷ report_numbers (number + 1) pieces
+report_numbers number (Frame unit packet ∷ pieces) = report_numbers (number + 1) pieces
+
+-- numbers of reports, with that of one more piece if it is a report
+abbrev pub with_report : ℕ → Piece → List ℕ → List ℕ
+with_report number (Report unit) numbers = numbers ++ number ∷ []
+with_report number (Frame unit packet) numbers = numbers
+
+-- a table of pieces: where each begins, with the end of the last; what it is; and which are reports
 pub record IsTable (units : List PictureUnit) (pieces : List Piece) (table : FrameTable) : Type 0 where
   pub places_count : length table.places.items ≡ length pieces + 1
-  pub frames_count : length table.frames.items ≡ length pieces + 1
   pub rows_count : length table.rows.items ≡ length pieces
   pub place : (k : ℕ) → k ≤ length pieces → get_or table.places.items k 0 ≡ wire_in (take k pieces)
-  pub frame : (k : ℕ) → k ≤ length pieces → get_or table.frames.items k 0 ≡ frames_in (take k pieces)
+  pub reports : table.reports.items ≡ report_numbers 0 pieces
   pub row : (k : ℕ) (some : Row) (piece : Piece) → slice_get pieces k ≡ Some piece
       → IsRow units (get_or table.rows.items k some) piece
 
@@ -62,9 +72,7 @@ pub record HasUnit (table : FrameTable) (unit : ℕ) : Type 0 where
   pub table_is : IsTableOf film table
   pub within : unit < length film.units.items
 
--- one more piece goes into a table: its bytes and frames stay below these
+-- one more piece goes into a table: its bytes stay below a bound
 pub record HasRoom (table : FrameTable) : Type 0 where
   pub places_count : length table.places.items ≡ length table.rows.items + 1
-  pub frames_count : length table.frames.items ≡ length table.rows.items + 1
   pub places : get_or table.places.items (length table.rows.items) 0 ≤ 2 ^ 42
-  pub frames : get_or table.frames.items (length table.rows.items) 0 ≤ 2 ^ 42

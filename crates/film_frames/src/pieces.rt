@@ -1,5 +1,5 @@
 ghost use Rattle.std.specs.Prelude.{◌≡◌, ℕ, List};
-ghost use Rattle.film_frames.specs.Pieces.{count_of, wire_of};
+ghost use Rattle.film_frames.specs.Pieces.{wire_of};
 ghost use Rattle.film_frames.specs.Tables.{IsSound};
 
 use mpeg_scan::Unit;
@@ -28,15 +28,5 @@ pub(crate) fn wire_of(piece: &Piece) -> u64
     match piece {
         Piece::Report(_) => REPORT,
         Piece::Frame(_, packet) => HEADS + (packet.to - packet.from),
-    }
-}
-
-/// How many frames a piece is.
-pub(crate) fn count_of(piece: &Piece) -> u64
-    ensures { result ≡ count_of piece.now }
-{
-    match piece {
-        Piece::Report(_) => 0,
-        Piece::Frame(..) => 1,
     }
 }

@@ -7,11 +7,9 @@ use crate::pieces::{HEADS, Piece};
 use mpeg_scan::Unit;
 use rtp_pack::Packet;
 
-/// What is kept of a report or a frame.
+/// What is kept of a report or a frame beside its place: 8 bytes.
 #[derive(Clone, Copy, Debug, PartialEq, Eq)]
 pub(crate) struct Row {
-    /// The place of the payload's first byte in the film.
-    from: u64,
     /// The number of its unit.
     unit: u32,
     /// Whether it is a report.
@@ -30,14 +28,12 @@ impl Row {
     {
         match piece {
             Piece::Report(_) => Row {
-                from: 0,
                 unit,
                 report: true,
                 begin: false,
                 end: false,
             },
             Piece::Frame(_, packet) => Row {
-                from: packet.from,
                 unit,
                 report: false,
                 begin: packet.begin,
@@ -53,25 +49,25 @@ impl Row {
         self.unit as usize
     }
 
-    /// The piece, by its unit and the number of its bytes.
-    pub(crate) fn piece(&self, unit: &Unit, size: u64) -> Piece
+    /// The piece, by its unit, the place of its payload in the film and the number of its bytes.
+    pub(crate) fn piece(&self, unit: &Unit, from: u64, size: u64) -> Piece
         requires least { 20 ≤ size }
-        requires most { self.now.report ≡ false → self.now.from + size < 2 ^ 64 }
-        ensures { result ≡ row_piece self.now unit.now size }
+        requires most { self.now.report ≡ false → from + size < 2 ^ 64 }
+        ensures { result ≡ row_piece self.now unit.now from size }
     {
         if self.report {
             return Piece::Report(*unit);
         }
-        let to = self.from + (size - HEADS);
+        let to = from + (size - HEADS);
         Piece::Frame(
             *unit,
             Packet {
-                from: self.from,
+                from,
                 to,
                 marker: to == unit.to,
                 begin: self.begin,
                 end: self.end,
-                sequence_header: unit.has_sequence && self.from == unit.from,
+                sequence_header: unit.has_sequence && from == unit.from,
             },
         )
     }

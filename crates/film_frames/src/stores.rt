@@ -1,6 +1,7 @@
 ghost use Rattle.film_frames.specs.Tables.{IsTableOf};
 
-use crate::pieces::Piece;
+use crate::pieces::{HEADS, Piece, REPORT};
+use crate::searches::ends_below;
 use crate::tables::FrameTable;
 use mpeg_scan::Film;
 use std::alloc::Global;
@@ -21,7 +22,7 @@ pub struct Stored {
 impl Stored {
     ghost use Rattle.std.specs.Prelude.{◌≡◌, ◌+◌, ◌-◌, ◌*◌, ◌<◌, ◌≤◌, ℕ, length, take, get_or, slice_get, string_bytes, Some, IfOk};
     ghost use Rattle.rtp_pack.specs.Packets.{OfUnit};
-    ghost use Rattle.film_frames.specs.Pieces.{film_pieces, frames_in, front_pieces, wire_in, wire_size};
+    ghost use Rattle.film_frames.specs.Pieces.{OfPiece, film_pieces, frames_in, from_of, front_pieces, wire_in, wire_size};
 
     /// A film under a name, with its table.
     pub fn new(alloc: Global, name: String, film: Film) -> Result<Stored, NoMemory>
@@ -63,7 +64,18 @@ impl Stored {
         requires { piece ≤ length (film_pieces self.now.film) }
         ensures { result ≡ frames_in (take piece (film_pieces self.now.film)) }
     {
-        self.table.frames(piece)
+        let reports = ends_below(self.table.reports(), piece as u64);
+        (piece - reports) as u64
+    }
+
+    /// The place in the film of the payload of a piece; of a report that of its unit.
+    fn payload_from(&self, number: usize) -> u64
+        requires { number < length (film_pieces self.now.film) }
+        ensures { OfPiece (film_pieces self.now.film) number (λ piece. result ≡ from_of piece) }
+    {
+        let frames = self.frames(number);
+        let reports = number as u64 - frames;
+        self.film.units[0].from + (self.place(number) - HEADS * frames - REPORT * reports)
     }
 
     /// Where the pieces from one on to another end.
@@ -84,6 +96,7 @@ impl Stored {
     {
         let row = self.table.row(number);
         let size = self.table.place(number + 1) - self.table.place(number);
-        row.piece(&self.film.units[row.unit()], size)
+        let from = self.payload_from(number);
+        row.piece(&self.film.units[row.unit()], from, size)
     }
 }

@@ -6,25 +6,26 @@ ghost use Rattle.rtp_pack.specs.Packets.{OfUnit, unit_packets};
 ghost use Rattle.film_frames.specs.declared.pieces.Piece.{Piece};
 ghost use Rattle.film_frames.specs.Pieces.{front_pieces, unit_of, unit_reports, wire_size};
 ghost use Rattle.film_frames.specs.Tables.{AreFirsts, HasPieces, HasRoom, HasUnit, IsSound, IsTable, IsTableOf};
+ghost use Rattle.film_frames.specs.Tables.{with_report};
 
-use crate::pieces::{Piece, count_of, wire_of};
+use crate::pieces::{Piece, wire_of};
 use crate::rows::Row;
 use mpeg_scan::Film;
-use rtp_pack::{Packet, packets};
+use rtp_pack::{Packet, refill_packets};
 use std::alloc::Global;
 use vod_base::NoMemory;
 
 /// For each report and each frame of a film its place among all framed bytes, and what it carries.
 ///
-/// It takes 32 bytes for each of them, and 8 for each unit.
+/// It takes 16 bytes for each of them, 8 for each unit, and 8 for each group, which has one report.
 #[derive(Debug, Drop)]
 pub struct FrameTable {
     /// Where each piece begins among all framed bytes of the film, and where the last ends.
     places: Vec<u64>,
-    /// How many frames come before each piece, and how many there are.
-    frames: Vec<u64>,
     /// What each piece is.
     rows: Vec<Row>,
+    /// The numbers of the pieces that are reports.
+    reports: Vec<u64>,
     /// How many pieces come before each unit, and how many there are.
     firsts: Vec<u64>,
 }
@@ -39,14 +40,25 @@ fn push(numbers: &mut Vec<u64>, number: u64) -> Result<(), NoMemory>
     }
 }
 
+/// Appends the number of a piece if it is a report.
+fn add_report(reports: &mut Vec<u64>, number: u64, piece: &Piece) -> Result<(), NoMemory>
+    ensures { OnOk result (reports.new.items ≡ with_report number piece.now reports.old.items) }
+{
+    match piece {
+        Piece::Report(_) => push(reports, number),
+        Piece::Frame(..) => Ok(()),
+    }
+}
+
 impl FrameTable {
     /// The table of a film.
     pub fn make(alloc: Global, film: &Film) -> Result<FrameTable, NoMemory>
         ensures { IfOk result (λ table. IsTableOf film.now table) }
     {
         let mut table = FrameTable::new(alloc)?;
+        let mut packets = Vec::new(alloc);
         for number in 0..film.units.len() {
-            table.put_unit(alloc, film, number)?;
+            table.put_unit(&mut packets, film, number)?;
         }
         Ok(table)
     }
@@ -74,12 +86,11 @@ impl FrameTable {
     {
         let mut table = FrameTable {
             places: Vec::new(alloc),
-            frames: Vec::new(alloc),
             rows: Vec::new(alloc),
+            reports: Vec::new(alloc),
             firsts: Vec::new(alloc),
         };
         push(&mut table.places, 0)?;
-        push(&mut table.frames, 0)?;
         push(&mut table.firsts, 0)?;
         Ok(table)
     }
@@ -95,16 +106,15 @@ impl FrameTable {
     {
         let last = self.rows.len();
         let end = self.places[last] + wire_of(&piece);
-        let count = self.frames[last] + count_of(&piece);
         push(&mut self.places, end)?;
-        push(&mut self.frames, count)?;
+        add_report(&mut self.reports, last as u64, &piece)?;
         match self.rows.push(Row::new(number, &piece)) {
             Ok(()) => Ok(()),
             Err(_) => Err(NoMemory),
         }
     }
 
-    /// Appends the report of a unit that starts a group, behind the units before it.
+    /// Appends the report of a unit that starts a group, after the units before it.
     fn put_report(&mut self, film: &Film, number: usize) -> Result<(), NoMemory>
         requires within { number < length film.now.units.items }
         requires table { HasPieces film.now (front_pieces film.now number) self.old }
@@ -119,7 +129,7 @@ impl FrameTable {
         Ok(())
     }
 
-    /// Appends the frames of a unit, behind the units before it and its report.
+    /// Appends the frames of a unit, after the units before it and its report.
     fn put_frames(&mut self, film: &Film, number: usize, packets: &[Packet]) -> Result<(), NoMemory>
         requires within { number < length film.now.units.items }
         requires packets { OfUnit film.now.units.items number (λ u. packets.now ≡ unit_packets film.now.slice_starts.items u) }
@@ -135,8 +145,13 @@ impl FrameTable {
         Ok(())
     }
 
-    /// Appends the pieces of a unit, behind the units before it.
-    fn put_unit(&mut self, alloc: Global, film: &Film, number: usize) -> Result<(), NoMemory>
+    /// Appends the pieces of a unit, after the units before it. Its packets are written into the list.
+    fn put_unit(
+        &mut self,
+        packets: &mut Vec<Packet>,
+        film: &Film,
+        number: usize,
+    ) -> Result<(), NoMemory>
         requires within { number < length film.now.units.items }
         requires table { HasPieces film.now (front_pieces film.now number) self.old }
         requires firsts { AreFirsts film.now.slice_starts.items film.now.units.items number self.old.firsts.items }
@@ -144,9 +159,9 @@ impl FrameTable {
         ensures firsts { OnOk result
             (AreFirsts film.now.slice_starts.items film.now.units.items (number + 1) self.new.firsts.items) }
     {
-        let packets = packets(alloc, film, number)?;
+        refill_packets(packets, film, number)?;
         self.put_report(film, number)?;
-        self.put_frames(film, number, &packets)?;
+        self.put_frames(film, number, packets)?;
         let pieces = self.rows.len() as u64;
         push(&mut self.firsts, pieces)
     }
@@ -176,12 +191,11 @@ impl FrameTable {
         &self.places[from..to]
     }
 
-    /// How many frames come before a piece.
-    pub(crate) fn frames(&self, piece: usize) -> u64
-        requires { piece < length self.now.frames.items }
-        ensures { result ≡ get_or self.now.frames.items piece 0 }
+    /// The numbers of the pieces that are reports.
+    pub(crate) fn reports(&self) -> &[u64]
+        ensures { result.now ≡ self.now.reports.items }
     {
-        self.frames[piece]
+        &self.reports
     }
 
     /// What a piece is.

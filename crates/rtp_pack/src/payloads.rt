@@ -40,11 +40,7 @@ pub fn packets(alloc: Global, film: &Film, unit: usize) -> Result<Vec<Packet>, N
 
 /// The packets of a unit of the film, in order, in place of those that the list has. It takes memory
 /// only where they are more than the list had room for.
-pub fn refill_packets(
-    packets: &mut Vec<Packet>,
-    film: &Film,
-    unit: usize,
-) -> Result<(), NoMemory>
+pub fn refill_packets(packets: &mut Vec<Packet>, film: &Film, unit: usize) -> Result<(), NoMemory>
     requires { unit < length film.now.units.items }
     ensures { OfUnit film.now.units.items unit
         (λ u. OnOk result (packets.new.items ≡ unit_packets film.now.slice_starts.items u)) }

@@ -2,7 +2,7 @@ use Rattle.std.proofs.Common.{◌≡◌, ◌-◌, sym, ap, ◌∙◌, Some, arit
 use Rattle.std.proofs.lemmas.Option.{get_or_from_slice_get, slice_get_within}
 use Rattle.mpeg_scan.specs.declared.units.Unit.{Unit as PictureUnit}
 use Rattle.film_frames.specs.declared.pieces.Piece.{Piece}
-use Rattle.film_frames.specs.Pieces.{unit_of, wire_of}
+use Rattle.film_frames.specs.Pieces.{from_of, unit_of, wire_of}
 use Rattle.film_frames.specs.Tables.{row_piece}
 use Rattle.film_frames.proofs.TableLemmas.{film-short, read-back, row-within, wire-least}
 use Rattle.film_frames.proofs.stores.Stored.piece.Goals as goal
@@ -29,7 +29,7 @@ pub piece-requires-clause-most : goal.piece-requires-clause-most
 piece-requires-clause-most c = λ frame.
     let film = c.args.self.now.film in
     let back = read-back film c.args.self.now.table c.args.number c.row-row.result c.place-2.result c.place.result c.args.self.now.table_is c.requires c.row-row.ensures c.place-2.ensures c.place.ensures in
-    omega (arith, back.size, film-short film, row-within film c.row-row.result back.piece back.is_row back.sound frame)
+    omega (arith, back.size, film-short film, c.payload_from-from.ensures back.piece back.at, row-within film c.row-row.result back.piece back.is_row back.sound frame)
 
 pub returns : goal.returns
 returns c =
@@ -42,5 +42,9 @@ returns c =
     let number = c.unit.ensures in cc in
     let size : c.place.result - c.place-2.result ≡ wire_of back.piece = omega (arith, back.size) in
     let same : c.piece.result ≡ back.piece =
-    c.piece.ensures ∙ ap (λ (u : PictureUnit). row_piece row u (c.place.result - c.place-2.result)) unit ∙ ap (λ n. row_piece row (unit_of back.piece) n) size ∙ back.is_row.piece_is in
+    c.piece.ensures
+    ∙ ap (λ (u : PictureUnit). row_piece row u c.payload_from-from.result (c.place.result - c.place-2.result)) unit
+    ∙ ap (λ n. row_piece row (unit_of back.piece) n (c.place.result - c.place-2.result)) (c.payload_from-from.ensures back.piece back.at)
+    ∙ ap (λ n. row_piece row (unit_of back.piece) (from_of back.piece) n) size
+    ∙ back.is_row.piece_is in
     back.at ∙ ap (λ (p : Piece). Some p) (sym same)
