@@ -1,17 +1,18 @@
 -- Boundaries as numbers, and what a step keeps.
-use Rattle.std.proofs.Common.{◌≡◌, ℕ, zero, suc, ◌+◌, ◌-◌, ◌<◌, ◌≤◌, List, [], ◌∷◌, length, take, sum, min, max, drop, Option, Bool, true, false, eqb, cond, refl, sym, ap, subst, ◌∙◌, arith, inl, inr}
+use Rattle.std.proofs.Common.{◌≡◌, ℕ, zero, suc, ◌+◌, ◌-◌, ◌^◌, ◌<◌, ◌≤◌, List, [], ◌∷◌, length, take, sum, min, max, drop, Option, Bool, true, false, eqb, cond, refl, sym, ap, subst, ◌∙◌, arith, inl, inr}
 use Rattle.std.proofs.lemmas.List.{length-append, length-take, take-take}
 use Rattle.std.proofs.lemmas.List.Concat.{flat_map-cons}
 use Rattle.std.proofs.lemmas.List.Sums.{sum_by-take-le}
 use Rattle.std.proofs.lemmas.Bool.{cases_lt, eqb-true, eqb-false}
 use Rattle.film_frames.specs.Tracks.{framed, begin_of, IsBoundary, IsBoundaryAfter}
-use Rattle.film_frames.proofs.TrackLemmas.{boundary-zero}
+use Rattle.film_frames.proofs.TrackLemmas.{boundary-zero, begin-all}
 use Rattle.plan_cert.specs.declared.Segment.{Segment}
-use Rattle.plan_cert.specs.Slots.{plan_slots}
+use Rattle.plan_cert.specs.Plan.{IsPlan}
+use Rattle.plan_cert.specs.Slots.{plan_slots, total_bytes}
 use Rattle.vod_base.specs.Links.{Doing, told_more, sends}
 use Rattle.pacer.specs.Boundaries.{boundary_from, bytes_between}
 use Rattle.pacer.specs.Sending.{HasStopped}
-use Rattle.pacer.specs.Pacings.{Pacing, pacing_of, first_slots, raised, step_end}
+use Rattle.pacer.specs.Pacings.{IsPacing, Pacing, pacing_of, first_slots, raised, step_end}
 use Rattle.pacer.specs.Steps.{HasFailed}
 
 begin-cons : (piece : List ℕ) (pieces : List (List ℕ)) (k : ℕ) → begin_of (piece ∷ pieces) (suc k) ≡ length piece + begin_of pieces k
@@ -113,3 +114,22 @@ step-failed stop slot old pieces before plan start keep passed due sent to whole
       told = stopped.told ∙ ap (λ (l : List ℕ). told_more told_old (sends l)) cut
           ∙ ap (λ (p : Pacing). told_more told_old (sends (bytes_between p.pieces (p.before + p.sent) (p.before + (sent + stopped.out))))) are;
     }
+
+-- ---- a pacing in which nothing was stepped
+
+pub new-pacing : (pieces : List (List ℕ)) (before : ℕ) (plan : List Segment) (start total : ℕ) → IsBoundary pieces before → before + total_bytes plan ≡ length (framed pieces)
+    → total ≡ length (framed pieces) → total < 2 ^ 64 → IsPlan plan → IsPacing (pacing_of pieces before plan start (total - before) 0 0 0) × (total ≡ length (framed pieces))
+new-pacing pieces before plan start total begins whole total_is short is =
+    let end : before + (total - before) ≡ length (framed pieces) = omega (arith, whole, total_is) in (
+      record {
+        plan = is;
+        whole = whole;
+        short = omega (arith, total_is, short);
+        begins = begins;
+        ends = subst (λ n. IsBoundary pieces n) (sym end) ((record { number = length pieces; among = omega arith; place_is = sym (begin-all pieces) }));
+        most = omega (arith, whole, total_is);
+        due = omega arith;
+        sent = omega arith;
+      },
+      total_is,
+    )

@@ -20,7 +20,7 @@ sends-more old middle new a b first then =
     then ∙ ap (λ (t : Option (List Doing)). told_more t (sends b)) first ∙ told-more-twice old (sends a) (sends b)
     ∙ ap (λ (l : List Doing). told_more old l) (sym (map-append Sent a b))
 
--- the first bytes of two texts, one behind the other
+-- the first bytes of two texts, one after the other
 pub take-both : (most : ℕ) (a b c d : List ℕ) → c ≡ take most a → d ≡ take (most - length c) b → take most (a ++ b) ≡ c ++ d
 take-both most a b c d first then =
     elim (cases_lt (length a) most) [

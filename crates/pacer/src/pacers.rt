@@ -7,7 +7,7 @@ ghost use Rattle.pacer.specs.Pacings.{slots_through};
 
 use crate::sending::{Stopped, send_between};
 use film_frames::Track;
-use plan_cert::Plan;
+use plan_cert::{Plan, PlanCursor};
 use std::marker::Model;
 use vod_base::{Link, LinkFault};
 
@@ -28,7 +28,8 @@ pub struct Pacer<T: Track> {
     total: u64,
     /// The place in the track of the plan's first byte.
     before: u64,
-    plan: Plan,
+    /// The plan, read from the slot on that was stepped last.
+    cursor: PlanCursor,
     start: u64,
     keep: u64,
     /// The plan's last slot that was stepped.
@@ -44,9 +45,9 @@ impl<T: Track> Model for Pacer<T> {
 
     ghost Value = { Pacing };
 
-    ghost view = { λ p. pacing_of (T.pieces p.track) p.before p.plan p.start p.keep (slots_through p.last) p.due p.sent };
+    ghost view = { λ p. pacing_of (T.pieces p.track) p.before p.cursor p.start p.keep (slots_through p.last) p.due p.sent };
 
-    ghost invariant = { λ p. IsPacing (pacing_of (T.pieces p.track) p.before p.plan p.start p.keep (slots_through p.last) p.due p.sent) × (p.total ≡ length (framed (T.pieces p.track))) };
+    ghost invariant = { λ p. IsPacing (pacing_of (T.pieces p.track) p.before p.cursor p.start p.keep (slots_through p.last) p.due p.sent) × (p.total ≡ length (framed (T.pieces p.track))) };
 }
 
 /// The later of two slots of a plan, where the first may be none.
@@ -72,11 +73,13 @@ impl<T: Track> Pacer<T> {
         ensures { result ≡ whole_pacing (T.pieces track) sent_before plan start }
     {
         let total = track.total();
+        // Its clause is what holds of every plan.
+        let _segments = plan.segments();
         Pacer {
             track,
             total,
             before: sent_before,
-            plan,
+            cursor: PlanCursor::new(plan),
             start,
             keep: total - sent_before,
             last: None,
@@ -93,7 +96,7 @@ impl<T: Track> Pacer<T> {
             return;
         }
         let number = slot - self.start;
-        let reached = self.plan.sum_at(number).min(self.keep);
+        let reached = self.cursor.sum_at(number).min(self.keep);
         self.last = later(self.last, number);
         self.due = self.due.max(reached);
     }
@@ -226,13 +229,13 @@ impl<T: Track> Pacer<T> {
             track,
             total: _,
             before: _,
-            plan,
+            cursor,
             start: _,
             keep: _,
             last: _,
             due: _,
             sent: _,
         } = self;
-        (track, plan)
+        (track, cursor.into_plan())
     }
 }

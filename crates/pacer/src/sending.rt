@@ -37,7 +37,7 @@ fn send_some<K: Link>(bytes: &[u8], link: &mut K) -> Result<(), LinkFault>
     link.send(bytes)
 }
 
-/// Sends the first `most` bytes of a head and the payload behind it, in a send for each of the two that has some of them. It
+/// Sends the first `most` bytes of a head and the payload after it, in a send for each of the two that has some of them. It
 /// answers how many they were.
 fn send_part<K: Link>(head: &[u8], payload: &[u8], most: u64, link: &mut K) -> Result<u64, Stopped>
     requires { length head.now ≤ 52 }

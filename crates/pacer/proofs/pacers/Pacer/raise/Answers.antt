@@ -1,15 +1,23 @@
-use Rattle.std.proofs.Common.{◌≡◌, ◌+◌, ◌-◌, ℕ, ap, sym, ◌∙◌, min, max, arith}
-use Rattle.pacer.specs.Pacings.{slots_through, first_slots}
+use Rattle.std.proofs.Common.{◌≡◌, ◌+◌, ◌-◌, ℕ, List, length, ap, sym, subst, ◌∙◌, min, max, arith}
+use Rattle.film_frames.specs.Tracks.{framed}
+use Rattle.plan_cert.specs.declared.Segment.{Segment}
+use Rattle.pacer.specs.Pacings.{IsPacing, first_slots, pacing_of, slots_through}
 use Rattle.pacer.proofs.PacingLemmas.{due-of-both}
 use Rattle.pacer.proofs.pacers.Pacer.raise.Goals as goal
 
 pub invariant_of-self : goal.invariant_of-self
 invariant_of-self g c =
     let is = c.self.invariant.0 in
-    let number : ℕ = c.args.slot - c.self.inside.start + 1 in
-    let both = due-of-both c.self.inside.plan (slots_through c.self.inside.last) number c.self.inside.keep c.self.inside.due is.due in
-    let due : c.max-self-inside.result ≡ min (first_slots c.self.inside.plan (slots_through c.later-self-inside.result)) c.self.inside.keep =
-    c.max-self-inside.ensures ∙ ap (λ n. max c.self.inside.due n) (c.min-reached.ensures ∙ ap (λ n. min n c.self.inside.keep) c.sum_at.ensures) ∙ both ∙ ap (λ n. min (first_slots c.self.inside.plan n) c.self.inside.keep) (sym c.later-self-inside.ensures) in (
+    let old = c.self.inside in
+    let pieces = g.T.Track.pieces old.track in
+    let number : ℕ = c.args.slot - old.start + 1 in
+    let both = due-of-both old.cursor (slots_through old.last) number old.keep old.due is.due in
+    let due : c.max-self-inside.result ≡ min (first_slots old.cursor (slots_through c.later-self-inside.result)) old.keep =
+    c.max-self-inside.ensures ∙ ap (λ n. max old.due n) (c.min-reached.ensures ∙ ap (λ n. min n old.keep) c.sum_at.ensures.value) ∙ both ∙ ap (λ n. min (first_slots old.cursor n) old.keep) (sym c.later-self-inside.ensures) in
+    let P : List Segment → Type 0 = λ plan.
+    IsPacing (pacing_of pieces old.before plan old.start old.keep (slots_through c.later-self-inside.result) c.max-self-inside.result old.sent)
+    × (old.total ≡ length (framed pieces)) in
+    subst P (sym c.sum_at.ensures.plan) (
       record {
         plan = is.plan;
         whole = is.whole;
