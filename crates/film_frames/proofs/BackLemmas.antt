@@ -14,12 +14,12 @@ use Rattle.film_frames.specs.declared.pieces.Piece.{Piece}
 use Rattle.film_frames.specs.declared.pieces.Piece.TheVariants.{Report, Frame}
 use Rattle.film_frames.specs.Laws.{frames_among, payloads, run_frames}
 use Rattle.film_frames.specs.Pieces.{octets_of, pieces_of, unit_pieces, unit_reports, wire_in, wire_size}
-use Rattle.film_frames.specs.Runs.{Run, numbered, payload, piece_bytes, run_of, run_pieces, sent}
+use Rattle.film_frames.specs.Runs.{Run, blocks_from, payload, piece_bytes, run_of, run_pieces, pieces_in}
 use Rattle.film_frames.specs.Tracks.{framed}
 use Rattle.film_frames.proofs.TrackLemmas.{begin-all}
 use Rattle.film_frames.proofs.PieceLemmas.{AreSound, cover-le, pieces-cons, unit-le}
 use Rattle.film_frames.proofs.FilmLemmas.{film-from, film-in_order, laid-film, units-wire}
-use Rattle.film_frames.proofs.RunLemmas.{numbered-count}
+use Rattle.film_frames.proofs.RunLemmas.{blocks_from-count}
 use Rattle.film_frames.proofs.SentLemmas.{IsRun, between, run-begin}
 
 -- ---- the bytes that pieces carry
@@ -29,12 +29,12 @@ carried film [] = []
 carried film (Report unit ∷ pieces) = carried film pieces
 carried film (Frame unit p ∷ pieces) = payload film p ++ carried film pieces
 
-frames-carry : (run : Run) (frames octets : ℕ) (pieces : List Piece) → payloads (frames_among pieces (numbered run frames octets pieces)) ≡ carried run.film pieces
+frames-carry : (run : Run) (frames octets : ℕ) (pieces : List Piece) → payloads (frames_among pieces (blocks_from run frames octets pieces)) ≡ carried run.film pieces
 unfolding carried
 frames-carry run frames octets [] = refl
 frames-carry run frames octets (Report unit ∷ pieces) = frames-carry run (frames + 0) (octets + 0) pieces
 frames-carry run frames octets (Frame unit p ∷ pieces) =
-    flat_map-cons (λ (frame : List ℕ). drop 20 frame) (piece_bytes run frames octets (Frame unit p)) (frames_among pieces (numbered run (frames + 1) (octets + octets_of (Frame unit p)) pieces))
+    flat_map-cons (λ (frame : List ℕ). drop 20 frame) (piece_bytes run frames octets (Frame unit p)) (frames_among pieces (blocks_from run (frames + 1) (octets + octets_of (Frame unit p)) pieces))
     ∙ ap (λ (l : List ℕ). payload run.film p ++ l) (frames-carry run (frames + 1) (octets + octets_of (Frame unit p)) pieces)
 
 carried-append : (film : List ℕ) (xs ys : List Piece) → carried film (xs ++ ys) ≡ carried film xs ++ carried film ys
@@ -139,12 +139,12 @@ comes-back film first_unit end_unit identity first last order first_at last_at =
     let count : suc n ≡ end_unit - first_unit = omega (arith, order) in
     let P : ℕ → Type 0 = λ m. AreChained first.from (take m (drop first_unit units)) last.to in
     let laid = laid-take end starts (drop first_unit units) (end_unit - first_unit) (laid-drop end starts units first_unit (laid-film film)) in
-    frames-carry run 0 0 (sent run) ∙ units-carry film.bytes.items starts end run.units first.from last.to laid (subst P count part)
+    frames-carry run 0 0 (pieces_in run) ∙ units-carry film.bytes.items starts end run.units first.from last.to laid (subst P count part)
 
 -- ---- the bytes of a run
 
 pub run-sum : (film : Film) (first_unit end_unit : ℕ) (identity : Identity) → first_unit ≤ end_unit → end_unit ≤ length film.units.items
-    → AreSound film.bytes.items (sent (run_of film first_unit end_unit identity))
+    → AreSound film.bytes.items (pieces_in (run_of film first_unit end_unit identity))
     × (length (framed (run_pieces (run_of film first_unit end_unit identity)))
     ≡ sum (map (λ u. wire_size film.slice_starts.items u) (take (end_unit - first_unit) (drop first_unit film.units.items))))
 run-sum film first_unit end_unit identity order within =
@@ -157,6 +157,6 @@ run-sum film first_unit end_unit identity order within =
       (between film first_unit end_unit identity run is).sound,
       sym (begin-all (run_pieces run))
           ∙ run-begin film first_unit end_unit identity run n is
-          ∙ ap (λ (l : List Piece). wire_in l) (take_all n (sent run) (omega (arith, numbered-count run 0 0 (sent run))))
+          ∙ ap (λ (l : List Piece). wire_in l) (take_all n (pieces_in run) (omega (arith, blocks_from-count run 0 0 (pieces_in run))))
           ∙ units-wire end starts run.units laid,
     )

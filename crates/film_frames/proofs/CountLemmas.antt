@@ -10,10 +10,10 @@ use Rattle.film_frames.specs.declared.pieces.Piece.TheVariants.{Report, Frame}
 use Rattle.rtp_pack.specs.Reports.{report_bytes, unit_report}
 use Rattle.film_frames.specs.Laws.{AreBlocks, IsBlock, HasPieceSize, HaveSizes, frames_among, sequence_of}
 use Rattle.film_frames.specs.Pieces.{count_of, frames_in, octets_of, wire_of}
-use Rattle.film_frames.specs.Runs.{HaveEnded, Run, ended, interleaved, numbered, payload, piece_bytes, run_pieces, sent}
+use Rattle.film_frames.specs.Runs.{HaveEnded, Run, count_ended, interleaved, blocks_from, payload, piece_bytes, run_pieces, pieces_in}
 use Rattle.film_frames.specs.Tables.{IsSound}
 use Rattle.film_frames.proofs.PieceLemmas.{AreSound, sound-at}
-use Rattle.film_frames.proofs.RunLemmas.{begin-cons, begin-next, numbered-at, numbered-count, piece-length}
+use Rattle.film_frames.proofs.RunLemmas.{begin-cons, begin-next, blocks_from-at, blocks_from-count, piece-length}
 
 -- ---- sequence numbers
 
@@ -25,8 +25,8 @@ frame-sequence run frames octets (Report unit) frame = cc
 frame-sequence run frames octets (Frame unit p) frame =
     head-sequence run.identity.channel (packet_head run.identity (picture_time run.rate) unit p frames) (payload run.film p) (omega arith)
 
-pub counts-on : (run : Run) (frames octets : ℕ) (pieces : List Piece) (k : ℕ) → k < length (frames_among pieces (numbered run frames octets pieces))
-    → sequence_of (get_or (frames_among pieces (numbered run frames octets pieces)) k []) ≡ (run.identity.sequence + (frames + k)) % 2 ^ 16
+pub counts-on : (run : Run) (frames octets : ℕ) (pieces : List Piece) (k : ℕ) → k < length (frames_among pieces (blocks_from run frames octets pieces))
+    → sequence_of (get_or (frames_among pieces (blocks_from run frames octets pieces)) k []) ≡ (run.identity.sequence + (frames + k)) % 2 ^ 16
 counts-on run frames octets [] k h = absurd (omega (arith, h))
 counts-on run frames octets (Report unit ∷ pieces) k h =
     let next : frames + 0 + k ≡ frames + k = omega arith in
@@ -38,7 +38,7 @@ counts-on run frames octets (Frame unit p ∷ pieces) (suc k) h =
     let next : frames + 1 + k ≡ frames + suc k = omega arith in
     counts-on run (frames + 1) (octets + octets_of (Frame unit p)) pieces k (omega (arith, h)) ∙ ap (λ n. (run.identity.sequence + n) % 2 ^ 16) next
 
-pub frames-count : (run : Run) (frames octets : ℕ) (pieces : List Piece) → length (frames_among pieces (numbered run frames octets pieces)) ≡ frames_in pieces
+pub frames-count : (run : Run) (frames octets : ℕ) (pieces : List Piece) → length (frames_among pieces (blocks_from run frames octets pieces)) ≡ frames_in pieces
 frames-count run frames octets [] = refl
 frames-count run frames octets (Report unit ∷ pieces) = omega (arith, frames-count run (frames + 0) (octets + 0) pieces, sum_by-cons count_of (Report unit) pieces)
 frames-count run frames octets (Frame unit p ∷ pieces) =
@@ -50,14 +50,14 @@ piece-size : (film : List ℕ) (piece : Piece) → IsSound film piece → HasPie
 piece-size film (Report unit) sound = refl
 piece-size film (Frame unit p) sound = (omega arith, (omega (arith, sound.some), omega (arith, sound.short)))
 
-pub have-sizes : (run : Run) → AreSound run.film (sent run) → HaveSizes (sent run) (run_pieces run)
+pub have-sizes : (run : Run) → AreSound run.film (pieces_in run) → HaveSizes (pieces_in run) (run_pieces run)
 have-sizes run sound = record {
-  count = numbered-count run 0 0 (sent run);
+  count = blocks_from-count run 0 0 (pieces_in run);
   each = λ k piece at.
-      let its = sound-at run.film (sent run) k piece at sound in
-      let bytes = numbered-at run 0 0 (sent run) k piece at in
+      let its = sound-at run.film (pieces_in run) k piece at sound in
+      let bytes = blocks_from-at run 0 0 (pieces_in run) k piece at in
       let long : length (get_or (run_pieces run) k []) ≡ wire_of piece =
-      ap (λ (l : List ℕ). length l) bytes ∙ piece-length run (0 + frames_in (take k (sent run))) _ piece its in
+      ap (λ (l : List ℕ). length l) bytes ∙ piece-length run (0 + frames_in (take k (pieces_in run))) _ piece its in
       subst (λ n. HasPieceSize piece n) (sym long) (piece-size run.film piece its);
 }
 
@@ -72,26 +72,26 @@ piece-block run frames octets (Report unit) =
 piece-block run frames octets (Frame unit p) =
     block-is run.identity.channel (head_bytes (packet_head run.identity (picture_time run.rate) unit p frames) ++ payload run.film p)
 
-pub are-blocks : (run : Run) (frames octets : ℕ) (pieces : List Piece) → AreBlocks (numbered run frames octets pieces)
+pub are-blocks : (run : Run) (frames octets : ℕ) (pieces : List Piece) → AreBlocks (blocks_from run frames octets pieces)
 are-blocks run frames octets [] k h = absurd (omega (arith, h))
 are-blocks run frames octets (piece ∷ pieces) zero h = piece-block run frames octets piece
 are-blocks run frames octets (piece ∷ pieces) (suc k) h = are-blocks run (frames + count_of piece) (octets + octets_of piece) pieces k (omega (arith, h))
 
 -- ---- what has ended
 
-pub ended-have : (pieces : List (List ℕ)) (at : ℕ) → HaveEnded pieces at (ended at pieces)
-ended-have [] at = record { among = omega arith; last = omega arith; next = λ h. absurd (omega (arith, h)) }
-ended-have (piece ∷ pieces) at =
+pub count_ended-have : (pieces : List (List ℕ)) (at : ℕ) → HaveEnded pieces at (count_ended at pieces)
+count_ended-have [] at = record { among = omega arith; last = omega arith; next = λ h. absurd (omega (arith, h)) }
+count_ended-have (piece ∷ pieces) at =
     elim (cases_lt at (length piece)) [
       | inl l ↦
-          let none : 0 ≡ ended at (piece ∷ pieces) = sym (ap (λ b. cond b (ended (at - length piece) pieces + 1) 0) (lt-leb (length piece) at l)) in
+          let none : 0 ≡ count_ended at (piece ∷ pieces) = sym (ap (λ b. cond b (count_ended (at - length piece) pieces + 1) 0) (lt-leb (length piece) at l)) in
           let P : ℕ → Type 0 = λ n. HaveEnded (piece ∷ pieces) at n in
           subst P none (record { among = omega arith; last = omega arith; next = λ h. omega (arith, l, begin-cons piece pieces 0) })
       | inr g ↦
-          let rest = ended-have pieces (at - length piece) in
-          let n = ended (at - length piece) pieces in
+          let rest = count_ended-have pieces (at - length piece) in
+          let n = count_ended (at - length piece) pieces in
           let one : suc n ≡ n + 1 = omega arith in
-          let more : suc n ≡ ended at (piece ∷ pieces) = one ∙ sym (ap (λ b. cond b (ended (at - length piece) pieces + 1) 0) (le-leb (length piece) at g)) in
+          let more : suc n ≡ count_ended at (piece ∷ pieces) = one ∙ sym (ap (λ b. cond b (count_ended (at - length piece) pieces + 1) 0) (le-leb (length piece) at g)) in
           let P : ℕ → Type 0 = λ n. HaveEnded (piece ∷ pieces) at n in
           subst P more (record {
             among = omega (arith, rest.among);

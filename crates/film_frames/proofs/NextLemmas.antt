@@ -7,15 +7,15 @@ use Rattle.rtp_pack.specs.declared.payloads.Packet.{Packet}
 use Rattle.film_frames.specs.declared.pieces.Piece.{Piece}
 use Rattle.film_frames.specs.Pieces.{frames_in, octets_in, wire_of}
 use Rattle.film_frames.specs.Tables.{IsSound}
-use Rattle.film_frames.specs.Runs.{HaveEnded, Run, payload, piece_bytes, run_pieces, sent}
+use Rattle.film_frames.specs.Runs.{HaveEnded, Run, payload, piece_bytes, run_pieces, pieces_in}
 use Rattle.film_frames.specs.Tracks.{IsBoundary, IsBoundaryAfter, IsNext, begin_of, framed}
 use Rattle.film_frames.proofs.TrackLemmas.{begin-all, begin-le, begin-more, next-found}
-use Rattle.film_frames.proofs.RunLemmas.{numbered-at, piece-length}
+use Rattle.film_frames.proofs.RunLemmas.{blocks_from-at, piece-length}
 
 -- ---- where a place lies
 
-pub ended-within : (pieces : List (List ℕ)) (at k : ℕ) → HaveEnded pieces at k → at < length (framed pieces) → k < length pieces
-ended-within pieces at k have within =
+pub count_ended-within : (pieces : List (List ℕ)) (at k : ℕ) → HaveEnded pieces at k → at < length (framed pieces) → k < length pieces
+count_ended-within pieces at k have within =
     elim (cases_lt k (length pieces)) [
       | inl l ↦ l
       | inr g ↦
@@ -23,9 +23,9 @@ ended-within pieces at k have within =
           absurd (omega (arith, last, begin-all pieces, have.last, within))
     ]
 
-pub boundary-ended : (pieces : List (List ℕ)) (at k place : ℕ) → HaveEnded pieces (at - 1) k → 0 < at → at ≤ length (framed pieces) → place ≡ begin_of pieces (k + 1) → IsBoundaryAfter pieces at place
-boundary-ended pieces at k place have some within is =
-    let inside = ended-within pieces (at - 1) k have (omega (arith, some, within)) in
+pub boundary-count_ended : (pieces : List (List ℕ)) (at k place : ℕ) → HaveEnded pieces (at - 1) k → 0 < at → at ≤ length (framed pieces) → place ≡ begin_of pieces (k + 1) → IsBoundaryAfter pieces at place
+boundary-count_ended pieces at k place have some within is =
+    let inside = count_ended-within pieces (at - 1) k have (omega (arith, some, within)) in
     record {
       boundary = record { number = k + 1; among = omega (arith, inside); place_is = is };
       after = omega (arith, have.next inside, is, some);
@@ -40,7 +40,7 @@ boundary-ended pieces at k place have some within is =
 pub rest-next : (pieces : List (List ℕ)) (at k : ℕ) (bytes : List ℕ) → HaveEnded pieces at k → at < length (framed pieces) → bytes ≡ drop (at - begin_of pieces k) (get_or pieces k [])
     → IsNext pieces at bytes × (at + length bytes ≡ begin_of pieces (k + 1))
 rest-next pieces at k bytes have within are =
-    let inside = ended-within pieces at k have within in
+    let inside = count_ended-within pieces at k have within in
     let more = begin-more pieces k inside in
     let next = have.next inside in
     let o = at - begin_of pieces k in
@@ -101,23 +101,23 @@ frame-part film block bytes p o low high long order within inside low_is high_is
 -- ---- the piece of a run in which a place lies
 
 pub record IsIn (run : Run) (at k : ℕ) (piece : Piece) : Type 0 where
-  pub bytes : get_or (run_pieces run) k [] ≡ piece_bytes run (frames_in (take k (sent run))) (octets_in (take k (sent run))) piece
+  pub bytes : get_or (run_pieces run) k [] ≡ piece_bytes run (frames_in (take k (pieces_in run))) (octets_in (take k (pieces_in run))) piece
   pub inside : at - begin_of (run_pieces run) k < wire_of piece
   pub ends : begin_of (run_pieces run) (k + 1) ≡ begin_of (run_pieces run) k + wire_of piece
   pub begins : begin_of (run_pieces run) k ≤ at
   pub number : k < length (run_pieces run)
 
-pub is-in : (run : Run) (at k : ℕ) (piece : Piece) → HaveEnded (run_pieces run) at k → at < length (framed (run_pieces run)) → slice_get (sent run) k ≡ Some piece → IsSound run.film piece → IsIn run at k piece
+pub is-in : (run : Run) (at k : ℕ) (piece : Piece) → HaveEnded (run_pieces run) at k → at < length (framed (run_pieces run)) → slice_get (pieces_in run) k ≡ Some piece → IsSound run.film piece → IsIn run at k piece
 is-in run at k piece have within found sound =
     let pieces = run_pieces run in
-    let number = ended-within pieces at k have within in
-    let frames : 0 + frames_in (take k (sent run)) ≡ frames_in (take k (sent run)) = omega arith in
-    let octets : 0 + octets_in (take k (sent run)) ≡ octets_in (take k (sent run)) = omega arith in
-    let bytes : get_or pieces k [] ≡ piece_bytes run (frames_in (take k (sent run))) (octets_in (take k (sent run))) piece =
-    numbered-at run 0 0 (sent run) k piece found
-    ∙ ap (λ n. piece_bytes run n (0 + octets_in (take k (sent run))) piece) frames
-    ∙ ap (λ n. piece_bytes run (frames_in (take k (sent run))) n piece) octets in
-    let long : length (get_or pieces k []) ≡ wire_of piece = ap (λ (l : List ℕ). length l) bytes ∙ piece-length run (frames_in (take k (sent run))) (octets_in (take k (sent run))) piece sound in
+    let number = count_ended-within pieces at k have within in
+    let frames : 0 + frames_in (take k (pieces_in run)) ≡ frames_in (take k (pieces_in run)) = omega arith in
+    let octets : 0 + octets_in (take k (pieces_in run)) ≡ octets_in (take k (pieces_in run)) = omega arith in
+    let bytes : get_or pieces k [] ≡ piece_bytes run (frames_in (take k (pieces_in run))) (octets_in (take k (pieces_in run))) piece =
+    blocks_from-at run 0 0 (pieces_in run) k piece found
+    ∙ ap (λ n. piece_bytes run n (0 + octets_in (take k (pieces_in run))) piece) frames
+    ∙ ap (λ n. piece_bytes run (frames_in (take k (pieces_in run))) n piece) octets in
+    let long : length (get_or pieces k []) ≡ wire_of piece = ap (λ (l : List ℕ). length l) bytes ∙ piece-length run (frames_in (take k (pieces_in run))) (octets_in (take k (pieces_in run))) piece sound in
     let more = begin-more pieces k number in
     record {
       bytes = bytes;

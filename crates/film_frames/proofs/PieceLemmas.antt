@@ -90,3 +90,10 @@ wire-append xs ys = sum_by-append wire_of xs ys
 
 pub pieces-cons : (starts : List ℕ) (unit : PictureUnit) (units : List PictureUnit) → pieces_of starts (unit ∷ units) ≡ unit_pieces starts unit ++ pieces_of starts units
 pieces-cons starts unit units = flat_map-cons (unit_pieces starts) unit units
+
+-- ---- how many there may be
+
+pub length-le-wire : (pieces : List Piece) → length pieces ≤ wire_in pieces
+length-le-wire [] = omega arith
+length-le-wire (Report unit ∷ pieces) = omega (arith, length-le-wire pieces, sum_by-cons wire_of (Report unit) pieces)
+length-le-wire (Frame unit p ∷ pieces) = omega (arith, length-le-wire pieces, sum_by-cons wire_of (Frame unit p) pieces)

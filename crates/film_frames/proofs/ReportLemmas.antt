@@ -6,18 +6,18 @@ use Rattle.film_frames.specs.declared.pieces.Piece.{Piece}
 use Rattle.film_frames.specs.declared.pieces.Piece.TheVariants.{Report, Frame}
 use Rattle.film_frames.specs.Laws.{AreOnChannels, DoReportsCount, channel_of}
 use Rattle.film_frames.specs.Pieces.{frames_in, octets_in}
-use Rattle.film_frames.specs.Runs.{Run, ended, frames_before, octets_before, piece_bytes, run_pieces, sent}
+use Rattle.film_frames.specs.Runs.{Run, count_ended, frames_before, octets_before, piece_bytes, run_pieces, pieces_in}
 use Rattle.film_frames.specs.Tracks.{begin_of}
-use Rattle.film_frames.proofs.RunLemmas.{ended-is, numbered-at, numbered-count}
+use Rattle.film_frames.proofs.RunLemmas.{count_ended-is, blocks_from-at, blocks_from-count}
 use Rattle.film_frames.proofs.TrackLemmas.{begin-more}
 
 -- where a report begins, the pieces before it have ended
-ended-before : (run : Run) (k : ℕ) (unit : PictureUnit) → slice_get (sent run) k ≡ Some (Report unit) → ended (begin_of (run_pieces run) k) (run_pieces run) ≡ k
-ended-before run k unit at =
+count_ended-before : (run : Run) (k : ℕ) (unit : PictureUnit) → slice_get (pieces_in run) k ≡ Some (Report unit) → count_ended (begin_of (run_pieces run) k) (run_pieces run) ≡ k
+count_ended-before run k unit at =
     let pieces = run_pieces run in
-    let within : k < length pieces = omega (arith, slice_get_within (sent run) k (Report unit) at, numbered-count run 0 0 (sent run)) in
-    let long : length (get_or pieces k []) ≡ 52 = ap (λ (l : List ℕ). length l) (numbered-at run 0 0 (sent run) k (Report unit) at) in
-    ended-is pieces (begin_of pieces k) k (record {
+    let within : k < length pieces = omega (arith, slice_get_within (pieces_in run) k (Report unit) at, blocks_from-count run 0 0 (pieces_in run)) in
+    let long : length (get_or pieces k []) ≡ 52 = ap (λ (l : List ℕ). length l) (blocks_from-at run 0 0 (pieces_in run) k (Report unit) at) in
+    count_ended-is pieces (begin_of pieces k) k (record {
       among = omega (arith, within);
       last = omega arith;
       next = λ h. omega (arith, begin-more pieces k within, long);
@@ -25,13 +25,13 @@ ended-before run k unit at =
 
 pub reports-count : (run : Run) → DoReportsCount run
 reports-count run = λ k unit at.
-    let before = sym (ended-before run k unit at) in
-    let f : 0 + frames_in (take k (sent run)) ≡ frames_in (take k (sent run)) = omega arith in
-    let o : 0 + octets_in (take k (sent run)) ≡ octets_in (take k (sent run)) = omega arith in
-    let frames : 0 + frames_in (take k (sent run)) ≡ frames_before run (begin_of (run_pieces run) k) = f ∙ ap (λ n. frames_in (take n (sent run))) before in
-    let octets : 0 + octets_in (take k (sent run)) ≡ octets_before run (begin_of (run_pieces run) k) = o ∙ ap (λ n. octets_in (take n (sent run))) before in
-    numbered-at run 0 0 (sent run) k (Report unit) at
-    ∙ ap (λ n. piece_bytes run n (0 + octets_in (take k (sent run))) (Report unit)) frames
+    let before = sym (count_ended-before run k unit at) in
+    let f : 0 + frames_in (take k (pieces_in run)) ≡ frames_in (take k (pieces_in run)) = omega arith in
+    let o : 0 + octets_in (take k (pieces_in run)) ≡ octets_in (take k (pieces_in run)) = omega arith in
+    let frames : 0 + frames_in (take k (pieces_in run)) ≡ frames_before run (begin_of (run_pieces run) k) = f ∙ ap (λ n. frames_in (take n (pieces_in run))) before in
+    let octets : 0 + octets_in (take k (pieces_in run)) ≡ octets_before run (begin_of (run_pieces run) k) = o ∙ ap (λ n. octets_in (take n (pieces_in run))) before in
+    blocks_from-at run 0 0 (pieces_in run) k (Report unit) at
+    ∙ ap (λ n. piece_bytes run n (0 + octets_in (take k (pieces_in run))) (Report unit)) frames
     ∙ ap (λ n. piece_bytes run (frames_before run (begin_of (run_pieces run) k)) n (Report unit)) octets
 
 -- ---- channels
@@ -42,5 +42,5 @@ piece-channel run frames octets (Frame unit p) = refl
 
 pub on-channels : (run : Run) → AreOnChannels run
 on-channels run = λ k piece at.
-    ap (λ (l : List ℕ). slice_index l 1) (numbered-at run 0 0 (sent run) k piece at)
-    ∙ piece-channel run (0 + frames_in (take k (sent run))) (0 + octets_in (take k (sent run))) piece
+    ap (λ (l : List ℕ). slice_index l 1) (blocks_from-at run 0 0 (pieces_in run) k piece at)
+    ∙ piece-channel run (0 + frames_in (take k (pieces_in run))) (0 + octets_in (take k (pieces_in run))) piece

@@ -12,25 +12,25 @@ use Rattle.film_frames.specs.declared.pieces.Piece.{Piece}
 use Rattle.film_frames.specs.declared.pieces.Piece.TheVariants.{Report, Frame}
 use Rattle.film_frames.specs.Laws.{DoHeadsReadBack}
 use Rattle.film_frames.specs.Pieces.{count_of, frames_in, octets_in, octets_of, pieces_of, unit_pieces, wire_size}
-use Rattle.film_frames.specs.Runs.{Run, numbered, payload, piece_bytes, run_of, run_pieces, sent}
+use Rattle.film_frames.specs.Runs.{Run, blocks_from, payload, piece_bytes, run_of, run_pieces, pieces_in}
 use Rattle.film_frames.specs.Tracks.{framed}
 use Rattle.film_frames.proofs.BackLemmas.{get-drop, run-sum}
-use Rattle.film_frames.proofs.RunLemmas.{numbered-at, numbered-count}
+use Rattle.film_frames.proofs.RunLemmas.{blocks_from-at, blocks_from-count}
 
 -- ---- a run's front is a run
 
 -- the bytes of pieces don't depend on the units of the run
-numbered-units : (run : Run) (units : List PictureUnit) (frames octets : ℕ) (pieces : List Piece) → numbered (record run { units = units }) frames octets pieces ≡ numbered run frames octets pieces
-numbered-units run units frames octets [] = refl
-numbered-units run units frames octets (Report unit ∷ pieces) =
-    ap (λ (l : List (List ℕ)). piece_bytes run frames octets (Report unit) ∷ l) (numbered-units run units (frames + 0) (octets + 0) pieces)
-numbered-units run units frames octets (Frame unit packet ∷ pieces) =
-    ap (λ (l : List (List ℕ)). piece_bytes run frames octets (Frame unit packet) ∷ l) (numbered-units run units (frames + 1) (octets + octets_of (Frame unit packet)) pieces)
+blocks_from-units : (run : Run) (units : List PictureUnit) (frames octets : ℕ) (pieces : List Piece) → blocks_from (record run { units = units }) frames octets pieces ≡ blocks_from run frames octets pieces
+blocks_from-units run units frames octets [] = refl
+blocks_from-units run units frames octets (Report unit ∷ pieces) =
+    ap (λ (l : List (List ℕ)). piece_bytes run frames octets (Report unit) ∷ l) (blocks_from-units run units (frames + 0) (octets + 0) pieces)
+blocks_from-units run units frames octets (Frame unit packet ∷ pieces) =
+    ap (λ (l : List (List ℕ)). piece_bytes run frames octets (Frame unit packet) ∷ l) (blocks_from-units run units (frames + 1) (octets + octets_of (Frame unit packet)) pieces)
 
-numbered-front : (run : Run) (frames octets : ℕ) (xs ys : List Piece) → take (length xs) (numbered run frames octets (xs ++ ys)) ≡ numbered run frames octets xs
-numbered-front run frames octets [] ys = refl
-numbered-front run frames octets (x ∷ xs) ys =
-    ap (λ (l : List (List ℕ)). piece_bytes run frames octets x ∷ l) (numbered-front run (frames + count_of x) (octets + octets_of x) xs ys)
+blocks_from-front : (run : Run) (frames octets : ℕ) (xs ys : List Piece) → take (length xs) (blocks_from run frames octets (xs ++ ys)) ≡ blocks_from run frames octets xs
+blocks_from-front run frames octets [] ys = refl
+blocks_from-front run frames octets (x ∷ xs) ys =
+    ap (λ (l : List (List ℕ)). piece_bytes run frames octets x ∷ l) (blocks_from-front run (frames + count_of x) (octets + octets_of x) xs ys)
 
 pieces-front : (starts : List ℕ) (units : List PictureUnit) (m n : ℕ) → m ≤ n → pieces_of starts (take n units) ≡ pieces_of starts (take m units) ++ pieces_of starts (drop m (take n units))
 pieces-front starts units m n order =
@@ -47,11 +47,11 @@ run-front film first_unit mid_unit end_unit identity order =
     let starts = film.slice_starts.items in
     let units = drop first_unit film.units.items in
     let rest = pieces_of starts (drop (mid_unit - first_unit) (take (end_unit - first_unit) units)) in
-    let pieces : sent whole ≡ sent front ++ rest = pieces-front starts units (mid_unit - first_unit) (end_unit - first_unit) (omega (arith, order)) in
-    ap (λ n. take n (run_pieces whole)) (numbered-count front 0 0 (sent front))
-    ∙ ap (λ (l : List Piece). take (length (sent front)) (numbered whole 0 0 l)) pieces
-    ∙ numbered-front whole 0 0 (sent front) rest
-    ∙ sym (numbered-units whole front.units 0 0 (sent front))
+    let pieces : pieces_in whole ≡ pieces_in front ++ rest = pieces-front starts units (mid_unit - first_unit) (end_unit - first_unit) (omega (arith, order)) in
+    ap (λ n. take n (run_pieces whole)) (blocks_from-count front 0 0 (pieces_in front))
+    ∙ ap (λ (l : List Piece). take (length (pieces_in front)) (blocks_from whole 0 0 l)) pieces
+    ∙ blocks_from-front whole 0 0 (pieces_in front) rest
+    ∙ sym (blocks_from-units whole front.units 0 0 (pieces_in front))
 
 -- ---- the bytes of a unit
 
@@ -101,8 +101,8 @@ head-by false sequence timestamp ssrc video rest s t r = search rules
 
 pub heads-back : (run : Run) → run.identity.ssrc < 2 ^ 32 → DoHeadsReadBack run
 heads-back run source = λ k unit packet is.
-    let frames = frames_in (take k (sent run)) in
+    let frames = frames_in (take k (pieces_in run)) in
     let head = packet_head run.identity (picture_time run.rate) unit packet frames in
     let none : 0 + frames ≡ frames = omega arith in
-    ap (λ (l : List ℕ). head_of (drop 4 l)) (numbered-at run 0 0 (sent run) k (Frame unit packet) is ∙ ap (λ n. piece_bytes run n (0 + octets_in (take k (sent run))) (Frame unit packet)) none)
+    ap (λ (l : List ℕ). head_of (drop 4 l)) (blocks_from-at run 0 0 (pieces_in run) k (Frame unit packet) is ∙ ap (λ n. piece_bytes run n (0 + octets_in (take k (pieces_in run))) (Frame unit packet)) none)
     ∙ head-by head.marker head.sequence head.timestamp head.ssrc head.video (payload run.film packet) (omega arith) (omega arith) source

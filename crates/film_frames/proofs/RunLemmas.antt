@@ -10,7 +10,7 @@ use Rattle.film_frames.specs.declared.pieces.Piece.{Piece}
 use Rattle.film_frames.specs.declared.pieces.Piece.TheVariants.{Report, Frame}
 use Rattle.film_frames.specs.Pieces.{count_of, frames_in, octets_in, octets_of, wire_in, wire_of}
 use Rattle.film_frames.specs.Tables.{IsSound}
-use Rattle.film_frames.specs.Runs.{HaveEnded, Run, ended, numbered, payload, piece_bytes}
+use Rattle.film_frames.specs.Runs.{HaveEnded, Run, count_ended, blocks_from, payload, piece_bytes}
 use Rattle.film_frames.specs.Tracks.{begin_of, framed}
 use Rattle.film_frames.proofs.PieceLemmas.{AreSound}
 use Rattle.film_frames.proofs.TrackLemmas.{AreEnds, begin-all, begin-le, begin-none}
@@ -24,36 +24,36 @@ pub piece-length : (run : Run) (frames octets : ℕ) (piece : Piece) → IsSound
 piece-length run frames octets (Report unit) sound = refl
 piece-length run frames octets (Frame unit p) sound = omega (arith, payload-length run.film p (omega (arith, sound.some)) sound.within)
 
-pub numbered-count : (run : Run) (frames octets : ℕ) (pieces : List Piece) → length (numbered run frames octets pieces) ≡ length pieces
-numbered-count run frames octets [] = refl
-numbered-count run frames octets (piece ∷ pieces) = ap suc (numbered-count run (frames + count_of piece) (octets + octets_of piece) pieces)
+pub blocks_from-count : (run : Run) (frames octets : ℕ) (pieces : List Piece) → length (blocks_from run frames octets pieces) ≡ length pieces
+blocks_from-count run frames octets [] = refl
+blocks_from-count run frames octets (piece ∷ pieces) = ap suc (blocks_from-count run (frames + count_of piece) (octets + octets_of piece) pieces)
 
-numbered-sum : (run : Run) (frames octets : ℕ) (pieces : List Piece) (k : ℕ) → AreSound run.film pieces → sum_by length (take k (numbered run frames octets pieces)) ≡ wire_in (take k pieces)
-numbered-sum run frames octets [] zero sound = refl
-numbered-sum run frames octets [] (suc k) sound = refl
-numbered-sum run frames octets (piece ∷ pieces) zero sound = refl
-numbered-sum run frames octets (piece ∷ pieces) (suc k) sound =
-    let rest = numbered-sum run (frames + count_of piece) (octets + octets_of piece) pieces k sound.1 in
-    sum_by-cons length (piece_bytes run frames octets piece) (take k (numbered run (frames + count_of piece) (octets + octets_of piece) pieces))
-    ∙ ap (λ n. n + sum_by length (take k (numbered run (frames + count_of piece) (octets + octets_of piece) pieces))) (piece-length run frames octets piece sound.0)
+blocks_from-sum : (run : Run) (frames octets : ℕ) (pieces : List Piece) (k : ℕ) → AreSound run.film pieces → sum_by length (take k (blocks_from run frames octets pieces)) ≡ wire_in (take k pieces)
+blocks_from-sum run frames octets [] zero sound = refl
+blocks_from-sum run frames octets [] (suc k) sound = refl
+blocks_from-sum run frames octets (piece ∷ pieces) zero sound = refl
+blocks_from-sum run frames octets (piece ∷ pieces) (suc k) sound =
+    let rest = blocks_from-sum run (frames + count_of piece) (octets + octets_of piece) pieces k sound.1 in
+    sum_by-cons length (piece_bytes run frames octets piece) (take k (blocks_from run (frames + count_of piece) (octets + octets_of piece) pieces))
+    ∙ ap (λ n. n + sum_by length (take k (blocks_from run (frames + count_of piece) (octets + octets_of piece) pieces))) (piece-length run frames octets piece sound.0)
     ∙ ap (λ n. wire_of piece + n) rest
     ∙ sym (sum_by-cons wire_of piece (take k pieces))
 
-pub numbered-begin : (run : Run) (frames octets : ℕ) (pieces : List Piece) (k : ℕ) → AreSound run.film pieces → begin_of (numbered run frames octets pieces) k ≡ wire_in (take k pieces)
-numbered-begin run frames octets pieces k sound =
-    length-flat_map (λ (p : List ℕ). p) (take k (numbered run frames octets pieces)) ∙ numbered-sum run frames octets pieces k sound
+pub blocks_from-begin : (run : Run) (frames octets : ℕ) (pieces : List Piece) (k : ℕ) → AreSound run.film pieces → begin_of (blocks_from run frames octets pieces) k ≡ wire_in (take k pieces)
+blocks_from-begin run frames octets pieces k sound =
+    length-flat_map (λ (p : List ℕ). p) (take k (blocks_from run frames octets pieces)) ∙ blocks_from-sum run frames octets pieces k sound
 
 -- the bytes of the piece of a number
-pub numbered-at : (run : Run) (frames octets : ℕ) (pieces : List Piece) (k : ℕ) (piece : Piece) → slice_get pieces k ≡ Some piece
-    → get_or (numbered run frames octets pieces) k [] ≡ piece_bytes run (frames + frames_in (take k pieces)) (octets + octets_in (take k pieces)) piece
-numbered-at run frames octets [] k piece at = cc
-numbered-at run frames octets (first ∷ pieces) zero piece at =
+pub blocks_from-at : (run : Run) (frames octets : ℕ) (pieces : List Piece) (k : ℕ) (piece : Piece) → slice_get pieces k ≡ Some piece
+    → get_or (blocks_from run frames octets pieces) k [] ≡ piece_bytes run (frames + frames_in (take k pieces)) (octets + octets_in (take k pieces)) piece
+blocks_from-at run frames octets [] k piece at = cc
+blocks_from-at run frames octets (first ∷ pieces) zero piece at =
     let same : first ≡ piece = cc in
     let f : frames ≡ frames + 0 = omega arith in
     let o : octets ≡ octets + 0 = omega arith in
     ap (λ p. piece_bytes run frames octets p) same ∙ ap (λ n. piece_bytes run n octets piece) f ∙ ap (λ n. piece_bytes run (frames + 0) n piece) o
-numbered-at run frames octets (first ∷ pieces) (suc k) piece at =
-    let rest = numbered-at run (frames + count_of first) (octets + octets_of first) pieces k piece at in
+blocks_from-at run frames octets (first ∷ pieces) (suc k) piece at =
+    let rest = blocks_from-at run (frames + count_of first) (octets + octets_of first) pieces k piece at in
     let f : frames + count_of first + frames_in (take k pieces) ≡ frames + frames_in (first ∷ take k pieces) = omega (arith, sum_by-cons count_of first (take k pieces)) in
     let o : octets + octets_of first + octets_in (take k pieces) ≡ octets + octets_in (first ∷ take k pieces) = omega (arith, sum_by-cons octets_of first (take k pieces)) in
     rest
@@ -76,9 +76,9 @@ frames-le (Frame unit p ∷ pieces) = omega (arith, frames-le pieces, sum_by-con
 
 -- ---- the pieces that have ended
 
-pub have-ended : (base : ℕ) (pieces : List (List ℕ)) (ends : List ℕ) (at upto k : ℕ) → AreEnds base pieces ends → k ≤ length ends → upto ≤ at → (upto < at → upto ≡ length (framed pieces))
+pub have-count_ended : (base : ℕ) (pieces : List (List ℕ)) (ends : List ℕ) (at upto k : ℕ) → AreEnds base pieces ends → k ≤ length ends → upto ≤ at → (upto < at → upto ≡ length (framed pieces))
     → ((j : ℕ) → j < k → get_or ends j 0 < base + upto + 1) → (k < length ends → base + upto + 1 ≤ get_or ends k 0) → HaveEnded pieces at k
-have-ended base pieces ends at upto k are among least cut below from = record {
+have-count_ended base pieces ends at upto k are among least cut below from = record {
   among = omega (arith, among, are.count);
   last = elim (cases_lt 0 k) [
     | inl l ↦
@@ -106,16 +106,16 @@ begin-next piece pieces k =
     ap (λ n. begin_of (piece ∷ pieces) n) next ∙ begin-cons piece pieces (k + 1)
 
 -- the count of them
-pub ended-is : (pieces : List (List ℕ)) (at count : ℕ) → HaveEnded pieces at count → ended at pieces ≡ count
-ended-is [] at count have = omega (arith, have.among)
-ended-is (piece ∷ pieces) at zero have =
+pub count_ended-is : (pieces : List (List ℕ)) (at count : ℕ) → HaveEnded pieces at count → count_ended at pieces ≡ count
+count_ended-is [] at count have = omega (arith, have.among)
+count_ended-is (piece ∷ pieces) at zero have =
     let before : at < length piece = omega (arith, have.next (omega arith), begin-cons piece pieces 0) in
-    ap (λ b. cond b (ended (at - length piece) pieces + 1) 0) (lt-leb (length piece) at before)
-ended-is (piece ∷ pieces) at (suc count) have =
+    ap (λ b. cond b (count_ended (at - length piece) pieces + 1) 0) (lt-leb (length piece) at before)
+count_ended-is (piece ∷ pieces) at (suc count) have =
     let here : length piece ≤ at = omega (arith, have.last, begin-cons piece pieces count) in
-    let rest = ended-is pieces (at - length piece) count (record {
+    let rest = count_ended-is pieces (at - length piece) count (record {
       among = omega (arith, have.among);
       last = omega (arith, have.last, begin-cons piece pieces count);
       next = λ h. omega (arith, have.next (omega (arith, h)), begin-next piece pieces count, here);
     }) in
-    ap (λ b. cond b (ended (at - length piece) pieces + 1) 0) (le-leb (length piece) at here) ∙ omega (arith, rest)
+    ap (λ b. cond b (count_ended (at - length piece) pieces + 1) 0) (le-leb (length piece) at here) ∙ omega (arith, rest)

@@ -2,20 +2,19 @@
 use Rattle.std.proofs.Common.{◌≡◌, ℕ, zero, suc, ◌+◌, ◌-◌, ◌^◌, ◌<◌, ◌≤◌, List, [], ◌∷◌, ◌++◌, append_assoc, length, take, drop, get_or, slice_get, refl, sym, ap, subst, ◌∙◌, arith, length-append}
 use Rattle.std.specs.List.{sum_by}
 use Rattle.std.proofs.lemmas.List.{drop-take, take-append-le, take_at}
-use Rattle.std.proofs.lemmas.List.Sums.{sum_by-append, sum_by-cons, sum_by-take-le}
+use Rattle.std.proofs.lemmas.List.Sums.{sum_by-append, sum_by-take-le}
 use Rattle.std.proofs.Math.Seq.{take-append-add}
 use Rattle.mpeg_scan.specs.declared.films.Film.{Film}
 use Rattle.rtp_pack.specs.declared.reports.Identity.{Identity}
 use Rattle.film_frames.specs.declared.pieces.Piece.{Piece}
-use Rattle.film_frames.specs.declared.pieces.Piece.TheVariants.{Report, Frame}
 use Rattle.film_frames.specs.Pieces.{count_of, film_pieces, frames_in, front_pieces, pieces_of, wire_in, wire_of}
-use Rattle.film_frames.specs.Runs.{Run, run_of, run_pieces, sent}
+use Rattle.film_frames.specs.Runs.{Run, run_of, run_pieces, pieces_in}
 use Rattle.film_frames.specs.Tracks.{begin_of, framed}
 use Rattle.film_frames.proofs.TrackLemmas.{AreEnds, begin-all}
-use Rattle.film_frames.proofs.PieceLemmas.{AreSound, sound-left, sound-right}
+use Rattle.film_frames.proofs.PieceLemmas.{length-le-wire, AreSound, sound-left, sound-right}
 use Rattle.film_frames.proofs.FilmLemmas.{film-bound, film-sound, film-wire}
 use Rattle.film_frames.proofs.FrontLemmas.{front-back, front-front}
-use Rattle.film_frames.proofs.RunLemmas.{numbered-begin, numbered-count}
+use Rattle.film_frames.proofs.RunLemmas.{blocks_from-begin, blocks_from-count}
 
 -- a run of a film's units
 pub record IsRun (film : Film) (first_unit end_unit : ℕ) (identity : Identity) (run : Run) : Type 0 where
@@ -26,9 +25,9 @@ pub record IsRun (film : Film) (first_unit end_unit : ℕ) (identity : Identity)
 -- its pieces lie between others
 pub record IsBetween (film : Film) (first_unit end_unit : ℕ) (run : Run) : Type 0 where
   pub rest : List Piece
-  pub units : front_pieces film end_unit ≡ front_pieces film first_unit ++ sent run
-  pub all : film_pieces film ≡ front_pieces film first_unit ++ (sent run ++ rest)
-  pub sound : AreSound run.film (sent run)
+  pub units : front_pieces film end_unit ≡ front_pieces film first_unit ++ pieces_in run
+  pub all : film_pieces film ≡ front_pieces film first_unit ++ (pieces_in run ++ rest)
+  pub sound : AreSound run.film (pieces_in run)
 
 between-of : (film : Film) (first_unit end_unit : ℕ) (identity : Identity) → first_unit ≤ end_unit → IsBetween film first_unit end_unit (run_of film first_unit end_unit identity)
 between-of film first_unit end_unit identity order =
@@ -38,15 +37,15 @@ between-of film first_unit end_unit identity order =
     let last : end_unit ≡ first_unit + (end_unit - first_unit) = omega (arith, order) in
     let taken : drop first_unit (take end_unit film.units.items) ≡ run.units =
     ap (λ n. drop first_unit (take n film.units.items)) last ∙ drop-take first_unit (end_unit - first_unit) film.units.items in
-    let units : front_pieces film end_unit ≡ front_pieces film first_unit ++ sent run = front-front film first_unit end_unit order ∙ ap (λ l. front_pieces film first_unit ++ pieces_of starts l) taken in
-    let all : film_pieces film ≡ front_pieces film first_unit ++ (sent run ++ rest) =
-    front-back film end_unit ∙ ap (λ l. l ++ rest) units ∙ append_assoc (front_pieces film first_unit) (sent run) rest in
+    let units : front_pieces film end_unit ≡ front_pieces film first_unit ++ pieces_in run = front-front film first_unit end_unit order ∙ ap (λ l. front_pieces film first_unit ++ pieces_of starts l) taken in
+    let all : film_pieces film ≡ front_pieces film first_unit ++ (pieces_in run ++ rest) =
+    front-back film end_unit ∙ ap (λ l. l ++ rest) units ∙ append_assoc (front_pieces film first_unit) (pieces_in run) rest in
     let P : List Piece → Type 0 = λ l. AreSound film.bytes.items l in
     record {
       rest = rest;
       units = units;
       all = all;
-      sound = sound-left film.bytes.items (sent run) rest (sound-right film.bytes.items (front_pieces film first_unit) (sent run ++ rest) (subst P all (film-sound film)));
+      sound = sound-left film.bytes.items (pieces_in run) rest (sound-right film.bytes.items (front_pieces film first_unit) (pieces_in run ++ rest) (subst P all (film-sound film)));
     }
 
 pub between : (film : Film) (first_unit end_unit : ℕ) (identity : Identity) (run : Run) → IsRun film first_unit end_unit identity run → IsBetween film first_unit end_unit run
@@ -77,48 +76,43 @@ get-front [] rest k h = absurd (omega (arith, h))
 get-front (piece ∷ front) rest zero h = refl
 get-front (piece ∷ front) rest (suc k) h = get-front front rest k (omega (arith, h))
 
-length-le-wire : (pieces : List Piece) → length pieces ≤ wire_in pieces
-length-le-wire [] = omega arith
-length-le-wire (Report unit ∷ pieces) = omega (arith, length-le-wire pieces, sum_by-cons wire_of (Report unit) pieces)
-length-le-wire (Frame unit p ∷ pieces) = omega (arith, length-le-wire pieces, sum_by-cons wire_of (Frame unit p) pieces)
-
 pub all-short : (film : Film) → length (film_pieces film) ≤ 2 ^ 42
 all-short film = omega (arith, length-le-wire (film_pieces film), film-wire film, film-bound film)
 
 -- how many pieces there are
 pub run-count : (film : Film) (first_unit end_unit : ℕ) (identity : Identity) (run : Run) → IsRun film first_unit end_unit identity run
-    → (length (front_pieces film end_unit) ≡ length (front_pieces film first_unit) + length (sent run)) × (length (front_pieces film end_unit) ≤ length (film_pieces film))
+    → (length (front_pieces film end_unit) ≡ length (front_pieces film first_unit) + length (pieces_in run)) × (length (front_pieces film end_unit) ≤ length (film_pieces film))
 run-count film first_unit end_unit identity run is =
     let lies = between film first_unit end_unit identity run is in
-    let units : length (front_pieces film end_unit) ≡ length (front_pieces film first_unit) + length (sent run) = ap (λ (l : List Piece). length l) lies.units ∙ length-append (front_pieces film first_unit) (sent run) in
-    let all : length (film_pieces film) ≡ length (front_pieces film first_unit) + (length (sent run) + length lies.rest) =
-    ap (λ (l : List Piece). length l) lies.all ∙ length-append (front_pieces film first_unit) (sent run ++ lies.rest) ∙ ap (λ n. length (front_pieces film first_unit) + n) (length-append (sent run) lies.rest) in
+    let units : length (front_pieces film end_unit) ≡ length (front_pieces film first_unit) + length (pieces_in run) = ap (λ (l : List Piece). length l) lies.units ∙ length-append (front_pieces film first_unit) (pieces_in run) in
+    let all : length (film_pieces film) ≡ length (front_pieces film first_unit) + (length (pieces_in run) + length lies.rest) =
+    ap (λ (l : List Piece). length l) lies.all ∙ length-append (front_pieces film first_unit) (pieces_in run ++ lies.rest) ∙ ap (λ n. length (front_pieces film first_unit) + n) (length-append (pieces_in run) lies.rest) in
     (units, omega (arith, units, all))
 
 -- where a piece of the run begins
-pub run-wire : (film : Film) (first_unit end_unit : ℕ) (identity : Identity) (run : Run) (k n : ℕ) → IsRun film first_unit end_unit identity run → k ≤ length (sent run) → n ≡ length (front_pieces film first_unit) + k
-    → wire_in (take n (film_pieces film)) ≡ wire_in (take (length (front_pieces film first_unit)) (film_pieces film)) + wire_in (take k (sent run))
+pub run-wire : (film : Film) (first_unit end_unit : ℕ) (identity : Identity) (run : Run) (k n : ℕ) → IsRun film first_unit end_unit identity run → k ≤ length (pieces_in run) → n ≡ length (front_pieces film first_unit) + k
+    → wire_in (take n (film_pieces film)) ≡ wire_in (take (length (front_pieces film first_unit)) (film_pieces film)) + wire_in (take k (pieces_in run))
 run-wire film first_unit end_unit identity run k n is short at =
     let lies = between film first_unit end_unit identity run is in
-    sum-between wire_of (front_pieces film first_unit) (sent run) lies.rest (film_pieces film) k n lies.all short at
+    sum-between wire_of (front_pieces film first_unit) (pieces_in run) lies.rest (film_pieces film) k n lies.all short at
 
-pub run-frames : (film : Film) (first_unit end_unit : ℕ) (identity : Identity) (run : Run) (k n : ℕ) → IsRun film first_unit end_unit identity run → k ≤ length (sent run) → n ≡ length (front_pieces film first_unit) + k
-    → frames_in (take n (film_pieces film)) ≡ frames_in (take (length (front_pieces film first_unit)) (film_pieces film)) + frames_in (take k (sent run))
+pub run-frames : (film : Film) (first_unit end_unit : ℕ) (identity : Identity) (run : Run) (k n : ℕ) → IsRun film first_unit end_unit identity run → k ≤ length (pieces_in run) → n ≡ length (front_pieces film first_unit) + k
+    → frames_in (take n (film_pieces film)) ≡ frames_in (take (length (front_pieces film first_unit)) (film_pieces film)) + frames_in (take k (pieces_in run))
 run-frames film first_unit end_unit identity run k n is short at =
     let lies = between film first_unit end_unit identity run is in
-    sum-between count_of (front_pieces film first_unit) (sent run) lies.rest (film_pieces film) k n lies.all short at
+    sum-between count_of (front_pieces film first_unit) (pieces_in run) lies.rest (film_pieces film) k n lies.all short at
 
-pub run-begin : (film : Film) (first_unit end_unit : ℕ) (identity : Identity) (run : Run) (k : ℕ) → IsRun film first_unit end_unit identity run → begin_of (run_pieces run) k ≡ wire_in (take k (sent run))
-run-begin film first_unit end_unit identity run k is = numbered-begin run 0 0 (sent run) k (between film first_unit end_unit identity run is).sound
+pub run-begin : (film : Film) (first_unit end_unit : ℕ) (identity : Identity) (run : Run) (k : ℕ) → IsRun film first_unit end_unit identity run → begin_of (run_pieces run) k ≡ wire_in (take k (pieces_in run))
+run-begin film first_unit end_unit identity run k is = blocks_from-begin run 0 0 (pieces_in run) k (between film first_unit end_unit identity run is).sound
 
-pub run-piece : (film : Film) (first_unit end_unit : ℕ) (identity : Identity) (run : Run) (k n : ℕ) → IsRun film first_unit end_unit identity run → k < length (sent run) → n ≡ length (front_pieces film first_unit) + k
-    → slice_get (film_pieces film) n ≡ slice_get (sent run) k
+pub run-piece : (film : Film) (first_unit end_unit : ℕ) (identity : Identity) (run : Run) (k n : ℕ) → IsRun film first_unit end_unit identity run → k < length (pieces_in run) → n ≡ length (front_pieces film first_unit) + k
+    → slice_get (film_pieces film) n ≡ slice_get (pieces_in run) k
 run-piece film first_unit end_unit identity run k n is within at =
     let lies = between film first_unit end_unit identity run is in
     ap (λ m. slice_get (film_pieces film) m) at
     ∙ ap (λ (l : List Piece). slice_get l (length (front_pieces film first_unit) + k)) lies.all
-    ∙ get-behind (front_pieces film first_unit) (sent run ++ lies.rest) k
-    ∙ get-front (sent run) lies.rest k within
+    ∙ get-behind (front_pieces film first_unit) (pieces_in run ++ lies.rest) k
+    ∙ get-front (pieces_in run) lies.rest k within
 
 -- the ends of the run's pieces
 pub run-ends : (film : Film) (first_unit end_unit : ℕ) (identity : Identity) (run : Run) (first end base : ℕ) (ends : List ℕ) → IsRun film first_unit end_unit identity run
@@ -126,11 +120,11 @@ pub run-ends : (film : Film) (first_unit end_unit : ℕ) (identity : Identity) (
     → length ends ≡ end - first → ((k : ℕ) → k < end - first → get_or ends k 0 ≡ wire_in (take (first + k + 1) (film_pieces film))) → AreEnds base (run_pieces run) ends
 run-ends film first_unit end_unit identity run first end base ends is first_is end_is base_is count each =
     let counts = run-count film first_unit end_unit identity run is in
-    let pieces = numbered-count run 0 0 (sent run) in
+    let pieces = blocks_from-count run 0 0 (pieces_in run) in
     record {
       count = omega (arith, count, counts.0, first_is, end_is, pieces);
       each = λ k h.
-          let short : k + 1 ≤ length (sent run) = omega (arith, h, count, counts.0, first_is, end_is) in
+          let short : k + 1 ≤ length (pieces_in run) = omega (arith, h, count, counts.0, first_is, end_is) in
           let sum = run-wire film first_unit end_unit identity run (k + 1) (first + k + 1) is short (omega (arith, first_is)) in
           let from : base ≡ wire_in (take (length (front_pieces film first_unit)) (film_pieces film)) = base_is ∙ ap (λ n. wire_in (take n (film_pieces film))) first_is in
           omega (arith, each k (omega (arith, h, count)), sum, from, run-begin film first_unit end_unit identity run (k + 1) is);
@@ -140,8 +134,8 @@ run-ends film first_unit end_unit identity run first end base ends is first_is e
 pub run-total : (film : Film) (first_unit end_unit : ℕ) (identity : Identity) (run : Run) → IsRun film first_unit end_unit identity run
     → wire_in (take (length (front_pieces film first_unit)) (film_pieces film)) + length (framed (run_pieces run)) ≤ 2 ^ 42
 run-total film first_unit end_unit identity run is =
-    let n = length (sent run) in
+    let n = length (pieces_in run) in
     let sum = run-wire film first_unit end_unit identity run n (length (front_pieces film first_unit) + n) is (omega arith) refl in
     let some = sum_by-take-le wire_of (film_pieces film) (length (front_pieces film first_unit) + n) in
-    let last : begin_of (run_pieces run) (length (run_pieces run)) ≡ begin_of (run_pieces run) n = ap (λ m. begin_of (run_pieces run) m) (numbered-count run 0 0 (sent run)) in
+    let last : begin_of (run_pieces run) (length (run_pieces run)) ≡ begin_of (run_pieces run) n = ap (λ m. begin_of (run_pieces run) m) (blocks_from-count run 0 0 (pieces_in run)) in
     omega (arith, sum, some, film-wire film, film-bound film, run-begin film first_unit end_unit identity run n is, last, begin-all (run_pieces run))

@@ -1,23 +1,23 @@
 -- The table of pieces, while it is built and when it is read.
-use Rattle.std.proofs.Common.{◌≡◌, ℕ, zero, suc, ◌+◌, ◌-◌, ◌^◌, ◌<◌, ◌≤◌, Bool, true, false, cond, List, [], ◌∷◌, ◌++◌, sum, length, take, drop, get_or, Some, slice_get, refl, sym, ap, subst, ◌∙◌, arith, inl, inr, length-append}
+use Rattle.std.proofs.Common.{◌≡◌, ℕ, zero, suc, ◌+◌, ◌-◌, ◌^◌, ◌<◌, ◌≤◌, Bool, true, false, cond, List, [], ◌∷◌, ◌++◌, map, sum, length, take, drop, get_or, Some, slice_get, refl, sym, ap, subst, ◌∙◌, arith, inl, inr, length-append}
 use Rattle.std.specs.List.{sum_by}
 use Rattle.std.proofs.lemmas.Bool.{cases_lt}
 use Rattle.std.proofs.lemmas.Option.{get_or_from_slice_get, slice_get_within}
-use Rattle.std.proofs.lemmas.List.{get_or_append_left, get_or_push, get_or_read, length_push, take-append-le, take_all, take_at}
+use Rattle.std.proofs.lemmas.List.{get_or_append_left, get_or_push, get_or_read, length-map, length_push, take-append-le, take_all, take_at}
 use Rattle.std.proofs.lemmas.List.Sums.{sum_by_more, sum_by_push}
 use Rattle.mpeg_scan.specs.declared.units.Unit.{Unit as PictureUnit}
 use Rattle.film_frames.specs.declared.pieces.Piece.{Piece}
 use Rattle.film_frames.specs.declared.pieces.Piece.TheVariants.{Report, Frame}
 use Rattle.rtp_pack.specs.declared.payloads.Packet.{Packet}
-use Rattle.rtp_pack.specs.Packets.{packet}
+use Rattle.rtp_pack.specs.Packets.{packet, unit_packets}
 use Rattle.mpeg_scan.proofs.BoundLemmas.{film-bytes}
 use Rattle.film_frames.specs.declared.rows.Row.{Row}
 use Rattle.film_frames.specs.declared.tables.FrameTable.{FrameTable}
-use Rattle.film_frames.specs.Pieces.{film_pieces, from_of, front_pieces, pieces_of, unit_of, unit_pieces, wire_in, wire_of, wire_size}
+use Rattle.film_frames.specs.Pieces.{film_pieces, from_of, front_pieces, pieces_of, unit_of, unit_pieces, unit_reports, wire_in, wire_of, wire_size}
 use Rattle.film_frames.specs.Tables.{IsRow, IsSound, IsTable, IsTableOf, with_report}
-use Rattle.film_frames.proofs.PieceLemmas.{sound-at, unit-wire, wire-append}
+use Rattle.film_frames.proofs.PieceLemmas.{length-le-wire, sound-at, unit-wire, wire-append}
 use Rattle.film_frames.proofs.FilmLemmas.{film-sound, unit-laid}
-use Rattle.film_frames.proofs.FrontLemmas.{front-back, front-more}
+use Rattle.film_frames.proofs.FrontLemmas.{front-back, front-bound, front-more}
 use Rattle.film_frames.proofs.ReportNumbers.{reports-push}
 use Rattle.mpeg_scan.specs.declared.films.Film.{Film}
 
@@ -173,3 +173,19 @@ row-within film row piece is sound frame =
 
 pub film-short : (film : Film) → length film.bytes.items ≤ 2 ^ 40
 film-short film = film-bytes film.bytes.items film.grammar.accepted
+
+-- ---- how many pieces there are
+
+pub count-more : (film : Film) (number one : ℕ) (unit : PictureUnit) (packets : List Packet) → one ≡ length (unit_reports unit) → slice_get film.units.items number ≡ Some unit → packets ≡ unit_packets film.slice_starts.items unit
+    → length (front_pieces film (number + 1)) ≡ length (front_pieces film number) + (length packets + one)
+count-more film number one unit packets one_is at is =
+    let frames = map (λ p. Frame unit p) (unit_packets film.slice_starts.items unit) in
+    let all = ap (λ (l : List Piece). length l) (front-more film number unit at) ∙ length-append (front_pieces film number) (unit_pieces film.slice_starts.items unit) in
+    let mapped : length frames ≡ length packets = length-map (unit_packets film.slice_starts.items unit) (λ p. Frame unit p) ∙ ap (λ (l : List Packet). length l) (sym is) in
+    omega (arith, all, length-append (unit_reports unit) frames, mapped, one_is)
+
+pub count-bound : (film : Film) (number : ℕ) → length (front_pieces film number) ≤ 2 ^ 42
+count-bound film number = omega (arith, length-le-wire (front_pieces film number), front-bound film number)
+
+pub count-all : (film : Film) (number count : ℕ) → length film.units.items ≤ number → count ≡ length (front_pieces film number) → count ≡ length (film_pieces film)
+count-all film number count all is = is ∙ ap (λ (l : List PictureUnit). length (pieces_of film.slice_starts.items l)) (take_all number film.units.items all)

@@ -4,7 +4,7 @@ use Rattle.std.proofs.lemmas.List.{take-map, length-map, length-replicate, same_
 use Rattle.std.proofs.lemmas.List.Sums.{sum_by-cons, sum_by-take-le, sum_by_more, sum_by_more_le}
 use Rattle.std.proofs.lemmas.Bool.{cases_lt, cases_eq}
 use Rattle.film_frames.proofs.TrackLemmas.{AreEnds, begin-all, begin-none, begin-more, found-begins, next-found}
-use Rattle.film_frames.specs.Tracks.{framed, begin_of, IsNext, IsTrace, zero_frames, differences, running}
+use Rattle.film_frames.specs.Tracks.{framed, begin_of, IsNext, IsTrace, zero_frames, differences, running_sums}
 
 pub length-zeros : (sizes : List ℕ) → length (framed (zero_frames sizes)) ≡ sum sizes
 length-zeros [] = refl
@@ -14,42 +14,42 @@ length-zeros (size ∷ sizes) =
 begin-zeros : (sizes : List ℕ) (k : ℕ) → begin_of (zero_frames sizes) k ≡ sum (take k sizes)
 begin-zeros sizes k = ap (λ (l : List (List ℕ)). length (framed l)) (take-map (λ size. replicate size 0) k sizes) ∙ length-zeros (take k sizes)
 
-length-running : (from : ℕ) (sizes : List ℕ) → length (running from sizes) ≡ length sizes
-length-running from [] = refl
-length-running from (size ∷ sizes) = ap suc (length-running (from + size) sizes)
+length-running_sums : (from : ℕ) (sizes : List ℕ) → length (running_sums from sizes) ≡ length sizes
+length-running_sums from [] = refl
+length-running_sums from (size ∷ sizes) = ap suc (length-running_sums (from + size) sizes)
 
-running-at : (from : ℕ) (sizes : List ℕ) (k : ℕ) → k < length sizes → get_or (running from sizes) k 0 ≡ from + sum (take (k + 1) sizes)
-running-at from [] k h = absurd (omega (arith, h))
-running-at from (size ∷ sizes) zero h = omega (arith, sum_by-cons (λ x. x) size [])
-running-at from (size ∷ sizes) (suc k) h =
+running_sums-at : (from : ℕ) (sizes : List ℕ) (k : ℕ) → k < length sizes → get_or (running_sums from sizes) k 0 ≡ from + sum (take (k + 1) sizes)
+running_sums-at from [] k h = absurd (omega (arith, h))
+running_sums-at from (size ∷ sizes) zero h = omega (arith, sum_by-cons (λ x. x) size [])
+running_sums-at from (size ∷ sizes) (suc k) h =
     let more : sum (take (suc k + 1) (size ∷ sizes)) ≡ sum (size ∷ take (k + 1) sizes) = ap (λ n. sum (take n (size ∷ sizes))) (let e : suc k + 1 ≡ suc (k + 1) = omega arith in e) in
-    omega (arith, running-at (from + size) sizes k (omega (arith, h)), more, sum_by-cons (λ x. x) size (take (k + 1) sizes))
+    omega (arith, running_sums-at (from + size) sizes k (omega (arith, h)), more, sum_by-cons (λ x. x) size (take (k + 1) sizes))
 
-pub differences-running : (from : ℕ) (sizes : List ℕ) → differences from (running from sizes) ≡ sizes
-differences-running from [] = refl
-differences-running from (size ∷ sizes) =
+pub differences-running_sums : (from : ℕ) (sizes : List ℕ) → differences from (running_sums from sizes) ≡ sizes
+differences-running_sums from [] = refl
+differences-running_sums from (size ∷ sizes) =
     let one : from + size - from ≡ size = omega arith in
-    ap (λ n. n ∷ differences (from + size) (running (from + size) sizes)) one ∙ ap (λ (l : List ℕ). size ∷ l) (differences-running (from + size) sizes)
+    ap (λ n. n ∷ differences (from + size) (running_sums (from + size) sizes)) one ∙ ap (λ (l : List ℕ). size ∷ l) (differences-running_sums (from + size) sizes)
 
-ends-zeros : (sizes : List ℕ) → AreEnds 0 (zero_frames sizes) (running 0 sizes)
+ends-zeros : (sizes : List ℕ) → AreEnds 0 (zero_frames sizes) (running_sums 0 sizes)
 ends-zeros sizes = record {
-  count = length-running 0 sizes ∙ sym (length-map sizes (λ size. replicate size 0));
-  each = λ k h. omega (arith, running-at 0 sizes k (omega (arith, h, length-running 0 sizes)), begin-zeros sizes (k + 1));
+  count = length-running_sums 0 sizes ∙ sym (length-map sizes (λ size. replicate size 0));
+  each = λ k h. omega (arith, running_sums-at 0 sizes k (omega (arith, h, length-running_sums 0 sizes)), begin-zeros sizes (k + 1));
 }
 
 pub trace-ends : (ends : List ℕ) → IsTrace ends → AreEnds 0 (zero_frames (differences 0 ends)) ends
 trace-ends ends is = subst (λ (l : List ℕ). AreEnds 0 (zero_frames (differences 0 ends)) l) is.rising (ends-zeros (differences 0 ends))
 
 -- numbers that are the sums so far are the running sums
-pub running-is : (sizes now : List ℕ) → length now ≡ length sizes → ((k : ℕ) → k < length sizes → get_or now k 0 ≡ sum (take (k + 1) sizes)) → now ≡ running 0 sizes
-running-is sizes now count each = same_lists now (running 0 sizes) (count ∙ sym (length-running 0 sizes)) (λ k d h.
-    get_or_default now k d 0 h ∙ each k (omega (arith, h, count)) ∙ let e : sum (take (k + 1) sizes) ≡ get_or (running 0 sizes) k 0 = omega (arith, running-at 0 sizes k (omega (arith, h, count))) in
-    e ∙ get_or_default (running 0 sizes) k 0 d (omega (arith, h, count, length-running 0 sizes)))
+pub running_sums-is : (sizes now : List ℕ) → length now ≡ length sizes → ((k : ℕ) → k < length sizes → get_or now k 0 ≡ sum (take (k + 1) sizes)) → now ≡ running_sums 0 sizes
+running_sums-is sizes now count each = same_lists now (running_sums 0 sizes) (count ∙ sym (length-running_sums 0 sizes)) (λ k d h.
+    get_or_default now k d 0 h ∙ each k (omega (arith, h, count)) ∙ let e : sum (take (k + 1) sizes) ≡ get_or (running_sums 0 sizes) k 0 = omega (arith, running_sums-at 0 sizes k (omega (arith, h, count))) in
+    e ∙ get_or_default (running_sums 0 sizes) k 0 d (omega (arith, h, count, length-running_sums 0 sizes)))
 
-pub trace-is : (sizes : List ℕ) → sum sizes ≤ 2 ^ 42 → IsTrace (running 0 sizes)
+pub trace-is : (sizes : List ℕ) → sum sizes ≤ 2 ^ 42 → IsTrace (running_sums 0 sizes)
 trace-is sizes most = record {
-  rising = ap (λ (l : List ℕ). running 0 l) (differences-running 0 sizes);
-  most = λ k h. omega (arith, running-at 0 sizes k (omega (arith, h, length-running 0 sizes)), sum_by-take-le (λ x. x) sizes (k + 1), most);
+  rising = ap (λ (l : List ℕ). running_sums 0 l) (differences-running_sums 0 sizes);
+  most = λ k h. omega (arith, running_sums-at 0 sizes k (omega (arith, h, length-running_sums 0 sizes)), sum_by-take-le (λ x. x) sizes (k + 1), most);
 }
 
 -- the ends of a trace that is seen as these sizes

@@ -10,7 +10,7 @@ use Rattle.interleave.specs.Pieces.{StartsBlock, block_length}
 use Rattle.film_frames.specs.declared.pieces.Piece.{Piece}
 use Rattle.film_frames.specs.declared.pieces.Piece.TheVariants.{Report, Frame}
 use Rattle.film_frames.specs.Pieces.{frames_in, octets_of}
-use Rattle.film_frames.specs.Runs.{Run, frames_before, interleaved, octets_before, run_pieces, sent}
+use Rattle.film_frames.specs.Runs.{Run, frames_before, interleaved, octets_before, run_pieces, pieces_in}
 use Rattle.film_frames.specs.Tracks.{begin_of}
 
 -- the bytes of the frames, among those of pieces
@@ -22,7 +22,7 @@ frames_among (Frame unit packet ∷ pieces) (bytes ∷ all) = bytes ∷ frames_a
 
 -- the bytes of each frame of a run, in order
 abbrev pub run_frames : Run → List (List ℕ)
-run_frames run = frames_among (sent run) (run_pieces run)
+run_frames run = frames_among (pieces_in run) (run_pieces run)
 
 -- the payloads of frames, one after another: what follows the 20 bytes of heads
 abbrev pub payloads : List (List ℕ) → List ℕ
@@ -61,10 +61,11 @@ channel_of run (Frame unit packet) = run.identity.channel
 
 abbrev pub AreOnChannels : Run → Type 0
 AreOnChannels run =
-    (k : ℕ) (piece : Piece) → slice_get (sent run) k ≡ Some piece
+    (k : ℕ) (piece : Piece) → slice_get (pieces_in run) k ≡ Some piece
     → slice_index (get_or (run_pieces run) k []) 1 ≡ channel_of run piece
 
--- a report of a unit that begins at a place: what it counts is what the session sent before the run, and the run's frames
+-- a report of a unit that begins at a place: what it counts is what the session sent before the run, and the
+-- run's frames
 -- that have ended at that place
 abbrev pub counted_report : Run → PictureUnit → ℕ → List ℕ
 counted_report run unit at =
@@ -73,7 +74,7 @@ counted_report run unit at =
 
 abbrev pub DoReportsCount : Run → Type 0
 DoReportsCount run =
-    (k : ℕ) (unit : PictureUnit) → slice_get (sent run) k ≡ Some (Report unit)
+    (k : ℕ) (unit : PictureUnit) → slice_get (pieces_in run) k ≡ Some (Report unit)
     → get_or (run_pieces run) k [] ≡ counted_report run unit (begin_of (run_pieces run) k)
 
 -- the head of a frame as it is read: that of its packet, with a video header of 32 bits
@@ -85,6 +86,6 @@ head_read run unit packet before = record (packet_head run.identity (picture_tim
 -- the head of each frame reads back whole: its packet's, with the frames of the run before it
 abbrev pub DoHeadsReadBack : Run → Type 0
 DoHeadsReadBack run =
-    (k : ℕ) (unit : PictureUnit) (packet : Packet) → slice_get (sent run) k ≡ Some (Frame unit packet)
+    (k : ℕ) (unit : PictureUnit) (packet : Packet) → slice_get (pieces_in run) k ≡ Some (Frame unit packet)
     → head_of (drop 4 (get_or (run_pieces run) k []))
-    ≡ Ok (head_read run unit packet (frames_in (take k (sent run))))
+    ≡ Ok (head_read run unit packet (frames_in (take k (pieces_in run))))

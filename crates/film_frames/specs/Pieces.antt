@@ -16,7 +16,7 @@ unit_reports unit = if unit.starts_group then Report unit ∷ [] else []
 abbrev pub unit_pieces : List ℕ → PictureUnit → List Piece
 unit_pieces slice_starts unit = unit_reports unit ++ map (λ p. Frame unit p) (unit_packets slice_starts unit)
 
--- the pieces of units, one unit behind another
+-- the pieces of units, one unit after another
 abbrev pub pieces_of : List ℕ → List PictureUnit → List Piece
 pieces_of slice_starts units = flat_map (unit_pieces slice_starts) units
 

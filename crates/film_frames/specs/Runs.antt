@@ -1,4 +1,4 @@
--- A run: units of a film, one behind another, that are sent under an identity as reports and frames (RFC 2326 section
+-- A run: units of a film, one after another, that are sent under an identity as reports and frames (RFC 2326 section
 -- 10.12, RFC 3550, RFC 2250).
 use Rattle.std.specs.Prelude.{ℕ, ◌+◌, ◌-◌, ◌/◌, ◌%◌, ◌<◌, ◌≤◌, if◌then◌else◌, nat_le, List, [], ◌∷◌, ◌++◌, length, take, drop}
 use Rattle.mpeg_scan.specs.declared.units.Unit.{Unit as PictureUnit}
@@ -33,8 +33,8 @@ run_of film first_unit end_unit identity = record {
 }
 
 -- the reports and frames of a run
-abbrev pub sent : Run → List Piece
-sent run = pieces_of run.slice_starts run.units
+abbrev pub pieces_in : Run → List Piece
+pieces_in run = pieces_of run.slice_starts run.units
 
 -- bytes in an interleaved block: `$`, the channel, the length in two bytes, and the bytes
 abbrev pub interleaved : ℕ → List ℕ → List ℕ
@@ -53,23 +53,23 @@ piece_bytes run frames octets (Frame unit packet) =
     (head_bytes (packet_head run.identity (picture_time run.rate) unit packet frames) ++ payload run.film packet)
 
 -- the bytes of each piece, where so many frames and octets of the run come before the first
-abbrev pub numbered : Run → ℕ → ℕ → List Piece → List (List ℕ)
-numbered run frames octets [] = []
-numbered run frames octets (piece ∷ pieces) =
-    piece_bytes run frames octets piece ∷ numbered run (frames + count_of piece) (octets + octets_of piece) pieces
+abbrev pub blocks_from : Run → ℕ → ℕ → List Piece → List (List ℕ)
+blocks_from run frames octets [] = []
+blocks_from run frames octets (piece ∷ pieces) =
+    piece_bytes run frames octets piece ∷ blocks_from run (frames + count_of piece) (octets + octets_of piece) pieces
 
 -- the bytes of each report and each frame of a run, in order
 abbrev pub run_pieces : Run → List (List ℕ)
-run_pieces run = numbered run 0 0 (sent run)
+run_pieces run = blocks_from run 0 0 (pieces_in run)
 
 -- how many pieces end at or before a place, which counts from where the first begins
-abbrev pub ended : ℕ → List (List ℕ) → ℕ
-ended at [] = 0
-ended at (piece ∷ pieces) = if nat_le (length piece) at then ended (at - length piece) pieces + 1 else 0
+abbrev pub count_ended : ℕ → List (List ℕ) → ℕ
+count_ended at [] = 0
+count_ended at (piece ∷ pieces) = if nat_le (length piece) at then count_ended (at - length piece) pieces + 1 else 0
 
 -- the reports and frames of a run that end at or before a place
 abbrev pub sent_by : Run → ℕ → List Piece
-sent_by run at = take (ended at (run_pieces run)) (sent run)
+sent_by run at = take (count_ended at (run_pieces run)) (pieces_in run)
 
 -- the number of the frames that end at or before a place, and the sum of their octets
 abbrev pub frames_before : Run → ℕ → ℕ

@@ -2,7 +2,7 @@
 -- bytes of one frame or one report.
 use Rattle.std.specs.Prelude.{ℕ, ◌+◌, ◌-◌, ◌<◌, ◌≤◌, ◌≡◌, ◌^◌, List, [], ◌∷◌, length, take, drop, map, flat_map, replicate, get_or}
 
--- all bytes of pieces, one piece behind another
+-- all bytes of pieces, one piece after another
 abbrev pub framed : List (List ℕ) → List ℕ
 framed pieces = flat_map (λ piece. piece) pieces
 
@@ -22,7 +22,7 @@ pub record IsBoundaryAfter (pieces : List (List ℕ)) (at place : ℕ) : Type 0 
   pub after : at ≤ place
   pub least : (other : ℕ) → IsBoundary pieces other → at ≤ other → place ≤ other
 
--- the next bytes of a track from `at` on: at least one, and none behind the next boundary
+-- the next bytes of a track from `at` on: at least one, and none after the next boundary
 pub record IsNext (pieces : List (List ℕ)) (at : ℕ) (bytes : List ℕ) : Type 0 where
   pub some : 1 ≤ length bytes
   pub bytes_are : bytes ≡ take (length bytes) (drop at (framed pieces))
@@ -38,11 +38,11 @@ differences from [] = []
 differences from (end ∷ ends) = (end - from) ∷ differences end ends
 
 -- running sums, from a first on
-abbrev pub running : ℕ → List ℕ → List ℕ
-running from [] = []
-running from (size ∷ sizes) = (from + size) ∷ running (from + size) sizes
+abbrev pub running_sums : ℕ → List ℕ → List ℕ
+running_sums from [] = []
+running_sums from (size ∷ sizes) = (from + size) ∷ running_sums (from + size) sizes
 
 -- the running sums that are kept of a trace: they don't fall, and the last is at most 2^42
 pub record IsTrace (ends : List ℕ) : Type 0 where
-  pub rising : running 0 (differences 0 ends) ≡ ends
+  pub rising : running_sums 0 (differences 0 ends) ≡ ends
   pub most : (k : ℕ) → k < length ends → get_or ends k 0 ≤ 2 ^ 42

@@ -2,8 +2,8 @@ ghost use Rattle.mpeg_scan.specs.declared.units.Unit.{Unit as PictureUnit};
 ghost use Rattle.mpeg_scan.specs.Rates.{picture_time};
 ghost use Rattle.std.specs.Prelude.{◌≡◌, ◌+◌, ◌-◌, ◌^◌, ◌++◌, ◌<◌, ◌≤◌, ℕ, [], length, take, drop, slice_get, slice_range, Some};
 ghost use Rattle.film_frames.specs.Pieces.{frames_in, octets_in, wire_in};
-ghost use Rattle.film_frames.specs.Runs.{HaveEnded, ended, frames_before, octets_before, payload, piece_bytes};
-ghost use Rattle.film_frames.specs.Runs.{run_of, run_pieces, sent};
+ghost use Rattle.film_frames.specs.Runs.{HaveEnded, count_ended, frames_before, octets_before, payload, piece_bytes};
+ghost use Rattle.film_frames.specs.Runs.{run_of, run_pieces, pieces_in};
 ghost use Rattle.film_frames.specs.Tables.{IsCut, IsSound};
 ghost use Rattle.film_frames.specs.declared.pieces.Piece.TheVariants.{Frame, Report};
 ghost use Rattle.film_frames.specs.Tracks.{IsBoundary, IsNext, begin_of, framed};
@@ -20,7 +20,7 @@ use std::marker::Model;
 /// The bytes of a frame that its octets don't count: the interleaved head and the RTP header.
 const UNCOUNTED: u64 = 16;
 
-/// A run: units of a film, one behind another, that are sent under an identity. Contracts see the run.
+/// A run: units of a film, one after another, that are sent under an identity. Contracts see the run.
 #[derive(Drop)]
 pub struct Frames<'a> {
     stored: &'a Stored,
@@ -64,19 +64,19 @@ impl<'a> Frames<'a> {
     pub fn frames_before(&self, at: u64) -> u64
         ensures { result ≡ frames_before self.now at }
     {
-        self.frames(self.ended(at))
+        self.frames(self.count_ended(at))
     }
 
     /// The octets of the RTP frames of the run that end at or before `at`: their video headers and payloads.
     pub fn octets_before(&self, at: u64) -> u64
         ensures { result ≡ octets_before self.now at }
     {
-        self.octets(self.ended(at))
+        self.octets(self.count_ended(at))
     }
 
     /// How many pieces the run has.
     fn count(&self) -> usize
-        ensures count { result ≡ length (sent self.now) }
+        ensures count { result ≡ length (pieces_in self.now) }
         ensures pieces { result ≡ length (run_pieces self.now) }
     {
         let stored = self.stored;
@@ -85,9 +85,9 @@ impl<'a> Frames<'a> {
 
     /// Where a piece of the run begins, or the last ends.
     fn place(&self, piece: usize) -> u64
-        requires { piece ≤ length (sent self.now) }
+        requires { piece ≤ length (pieces_in self.now) }
         ensures begin { result ≡ begin_of (run_pieces self.now) piece }
-        ensures wire { result ≡ wire_in (take piece (sent self.now)) }
+        ensures wire { result ≡ wire_in (take piece (pieces_in self.now)) }
     {
         let stored = self.stored;
         let first = stored.first_piece(self.first_unit);
@@ -96,8 +96,8 @@ impl<'a> Frames<'a> {
 
     /// How many frames of the run come before a piece.
     fn frames(&self, piece: usize) -> u64
-        requires { piece ≤ length (sent self.now) }
-        ensures { result ≡ frames_in (take piece (sent self.now)) }
+        requires { piece ≤ length (pieces_in self.now) }
+        ensures { result ≡ frames_in (take piece (pieces_in self.now)) }
     {
         let stored = self.stored;
         let first = stored.first_piece(self.first_unit);
@@ -106,8 +106,8 @@ impl<'a> Frames<'a> {
 
     /// The octets of the frames of the run that come before a piece.
     fn octets(&self, piece: usize) -> u64
-        requires { piece ≤ length (sent self.now) }
-        ensures { result ≡ octets_in (take piece (sent self.now)) }
+        requires { piece ≤ length (pieces_in self.now) }
+        ensures { result ≡ octets_in (take piece (pieces_in self.now)) }
     {
         let frames = self.frames(piece);
         let reports = piece as u64 - frames;
@@ -116,8 +116,8 @@ impl<'a> Frames<'a> {
 
     /// A piece of the run.
     fn piece(&self, number: usize) -> Piece
-        requires { number < length (sent self.now) }
-        ensures piece { slice_get (sent self.now) number ≡ Some result }
+        requires { number < length (pieces_in self.now) }
+        ensures piece { slice_get (pieces_in self.now) number ≡ Some result }
         ensures sound { IsSound self.now.film result }
     {
         let stored = self.stored;
@@ -125,8 +125,8 @@ impl<'a> Frames<'a> {
     }
 
     /// How many pieces of the run end at or before `at`.
-    fn ended(&self, at: u64) -> usize
-        ensures ended { HaveEnded (run_pieces self.now) at result }
+    fn count_ended(&self, at: u64) -> usize
+        ensures count_ended { HaveEnded (run_pieces self.now) at result }
         ensures few { result ≤ 2 ^ 42 }
     {
         let stored = self.stored;
@@ -136,11 +136,11 @@ impl<'a> Frames<'a> {
         ends_below(stored.ends(first, end), place)
     }
 
-    /// The bytes of a report that stands behind so many pieces.
+    /// The bytes of a report that stands after so many pieces.
     fn report(&self, number: usize, unit: &Unit) -> [u8; 52]
-        requires { number ≤ length (sent self.now) }
-        ensures { result ≡ piece_bytes self.now (frames_in (take number (sent self.now)))
-            (octets_in (take number (sent self.now))) (Report unit.now) }
+        requires { number ≤ length (pieces_in self.now) }
+        ensures { result ≡ piece_bytes self.now (frames_in (take number (pieces_in self.now)))
+            (octets_in (take number (pieces_in self.now))) (Report unit.now) }
     {
         let frames = self.frames(number);
         let octets = self.octets(number);
@@ -148,12 +148,12 @@ impl<'a> Frames<'a> {
         report_block(self.identity.control, &report)
     }
 
-    /// Writes the 20 bytes of heads of a frame that stands behind so many pieces.
+    /// Writes the 20 bytes of heads of a frame that stands after so many pieces.
     fn put_heads(&self, number: usize, unit: &Unit, packet: &Packet, head: &mut [u8; 52])
-        requires number { number ≤ length (sent self.now) }
+        requires number { number ≤ length (pieces_in self.now) }
         requires packet { IsCut self.now.film unit.now packet.now }
         ensures { (octets : ℕ) → take 20 head.new ++ payload self.now.film packet.now
-            ≡ piece_bytes self.now (frames_in (take number (sent self.now))) octets (Frame unit.now packet.now) }
+            ≡ piece_bytes self.now (frames_in (take number (pieces_in self.now))) octets (Frame unit.now packet.now) }
     {
         let frames = self.frames(number);
         let its = packet_head(&self.identity, self.picture_time(), unit, packet, frames);
@@ -192,7 +192,7 @@ impl Track for Frames<'_> {
         if at == 0 {
             return 0;
         }
-        self.place(self.ended(at - 1) + 1)
+        self.place(self.count_ended(at - 1) + 1)
     }
 
     /// The bytes from `at` on to the end of its report or frame. The payload is lent from the film's bytes, and a
@@ -203,11 +203,12 @@ impl Track for Frames<'_> {
         ensures within { result.head_to ≤ 52 }
         ensures bytes { IsNext (run_pieces self.now) at
             (slice_range head.new result.head_from result.head_to ++ result.payload.now) }
-        ensures whole { IsBoundary (run_pieces self.now) (at + (result.head_to - result.head_from) + length result.payload.now) }
-        ensures report { (unit : PictureUnit) → slice_get (sent self.now) (ended at (run_pieces self.now)) ≡ Some (Report unit)
+        ensures whole { IsBoundary (run_pieces self.now)
+            (at + (result.head_to - result.head_from) + length result.payload.now) }
+        ensures report { (unit : PictureUnit) → slice_get (pieces_in self.now) (count_ended at (run_pieces self.now)) ≡ Some (Report unit)
             → result.payload.now ≡ [] }
     {
-        let number = self.ended(at);
+        let number = self.count_ended(at);
         let inside = at - self.place(number);
         match self.piece(number) {
             Piece::Report(unit) => {

@@ -2,7 +2,7 @@ ghost use Rattle.std.specs.Prelude.{◌≡◌, ◌+◌, ◌-◌, ◌^◌, ◌<�
 ghost use Rattle.rtp_pack.specs.Packets.{OfUnit};
 ghost use Rattle.film_frames.specs.Laws.{AreBlocks, AreOnChannels, DoCountOn, DoHeadsReadBack, DoReportsCount, HaveSizes, payloads, run_frames};
 ghost use Rattle.film_frames.specs.Pieces.{frames_in, wire_size};
-ghost use Rattle.film_frames.specs.Runs.{HaveEnded, Run, ended, run_of, run_pieces, sent};
+ghost use Rattle.film_frames.specs.Runs.{HaveEnded, Run, count_ended, run_of, run_pieces, pieces_in};
 ghost use Rattle.film_frames.specs.Tracks.{framed};
 
 use mpeg_scan::Film;
@@ -17,7 +17,7 @@ pub fn law_wire_sizes(film: &Film)
     let _read = film.bytes.len();
 }
 
-/// The film comes back: the payloads of a run's frames, one behind another, are the film's bytes from where the run's
+/// The film comes back: the payloads of a run's frames, one after another, are the film's bytes from where the run's
 /// first unit begins to where its last one ends.
 pub fn law_film_comes_back(film: &Film, first_unit: usize, end_unit: usize, identity: Identity)
     requires order { first_unit < end_unit }
@@ -34,7 +34,7 @@ pub fn law_counts_on(film: &Film, first_unit: usize, end_unit: usize, identity: 
     requires order { first_unit < end_unit }
     requires within { end_unit ≤ length film.now.units.items }
     ensures frames { length (run_frames (run_of film.now first_unit end_unit identity))
-        ≡ frames_in (sent (run_of film.now first_unit end_unit identity)) }
+        ≡ frames_in (pieces_in (run_of film.now first_unit end_unit identity)) }
     ensures numbers { DoCountOn identity.sequence (run_frames (run_of film.now first_unit end_unit identity)) }
 {
     let _read = (film.bytes.len(), first_unit, end_unit, identity);
@@ -54,7 +54,7 @@ pub fn law_reports_count(film: &Film, first_unit: usize, end_unit: usize, identi
 pub fn law_piece_sizes(film: &Film, first_unit: usize, end_unit: usize, identity: Identity)
     requires order { first_unit < end_unit }
     requires within { end_unit ≤ length film.now.units.items }
-    ensures pieces { HaveSizes (sent (run_of film.now first_unit end_unit identity))
+    ensures pieces { HaveSizes (pieces_in (run_of film.now first_unit end_unit identity))
         (run_pieces (run_of film.now first_unit end_unit identity)) }
     ensures blocks { AreBlocks (run_pieces (run_of film.now first_unit end_unit identity)) }
     ensures all { length (framed (run_pieces (run_of film.now first_unit end_unit identity)))
@@ -99,7 +99,7 @@ pub fn law_heads_read_back()
 /// How many pieces of a run have ended at a place: the last of them ends at or before it, and the next doesn't.
 pub fn law_ended(film: &Film, first_unit: usize, end_unit: usize, identity: Identity, at: u64)
     ensures { HaveEnded (run_pieces (run_of film.now first_unit end_unit identity)) at
-        (ended at (run_pieces (run_of film.now first_unit end_unit identity))) }
+        (count_ended at (run_pieces (run_of film.now first_unit end_unit identity))) }
 {
     let _read = (film.bytes.len(), first_unit, end_unit, identity, at);
 }

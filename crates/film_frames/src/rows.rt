@@ -14,7 +14,7 @@ pub(crate) struct Row {
     unit: u32,
     /// Whether it is a report.
     report: bool,
-    /// Whether the payload begins with a slice, or with the unit's head and a slice behind it.
+    /// Whether the payload begins with a slice, or with the unit's head and a slice after it.
     begin: bool,
     /// Whether the payload ends with a slice's last byte.
     end: bool,

@@ -37,8 +37,10 @@ impl Stored {
     /// takes at most 2 * L + 112.
     pub fn wire_size(&self, unit: usize) -> u64
         requires { unit < length self.now.film.units.items }
-        ensures size { OfUnit self.now.film.units.items unit (λ u. result ≡ wire_size self.now.film.slice_starts.items u) }
-        ensures bound { OfUnit self.now.film.units.items unit (λ u. result ≤ 2 * (u.to - u.from) + 112) }
+        ensures size { OfUnit self.now.film.units.items unit
+            (λ u. result ≡ wire_size self.now.film.slice_starts.items u) }
+        ensures bound { OfUnit self.now.film.units.items unit
+            (λ u. result ≤ 2 * (u.to - u.from) + 112) }
     {
         self.table.wire_size(unit)
     }

@@ -1,16 +1,16 @@
-ghost use Rattle.std.specs.Prelude.{◌≡◌, ◌+◌, ◌-◌, ◌*◌, ◌<◌, ◌≤◌, ◌++◌, ℕ, List, [], ◌∷◌, length, take, drop, get_or};
+ghost use Rattle.std.specs.Prelude.{◌≡◌, ◌+◌, ◌-◌, ◌*◌, ◌^◌, ◌<◌, ◌≤◌, ◌++◌, ℕ, List, [], ◌∷◌, length, take, drop, get_or};
 ghost use Rattle.std.specs.Prelude.{slice_get, Some, IfOk, OnOk};
 ghost use Rattle.mpeg_scan.specs.declared.units.Unit.{Unit as PictureUnit};
 ghost use Rattle.mpeg_scan.specs.declared.films.Film.{Film};
 ghost use Rattle.rtp_pack.specs.Packets.{OfUnit, unit_packets};
 ghost use Rattle.film_frames.specs.declared.pieces.Piece.{Piece};
-ghost use Rattle.film_frames.specs.Pieces.{front_pieces, unit_of, unit_reports, wire_size};
+ghost use Rattle.film_frames.specs.Pieces.{film_pieces, front_pieces, unit_of, unit_reports, wire_size};
 ghost use Rattle.film_frames.specs.Tables.{AreFirsts, HasPieces, HasRoom, HasUnit, IsSound, IsTable, IsTableOf};
 ghost use Rattle.film_frames.specs.Tables.{with_report};
 
 use crate::pieces::{Piece, wire_of};
 use crate::rows::Row;
-use mpeg_scan::Film;
+use mpeg_scan::{Film, Unit};
 use rtp_pack::{Packet, refill_packets};
 use std::alloc::Global;
 use vod_base::NoMemory;
@@ -40,6 +40,25 @@ fn push(numbers: &mut Vec<u64>, number: u64) -> Result<(), NoMemory>
     }
 }
 
+/// How many reports a unit has: one if it starts a group.
+fn report_count(unit: &Unit) -> usize
+    ensures { result ≡ length (unit_reports unit.now) }
+{
+    if unit.starts_group { 1 } else { 0 }
+}
+
+/// How many reports and frames a film has. The packets of each unit are written into the list.
+fn count_pieces(packets: &mut Vec<Packet>, film: &Film) -> Result<usize, NoMemory>
+    ensures { IfOk result (λ count. count ≡ length (film_pieces film.now)) }
+{
+    let mut count = 0;
+    for number in 0..film.units.len() {
+        refill_packets(packets, film, number)?;
+        count += packets.len() + report_count(&film.units[number]);
+    }
+    Ok(count)
+}
+
 /// Appends the number of a piece if it is a report.
 fn add_report(reports: &mut Vec<u64>, number: u64, piece: &Piece) -> Result<(), NoMemory>
     ensures { OnOk result (reports.new.items ≡ with_report number piece.now reports.old.items) }
@@ -55,8 +74,9 @@ impl FrameTable {
     pub fn make(alloc: Global, film: &Film) -> Result<FrameTable, NoMemory>
         ensures { IfOk result (λ table. IsTableOf film.now table) }
     {
-        let mut table = FrameTable::new(alloc)?;
         let mut packets = Vec::new(alloc);
+        let pieces = count_pieces(&mut packets, film)?;
+        let mut table = FrameTable::new(alloc, pieces, film.units.len())?;
         for number in 0..film.units.len() {
             table.put_unit(&mut packets, film, number)?;
         }
@@ -78,17 +98,19 @@ impl FrameTable {
         self.places[end] - self.places[first]
     }
 
-    /// A table without pieces.
-    fn new(alloc: Global) -> Result<FrameTable, NoMemory>
+    /// A table without pieces, with room for so many pieces and units.
+    fn new(alloc: Global, pieces: usize, units: usize) -> Result<FrameTable, NoMemory>
+        requires pieces { pieces ≤ 2 ^ 42 }
+        requires units { units ≤ 2 ^ 42 }
         ensures table { (units : List PictureUnit) → IfOk result (λ table. IsTable units [] table) }
         ensures firsts { (starts : List ℕ) (units : List PictureUnit)
             → IfOk result (λ table. AreFirsts starts units 0 table.firsts.items) }
     {
         let mut table = FrameTable {
-            places: Vec::new(alloc),
-            rows: Vec::new(alloc),
+            places: Vec::with_capacity(alloc, pieces + 1)?,
+            rows: Vec::with_capacity(alloc, pieces)?,
             reports: Vec::new(alloc),
-            firsts: Vec::new(alloc),
+            firsts: Vec::with_capacity(alloc, units + 1)?,
         };
         push(&mut table.places, 0)?;
         push(&mut table.firsts, 0)?;
@@ -132,7 +154,8 @@ impl FrameTable {
     /// Appends the frames of a unit, after the units before it and its report.
     fn put_frames(&mut self, film: &Film, number: usize, packets: &[Packet]) -> Result<(), NoMemory>
         requires within { number < length film.now.units.items }
-        requires packets { OfUnit film.now.units.items number (λ u. packets.now ≡ unit_packets film.now.slice_starts.items u) }
+        requires packets { OfUnit film.now.units.items number
+            (λ u. packets.now ≡ unit_packets film.now.slice_starts.items u) }
         requires table { OfUnit film.now.units.items number
             (λ u. HasPieces film.now (front_pieces film.now number ++ unit_reports u) self.old) }
         ensures table { OnOk result (HasPieces film.now (front_pieces film.now (number + 1)) self.new) }
@@ -154,7 +177,8 @@ impl FrameTable {
     ) -> Result<(), NoMemory>
         requires within { number < length film.now.units.items }
         requires table { HasPieces film.now (front_pieces film.now number) self.old }
-        requires firsts { AreFirsts film.now.slice_starts.items film.now.units.items number self.old.firsts.items }
+        requires firsts { AreFirsts film.now.slice_starts.items film.now.units.items number
+            self.old.firsts.items }
         ensures table { OnOk result (HasPieces film.now (front_pieces film.now (number + 1)) self.new) }
         ensures firsts { OnOk result
             (AreFirsts film.now.slice_starts.items film.now.units.items (number + 1) self.new.firsts.items) }

@@ -6,9 +6,9 @@ ghost use Rattle.film_frames.specs.Tracks.{IsBoundaryAfter, IsNext, framed};
 pub struct Part<'a> {
     /// The place of the first byte in the head.
     pub head_from: usize,
-    /// The place behind the last byte in the head.
+    /// The place after the last byte in the head.
     pub head_to: usize,
-    /// The bytes behind those of the head; none in a report.
+    /// The bytes after those of the head; none in a report.
     pub payload: &'a [u8],
 }
 
@@ -25,7 +25,7 @@ pub trait Track {
         requires { at ≤ length (framed (pieces self.now)) }
         ensures { IsBoundaryAfter (pieces self.now) at result };
 
-    /// The bytes from `at` on: at least one, and none behind the end of the piece.
+    /// The bytes from `at` on: at least one, and none after the end of the piece.
     ///
     /// They are `head[head_from..head_to]` and then the payload.
     fn part(&self, at: u64, head: &mut [u8; 52]) -> Part<'_>

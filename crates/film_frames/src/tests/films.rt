@@ -140,15 +140,15 @@ fn wrong_at(
     let mut before = (0, 0, 0);
     let mut boundary = 0;
     let mut next = 0;
-    for ended in ends {
-        if ended.0 <= at {
-            before = *ended;
+    for count_ended in ends {
+        if count_ended.0 <= at {
+            before = *count_ended;
         }
         if boundary < at {
-            boundary = ended.0;
+            boundary = count_ended.0;
         }
         if next <= at {
-            next = ended.0;
+            next = count_ended.0;
         }
     }
     if run.frames_before(at) != before.1 || run.octets_before(at) != before.2 {

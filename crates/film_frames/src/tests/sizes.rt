@@ -34,9 +34,9 @@ impl Found for Sizes {
     }
 
     fn unit(&mut self, unit: Unit) -> Result<(), NoMemory> {
-        let ended = std::mem::replace(&mut self.unit, UnitSize::begin(1));
+        let count_ended = std::mem::replace(&mut self.unit, UnitSize::begin(1));
         let report = if unit.starts_group { REPORT } else { 0 };
-        self.all.push(ended.end() + report)?;
+        self.all.push(count_ended.end() + report)?;
         Ok(())
     }
 }

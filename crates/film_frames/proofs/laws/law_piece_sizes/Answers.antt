@@ -1,5 +1,5 @@
 use Rattle.std.proofs.Common.{arith}
-use Rattle.film_frames.specs.Runs.{run_of, sent}
+use Rattle.film_frames.specs.Runs.{run_of, pieces_in}
 use Rattle.film_frames.proofs.BackLemmas.{run-sum}
 use Rattle.film_frames.proofs.CountLemmas.{are-blocks, have-sizes}
 use Rattle.film_frames.proofs.laws.law_piece_sizes.Goals as goal
@@ -13,4 +13,4 @@ returns-clause-all c = (run-sum c.args.film.now c.args.first_unit c.args.end_uni
 
 pub returns-clause-blocks : goal.returns-clause-blocks
 returns-clause-blocks c =
-    let run = run_of c.args.film.now c.args.first_unit c.args.end_unit c.args.identity in are-blocks run 0 0 (sent run)
+    let run = run_of c.args.film.now c.args.first_unit c.args.end_unit c.args.identity in are-blocks run 0 0 (pieces_in run)

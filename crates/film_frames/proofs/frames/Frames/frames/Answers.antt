@@ -1,6 +1,6 @@
 use Rattle.std.proofs.Common.{◌≡◌, ◌+◌, ◌-◌, arith, take, ap}
 use Rattle.film_frames.specs.Pieces.{film_pieces, frames_in}
-use Rattle.film_frames.specs.Runs.{sent}
+use Rattle.film_frames.specs.Runs.{pieces_in}
 use Rattle.film_frames.proofs.SentLemmas.{IsRun, all-short, run-count, run-frames}
 use Rattle.film_frames.proofs.frames.Frames.frames.Goals as goal
 
@@ -51,5 +51,5 @@ returns c =
     let first = c.first_piece-first.result in
     let sum = run-frames film f.first_unit f.end_unit f.identity run c.args.piece (first + c.args.piece) is c.requires (ap (λ n. n + c.args.piece) c.first_piece-first.ensures) in
     let from = ap (λ n. frames_in (take n (film_pieces film))) c.first_piece-first.ensures in
-    let diff : c.frames.result - c.frames-2.result ≡ frames_in (take c.args.piece (sent run)) = omega (arith, c.frames.ensures, c.frames-2.ensures, sum, from) in
+    let diff : c.frames.result - c.frames-2.result ≡ frames_in (take c.args.piece (pieces_in run)) = omega (arith, c.frames.ensures, c.frames-2.ensures, sum, from) in
     diff

@@ -1,35 +1,35 @@
 use Rattle.std.proofs.Common.{take, arith}
 use Rattle.std.proofs.lemmas.List.{length-take-le}
-use Rattle.film_frames.specs.Runs.{sent}
+use Rattle.film_frames.specs.Runs.{pieces_in}
 use Rattle.film_frames.proofs.RunLemmas.{frames-le, octets-are}
 use Rattle.film_frames.proofs.frames.Frames.octets.Goals as goal
 
 pub overflow_sub-reports : goal.overflow_sub-reports
 overflow_sub-reports c =
-    let pieces = take c.args.piece (sent c.args.self.now) in
-    omega (arith, c.frames-frames.ensures, frames-le pieces, length-take-le c.args.piece (sent c.args.self.now) c.requires)
+    let pieces = take c.args.piece (pieces_in c.args.self.now) in
+    omega (arith, c.frames-frames.ensures, frames-le pieces, length-take-le c.args.piece (pieces_in c.args.self.now) c.requires)
 
 pub overflow_mul-result : goal.overflow_mul-result
 overflow_mul-result c =
-    let pieces = take c.args.piece (sent c.args.self.now) in
+    let pieces = take c.args.piece (pieces_in c.args.self.now) in
     omega (arith, c.frames-frames.ensures, c.place.ensures.wire, c.place.type_inv, octets-are pieces, frames-le pieces)
 
 pub overflow_sub-result : goal.overflow_sub-result
 overflow_sub-result c =
-    let pieces = take c.args.piece (sent c.args.self.now) in
+    let pieces = take c.args.piece (pieces_in c.args.self.now) in
     omega (arith, c.frames-frames.ensures, c.place.ensures.wire, octets-are pieces, frames-le pieces)
 
 pub overflow_mul-result-2 : goal.overflow_mul-result-2
 overflow_mul-result-2 c =
-    let pieces = take c.args.piece (sent c.args.self.now) in
-    omega (arith, c.frames-frames.ensures, c.place.ensures.wire, c.place.type_inv, octets-are pieces, frames-le pieces, length-take-le c.args.piece (sent c.args.self.now) c.requires)
+    let pieces = take c.args.piece (pieces_in c.args.self.now) in
+    omega (arith, c.frames-frames.ensures, c.place.ensures.wire, c.place.type_inv, octets-are pieces, frames-le pieces, length-take-le c.args.piece (pieces_in c.args.self.now) c.requires)
 
 pub overflow_sub-result-2 : goal.overflow_sub-result-2
 overflow_sub-result-2 c =
-    let pieces = take c.args.piece (sent c.args.self.now) in
-    omega (arith, c.frames-frames.ensures, c.place.ensures.wire, octets-are pieces, frames-le pieces, length-take-le c.args.piece (sent c.args.self.now) c.requires)
+    let pieces = take c.args.piece (pieces_in c.args.self.now) in
+    omega (arith, c.frames-frames.ensures, c.place.ensures.wire, octets-are pieces, frames-le pieces, length-take-le c.args.piece (pieces_in c.args.self.now) c.requires)
 
 pub returns : goal.returns
 returns c =
-    let pieces = take c.args.piece (sent c.args.self.now) in
-    omega (arith, c.frames-frames.ensures, c.place.ensures.wire, octets-are pieces, frames-le pieces, length-take-le c.args.piece (sent c.args.self.now) c.requires)
+    let pieces = take c.args.piece (pieces_in c.args.self.now) in
+    omega (arith, c.frames-frames.ensures, c.place.ensures.wire, octets-are pieces, frames-le pieces, length-take-le c.args.piece (pieces_in c.args.self.now) c.requires)

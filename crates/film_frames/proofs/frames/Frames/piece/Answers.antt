@@ -1,6 +1,6 @@
 use Rattle.std.proofs.Common.{◌+◌, arith, sym, ap, ◌∙◌}
 use Rattle.film_frames.proofs.SentLemmas.{IsRun, all-short, between, run-count, run-piece}
-use Rattle.film_frames.specs.Runs.{sent}
+use Rattle.film_frames.specs.Runs.{pieces_in}
 use Rattle.film_frames.proofs.PieceLemmas.{sound-at}
 use Rattle.film_frames.proofs.frames.Frames.piece.Goals as goal
 
@@ -36,4 +36,4 @@ returns-clause-sound c =
     let film = f.stored.now.film in
     let run = c.args.self.now in
     let is : IsRun film f.first_unit f.end_unit f.identity run = record { view = c.self.view_is; order = omega (arith, c.self.invariant.0); within = c.self.invariant.1 } in
-    sound-at run.film (sent run) c.args.number c.piece.result (returns-clause-piece c) (between film f.first_unit f.end_unit f.identity run is).sound
+    sound-at run.film (pieces_in run) c.args.number c.piece.result (returns-clause-piece c) (between film f.first_unit f.end_unit f.identity run is).sound

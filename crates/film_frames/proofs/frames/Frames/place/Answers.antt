@@ -1,6 +1,6 @@
 use Rattle.std.proofs.Common.{◌≡◌, ◌+◌, ◌-◌, arith, take, sym, ap, ◌∙◌}
 use Rattle.film_frames.specs.Pieces.{film_pieces, wire_in}
-use Rattle.film_frames.specs.Runs.{sent}
+use Rattle.film_frames.specs.Runs.{pieces_in}
 use Rattle.film_frames.proofs.SentLemmas.{IsRun, all-short, run-begin, run-count, run-wire}
 use Rattle.film_frames.proofs.frames.Frames.place.Goals as goal
 
@@ -51,7 +51,7 @@ returns-clause-wire c =
     let first = c.first_piece-first.result in
     let sum = run-wire film f.first_unit f.end_unit f.identity run c.args.piece (first + c.args.piece) is c.requires (ap (λ n. n + c.args.piece) c.first_piece-first.ensures) in
     let from = ap (λ n. wire_in (take n (film_pieces film))) c.first_piece-first.ensures in
-    let diff : c.place.result - c.place-2.result ≡ wire_in (take c.args.piece (sent run)) = omega (arith, c.place.ensures, c.place-2.ensures, sum, from) in
+    let diff : c.place.result - c.place-2.result ≡ wire_in (take c.args.piece (pieces_in run)) = omega (arith, c.place.ensures, c.place-2.ensures, sum, from) in
     diff
 
 pub returns-clause-begin : goal.returns-clause-begin

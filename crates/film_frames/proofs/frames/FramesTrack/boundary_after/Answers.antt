@@ -1,16 +1,16 @@
 use Rattle.std.proofs.Common.{◌-◌, arith}
-use Rattle.film_frames.specs.Runs.{run_pieces, sent}
-use Rattle.film_frames.proofs.RunLemmas.{numbered-count}
-use Rattle.film_frames.proofs.NextLemmas.{boundary-ended, ended-within}
+use Rattle.film_frames.specs.Runs.{run_pieces, pieces_in}
+use Rattle.film_frames.proofs.RunLemmas.{blocks_from-count}
+use Rattle.film_frames.proofs.NextLemmas.{boundary-count_ended, count_ended-within}
 use Rattle.film_frames.proofs.frames.FramesTrack.boundary_after.Goals as goal
 
-pub overflow_add-ended : goal.overflow_add-ended
-overflow_add-ended c = omega (arith, c.ended.ensures.few)
+pub overflow_add-count_ended : goal.overflow_add-count_ended
+overflow_add-count_ended c = omega (arith, c.count_ended.ensures.few)
 
 pub place-requires : goal.place-requires
 place-requires c =
     let run = c.args.self.now in
-    omega (arith, numbered-count run 0 0 (sent run), ended-within (run_pieces run) (c.args.at - 1) c.ended.result c.ended.ensures.ended (omega (arith, c.requires, c.if-at-eq0.false)))
+    omega (arith, blocks_from-count run 0 0 (pieces_in run), count_ended-within (run_pieces run) (c.args.at - 1) c.count_ended.result c.count_ended.ensures.count_ended (omega (arith, c.requires, c.if-at-eq0.false)))
 
 pub returns : goal.returns
-returns c = boundary-ended (run_pieces c.args.self.now) c.args.at c.ended.result c.place.result c.ended.ensures.ended (omega (arith, c.if-at-eq0.false)) c.requires c.place.ensures.begin
+returns c = boundary-count_ended (run_pieces c.args.self.now) c.args.at c.count_ended.result c.place.result c.count_ended.ensures.count_ended (omega (arith, c.if-at-eq0.false)) c.requires c.place.ensures.begin

@@ -1,94 +1,94 @@
 use Rattle.std.proofs.Common.{◌≡◌, ◌-◌, List, [], ◌++◌, ℕ, length, take, drop, get_or, Some, slice_get, arith, sym, ap, ◌∙◌}
 use Rattle.film_frames.specs.declared.pieces.Piece.TheVariants.{Report, Frame}
 use Rattle.film_frames.specs.Pieces.{octets_in}
-use Rattle.film_frames.specs.Runs.{payload, run_pieces, sent}
+use Rattle.film_frames.specs.Runs.{payload, run_pieces, pieces_in}
 use Rattle.film_frames.specs.Tracks.{begin_of}
-use Rattle.film_frames.proofs.RunLemmas.{ended-is, numbered-count}
-use Rattle.film_frames.proofs.NextLemmas.{ended-within, ends-boundary, frame-part, is-in, report-rest, rest-next}
+use Rattle.film_frames.proofs.RunLemmas.{count_ended-is, blocks_from-count}
+use Rattle.film_frames.proofs.NextLemmas.{count_ended-within, ends-boundary, frame-part, is-in, report-rest, rest-next}
 use Rattle.film_frames.proofs.frames.FramesTrack.part.Goals as goal
 
 pub place-requires : goal.place-requires
 place-requires c =
     let run = c.args.self.now in
-    let k = c.ended-number.result in
-    let within = ended-within (run_pieces run) c.args.at k c.ended-number.ensures.ended c.requires in
-    omega (arith, within, numbered-count run 0 0 (sent run))
+    let k = c.count_ended-number.result in
+    let within = count_ended-within (run_pieces run) c.args.at k c.count_ended-number.ensures.count_ended c.requires in
+    omega (arith, within, blocks_from-count run 0 0 (pieces_in run))
 
 pub piece-requires : goal.piece-requires
 piece-requires c =
     let run = c.args.self.now in
-    let k = c.ended-number.result in
-    let within = ended-within (run_pieces run) c.args.at k c.ended-number.ensures.ended c.requires in
-    omega (arith, within, numbered-count run 0 0 (sent run))
+    let k = c.count_ended-number.result in
+    let within = count_ended-within (run_pieces run) c.args.at k c.count_ended-number.ensures.count_ended c.requires in
+    omega (arith, within, blocks_from-count run 0 0 (pieces_in run))
 
 pub report-requires : goal.report-requires
 report-requires c =
     let run = c.args.self.now in
-    let k = c.ended-number.result in
-    let within = ended-within (run_pieces run) c.args.at k c.ended-number.ensures.ended c.requires in
-    omega (arith, within, numbered-count run 0 0 (sent run))
+    let k = c.count_ended-number.result in
+    let within = count_ended-within (run_pieces run) c.args.at k c.count_ended-number.ensures.count_ended c.requires in
+    omega (arith, within, blocks_from-count run 0 0 (pieces_in run))
 
 pub put_heads-requires-clause-number : goal.put_heads-requires-clause-number
 put_heads-requires-clause-number c =
     let run = c.args.self.now in
-    let k = c.ended-number.result in
-    let within = ended-within (run_pieces run) c.args.at k c.ended-number.ensures.ended c.requires in
-    omega (arith, within, numbered-count run 0 0 (sent run))
+    let k = c.count_ended-number.result in
+    let within = count_ended-within (run_pieces run) c.args.at k c.count_ended-number.ensures.count_ended c.requires in
+    omega (arith, within, blocks_from-count run 0 0 (pieces_in run))
 
 pub payload-requires-clause-front : goal.payload-requires-clause-front
 payload-requires-clause-front c =
     let run = c.args.self.now in
-    let k = c.ended-number.result in
-    let lies = is-in run c.args.at k (Frame c.in-Frame.unit c.in-Frame.packet) c.ended-number.ensures.ended c.requires c.in-Frame.ensures.piece c.in-Frame.ensures.sound in
+    let k = c.count_ended-number.result in
+    let lies = is-in run c.args.at k (Frame c.in-Frame.unit c.in-Frame.packet) c.count_ended-number.ensures.count_ended c.requires c.in-Frame.ensures.piece c.in-Frame.ensures.sound in
     omega (arith, lies.inside, c.place.ensures.begin, c.max.ensures, c.in-Frame.ensures.sound.some)
 
 pub returns-in-Report-clause-order : goal.returns-in-Report-clause-order
 returns-in-Report-clause-order c =
     let run = c.args.self.now in
-    let k = c.ended-number.result in
-    let lies = is-in run c.args.at k (Report c.in-Report.unit) c.ended-number.ensures.ended c.requires c.in-Report.ensures.piece c.in-Report.ensures.sound in
+    let k = c.count_ended-number.result in
+    let lies = is-in run c.args.at k (Report c.in-Report.unit) c.count_ended-number.ensures.count_ended c.requires c.in-Report.ensures.piece c.in-Report.ensures.sound in
     omega (arith, lies.inside, c.place.ensures.begin)
 
 pub returns-in-Report-clause-bytes : goal.returns-in-Report-clause-bytes
 returns-in-Report-clause-bytes c =
     let run = c.args.self.now in
-    let k = c.ended-number.result in
-    let lies = is-in run c.args.at k (Report c.in-Report.unit) c.ended-number.ensures.ended c.requires c.in-Report.ensures.piece c.in-Report.ensures.sound in
+    let k = c.count_ended-number.result in
+    let lies = is-in run c.args.at k (Report c.in-Report.unit) c.count_ended-number.ensures.count_ended c.requires c.in-Report.ensures.piece c.in-Report.ensures.sound in
     let o = c.args.at - c.place.result in
     let long : length c.report.result ≡ 52 = ap (λ (l : List ℕ). length l) c.report.ensures in
     let rest = report-rest c.report.result o long (omega (arith, lies.inside, c.place.ensures.begin)) in
     let same : drop o c.report.result ≡ drop (c.args.at - begin_of (run_pieces run) k) (get_or (run_pieces run) k []) =
     ap (λ (l : List ℕ). drop o l) (c.report.ensures ∙ sym lies.bytes) ∙ ap (λ n. drop (c.args.at - n) (get_or (run_pieces run) k [])) c.place.ensures.begin in
-    (rest-next (run_pieces run) c.args.at k (take (52 - o) (drop o c.report.result) ++ []) c.ended-number.ensures.ended c.requires (rest ∙ same)).0
+    (rest-next (run_pieces run) c.args.at k (take (52 - o) (drop o c.report.result) ++ []) c.count_ended-number.ensures.count_ended c.requires (rest ∙ same)).0
 
 pub returns-in-Report-clause-whole : goal.returns-in-Report-clause-whole
 returns-in-Report-clause-whole c =
     let run = c.args.self.now in
-    let k = c.ended-number.result in
-    let lies = is-in run c.args.at k (Report c.in-Report.unit) c.ended-number.ensures.ended c.requires c.in-Report.ensures.piece c.in-Report.ensures.sound in
+    let k = c.count_ended-number.result in
+    let lies = is-in run c.args.at k (Report c.in-Report.unit) c.count_ended-number.ensures.count_ended c.requires c.in-Report.ensures.piece c.in-Report.ensures.sound in
     ends-boundary (run_pieces run) k _ lies.number (omega (arith, lies.inside, lies.ends, lies.begins, c.place.ensures.begin))
 
 pub returns-in-Frame-clause-bytes : goal.returns-in-Frame-clause-bytes
 returns-in-Frame-clause-bytes c =
     let run = c.args.self.now in
-    let k = c.ended-number.result in
-    let lies = is-in run c.args.at k (Frame c.in-Frame.unit c.in-Frame.packet) c.ended-number.ensures.ended c.requires c.in-Frame.ensures.piece c.in-Frame.ensures.sound in
+    let k = c.count_ended-number.result in
+    let lies = is-in run c.args.at k (Frame c.in-Frame.unit c.in-Frame.packet) c.count_ended-number.ensures.count_ended c.requires c.in-Frame.ensures.piece c.in-Frame.ensures.sound in
     let p = c.in-Frame.packet in
     let cut = c.in-Frame.ensures.sound in
     let o = c.args.at - c.place.result in
     let block = c.put_heads.new.head in
     let part = frame-part run.film block c.payload.result.now p o c.min.result c.max.result c.payload.array_long (omega (arith, cut.some)) cut.within (omega (arith, lies.inside, c.place.ensures.begin))
     c.min.ensures c.max.ensures c.payload.ensures in
-    let whole = c.put_heads.ensures (octets_in (take k (sent run))) in
+    let whole = c.put_heads.ensures (octets_in (take k (pieces_in run))) in
     let same : drop o (take 20 block ++ payload run.film p) ≡ drop (c.args.at - begin_of (run_pieces run) k) (get_or (run_pieces run) k []) =
     ap (λ (l : List ℕ). drop o l) (whole ∙ sym lies.bytes) ∙ ap (λ n. drop (c.args.at - n) (get_or (run_pieces run) k [])) c.place.ensures.begin in
-    (rest-next (run_pieces run) c.args.at k (take (20 - c.min.result) (drop c.min.result block) ++ c.payload.result.now) c.ended-number.ensures.ended c.requires (part.0 ∙ same)).0
+    (rest-next (run_pieces run) c.args.at k (take (20 - c.min.result) (drop c.min.result block) ++ c.payload.result.now) c.count_ended-number.ensures.count_ended c.requires (part.0 ∙ same)).0
 
 pub returns-in-Frame-clause-whole : goal.returns-in-Frame-clause-whole
 returns-in-Frame-clause-whole c =
     let run = c.args.self.now in
-    let k = c.ended-number.result in
-    let lies = is-in run c.args.at k (Frame c.in-Frame.unit c.in-Frame.packet) c.ended-number.ensures.ended c.requires c.in-Frame.ensures.piece c.in-Frame.ensures.sound in
+    let k = c.count_ended-number.result in
+    let lies = is-in run c.args.at k (Frame c.in-Frame.unit c.in-Frame.packet) c.count_ended-number.ensures.count_ended c.requires c.in-Frame.ensures.piece c.in-Frame.ensures.sound in
     let p = c.in-Frame.packet in
     let cut = c.in-Frame.ensures.sound in
     let o = c.args.at - c.place.result in
@@ -100,6 +100,6 @@ returns-in-Frame-clause-whole c =
 pub returns-in-Frame-clause-report : goal.returns-in-Frame-clause-report
 returns-in-Frame-clause-report c = λ other at.
     let run = c.args.self.now in
-    let count = ap (λ n. slice_get (sent run) n) (ended-is (run_pieces run) c.args.at c.ended-number.result c.ended-number.ensures.ended) in
+    let count = ap (λ n. slice_get (pieces_in run) n) (count_ended-is (run_pieces run) c.args.at c.count_ended-number.result c.count_ended-number.ensures.count_ended) in
     let here = c.in-Frame.ensures.piece in
     let same : Some (Report other) ≡ Some (Frame c.in-Frame.unit c.in-Frame.packet) = sym at ∙ count ∙ here in cc

@@ -1,6 +1,6 @@
-use Rattle.std.proofs.Common.{◌≡◌, ◌+◌, ◌≤◌, List, ℕ, take, arith, subst, sym, ◌∙◌}
+use Rattle.std.proofs.Common.{◌≡◌, List, ℕ, arith, subst, sym, ◌∙◌}
 use Rattle.std.specs.List.Sorted.{IsNonDecreasing}
-use Rattle.film_frames.specs.Pieces.{film_pieces, frames_in}
+use Rattle.film_frames.specs.Pieces.{film_pieces}
 use Rattle.film_frames.specs.Tables.{report_numbers}
 use Rattle.film_frames.proofs.ReportNumbers.{reports-count, reports-rise}
 use Rattle.film_frames.proofs.stores.Stored.frames.Goals as goal

@@ -1,4 +1,4 @@
-use Rattle.std.proofs.Common.{◌-◌, arith, take}
+use Rattle.std.proofs.Common.{◌-◌, arith}
 use Rattle.film_frames.specs.Pieces.{film_pieces}
 use Rattle.film_frames.proofs.PlaceLemmas.{film-payload, film-place}
 use Rattle.film_frames.proofs.ReportNumbers.{frames-few}

@@ -1,4 +1,13 @@
+use Rattle.std.proofs.Common.{arith}
+use Rattle.film_frames.proofs.FilmLemmas.{film-few}
+use Rattle.film_frames.proofs.SentLemmas.{all-short}
 use Rattle.film_frames.proofs.tables.FrameTable.make.Goals as goal
+
+pub new-requires-clause-pieces : goal.new-requires-clause-pieces
+new-requires-clause-pieces c = omega (arith, c.in_ok-pieces.ensures, all-short c.args.film.now)
+
+pub new-requires-clause-units : goal.new-requires-clause-units
+new-requires-clause-units c = omega (arith, c.len.ensures, c.args.film.now.units.ok, film-few c.args.film.now)
 
 pub loop-number-init : goal.loop-number-init
 loop-number-init c =

@@ -1,6 +1,6 @@
 use Rattle.std.proofs.Common.{arith, sym, ap, ◌∙◌, subst, List, ℕ, Ok}
 use Rattle.film_frames.specs.Tracks.{IsTrace, differences}
-use Rattle.film_frames.proofs.TraceLemmas.{summed-more, running-is, trace-is, differences-running}
+use Rattle.film_frames.proofs.TraceLemmas.{summed-more, running_sums-is, trace-is, differences-running_sums}
 use Rattle.film_frames.proofs.traces.TraceTrack.new.Goals as goal
 
 pub overflow_add-end : goal.overflow_add-end
@@ -19,11 +19,11 @@ loop-number-preserved c =
 
 pub invariant_of-result : goal.invariant_of-result
 invariant_of-result c =
-    let now = running-is c.args.sizes.items c.loop-number.sizes.items c.loop-number.invariant.len (λ k h. c.loop-number.invariant.done k (omega (arith, h, c.loop-number-test.false, c.len-number-end.ensures, c.args.sizes.ok))) in
+    let now = running_sums-is c.args.sizes.items c.loop-number.sizes.items c.loop-number.invariant.len (λ k h. c.loop-number.invariant.done k (omega (arith, h, c.loop-number-test.false, c.len-number-end.ensures, c.args.sizes.ok))) in
     let P : List ℕ → Type 0 = λ l. IsTrace l in
     subst P (sym now) (trace-is c.args.sizes.items c.requires)
 
 pub returns : goal.returns
 returns c =
-    let now = running-is c.args.sizes.items c.loop-number.sizes.items c.loop-number.invariant.len (λ k h. c.loop-number.invariant.done k (omega (arith, h, c.loop-number-test.false, c.len-number-end.ensures, c.args.sizes.ok))) in
-    ap (λ (l : List ℕ). Ok l) (ap (λ (l : List ℕ). differences 0 l) now ∙ differences-running 0 c.args.sizes.items)
+    let now = running_sums-is c.args.sizes.items c.loop-number.sizes.items c.loop-number.invariant.len (λ k h. c.loop-number.invariant.done k (omega (arith, h, c.loop-number-test.false, c.len-number-end.ensures, c.args.sizes.ok))) in
+    ap (λ (l : List ℕ). Ok l) (ap (λ (l : List ℕ). differences 0 l) now ∙ differences-running_sums 0 c.args.sizes.items)
