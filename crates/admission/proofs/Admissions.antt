@@ -11,7 +11,7 @@ use Rattle.admission.specs.declared.entries.Command.{Command}
 use Rattle.admission.specs.declared.entries.Command.TheVariants.{Play, Halt, Look}
 use Rattle.admission.specs.declared.entries.Answer.{Answer}
 use Rattle.admission.specs.declared.entries.Answer.TheVariants.{Admitted, Overflow, Halted, Looked}
-use Rattle.admission.specs.Machine.{State, Held, CanHalt, IsAnswer, held_as, next_state, opened}
+use Rattle.admission.specs.Machine.{State, Held, CanHalt, IsAnswer, held_as, next_state, admitted_play}
 use Rattle.admission.specs.Histories.{IsLegal, play_admitted, state_after}
 use Rattle.admission.proofs.Runs.{legal-at, next_of, no_entry, state-next}
 use Rattle.admission.proofs.Halts.{all-halted, halting, holds-of, split}
@@ -30,7 +30,7 @@ known-next : (steps : List CapStep) (entries : List Entry) (n : ℕ) (state : St
     ((none : Entry) → play_admitted (get_or entries n none).command (get_or entries n none).answer ≡ play_admitted command answer) →
     All (IsKnown entries n) state.held → All (IsKnown entries (n + 1)) (next_state state n command answer).held
 known-next steps entries n state (Play slot segments) (Admitted start) is here all =
-    All-push (IsKnown entries (n + 1)) state.held (opened n start segments) (known_more entries n state.held all) (record { inside = omega arith; admitted = here })
+    All-push (IsKnown entries (n + 1)) state.held (admitted_play n start segments) (known_more entries n state.held all) (record { inside = omega arith; admitted = here })
 known-next steps entries n state (Play slot segments) (Overflow over booked asked) is here all = known_more entries n state.held all
 known-next steps entries n state (Play slot segments) Halted is here all = absurd is
 known-next steps entries n state (Play slot segments) (Looked now at booked) is here all = absurd is

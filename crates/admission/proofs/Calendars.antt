@@ -11,7 +11,7 @@ use Rattle.slot_calendar.specs.Calendars.{Entries as Calendar, StandsFor, Fits, 
 use Rattle.slot_calendar.proofs.Sending.{asked-before}
 use Rattle.admission.specs.declared.entries.Command.TheVariants.{Look}
 use Rattle.admission.specs.declared.entries.Answer.TheVariants.{Looked}
-use Rattle.admission.specs.Machine.{State, Held, IsAnswer, IsWithin, booked_in, closed, halted, held_as, opened, plays_of}
+use Rattle.admission.specs.Machine.{State, Held, IsAnswer, IsWithin, booked_in, halted_play, with_halted, held_as, admitted_play, plays_of}
 use Rattle.admission.specs.Kept.{Follows}
 use Rattle.admission.proofs.Halts.{play_of, plays-split, split}
 
@@ -52,34 +52,34 @@ overflow-everywhere steps calendar state start segments over within stands after
 
 -- a play more
 pub stands-opened : (calendar : Calendar) (held : List Held) (number start : ℕ) (segments : List Segment) → StandsFor calendar (map play_of held ++ whole_play start segments ∷ []) →
-    StandsFor calendar (map play_of (held ++ opened number start segments ∷ []))
-stands-opened calendar held number start segments stands = subst (StandsFor calendar) (sym (map_push play_of held (opened number start segments))) stands
+    StandsFor calendar (map play_of (held ++ admitted_play number start segments ∷ []))
+stands-opened calendar held number start segments stands = subst (StandsFor calendar) (sym (map_push play_of held (admitted_play number start segments))) stands
 
 -- the plays around one that stands whole
 plays-around : (state : State) (number start : ℕ) (segments : List Segment) (h : Held) (is : held_as number state.held ≡ Some h) → h.play ≡ whole_play start segments →
-    plays_of state ≡ map play_of (split number state.held h is).before ++ whole_play start segments ∷ map play_of (split number state.held h is).behind
+    plays_of state ≡ map play_of (split number state.held h is).before ++ whole_play start segments ∷ map play_of (split number state.held h is).after
 plays-around state number start segments h is play_is =
     let parts = split number state.held h is in
-    ap (map play_of) parts.was ∙ plays-split parts.before parts.behind h ∙ ap (λ p. map play_of parts.before ++ p ∷ map play_of parts.behind) play_is
+    ap (map play_of) parts.was ∙ plays-split parts.before parts.after h ∙ ap (λ p. map play_of parts.before ++ p ∷ map play_of parts.after) play_is
 
 -- it may be cut
 pub cut-allowed : (calendar : Calendar) (state : State) (number keep start : ℕ) (segments : List Segment) (h : Held) → held_as number state.held ≡ Some h → h.play ≡ whole_play start segments →
-    StandsFor calendar (plays_of state) → ((before behind : List Booked) → StandsFor calendar (before ++ whole_play start segments ∷ behind) →
+    StandsFor calendar (plays_of state) → ((before after : List Booked) → StandsFor calendar (before ++ whole_play start segments ∷ after) →
     (t : ℕ) → calendar.first ≤ t → cut_at segments start keep t ≤ booked_at calendar t) → (t : ℕ) → calendar.first ≤ t → cut_at segments start keep t ≤ booked_at calendar t
 cut-allowed calendar state number keep start segments h is play_is stands law =
     let parts = split number state.held h is in
-    law (map play_of parts.before) (map play_of parts.behind) (subst (StandsFor calendar) (plays-around state number start segments h is play_is) stands)
+    law (map play_of parts.before) (map play_of parts.after) (subst (StandsFor calendar) (plays-around state number start segments h is play_is) stands)
 
 -- once it is cut, the calendar stands for the plays with that one halted
 pub stands-halted : (old new : Calendar) (state : State) (number keep start : ℕ) (segments : List Segment) (h : Held) → held_as number state.held ≡ Some h → h.play ≡ whole_play start segments →
-    StandsFor old (plays_of state) → ((before behind : List Booked) → StandsFor old (before ++ whole_play start segments ∷ behind) → StandsFor new (before ++ cut_play start segments keep ∷ behind)) →
-    StandsFor new (map play_of (halted number keep state.held))
+    StandsFor old (plays_of state) → ((before after : List Booked) → StandsFor old (before ++ whole_play start segments ∷ after) → StandsFor new (before ++ cut_play start segments keep ∷ after)) →
+    StandsFor new (map play_of (with_halted number keep state.held))
 stands-halted old new state number keep start segments h is play_is stands cut =
     let parts = split number state.held h is in
     let front = map play_of parts.before in
-    let back = map play_of parts.behind in
-    let becomes : map play_of (halted number keep state.held) ≡ front ++ cut_play start segments keep ∷ back =
-    ap (map play_of) (parts.becomes keep) ∙ plays-split parts.before parts.behind (closed keep h) ∙ ap (λ (p : Booked). front ++ cut_play p.start p.segments keep ∷ back) play_is in
+    let back = map play_of parts.after in
+    let becomes : map play_of (with_halted number keep state.held) ≡ front ++ cut_play start segments keep ∷ back =
+    ap (map play_of) (parts.becomes keep) ∙ plays-split parts.before parts.after (halted_play keep h) ∙ ap (λ (p : Booked). front ++ cut_play p.start p.segments keep ∷ back) play_is in
     subst (StandsFor new) (sym becomes) (cut front back (subst (StandsFor old) (plays-around state number start segments h is play_is) stands))
 
 -- what a look tells

@@ -7,7 +7,7 @@ use Rattle.admission.specs.declared.entries.Command.{Command}
 use Rattle.admission.specs.declared.entries.Command.TheVariants.{Play, Halt, Look}
 use Rattle.admission.specs.declared.entries.Answer.{Answer}
 use Rattle.admission.specs.declared.entries.Answer.TheVariants.{Admitted, Overflow, Halted, Looked}
-use Rattle.admission.specs.Machine.{State, Held, closed, halted, held_as, next_state, opened}
+use Rattle.admission.specs.Machine.{State, Held, halted_play, with_halted, held_as, next_state, admitted_play}
 use Rattle.admission.specs.Histories.{Halts}
 
 -- a play more
@@ -20,24 +20,24 @@ found-push number (x ∷ rest) h new is = elim (cases_Bool (eqb x.number number)
 ]
 
 -- a new number is found at the end
-pub found-new : (number start : ℕ) (segments : List Segment) (held : List Held) → All (λ h. h.number < number) held → held_as number (held ++ opened number start segments ∷ []) ≡ Some (opened number start segments)
+pub found-new : (number start : ℕ) (segments : List Segment) (held : List Held) → All (λ h. h.number < number) held → held_as number (held ++ admitted_play number start segments ∷ []) ≡ Some (admitted_play number start segments)
 found-new number start segments [] all =
-    cond-true (eqb number number) (Some (opened number start segments)) (held_as number []) (eq-eqb number number refl)
+    cond-true (eqb number number) (Some (admitted_play number start segments)) (held_as number []) (eq-eqb number number refl)
 found-new number start segments (x ∷ rest) all =
     let less : x.number < number = All-head (λ h. h.number < number) x rest all in
-    cond-false (eqb x.number number) (Some x) (held_as number (rest ++ opened number start segments ∷ [])) (ne_eqb x.number number (λ e. omega (arith, e, less)))
+    cond-false (eqb x.number number) (Some x) (held_as number (rest ++ admitted_play number start segments ∷ [])) (ne_eqb x.number number (λ e. omega (arith, e, less)))
     ∙ found-new number start segments rest (All-tail (λ h. h.number < number) x rest all)
 
 -- a halt of another play leaves it
-pub found-other : (number other keep : ℕ) (held : List Held) → (other ≡ number → ⊥) → held_as number (halted other keep held) ≡ held_as number held
+pub found-other : (number other keep : ℕ) (held : List Held) → (other ≡ number → ⊥) → held_as number (with_halted other keep held) ≡ held_as number held
 found-other number other keep [] apart = refl
 found-other number other keep (x ∷ rest) apart = elim (cases_Bool (eqb x.number other)) [
   | inl that ↦ (
       let no : eqb x.number number ≡ false = ne_eqb x.number number (λ e. apart (sym (eqb-true x.number other that) ∙ e)) in
-      ap (held_as number) (cond-true (eqb x.number other) (closed keep x ∷ rest) (x ∷ halted other keep rest) that)
-      ∙ cond-false (eqb x.number number) (Some (closed keep x)) (held_as number rest) no ∙ sym (cond-false (eqb x.number number) (Some x) (held_as number rest) no)
+      ap (held_as number) (cond-true (eqb x.number other) (halted_play keep x ∷ rest) (x ∷ with_halted other keep rest) that)
+      ∙ cond-false (eqb x.number number) (Some (halted_play keep x)) (held_as number rest) no ∙ sym (cond-false (eqb x.number number) (Some x) (held_as number rest) no)
       )
-  | inr this ↦ ap (held_as number) (cond-false (eqb x.number other) (closed keep x ∷ rest) (x ∷ halted other keep rest) this) ∙ found-under number x (halted other keep rest) rest (found-other number other keep rest apart)
+  | inr this ↦ ap (held_as number) (cond-false (eqb x.number other) (halted_play keep x ∷ rest) (x ∷ with_halted other keep rest) this) ∙ found-under number x (with_halted other keep rest) rest (found-other number other keep rest apart)
 ]
   where
     found-under : (number : ℕ) (x : Held) (xs ys : List Held) → held_as number xs ≡ held_as number ys → held_as number (x ∷ xs) ≡ held_as number (x ∷ ys)
@@ -47,24 +47,24 @@ found-other number other keep (x ∷ rest) apart = elim (cases_Bool (eqb x.numbe
     ]
 
 -- the halt of it closes it
-pub found-closed : (number keep : ℕ) (held : List Held) (h : Held) → held_as number held ≡ Some h → held_as number (halted number keep held) ≡ Some (closed keep h)
+pub found-closed : (number keep : ℕ) (held : List Held) (h : Held) → held_as number held ≡ Some h → held_as number (with_halted number keep held) ≡ Some (halted_play keep h)
 found-closed number keep [] h is = let bad : ⊥ = cc in absurd bad
 found-closed number keep (x ∷ rest) h is = elim (cases_Bool (eqb x.number number)) [
   | inl here ↦ (
       let same : Some x ≡ Some h = sym (cond-true (eqb x.number number) (Some x) (held_as number rest) here) ∙ is in
       let that : x ≡ h = cc in
-      ap (held_as number) (cond-true (eqb x.number number) (closed keep x ∷ rest) (x ∷ halted number keep rest) here)
-      ∙ cond-true (eqb x.number number) (Some (closed keep x)) (held_as number rest) here ∙ ap (λ (y : Held). Some (closed keep y)) that
+      ap (held_as number) (cond-true (eqb x.number number) (halted_play keep x ∷ rest) (x ∷ with_halted number keep rest) here)
+      ∙ cond-true (eqb x.number number) (Some (halted_play keep x)) (held_as number rest) here ∙ ap (λ (y : Held). Some (halted_play keep y)) that
       )
-  | inr later ↦ ap (held_as number) (cond-false (eqb x.number number) (closed keep x ∷ rest) (x ∷ halted number keep rest) later)
-      ∙ cond-false (eqb x.number number) (Some x) (held_as number (halted number keep rest)) later
+  | inr later ↦ ap (held_as number) (cond-false (eqb x.number number) (halted_play keep x ∷ rest) (x ∷ with_halted number keep rest) later)
+      ∙ cond-false (eqb x.number number) (Some x) (held_as number (with_halted number keep rest)) later
       ∙ found-closed number keep rest h (sym (cond-false (eqb x.number number) (Some x) (held_as number rest) later) ∙ is)
 ]
 
 -- a step that doesn't halt it leaves it
 pub found-next : (state : State) (place number : ℕ) (h : Held) (command : Command) (answer : Answer) → (Halts number command → ⊥) → held_as number state.held ≡ Some h →
     held_as number (next_state state place command answer).held ≡ Some h
-found-next state place number h (Play slot segments) (Admitted start) apart is = found-push number state.held h (opened place start segments) is
+found-next state place number h (Play slot segments) (Admitted start) apart is = found-push number state.held h (admitted_play place start segments) is
 found-next state place number h (Play slot segments) (Overflow over booked asked) apart is = is
 found-next state place number h (Play slot segments) Halted apart is = is
 found-next state place number h (Play slot segments) (Looked now at booked) apart is = is

@@ -1,11 +1,11 @@
--- The play that a halt closes, among the plays before and behind it.
+-- The play that a halt closes, among the plays before and after it.
 use Rattle.std.proofs.Common.{◌≡◌, ◌≤◌, ℕ, true, eqb, List, [], ◌∷◌, ◌++◌, length, map, All, Option, Some, None, IsSomeAnd, arith, refl, sym, ap, subst, ◌∙◌, inl, inr}
 use Rattle.std.proofs.lemmas.Bool.{cases_Bool, cond-true, cond-false, eqb-true}
 use Rattle.std.proofs.lemmas.List.{drop_at, get_or_at, length-append, map-append, take_at}
 use Rattle.std.proofs.lemmas.List.Elements.{All-append, All-cons, All-drop, All-tail, All-take}
 use Rattle.plan_cert.specs.Slots.{total_bytes}
 use Rattle.slot_calendar.specs.Plays.{Play as Booked}
-use Rattle.admission.specs.Machine.{State, Held, held_as, halted, closed, CanHalt}
+use Rattle.admission.specs.Machine.{State, Held, held_as, with_halted, halted_play, CanHalt}
 
 -- ---- what a halt's condition says
 pub record Halting (state : State) (number keep : ℕ) : Type 0 where
@@ -24,12 +24,12 @@ halting state number keep can =
     let found = some_play (held_as number state.held) keep can in
     record { held = found.0; is = found.1.0; is_open = found.1.1.0; small = found.1.1.1 }
 
--- ---- the plays before and behind the one of a number
+-- ---- the plays before and after the one of a number
 pub record IsSplit (number : ℕ) (held : List Held) (h : Held) : Type 0 where
   pub before : List Held
-  pub behind : List Held
-  pub was : held ≡ before ++ h ∷ behind
-  pub becomes : (keep : ℕ) → halted number keep held ≡ before ++ closed keep h ∷ behind
+  pub after : List Held
+  pub was : held ≡ before ++ h ∷ after
+  pub becomes : (keep : ℕ) → with_halted number keep held ≡ before ++ halted_play keep h ∷ after
   pub number_is : h.number ≡ number
 
 pub split : (number : ℕ) (held : List Held) (h : Held) → held_as number held ≡ Some h → IsSplit number held h
@@ -41,9 +41,9 @@ split number (x ∷ rest) h is =
           let here : x ≡ h = cc in
           record {
             before = [];
-            behind = rest;
+            after = rest;
             was = ap (λ (y : Held). y ∷ rest) here;
-            becomes = λ keep. cond-true (eqb x.number number) (closed keep x ∷ rest) (x ∷ halted number keep rest) found ∙ ap (λ (y : Held). closed keep y ∷ rest) here;
+            becomes = λ keep. cond-true (eqb x.number number) (halted_play keep x ∷ rest) (x ∷ with_halted number keep rest) found ∙ ap (λ (y : Held). halted_play keep y ∷ rest) here;
             number_is = sym (ap (λ (y : Held). y.number) here) ∙ eqb-true x.number number found;
           }
           )
@@ -51,9 +51,9 @@ split number (x ∷ rest) h is =
           let later = split number rest h (sym (cond-false (eqb x.number number) (Some x) (held_as number rest) other) ∙ is) in
           record {
             before = x ∷ later.before;
-            behind = later.behind;
+            after = later.after;
             was = ap (λ l. x ∷ l) later.was;
-            becomes = λ keep. cond-false (eqb x.number number) (closed keep x ∷ rest) (x ∷ halted number keep rest) other ∙ ap (λ l. x ∷ l) (later.becomes keep);
+            becomes = λ keep. cond-false (eqb x.number number) (halted_play keep x ∷ rest) (x ∷ with_halted number keep rest) other ∙ ap (λ l. x ∷ l) (later.becomes keep);
             number_is = later.number_is;
           }
           )
@@ -64,25 +64,25 @@ pub holds-of : (P : Held → Type 0) (number : ℕ) (held : List Held) (h : Held
 holds-of P number held h all is =
     let parts = split number held h is in
     let S : List Held → Type 0 = λ l. All P l in
-    let all' : All P (parts.before ++ h ∷ parts.behind) = subst S parts.was all in
-    subst P (get_or_at parts.before h parts.behind h (length parts.before) refl)
-    (all' (length parts.before) h (omega (arith, length-append parts.before (h ∷ parts.behind))))
+    let all' : All P (parts.before ++ h ∷ parts.after) = subst S parts.was all in
+    subst P (get_or_at parts.before h parts.after h (length parts.before) refl)
+    (all' (length parts.before) h (omega (arith, length-append parts.before (h ∷ parts.after))))
 
 -- and of all plays after the halt, if it holds of that one
-pub all-halted : (P : Held → Type 0) (number keep : ℕ) (held : List Held) (h : Held) → held_as number held ≡ Some h → P (closed keep h) → All P held → All P (halted number keep held)
+pub all-halted : (P : Held → Type 0) (number keep : ℕ) (held : List Held) (h : Held) → held_as number held ≡ Some h → P (halted_play keep h) → All P held → All P (with_halted number keep held)
 all-halted P number keep held h is here all =
     let parts = split number held h is in
     let S : List Held → Type 0 = λ l. All P l in
-    let all' : All P (parts.before ++ h ∷ parts.behind) = subst S parts.was all in
+    let all' : All P (parts.before ++ h ∷ parts.after) = subst S parts.was all in
     let front : All P parts.before =
-    subst S (take_at parts.before (h ∷ parts.behind) (length parts.before) refl) (All-take P (length parts.before) (parts.before ++ h ∷ parts.behind) all') in
-    let back : All P (h ∷ parts.behind) =
-    subst S (drop_at parts.before (h ∷ parts.behind) (length parts.before) refl) (All-drop P (length parts.before) (parts.before ++ h ∷ parts.behind) all') in
-    subst S (sym (parts.becomes keep)) (All-append P parts.before (closed keep h ∷ parts.behind) front (All-cons P (closed keep h) parts.behind here (All-tail P h parts.behind back)))
+    subst S (take_at parts.before (h ∷ parts.after) (length parts.before) refl) (All-take P (length parts.before) (parts.before ++ h ∷ parts.after) all') in
+    let back : All P (h ∷ parts.after) =
+    subst S (drop_at parts.before (h ∷ parts.after) (length parts.before) refl) (All-drop P (length parts.before) (parts.before ++ h ∷ parts.after) all') in
+    subst S (sym (parts.becomes keep)) (All-append P parts.before (halted_play keep h ∷ parts.after) front (All-cons P (halted_play keep h) parts.after here (All-tail P h parts.after back)))
 
 abbrev pub play_of : Held → Booked
 play_of h = h.play
 
 -- what the plays book, in the same parts
-pub plays-split : (before behind : List Held) (h : Held) → map play_of (before ++ h ∷ behind) ≡ map play_of before ++ h.play ∷ map play_of behind
-plays-split before behind h = map-append play_of before (h ∷ behind)
+pub plays-split : (before after : List Held) (h : Held) → map play_of (before ++ h ∷ after) ≡ map play_of before ++ h.play ∷ map play_of after
+plays-split before after h = map-append play_of before (h ∷ after)

@@ -11,7 +11,7 @@ use Rattle.admission.specs.declared.entries.Command.{Command}
 use Rattle.admission.specs.declared.entries.Command.TheVariants.{Play, Halt}
 use Rattle.admission.specs.declared.entries.Answer.{Answer}
 use Rattle.admission.specs.declared.entries.Answer.TheVariants.{Admitted, Overflow, Halted, Looked}
-use Rattle.admission.specs.Machine.{State, Held, CanHalt, IsAnswer, closed, next_state, open_plays, opened}
+use Rattle.admission.specs.Machine.{State, Held, CanHalt, IsAnswer, halted_play, next_state, open_plays, admitted_play}
 use Rattle.admission.specs.Histories.{IsAnswered, IsLegal, is_admission, live, state_after}
 use Rattle.admission.specs.Books.{IsNoted, Journal}
 use Rattle.admission.specs.Kept.{Follows, IsKept}
@@ -28,7 +28,7 @@ opens-most (Looked now at booked) = omega arith
 -- a play that was asked for
 pub open-asked : (steps : List CapStep) (state : State) (place slot : ℕ) (segments : List Segment) (answer : Answer) → IsAnswer steps state (Play slot segments) answer →
     open_plays (next_state state place (Play slot segments) answer) ≡ open_plays state + cond (is_admission answer) 1 0
-open-asked steps state place slot segments (Admitted start) is = sum_by_push (λ (h : Held). cond h.is_open 1 0) state.held (opened place start segments)
+open-asked steps state place slot segments (Admitted start) is = sum_by_push (λ (h : Held). cond h.is_open 1 0) state.held (admitted_play place start segments)
 open-asked steps state place slot segments (Overflow over booked asked) is = omega arith
 open-asked steps state place slot segments Halted is = absurd is
 open-asked steps state place slot segments (Looked now at booked) is = absurd is
@@ -40,9 +40,9 @@ open-halted state place number keep can =
     let parts = split number state.held h.held h.is in
     let f : Held → ℕ = λ x. cond x.is_open 1 0 in
     let one : f h.held ≡ 1 = ap (λ b. cond b 1 0) h.is_open in
-    let old = ap (λ l. sum_by f l) parts.was ∙ sum_by-append f parts.before (h.held ∷ parts.behind) ∙ ap (λ n. sum_by f parts.before + n) (sum_by-cons f h.held parts.behind) in
-    let new = ap (λ l. sum_by f l) (parts.becomes keep) ∙ sum_by-append f parts.before (closed keep h.held ∷ parts.behind)
-    ∙ ap (λ n. sum_by f parts.before + n) (sum_by-cons f (closed keep h.held) parts.behind) in
+    let old = ap (λ l. sum_by f l) parts.was ∙ sum_by-append f parts.before (h.held ∷ parts.after) ∙ ap (λ n. sum_by f parts.before + n) (sum_by-cons f h.held parts.after) in
+    let new = ap (λ l. sum_by f l) (parts.becomes keep) ∙ sum_by-append f parts.before (halted_play keep h.held ∷ parts.after)
+    ∙ ap (λ n. sum_by f parts.before + n) (sum_by-cons f (halted_play keep h.held) parts.after) in
     omega (arith, old, new, one)
 
 -- ---- one entry more

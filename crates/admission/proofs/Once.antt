@@ -1,13 +1,12 @@
 -- The machine gives one answer, so a list of commands has one legal history.
-use Rattle.std.proofs.Common.{◌≡◌, ◌≤◌, ◌<◌, ◌+◌, ℕ, zero, suc, List, length, get_or, map, take, arith, refl, sym, ap, subst, ◌∙◌, inl, inr}
-use Rattle.std.proofs.lemmas.Bool.{cases_order}
+use Rattle.std.proofs.Common.{◌≡◌, ◌≤◌, ◌<◌, ◌+◌, ℕ, zero, suc, List, length, get_or, map, take, arith, refl, sym, ap, subst, ◌∙◌}
 use Rattle.std.proofs.lemmas.List.{get_or-map, length-map, take_all, take_more_same}
 use Rattle.plan_cert.specs.declared.Segment.{Segment}
 use Rattle.slot_calendar.specs.declared.profiles.CapStep.{CapStep}
 use Rattle.slot_calendar.specs.Profiles.{capacity_at}
-use Rattle.slot_calendar.specs.Plays.{asked_at}
 use Rattle.slot_calendar.specs.declared.calendar.Overflow.{Overflow as Over}
 use Rattle.slot_calendar.specs.Calendars.{HasRoom, IsFirstOverflow}
+use Rattle.slot_calendar.proofs.Overflows.{no-room, overflow-once as one-overflow}
 use Rattle.admission.specs.declared.entries.Entry.{Entry}
 use Rattle.admission.specs.declared.entries.Command.{Command}
 use Rattle.admission.specs.declared.entries.Command.TheVariants.{Play, Halt, Look}
@@ -17,33 +16,21 @@ use Rattle.admission.specs.Machine.{State, IsAnswer, booked_in, start_after}
 use Rattle.admission.specs.Histories.{IsLegal, state_after}
 use Rattle.admission.proofs.Runs.{legal-at, no_entry}
 
--- a plan that fits everywhere has no overflow
-no_overflow : (booked capacity : ℕ → ℕ) (start : ℕ) (segments : List Segment) (over : Over) → HasRoom 0 booked capacity start segments →
-    IsFirstOverflow 0 booked capacity start segments over → ⊥
-no_overflow booked capacity start segments over room first = omega (arith, room.each over.slot first.begun, first.overflows)
-
-overflow-once : (booked capacity : ℕ → ℕ) (start : ℕ) (segments : List Segment) (a b : Over) → IsFirstOverflow 0 booked capacity start segments a →
+same-overflow : (booked capacity : ℕ → ℕ) (start : ℕ) (segments : List Segment) (a b : Over) → IsFirstOverflow 0 booked capacity start segments a →
     IsFirstOverflow 0 booked capacity start segments b → Overflow a.slot a.booked a.asked ≡ Overflow b.slot b.booked b.asked
-overflow-once booked capacity start segments a b x y =
-    let slot : a.slot ≡ b.slot = elim (cases_order a.slot b.slot) [
-      | inl same ↦ same
-      | inr (inl less) ↦ omega (arith, x.overflows, y.least a.slot x.begun less)
-      | inr (inr more) ↦ omega (arith, y.overflows, x.least b.slot y.begun more)
-    ] in
-    let booked_is : a.booked ≡ b.booked = x.booked_is ∙ ap booked slot ∙ sym y.booked_is in
-    let asked_is : a.asked ≡ b.asked = x.asked_is ∙ ap (asked_at segments start) slot ∙ sym y.asked_is in
-    ap (λ n. Overflow n a.booked a.asked) slot ∙ ap (λ n. Overflow b.slot n a.asked) booked_is ∙ ap (λ n. Overflow b.slot b.booked n) asked_is
+same-overflow booked capacity start segments a b x y =
+    ap (λ (over : Over). Overflow over.slot over.booked over.asked) (one-overflow 0 start booked capacity segments a b x y)
 
 pub answer-once : (steps : List CapStep) (state : State) (command : Command) (a b : Answer) → IsAnswer steps state command a → IsAnswer steps state command b → a ≡ b
 answer-once steps state (Play slot segments) (Admitted start) (Admitted other) x y = ap (λ n. Admitted n) (x.0 ∙ sym y.0)
 answer-once steps state (Play slot segments) (Admitted start) (Overflow over booked asked) x y =
     let R : ℕ → Type 0 = λ n. HasRoom 0 (booked_in state) (capacity_at steps) n segments in
-    absurd (no_overflow (booked_in state) (capacity_at steps) (start_after state slot) segments (record { slot = over; booked = booked; asked = asked }) (subst R x.0 x.1) y)
+    absurd (no-room 0 (start_after state slot) (booked_in state) (capacity_at steps) segments (record { slot = over; booked = booked; asked = asked }) y (subst R x.0 x.1))
 answer-once steps state (Play slot segments) (Overflow over booked asked) (Admitted start) x y =
     let R : ℕ → Type 0 = λ n. HasRoom 0 (booked_in state) (capacity_at steps) n segments in
-    absurd (no_overflow (booked_in state) (capacity_at steps) (start_after state slot) segments (record { slot = over; booked = booked; asked = asked }) (subst R y.0 y.1) x)
+    absurd (no-room 0 (start_after state slot) (booked_in state) (capacity_at steps) segments (record { slot = over; booked = booked; asked = asked }) x (subst R y.0 y.1))
 answer-once steps state (Play slot segments) (Overflow over booked asked) (Overflow other have want) x y =
-    overflow-once (booked_in state) (capacity_at steps) (start_after state slot) segments (record { slot = over; booked = booked; asked = asked })
+    same-overflow (booked_in state) (capacity_at steps) (start_after state slot) segments (record { slot = over; booked = booked; asked = asked })
     (record { slot = other; booked = have; asked = want }) x y
 answer-once steps state (Play slot segments) (Admitted start) Halted x y = absurd y
 answer-once steps state (Play slot segments) (Admitted start) (Looked now at booked) x y = absurd y

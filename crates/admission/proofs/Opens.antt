@@ -12,7 +12,7 @@ use Rattle.admission.specs.declared.entries.Command.{Command}
 use Rattle.admission.specs.declared.entries.Command.TheVariants.{Play, Halt, Look}
 use Rattle.admission.specs.declared.entries.Answer.{Answer}
 use Rattle.admission.specs.declared.entries.Answer.TheVariants.{Admitted, Overflow, Halted, Looked}
-use Rattle.admission.specs.Machine.{State, Held, CanHalt, IsAnswer, closed, halted, held_as, next_state, opened}
+use Rattle.admission.specs.Machine.{State, Held, CanHalt, IsAnswer, halted_play, with_halted, held_as, next_state, admitted_play}
 use Rattle.admission.specs.Histories.{Halts, IsAdmission, IsHalt, IsLegal, IsStillOpen, IsUnhalted, play_admitted, state_after}
 use Rattle.admission.proofs.Runs.{legal-at, legal-take, no_entry, state-next, state-push}
 use Rattle.admission.proofs.Halts.{halting, holds-of, split}
@@ -25,7 +25,7 @@ numbers-below : (steps : List CapStep) (xs : List Entry) (n : ℕ) → IsLegal s
 numbers-below steps xs n legal few = All-weaker (IsKnown xs n) (λ h. h.number < n) (λ h known. known.inside) (state_after (take n xs)).held (known-at steps xs n legal few)
 
 opened-here : (steps : List CapStep) (xs : List Entry) (number start : ℕ) (segments : List Segment) → IsLegal steps xs → IsAdmission xs number start segments →
-    held_as number (state_after (take (suc number) xs)).held ≡ Some (opened number start segments)
+    held_as number (state_after (take (suc number) xs)).held ≡ Some (admitted_play number start segments)
 opened-here steps xs number start segments legal admission =
     let e = get_or xs number no_entry in
     let state = state_after (take number xs) in
@@ -35,30 +35,30 @@ opened-here steps xs number start segments legal admission =
     ap (λ (s : State). held_as number s.held) next ∙ found-new number start segments state.held (numbers-below steps xs number legal (omega (arith, admission.inside)))
 
 pub stays-open : (steps : List CapStep) (xs : List Entry) (number start : ℕ) (segments : List Segment) (k : ℕ) → IsLegal steps xs → IsAdmission xs number start segments →
-    IsUnhalted xs number → number < k → k ≤ length xs → held_as number (state_after (take k xs)).held ≡ Some (opened number start segments)
+    IsUnhalted xs number → number < k → k ≤ length xs → held_as number (state_after (take k xs)).held ≡ Some (admitted_play number start segments)
 stays-open steps xs number start segments zero legal admission unhalted less few = absurd (omega (arith, less))
 stays-open steps xs number start segments (suc j) legal admission unhalted less few = elim (cases_order j number) [
   | inl same ↦ (
-      let H : ℕ → Type 0 = λ n. held_as number (state_after (take (suc n) xs)).held ≡ Some (opened number start segments) in
+      let H : ℕ → Type 0 = λ n. held_as number (state_after (take (suc n) xs)).held ≡ Some (admitted_play number start segments) in
       subst H (sym same) (opened-here steps xs number start segments legal admission)
       )
   | inr (inl before) ↦ absurd (omega (arith, less, before))
-  | inr (inr behind) ↦ (
+  | inr (inr after) ↦ (
       let inside : j < length xs = omega (arith, few) in
       let e = get_or xs j no_entry in
       ap (λ (s : State). held_as number s.held) (state-next xs j inside)
-      ∙ found-next (state_after (take j xs)) j number (opened number start segments) e.command e.answer (unhalted.each j no_entry inside)
-      (stays-open steps xs number start segments j legal admission unhalted behind (omega (arith, few)))
+      ∙ found-next (state_after (take j xs)) j number (admitted_play number start segments) e.command e.answer (unhalted.each j no_entry inside)
+      (stays-open steps xs number start segments j legal admission unhalted after (omega (arith, few)))
       )
 ]
 
 pub whole-after : (steps : List CapStep) (xs : List Entry) (number start : ℕ) (segments : List Segment) → IsLegal steps xs → IsAdmission xs number start segments →
-    IsUnhalted xs number → held_as number (state_after xs).held ≡ Some (opened number start segments)
+    IsUnhalted xs number → held_as number (state_after xs).held ≡ Some (admitted_play number start segments)
 whole-after steps xs number start segments legal admission unhalted =
-    let S : List Entry → Type 0 = λ l. held_as number (state_after l).held ≡ Some (opened number start segments) in
+    let S : List Entry → Type 0 = λ l. held_as number (state_after l).held ≡ Some (admitted_play number start segments) in
     subst S (take_all (length xs) xs (omega arith)) (stays-open steps xs number start segments (length xs) legal admission unhalted admission.inside (omega arith))
 
-can-halt : (held : List Held) (number start keep : ℕ) (segments : List Segment) (now : ℕ) → held_as number held ≡ Some (opened number start segments) → keep ≤ total_bytes segments →
+can-halt : (held : List Held) (number start keep : ℕ) (segments : List Segment) (now : ℕ) → held_as number held ≡ Some (admitted_play number start segments) → keep ≤ total_bytes segments →
     CanHalt (record { now = now; held = held }) number keep
 can-halt held number start keep segments now is small =
     let P : Option Held → Type 0 = λ o. IsSomeAnd o (λ (h : Held). (h.is_open ≡ true) × (keep ≤ total_bytes h.play.segments)) in
@@ -77,7 +77,7 @@ opened-last steps xs maker slot start keep segments legal small =
     let S : List Entry → Type 0 = λ l. All (λ h. h.number < length xs) (state_after l).held in
     let below = subst S (take_all (length xs) xs (omega arith)) (numbers-below steps xs (length xs) legal (omega arith)) in
     let C : State → Type 0 = λ s. CanHalt s (length xs) keep in
-    subst C (sym (state-push xs e)) (can-halt ((state_after xs).held ++ opened (length xs) start segments ∷ []) (length xs) start keep segments
+    subst C (sym (state-push xs e)) (can-halt ((state_after xs).held ++ admitted_play (length xs) start segments ∷ []) (length xs) start keep segments
     (max (state_after xs).now slot) (found-new (length xs) start segments (state_after xs).held below) small)
 
 -- ---- it is closed from its halt on
@@ -90,8 +90,8 @@ closed-here : (steps : List CapStep) (state : State) (place number : ℕ) (comma
     IsClosed number (next_state state place command answer)
 closed-here steps state place number (Halt that keep) Halted is same =
     let h = halting state that keep is in
-    let here : held_as that (halted that keep state.held) ≡ Some (closed keep h.held) = found-closed that keep state.held h.held h.is in
-    record { held = closed keep h.held; is = ap (λ n. held_as n (halted that keep state.held)) (sym same) ∙ here; closed_is = refl }
+    let here : held_as that (with_halted that keep state.held) ≡ Some (halted_play keep h.held) = found-closed that keep state.held h.held h.is in
+    record { held = halted_play keep h.held; is = ap (λ n. held_as n (with_halted that keep state.held)) (sym same) ∙ here; closed_is = refl }
 closed-here steps state place number (Halt that keep) (Admitted start) is same = absurd is
 closed-here steps state place number (Halt that keep) (Overflow over booked asked) is same = absurd is
 closed-here steps state place number (Halt that keep) (Looked now at booked) is same = absurd is
@@ -118,7 +118,7 @@ closed-rest : (steps : List CapStep) (xs : List Entry) (number from k : ℕ) (h 
 closed-rest steps xs number from k h legal closed_is is later few = elim (cases_order from k) [
   | inl same ↦ (let H : ℕ → Type 0 = λ n. held_as number (state_after (take n xs)).held ≡ Some h in subst H same is)
   | inr (inl before) ↦ closed-more steps xs number from k h legal closed_is is before few
-  | inr (inr behind) ↦ (let bad : ⊥ = omega (arith, later, behind) in absurd bad)
+  | inr (inr after) ↦ (let bad : ⊥ = omega (arith, later, after) in absurd bad)
 ]
   where
     closed-more : (steps : List CapStep) (xs : List Entry) (number from k : ℕ) (h : Held) → IsLegal steps xs → h.is_open ≡ false →
@@ -130,7 +130,7 @@ closed-rest steps xs number from k h legal closed_is is later few = elim (cases_
         let was : H j = elim (cases_order from j) [
           | inl same ↦ subst H same is
           | inr (inl before) ↦ closed-more steps xs number from j h legal closed_is is before (omega (arith, few))
-          | inr (inr behind) ↦ (let bad : ⊥ = omega (arith, less, behind) in absurd bad)
+          | inr (inr after) ↦ (let bad : ⊥ = omega (arith, less, after) in absurd bad)
         ] in
         let apart = halted-once steps (state_after (take j xs)) number e.command e.answer (legal-at steps xs j legal (omega (arith, few))) (record { held = h; is = was; closed_is = closed_is }) in
         ap (λ (s : State). held_as number s.held) (state-next xs j (omega (arith, few))) ∙ found-next (state_after (take j xs)) j number h e.command e.answer apart was
@@ -176,7 +176,7 @@ can-still steps xs number keep legal can =
 -- ---- a play that was halted
 -- the play that a halt may close is the one that was admitted, whole
 halted-whole : (steps : List CapStep) (xs : List Entry) (number start keep n : ℕ) (segments : List Segment) (h : Held) → IsLegal steps xs → n ≤ length xs → IsAdmission xs number start segments →
-    held_as number (state_after (take n xs)).held ≡ Some h → h.is_open ≡ true → h ≡ opened number start segments
+    held_as number (state_after (take n xs)).held ≡ Some h → h.is_open ≡ true → h ≡ admitted_play number start segments
 halted-whole steps xs number start keep n segments h legal few admission is is_open =
     let state = state_after (take n xs) in
     let number_is = (split number state.held h is).number_is in
@@ -194,32 +194,32 @@ halted-whole steps xs number start keep n segments h legal few admission is is_o
 
 cut-here : (steps : List CapStep) (xs : List Entry) (number start keep i : ℕ) (segments : List Segment) → IsLegal steps xs → i < length xs → IsAdmission xs number start segments →
     (command : Command) (answer : Answer) → command ≡ Halt number keep → IsAnswer steps (state_after (take i xs)) command answer →
-    held_as number (next_state (state_after (take i xs)) i command answer).held ≡ Some (closed keep (opened number start segments))
+    held_as number (next_state (state_after (take i xs)) i command answer).held ≡ Some (halted_play keep (admitted_play number start segments))
 cut-here steps xs number start keep i segments legal inside admission command answer same is =
     let state = state_after (take i xs) in
     let I : Command → Type 0 = λ c. IsAnswer steps state c answer in
     ap (λ c. held_as number (next_state state i c answer).held) same ∙ closing answer (subst I same is)
   where
     closing : (answer : Answer) → IsAnswer steps (state_after (take i xs)) (Halt number keep) answer →
-        held_as number (next_state (state_after (take i xs)) i (Halt number keep) answer).held ≡ Some (closed keep (opened number start segments))
+        held_as number (next_state (state_after (take i xs)) i (Halt number keep) answer).held ≡ Some (halted_play keep (admitted_play number start segments))
     closing Halted can =
         let state = state_after (take i xs) in
         let h = halting state number keep can in
-        let whole : h.held ≡ opened number start segments = halted-whole steps xs number start keep i segments h.held legal (omega (arith, inside)) admission h.is h.is_open in
-        found-closed number keep state.held h.held h.is ∙ ap (λ (x : Held). Some (closed keep x)) whole
+        let whole : h.held ≡ admitted_play number start segments = halted-whole steps xs number start keep i segments h.held legal (omega (arith, inside)) admission h.is h.is_open in
+        found-closed number keep state.held h.held h.is ∙ ap (λ (x : Held). Some (halted_play keep x)) whole
     closing (Admitted from) can = absurd can
     closing (Overflow over booked asked) can = absurd can
     closing (Looked now at booked) can = absurd can
 
 pub cut-after : (steps : List CapStep) (xs : List Entry) (number start keep i : ℕ) (segments : List Segment) → IsLegal steps xs → IsAdmission xs number start segments →
-    IsHalt xs i number keep → held_as number (state_after xs).held ≡ Some (closed keep (opened number start segments))
+    IsHalt xs i number keep → held_as number (state_after xs).held ≡ Some (halted_play keep (admitted_play number start segments))
 cut-after steps xs number start keep i segments legal admission halt =
     let e = get_or xs i no_entry in
-    closed-after steps xs number i (closed keep (opened number start segments)) legal refl halt.inside
+    closed-after steps xs number i (halted_play keep (admitted_play number start segments)) legal refl halt.inside
     (ap (λ (s : State). held_as number s.held) (state-next xs i halt.inside)
     ∙ cut-here steps xs number start keep i segments legal halt.inside admission e.command e.answer (halt.command_is no_entry) (legal-at steps xs i legal halt.inside))
 
--- a halt stands behind the entry that admitted its play
+-- a halt stands after the entry that admitted its play
 pub halt-later : (steps : List CapStep) (xs : List Entry) (number keep i : ℕ) → IsLegal steps xs → IsHalt xs i number keep → number < i
 halt-later steps xs number keep i legal halt =
     let e = get_or xs i no_entry in

@@ -14,7 +14,7 @@ use Rattle.admission.specs.declared.entries.Command.{Command}
 use Rattle.admission.specs.declared.entries.Command.TheVariants.{Play, Halt, Look}
 use Rattle.admission.specs.declared.entries.Answer.{Answer}
 use Rattle.admission.specs.declared.entries.Answer.TheVariants.{Admitted, Overflow, Halted, Looked}
-use Rattle.admission.specs.Machine.{State, Held, plays_of, booked_in, IsWithin, opened, closed, held_as, halted, IsAnswer, next_state}
+use Rattle.admission.specs.Machine.{State, Held, plays_of, booked_in, IsWithin, admitted_play, halted_play, held_as, with_halted, IsAnswer, next_state}
 use Rattle.admission.specs.Histories.{IsLegal, state_after}
 use Rattle.admission.proofs.Runs.{no_entry, state-next, legal-at}
 use Rattle.admission.proofs.Halts.{halting, split, holds-of, all-halted, play_of, plays-split}
@@ -25,7 +25,7 @@ pub record IsWhole (h : Held) : Type 0 where
 
 pub whole-next : (steps : List CapStep) (state : State) (place : ℕ) (command : Command) (answer : Answer) → IsAnswer steps state command answer → All IsWhole state.held →
     All IsWhole (next_state state place command answer).held
-whole-next steps state place (Play slot segments) (Admitted start) is all = All-push IsWhole state.held (opened place start segments) all (record { whole = λ _. refl })
+whole-next steps state place (Play slot segments) (Admitted start) is all = All-push IsWhole state.held (admitted_play place start segments) all (record { whole = λ _. refl })
 whole-next steps state place (Play slot segments) (Overflow over booked asked) is all = all
 whole-next steps state place (Play slot segments) Halted is all = absurd is
 whole-next steps state place (Play slot segments) (Looked now at booked) is all = absurd is
@@ -50,26 +50,26 @@ pub share-less : (segments : List Segment) (start keep more t : ℕ) → keep �
 share-less segments start keep more t less =
     min_parts (sent_before segments start t) (sent_before segments start (t + 1)) keep more (sent-rises segments start t (t + 1) (omega arith)) less
 
-booked-around : (before behind : List Held) (h : Held) (t : ℕ) →
-    booked_by (map play_of (before ++ h ∷ behind)) t ≡ booked_by (map play_of before) t + (share_at t h.play + booked_by (map play_of behind) t)
-booked-around before behind h t =
-    ap (λ l. booked_by l t) (plays-split before behind h) ∙ sum_by-append (share_at t) (map play_of before) (h.play ∷ map play_of behind)
-    ∙ ap (λ n. booked_by (map play_of before) t + n) (sum_by-cons (share_at t) h.play (map play_of behind))
+booked-around : (before after : List Held) (h : Held) (t : ℕ) →
+    booked_by (map play_of (before ++ h ∷ after)) t ≡ booked_by (map play_of before) t + (share_at t h.play + booked_by (map play_of after) t)
+booked-around before after h t =
+    ap (λ l. booked_by l t) (plays-split before after h) ∙ sum_by-append (share_at t) (map play_of before) (h.play ∷ map play_of after)
+    ∙ ap (λ n. booked_by (map play_of before) t + n) (sum_by-cons (share_at t) h.play (map play_of after))
 
 pub booked-halted : (state : State) (number keep t : ℕ) (h : Held) → held_as number state.held ≡ Some h → keep ≤ h.play.keep →
-    booked_by (map play_of (halted number keep state.held)) t ≤ booked_in state t
+    booked_by (map play_of (with_halted number keep state.held)) t ≤ booked_in state t
 booked-halted state number keep t h is less =
     let parts = split number state.held h is in
-    let old : booked_in state t ≡ booked_by (map play_of parts.before) t + (share_at t h.play + booked_by (map play_of parts.behind) t) =
-    ap (λ l. booked_by (map play_of l) t) parts.was ∙ booked-around parts.before parts.behind h t in
-    let new = ap (λ l. booked_by (map play_of l) t) (parts.becomes keep) ∙ booked-around parts.before parts.behind (closed keep h) t in
+    let old : booked_in state t ≡ booked_by (map play_of parts.before) t + (share_at t h.play + booked_by (map play_of parts.after) t) =
+    ap (λ l. booked_by (map play_of l) t) parts.was ∙ booked-around parts.before parts.after h t in
+    let new = ap (λ l. booked_by (map play_of l) t) (parts.becomes keep) ∙ booked-around parts.before parts.after (halted_play keep h) t in
     omega (arith, old, new, share-less h.play.segments h.play.start keep h.play.keep t less)
 
 pub booked-opened : (state : State) (number start t : ℕ) (segments : List Segment) →
-    booked_by (map play_of (state.held ++ opened number start segments ∷ [])) t ≤ booked_in state t + asked_at segments start t
+    booked_by (map play_of (state.held ++ admitted_play number start segments ∷ [])) t ≤ booked_in state t + asked_at segments start t
 booked-opened state number start t segments =
-    let new : booked_by (map play_of (state.held ++ opened number start segments ∷ [])) t ≡ booked_in state t + share_at t (whole_play start segments) =
-    ap (λ l. booked_by l t) (map-append play_of state.held (opened number start segments ∷ [])) ∙ sum_by_push (share_at t) (plays_of state) (whole_play start segments) in
+    let new : booked_by (map play_of (state.held ++ admitted_play number start segments ∷ [])) t ≡ booked_in state t + share_at t (whole_play start segments) =
+    ap (λ l. booked_by l t) (map-append play_of state.held (admitted_play number start segments ∷ [])) ∙ sum_by_push (share_at t) (plays_of state) (whole_play start segments) in
     omega (arith, new, share-cut segments start (total_bytes segments) t)
 
 pub within-next : (steps : List CapStep) (state : State) (place : ℕ) (command : Command) (answer : Answer) → IsAnswer steps state command answer → All IsWhole state.held →

@@ -15,8 +15,8 @@ pub record Journal : Type 0 where
   pub entries : List Entry
 
 -- the entries that were made, and one for the halt of each open play
-abbrev pub taken : List Entry → ℕ
-taken entries = length entries + live entries
+abbrev pub places_taken : List Entry → ℕ
+places_taken entries = length entries + live entries
 
 -- an entry was made: the machine's answer in the state after the entries before it, at the next place, and nothing else was changed
 pub record IsNoted (old : Journal) (maker : ℕ) (command : Command) (noted : Noted) (new : Journal) : Type 0 where

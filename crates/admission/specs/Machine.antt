@@ -42,28 +42,28 @@ pub record IsWithin (steps : List CapStep) (state : State) : Type 0 where
   pub each : (t : ℕ) → booked_in state t ≤ capacity_at steps t
 
 -- a play as it is admitted: open, with all its bytes
-abbrev pub opened : ℕ → ℕ → List Segment → Held
-opened number start segments = record { number = number; play = whole_play start segments; is_open = true }
+abbrev pub admitted_play : ℕ → ℕ → List Segment → Held
+admitted_play number start segments = record { number = number; play = whole_play start segments; is_open = true }
 
 -- a play once it is halted: closed, with its first `keep` bytes
-abbrev pub closed : ℕ → Held → Held
-closed keep h = record { number = h.number; play = cut_play h.play.start h.play.segments keep; is_open = false }
+abbrev pub halted_play : ℕ → Held → Held
+halted_play keep h = record { number = h.number; play = cut_play h.play.start h.play.segments keep; is_open = false }
 
 -- the play of a number
 abbrev pub held_as : ℕ → List Held → Option Held
 held_as number held = find (λ (h : Held). h.number == number) held
 
 -- the plays, with that of a number halted
-abbrev pub halted : ℕ → ℕ → List Held → List Held
-halted number keep [] = []
-halted number keep (h ∷ rest) = if h.number == number then (closed keep h ∷ rest) else (h ∷ halted number keep rest)
+abbrev pub with_halted : ℕ → ℕ → List Held → List Held
+with_halted number keep [] = []
+with_halted number keep (h ∷ rest) = if h.number == number then (halted_play keep h ∷ rest) else (h ∷ with_halted number keep rest)
 
 -- the play of this number is open, and `keep` bytes are at most those of its plan
 abbrev pub CanHalt : State → ℕ → ℕ → Type 0
 CanHalt state number keep =
     IsSomeAnd (held_as number state.held) (λ (h : Held). IsTrue h.is_open × (keep ≤ total_bytes h.play.segments))
 
--- where a play begins that is asked for in a slot: in the slot behind that one and behind now
+-- where a play begins that is asked for in a slot: in the slot after that one and after now
 abbrev pub start_after : State → ℕ → ℕ
 start_after state slot = max state.now slot + 1
 
@@ -85,11 +85,11 @@ IsAnswer steps state _ _ = ⊥
 -- an admitted play has the entry's place as its number. A look changes nothing.
 abbrev pub next_state : State → ℕ → Command → Answer → State
 next_state state place (Play slot segments) (Admitted start) =
-    record { now = max state.now slot; held = state.held ++ opened place start segments ∷ [] }
+    record { now = max state.now slot; held = state.held ++ admitted_play place start segments ∷ [] }
 next_state state place (Play slot segments) (Overflow over booked asked) =
     record { now = max state.now slot; held = state.held }
 next_state state place (Halt number keep) Halted =
-    record { now = state.now; held = halted number keep state.held }
+    record { now = state.now; held = with_halted number keep state.held }
 next_state state place _ _ = state
 
 -- a step of the machine: a command at a place takes one state to the next with this answer

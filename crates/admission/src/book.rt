@@ -12,8 +12,8 @@ use std::alloc::Global;
 use std::marker::Model;
 use vod_base::NoMemory;
 
-/// The book of a shared link: it admits plays, halts them and tells what is booked, and notes each of these with its answer in a
-/// journal. It keeps a free place in the journal for the halt of each open play.
+/// The book of a shared link: it admits plays, halts them and tells what is booked, and notes each of these with its
+/// answer in a journal. It keeps a free place in the journal for the halt of each open play.
 ///
 /// Contracts see the steps of the capacity, the most entries, and the list of the entries.
 #[derive(Debug, Drop)]
@@ -37,16 +37,16 @@ impl Model for Book {
 }
 
 /// The most entries of a journal.
-pub const MOST_ENTRIES: u64 = 1_048_576;
+pub const MAX_ENTRIES: u64 = 1_048_576;
 
 /// The latest slot; a later one is taken as this one.
 pub const LATEST_SLOT: u64 = 1 << 62;
 
 impl Book {
-    ghost use Rattle.admission.specs.Books.{IsFull, IsNoted, taken};
+    ghost use Rattle.admission.specs.Books.{IsFull, IsNoted, places_taken};
 
-    /// An empty book of a link of this capacity, whose journal has room for `limit` entries, 2 to [`MOST_ENTRIES`]. No other
-    /// call takes memory.
+    /// An empty book of a link of this capacity, whose journal has room for `limit` entries, 2 to [`MAX_ENTRIES`]. No
+    /// other call takes memory.
     ///
     /// # Errors
     ///
@@ -54,7 +54,8 @@ impl Book {
     pub fn new(alloc: Global, profile: Profile, limit: u64) -> Result<Book, NoMemory>
         requires some { 2 ≤ limit }
         requires few { limit ≤ 1048576 }
-        ensures { IfOk result (λ book. book ≡ record { steps = profile; limit = limit; entries = [] }) }
+        ensures { IfOk result (λ book.
+            book ≡ record { steps = profile; limit = limit; entries = [] }) }
     {
         let calendar = Calendar::new(alloc, profile)?;
         match Vec::with_capacity(alloc, limit as usize) {
@@ -80,20 +81,23 @@ impl Book {
         }
     }
 
-    /// A play of this plan, asked for in a slot: it is admitted from the slot behind that one and behind now on, if its plan
-    /// fits into every slot, and else answered the first slot without room. Both make an entry, and now comes up to the slot.
+    /// A play of this plan, asked for in a slot: it is admitted from the slot after that one and after now on, if its
+    /// plan fits into every slot, and else answered the first slot without room. Both make an entry, and now comes up to
+    /// the slot. A slot above [`LATEST_SLOT`] is taken as that one.
     ///
     /// # Errors
     ///
     /// [`PlayFull`] exactly where the entries, the open plays and 2, for the play's entry and its halt's, are more than the
     /// limit. It hands the plan back and leaves the book as it was.
     pub fn play(&mut self, maker: u32, slot: u64, plan: Plan) -> Result<Noted, PlayFull>
-        ensures noted { IfOk result (λ noted. IsNoted self.old maker (Command.Play (min slot (2 ^ 62)) plan) noted self.new) }
-        ensures room { OnOk result (taken self.old.entries + 2 ≤ self.old.limit) }
-        ensures full { OnErr result (self.old.limit < taken self.old.entries + 2) }
+        ensures noted { IfOk result (λ noted.
+            IsNoted self.old maker (Command.Play (min slot (2 ^ 62)) plan) noted self.new) }
+        ensures room { OnOk result (places_taken self.old.entries + 2 ≤ self.old.limit) }
+        ensures full { OnErr result (self.old.limit < places_taken self.old.entries + 2) }
         ensures counts { IfErr result (λ refused. IsFull self.old refused.full) }
-        ensures open { IfOk result (λ noted. (start keep : ℕ) → noted.answer ≡ Answer.Admitted start →
-            keep ≤ total_bytes plan → CanHalt (state_after self.new.entries) noted.place keep) }
+        ensures open { IfOk result (λ noted. (start keep : ℕ) →
+            noted.answer ≡ Answer.Admitted start → keep ≤ total_bytes plan →
+            CanHalt (state_after self.new.entries) noted.place keep) }
         ensures plan { IfErr result (λ refused. refused.plan ≡ plan) }
         ensures left { OnErr result (self.new ≡ self.old) }
     {
@@ -112,8 +116,8 @@ impl Book {
         ))
     }
 
-    /// Halts the open play of this number, the place of its entry. It keeps the first `keep` bytes of its plan; what is behind
-    /// them is free again in the slots from now on. The entry always finds its place.
+    /// Halts the open play of this number, the place of its entry. It keeps the first `keep` bytes of its plan; what is
+    /// after them is free again in the slots from now on. The entry always finds its place.
     pub fn halt(&mut self, maker: u32, number: u64, keep: u64) -> Noted
         requires { CanHalt (state_after self.old.entries) number keep }
         ensures noted { IsNoted self.old maker (Command.Halt number keep) result self.new }
@@ -129,15 +133,17 @@ impl Book {
         )
     }
 
-    /// Tells what is booked in a slot, or in now where that is later. It leaves now.
+    /// Tells what is booked in a slot, or in now where that is later. It leaves now. A slot above [`LATEST_SLOT`] is
+    /// taken as that one.
     ///
     /// # Errors
     ///
     /// [`Full`] exactly where the entries, the open plays and 1 are more than the limit. It leaves the book as it was.
     pub fn look(&mut self, maker: u32, slot: u64) -> Result<Noted, Full>
-        ensures noted { IfOk result (λ noted. IsNoted self.old maker (Command.Look (min slot (2 ^ 62))) noted self.new) }
-        ensures room { OnOk result (taken self.old.entries + 1 ≤ self.old.limit) }
-        ensures full { OnErr result (self.old.limit < taken self.old.entries + 1) }
+        ensures noted { IfOk result (λ noted.
+            IsNoted self.old maker (Command.Look (min slot (2 ^ 62))) noted self.new) }
+        ensures room { OnOk result (places_taken self.old.entries + 1 ≤ self.old.limit) }
+        ensures full { OnErr result (self.old.limit < places_taken self.old.entries + 1) }
         ensures counts { IfErr result (λ full. IsFull self.old full) }
         ensures left { OnErr result (self.new ≡ self.old) }
     {
@@ -161,7 +167,7 @@ impl Book {
     pub fn entries(&self) -> &[Entry]
         ensures value { result.now ≡ self.now.entries }
         ensures legal { IsLegal self.now.steps self.now.entries }
-        ensures within { taken self.now.entries ≤ self.now.limit }
+        ensures within { places_taken self.now.entries ≤ self.now.limit }
         ensures few { self.now.limit ≤ 1048576 }
     {
         self.entries.as_slice()
@@ -180,7 +186,7 @@ impl Book {
     pub fn into_entries(self) -> Vec<Entry>
         ensures value { result.items ≡ self.entries }
         ensures legal { IsLegal self.steps self.entries }
-        ensures within { taken self.entries ≤ self.limit }
+        ensures within { places_taken self.entries ≤ self.limit }
         ensures few { self.limit ≤ 1048576 }
     {
         let Book {

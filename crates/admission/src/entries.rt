@@ -1,9 +1,11 @@
 use plan_cert::Plan;
+use std::error::Error;
+use std::fmt;
 
 /// What is asked of the book.
 #[derive(Debug, Drop)]
 pub enum Command {
-    /// To play a plan, asked in a slot: it may begin in the slot behind it at the earliest.
+    /// To play a plan, asked in a slot: it may begin in the slot after it at the earliest.
     Play {
         /// The slot in which it is asked, at most 2^62.
         slot: u64,
@@ -65,7 +67,8 @@ pub struct Entry {
     pub answer: Answer,
 }
 
-/// The journal has no room for an entry besides those that the open plays will need for their halts. Nothing was changed.
+/// The journal has no room for an entry besides those that the open plays will need for their halts. Nothing was
+/// changed.
 #[derive(Clone, Copy, Debug, PartialEq, Eq)]
 pub struct Full {
     /// How many entries the journal has.
@@ -73,6 +76,18 @@ pub struct Full {
     /// How many plays are open.
     pub live: u64,
 }
+
+impl fmt::Display for Full {
+    fn fmt<W: fmt::Write>(&self, f: &mut fmt::Formatter<W>) -> fmt::Result {
+        write!(
+            f,
+            "the journal is full: {} entries, {} open plays",
+            self.entries, self.live
+        )
+    }
+}
+
+impl Error for Full {}
 
 /// An entry was made.
 #[derive(Clone, Copy, Debug, PartialEq, Eq)]
@@ -91,3 +106,11 @@ pub struct PlayFull {
     /// The entries and the open plays.
     pub full: Full,
 }
+
+impl fmt::Display for PlayFull {
+    fn fmt<W: fmt::Write>(&self, f: &mut fmt::Formatter<W>) -> fmt::Result {
+        write!(f, "{}", self.full)
+    }
+}
+
+impl Error for PlayFull {}

@@ -7,11 +7,12 @@ use crate::entries::{Answer, Command, Entry, Noted};
 use plan_cert::Plan;
 use slot_calendar::{Calendar, law_release};
 
-/// Moves now up to a slot, and books a plan from the slot behind now on, if it fits everywhere.
+/// Moves now up to a slot, and books a plan from the slot after now on, if it fits everywhere.
 pub(crate) fn admit(calendar: &mut Calendar, slot: u64, plan: &Plan) -> Answer
     requires { slot ≤ 2 ^ 62 }
     ensures steps { calendar.new.steps ≡ calendar.old.steps }
-    ensures answer { (state : State) → Follows calendar.old state → IsWithin calendar.old.steps state →
+    ensures answer { (state : State) → Follows calendar.old state →
+        IsWithin calendar.old.steps state →
         IsAnswer calendar.old.steps state (Command.Play slot plan.now) result }
     ensures next { (state : State) (place : ℕ) → Follows calendar.old state →
         Follows calendar.new (next_state state place (Command.Play slot plan.now) result) }
@@ -44,8 +45,8 @@ pub(crate) fn opened_by(answer: Answer) -> u64
     }
 }
 
-/// Gives back what an open play has behind its first `keep` bytes in the slots from now on. Its plan stands in the entry
-/// that admitted it.
+/// Gives back what an open play has after its first `keep` bytes in the slots from now on. Its plan stands in the
+/// entry that admitted it.
 pub(crate) fn give_back(calendar: &mut Calendar, entries: &[Entry], number: u64, keep: u64)
     requires few { length entries.now ≤ 1048576 }
     requires legal { IsLegal calendar.old.steps entries.now }
@@ -53,7 +54,8 @@ pub(crate) fn give_back(calendar: &mut Calendar, entries: &[Entry], number: u64,
     requires can { CanHalt (state_after entries.now) number keep }
     ensures steps { calendar.new.steps ≡ calendar.old.steps }
     ensures next { (place : ℕ) →
-        Follows calendar.new (next_state (state_after entries.now) place (Command.Halt number keep) Answer.Halted) }
+        Follows calendar.new
+        (next_state (state_after entries.now) place (Command.Halt number keep) Answer.Halted) }
 {
     let admitted = &entries[number as usize];
     let Command::Play { plan, .. } = &admitted.command else {
@@ -62,8 +64,9 @@ pub(crate) fn give_back(calendar: &mut Calendar, entries: &[Entry], number: u64,
     let Answer::Admitted { start } = admitted.answer else {
         unreachable!()
     };
-    // it stands booked whole, so it may be cut
-    law_release(calendar, start, plan, keep);
+    // its segments make a plan, and it stands booked whole, so it may be cut
+    let _plan = plan.segments();
+    law_release();
     calendar.release(start, plan, keep);
 }
 
@@ -72,7 +75,8 @@ pub(crate) fn note(entries: &mut Vec<Entry>, maker: u32, command: Command, answe
     requires { vec_len entries.old < vec_capacity entries.old }
     ensures place { result.place ≡ length entries.old.items }
     ensures answer { result.answer ≡ answer }
-    ensures items { entries.new.items ≡ entries.old.items ++ record { maker = maker; command = command; answer = answer } ∷ [] }
+    ensures items { entries.new.items
+        ≡ entries.old.items ++ record { maker = maker; command = command; answer = answer } ∷ [] }
     ensures room { vec_capacity entries.new ≡ vec_capacity entries.old }
 {
     let place = entries.len() as u64;

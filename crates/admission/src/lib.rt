@@ -1,5 +1,5 @@
-//! The book that admits plays on a shared link: a journal of entries, each with the answer that the admission machine gives in the
-//! state after the entries before it.
+//! The book that admits plays on a shared link: a journal of entries, each with the answer that the admission machine
+//! gives in the state after the entries before it.
 #![tactic(auto)]
 
 mod book;
@@ -7,16 +7,12 @@ mod entries;
 mod keeping;
 mod laws;
 
-pub use book::{Book, LATEST_SLOT, MOST_ENTRIES};
+pub use book::{Book, LATEST_SLOT, MAX_ENTRIES};
 pub use entries::{Answer, Command, Entry, Full, Noted, PlayFull};
 pub use laws::{
     law_counts, law_never_overbooked, law_one_history, law_one_step, law_open, law_own_play,
     law_plays, law_prefix,
 };
 
-#[cfg(test)]
-mod drawn;
-#[cfg(test)]
-mod plain;
 #[cfg(test)]
 mod tests;

@@ -3,7 +3,10 @@ ghost use Rattle.plan_cert.specs.declared.Segment.{Segment};
 ghost use Rattle.plan_cert.specs.Slots.{total_bytes};
 ghost use Rattle.slot_calendar.specs.Plays.{whole_play};
 ghost use Rattle.admission.specs.Machine.{CanHalt};
-ghost use Rattle.admission.specs.Histories.{Halts, IsLegal, play_admitted, state_after};
+ghost use Rattle.admission.specs.Histories.{Halts, play_admitted, state_after};
+
+mod drawn;
+mod plain;
 
 use super::*;
 use plan_cert::{Plan, Segment};
@@ -42,14 +45,15 @@ pub(crate) fn book_of(
         })?;
     }
     assert!(rt; Profile::is_allowed(steps.as_slice()));
-    assert!(rt; limit >= 2 && limit <= MOST_ENTRIES);
+    assert!(rt; limit >= 2 && limit <= MAX_ENTRIES);
     Ok(Book::new(alloc, Profile::new(steps), limit)?)
 }
 
 // Whether this entry admitted a play whose plan has at least `keep` bytes.
 fn admits(entry: &Entry, keep: u64) -> bool
     ensures { IsTrue result → (start : ℕ) × ((segments : List Segment) ×
-        ((play_admitted entry.now.command entry.now.answer ≡ Some (whole_play start segments)) × (keep ≤ total_bytes segments))) }
+        ((play_admitted entry.now.command entry.now.answer ≡ Some (whole_play start segments))
+        × (keep ≤ total_bytes segments))) }
 {
     let Command::Play { plan, .. } = &entry.command else {
         return false;
@@ -351,26 +355,27 @@ fn keeps_each_capacity(rt: HostRuntime) -> Result<(), Fail> {
     run(&rt, rt.alloc(), &mut book, rows.as_slice(), &[2, 2, 3, 0])
 }
 
-fn laws_of(profile: &Profile, entries: &[Entry])
-    requires { IsLegal profile.now entries.now }
-{
-    law_prefix(profile, entries);
-    law_never_overbooked(profile, entries);
-    law_open(profile, entries);
-    law_plays(profile, entries);
-    law_counts(profile, entries);
-    law_one_step(profile);
-    law_one_history(profile, entries, entries);
-}
-
-// Whoever has a profile of a book's steps may call the laws for its journal.
+// The laws are calls, and the refusals have texts.
 #[test]
-fn laws_of_a_journal(rt: HostRuntime) -> Result<(), Fail> {
-    let alloc = rt.alloc();
-    let mut book = Book::new(alloc, Profile::flat(alloc, 5)?, 64)?;
-    assert!(rt; book.look(0, 3).is_ok());
-    let entries = book.entries();
-    assert_eq!(rt; entries.len(), 1);
-    laws_of(book.calendar().profile(), entries);
+fn states_laws(rt: HostRuntime) -> Result<(), Fail> {
+    law_prefix();
+    law_never_overbooked();
+    law_open();
+    law_plays();
+    law_one_step();
+    law_one_history();
+    law_counts();
+    law_own_play();
+    let full = Full {
+        entries: 2,
+        live: 1,
+    };
+    let plan = plan_of(&rt, rt.alloc(), &[(3, 7)])?;
+    let text = "the journal is full: 2 entries, 1 open plays";
+    assert_eq!(rt; format!(in rt.alloc(); "{full}")?.as_str(), text);
+    assert_eq!(rt;
+        format!(in rt.alloc(); "{}", PlayFull { plan, full })?.as_str(),
+        text
+    );
     Ok(())
 }

@@ -4,8 +4,8 @@ use Rattle.std.proofs.lemmas.Bool.{cases_order}
 use Rattle.std.proofs.lemmas.List.{get_or_append_left, get_or-append_right, length-append, same_lists}
 use Rattle.plan_cert.specs.declared.Segment.{Segment}
 use Rattle.slot_calendar.specs.Calendars.{IsFirstOverflow}
-use Rattle.slot_calendar.specs.Plays.{asked_at}
 use Rattle.slot_calendar.specs.declared.calendar.Overflow.{Overflow}
+use Rattle.slot_calendar.proofs.Overflows.{no-room, overflow-once}
 use Rattle.early_start.specs.Offered.{AreRefusals, CanStart, Found, IsOffer, IsRefusal, IsStart}
 use Rattle.early_start.specs.declared.Tried.{Tried}
 
@@ -28,29 +28,10 @@ refusals_more from booked capacity segments first xs t all start refusal = recor
     at_end i none same =
         get_or-append_right xs (t ∷ []) i i none (sym same) (omega arith) ∙ (let zero : i - i ≡ 0 = omega arith in ap (λ n. get_or (t ∷ []) n none) zero)
 
--- a slot without room leaves no room
-no_room : (from : ℕ) (booked capacity : ℕ → ℕ) (segments : List Segment) (t : Tried) → IsRefusal from booked capacity segments t → CanStart from booked capacity segments t.start → ⊥
-no_room from booked capacity segments t refusal room = omega (arith, refusal.overflows, room.each t.over.slot refusal.begun)
-
--- one start has one first slot without room
-overflow_once : (from : ℕ) (booked capacity : ℕ → ℕ) (segments : List Segment) (start : ℕ) (a b : Overflow) → IsFirstOverflow from booked capacity start segments a → IsFirstOverflow from booked capacity start segments b → a ≡ b
-overflow_once from booked capacity segments start a b x y =
-    let slot : a.slot ≡ b.slot = elim (cases_order a.slot b.slot) [
-      | inl same ↦ same
-      | inr (inl less) ↦ omega (arith, x.overflows, y.least a.slot x.begun less)
-      | inr (inr more) ↦ omega (arith, y.overflows, x.least b.slot y.begun more)
-    ] in
-    let same_booked : a.booked ≡ b.booked = x.booked_is ∙ ap booked slot ∙ sym y.booked_is in
-    let asked : a.asked ≡ b.asked = x.asked_is ∙ ap (asked_at segments start) slot ∙ sym y.asked_is in
-    let S : ℕ → Overflow = λ n. record { slot = n; booked = a.booked; asked = a.asked } in
-    let B : ℕ → Overflow = λ n. record { slot = b.slot; booked = n; asked = a.asked } in
-    let A : ℕ → Overflow = λ n. record { slot = b.slot; booked = b.booked; asked = n } in
-    ap S slot ∙ ap B same_booked ∙ ap A asked
-
 refusal_once : (from : ℕ) (booked capacity : ℕ → ℕ) (segments : List Segment) (a b : Tried) → IsRefusal from booked capacity segments a → IsRefusal from booked capacity segments b → a.start ≡ b.start → a ≡ b
 refusal_once from booked capacity segments a b x y start =
     let P : ℕ → Type 0 = λ n. IsFirstOverflow from booked capacity n segments a.over in
-    let over : a.over ≡ b.over = overflow_once from booked capacity segments b.start a.over b.over (subst P start x) y in
+    let over : a.over ≡ b.over = overflow-once from b.start booked capacity segments a.over b.over (subst P start x) y in
     let S : ℕ → Tried = λ n. record { start = n; over = a.over } in
     let O : Overflow → Tried = λ o. record { start = b.start; over = o } in
     ap S start ∙ ap O over
@@ -66,7 +47,7 @@ nothing_next : (from : ℕ) (booked capacity : ℕ → ℕ) (segments : List Seg
     t.start ≡ first + n → IsRefusal from booked capacity segments t → ⊥
 nothing_next from booked capacity segments first wait n None t is few start refusal = omega (arith, is, few)
 nothing_next from booked capacity segments first wait n (Some s) t is few start refusal =
-    no_room from booked capacity segments t refusal (subst (CanStart from booked capacity segments) (is.1 ∙ sym start) is.2)
+    no-room from t.start booked capacity segments t.over refusal (subst (CanStart from booked capacity segments) (is.1 ∙ sym start) is.2)
 
 pub few_tried : (from : ℕ) (booked capacity : ℕ → ℕ) (segments : List Segment) (first wait n : ℕ) (o : Option ℕ) → IsStart from booked capacity segments first wait n o → n ≤ wait + 1
 few_tried from booked capacity segments first wait n None is = omega (arith, is)

@@ -5,7 +5,8 @@ use Rattle.slot_calendar.specs.Calendars.{Entries, HasRoom, IsFirstOverflow, boo
 use Rattle.slot_calendar.specs.Profiles.{capacity_at}
 use Rattle.early_start.specs.declared.Tried.{Tried}
 
--- what was found: how many slots later than the first one a play may start, the start, and the starts that were tried in vain
+-- what was found: how many slots later than the first one a play may start, the start, and the starts at which it
+-- doesn't fit
 pub record Found : Type 0 where
   pub wait : ℕ
   pub start : Option ℕ
@@ -19,7 +20,7 @@ CanStart from booked capacity segments start = HasRoom from booked capacity star
 abbrev pub IsRefusal : ℕ → (ℕ → ℕ) → (ℕ → ℕ) → List Segment → Tried → Type 0
 IsRefusal from booked capacity segments t = IsFirstOverflow from booked capacity t.start segments t.over
 
--- these are the starts from `first` on that were tried in vain, in order
+-- these are the starts from `first` on, in order, and the plan fits at none of them
 pub record AreRefusals (from : ℕ) (booked capacity : ℕ → ℕ) (segments : List Segment) (first : ℕ) (tried : List Tried) : Type 0 where
   pub starts : (i : ℕ) (none : Tried) → i < length tried → (slice_index_or tried i none).start ≡ first + i
   pub refused : (i : ℕ) (none : Tried) → i < length tried → IsRefusal from booked capacity segments (slice_index_or tried i none)
@@ -41,7 +42,7 @@ abbrev pub IsOfferIn : Entries → List Segment → ℕ → Found → Type 0
 IsOfferIn calendar segments first found =
     IsOffer calendar.first (booked_at calendar) (capacity_at calendar.steps) segments first found
 
--- the starts from `first` on that were tried in vain in a calendar, in order
+-- the starts from `first` on, in order, at which it doesn't fit into a calendar
 abbrev pub AreRefusalsIn : Entries → List Segment → ℕ → List Tried → Type 0
 AreRefusalsIn calendar segments first tried =
     AreRefusals calendar.first (booked_at calendar) (capacity_at calendar.steps) segments first tried

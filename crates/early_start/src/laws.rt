@@ -7,19 +7,22 @@ ghost use Rattle.early_start.specs.Offered.{Found, IsOffer, IsOfferIn};
 
 /// A plan and its first start have one answer within a wait, whatever is booked.
 pub fn law_one_offer()
-    ensures start { (from first : ℕ) (booked capacity : ℕ → ℕ) (segments : List Segment) (one other : Found) →
-        one.wait ≡ other.wait → IsOffer from booked capacity segments first one →
+    ensures start { (from first : ℕ) (booked capacity : ℕ → ℕ) (segments : List Segment)
+        (one other : Found) → one.wait ≡ other.wait →
+        IsOffer from booked capacity segments first one →
         IsOffer from booked capacity segments first other → one.start ≡ other.start }
-    ensures tried { (from first : ℕ) (booked capacity : ℕ → ℕ) (segments : List Segment) (one other : Found) →
-        one.wait ≡ other.wait → IsOffer from booked capacity segments first one →
+    ensures tried { (from first : ℕ) (booked capacity : ℕ → ℕ) (segments : List Segment)
+        (one other : Found) → one.wait ≡ other.wait →
+        IsOffer from booked capacity segments first one →
         IsOffer from booked capacity segments first other → one.tried ≡ other.tried }
 {}
 
-/// What is found in a calendar is found in all slots, past ones too, among the plays that the calendar stands for, where they
-/// book no slot above its capacity.
+/// What is found in a calendar is found in all slots, past ones too, among the plays that the calendar stands for,
+/// where they book no slot above its capacity.
 pub fn law_offer_of_plays()
     ensures { (calendar : Entries) (plays : List Play) (segments : List Segment) (first : ℕ) (found : Found) →
-        StandsFor calendar plays → ((t : ℕ) → booked_by plays t ≤ capacity_at calendar.steps t) →
+        StandsFor calendar plays →
+        ((t : ℕ) → booked_by plays t ≤ capacity_at calendar.steps t) →
         calendar.first < first → IsOfferIn calendar segments first found →
         IsOffer 0 (booked_by plays) (capacity_at calendar.steps) segments first found }
 {}

@@ -1,5 +1,5 @@
-//! The earliest start of a plan on a shared link: from which slot on, within a wait, the plan fits into the link's calendar, with
-//! the first slot without room for each earlier start.
+//! The earliest start of a plan on a shared link: from which slot on, within a wait, the plan fits into the link's
+//! calendar, with the first slot without room for each earlier start.
 #![tactic(auto)]
 
 ghost use Rattle.std.specs.Prelude.{◌≡◌, ◌+◌, ◌^◌, ◌<◌, ◌≤◌, None, [], IfOk, MatchOption, length, vec_len, vec_capacity};
@@ -14,7 +14,7 @@ use std::alloc::Global;
 use std::marker::Model;
 use vod_base::NoMemory;
 
-/// A start that was tried in vain.
+/// A start at which the plan doesn't fit.
 #[derive(Clone, Copy, Debug, PartialEq, Eq)]
 pub struct Tried {
     /// The slot at which the plan would begin.
@@ -25,7 +25,7 @@ pub struct Tried {
 
 /// The starts from which a plan was tried, and the one that was found.
 ///
-/// Contracts see the wait, the start and the list of the starts tried in vain.
+/// Contracts see the wait, the start, and the list of the starts at which the plan doesn't fit.
 #[derive(Debug, Drop)]
 pub struct Offers {
     wait: u64,
@@ -76,6 +76,10 @@ fn search(
 
 impl Offers {
     /// Reserves room for all starts up to `wait` slots later than the first; no other call takes memory.
+    ///
+    /// # Errors
+    ///
+    /// [`NoMemory`] where there is none for them.
     pub fn new(alloc: Global, wait: u64) -> Result<Offers, NoMemory>
         requires { wait ≤ 255 }
         ensures wait { IfOk result (λ offers. offers.wait ≡ wait) }
@@ -107,7 +111,8 @@ impl Offers {
         self.start
     }
 
-    /// The starts before it that were tried in vain, in order; all of them where there is none. At most `wait() + 1` starts.
+    /// The starts before it, at which the plan doesn't fit, in order; all of them where there is none. At most
+    /// `wait() + 1` starts.
     pub fn tried(&self) -> &[Tried]
         ensures value { result.now ≡ self.now.tried }
         ensures few { length result.now ≤ self.now.wait + 1 }
@@ -115,8 +120,8 @@ impl Offers {
         self.tried.as_slice()
     }
 
-    /// Finds the least start from `first` to `first + wait` where the plan fits into every slot of the calendar, in place of what was
-    /// found before. It books nothing and takes no memory.
+    /// Finds the least start from `first` to `first + wait` where the plan fits into every slot of the calendar, in
+    /// place of what was found before. It books nothing and takes no memory.
     pub fn find(&mut self, calendar: &Calendar, plan: &Plan, first: u64)
         requires after { calendar.now.first < first }
         requires small { first ≤ 2 ^ 62 + 1 }

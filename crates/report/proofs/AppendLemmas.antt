@@ -16,7 +16,7 @@ front_of_first before text next after cut = record {
   after_is = cut.after_is;
 }
 
--- behind the whole first text, a front of the second one
+-- after the whole first text, a front of the second one
 front_of_second : (before text next mid after : List ℕ) → mid ≡ before ++ text → IsCut mid next after → IsCut before (text ++ next) after
 front_of_second before text next mid after whole cut = record {
   front = text ++ cut.front;
@@ -33,7 +33,7 @@ after_first : (before text next mid after : List ℕ) (r : Answer) → mid ≡ b
 after_first before text next mid after (Ok done) whole more = record { whole = both before text next mid after whole more.whole; cut = tt }
 after_first before text next mid after (Err e) whole more = record { whole = tt; cut = front_of_second before text next mid after whole more.cut }
 
--- behind the whole first text, the second one is appended
+-- after the whole first text, the second one is appended
 pub then_appended : {before next mid after : List ℕ} {r : Answer} → (text : List ℕ) → mid ≡ before ++ text → IsAppended mid next after r → IsAppended before (text ++ next) after r
 then_appended text whole more = after_first _ text _ _ _ _ whole more
 

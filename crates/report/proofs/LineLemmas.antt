@@ -9,7 +9,8 @@ use Rattle.plan_cert.specs.Reading.{lines_of}
 use Rattle.plan_cert.proofs.Decimals.{not_in_decimal, same_cut}
 use Rattle.plan_cert.proofs.Grammar.{lines-cut}
 use Rattle.report.specs.Fields.{field}
-use Rattle.report.specs.CalendarTexts.{booked_among, booked_slots, calendar_lines, calendar_text, first_words, ring_slots, slot_line, slot_words}
+use Rattle.slot_calendar.specs.Totals.{ring_slots}
+use Rattle.report.specs.CalendarTexts.{AreBookings, booked_among, booked_slots, calendar_lines, calendar_text, first_words, slot_line, slot_words}
 
 -- ---- words without LF
 abbrev pub IsClean : List ℕ → Type 0
@@ -42,11 +43,11 @@ lines-slots : (bytes : ℕ → ℕ) (slots : List ℕ) → All (IsFew bytes) slo
 lines-slots bytes [] few = refl
 lines-slots bytes (t ∷ rest) few =
     let one : IsFew bytes t = All-head (IsFew bytes) t rest few in
-    let behind = flat_map (slot_line bytes) rest ++ codes "end\n" in
-    let shape : (slot_line bytes t ++ flat_map (slot_line bytes) rest) ++ codes "end\n" ≡ words_at bytes t ++ 10 ∷ behind =
-    append_assoc (slot_line bytes t) (flat_map (slot_line bytes) rest) (codes "end\n") ∙ append_assoc (words_at bytes t) (10 ∷ []) behind in
+    let after = flat_map (slot_line bytes) rest ++ codes "end\n" in
+    let shape : (slot_line bytes t ++ flat_map (slot_line bytes) rest) ++ codes "end\n" ≡ words_at bytes t ++ 10 ∷ after =
+    append_assoc (slot_line bytes t) (flat_map (slot_line bytes) rest) (codes "end\n") ∙ append_assoc (words_at bytes t) (10 ∷ []) after in
     ap (λ (l : List ℕ). (lines_of l).whole) shape
-    ∙ ap (λ ls. ls.whole) (lines-cut (words_at bytes t) behind (clean_words t (bytes t) one.0 one.1))
+    ∙ ap (λ ls. ls.whole) (lines-cut (words_at bytes t) after (clean_words t (bytes t) one.0 one.1))
     ∙ ap (λ (ls : List (List ℕ)). words_at bytes t ∷ ls) (lines-slots bytes rest (All-tail (IsFew bytes) t rest few))
 
 abbrev lines_told : ℕ → (ℕ → ℕ) → List (List ℕ)
@@ -57,17 +58,17 @@ unfolding calendar_lines
 lines-calendar from bytes small few =
     let first = first_words from in
     let slots = flat_map (slot_line bytes) (booked_slots from bytes) in
-    let behind = slots ++ codes "end\n" in
-    let shape : calendar_text from bytes ≡ first ++ 10 ∷ behind = append_assoc (first ++ codes "\n") slots (codes "end\n") ∙ append_assoc first (codes "\n") behind in
+    let after = slots ++ codes "end\n" in
+    let shape : calendar_text from bytes ≡ first ++ 10 ∷ after = append_assoc (first ++ codes "\n") slots (codes "end\n") ∙ append_assoc first (codes "\n") after in
     ap (λ (l : List ℕ). (lines_of l).whole) shape
-    ∙ ap (λ ls. ls.whole) (lines-cut first behind (clean_field (codes "calendar from=") from refl small))
+    ∙ ap (λ ls. ls.whole) (lines-cut first after (clean_field (codes "calendar from=") from refl small))
     ∙ ap (λ (ls : List (List ℕ)). first ∷ ls) (lines-slots bytes (booked_slots from bytes) few)
 
 -- ---- the slots in which bytes are booked
 all_booked : (bytes : ℕ → ℕ) (Q : ℕ → Type 0) (a n : ℕ) → ((t : ℕ) → a ≤ t → t < a + n → 0 < bytes t → Q t) → All Q (booked_among bytes (range_with_len a n))
 all_booked bytes Q a zero each = All-nil Q
 all_booked bytes Q a (suc n) each =
-    pick (nat_lt 0 (bytes a)) refl (all_booked bytes Q (a + 1) n (λ t behind inside some. each t (omega arith) (omega arith) some))
+    pick (nat_lt 0 (bytes a)) refl (all_booked bytes Q (a + 1) n (λ t after inside some. each t (omega arith) (omega arith) some))
   where
     rest : List ℕ
     rest = booked_among bytes (range_with_len (a + 1) n)
@@ -77,8 +78,8 @@ all_booked bytes Q a (suc n) each =
     pick false is others = others
 
 booked_stands : (bytes : ℕ → ℕ) (slot a n : ℕ) → a ≤ slot → slot < a + n → 0 < bytes slot → Contains (booked_among bytes (range_with_len a n)) slot
-booked_stands bytes slot a zero behind inside some = absurd (omega arith)
-booked_stands bytes slot a (suc n) behind inside some = elim (cases_lt a slot) [
+booked_stands bytes slot a zero after inside some = absurd (omega arith)
+booked_stands bytes slot a (suc n) after inside some = elim (cases_lt a slot) [
   | inl later ↦ over (nat_lt 0 (bytes a))
       (booked_stands bytes slot (a + 1) n (omega arith) (omega arith) some)
   | inr first ↦ (
@@ -116,32 +117,27 @@ same_words s b t c small few small' few' e =
 abbrev TellsOf : ℕ → (ℕ → ℕ) → ℕ → ℕ → List ℕ → Type 0
 TellsOf from bytes slot booked line = line ≡ slot_words slot booked → (booked ≡ bytes slot) × (0 < booked) × (from ≤ slot)
 
--- what holds of each calendar
-pub record IsKept (from : ℕ) (bytes : ℕ → ℕ) : Type 0 where
-  pub first_small : from ≤ 2 ^ 62
-  pub few : (t : ℕ) → from ≤ t → bytes t ≤ 2 ^ 42
-
-few_slots : (from : ℕ) (bytes : ℕ → ℕ) → IsKept from bytes → ring_slots < 2 ^ 62 → All (IsFew bytes) (booked_slots from bytes)
+few_slots : (from : ℕ) (bytes : ℕ → ℕ) → AreBookings from bytes → ring_slots < 2 ^ 62 → All (IsFew bytes) (booked_slots from bytes)
 few_slots from bytes kept short =
-    all_booked bytes (IsFew bytes) from ring_slots (λ t behind inside some. (omega (arith, kept.first_small, inside, short), omega (arith, kept.few t behind)))
+    all_booked bytes (IsFew bytes) from ring_slots (λ t after inside some. (omega (arith, kept.first_small, inside, short), omega (arith, kept.few t after)))
 
-tells_all : (from : ℕ) (bytes : ℕ → ℕ) (slot booked : ℕ) → slot < 2 ^ 64 → booked < 2 ^ 64 → IsKept from bytes → ring_slots < 2 ^ 62 → All (TellsOf from bytes slot booked) (map (words_at bytes) (booked_slots from bytes))
+tells_all : (from : ℕ) (bytes : ℕ → ℕ) (slot booked : ℕ) → slot < 2 ^ 64 → booked < 2 ^ 64 → AreBookings from bytes → ring_slots < 2 ^ 62 → All (TellsOf from bytes slot booked) (map (words_at bytes) (booked_slots from bytes))
 tells_all from bytes slot booked small few kept short =
     all_map (TellsOf from bytes slot booked) (words_at bytes) (booked_slots from bytes)
-    (all_booked bytes (λ t. TellsOf from bytes slot booked (words_at bytes t)) from ring_slots (λ t behind inside some e.
-    let same = same_words slot booked t (bytes t) small few (omega (arith, kept.first_small, inside, short)) (omega (arith, kept.few t behind)) (sym e) in
-    (same.1 ∙ ap bytes (sym same.0), omega (arith, some, same.1), omega (arith, behind, same.0))))
+    (all_booked bytes (λ t. TellsOf from bytes slot booked (words_at bytes t)) from ring_slots (λ t after inside some e.
+    let same = same_words slot booked t (bytes t) small few (omega (arith, kept.first_small, inside, short)) (omega (arith, kept.few t after)) (sym e) in
+    (same.1 ∙ ap bytes (sym same.0), omega (arith, some, same.1), omega (arith, after, same.0))))
 
-pub line_stands : (from : ℕ) (bytes : ℕ → ℕ) (slot : ℕ) → IsKept from bytes → ring_slots < 2 ^ 62 → from ≤ slot → slot < from + ring_slots → 0 < bytes slot →
+pub line_stands : (from : ℕ) (bytes : ℕ → ℕ) (slot : ℕ) → AreBookings from bytes → ring_slots < 2 ^ 62 → from ≤ slot → slot < from + ring_slots → 0 < bytes slot →
     Contains (calendar_lines from bytes) (words_at bytes slot)
-line_stands from bytes slot kept short behind inside some =
+line_stands from bytes slot kept short after inside some =
     let slots = map (words_at bytes) (booked_slots from bytes) in
     let line = words_at bytes slot in
-    let stands = contains_map (words_at bytes) (booked_slots from bytes) slot (booked_stands bytes slot from ring_slots behind inside some) in
+    let stands = contains_map (words_at bytes) (booked_slots from bytes) slot (booked_stands bytes slot from ring_slots after inside some) in
     subst (λ (ls : List (List ℕ)). Contains ls line) (sym (lines-calendar from bytes (omega (arith, kept.first_small)) (few_slots from bytes kept short)))
     (Contains-append_right (first_words from ∷ []) (slots ++ codes "end" ∷ []) line (Contains-append_left slots (codes "end" ∷ []) line stands))
 
-pub line_tells : (from : ℕ) (bytes : ℕ → ℕ) (slot booked : ℕ) → IsKept from bytes → ring_slots < 2 ^ 62 → slot < 2 ^ 64 → booked < 2 ^ 64 →
+pub line_tells : (from : ℕ) (bytes : ℕ → ℕ) (slot booked : ℕ) → AreBookings from bytes → ring_slots < 2 ^ 62 → slot < 2 ^ 64 → booked < 2 ^ 64 →
     Contains (calendar_lines from bytes) (slot_words slot booked) → (booked ≡ bytes slot) × (0 < booked) × (from ≤ slot)
 line_tells from bytes slot booked kept short small few stands =
     let P = TellsOf from bytes slot booked in

@@ -4,7 +4,8 @@ use Rattle.std.specs.List.{range_with_len}
 use Rattle.std.proofs.lemmas.Bool.{lt-ltb, le-ltb}
 use Rattle.std.proofs.lemmas.Grind.{flat_map-append}
 use Rattle.std.proofs.lemmas.List.Elements.{filter-append}
-use Rattle.report.specs.CalendarTexts.{booked_among, ring_slots, slot_line}
+use Rattle.slot_calendar.specs.Totals.{ring_slots}
+use Rattle.report.specs.CalendarTexts.{booked_among, slot_line}
 
 pub ring-is : ring_slots ≡ 1048576
 unfolding ring_slots

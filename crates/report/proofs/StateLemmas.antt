@@ -4,7 +4,8 @@ use Rattle.std.specs.List.{range_with_len}
 use Rattle.std.proofs.lemmas.List.Elements.{All-cons, All-head, All-nil, All-tail}
 use Rattle.slot_calendar.specs.Calendars.{Entries, StandsFor, booked_at}
 use Rattle.admission.specs.Machine.{State, booked_in, plays_of}
-use Rattle.report.specs.CalendarTexts.{calendar_text, first_words, ring_slots}
+use Rattle.slot_calendar.specs.Totals.{ring_slots}
+use Rattle.report.specs.CalendarTexts.{calendar_text, first_words}
 use Rattle.report.proofs.SlotLemmas.{line_at, lines, lines-cons}
 
 -- all slots of a range stand from its first one on

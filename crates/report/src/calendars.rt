@@ -4,11 +4,8 @@ ghost use Rattle.report.specs.Appends.{IsAppended};
 ghost use Rattle.report.specs.CalendarTexts.{booked_slots, calendar_text, slot_line, slot_words};
 
 use crate::fields::{push, push_field};
-use slot_calendar::Calendar;
+use slot_calendar::{Calendar, RING_SLOTS};
 use vod_base::NoMemory;
-
-/// The slots of a calendar's ring, from now on. No bytes are booked after them.
-const RING: u64 = 1_048_576;
 
 /// Appends the line of a slot.
 fn push_slot(out: &mut Vec<u8>, slot: u64, booked: u64) -> Result<(), NoMemory>
@@ -22,11 +19,12 @@ fn push_slot(out: &mut Vec<u8>, slot: u64, booked: u64) -> Result<(), NoMemory>
 /// Appends the lines of the slots in which bytes are booked.
 fn push_slots(out: &mut Vec<u8>, calendar: &Calendar) -> Result<(), NoMemory>
     ensures { IsAppended out.old.items
-        (flat_map (slot_line (booked_at calendar.now)) (booked_slots calendar.now.first (booked_at calendar.now)))
+        (flat_map (slot_line (booked_at calendar.now))
+        (booked_slots calendar.now.first (booked_at calendar.now)))
         out.new.items result }
 {
     let now = calendar.now();
-    for slot in now..now + RING {
+    for slot in now..now + RING_SLOTS {
         let booked = calendar.booked(slot);
         let is_booked = booked > 0;
         if is_booked {
@@ -36,10 +34,10 @@ fn push_slots(out: &mut Vec<u8>, calendar: &Calendar) -> Result<(), NoMemory>
     Ok(())
 }
 
-/// Appends the text of a calendar: `calendar from=T` with T its now, then `at S booked=X` for each slot S of its ring, from
-/// now on, in which X bytes are booked, above 0, and then `end`. Numbers are decimal, and each line ends with LF.
+/// Appends the text of a calendar: `calendar from=T` with T its now, then `at S booked=X` for each slot S of its ring,
+/// from now on, in which X bytes are booked, above 0, and then `end`. Numbers are decimal, and each line ends with LF.
 ///
-/// After `NoMemory` a front of the text was appended. One pass over the slots.
+/// After `NoMemory` the beginning of the text was appended. One pass over the slots.
 pub fn calendar_text(calendar: &Calendar, out: &mut Vec<u8>) -> Result<(), NoMemory>
     ensures { IsAppended out.old.items
         (calendar_text calendar.now.first (booked_at calendar.now)) out.new.items result }

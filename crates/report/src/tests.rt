@@ -3,7 +3,7 @@
 ghost use Rattle.std.specs.Prelude.{IsTrue};
 ghost use Rattle.report.specs.Kinds.{IsOfKind};
 
-use crate::{calendar_text, entry_line, law_entry_line, law_kinds, law_slot_lines};
+use crate::{calendar_text, entry_line, law_entry_line, law_kinds, law_slot_lines, law_state_text};
 use admission::{Answer, Command, Entry};
 use plan_cert::{Plan, Segment};
 use slot_calendar::{Calendar, Profile};
@@ -108,11 +108,11 @@ fn lines_of_entries(rt: HostRuntime) -> Result<(), Fail> {
             answer,
         };
         assert!(rt; is_of_kind(&entry));
-        law_entry_line(place, &entry);
         let mut out = Vec::from_slice(alloc, b"front ")?;
         assert_eq!(rt; entry_line(place, &entry, &mut out), Ok(()));
         assert_eq!(rt; out.strip_prefix(b"front "), Some(want));
     }
+    law_entry_line();
     law_kinds(&Profile::flat(alloc, 5)?, &[]);
     Ok(())
 }
@@ -143,7 +143,8 @@ fn texts_of_calendars(rt: HostRuntime) -> Result<(), Fail> {
     // the last slot of the ring
     let byte = plan_of(&rt, alloc, 1, 1)?;
     assert!(rt; calendar.now() == 2 && byte.slots() == 1);
-    law_slot_lines(&calendar, 3, 5);
+    law_slot_lines();
+    law_state_text();
     assert!(rt; calendar.first_overflow(1_048_577, &byte).is_none());
     calendar.book(1_048_577, &byte);
     out.clear();

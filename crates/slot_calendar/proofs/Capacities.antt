@@ -5,12 +5,12 @@ use Rattle.std.proofs.lemmas.Bool.{le-leb, lt-leb, cond-true, cond-false, cases_
 use Rattle.slot_calendar.specs.declared.profiles.CapStep.{CapStep}
 use Rattle.slot_calendar.specs.Profiles.{IsProfile, IsCapacity, IsSpan, capacity_after, capacity_at, step_at}
 
--- steps that begin behind the slot leave its capacity
+-- steps that begin after the slot leave its capacity
 capacity-rest : (steps : List CapStep) (t bytes : ℕ) → ((i : ℕ) → i < length steps → t < (step_at steps i).from) → fold (capacity_after t) bytes steps ≡ bytes
 capacity-rest [] t bytes later = refl
 capacity-rest (s ∷ rest) t bytes later =
-    let behind : t < s.from = later 0 (omega arith) in
-    let here : capacity_after t bytes s ≡ bytes = cond-false (nat_le s.from t) s.bytes bytes (lt-leb s.from t behind) in
+    let after : t < s.from = later 0 (omega arith) in
+    let here : capacity_after t bytes s ≡ bytes = cond-false (nat_le s.from t) s.bytes bytes (lt-leb s.from t after) in
     ap (λ b. fold (capacity_after t) b rest) here ∙ capacity-rest rest t bytes (λ i less. later (suc i) (omega (arith, less)))
 
 capacity-from : (steps : List CapStep) (index t bytes : ℕ) → index < length steps → (step_at steps index).from ≤ t →
@@ -44,10 +44,10 @@ ascends-to steps i j profile later inside =
     let same : (step_at steps (i + (j - i))).from ≡ (step_at steps j).from = ap (λ k. (step_at steps k).from) at in
     omega (arith, ascends steps i (j - i) profile (omega (arith, inside)), same)
 
--- the first i steps begin at or before the slot, step i behind it
+-- the first i steps begin at or before the slot, step i after it
 pub capacity-before : (steps : List CapStep) (slot i u bytes : ℕ) → IsProfile steps → i < length steps → ((k : ℕ) → k < i → (step_at steps k).from ≤ slot) →
     ((k : ℕ) → k + 1 ≡ i → bytes ≡ (step_at steps k).bytes) → slot < (step_at steps i).from → slot ≤ u → u < (step_at steps i).from → IsCapacity steps u bytes
-capacity-before steps slot i u bytes profile inside begun bytes_are behind from less =
+capacity-before steps slot i u bytes profile inside begun bytes_are after from less =
     elim (cases_lt 0 i) [
       | inl some ↦ record {
         index = i - 1;
@@ -59,7 +59,7 @@ capacity-before steps slot i u bytes profile inside begun bytes_are behind from 
       | inr none ↦ (
           let zero_is : i ≡ 0 = omega (arith, none) in
           let same : (step_at steps i).from ≡ (step_at steps 0).from = ap (λ k. (step_at steps k).from) zero_is in
-          absurd (omega (arith, same, profile.first, behind))
+          absurd (omega (arith, same, profile.first, after))
           )
     ]
 

@@ -4,3 +4,4 @@ pub mod Sending
 pub mod Shares
 pub mod Capacities
 pub mod Rooms
+pub mod Overflows

@@ -8,7 +8,7 @@ use Rattle.slot_calendar.specs.Profiles.{capacity_at}
 use Rattle.slot_calendar.specs.Plays.{asked_at, cut_at}
 use Rattle.slot_calendar.specs.Calendars.{Entries, booked_at, IsCalendar, HasRoom, FitsIn, IsOverflowIn, IsFirstOverflow}
 use Rattle.slot_calendar.proofs.Capacities.{capacity-most}
-use Rattle.slot_calendar.proofs.Sending.{asked-in, asked-behind, cut-before}
+use Rattle.slot_calendar.proofs.Sending.{asked-in, asked-after, cut-before}
 
 -- a plan that fits leaves totals that can be counted
 pub room-small : (calendar : Entries) (segments : List Segment) (start t : ℕ) → IsCalendar calendar →
@@ -50,26 +50,26 @@ first-overflow first booked capacity segments i s start from over inside is at l
       asked_is = here.first.asked_is ∙ sym asked;
     }
 
--- it fits into the slots behind it
+-- it fits into the slots after it
 pub room-all : (calendar : Entries) (segments : List Segment) (start until : ℕ) → IsCalendar calendar → start + total_slots segments ≤ until →
     FitsIn calendar.first until (booked_at calendar) (capacity_at calendar.steps) start segments →
     HasRoom calendar.first (booked_at calendar) (capacity_at calendar.steps) start segments
 room-all calendar segments start until is past fits = record {
   each = λ u from. elim (cases_lt u until) [
     | inl before ↦ fits u from before
-    | inr behind ↦ (
-        let none = asked-behind segments start u (omega (arith, past, behind)) in
+    | inr after ↦ (
+        let none = asked-after segments start u (omega (arith, past, after)) in
         omega (arith, none, is.within u from)
         )
   ];
 }
 
--- nothing is left to give back where the plan begins behind the calendar's end
+-- nothing is left to give back where the plan begins after the calendar's end
 pub cut-none : (calendar : Entries) (segments : List Segment) (start keep t : ℕ) → calendar.first + 1048576 ≤ start →
     ((u : ℕ) → calendar.first + 1048576 ≤ u → booked_at calendar u ≡ 0) → ((u : ℕ) → calendar.first ≤ u → cut_at segments start keep u ≤ booked_at calendar u) →
     calendar.first ≤ t → cut_at segments start keep t ≡ 0
-cut-none calendar segments start keep t behind past booked from =
+cut-none calendar segments start keep t after past booked from =
     elim (cases_lt t start) [
       | inl before ↦ cut-before segments start keep t before
-      | inr begun ↦ omega (arith, booked t from, past t (omega (arith, behind, begun)))
+      | inr begun ↦ omega (arith, booked t from, past t (omega (arith, after, begun)))
     ]

@@ -91,8 +91,8 @@ asked-append xs ys start t =
 pub asked-before : (segments : List Segment) (start t : ℕ) → t < start → asked_at segments start t ≡ 0
 asked-before segments start t before = omega (arith, sent-none segments start (t + 1) (omega arith))
 
-pub asked-behind : (segments : List Segment) (start t : ℕ) → start + total_slots segments ≤ t → asked_at segments start t ≡ 0
-asked-behind segments start t past =
+pub asked-after : (segments : List Segment) (start t : ℕ) → start + total_slots segments ≤ t → asked_at segments start t ≡ 0
+asked-after segments start t past =
     omega (arith, sent-end segments start t past, sent-end segments start (t + 1) (omega arith))
 
 -- ---- the segments of a plan, one after the other
@@ -143,12 +143,12 @@ asked-in segments i s start from t inside is at begun ends =
     let split = asked-front segments (i + 1) start t in
     let front = asked-next segments i s start from t inside is at in
     let slots = slots-next segments i s inside is in
-    let behind : asked_at (drop (i + 1) segments) (start + total_slots (take (i + 1) segments)) t ≡ 0 =
+    let after : asked_at (drop (i + 1) segments) (start + total_slots (take (i + 1) segments)) t ≡ 0 =
     asked-before (drop (i + 1) segments) (start + total_slots (take (i + 1) segments)) t (omega (arith, slots, at, ends)) in
-    let before : asked_at (take i segments) start t ≡ 0 = asked-behind (take i segments) start t (omega (arith, at, begun)) in
-    omega (arith, split, front, behind, before)
+    let before : asked_at (take i segments) start t ≡ 0 = asked-after (take i segments) start t (omega (arith, at, begun)) in
+    omega (arith, split, front, after, before)
 
--- ---- the bytes behind the first `keep`
+-- ---- the bytes after the first `keep`
 pub all-front : (segments : List Segment) (i : ℕ) → All (λ s. 1 ≤ s.slots) segments → All (λ s. 1 ≤ s.slots) (take i segments)
 all-front segments i some = All-take (λ s. 1 ≤ s.slots) i segments some
 
@@ -199,8 +199,8 @@ cut-front segments i start keep t some =
 pub cut-before : (segments : List Segment) (start keep t : ℕ) → t < start → cut_at segments start keep t ≡ 0
 cut-before segments start keep t before = omega (arith, sent-none segments start (t + 1) (omega arith))
 
-pub cut-behind : (segments : List Segment) (start keep t : ℕ) → start + total_slots segments ≤ t → cut_at segments start keep t ≡ 0
-cut-behind segments start keep t past =
+pub cut-after : (segments : List Segment) (start keep t : ℕ) → start + total_slots segments ≤ t → cut_at segments start keep t ≡ 0
+cut-after segments start keep t past =
     omega (arith, sent-end segments start t past, sent-end segments start (t + 1) (omega arith))
 
 -- ---- the greatest slot of a segment
@@ -223,7 +223,7 @@ asked-most s from c t pos most =
             let then : sent_before (s ∷ []) from (t + 1) ≡ (j + 1) * s.bytes / s.slots = ap (sent_before (s ∷ []) from) (sym next) ∙ sent-one s from (j + 1) pos (omega (arith, inside)) in
             omega (arith, here, then, slot_most s.bytes s.slots c j pos most)
             )
-        | inr past ↦ omega (arith, asked-behind (s ∷ []) from t (omega (arith, one-slots s, past)))
+        | inr past ↦ omega (arith, asked-after (s ∷ []) from t (omega (arith, one-slots s, past)))
       ]
     ]
 

@@ -29,15 +29,15 @@ pub booked-push : (plays : List Play) (segments : List Segment) (start t : ℕ) 
 booked-push plays segments start t plan =
     sum_by_push (share_at t) plays (whole_play start segments) ∙ ap (λ n. booked_by plays t + n) (share-whole segments start t plan)
 
-booked-around : (before behind : List Play) (play : Play) (t : ℕ) → booked_by (before ++ play ∷ behind) t ≡ booked_by before t + (share_at t play + booked_by behind t)
-booked-around before behind play t =
-    sum_by-append (share_at t) before (play ∷ behind) ∙ ap (λ n. booked_by before t + n) (sum_by-cons (share_at t) play behind)
+booked-around : (before after : List Play) (play : Play) (t : ℕ) → booked_by (before ++ play ∷ after) t ≡ booked_by before t + (share_at t play + booked_by after t)
+booked-around before after play t =
+    sum_by-append (share_at t) before (play ∷ after) ∙ ap (λ n. booked_by before t + n) (sum_by-cons (share_at t) play after)
 
 -- a play that is cut
-pub booked-cut : (before behind : List Play) (segments : List Segment) (start keep t : ℕ) → IsPlan segments →
-    booked_by (before ++ cut_play start segments keep ∷ behind) t + cut_at segments start keep t ≡ booked_by (before ++ whole_play start segments ∷ behind) t
-booked-cut before behind segments start keep t plan =
-    omega (arith, booked-around before behind (cut_play start segments keep) t, booked-around before behind (whole_play start segments) t, share-whole segments start t plan, share-cut segments start keep t)
+pub booked-cut : (before after : List Play) (segments : List Segment) (start keep t : ℕ) → IsPlan segments →
+    booked_by (before ++ cut_play start segments keep ∷ after) t + cut_at segments start keep t ≡ booked_by (before ++ whole_play start segments ∷ after) t
+booked-cut before after segments start keep t plan =
+    omega (arith, booked-around before after (cut_play start segments keep) t, booked-around before after (whole_play start segments) t, share-whole segments start t plan, share-cut segments start keep t)
 
 -- ---- calendars and the lists that they stand for
 pub stands-push : (old new : Entries) (plays : List Play) (segments : List Segment) (start : ℕ) → IsPlan segments → new.first ≡ old.first →
@@ -50,13 +50,13 @@ stands-push old new plays segments start plan first totals stands = record {
       );
 }
 
-pub stands-cut : (old new : Entries) (before behind : List Play) (segments : List Segment) (start keep : ℕ) → IsPlan segments → new.first ≡ old.first →
-    ((t : ℕ) → old.first ≤ t → booked_at new t + cut_at segments start keep t ≡ booked_at old t) → StandsFor old (before ++ whole_play start segments ∷ behind) →
-    StandsFor new (before ++ cut_play start segments keep ∷ behind)
-stands-cut old new before behind segments start keep plan first totals stands = record {
+pub stands-cut : (old new : Entries) (before after : List Play) (segments : List Segment) (start keep : ℕ) → IsPlan segments → new.first ≡ old.first →
+    ((t : ℕ) → old.first ≤ t → booked_at new t + cut_at segments start keep t ≡ booked_at old t) → StandsFor old (before ++ whole_play start segments ∷ after) →
+    StandsFor new (before ++ cut_play start segments keep ∷ after)
+stands-cut old new before after segments start keep plan first totals stands = record {
   each = λ t from. (
       let since : old.first ≤ t = omega (arith, first, from) in
-      omega (arith, totals t since, stands.each t since, booked-cut before behind segments start keep t plan)
+      omega (arith, totals t since, stands.each t since, booked-cut before after segments start keep t plan)
       );
 }
 
@@ -65,7 +65,7 @@ pub stands-later : (old new : Entries) (plays : List Play) → old.first ≤ new
 stands-later old new plays later totals stands = record { each = λ t from. totals t from ∙ stands.each t (omega (arith, later, from)) }
 
 -- what a play that stands whole may give back
-pub cut-booked : (calendar : Entries) (before behind : List Play) (segments : List Segment) (start keep t : ℕ) → IsPlan segments →
-    StandsFor calendar (before ++ whole_play start segments ∷ behind) → calendar.first ≤ t → cut_at segments start keep t ≤ booked_at calendar t
-cut-booked calendar before behind segments start keep t plan stands from =
-    omega (arith, stands.each t from, booked-cut before behind segments start keep t plan)
+pub cut-booked : (calendar : Entries) (before after : List Play) (segments : List Segment) (start keep t : ℕ) → IsPlan segments →
+    StandsFor calendar (before ++ whole_play start segments ∷ after) → calendar.first ≤ t → cut_at segments start keep t ≤ booked_at calendar t
+cut-booked calendar before after segments start keep t plan stands from =
+    omega (arith, stands.each t from, booked-cut before after segments start keep t plan)

@@ -1,10 +1,10 @@
--- A list that is kept turned: slot t at place t modulo its length.
+-- A list that is kept rotation: slot t at place t modulo its length.
 use Rattle.std.proofs.Common.{◌≡◌, ◌≢◌, ◌<◌, ◌≤◌, ◌+◌, ◌-◌, ◌*◌, ◌/◌, ◌%◌, ℕ, List, length, get_or, take, drop, set, arith, sym, ap, ◌∙◌, inl, inr}
 use Rattle.std.proofs.Math.Nat.{mod-lt, lt_of_mul-lt-mul_right}
 use Rattle.std.proofs.lemmas.Nat.{div-add-mod', mod-mul-add, field_of}
 use Rattle.std.proofs.lemmas.Bool.{cases_lt, cases_eq}
 use Rattle.std.proofs.lemmas.List.{length-set, get_or-set_same, get_or-set_other, length-drop, length-take-le, length-append, get_or_append_left, get_or-append_right, get_or-drop, get_or-take, get_or_past}
-use Rattle.slot_calendar.specs.Rings.{turned}
+use Rattle.slot_calendar.specs.Rings.{rotation}
 use Rattle.slot_calendar.specs.Totals.{total_at}
 
 -- a remainder, from a quotient
@@ -14,13 +14,13 @@ mod_is x n q r is less = ap (λ y. y % n) is ∙ mod-mul-add q n r less
 pub mod_below : (x n : ℕ) → 0 < n → x % n < n
 mod_below x n pos = mod-lt x pos
 
-pub length-turned : (xs : List ℕ) (h : ℕ) → h ≤ length xs → length (turned h xs) ≡ length xs
-length-turned xs h within =
+pub length-rotation : (xs : List ℕ) (h : ℕ) → h ≤ length xs → length (rotation h xs) ≡ length xs
+length-rotation xs h within =
     omega (arith, length-append (drop h xs) (take h xs), length-drop h xs, length-take-le h xs within)
 
 -- the element of slot t
-turned-at : (xs : List ℕ) (n first k : ℕ) → 0 < n → length xs ≡ n → k < n → get_or (turned (first % n) xs) k 0 ≡ get_or xs ((first + k) % n) 0
-turned-at xs n first k pos len inside =
+rotation-at : (xs : List ℕ) (n first k : ℕ) → 0 < n → length xs ≡ n → k < n → get_or (rotation (first % n) xs) k 0 ≡ get_or xs ((first + k) % n) 0
+rotation-at xs n first k pos len inside =
     let h = first % n in
     let below : h < n = mod_below first n pos in
     let whole : first / n * n + h ≡ first = div-add-mod' first n in
@@ -36,15 +36,15 @@ turned-at xs n first k pos len inside =
           )
     ]
 
-pub total-in : (xs : List ℕ) (n first t : ℕ) → 0 < n → length xs ≡ n → first ≤ t → t < first + n → total_at first (turned (first % n) xs) t ≡ get_or xs (t % n) 0
+pub total-in : (xs : List ℕ) (n first t : ℕ) → 0 < n → length xs ≡ n → first ≤ t → t < first + n → total_at first (rotation (first % n) xs) t ≡ get_or xs (t % n) 0
 total-in xs n first t pos len from inside =
     let at : first + (t - first) ≡ t = omega arith in
-    turned-at xs n first (t - first) pos len (omega arith) ∙ ap (λ u. get_or xs (u % n) 0) at
+    rotation-at xs n first (t - first) pos len (omega arith) ∙ ap (λ u. get_or xs (u % n) 0) at
 
-pub total-past : (xs : List ℕ) (n first t : ℕ) → 0 < n → length xs ≡ n → first + n ≤ t → total_at first (turned (first % n) xs) t ≡ 0
+pub total-past : (xs : List ℕ) (n first t : ℕ) → 0 < n → length xs ≡ n → first + n ≤ t → total_at first (rotation (first % n) xs) t ≡ 0
 total-past xs n first t pos len past =
     let below : first % n < n = mod_below first n pos in
-    get_or_past (turned (first % n) xs) (t - first) 0 (omega (arith, length-turned xs (first % n) (omega (arith, len, below)), len, past))
+    get_or_past (rotation (first % n) xs) (t - first) 0 (omega (arith, length-rotation xs (first % n) (omega (arith, len, below)), len, past))
 
 -- two slots of one turn have two places
 pub places_apart : (n first s t : ℕ) → 0 < n → first ≤ s → s < first + n → first ≤ t → t < first + n → s % n ≡ t % n → s ≡ t
@@ -68,14 +68,14 @@ same_block slot t from inside = omega (arith, from, inside)
 
 -- ---- a place that is written
 pub set-here : (xs : List ℕ) (n first slot v : ℕ) → 0 < n → length xs ≡ n → first ≤ slot → slot < first + n →
-    total_at first (turned (first % n) (set xs (slot % n) v)) slot ≡ v
+    total_at first (rotation (first % n) (set xs (slot % n) v)) slot ≡ v
 set-here xs n first slot v pos len from inside =
     let below : slot % n < n = mod_below slot n pos in
     total-in (set xs (slot % n) v) n first slot pos (length-set xs (slot % n) v ∙ len) from inside
     ∙ get_or-set_same xs (slot % n) v 0 (omega (arith, below, len))
 
 pub set-there : (xs : List ℕ) (n first slot t v : ℕ) → 0 < n → length xs ≡ n → first ≤ slot → slot < first + n → first ≤ t → t ≢ slot →
-    total_at first (turned (first % n) (set xs (slot % n) v)) t ≡ total_at first (turned (first % n) xs) t
+    total_at first (rotation (first % n) (set xs (slot % n) v)) t ≡ total_at first (rotation (first % n) xs) t
 set-there xs n first slot t v pos len from inside since other =
     let len' : length (set xs (slot % n) v) ≡ n = length-set xs (slot % n) v ∙ len in
     elim (cases_lt t (first + n)) [
@@ -88,8 +88,8 @@ set-there xs n first slot t v pos len from inside since other =
     ]
 
 -- the first slot is forgotten where it holds nothing
-pub total-next : (xs : List ℕ) (n first t : ℕ) → 0 < n → length xs ≡ n → total_at first (turned (first % n) xs) first ≡ 0 → first + 1 ≤ t →
-    total_at (first + 1) (turned ((first + 1) % n) xs) t ≡ total_at first (turned (first % n) xs) t
+pub total-next : (xs : List ℕ) (n first t : ℕ) → 0 < n → length xs ≡ n → total_at first (rotation (first % n) xs) first ≡ 0 → first + 1 ≤ t →
+    total_at (first + 1) (rotation ((first + 1) % n) xs) t ≡ total_at first (rotation (first % n) xs) t
 total-next xs n first t pos len none since =
     elim (cases_lt t (first + n)) [
       | inl inside ↦ total-in xs n (first + 1) t pos len since (omega arith) ∙ sym (total-in xs n first t pos len (omega arith) inside)
@@ -108,7 +108,7 @@ total-next xs n first t pos len none since =
     more a b u least other = omega arith
 
 -- nothing is booked where all places are 0
-pub total-zero : (xs : List ℕ) (n first t : ℕ) → 0 < n → length xs ≡ n → ((i : ℕ) → get_or xs i 0 ≡ 0) → first ≤ t → total_at first (turned (first % n) xs) t ≡ 0
+pub total-zero : (xs : List ℕ) (n first t : ℕ) → 0 < n → length xs ≡ n → ((i : ℕ) → get_or xs i 0 ≡ 0) → first ≤ t → total_at first (rotation (first % n) xs) t ≡ 0
 total-zero xs n first t pos len zeros from =
     elim (cases_lt t (first + n)) [
       | inl inside ↦ total-in xs n first t pos len from inside ∙ zeros (t % n)
@@ -118,7 +118,7 @@ total-zero xs n first t pos len zeros from =
 -- no total of the slots of a block is above the bound of its places
 pub total-bounded : (xs tops : List ℕ) (first slot t : ℕ) → length xs ≡ 1048576 → ((i : ℕ) → i < 1048576 → get_or xs i 0 ≤ get_or tops (i / 1024) 0) →
     first ≤ slot → slot ≤ t → t / 1024 ≡ slot / 1024 →
-    total_at first (turned (first % 1048576) xs) t ≤ get_or tops (slot % 1048576 / 1024) 0
+    total_at first (rotation (first % 1048576) xs) t ≤ get_or tops (slot % 1048576 / 1024) 0
 total-bounded xs tops first slot t len bounded from since same =
     elim (cases_lt t (first + 1048576)) [
       | inl inside ↦ (
@@ -131,12 +131,12 @@ total-bounded xs tops first slot t len bounded from since same =
       | inr past ↦ (let none = total-past xs 1048576 first t (omega arith) len past in omega (arith, none))
     ]
 
-pub total-zeros : (xs : List ℕ) (n first t : ℕ) → 0 < n → length xs ≡ n → ((i : ℕ) → get_or xs i 0 ≡ 0) → total_at first (turned (first % n) xs) t ≡ 0
+pub total-zeros : (xs : List ℕ) (n first t : ℕ) → 0 < n → length xs ≡ n → ((i : ℕ) → get_or xs i 0 ≡ 0) → total_at first (rotation (first % n) xs) t ≡ 0
 total-zeros xs n first t pos len zeros =
     elim (cases_lt t first) [
       | inl before ↦ (
           let same : t - first ≡ first - first = omega arith in
-          ap (λ k. get_or (turned (first % n) xs) k 0) same ∙ total-zero xs n first first pos len zeros (omega arith)
+          ap (λ k. get_or (rotation (first % n) xs) k 0) same ∙ total-zero xs n first first pos len zeros (omega arith)
           )
       | inr from ↦ total-zero xs n first t pos len zeros from
     ]

@@ -13,7 +13,7 @@ pub record Entries : Type 0 where
   pub steps : List CapStep
   pub totals : List ℕ
 
--- the booked bytes of slot t, from now on; 0 behind the calendar's end
+-- the booked bytes of slot t, from now on; 0 after the calendar's end
 abbrev pub booked_at : Entries → ℕ → ℕ
 booked_at calendar t = total_at calendar.first calendar.totals t
 
@@ -47,9 +47,20 @@ pub record IsFirstOverflow (from : ℕ) (booked capacity : ℕ → ℕ) (start :
   pub booked_is : over.booked ≡ booked over.slot
   pub asked_is : over.asked ≡ asked_at segments start over.slot
 
+-- it fits into each slot of a calendar
+abbrev pub IsRoomIn : Entries → ℕ → List Segment → Type 0
+IsRoomIn calendar start segments =
+    HasRoom calendar.first (booked_at calendar) (capacity_at calendar.steps) start segments
+
+-- the first slot of a calendar into which it doesn't fit
+abbrev pub IsFirstOverflowIn : Entries → ℕ → List Segment → Overflow → Type 0
+IsFirstOverflowIn calendar start segments over =
+    IsFirstOverflow calendar.first (booked_at calendar) (capacity_at calendar.steps) start segments over
+
 -- it fits into each slot from `from` on that is before `until`
 abbrev pub FitsIn : ℕ → ℕ → (ℕ → ℕ) → (ℕ → ℕ) → ℕ → List Segment → Type 0
-FitsIn from until booked capacity start segments = (u : ℕ) → from ≤ u → u < until → Fits booked capacity start segments u
+FitsIn from until booked capacity start segments =
+    (u : ℕ) → from ≤ u → u < until → Fits booked capacity start segments u
 
 -- the first overflow before slot `until`
 pub record IsOverflowIn (from until : ℕ) (booked capacity : ℕ → ℕ) (start : ℕ) (segments : List Segment) (over : Overflow) : Type 0 where

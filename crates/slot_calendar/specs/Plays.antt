@@ -1,4 +1,4 @@
--- What plays book on a link. A play is a plan that begins at a slot and is cut behind its first `keep` bytes.
+-- What plays book on a link. A play is a plan that begins at a slot and is cut after its first `keep` bytes.
 use Rattle.std.specs.Prelude.{ℕ, ◌+◌, ◌-◌, min, List, take, sum, sum_by}
 use Rattle.plan_cert.specs.declared.Segment.{Segment}
 use Rattle.plan_cert.specs.Slots.{plan_slots, total_bytes}
@@ -11,7 +11,7 @@ sent_before segments start t = sum (take (t - start) (plan_slots segments))
 abbrev pub asked_at : List Segment → ℕ → ℕ → ℕ
 asked_at segments start t = sent_before segments start (t + 1) - sent_before segments start t
 
--- the bytes that it sends in slot t behind its first `keep` bytes
+-- the bytes that it sends in slot t after its first `keep` bytes
 abbrev pub cut_at : List Segment → ℕ → ℕ → ℕ → ℕ
 cut_at segments start keep t = (sent_before segments start (t + 1) - keep) - (sent_before segments start t - keep)
 

@@ -11,13 +11,21 @@ no_step = record { from = 0; bytes = 0 }
 abbrev pub step_at : List CapStep → ℕ → CapStep
 step_at steps i = slice_index_or steps i no_step
 
--- 1 to 64 steps, the first from slot 0, each one behind the one before, none above 2^42 bytes a slot
+-- each step begins after the one before it
+abbrev pub AreAscending : List CapStep → Type 0
+AreAscending steps = (i : ℕ) → i + 1 < length steps → (step_at steps i).from < (step_at steps (i + 1)).from
+
+-- no step is above 2^42 bytes a slot
+abbrev pub AreSmall : List CapStep → Type 0
+AreSmall steps = (i : ℕ) → i < length steps → (step_at steps i).bytes ≤ 2 ^ 42
+
+-- 1 to 64 steps, the first from slot 0, each one after the one before, none above 2^42 bytes a slot
 pub record IsProfile (steps : List CapStep) : Type 0 where
   pub some : 1 ≤ length steps
   pub few : length steps ≤ 64
   pub first : (step_at steps 0).from ≡ 0
-  pub ascend : (i : ℕ) → i + 1 < length steps → (step_at steps i).from < (step_at steps (i + 1)).from
-  pub small : (i : ℕ) → i < length steps → (step_at steps i).bytes ≤ 2 ^ 42
+  pub ascend : AreAscending steps
+  pub small : AreSmall steps
 
 -- what a step leaves of the capacity of slot t that the steps before it gave
 abbrev pub capacity_after : ℕ → ℕ → CapStep → ℕ

@@ -1,16 +1,21 @@
 -- How the totals are kept: 1,048,576 slots at their number modulo 1,048,576, in 1,024 blocks of 1,024 places each.
 use Rattle.std.specs.Prelude.{ℕ, ◌≡◌, ◌≢◌, ◌/◌, ◌%◌, ◌<◌, ◌≤◌, ◌++◌, List, Option, Some, length, take, drop, slice_index}
+use Rattle.slot_calendar.specs.Totals.{total_at}
 use Rattle.slot_calendar.specs.declared.ring.Ring.TheInside.{Inside}
 
 -- the list that begins at place `from` and comes round to it
-abbrev pub turned : ℕ → List ℕ → List ℕ
-turned from places = drop from places ++ take from places
+abbrev pub rotation : ℕ → List ℕ → List ℕ
+rotation from places = drop from places ++ take from places
 
 -- a ring: the totals of the slots from `first` on, and the block that was lowered and not read again, if any
 pub record Slots : Type 0 where
   pub first : ℕ
   pub totals : List ℕ
   pub stale : Option ℕ
+
+-- the total of slot t, from the first one on; 0 after the ring's end
+abbrev pub total_of : Slots → ℕ → ℕ
+total_of ring t = total_at ring.first ring.totals t
 
 -- some place of block b holds `top`
 pub record IsReached (places : List ℕ) (b top : ℕ) : Type 0 where
@@ -28,7 +33,7 @@ pub record IsTopped (places tops : List ℕ) (stale : Option ℕ) : Type 0 where
   pub stale_in : (b : ℕ) → stale ≡ Some b → b < 1024
 
 abbrev pub slots_of_ring : Inside → Slots
-slots_of_ring ring = record { first = ring.first; totals = turned (ring.first % 1048576) ring.places.items; stale = ring.stale }
+slots_of_ring ring = record { first = ring.first; totals = rotation (ring.first % 1048576) ring.places.items; stale = ring.stale }
 
 abbrev pub IsRing : Inside → Type 0
 IsRing ring = IsTopped ring.places.items ring.tops.items ring.stale

@@ -3,7 +3,7 @@ ghost use Rattle.plan_cert.specs.Slots.{total_slots};
 ghost use Rattle.plan_cert.specs.Plan.{IsPlan};
 ghost use Rattle.slot_calendar.specs.Profiles.{capacity_at};
 ghost use Rattle.slot_calendar.specs.Plays.{sent_before, asked_at, cut_at};
-ghost use Rattle.slot_calendar.specs.Totals.{total_at};
+ghost use Rattle.slot_calendar.specs.Rings.{total_of};
 ghost use Rattle.slot_calendar.specs.Calendars.{FitsIn, IsOverflowIn};
 
 use crate::calendar::Overflow;
@@ -11,14 +11,14 @@ use crate::profiles::Profile;
 use crate::ring::{BLOCK, Ring};
 use plan_cert::Segment;
 
-/// The bytes of the segment's first `count` slots.
-fn first_bytes(segment: Segment, count: u64) -> u64
+/// The bytes of the segment's first `count` slots, in the calendar's words.
+fn sent_through(segment: Segment, count: u64) -> u64
     requires plan { IsPlan (segment ∷ []) }
     requires within { count ≤ segment.slots }
     ensures sent { (from : ℕ) → sent_before (segment ∷ []) from (from + count) ≡ result }
     ensures small { result ≤ segment.bytes }
 {
-    count * segment.bytes / segment.slots
+    segment.first_bytes(count)
 }
 
 /// Adds a segment that begins at slot `from`.
@@ -27,14 +27,16 @@ fn book_segment(ring: &mut Ring, from: u64, segment: Segment)
     requires small { from ≤ 2 ^ 63 }
     requires from_now { ring.old.first ≤ from }
     requires within { from + segment.slots ≤ ring.old.first + 1048576 }
-    requires fits { (t : ℕ) → ring.old.first ≤ t → total_at ring.old.first ring.old.totals t + asked_at (segment ∷ []) from t ≤ 2 ^ 42 }
+    requires fits { (t : ℕ) → ring.old.first ≤ t →
+        total_of ring.old t + asked_at (segment ∷ []) from t ≤ 2 ^ 42 }
     ensures now { ring.new.first ≡ ring.old.first }
     ensures stale { ring.new.stale ≡ ring.old.stale }
-    ensures totals { (t : ℕ) → ring.old.first ≤ t → total_at ring.new.first ring.new.totals t ≡ total_at ring.old.first ring.old.totals t + asked_at (segment ∷ []) from t }
+    ensures totals { (t : ℕ) → ring.old.first ≤ t →
+        total_of ring.new t ≡ total_of ring.old t + asked_at (segment ∷ []) from t }
 {
     let mut before = 0;
     for passed in 0..segment.slots {
-        let sent = first_bytes(segment, passed + 1);
+        let sent = sent_through(segment, passed + 1);
         ring.raise(from + passed, sent - before);
         before = sent;
     }
@@ -46,10 +48,12 @@ pub(crate) fn book_segments(ring: &mut Ring, start: u64, segments: &[Segment])
     requires small { start ≤ 2 ^ 62 + 2 ^ 20 }
     requires from_now { ring.old.first ≤ start }
     requires within { start + total_slots segments.now ≤ ring.old.first + 1048576 }
-    requires fits { (t : ℕ) → ring.old.first ≤ t → total_at ring.old.first ring.old.totals t + asked_at segments.now start t ≤ 2 ^ 42 }
+    requires fits { (t : ℕ) → ring.old.first ≤ t →
+        total_of ring.old t + asked_at segments.now start t ≤ 2 ^ 42 }
     ensures now { ring.new.first ≡ ring.old.first }
     ensures stale { ring.new.stale ≡ ring.old.stale }
-    ensures totals { (t : ℕ) → ring.old.first ≤ t → total_at ring.new.first ring.new.totals t ≡ total_at ring.old.first ring.old.totals t + asked_at segments.now start t }
+    ensures totals { (t : ℕ) → ring.old.first ≤ t →
+        total_of ring.new t ≡ total_of ring.old t + asked_at segments.now start t }
 {
     let mut from = start;
     for segment in segments {
@@ -60,40 +64,45 @@ pub(crate) fn book_segments(ring: &mut Ring, start: u64, segments: &[Segment])
 
 /// Takes bytes from a slot, if it is one of the ring.
 fn give_back(ring: &mut Ring, slot: u64, by: u64)
-    requires { ring.old.first ≤ slot → by ≤ total_at ring.old.first ring.old.totals slot }
+    requires { ring.old.first ≤ slot → by ≤ total_of ring.old slot }
     ensures now { ring.new.first ≡ ring.old.first }
-    ensures at { ring.old.first ≤ slot → total_at ring.new.first ring.new.totals slot + by ≡ total_at ring.old.first ring.old.totals slot }
-    ensures others { (t : ℕ) → ring.old.first ≤ t → t ≢ slot → total_at ring.new.first ring.new.totals t ≡ total_at ring.old.first ring.old.totals t }
+    ensures at { ring.old.first ≤ slot → total_of ring.new slot + by ≡ total_of ring.old slot }
+    ensures others { (t : ℕ) → ring.old.first ≤ t → t ≢ slot →
+        total_of ring.new t ≡ total_of ring.old t }
 {
     if by > 0 && slot >= ring.now() {
         ring.lower(slot, by);
     }
 }
 
-/// Takes away what a segment that begins at slot `from` has behind its first `keep` bytes, in the slots of the ring.
+/// Takes away what a segment that begins at slot `from` has after its first `keep` bytes, in the slots of the ring.
 fn release_segment(ring: &mut Ring, from: u64, segment: Segment, keep: u64)
     requires plan { IsPlan (segment ∷ []) }
     requires small { from ≤ 2 ^ 63 }
-    requires booked { (t : ℕ) → ring.old.first ≤ t → cut_at (segment ∷ []) from keep t ≤ total_at ring.old.first ring.old.totals t }
+    requires booked { (t : ℕ) → ring.old.first ≤ t →
+        cut_at (segment ∷ []) from keep t ≤ total_of ring.old t }
     ensures now { ring.new.first ≡ ring.old.first }
-    ensures totals { (t : ℕ) → ring.old.first ≤ t → total_at ring.new.first ring.new.totals t + cut_at (segment ∷ []) from keep t ≡ total_at ring.old.first ring.old.totals t }
+    ensures totals { (t : ℕ) → ring.old.first ≤ t →
+        total_of ring.new t + cut_at (segment ∷ []) from keep t ≡ total_of ring.old t }
 {
     let mut before = 0;
     for passed in 0..segment.slots {
-        let over = first_bytes(segment, passed + 1).saturating_sub(keep);
+        let over = sent_through(segment, passed + 1).saturating_sub(keep);
         give_back(ring, from + passed, over - before);
         before = over;
     }
 }
 
-/// Takes away what segments, one after the other from slot `start` on, have behind their first `keep` bytes, in the
+/// Takes away what segments, one after the other from slot `start` on, have after their first `keep` bytes, in the
 /// slots of the ring.
 pub(crate) fn release_segments(ring: &mut Ring, start: u64, segments: &[Segment], keep: u64)
     requires plan { IsPlan segments.now }
     requires small { start ≤ 2 ^ 62 + 2 ^ 20 }
-    requires booked { (t : ℕ) → ring.old.first ≤ t → cut_at segments.now start keep t ≤ total_at ring.old.first ring.old.totals t }
+    requires booked { (t : ℕ) → ring.old.first ≤ t →
+        cut_at segments.now start keep t ≤ total_of ring.old t }
     ensures now { ring.new.first ≡ ring.old.first }
-    ensures totals { (t : ℕ) → ring.old.first ≤ t → total_at ring.new.first ring.new.totals t + cut_at segments.now start keep t ≡ total_at ring.old.first ring.old.totals t }
+    ensures totals { (t : ℕ) → ring.old.first ≤ t →
+        total_of ring.new t + cut_at segments.now start keep t ≡ total_of ring.old t }
 {
     let mut from = start;
     let mut left = keep;
@@ -119,11 +128,14 @@ fn overflow_among(
     requires from_now { ring.now.first ≤ from }
     requires order { first ≤ end }
     requires within { end ≤ segment.slots }
-    ensures { MatchOption result (FitsIn (from + first) (from + end) (total_at ring.now.first ring.now.totals) (λ _. capacity) from (segment ∷ [])) (IsOverflowIn (from + first) (from + end) (total_at ring.now.first ring.now.totals) (λ _. capacity) from (segment ∷ [])) }
+    ensures { MatchOption result
+        (FitsIn (from + first) (from + end) (total_of ring.now) (λ _. capacity) from (segment ∷ []))
+        (IsOverflowIn (from + first) (from + end) (total_of ring.now) (λ _. capacity)
+        from (segment ∷ [])) }
 {
-    let mut before = first_bytes(segment, first);
+    let mut before = sent_through(segment, first);
     for passed in first..end {
-        let sent = first_bytes(segment, passed + 1);
+        let sent = sent_through(segment, passed + 1);
         let slot = from + passed;
         let booked = ring.total(slot);
         let asked = sent - before;
@@ -150,7 +162,11 @@ pub(crate) fn overflow_in(
     requires plan { IsPlan (segment ∷ []) }
     requires small { from ≤ 2 ^ 63 }
     requires from_now { ring.now.first ≤ from }
-    ensures { MatchOption result (FitsIn from (from + segment.slots) (total_at ring.now.first ring.now.totals) (capacity_at profile.now) from (segment ∷ [])) (IsOverflowIn from (from + segment.slots) (total_at ring.now.first ring.now.totals) (capacity_at profile.now) from (segment ∷ [])) }
+    ensures { MatchOption result
+        (FitsIn from (from + segment.slots) (total_of ring.now) (capacity_at profile.now)
+        from (segment ∷ []))
+        (IsOverflowIn from (from + segment.slots) (total_of ring.now) (capacity_at profile.now)
+        from (segment ∷ [])) }
 {
     let most = segment.bytes.div_ceil(segment.slots);
     let mut passed = 0;

@@ -5,7 +5,7 @@ ghost use Rattle.slot_calendar.specs.Plays.{Play, asked_at, cut_at, whole_play, 
 
 use crate::booking::{book_segments, overflow_in, release_segments};
 use crate::profiles::Profile;
-use crate::ring::{Ring, SLOTS};
+use crate::ring::{RING_SLOTS, Ring};
 use plan_cert::Plan;
 use std::alloc::Global;
 use std::marker::Model;
@@ -44,7 +44,7 @@ impl Model for Calendar {
 }
 
 impl Calendar {
-    ghost use Rattle.slot_calendar.specs.Calendars.{IsCalendar, StandsFor, HasRoom, IsFirstOverflow, booked_at};
+    ghost use Rattle.slot_calendar.specs.Calendars.{IsCalendar, StandsFor, IsRoomIn, IsFirstOverflowIn, booked_at};
 
     /// An empty calendar of this capacity, from slot 0 on. No other call takes memory.
     pub fn new(alloc: Global, profile: Profile) -> Result<Calendar, NoMemory>
@@ -68,6 +68,7 @@ impl Calendar {
     pub fn now(&self) -> u64
         ensures value { result ≡ self.now.first }
         ensures calendar { IsCalendar self.now }
+        ensures past { (t : ℕ) → self.now.first + 1048576 ≤ t → booked_at self.now t ≡ 0 }
     {
         self.ring.now()
     }
@@ -90,7 +91,7 @@ impl Calendar {
     pub fn first_overflow(&self, start: u64, plan: &Plan) -> Option<Overflow>
         requires after { self.now.first < start }
         requires small { start ≤ 2 ^ 62 + 256 }
-        ensures { MatchOption result (HasRoom self.now.first (booked_at self.now) (capacity_at self.now.steps) start plan.now) (IsFirstOverflow self.now.first (booked_at self.now) (capacity_at self.now.steps) start plan.now) }
+        ensures { MatchOption result (IsRoomIn self.now start plan.now) (IsFirstOverflowIn self.now start plan.now) }
     {
         let segments = plan.segments();
         let mut from = start;
@@ -107,27 +108,34 @@ impl Calendar {
     pub fn book(&mut self, start: u64, plan: &Plan)
         requires after { self.old.first < start }
         requires within { start + total_slots plan.now ≤ self.old.first + 1048576 }
-        requires room { HasRoom self.old.first (booked_at self.old) (capacity_at self.old.steps) start plan.now }
+        requires room { IsRoomIn self.old start plan.now }
         ensures now { self.new.first ≡ self.old.first }
         ensures profile { self.new.steps ≡ self.old.steps }
-        ensures totals { (t : ℕ) → self.old.first ≤ t → booked_at self.new t ≡ booked_at self.old t + asked_at plan.now start t }
-        ensures stands { (plays : List Play) → StandsFor self.old plays → StandsFor self.new (plays ++ whole_play start plan.now ∷ []) }
+        ensures totals { (t : ℕ) → self.old.first ≤ t →
+            booked_at self.new t ≡ booked_at self.old t + asked_at plan.now start t }
+        ensures stands { (plays : List Play) → StandsFor self.old plays →
+            StandsFor self.new (plays ++ whole_play start plan.now ∷ []) }
     {
         book_segments(&mut self.ring, start, plan.segments());
     }
 
-    /// Gives back what a plan that was booked at `start` has behind its first `keep` bytes in the slots from now on.
+    /// Gives back what a plan that was booked at `start` has after its first `keep` bytes in the slots from now on.
     /// One pass over the plan's slots.
     pub fn release(&mut self, start: u64, plan: &Plan, keep: u64)
         requires keep { keep ≤ total_bytes plan.now }
-        requires booked { (t : ℕ) → self.old.first ≤ t → cut_at plan.now start keep t ≤ booked_at self.old t }
+        requires booked { (t : ℕ) → self.old.first ≤ t →
+            cut_at plan.now start keep t ≤ booked_at self.old t }
         ensures now { self.new.first ≡ self.old.first }
         ensures profile { self.new.steps ≡ self.old.steps }
-        ensures totals { (t : ℕ) → self.old.first ≤ t → booked_at self.new t + cut_at plan.now start keep t ≡ booked_at self.old t }
-        ensures stands { (before behind : List Play) → StandsFor self.old (before ++ whole_play start plan.now ∷ behind) → StandsFor self.new (before ++ cut_play start plan.now keep ∷ behind) }
+        ensures totals { (t : ℕ) → self.old.first ≤ t →
+            booked_at self.new t + cut_at plan.now start keep t ≡ booked_at self.old t }
+        ensures stands { (before after : List Play) →
+            StandsFor self.old (before ++ whole_play start plan.now ∷ after) →
+            StandsFor self.new (before ++ cut_play start plan.now keep ∷ after) }
     {
         let segments = plan.segments();
-        if start - start.min(self.ring.now()) < SLOTS {
+        // past the ring nothing is booked; within it the plan's slots can be counted
+        if start.saturating_sub(self.ring.now()) < RING_SLOTS {
             release_segments(&mut self.ring, start, segments, keep);
             self.ring.settle();
         }

@@ -9,8 +9,9 @@ mod profiles;
 mod ring;
 
 pub use calendar::{Calendar, Overflow};
-pub use laws::{law_capacity, law_release, law_sending};
-pub use profiles::{CapStep, MOST_CAPACITY, MOST_STEPS, Profile};
+pub use laws::{law_capacity, law_one_overflow, law_release, law_sending};
+pub use profiles::{CapStep, MAX_CAPACITY, MAX_STEPS, Profile};
+pub use ring::RING_SLOTS;
 
 #[cfg(test)]
 mod tests;

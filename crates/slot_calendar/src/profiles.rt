@@ -1,5 +1,5 @@
 ghost use Rattle.std.specs.Prelude.{◌≡◌, ◌+◌, ◌^◌, ◌-◌, ◌<◌, ◌≤◌, ◌↔◌, ℕ, [], ◌∷◌, length, IsTrue, IfOk};
-ghost use Rattle.slot_calendar.specs.Profiles.{IsProfile, IsCapacity, IsSpan, capacity_at, step_at};
+ghost use Rattle.slot_calendar.specs.Profiles.{AreAscending, AreSmall, IsProfile, IsCapacity, IsSpan, capacity_at};
 
 use std::alloc::Global;
 use std::marker::Model;
@@ -15,10 +15,10 @@ pub struct CapStep {
 }
 
 /// The most steps of a profile.
-pub const MOST_STEPS: usize = 64;
+pub const MAX_STEPS: usize = 64;
 
 /// The greatest capacity in bytes a slot.
-pub const MOST_CAPACITY: u64 = 1 << 42;
+pub const MAX_CAPACITY: u64 = 1 << 42;
 
 /// The capacity of a link over its slots: 1 to 64 steps, the first from slot 0, strictly ascending, each of at most
 /// 2^42 bytes a slot.
@@ -49,13 +49,13 @@ pub(crate) struct Span {
 }
 
 impl Profile {
-    /// Whether these steps make a profile: 1 to [`MOST_STEPS`] of them, the first from slot 0, strictly ascending, each
-    /// of at most [`MOST_CAPACITY`] bytes.
+    /// Whether these steps make a profile: 1 to [`MAX_STEPS`] of them, the first from slot 0, strictly ascending, each
+    /// of at most [`MAX_CAPACITY`] bytes.
     pub fn is_allowed(steps: &[CapStep]) -> bool
         ensures { IsTrue result ↔ IsProfile steps.now }
     {
         !steps.is_empty()
-            && steps.len() <= MOST_STEPS
+            && steps.len() <= MAX_STEPS
             && steps[0].from == 0
             && ascend(steps)
             && are_small(steps)
@@ -107,9 +107,9 @@ impl Profile {
     }
 }
 
-/// Whether each step begins behind the one before it.
+/// Whether each step begins after the one before it.
 fn ascend(steps: &[CapStep]) -> bool
-    ensures { IsTrue result ↔ ((i : ℕ) → i + 1 < length steps.now → (step_at steps.now i).from < (step_at steps.now (i + 1)).from) }
+    ensures { IsTrue result ↔ AreAscending steps.now }
 {
     for index in 0..steps.len().saturating_sub(1) {
         if steps[index + 1].from <= steps[index].from {
@@ -121,10 +121,10 @@ fn ascend(steps: &[CapStep]) -> bool
 
 /// Whether no step is above the greatest capacity.
 fn are_small(steps: &[CapStep]) -> bool
-    ensures { IsTrue result ↔ ((i : ℕ) → i < length steps.now → (step_at steps.now i).bytes ≤ 2 ^ 42) }
+    ensures { IsTrue result ↔ AreSmall steps.now }
 {
     for step in steps {
-        if step.bytes > MOST_CAPACITY {
+        if step.bytes > MAX_CAPACITY {
             return false;
         }
     }

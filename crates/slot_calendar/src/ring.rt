@@ -1,13 +1,12 @@
 ghost use Rattle.std.specs.Prelude.{◌≡◌, ◌≢◌, ◌+◌, ◌-◌, ◌*◌, ◌/◌, ◌^◌, ◌<◌, ◌≤◌, ℕ, None, Some, length, IfOk};
-ghost use Rattle.slot_calendar.specs.Totals.{total_at};
-ghost use Rattle.slot_calendar.specs.Rings.{AreZeros, IsGreatest, IsTopped};
+ghost use Rattle.slot_calendar.specs.Rings.{AreZeros, IsGreatest, IsTopped, total_of};
 
 use std::alloc::Global;
 use std::marker::Model;
 use vod_base::NoMemory;
 
-/// The slots of a ring.
-pub(crate) const SLOTS: u64 = 1_048_576;
+/// How many slots a calendar knows, from its now on. No bytes are booked after them.
+pub const RING_SLOTS: u64 = 1_048_576;
 
 /// The places of a block.
 pub(crate) const BLOCK: u64 = 1024;
@@ -15,7 +14,7 @@ pub(crate) const BLOCK: u64 = 1024;
 /// The blocks of a ring.
 const BLOCKS: usize = 1024;
 
-/// The totals of the slots from `now` on, each slot at its number modulo [`SLOTS`], with the greatest total of each block.
+/// The totals of the slots from `now` on, each slot at its number modulo [`RING_SLOTS`], with the greatest total of each block.
 ///
 /// Contracts see `now`, the list of the totals from it on, and the block that was lowered and not read again.
 #[derive(Debug, Drop)]
@@ -53,7 +52,7 @@ fn greatest(numbers: &[u64]) -> u64
 }
 
 /// Reads the stale block again, if there is one.
-fn settle(places: &[u64], tops: &mut Vec<u64>, stale: Option<usize>)
+fn settle_block(places: &[u64], tops: &mut Vec<u64>, stale: Option<usize>)
     requires { IsTopped places.now tops.old.items stale }
     ensures { IsTopped places.now tops.new.items None }
 {
@@ -64,7 +63,7 @@ fn settle(places: &[u64], tops: &mut Vec<u64>, stale: Option<usize>)
 }
 
 /// Reads the stale block again, unless it is this one, which becomes the stale one.
-fn turn_to(places: &[u64], tops: &mut Vec<u64>, stale: Option<usize>, block: usize)
+fn settle_other(places: &[u64], tops: &mut Vec<u64>, stale: Option<usize>, block: usize)
     requires topped { IsTopped places.now tops.old.items stale }
     requires within { block < 1024 }
     ensures { IsTopped places.now tops.new.items (Some block) }
@@ -72,7 +71,7 @@ fn turn_to(places: &[u64], tops: &mut Vec<u64>, stale: Option<usize>, block: usi
     if let Some(other) = stale
         && other != block
     {
-        settle(places, tops, stale);
+        settle_block(places, tops, stale);
     }
 }
 
@@ -97,10 +96,10 @@ impl Ring {
     /// A ring without bookings, from slot 0 on.
     pub(crate) fn new(alloc: Global) -> Result<Ring, NoMemory>
         ensures now { IfOk result (λ ring. ring.first ≡ 0) }
-        ensures empty { IfOk result (λ ring. (t : ℕ) → total_at ring.first ring.totals t ≡ 0) }
+        ensures empty { IfOk result (λ ring. (t : ℕ) → total_of ring t ≡ 0) }
         ensures settled { IfOk result (λ ring. ring.stale ≡ None) }
     {
-        let places = zeros(alloc, SLOTS as usize)?;
+        let places = zeros(alloc, RING_SLOTS as usize)?;
         let tops = zeros(alloc, BLOCKS)?;
         Ok(Ring {
             first: 0,
@@ -113,7 +112,7 @@ impl Ring {
     /// The first slot.
     pub(crate) fn now(&self) -> u64
         ensures value { result ≡ self.now.first }
-        ensures past { (t : ℕ) → self.now.first + 1048576 ≤ t → total_at self.now.first self.now.totals t ≡ 0 }
+        ensures past { (t : ℕ) → self.now.first + 1048576 ≤ t → total_of self.now t ≡ 0 }
     {
         self.first
     }
@@ -121,37 +120,38 @@ impl Ring {
     /// The total of a slot; 0 past the ring.
     pub(crate) fn total(&self, slot: u64) -> u64
         requires { self.now.first ≤ slot }
-        ensures value { result ≡ total_at self.now.first self.now.totals slot }
+        ensures value { result ≡ total_of self.now slot }
         ensures past { self.now.first + 1048576 ≤ slot → result ≡ 0 }
     {
-        if slot - self.first >= SLOTS {
+        if slot - self.first >= RING_SLOTS {
             return 0;
         }
-        self.places[(slot % SLOTS) as usize]
+        self.places[(slot % RING_SLOTS) as usize]
     }
 
     /// A number that no total is above, from this slot up to the next multiple of 1,024.
     pub(crate) fn top(&self, slot: u64) -> u64
         requires { self.now.first ≤ slot }
-        ensures { (t : ℕ) → slot ≤ t → t / 1024 ≡ slot / 1024 → total_at self.now.first self.now.totals t ≤ result }
+        ensures { (t : ℕ) → slot ≤ t → t / 1024 ≡ slot / 1024 → total_of self.now t ≤ result }
     {
-        if slot - self.first >= SLOTS {
+        if slot - self.first >= RING_SLOTS {
             return 0;
         }
-        self.tops[(slot % SLOTS) as usize / BLOCK as usize]
+        self.tops[(slot % RING_SLOTS) as usize / BLOCK as usize]
     }
 
     /// Adds to the total of a slot.
     pub(crate) fn raise(&mut self, slot: u64, by: u64)
         requires from_now { self.old.first ≤ slot }
         requires within { slot < self.old.first + 1048576 }
-        requires fits { total_at self.old.first self.old.totals slot + by < 2 ^ 64 }
+        requires fits { total_of self.old slot + by < 2 ^ 64 }
         ensures now { self.new.first ≡ self.old.first }
         ensures stale { self.new.stale ≡ self.old.stale }
-        ensures at { total_at self.new.first self.new.totals slot ≡ total_at self.old.first self.old.totals slot + by }
-        ensures others { (t : ℕ) → self.old.first ≤ t → t ≢ slot → total_at self.new.first self.new.totals t ≡ total_at self.old.first self.old.totals t }
+        ensures at { total_of self.new slot ≡ total_of self.old slot + by }
+        ensures others { (t : ℕ) → self.old.first ≤ t → t ≢ slot →
+            total_of self.new t ≡ total_of self.old t }
     {
-        let place = (slot % SLOTS) as usize;
+        let place = (slot % RING_SLOTS) as usize;
         let block = place / BLOCK as usize;
         let total = self.places[place] + by;
         self.places[place] = total;
@@ -162,14 +162,15 @@ impl Ring {
     pub(crate) fn lower(&mut self, slot: u64, by: u64)
         requires from_now { self.old.first ≤ slot }
         requires some { 0 < by }
-        requires booked { by ≤ total_at self.old.first self.old.totals slot }
+        requires booked { by ≤ total_of self.old slot }
         ensures now { self.new.first ≡ self.old.first }
-        ensures at { total_at self.new.first self.new.totals slot + by ≡ total_at self.old.first self.old.totals slot }
-        ensures others { (t : ℕ) → self.old.first ≤ t → t ≢ slot → total_at self.new.first self.new.totals t ≡ total_at self.old.first self.old.totals t }
+        ensures at { total_of self.new slot + by ≡ total_of self.old slot }
+        ensures others { (t : ℕ) → self.old.first ≤ t → t ≢ slot →
+            total_of self.new t ≡ total_of self.old t }
     {
-        let place = (slot % SLOTS) as usize;
+        let place = (slot % RING_SLOTS) as usize;
         let block = place / BLOCK as usize;
-        turn_to(self.places.as_slice(), &mut self.tops, self.stale, block);
+        settle_other(self.places.as_slice(), &mut self.tops, self.stale, block);
         self.stale = Some(block);
         self.places[place] -= by;
     }
@@ -180,15 +181,16 @@ impl Ring {
         ensures settled { self.new.stale ≡ None }
         ensures totals { self.new.totals ≡ self.old.totals }
     {
-        settle(self.places.as_slice(), &mut self.tops, self.stale);
+        settle_block(self.places.as_slice(), &mut self.tops, self.stale);
         self.stale = None;
     }
 
     /// Empties the first slot.
-    fn forget(&mut self)
+    fn empty_first(&mut self)
         ensures now { self.new.first ≡ self.old.first }
-        ensures none { total_at self.new.first self.new.totals self.old.first ≡ 0 }
-        ensures others { (t : ℕ) → self.old.first ≤ t → t ≢ self.old.first → total_at self.new.first self.new.totals t ≡ total_at self.old.first self.old.totals t }
+        ensures none { total_of self.new self.old.first ≡ 0 }
+        ensures others { (t : ℕ) → self.old.first ≤ t → t ≢ self.old.first →
+            total_of self.new t ≡ total_of self.old t }
     {
         let total = self.total(self.first);
         if total > 0 {
@@ -197,20 +199,20 @@ impl Ring {
     }
 
     /// Empties the first slot, which becomes the last one.
-    fn pass(&mut self)
+    fn advance_one(&mut self)
         requires { self.old.first + 1 < 2 ^ 64 }
         ensures now { self.new.first ≡ self.old.first + 1 }
-        ensures totals { (t : ℕ) → self.new.first ≤ t → total_at self.new.first self.new.totals t ≡ total_at self.old.first self.old.totals t }
+        ensures totals { (t : ℕ) → self.new.first ≤ t → total_of self.new t ≡ total_of self.old t }
     {
-        self.forget();
+        self.empty_first();
         self.first += 1;
     }
 
-    /// Empties all slots.
+    /// Empties all slots, and begins with slot `now`.
     fn clear(&mut self, now: u64)
         ensures now { self.new.first ≡ now }
         ensures settled { self.new.stale ≡ None }
-        ensures empty { (t : ℕ) → total_at self.new.first self.new.totals t ≡ 0 }
+        ensures empty { (t : ℕ) → total_of self.new t ≡ 0 }
     {
         empty(&mut self.places);
         empty(&mut self.tops);
@@ -223,14 +225,14 @@ impl Ring {
         requires { self.old.first ≤ now }
         ensures now { self.new.first ≡ now }
         ensures settled { self.new.stale ≡ None }
-        ensures totals { (t : ℕ) → now ≤ t → total_at self.new.first self.new.totals t ≡ total_at self.old.first self.old.totals t }
+        ensures totals { (t : ℕ) → now ≤ t → total_of self.new t ≡ total_of self.old t }
     {
-        if now - self.first >= SLOTS {
+        if now - self.first >= RING_SLOTS {
             self.clear(now);
             return;
         }
         while self.first < now {
-            self.pass();
+            self.advance_one();
         }
         self.settle();
     }

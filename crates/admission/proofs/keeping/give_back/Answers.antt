@@ -42,7 +42,7 @@ release-requires-clause-booked c =
     let same : play ≡ whole_play c.in-Admitted.start c.in-Play.plan =
     found.play_is ∙ ap (λ s. whole_play s play.segments) (sym start) ∙ ap (λ p. whole_play c.in-Admitted.start p) (sym plan) in
     cut-allowed c.args.calendar.now (state_after c.args.entries.now) c.args.number _ c.in-Admitted.start c.in-Play.plan found.held found.is same
-    c.requires.follows.stands c.law_release.ensures
+    c.requires.follows.stands (λ before after. c.law_release.ensures c.args.calendar.now before after c.in-Play.plan c.in-Admitted.start c.args.keep c.segments-plan.ensures.plan)
 
 pub returns-clause-next : goal.returns-clause-next
 returns-clause-next c = λ place. (

@@ -2,7 +2,7 @@ use Rattle.admission.proofs.Counts.{counted}
 use Rattle.admission.proofs.laws.law_counts.Goals as goal
 
 pub returns-clause-live : goal.returns-clause-live
-returns-clause-live c = (counted c.args.profile.now c.args.entries.now c.requires).0
+returns-clause-live c = λ steps entries legal. (counted steps entries legal).0
 
 pub returns-clause-now : goal.returns-clause-now
-returns-clause-now c = (counted c.args.profile.now c.args.entries.now c.requires).1
+returns-clause-now c = λ steps entries legal. (counted steps entries legal).1

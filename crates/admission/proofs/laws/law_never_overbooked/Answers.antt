@@ -4,4 +4,5 @@ use Rattle.admission.proofs.Within.{sound-after}
 use Rattle.admission.proofs.laws.law_never_overbooked.Goals as goal
 
 pub returns : goal.returns
-returns c = λ n t. (sound-after c.args.profile.now (take n c.args.entries.now) (legal-take c.args.profile.now c.args.entries.now n c.requires)).within.each t
+returns c = λ steps entries n t legal.
+    (sound-after steps (take n entries) (legal-take steps entries n legal)).within.each t

@@ -1,7 +1,8 @@
 use Rattle.std.proofs.Common.{◌≡◌, ◌++◌, ◌+◌, ◌-◌, ◌<◌, ◌≤◌, ℕ, List, Vec, Global, codes, ap, sym, ◌∙◌, arith, append-nil}
 use Rattle.std.specs.List.{range_with_len}
 use Rattle.slot_calendar.specs.Calendars.{booked_at}
-use Rattle.report.specs.CalendarTexts.{ring_slots, slot_words}
+use Rattle.slot_calendar.specs.Totals.{ring_slots}
+use Rattle.report.specs.CalendarTexts.{slot_words}
 use Rattle.report.proofs.AppendLemmas.{appended_as, both, cut_before, handed_on, then_appended}
 use Rattle.report.proofs.SlotLemmas.{line-booked, line-free, lines, lines-around, lines-more, ring-is}
 use Rattle.report.proofs.calendars.push_slots.Goals as goal
@@ -14,12 +15,12 @@ returns-in_err-push_slot c =
     let slot = c.loop-slot.slot in
     let k = slot - first in
     let before = lines (booked_at calendar) (range_with_len first k) in
-    let behind = lines (booked_at calendar) (range_with_len (slot + 1) (ring_slots - (k + 1))) in
+    let after = lines (booked_at calendar) (range_with_len (slot + 1) (ring_slots - (k + 1))) in
     let inside : k < ring_slots = omega (arith, ring-is, c.loop-slot-test.true, c.now-now.ensures.value, c.loop-slot.auto.slot) in
     let place : slot ≡ first + k = omega (arith, c.now-now.ensures.value, c.loop-slot.auto.slot) in
     let some : 0 < booked_at calendar slot = omega (arith, c.booked-booked.ensures.value, c.if-is_booked.true) in
-    let words = ap (λ n. before ++ ((slot_words slot n ++ codes "\n") ++ behind)) c.booked-booked.ensures.value ∙ lines-around (booked_at calendar) first k ring_slots slot place inside some in
-    handed_on c.from_residual.result c.from_residual.ensures.0 (appended_as words (then_appended before c.loop-slot.invariant (cut_before behind c.in_err-push_slot.ensures)))
+    let words = ap (λ n. before ++ ((slot_words slot n ++ codes "\n") ++ after)) c.booked-booked.ensures.value ∙ lines-around (booked_at calendar) first k ring_slots slot place inside some in
+    handed_on c.from_residual.result c.from_residual.ensures.0 (appended_as words (then_appended before c.loop-slot.invariant (cut_before after c.in_err-push_slot.ensures)))
 
 pub loop-slot-preserved : goal.loop-slot-preserved
 loop-slot-preserved c =

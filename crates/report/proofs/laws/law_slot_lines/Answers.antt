@@ -1,31 +1,32 @@
-use Rattle.std.proofs.Common.{◌+◌, ◌<◌, ◌≤◌, ◌^◌, ◌≡◌, inl, inr, ap, arith}
+use Rattle.std.proofs.Common.{ℕ, ◌+◌, ◌<◌, ◌≤◌, ◌^◌, ◌≡◌, inl, inr, arith}
+use Rattle.std.specs.List.{Contains}
 use Rattle.std.proofs.lemmas.Bool.{cases_lt}
-use Rattle.slot_calendar.specs.Calendars.{booked_at}
-use Rattle.slot_calendar.proofs.Capacities.{capacity-most}
-use Rattle.report.specs.CalendarTexts.{ring_slots}
+use Rattle.slot_calendar.specs.Totals.{ring_slots}
+use Rattle.report.specs.CalendarTexts.{AreBookings, calendar_lines, slot_words}
 use Rattle.report.proofs.SlotLemmas.{ring-is}
-use Rattle.report.proofs.LineLemmas.{IsKept, line_stands, line_tells}
+use Rattle.report.proofs.LineLemmas.{line_stands, line_tells}
 use Rattle.report.proofs.laws.law_slot_lines.Goals as goal
 
-pub returns : goal.returns
-returns c =
-    let calendar = c.args.calendar.now in
-    let is = c.now-now.ensures.calendar in
-    let kept : IsKept calendar.first (booked_at calendar) = record { first_small = is.small; few = λ t behind. omega (arith, is.within t behind, capacity-most calendar.steps t is.profile) } in
-    let short : ring_slots < 2 ^ 62 = omega (arith, ring-is) in
-    let inside : calendar.first ≤ c.args.slot → 0 < booked_at calendar c.args.slot → c.args.slot < calendar.first + ring_slots =
-    λ begun some. elim (cases_lt c.args.slot (calendar.first + ring_slots)) [
+short : ring_slots < 2 ^ 62
+short = omega (arith, ring-is)
+
+tells : (from slot told : ℕ) (booked : ℕ → ℕ) → AreBookings from booked → slot < 2 ^ 64 → told < 2 ^ 64 →
+    Contains (calendar_lines from booked) (slot_words slot told) → (told ≡ booked slot) × (0 < told) × (from ≤ slot)
+tells from slot told booked are small few stands = line_tells from booked slot told are short small few stands
+
+pub returns-clause-stands : goal.returns-clause-stands
+returns-clause-stands c = λ from slot booked are begun some.
+    let inside : slot < from + ring_slots = elim (cases_lt slot (from + ring_slots)) [
       | inl inside ↦ inside
-      | inr behind ↦ absurd (
-          let at : c.max-at.result ≡ c.args.slot = omega (arith, begun) in
-          let none : c.booked.result ≡ 0 = c.booked.ensures.past (omega (arith, ring-is, behind, at)) in
-          omega (arith, none, some, c.booked.ensures.value, ap (booked_at calendar) at)
-          )
+      | inr past ↦ absurd (omega (arith, are.past slot past, some))
     ] in
-    let tells = line_tells calendar.first (booked_at calendar) c.args.slot c.args.booked kept short (omega (arith, c.ranges.slot)) (omega (arith, c.ranges.booked)) in
-    record {
-      stands = λ begun some. line_stands calendar.first (booked_at calendar) c.args.slot kept short begun (inside begun some) some;
-      tells = λ stands. (tells stands).0;
-      some = λ stands. (tells stands).1;
-      begun = λ stands. (tells stands).2;
-    }
+    line_stands from booked slot are short begun inside some
+
+pub returns-clause-tells : goal.returns-clause-tells
+returns-clause-tells c = λ from slot told booked are small few stands. (tells from slot told booked are small few stands).0
+
+pub returns-clause-some : goal.returns-clause-some
+returns-clause-some c = λ from slot told booked are small few stands. (tells from slot told booked are small few stands).1
+
+pub returns-clause-begun : goal.returns-clause-begun
+returns-clause-begun c = λ from slot told booked are small few stands. (tells from slot told booked are small few stands).2

@@ -2,13 +2,13 @@ use Rattle.std.proofs.Common.{◌≡◌, ◌≤◌, ◌+◌, ◌-◌, ℕ, [], �
 use Rattle.std.proofs.lemmas.Bool.{cases_lt}
 use Rattle.slot_calendar.specs.Plays.{asked_at}
 use Rattle.slot_calendar.specs.Totals.{total_at}
-use Rattle.slot_calendar.proofs.Sending.{asked-here, asked-behind, one-slots, raised-next, unchanged-next, sent-step}
+use Rattle.slot_calendar.proofs.Sending.{asked-here, asked-after, one-slots, raised-next, unchanged-next, sent-step}
 use Rattle.slot_calendar.proofs.booking.book_segment.Goals as goal
 
 pub overflow_sub-sent : goal.overflow_sub-sent
 overflow_sub-sent c =
     let i = c.loop-passed in
-    sent-step (c.args.segment ∷ []) c.args.from i.passed i.before c.first_bytes-sent.result i.invariant.before_is (c.first_bytes-sent.ensures.sent c.args.from)
+    sent-step (c.args.segment ∷ []) c.args.from i.passed i.before c.sent_through-sent.result i.invariant.before_is (c.sent_through-sent.ensures.sent c.args.from)
 
 pub loop-passed-preserved : goal.loop-passed-preserved
 loop-passed-preserved c =
@@ -16,16 +16,16 @@ loop-passed-preserved c =
     let segments = c.args.segment ∷ [] in
     let first = c.args.ring.now.first in
     let place = c.args.from + i.passed in
-    let by = c.first_bytes-sent.result - i.before in
+    let by = c.sent_through-sent.result - i.before in
     let old = total_at c.args.ring.now.first c.args.ring.now.totals in
     let mid = total_at i.ring.first i.ring.totals in
     let new = total_at c.raise.new.self.first c.raise.new.self.totals in
     let asked : asked_at segments c.args.from place ≡ by =
-    asked-here segments c.args.from i.passed i.before c.first_bytes-sent.result i.invariant.before_is (c.first_bytes-sent.ensures.sent c.args.from) in
+    asked-here segments c.args.from i.passed i.before c.sent_through-sent.result i.invariant.before_is (c.sent_through-sent.ensures.sent c.args.from) in
     let others : (t : ℕ) → first ≤ t → (t ≡ place → ⊥) → new t ≡ mid t = λ t since other. c.raise.ensures.others t (omega (arith, since, i.invariant.first_is)) other in
     let at : c.args.from + (i.passed + 1) ≡ place + 1 = omega arith in
     record {
-      before_is = sym (c.first_bytes-sent.ensures.sent c.args.from);
+      before_is = sym (c.sent_through-sent.ensures.sent c.args.from);
       first_is = c.raise.ensures.now ∙ i.invariant.first_is;
       stale_is = c.raise.ensures.stale ∙ i.invariant.stale_is;
       done = λ t since less. raised-next first place by old mid new (asked_at segments c.args.from) asked c.raise.ensures.at others i.invariant.done i.invariant.rest t since (omega (arith, less, at));
@@ -39,7 +39,7 @@ returns-clause-totals c = λ t since. (
     elim (cases_lt t (c.args.from + i.passed)) [
       | inl less ↦ i.invariant.done t since less
       | inr past ↦ (
-          let none : asked_at (s ∷ []) c.args.from t ≡ 0 = asked-behind (s ∷ []) c.args.from t (omega (arith, one-slots s, past)) in
+          let none : asked_at (s ∷ []) c.args.from t ≡ 0 = asked-after (s ∷ []) c.args.from t (omega (arith, one-slots s, past)) in
           omega (arith, i.invariant.rest t since past, none)
           )
     ]

@@ -2,4 +2,4 @@ use Rattle.std.proofs.Common.{arith}
 use Rattle.slot_calendar.proofs.laws.law_capacity.Goals as goal
 
 pub returns : goal.returns
-returns c = λ plays stands t from. omega (arith, stands.each t from, c.now-read.ensures.calendar.within t from)
+returns c = λ calendar plays is stands t from. omega (arith, stands.each t from, is.within t from)

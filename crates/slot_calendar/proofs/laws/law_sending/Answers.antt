@@ -1,14 +1,17 @@
 use Rattle.slot_calendar.proofs.Sending.{sent-none, sent-through, sent-all, asked-slot, asked-before}
 use Rattle.slot_calendar.proofs.laws.law_sending.Goals as goal
 
-pub returns : goal.returns
-returns c =
-    let segments = c.args.plan.now in
-    let start = c.args.start in
-    record {
-      before = λ t from. sent-none segments start t from;
-      through = λ t from. sent-through segments start t from;
-      end = λ t past. sent-all segments start t c.segments.ensures.plan.no_empty past;
-      slot = λ j. asked-slot segments start j;
-      outside = λ t from. asked-before segments start t from;
-    }
+pub returns-clause-before : goal.returns-clause-before
+returns-clause-before c = sent-none
+
+pub returns-clause-through : goal.returns-clause-through
+returns-clause-through c = sent-through
+
+pub returns-clause-end : goal.returns-clause-end
+returns-clause-end c = λ segments start t plan past. sent-all segments start t plan.no_empty past
+
+pub returns-clause-slot : goal.returns-clause-slot
+returns-clause-slot c = asked-slot
+
+pub returns-clause-outside : goal.returns-clause-outside
+returns-clause-outside c = asked-before

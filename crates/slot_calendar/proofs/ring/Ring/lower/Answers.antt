@@ -1,14 +1,14 @@
 use Rattle.std.proofs.Common.{◌≡◌, ◌<◌, ◌≤◌, ◌+◌, ◌-◌, ◌/◌, ◌%◌, ℕ, List, Some, get_or, length, arith, ap, subst, ◌∙◌, inl, inr}
 use Rattle.std.proofs.lemmas.Bool.{cases_lt}
 use Rattle.std.proofs.lemmas.List.{get_or_read}
-use Rattle.slot_calendar.specs.Rings.{IsTopped, turned}
+use Rattle.slot_calendar.specs.Rings.{IsTopped, rotation}
 use Rattle.slot_calendar.specs.Totals.{total_at}
 use Rattle.slot_calendar.proofs.Turns.{mod_below, total-in, total-past, set-here, set-there}
 use Rattle.slot_calendar.proofs.Blocks.{topped-lower}
 use Rattle.slot_calendar.proofs.ring.Ring.lower.Goals as goal
 
 -- the slot is one of the ring, since something is booked in it
-in_ring : (places : List ℕ) (first slot by : ℕ) → length places ≡ 1048576 → 0 < by → by ≤ total_at first (turned (first % 1048576) places) slot → slot < first + 1048576
+in_ring : (places : List ℕ) (first slot by : ℕ) → length places ≡ 1048576 → 0 < by → by ≤ total_at first (rotation (first % 1048576) places) slot → slot < first + 1048576
 in_ring places first slot by len some booked =
     elim (cases_lt slot (first + 1048576)) [
       | inl inside ↦ inside
@@ -21,8 +21,8 @@ invariant_of-self c =
     let p = c.args.slot % 1048576 in
     let inside : p < 1048576 = mod_below c.args.slot 1048576 (omega arith) in
     let value : c.index_mut.result.now ≡ get_or d.places.items p 0 = get_or_read d.places.items p c.index_mut.result.now (omega (arith, inside, c.self.invariant.places_are)) c.index_mut.ensures.value 0 in
-    let P : List ℕ → Type 0 = λ xs. IsTopped xs c.turn_to.new.tops.items (Some (p / 1024)) in
-    topped-lower d.places.items c.turn_to.new.tops.items p (c.index_mut.result.now - c.args.by) (subst P c.as_slice.ensures.value c.turn_to.ensures) inside (omega (arith, value))
+    let P : List ℕ → Type 0 = λ xs. IsTopped xs c.settle_other.new.tops.items (Some (p / 1024)) in
+    topped-lower d.places.items c.settle_other.new.tops.items p (c.index_mut.result.now - c.args.by) (subst P c.as_slice.ensures.value c.settle_other.ensures) inside (omega (arith, value))
 
 pub returns-clause-at : goal.returns-clause-at
 returns-clause-at c =

@@ -1,10 +1,9 @@
 //! Events drawn from a number, at a book and at a plain one.
 
+use super::plain::PlainBook;
+use super::{book_of, may_halt, plan_of};
 use crate::entries::{Answer, Full, Noted};
-use crate::plain::PlainBook;
-use crate::tests::{book_of, may_halt, plan_of};
-use crate::{Book, MOST_ENTRIES};
-use film_make::Draws;
+use crate::{Book, MAX_ENTRIES};
 use std::alloc::Global;
 use std::process::Abort;
 use std::test::Fail;
@@ -31,8 +30,24 @@ fn count(counts: &mut Counts, told: Result<Noted, Full>) {
     *place = place.saturating_add(1);
 }
 
+// Numbers drawn by a linear congruence.
+#[derive(Drop)]
+struct Draws(u64);
+
+impl Draws {
+    // a number below `end`, or 0
+    fn draw(&mut self, end: u32) -> u32 {
+        let next = self
+            .0
+            .wrapping_mul(6_364_136_223_846_793_005)
+            .wrapping_add(1_442_695_040_888_963_407);
+        self.0 = next;
+        (next >> 33) as u32 % end.max(1)
+    }
+}
+
 fn below(draws: &mut Draws, end: u32) -> u64 {
-    u64::from(draws.draw(end.max(1)))
+    u64::from(draws.draw(end))
 }
 
 // 1 to 3 segments of 1 to 6 slots and up to 9 bytes a slot.
@@ -45,7 +60,7 @@ fn drawn_pairs(alloc: Global, draws: &mut Draws) -> Result<Vec<(u64, u64)>, Fail
     Ok(pairs)
 }
 
-// Mostly a slot soon behind now, at times one that is past.
+// Mostly a slot soon after now, at times one that is past.
 fn drawn_slot(draws: &mut Draws, now: u64) -> u64 {
     let ahead = now.saturating_add(below(draws, 5));
     ahead.saturating_sub(below(draws, 4))
@@ -134,7 +149,7 @@ fn follow(
         looks: 0,
         full: 0,
     };
-    let mut draws = Draws::new(seed);
+    let mut draws = Draws(seed);
     for _ in 0..events {
         let told = match draws.draw(10) {
             0..=5 => Some(play(rt, alloc, &mut book, &mut plain, &mut draws)?),
@@ -159,7 +174,7 @@ fn follow(
 #[test]
 fn follows_a_plain_book(rt: HostRuntime) -> Result<(), Fail> {
     let steps = [(0, 40), (60, 15), (130, 0), (150, 60), (300, 25)];
-    let counts = follow(&rt, rt.alloc(), 7, 700, steps.as_slice(), MOST_ENTRIES)?;
+    let counts = follow(&rt, rt.alloc(), 7, 700, steps.as_slice(), MAX_ENTRIES)?;
     assert!(rt; counts.admitted > 50 && counts.overflows > 100);
     assert!(rt; counts.halts > 30 && counts.looks > 100 && counts.full == 0);
     let counts = follow(&rt, rt.alloc(), 8, 300, steps.as_slice(), 50)?;

@@ -1,0 +1,5 @@
+use Rattle.slot_calendar.proofs.Overflows.{overflow-once}
+use Rattle.slot_calendar.proofs.laws.law_one_overflow.Goals as goal
+
+pub returns : goal.returns
+returns c = overflow-once
