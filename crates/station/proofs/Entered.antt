@@ -12,7 +12,7 @@ use Rattle.admission.specs.declared.entries.Command.TheVariants.{Play, Halt, Loo
 use Rattle.admission.specs.declared.entries.Entry.{Entry}
 use Rattle.admission.specs.Machine.{IsAnswer}
 use Rattle.admission.specs.declared.entries.Noted.{Noted}
-use Rattle.admission.specs.Books.{IsNoted, Journal, taken}
+use Rattle.admission.specs.Books.{IsNoted, Journal, places_taken}
 use Rattle.admission.specs.Histories.{Halts, IsLegal, is_halt, live, state_after}
 use Rattle.admission.specs.Makers.{AreHaltsOwn, IsOpenAmong, Placed, made_by}
 use Rattle.turnstile.proofs.Prefixes.{made_own}

@@ -9,7 +9,7 @@ use Rattle.admission.specs.declared.entries.Command.{Command}
 use Rattle.admission.specs.declared.entries.Command.TheVariants.{Look, Play}
 use Rattle.admission.specs.declared.entries.Entry.{Entry}
 use Rattle.admission.specs.Machine.{IsAnswer}
-use Rattle.admission.specs.Books.{taken}
+use Rattle.admission.specs.Books.{places_taken}
 use Rattle.admission.specs.Histories.{live, state_after}
 use Rattle.station.specs.declared.answers.PlayRefused.{PlayRefused}
 use Rattle.station.specs.declared.answers.PlayRefused.TheVariants.{JournalFull, Overflow as PlayOverflow}
@@ -24,7 +24,7 @@ pub record Made (old new : Sitting) (more : ℕ) (command : Command) (place : �
   pub seen : new.seen ≡ before ++ record { maker = old.number; command = command; answer = answer } ∷ []
   pub answer_is : IsAnswer old.steps (state_after before) command answer
   pub mine : new.mine ≡ old.mine ++ record { place = place; entry = record { maker = old.number; command = command; answer = answer } } ∷ []
-  pub room : taken before + more ≤ old.limit
+  pub room : places_taken before + more ≤ old.limit
 
 -- The journal had no room for `more` entries beside those for the halts of its open plays; these are its two numbers.
 pub record IsFull (old new : Sitting) (more entries live_plays : ℕ) : Type 0 where

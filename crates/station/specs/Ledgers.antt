@@ -5,7 +5,7 @@ use Rattle.admission.specs.declared.entries.Answer.{Answer}
 use Rattle.admission.specs.declared.entries.Answer.TheVariants.{Overflow}
 use Rattle.admission.specs.declared.entries.Command.{Command}
 use Rattle.admission.specs.declared.entries.Command.TheVariants.{Look, Play}
-use Rattle.admission.specs.Books.{IsNoted, Journal, taken}
+use Rattle.admission.specs.Books.{IsNoted, Journal, places_taken}
 use Rattle.admission.specs.declared.entries.Entry.{Entry}
 use Rattle.admission.specs.Histories.{booked_after, live, state_after}
 use Rattle.admission.specs.Machine.{start_after}
@@ -27,7 +27,7 @@ look_at slot = Look (min slot (2 ^ 62))
 -- an entry was made, while the journal had room for `more` entries beside those for the halts of its open plays
 pub record IsEntered (old new : Journal) (maker more : ℕ) (command : Command) (place : ℕ) (answer : Answer) : Type 0 where
   pub noted : IsNoted old maker command (record { place = place; answer = answer }) new
-  pub room : taken old.entries + more ≤ old.limit
+  pub room : places_taken old.entries + more ≤ old.limit
 
 -- no entry was made, since the journal had no room for `more` entries beside those; these are its two numbers
 pub record IsFullFor (old new : Journal) (more entries live_plays : ℕ) : Type 0 where

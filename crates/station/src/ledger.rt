@@ -63,7 +63,8 @@ impl Ledger {
         plan: Plan,
     ) -> Result<Booking, PlayRefused>
         ensures made { IfOk result (λ booking.
-            IsEntered self.old self.new maker 2 (play_of heard plan) booking.number (Answer.Admitted booking.start)) }
+            IsEntered self.old self.new maker 2 (play_of heard plan) booking.number
+            (Answer.Admitted booking.start)) }
         ensures refused { IfErr result (IsPlayRefused self.old self.new maker heard plan) }
     {
         match self.book.play(maker, heard, plan) {
@@ -95,7 +96,8 @@ impl Ledger {
     /// As `Book::halt`, of a play that is open among its maker's entries.
     pub(crate) fn halt(&mut self, maker: u32, number: u64, keep: u64) -> u64
         requires { IsOpenAmong (made_by maker self.old.entries) number keep }
-        ensures { IsEntered self.old self.new maker 0 (Command.Halt number keep) result Answer.Halted }
+        ensures { IsEntered self.old self.new maker 0 (Command.Halt number keep) result
+            Answer.Halted }
     {
         let _entries = self.book.entries();
         law_own_play();
@@ -105,7 +107,8 @@ impl Ledger {
     /// As `Book::look`.
     pub(crate) fn look(&mut self, maker: u32, slot: u64) -> Result<Looked, Full>
         ensures made { IfOk result (λ looked.
-            IsEntered self.old self.new maker 1 (look_at slot) looked.place (Answer.Looked looked.now looked.at looked.booked)) }
+            IsEntered self.old self.new maker 1 (look_at slot) looked.place
+            (Answer.Looked looked.now looked.at looked.booked)) }
         ensures full { IfErr result (λ full. IsFullFor self.old self.new 1 full.entries full.live) }
     {
         let noted = self.book.look(maker, slot)?;
@@ -127,7 +130,7 @@ impl Ledger {
     {
         let calendar = self.book.calendar();
         let entries = self.book.entries();
-        law_never_overbooked(calendar.profile(), entries);
+        law_never_overbooked();
         law_offer_of_plays();
         let first = calendar.now().max(heard.min(LATEST_SLOT)) + 1;
         into.find(calendar, plan, first);

@@ -34,12 +34,16 @@ impl Model for Station {
 
     ghost Value = { Hall };
 
-    ghost view = { λ s. record { id = s.turns.id; steps = s.turns.terms.steps; limit = s.turns.terms.limit } };
+    ghost view = { λ s. record {
+      id = s.turns.id;
+      steps = s.turns.terms.steps;
+      limit = s.turns.terms.limit;
+    } };
 }
 
 impl Station {
-    /// A station of a link of this capacity, whose journal has room for `limit` entries, 2 to 1,048,576; and its first seat. No other
-    /// call takes memory.
+    /// A station of a link of this capacity, whose journal has room for `limit` entries, 2 to 1,048,576; and its first
+    /// seat. No other call takes memory.
     ///
     /// # Errors
     ///
@@ -60,8 +64,8 @@ impl Station {
     ///
     /// # Errors
     ///
-    /// [`PlayRefused::JournalFull`] exactly where the entries, the open plays and 2 are more than the limit: it makes no entry.
-    /// [`PlayRefused::Overflow`] exactly where a slot has no room for the plan; it is the answer of an entry.
+    /// [`PlayRefused::JournalFull`] exactly where the entries, the open plays and 2 are more than the limit: it makes no
+    /// entry. [`PlayRefused::Overflow`] exactly where a slot has no room for the plan; it is the answer of an entry.
     pub fn play<R: Wait>(
         &self,
         rt: &R,
@@ -73,7 +77,8 @@ impl Station {
         ensures same { IsSameSeat seat.old seat.new }
         ensures kept { IsSeat seat.new }
         ensures made { IfOk result (λ booking.
-            Made seat.old seat.new 2 (play_of heard plan) booking.number (Answer.Admitted booking.start)) }
+            Made seat.old seat.new 2 (play_of heard plan) booking.number
+            (Answer.Admitted booking.start)) }
         ensures open { IfOk result (λ booking. (keep : ℕ) → keep ≤ total_bytes plan →
             IsOpenAmong seat.new.mine booking.number keep) }
         ensures refused { IfErr result (IsRefused seat.old seat.new heard plan) }
@@ -86,13 +91,15 @@ impl Station {
         told
     }
 
-    /// Halts the play of a booking: it keeps the first `keep` bytes of its plan. Answers the place of the entry, which always finds one.
+    /// Halts the play of a booking: it keeps the first `keep` bytes of its plan. Answers the place of the entry, which
+    /// always finds one.
     pub fn halt<R: Wait>(&self, rt: &R, seat: &mut Seat, booking: Booking, keep: u64) -> u64
         requires seat { seat.old.id ≡ self.now.id }
         requires open { IsOpenAmong seat.old.mine booking.number keep }
         ensures same { IsSameSeat seat.old seat.new }
         ensures kept { IsSeat seat.new }
-        ensures made { Made seat.old seat.new 0 (Command.Halt booking.number keep) result Answer.Halted }
+        ensures made { Made seat.old seat.new 0 (Command.Halt booking.number keep) result
+            Answer.Halted }
     {
         let Booking { number, start: _ } = booking;
         let mut turn = self.turns.enter(rt, &mut seat.pass);
@@ -113,7 +120,8 @@ impl Station {
         ensures same { IsSameSeat seat.old seat.new }
         ensures kept { IsSeat seat.new }
         ensures made { IfOk result (λ looked.
-            Made seat.old seat.new 1 (look_at slot) looked.place (Answer.Looked looked.now looked.at looked.booked)) }
+            Made seat.old seat.new 1 (look_at slot) looked.place
+            (Answer.Looked looked.now looked.at looked.booked)) }
         ensures full { IfErr result (λ full. IsFull seat.old seat.new 1 full.entries full.live) }
     {
         let mut turn = self.turns.enter(rt, &mut seat.pass);
@@ -160,16 +168,17 @@ impl Station {
         Seat { pass }
     }
 
-    /// Takes in what another seat has seen and made.
+    /// Takes in what another seat has seen and made. Seats of one station have its capacity and its limit.
     pub fn join(&self, seat: &mut Seat, other: Seat)
         requires seat { seat.old.id ≡ self.now.id }
         requires other { other.id ≡ self.now.id }
         requires not_first { other.number ≢ 0 }
-        requires steps { other.steps ≡ seat.old.steps }
         ensures same { seat.new ≡ after_join seat.old other }
         ensures kept { IsSeat seat.new }
         ensures longer { IsPrefix seat.old.seen seat.new.seen }
         ensures told { IsPrefix other.seen seat.new.seen }
+        ensures steps { other.steps ≡ seat.old.steps }
+        ensures limit { other.limit ≡ seat.old.limit }
     {
         let Seat { pass } = other;
         self.turns.join(&mut seat.pass, pass);

@@ -26,8 +26,8 @@ fn plan<R: Abort>(rt: &R, alloc: Global) -> Plan {
     Plan::new(segments)
 }
 
-// A play at slot 0, and its halt where it was admitted. Says whether it was.
-fn round<R: Wait + Abort>(rt: &R, alloc: Global, station: &Station, seat: &mut Seat) -> bool
+// A play at slot 0, and its halt where it was admitted. Says how many entries they made.
+fn play<R: Wait + Abort>(rt: &R, alloc: Global, station: &Station, seat: &mut Seat) -> u64
     requires { seat.old.id ≡ station.now.id }
     ensures { IsSplit seat.old seat.new }
 {
@@ -35,7 +35,7 @@ fn round<R: Wait + Abort>(rt: &R, alloc: Global, station: &Station, seat: &mut S
         Ok(booking) => {
             assert_eq!(rt; booking.start, 1);
             station.halt(rt, seat, booking, 0);
-            true
+            2
         }
         Err(
             PlayRefused::Overflow {
@@ -46,56 +46,150 @@ fn round<R: Wait + Abort>(rt: &R, alloc: Global, station: &Station, seat: &mut S
             },
         ) => {
             assert_eq!(rt; (slot, booked, asked), (1, 22, 22));
-            false
+            1
         }
         Err(PlayRefused::JournalFull { .. }) => panic!(rt; "the journal has room"),
     }
 }
 
-// 100 rounds. Says how many plays were admitted.
-fn rounds<R: Wait + Abort>(rt: &R, alloc: Global, station: &Station, mut seat: Seat) -> (Seat, u64)
+// A look at a slot, and an offer: at most one play is booked.
+fn ask<R: Wait + Abort>(
+    rt: &R,
+    alloc: Global,
+    station: &Station,
+    seat: &mut Seat,
+    offers: &mut Offers,
+) -> u64
+    requires { seat.old.id ≡ station.now.id }
+    ensures { IsSplit seat.old seat.new }
+{
+    let Ok(looked) = station.look(rt, seat, 4) else {
+        panic!(rt; "the journal has room");
+    };
+    assert!(rt; looked.at == 4 && (looked.booked == 0 || looked.booked == 23));
+    let offered = station.offer(rt, seat, 0, &plan(rt, alloc), offers);
+    assert!(rt; offered.first == 1 && offered.seen > looked.place);
+    assert!(rt; offers.start() == Some(1) || offers.start() == Some(5));
+    1
+}
+
+// 100 plays, each with its halt, and with a look and an offer where `asks`. Says how many entries they made.
+fn rounds<R: Wait + Abort>(
+    rt: &R,
+    alloc: Global,
+    station: &Station,
+    mut seat: Seat,
+    asks: bool,
+) -> (Seat, u64)
     requires { seat.id ≡ station.now.id }
     ensures { IsSplit seat result.0 }
 {
-    let mut admitted = 0u64;
+    let mut offers = Offers::new(alloc, 4).expect(rt, "memory");
+    let mut made = 0u64;
     for _ in 0..100 {
-        if round(rt, alloc, station, &mut seat) {
-            admitted = admitted.saturating_add(1);
+        let more = play(rt, alloc, station, &mut seat);
+        made = made.saturating_add(more);
+        if asks {
+            let more = ask(rt, alloc, station, &mut seat, &mut offers);
+            made = made.saturating_add(more);
         }
     }
-    (seat, admitted)
+    (seat, made)
 }
 
-// Two threads make 100 rounds each.
+// The same by two seats side by side.
+fn side_by_side<R: Threads + Wait + Abort + Sync>(
+    rt: &R,
+    alloc: Global,
+    station: &Station,
+    one: Seat,
+    two: Seat,
+    asks: bool,
+) -> ((Seat, u64), (Seat, u64))
+    requires one { one.id ≡ station.now.id }
+    requires two { two.id ≡ station.now.id }
+    ensures one { IsSplit one result.0.0 }
+    ensures two { IsSplit two result.1.0 }
+{
+    join(
+        rt,
+        || -> (Seat, u64)
+            requires { one.id ≡ station.now.id }
+            ensures { IsSplit one result.0 }
+        { rounds(rt, alloc, station, one, asks) },
+        || -> (Seat, u64)
+            requires { two.id ≡ station.now.id }
+            ensures { IsSplit two result.0 }
+        { rounds(rt, alloc, station, two, asks) },
+    )
+}
+
+// How many entries of a maker a book has.
+fn count_of(book: &Book, maker: u32) -> u64 {
+    book.entries()
+        .iter()
+        .filter(|entry| entry.maker == maker)
+        .count() as u64
+}
+
 fn two<R: Threads + Wait + Abort + Sync>(rt: &R, alloc: Global, station: Station, mut seat: Seat)
     requires first { seat ≡ first_seat station }
 {
     let one = station.split(&mut seat);
     let two = station.split(&mut seat);
-    let shared = &station;
-    let ((one, a), (two, b)) = join(
-        rt,
-        || -> (Seat, u64)
-            requires { one.id ≡ shared.now.id }
-            ensures { IsSplit one result.0 }
-        { rounds(rt, alloc, shared, one) },
-        || -> (Seat, u64)
-            requires { two.id ≡ shared.now.id }
-            ensures { IsSplit two result.0 }
-        { rounds(rt, alloc, shared, two) },
-    );
+    let ((one, a), (two, b)) = side_by_side(rt, alloc, &station, one, two, false);
     station.join(&mut seat, two);
     station.join(&mut seat, one);
     let book = station.close(seat);
-    let admitted = a.saturating_add(b);
-    assert_eq!(rt; book.entries().len() as u64, admitted.saturating_add(200));
-    assert!(rt; admitted > 0);
+    assert_eq!(rt; (count_of(&book, 1), count_of(&book, 2)), (a, b));
+    assert_eq!(rt; book.entries().len() as u64, a.saturating_add(b));
+    assert!(rt; a.saturating_add(b) > 200);
+}
+
+// Four threads that play, halt, look and offer; their seats are joined in another order than they were split.
+fn four<R: Threads + Wait + Abort + Sync>(rt: &R, alloc: Global, station: Station, mut seat: Seat)
+    requires first { seat ≡ first_seat station }
+{
+    let one = station.split(&mut seat);
+    let two = station.split(&mut seat);
+    let three = station.split(&mut seat);
+    let four = station.split(&mut seat);
+    let shared = &station;
+    let (((one, a), (two, b)), ((three, c), (four, d))) = join(
+        rt,
+        || -> ((Seat, u64), (Seat, u64))
+            requires one { one.id ≡ shared.now.id }
+            requires two { two.id ≡ shared.now.id }
+            ensures one { IsSplit one result.0.0 }
+            ensures two { IsSplit two result.1.0 }
+        { side_by_side(rt, alloc, shared, one, two, true) },
+        || -> ((Seat, u64), (Seat, u64))
+            requires three { three.id ≡ shared.now.id }
+            requires four { four.id ≡ shared.now.id }
+            ensures three { IsSplit three result.0.0 }
+            ensures four { IsSplit four result.1.0 }
+        { side_by_side(rt, alloc, shared, three, four, true) },
+    );
+    station.join(&mut seat, three);
+    station.join(&mut seat, one);
+    station.join(&mut seat, four);
+    station.join(&mut seat, two);
+    let book = station.close(seat);
+    assert_eq!(rt; (count_of(&book, 1), count_of(&book, 2)), (a, b));
+    assert_eq!(rt; (count_of(&book, 3), count_of(&book, 4)), (c, d));
+    assert!(rt; count_of(&book, 0) == 0 && book.entries().len() > 800);
 }
 
 #[test]
-fn two_threads_play_and_halt(rt: HostRuntime) -> Result<(), Fail> {
+fn threads_share_one_book(rt: HostRuntime) -> Result<(), Fail> {
     let alloc = rt.alloc();
+    law_longer_journal();
+    law_last_entry();
+    law_still_open();
     let (station, seat) = Station::new(alloc, Profile::flat(alloc, 36)?, 1024)?;
+    assert_eq!(rt; seat.number(), 0);
     two(&rt, alloc, station, seat);
+    let (station, seat) = Station::new(alloc, Profile::flat(alloc, 36)?, 2048)?;
+    four(&rt, alloc, station, seat);
     Ok(())
 }

@@ -90,6 +90,7 @@ module _ {B : Type 0} (entries : B → List Entry) (terms_of : B → Terms) (ter
   one_more : (log : List Entry) (count served drawn : ℕ) (u : View) → Fits terms log count served drawn u → u.number ≢ 0 → Fits terms log (count + 1) served drawn u
   one_more log count served drawn u f other = record {
     terms_are = f.terms_are;
+    told_terms = f.told_terms;
     seen = f.seen;
     told = f.told;
     mine = f.mine;
@@ -125,6 +126,7 @@ module _ {B : Type 0} (entries : B → List Entry) (terms_of : B → Terms) (ter
         each = live_split (λ _ u. Fits terms r.log (r.count + 1) r.served r.drawn u) s.views id w x
             (record {
               terms_are = f.terms_are;
+              told_terms = f.told_terms;
               seen = f.seen;
               told = f.told;
               mine = f.mine;
@@ -136,6 +138,7 @@ module _ {B : Type 0} (entries : B → List Entry) (terms_of : B → Terms) (ter
             })
             (record {
               terms_are = f.terms_are;
+              told_terms = f.terms_are;
               seen = f.seen;
               told = (v.seen, refl);
               mine = sym (r.makers (v.splits + 1) new);
@@ -226,6 +229,7 @@ module _ {B : Type 0} (entries : B → List Entry) (terms_of : B → Terms) (ter
       let f = r.each id v live in let g = r.each other w wlive in let h = longest_of s r id other v w live wlive in
       let theirs = r.apart other id w v apart wlive live in record {
         terms_are = f.terms_are;
+        told_terms = g.terms_are;
         seen = h.0;
         told = h.1;
         mine = f.mine;
@@ -305,6 +309,7 @@ module _ {B : Type 0} (entries : B → List Entry) (terms_of : B → Terms) (ter
     makers = λ m _. refl;
     each = λ i v live. only (λ _ v. Fits terms [] 0 0 0 v) (record {
       terms_are = refl;
+      told_terms = refl;
       seen = ([], refl);
       told = ([], refl);
       mine = refl;

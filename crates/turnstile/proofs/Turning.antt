@@ -75,6 +75,7 @@ pub refit : (terms : Terms) (log : List Entry) (count served drawn served' drawn
     → Fits terms log count served drawn v → InTurn served' drawn' v.stage → Fits terms log count served' drawn' v
 refit terms log count served drawn served' drawn' v f turn = record {
   terms_are = f.terms_are;
+  told_terms = f.told_terms;
   seen = f.seen;
   told = f.told;
   mine = f.mine;
@@ -89,6 +90,7 @@ pub restage : (terms : Terms) (log : List Entry) (count served drawn served' dra
     → Fits terms log count served drawn v → InTurn served' drawn' st → Fits terms log count served' drawn' (record v { stage = st })
 restage terms log count served drawn served' drawn' v st f turn = record {
   terms_are = f.terms_are;
+  told_terms = f.told_terms;
   seen = f.seen;
   told = f.told;
   mine = f.mine;
@@ -177,7 +179,7 @@ module _ {B : Type 0} (entries : B → List Entry) (terms_of : B → Terms) (ter
   pub tells : (id slots : ℕ) (me : Me (Option B) View) → me.0.spent ≡ false
       → Allows Rule slots id me 0 (λ n. n) (λ n next. (next ≡ me) × Knows me.0)
   tells id slots me left s r deep at low = let f = r.each id me.0 (at, left) in
-      (me.0, keeps, tt, unmoved s r 0 id me.0 at, (refl, record { own = f.own; told = f.told }))
+      (me.0, keeps, tt, unmoved s r 0 id me.0 at, (refl, record { own = f.own; told = f.told; terms = f.told_terms ∙ sym f.terms_are }))
 
   pub draws : (id slots : ℕ) (me : Me (Option B) View) → me.0.spent ≡ false → me.0.stage ≡ Idle → me.1 ≡ []
       → Allows Rule slots id me 0 (λ n. (n + 1) % 2 ^ 64) (λ n next. (t : ℕ) × (n ≡ t % 2 ^ 64) × (next.0 ≡ record me.0 { stage = Waits t }) × (next.1 ≡ []))
@@ -234,6 +236,7 @@ module _ {B : Type 0} (entries : B → List Entry) (terms_of : B → Terms) (ter
       r.makers
       (record {
         terms_are = f.terms_are;
+        told_terms = f.told_terms;
         seen = subst (λ (l : List Entry). IsPrefix l r.log) (sym h.log_is) (prefix_self r.log);
         told = subst (IsPrefix v.told) (sym h.log_is) (prefix_trans v.told v.seen r.log f.told f.seen);
         mine = f.mine;
@@ -316,6 +319,7 @@ module _ {B : Type 0} (entries : B → List Entry) (terms_of : B → Terms) (ter
       → ((k : ℕ) (j : Joined) → get_elem? u.joined k ≡ some j → e.maker ≢ j.number) → Fits terms (log ++ e ∷ []) count served drawn u
   longer_list log count served drawn e u f other past = record {
     terms_are = f.terms_are;
+    told_terms = f.told_terms;
     seen = prefix_longer u.seen log (e ∷ []) f.seen;
     told = f.told;
     mine = f.mine ∙ sym (made_other u.number log e other);
@@ -344,6 +348,7 @@ module _ {B : Type 0} (entries : B → List Entry) (terms_of : B → Terms) (ter
       (λ m more. made_other m r.log e (λ same. let few = f.few in omega arith) ∙ r.makers m more)
       (record {
         terms_are = f.terms_are;
+        told_terms = f.told_terms;
         seen = subst (λ (l : List Entry). IsPrefix l log) (sym all) (prefix_self log);
         told = prefix_longer v.told v.seen (e ∷ []) f.told;
         mine = ap (made_by v.number) all;

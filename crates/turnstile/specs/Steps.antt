@@ -22,7 +22,18 @@ ticket_of (Holds t) = t
 
 -- the first pass, before any step
 abbrev pub beginner : Terms → View
-beginner terms = record { spent = false; number = 0; stage = Idle; terms = terms; seen = []; told = []; mine = []; splits = 0; joined = [] }
+beginner terms = record {
+  spent = false;
+  number = 0;
+  stage = Idle;
+  terms = terms;
+  seen = [];
+  told = [];
+  told_terms = terms;
+  mine = [];
+  splits = 0;
+  joined = [];
+}
 
 -- a pass after one more split
 abbrev pub splitter : View → View
@@ -30,23 +41,54 @@ splitter v = record v { splits = v.splits + 1 }
 
 -- the pass that is split from it
 abbrev pub newcomer : View → View
-newcomer v = record { spent = false; number = v.splits + 1; stage = Idle; terms = v.terms; seen = v.seen; told = []; mine = []; splits = 0; joined = [] }
+newcomer v = record {
+  spent = false;
+  number = v.splits + 1;
+  stage = Idle;
+  terms = v.terms;
+  seen = v.seen;
+  told = [];
+  told_terms = v.terms;
+  mine = [];
+  splits = 0;
+  joined = [];
+}
 
 abbrev pub past_of : View → Joined
 past_of w = record { number = w.number; mine = w.mine }
 
 -- a pass after another was joined to it
 abbrev pub joiner : View → View → View
-joiner v w = record v { seen = longer v.seen w.seen; told = shorter v.seen w.seen; joined = v.joined ++ past_of w ∷ w.joined }
+joiner v w = record v {
+  seen = longer v.seen w.seen;
+  told = shorter v.seen w.seen;
+  told_terms = w.terms;
+  joined = v.joined ++ past_of w ∷ w.joined;
+}
+
+abbrev pub no_terms : Terms
+no_terms = record { steps = []; limit = 0 }
 
 -- what is left of the other
 abbrev pub spent_view : View
-spent_view = record { spent = true; number = 0; stage = Idle; terms = record { steps = []; limit = 0 }; seen = []; told = []; mine = []; splits = 0; joined = [] }
+spent_view = record {
+  spent = true;
+  number = 0;
+  stage = Idle;
+  terms = no_terms;
+  seen = [];
+  told = [];
+  told_terms = no_terms;
+  mine = [];
+  splits = 0;
+  joined = [];
+}
 
 -- a pass that reads what it knows
 pub record Knows (v : View) : Type 0 where
   pub own : v.mine ≡ made_by v.number v.seen
   pub told : IsPrefix v.told v.seen
+  pub terms : v.told_terms ≡ v.terms
 
 module _ {B : Type 0} (entries : B → List Entry) (terms_of : B → Terms) where
   -- the pass has the turn of its ticket, and the slot with the value, which begins with all that it had seen

@@ -58,6 +58,7 @@ pub record Fits (terms : Terms) (log : List Entry) (count served drawn : ℕ) (v
   pub terms_are : v.terms ≡ terms
   pub seen : IsPrefix v.seen log
   pub told : IsPrefix v.told v.seen
+  pub told_terms : v.told_terms ≡ terms
   pub mine : v.mine ≡ made_by v.number log
   pub own : v.mine ≡ made_by v.number v.seen
   pub past : (k : ℕ) (j : Joined) → get_elem? v.joined k ≡ some j → IsPast log count v.number j

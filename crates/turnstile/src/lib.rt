@@ -1,6 +1,7 @@
 //! A turn by ticket: one caller at a time has the value that all share, in the order in which they drew their tickets.
 #![tactic(auto)]
 
+mod bells;
 mod kept;
 mod pass;
 mod splits;

@@ -70,21 +70,24 @@ pub(crate) fn look<B: Kept>(top: &Top<B>, place: &mut Place<B>, ticket: u64) -> 
 pub(crate) fn raise<B: Kept>(top: &Top<B>, place: &mut Place<B>)
     requires seat { IsSeated top.now.table_id place.old }
     requires turn { (value : B) × IsTurn place.old.me (Some value) }
-    requires one { (e : Entry) × (listed B.entries place.old.me.1 ≡ place.old.me.0.seen ++ e ∷ []) × (e.maker ≡ place.old.me.0.number) }
+    requires one { (e : Entry) × (listed B.entries place.old.me.1 ≡ place.old.me.0.seen ++ e ∷ [])
+        × (e.maker ≡ place.old.me.0.number) }
     ensures same { IsSame place.old place.new }
     ensures raised { place.new.me ≡ noted B.entries place.old.me }
 {
     top.fetch_add::<Raises<B>>(place, ENTRIES, 1);
 }
 
-/// Gives the slot back, and the turn to the next ticket.
-pub(crate) fn give_back<B: Kept>(top: &Top<B>, place: &mut Place<B>)
+/// Gives the slot back, and the turn to the next ticket. Answers the ticket whose turn it was.
+pub(crate) fn give_back<B: Kept>(top: &Top<B>, place: &mut Place<B>) -> u64
     requires seat { IsSeated top.now.table_id place.old }
-    requires turn { (value : B) × IsTurn place.old.me (Some value) × (B.entries value ≡ place.old.me.0.seen) × (B.terms value ≡ place.old.me.0.terms) }
+    requires turn { (value : B) × IsTurn place.old.me (Some value)
+        × (B.entries value ≡ place.old.me.0.seen) × (B.terms value ≡ place.old.me.0.terms) }
     ensures same { IsSame place.old place.new }
-    ensures left { (place.new.me.0 ≡ record place.old.me.0 { stage = Idle }) × (place.new.me.1 ≡ []) }
+    ensures left { (place.new.me.0 ≡ record place.old.me.0 { stage = Idle })
+        × (place.new.me.1 ≡ []) }
 {
-    top.fetch_add::<Leaves>(place, SERVING, 1);
+    top.fetch_add::<Leaves>(place, SERVING, 1)
 }
 
 /// Reads what the pass knows, which stays.
@@ -103,7 +106,8 @@ pub(crate) fn settle<B: Kept>(top: &Top<B>, place: &mut Place<B>, grown: bool)
     requires turn { (value : B) × IsTurn place.old.me (Some value) }
     requires own { place.old.me.0.mine ≡ made_by place.old.me.0.number place.old.me.0.seen }
     requires one { grown ≡ true → (e : Entry)
-        × (listed B.entries place.old.me.1 ≡ place.old.me.0.seen ++ e ∷ []) × (e.maker ≡ place.old.me.0.number) }
+        × (listed B.entries place.old.me.1 ≡ place.old.me.0.seen ++ e ∷ [])
+        × (e.maker ≡ place.old.me.0.number) }
     requires none { grown ≡ false → listed B.entries place.old.me.1 ≡ place.old.me.0.seen }
     ensures same { IsSame place.old place.new }
     ensures noted { place.new.me ≡ noted B.entries place.old.me }

@@ -6,59 +6,71 @@ ghost use Rattle.admission.specs.Makers.{made_by};
 ghost use mathlib.Core.List.{IsPrefix};
 ghost use Rattle.turnstile.specs.Taken.{stands_as};
 
+use crate::bells::Bells;
 use crate::kept::Kept;
 use crate::steps::{draw, look};
-use crate::table::{Place, SERVING, Top, VALUE};
+use crate::table::{Place, Top, VALUE};
 use crate::turn::Turn;
+use crossbeam_utils::sync::EventCount;
 use std::hint;
 use std::sync::Wait;
 
 /// How often a pass looks before it sleeps.
 const SPINS: u32 = 64;
 
-/// Waits a little: at first without sleep, then until the word is raised.
-fn pause<B: Kept, R: Wait>(rt: &R, top: &Top<B>, serving: u64, tries: u32)
-    requires { 1 < top.now.table_id.words }
-{
-    if tries < SPINS {
-        hint::spin_loop();
-        return;
-    }
-    // a raise changes the low 32 bits, on which a thread sleeps
-    top.park(rt, SERVING, (serving % (1 << 32)) as u32);
-}
-
-/// Waits until it is the turn of the ticket.
-fn wait<B: Kept, R: Wait>(rt: &R, top: &Top<B>, place: &mut Place<B>, ticket: u64)
+/// Waits until it is the turn of the ticket: at first without sleep, then asleep at its bell.
+fn wait<B: Kept, R: Wait>(
+    rt: &R,
+    top: &Top<B>,
+    bell: &EventCount,
+    place: &mut Place<B>,
+    ticket: u64,
+)
     requires seat { IsSeated top.now.table_id place.old }
     requires waits { IsWaiting place.old.me ticket }
     ensures same { IsSame place.old place.new }
-    ensures took { Took B.entries B.terms (ticket_of place.old.me.0.stage) place.old.me place.new.me }
+    ensures took { Took B.entries B.terms (ticket_of place.old.me.0.stage)
+        place.old.me place.new.me }
 {
     let mut tries = 0;
     for _ in rt.forever() {
+        // announced before the look, so that the bell isn't missed if it rings after it
+        let sleep = if tries < SPINS {
+            None
+        } else {
+            Some(bell.prepare_wait())
+        };
         let serving = look(top, place, ticket);
         if serving == ticket {
             return;
         }
-        pause(rt, top, serving, tries);
+        match sleep {
+            Some(key) => key.wait(rt),
+            None => hint::spin_loop(),
+        }
         tries = (tries + 1).min(SPINS);
     }
     unreachable!()
 }
 
 /// Draws a ticket, waits for its turn and takes the value.
-pub(crate) fn take<B: Kept, R: Wait>(rt: &R, top: &Top<B>, mut place: Place<B>) -> Turn<B>
+pub(crate) fn take<B: Kept, R: Wait>(
+    rt: &R,
+    top: &Top<B>,
+    bells: &Bells,
+    mut place: Place<B>,
+) -> Turn<B>
     requires seat { IsSeated top.now.table_id place }
     requires free { IsFree place.me }
     requires own { place.me.0.mine ≡ made_by place.me.0.number place.me.0.seen }
-    ensures pass { result.pass ≡ record (stands_as place.table_id place.me.0) { seen = B.entries result.value } }
+    ensures pass { result.pass
+        ≡ record (stands_as place.table_id place.me.0) { seen = B.entries result.value } }
     ensures longer { IsPrefix place.me.0.seen (B.entries result.value) }
     ensures own { place.me.0.mine ≡ made_by place.me.0.number (B.entries result.value) }
     ensures terms { B.terms result.value ≡ place.me.0.terms }
 {
     let ticket = draw(top, &mut place);
-    wait(rt, top, &mut place, ticket);
+    wait(rt, top, bells.of(ticket), &mut place, ticket);
     let slot = top.exchange(&mut place, VALUE, None);
     let Some(value) = slot else { unreachable!() };
     Turn::begin(place, value)

@@ -7,6 +7,7 @@ ghost use Rattle.turnstile.specs.Sized.{IsFree, IsSeated, IsSized};
 ghost use Rattle.turnstile.specs.Steps.{IsTurn};
 ghost use Rattle.turnstile.specs.Taken.{IsViewOf, stands_as};
 
+use crate::bells::Bells;
 use crate::kept::Kept;
 use crate::steps::{give_back, settle};
 use crate::table::{Place, Top, VALUE};
@@ -48,8 +49,8 @@ impl<B: Kept> Turn<B> {
         }
     }
 
-    /// Puts the value back, counts the entry that its list has more, and gives the turn to the next.
-    pub(crate) fn end(self, top: &Top<B>) -> Place<B>
+    /// Puts the value back, counts the entry that its list has more, gives the turn to the next ticket and rings its bell.
+    pub(crate) fn end(self, top: &Top<B>, bells: &Bells) -> Place<B>
         requires sized { IsSized top.now.table_id }
         requires here { self.pass.id ≡ top.now.table_id }
         requires list { MayLeave self.pass.seen self.pass.number (B.entries self.value) }
@@ -58,7 +59,10 @@ impl<B: Kept> Turn<B> {
         ensures here { result.table_id ≡ self.pass.id }
         ensures view { IsViewOf self.pass.number self.pass.splits result.me.0 }
         ensures pass { stands_as result.table_id result.me.0
-            ≡ record self.pass { seen = B.entries self.value; mine = made_by self.pass.number (B.entries self.value) } }
+            ≡ record self.pass {
+              seen = B.entries self.value;
+              mine = made_by self.pass.number (B.entries self.value);
+            } }
     {
         let Turn {
             mut seat,
@@ -69,7 +73,8 @@ impl<B: Kept> Turn<B> {
         let empty = top.exchange(&mut seat, VALUE, Some(value));
         let None = empty else { unreachable!() };
         settle(top, &mut seat, grown);
-        give_back(top, &mut seat);
+        let served = give_back(top, &mut seat);
+        bells.of(served.wrapping_add(1)).notify_all();
         seat
     }
 

@@ -3,11 +3,12 @@ ghost use mathlib.Core.List.{IsPrefix};
 ghost use Rattle.admission.specs.Makers.{made_by};
 ghost use Rattle.turnstile.specs.Passes.{AllJoined, IsWhole, MayLeave, after_join, after_split, first_pass, new_pass};
 
+use crate::bells::Bells;
 use crate::kept::Kept;
 use crate::pass::Pass;
 use crate::splits::{Joins, Splits};
 use crate::steps::tell;
-use crate::table::{Board, SERVING, VALUE};
+use crate::table::{Board, VALUE};
 use crate::taking::take;
 use crate::turn::Turn;
 use atomic_table::{Refused, Table};
@@ -17,12 +18,14 @@ use std::snapshot::Snapshot;
 use std::sync::Wait;
 use vod_base::NoMemory;
 
-/// A value that one pass at a time has. Passes take turns in the order in which they drew their tickets, and sleep while they wait.
+/// A value that one pass at a time has. Passes take turns in the order in which they drew their tickets, and sleep while
+/// they wait.
 ///
 /// Contracts see which turnstile it is, and what stays of the value.
 #[derive(Drop)]
 pub struct Turnstile<B: Kept> {
     table: Board<B>,
+    bells: Bells,
 }
 
 impl<B: Kept> Model for Turnstile<B> {
@@ -32,7 +35,10 @@ impl<B: Kept> Model for Turnstile<B> {
 
     ghost use Rattle.turnstile.specs.Sized.{IsSized};
 
-    ghost view = { λ t. record { id = t.table.shared.table_id; terms = B.terms t.table.shared.key.value } };
+    ghost view = { λ t. record {
+      id = t.table.shared.table_id;
+      terms = B.terms t.table.shared.key.value;
+    } };
 
     ghost invariant = { λ t. IsSized t.table.shared.table_id };
 }
@@ -56,7 +62,13 @@ impl<B: Kept> Turnstile<B> {
         };
         slots.push_reserved(Some(kept));
         match Table::new(alloc, &[0, 0, 0], slots, &about) {
-            Ok((table, seat)) => Ok((Turnstile { table }, Pass::resting(seat, 0, 0))),
+            Ok((table, seat)) => Ok((
+                Turnstile {
+                    table,
+                    bells: Bells::new(),
+                },
+                Pass::resting(seat, 0, 0),
+            )),
             Err(_) => Err(NoMemory),
         }
     }
@@ -74,10 +86,11 @@ impl<B: Kept> Turnstile<B> {
         ensures terms { B.terms result.value ≡ pass.old.terms }
     {
         let place = pass.rise();
-        take(rt, &self.table.shared, place)
+        take(rt, &self.table.shared, &self.bells, place)
     }
 
-    /// Gives the value back, and the turn to the next ticket. The list is as it was at `enter`, or has one more entry, of this pass.
+    /// Gives the value back, and the turn to the next ticket, whose pass it wakes. The list is as it was at `enter`, or has
+    /// one more entry, of this pass.
     pub fn leave(&self, pass: &mut Pass, turn: Turn<B>)
         requires own { turn.pass.id ≡ self.now.id }
         requires away { pass.old.has_turn ≡ true }
@@ -85,10 +98,12 @@ impl<B: Kept> Turnstile<B> {
         requires splits { turn.pass.splits ≡ pass.old.splits }
         requires list { MayLeave turn.pass.seen turn.pass.number (B.entries turn.value) }
         requires terms { B.terms turn.value ≡ turn.pass.terms }
-        ensures { pass.new ≡ record turn.pass { seen = B.entries turn.value; mine = made_by turn.pass.number (B.entries turn.value) } }
+        ensures { pass.new ≡ record turn.pass {
+          seen = B.entries turn.value;
+          mine = made_by turn.pass.number (B.entries turn.value);
+        } }
     {
-        let place = turn.end(&self.table.shared);
-        self.table.shared.wake_all(SERVING);
+        let place = turn.end(&self.table.shared, &self.bells);
         *pass = Pass::resting(place, pass.number(), pass.splits());
     }
 
@@ -110,7 +125,7 @@ impl<B: Kept> Turnstile<B> {
         Pass::resting(other, splits, 0)
     }
 
-    /// Takes in what another pass has seen and made.
+    /// Takes in what another pass has seen and made. Passes of one turnstile have the same terms.
     pub fn join(&self, pass: &mut Pass, mut other: Pass)
         requires own { pass.old.id ≡ self.now.id }
         requires free { pass.old.has_turn ≡ false }
@@ -121,6 +136,7 @@ impl<B: Kept> Turnstile<B> {
         ensures longer { IsPrefix pass.old.seen pass.new.seen }
         ensures told { IsPrefix other.seen pass.new.seen }
         ensures own { pass.new.mine ≡ made_by pass.new.number pass.new.seen }
+        ensures terms { other.terms ≡ pass.old.terms }
     {
         let mut place = pass.rise();
         let theirs = other.rise();
@@ -138,7 +154,7 @@ impl<B: Kept> Turnstile<B> {
         ensures whole { IsWhole pass (B.entries result) }
         ensures terms { B.terms result ≡ pass.terms }
     {
-        let Turnstile { table } = self;
+        let Turnstile { table, bells: _ } = self;
         let mut closed = table.close_with(pass.rise());
         let slot = closed.take(VALUE);
         closed.free();

@@ -46,6 +46,8 @@ pub struct View {
     pub seen: LinkedList<Entry>,
     /// What a pass that was joined had seen.
     pub told: LinkedList<Entry>,
+    /// The terms that it had.
+    pub told_terms: Terms,
     pub mine: LinkedList<Made>,
     pub splits: u64,
     pub joined: LinkedList<Joined>,

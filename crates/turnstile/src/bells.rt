@@ -1,0 +1,26 @@
+//! Where passes sleep while they wait for their turns.
+use crossbeam_utils::sync::EventCount;
+use std::array;
+
+/// How many bells a turnstile has.
+const BELLS: u64 = 64;
+
+/// The bells of a turnstile. Tickets that are equal modulo [`BELLS`] share one, so a turn that is handed on wakes the pass
+/// whose ticket is next, and no other one while at most 64 wait.
+#[derive(Drop)]
+pub(crate) struct Bells {
+    bells: [EventCount; BELLS as usize],
+}
+
+impl Bells {
+    pub(crate) fn new() -> Bells {
+        Bells {
+            bells: array::from_fn(|_| EventCount::new()),
+        }
+    }
+
+    /// The bell at which a pass with this ticket sleeps.
+    pub(crate) fn of(&self, ticket: u64) -> &EventCount {
+        &self.bells[(ticket % BELLS) as usize]
+    }
+}
