@@ -3,7 +3,7 @@ ghost use Rattle.plan_cert.specs.Slots.{total_bytes};
 ghost use Rattle.station.specs.Seats.{IsSplit, first_seat};
 
 use super::*;
-use admission::{Answer, Entry};
+use admission::Book;
 use early_start::Offers;
 use plan_cert::{Plan, Segment};
 use slot_calendar::Profile;
