@@ -1,3 +1,5 @@
 pub mod Boundaries
 pub mod Halts
 pub mod SlotBytes
+pub mod Namings
+pub mod TaskLaws

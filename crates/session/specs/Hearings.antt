@@ -1,7 +1,11 @@
 -- What each call of a session makes of it.
-use Rattle.std.specs.Prelude.{ℕ, ◌≡◌, ◌-◌, ◌++◌, true, List, [], ◌∷◌, Option, Some, None, codes, decimal}
+use Rattle.std.specs.Prelude.{ℕ, ◌≡◌, ◌-◌, ◌++◌, ◌⊎◌, Bool, true, false, List, [], ◌∷◌, Option, Some, None, codes, decimal}
 use Rattle.plan_cert.specs.declared.Segment.{Segment}
+use Rattle.rtsp_text.specs.Fields.{first_sequence}
 use Rattle.rtsp_text.specs.Replies.{field_line}
+use Rattle.rtsp_text.specs.Requests.{IsFault, IsRequest}
+use Rattle.rtsp_text.specs.declared.requests.Request.{Request}
+use Rattle.rtsp_text.specs.declared.requests.RequestFault.{RequestFault}
 use Rattle.early_start.specs.declared.Tried.{Tried}
 use Rattle.admission.specs.declared.entries.Answer.{Answer}
 use Rattle.admission.specs.declared.entries.Answer.TheVariants.{Admitted, Halted, Overflow, Looked}
@@ -12,13 +16,32 @@ use Rattle.session.specs.declared.notes.Receipt.TheVariants.{Entry, Full}
 use Rattle.session.specs.declared.states.Awaited.{Awaited}
 use Rattle.session.specs.declared.states.Awaited.TheVariants.{Nothing, Play, Halt, Look, Offer}
 use Rattle.session.specs.declared.states.Counts.{Counts}
+use Rattle.session.specs.declared.refusals.Refusal.TheVariants.{Memory}
+use Rattle.session.specs.Judging.{fault_refusal}
+use Rattle.session.specs.Methods.{HearsRequest, IsRefused}
 use Rattle.session.specs.Replies.{field, full_text, look_body, offer_body, overflow_text, parameters_text}
 use Rattle.session.specs.Sendings.{admitted_in, halted_in, halted_notes}
-use Rattle.session.specs.Standings.{AsksFor, IsAtRest, IsHandedIn, IsSameBusiness, Standing, answered, open_of, sequence_of}
+use Rattle.session.specs.Standings.{IsAtRest, IsHandedIn, Standing, answered, open_of, sequence_of}
 
--- a request: what it asks of the station, and the session after it
+-- a message that is no request
+pub record HearsFault (old : Standing) (message : List ℕ) (ask : Ask) (new : Standing) : Type 0 where
+  pub fault : RequestFault
+  pub is_fault : IsFault message fault
+  pub refused : IsRefused old (first_sequence message) (fault_refusal fault) [] ask new
+
+-- a request
+pub record HearsWhole (old : Standing) (message : List ℕ) (ask : Ask) (new : Standing) : Type 0 where
+  pub request : Request
+  pub is_request : IsRequest message request.method.now request.url.now request.sequence request.head.now request.body.now
+  pub hears : HearsRequest old request ask new
+
+-- what a message asks of the station, and the session after it; once the link has failed nothing more is begun
+abbrev pub HearsOn : Bool → Standing → List ℕ → Ask → Standing → Type 0
+HearsOn false old message ask new = HearsFault old message ask new ⊎ HearsWhole old message ask new
+HearsOn true old message ask new = IsRefused old (first_sequence message) Memory [] ask new
+
 abbrev pub Hears : Standing → List ℕ → Ask → Standing → Type 0
-Hears old message ask new = AsksFor ask new × IsSameBusiness old new
+Hears old message ask new = HearsOn old.lost old message ask new
 
 -- what was sent before the run that is asked for
 abbrev pub counts_of : Awaited → Counts → Counts

@@ -3,7 +3,6 @@ use Rattle.std.specs.Prelude.{ℕ, ◌≡◌, ◌+◌, ◌≤◌, ◌^◌, ⊤, 
 use Rattle.rtsp_text.specs.Lines.{is_one_line}
 use Rattle.session.specs.Plans.{IsPlay, IsPrepared}
 use Rattle.pacer.specs.Pacings.{IsPacing}
-use Rattle.session.specs.Titles.{titles_of}
 use Rattle.session.specs.Ranges.{AreFilms, AreSettings, IsSetup}
 use Rattle.session.specs.Standings.{Standing}
 use Rattle.session.specs.Steps.{IsHaltIn}
@@ -16,8 +15,7 @@ use Rattle.session.specs.declared.sessions.Session.TheInside.{Inside}
 
 abbrev pub standing_of : Inside → Standing
 standing_of session = record {
-  films = length session.films.now;
-  titles = titles_of session.films.now;
+  films = session.films.now;
   settings = session.settings;
   id = session.id;
   source = session.source;

@@ -1,9 +1,19 @@
 -- The refusals that all methods share, in their order (RFC 2326 sections 7.1.1, 10 and 12).
-use Rattle.std.specs.Prelude.{ℕ, ◌≡◌, ◌≢◌, ◌⊎◌, ⊤, true, false, Bool, List, Option, Some, None, is_some, is_none, codes, MatchOption, Result, Ok, Err}
+use Rattle.std.specs.Prelude.{ℕ, ◌≡◌, ◌≢◌, ◌⊎◌, ◌++◌, ⊤, true, false, Bool, List, [], Option, Some, None, is_some, is_none, codes, Result, Ok, Err}
 use Rattle.rtsp_text.specs.Fields.{header_value}
+use Rattle.rtsp_text.specs.declared.requests.Request.{Request}
+use Rattle.rtsp_text.specs.declared.requests.RequestFault.{RequestFault}
+use Rattle.rtsp_text.specs.declared.requests.RequestFault.TheVariants.{BadLine, BadVersion, BadHeader, NoSequenceNumber, BadLength}
 use Rattle.rtsp_fields.specs.Sessions.{IsSession}
+use Rattle.film_frames.specs.declared.stores.Stored.{Stored}
+use Rattle.session.specs.Films.{Names}
+use Rattle.session.specs.declared.methods.Topic.{Topic}
+use Rattle.session.specs.declared.methods.Topic.TheVariants.{Nothing, Booked, Offer, Unknown as Other}
+use Rattle.session.specs.declared.states.State.{State as Stage}
+use Rattle.session.specs.declared.states.State.TheVariants.{Init, Ready, Playing, Stopping}
 use Rattle.session.specs.declared.methods.Method.{Method}
 use Rattle.session.specs.declared.methods.Method.TheVariants.{Options, Describe, Setup, Play, Pause, Teardown, GetParameter}
+use Rattle.session.specs.declared.refusals.Asked.{Asked}
 use Rattle.session.specs.declared.refusals.Place.{Place}
 use Rattle.session.specs.declared.refusals.Refusal.{Refusal}
 use Rattle.session.specs.declared.refusals.Refusal.TheVariants.{BadRequest, Version, Method as Unknown, Option as Required, Session, Film, State, Transport, Parameter, Buffer, Range, Memory}
@@ -61,34 +71,141 @@ method_of ToPause = Pause
 method_of ToTeardown = Teardown
 method_of ToGetParameter = GetParameter
 
--- a request gets as far as the judgement of its session
-pub record IsSpoken (text head : List ℕ) (method : Method) : Type 0 where
-  pub named : text ≡ name_of method
-  pub free : required_of head ≡ None
+-- what a method does with the film that is named
+abbrev pub task_for : Method → Asked → Task
+task_for Options asked = ToOptions
+task_for Describe asked = ToDescribe asked
+task_for Setup asked = ToSetup asked.film
+task_for Play asked = ToPlay asked
+task_for Pause asked = ToPause
+task_for Teardown asked = ToTeardown
+task_for GetParameter asked = ToGetParameter
 
--- and as far as that of its film
-pub record IsOwnTalk (text head id : List ℕ) (place : Place) (method : Method) : Type 0 where
-  pub spoken : IsSpoken text head method
-  pub session : FitsSession method (is_some place.film) id (header_value head (codes "Session"))
+-- the options that are required, as a reply repeats them
+abbrev pub or_nothing : Option (List ℕ) → List ℕ
+or_nothing None = []
+or_nothing (Some value) = value
 
--- the judgement of a well formed request, up to which film it names
-abbrev pub IsJudged : List ℕ → List ℕ → List ℕ → Place → Result Task Refusal → Type 0
-IsJudged text head id place (Ok task) =
-    IsOwnTalk text head id place (method_of task)
-    × FitsState (method_of task) place (is_some (header_value head (codes "Range")))
-IsJudged text head id place (Err BadRequest) = ⊥
-IsJudged text head id place (Err Version) = ⊥
-IsJudged text head id place (Err Unknown) = (method : Method) → text ≢ name_of method
-IsJudged text head id place (Err Required) =
-    ((method : Method) × (text ≡ name_of method)) × (is_some (required_of head) ≡ true)
-IsJudged text head id place (Err Session) =
-    (method : Method) × (IsSpoken text head method × (¬ FitsSession method (is_some place.film) id (header_value head (codes "Session"))))
-IsJudged text head id place (Err Film) = (method : Method) × (IsOwnTalk text head id place method × (method ≢ Options))
-IsJudged text head id place (Err State) =
-    (method : Method) × (IsOwnTalk text head id place method
-    × (¬ FitsState method place (is_some (header_value head (codes "Range")))))
-IsJudged text head id place (Err Transport) = ⊥
-IsJudged text head id place (Err Parameter) = ⊥
-IsJudged text head id place (Err (Buffer least)) = ⊥
-IsJudged text head id place (Err Range) = ⊥
-IsJudged text head id place (Err Memory) = ⊥
+abbrev pub option_of : List ℕ → List ℕ
+option_of head = or_nothing (required_of head)
+
+-- where a session stands, as far as refusals go by it
+abbrev pub place_of : Stage → Place
+place_of Init = record { film = None; playing = false }
+place_of (Ready setup paused) = record { film = Some setup.film; playing = false }
+place_of (Playing setup play) = record { film = Some setup.film; playing = true }
+place_of (Stopping setup stop) = record { film = Some setup.film; playing = false }
+
+-- the film is the session's, where there is one
+abbrev pub IsOwnFilm : Option ℕ → ℕ → Type 0
+IsOwnFilm None film = ⊤
+IsOwnFilm (Some own) film = film ≡ own
+
+-- any film can be described; what else is asked is asked of the session's
+abbrev pub FitsFilm : Method → Place → ℕ → Type 0
+FitsFilm Options place film = ⊤
+FitsFilm Describe place film = ⊤
+FitsFilm Setup place film = IsOwnFilm place.film film
+FitsFilm Play place film = IsOwnFilm place.film film
+FitsFilm Pause place film = IsOwnFilm place.film film
+FitsFilm Teardown place film = IsOwnFilm place.film film
+FitsFilm GetParameter place film = IsOwnFilm place.film film
+
+-- a request has one of the seven methods and requires no option: it is judged by its session
+pub record IsSpoken (request : Request) (method : Method) : Type 0 where
+  pub named : request.method.now ≡ name_of method
+  pub free : required_of request.head.now ≡ None
+
+-- its session fits too: it is judged by its film
+pub record IsOwnTalk (id : List ℕ) (place : Place) (request : Request) (method : Method) : Type 0 where
+  pub spoken : IsSpoken request method
+  pub session : FitsSession method (is_some place.film) id (header_value request.head.now (codes "Session"))
+
+-- its URL names a film that it can be asked of
+pub record IsOnFilm (films : List Stored) (place : Place) (url : List ℕ) (method : Method) (authority : List ℕ) (film : ℕ) : Type 0 where
+  pub named : Names films url authority film
+  pub own : FitsFilm method place film
+
+abbrev pub HasFilm : List Stored → Place → List ℕ → Method → Type 0
+HasFilm films place url method = (authority : List ℕ) × ((film : ℕ) × IsOnFilm films place url method authority film)
+
+-- a task is asked of the film that the URL names
+abbrev pub IsTaskOf : List Stored → Place → List ℕ → Task → Type 0
+IsTaskOf films place url ToOptions = ⊤
+IsTaskOf films place url (ToDescribe asked) = IsOnFilm films place url Describe asked.authority.now asked.film
+IsTaskOf films place url (ToSetup film) = (authority : List ℕ) × IsOnFilm films place url Setup authority film
+IsTaskOf films place url (ToPlay asked) = IsOnFilm films place url Play asked.authority.now asked.film
+IsTaskOf films place url ToPause = HasFilm films place url Pause
+IsTaskOf films place url ToTeardown = HasFilm films place url Teardown
+IsTaskOf films place url ToGetParameter = HasFilm films place url GetParameter
+
+-- the state fits, as far as the method and a Range go
+abbrev pub IsTimely : Place → Request → Method → Type 0
+IsTimely place request method = FitsState method place (is_some (header_value request.head.now (codes "Range")))
+
+-- a request that is taken up
+pub record IsTaken (films : List Stored) (id : List ℕ) (place : Place) (request : Request) (task : Task) : Type 0 where
+  pub talk : IsOwnTalk id place request (method_of task)
+  pub film : IsTaskOf films place request.url.now task
+  pub state : IsTimely place request (method_of task)
+
+-- why a request is refused: the first of these that holds
+pub record IsUnknownMethod (request : Request) : Type 0 where
+  pub none : (method : Method) → request.method.now ≢ name_of method
+
+pub record RequiresOption (request : Request) : Type 0 where
+  pub method : Method
+  pub named : request.method.now ≡ name_of method
+  pub required : is_some (required_of request.head.now) ≡ true
+
+pub record IsOtherSession (id : List ℕ) (place : Place) (request : Request) : Type 0 where
+  pub method : Method
+  pub spoken : IsSpoken request method
+  pub session : ¬ FitsSession method (is_some place.film) id (header_value request.head.now (codes "Session"))
+
+pub record IsOtherFilm (films : List Stored) (id : List ℕ) (place : Place) (request : Request) : Type 0 where
+  pub method : Method
+  pub talk : IsOwnTalk id place request method
+  pub asked : method ≢ Options
+  pub none : ¬ HasFilm films place request.url.now method
+
+pub record IsUntimely (films : List Stored) (id : List ℕ) (place : Place) (request : Request) : Type 0 where
+  pub method : Method
+  pub talk : IsOwnTalk id place request method
+  pub film : HasFilm films place request.url.now method
+  pub state : ¬ IsTimely place request method
+
+-- the judgement of a well formed request
+abbrev pub IsJudged : List Stored → List ℕ → Place → Request → Result Task Refusal → Type 0
+IsJudged films id place request (Ok task) = IsTaken films id place request task
+IsJudged films id place request (Err BadRequest) = ⊥
+IsJudged films id place request (Err Version) = ⊥
+IsJudged films id place request (Err Unknown) = IsUnknownMethod request
+IsJudged films id place request (Err Required) = RequiresOption request
+IsJudged films id place request (Err Session) = IsOtherSession id place request
+IsJudged films id place request (Err Film) = IsOtherFilm films id place request
+IsJudged films id place request (Err State) = IsUntimely films id place request
+IsJudged films id place request (Err Transport) = ⊥
+IsJudged films id place request (Err Parameter) = ⊥
+IsJudged films id place request (Err (Buffer least)) = ⊥
+IsJudged films id place request (Err Range) = ⊥
+IsJudged films id place request (Err Memory) = ⊥
+
+-- the refusal of a message that is no request
+abbrev pub fault_refusal : RequestFault → Refusal
+fault_refusal BadLine = BadRequest
+fault_refusal BadVersion = Version
+fault_refusal (BadHeader line) = BadRequest
+fault_refusal NoSequenceNumber = BadRequest
+fault_refusal BadLength = BadRequest
+
+-- a body is this word, with or without one line end after it
+abbrev pub IsWord : List ℕ → List ℕ → Type 0
+IsWord word body = (body ≡ word) ⊎ ((body ≡ word ++ codes "\n") ⊎ (body ≡ word ++ codes "\r\n"))
+
+-- what the body of a GET_PARAMETER asks for
+abbrev pub IsTopic : List ℕ → Topic → Type 0
+IsTopic body Nothing = body ≡ []
+IsTopic body Booked = IsWord (codes "x-Booked") body
+IsTopic body Offer = IsWord (codes "x-Offer") body
+IsTopic body Other = (body ≢ []) × (¬ IsWord (codes "x-Booked") body) × (¬ IsWord (codes "x-Offer") body)

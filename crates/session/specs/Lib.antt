@@ -1,12 +1,14 @@
 pub mod Logs
 pub mod Replies
 pub mod Ranges
-pub mod Titles
+pub mod Films
 pub mod Plans
 pub mod Tasks
 pub mod Judging
+pub mod Setups
 pub mod Steps
 pub mod Standings
 pub mod Sendings
 pub mod Inside
+pub mod Methods
 pub mod Hearings

@@ -1,7 +1,7 @@
 -- What contracts see of a session, and the words in which its callers speak of it.
 use Rattle.std.specs.Prelude.{ℕ, ◌≡◌, ◌≤◌, ◌^◌, ◌&&◌, ◌++◌, ◌∷◌, Bool, true, false, if◌then◌else◌, nat_lt, nat_le, List, [], Option, Some, None, ⊤}
 use Rattle.plan_cert.specs.declared.Segment.{Segment}
-use Rattle.session.specs.Titles.{Title}
+use Rattle.film_frames.specs.declared.stores.Stored.{Stored}
 pub use Rattle.session.specs.Ranges.{AreFilms, AreSettings}
 use Rattle.session.specs.declared.settings.Settings.{Settings}
 use Rattle.session.specs.declared.notes.Receipt.{Receipt}
@@ -20,9 +20,8 @@ use Rattle.session.specs.declared.states.Counts.{Counts}
 use Rattle.session.specs.declared.states.Source.{Source}
 
 pub record Standing : Type 0 where
-  -- how many films the server has, the films, its settings, the session's id, and what its stream begins with
-  pub films : ℕ
-  pub titles : List Title
+  -- the server's films and settings, the session's id, and what its stream begins with
+  pub films : List Stored
   pub settings : Settings
   pub id : List ℕ
   pub source : Source

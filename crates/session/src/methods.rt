@@ -1,6 +1,6 @@
-ghost use Rattle.std.specs.Prelude.{◌≡◌, ◌≢◌, MatchOption};
+ghost use Rattle.std.specs.Prelude.{◌≡◌, ◌≢◌, ◌↔◌, IsTrue, MatchOption, codes};
 ghost use Rattle.session.specs.declared.methods.Method.{Method};
-ghost use Rattle.session.specs.Judging.{name_of};
+ghost use Rattle.session.specs.Judging.{IsTopic, IsWord, name_of};
 
 /// A method of RTSP that is spoken (RFC 2326 section 10).
 #[derive(Clone, Copy, Debug, PartialEq, Eq)]
@@ -50,12 +50,35 @@ pub(crate) enum Topic {
     Unknown,
 }
 
-/// What a body asks for: one word, with or without one line end after it.
-pub(crate) fn read_topic(body: &[u8]) -> Topic {
-    match body {
-        b"" => Topic::Nothing,
-        b"x-Booked" | b"x-Booked\n" | b"x-Booked\r\n" => Topic::Booked,
-        b"x-Offer" | b"x-Offer\n" | b"x-Offer\r\n" => Topic::Offer,
-        _ => Topic::Unknown,
+/// Whether a body asks for what is booked: this word, with or without one line end after it.
+fn is_booked(body: &[u8]) -> bool
+    ensures { IsTrue result ↔ IsWord (codes "x-Booked") body.now }
+{
+    body == b"x-Booked".as_slice()
+        || body == b"x-Booked\n".as_slice()
+        || body == b"x-Booked\r\n".as_slice()
+}
+
+/// Whether a body asks for an offer: this word, with or without one line end after it.
+fn is_offer(body: &[u8]) -> bool
+    ensures { IsTrue result ↔ IsWord (codes "x-Offer") body.now }
+{
+    body == b"x-Offer".as_slice()
+        || body == b"x-Offer\n".as_slice()
+        || body == b"x-Offer\r\n".as_slice()
+}
+
+/// What the body of a GET_PARAMETER asks for.
+pub(crate) fn read_topic(body: &[u8]) -> Topic
+    ensures { IsTopic body.now result }
+{
+    if body.is_empty() {
+        Topic::Nothing
+    } else if is_booked(body) {
+        Topic::Booked
+    } else if is_offer(body) {
+        Topic::Offer
+    } else {
+        Topic::Unknown
     }
 }

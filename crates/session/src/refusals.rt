@@ -1,5 +1,7 @@
-ghost use Rattle.std.specs.Prelude.{◌≡◌, ◌<◌, ◌≤◌, true, length, is_some, IfOk, IsTrue, IfSome, ◌↔◌, option_map};
-ghost use Rattle.session.specs.Judging.{FitsSession, FitsState, IsJudged, method_of, required_of};
+ghost use Rattle.std.specs.Prelude.{◌≡◌, ◌≢◌, ◌<◌, ◌≤◌, ℕ, true, List, length, is_some, string_bytes, IfOk, IsTrue, IfSome, MatchOption, ◌↔◌, option_map};
+ghost use Rattle.session.specs.Films.{IsFilmNamed, Names};
+ghost use Rattle.session.specs.Judging.{FitsFilm, FitsSession, FitsState, IsJudged, fault_refusal, option_of, required_of, task_for};
+ghost use Rattle.session.specs.Ranges.{AreFilms};
 ghost use Rattle.rtsp_text.specs.Lines.{is_one_line};
 ghost use Rattle.session.specs.Tasks.{IsAsked, IsTask, IsValid, NeedsSession};
 
@@ -68,10 +70,15 @@ pub(crate) struct Place {
 }
 
 /// The refusal of a request that isn't well formed.
-pub(crate) fn refusal_of(fault: RequestFault) -> Refusal {
+pub(crate) fn refusal_of(fault: RequestFault) -> Refusal
+    ensures { result ≡ fault_refusal fault }
+{
     match fault {
+        RequestFault::BadLine => Refusal::BadRequest,
         RequestFault::BadVersion => Refusal::Version,
-        _ => Refusal::BadRequest,
+        RequestFault::BadHeader(_) => Refusal::BadRequest,
+        RequestFault::NoSequenceNumber => Refusal::BadRequest,
+        RequestFault::BadLength => Refusal::BadRequest,
     }
 }
 
@@ -89,6 +96,7 @@ fn required<'m>(request: &Request<'m>) -> Option<&'m [u8]>
 
 /// What a reply says of the options that a request requires.
 pub(crate) fn option_of<'m>(request: &Request<'m>) -> &'m [u8]
+    ensures option { result.now ≡ option_of request.now.head.now }
     ensures short { length result.now ≤ length request.now.head.now }
     ensures line { is_one_line result.now ≡ true }
 {
@@ -116,6 +124,7 @@ fn has_session(method: Method, exists: bool, id: &[u8; 16], named: Option<&[u8]>
 
 /// The number of the film of that name.
 fn find(films: &[Stored], name: &[u8]) -> Option<usize>
+    ensures found { MatchOption result ((film : ℕ) → ¬ IsFilmNamed films.now name.now film) (IsFilmNamed films.now name.now) }
     ensures within { IfSome result (λ film. film < length films.now) }
 {
     for (number, film) in films.iter().enumerate() {
@@ -128,6 +137,10 @@ fn find(films: &[Stored], name: &[u8]) -> Option<usize>
 
 /// The film that a URL names.
 fn asked_film<'m>(films: &[Stored], url: &'m [u8]) -> Option<Asked<'m>>
+    requires { AreFilms films.now }
+    ensures asked { MatchOption result ((authority : List ℕ) (film : ℕ) → ¬ Names films.now url.now authority film)
+        (λ asked. Names films.now url.now asked.authority.now asked.film) }
+    ensures one { IfSome result (λ asked. (authority : List ℕ) (film : ℕ) → Names films.now url.now authority film → film ≡ asked.film) }
     ensures within { IfSome result (λ asked. asked.film < length films.now) }
     ensures authority { IfSome result (λ asked. length asked.authority.now ≤ length url.now) }
     ensures authority_line { IfSome result (λ asked. is_one_line asked.authority.now ≡ true) }
@@ -142,10 +155,13 @@ fn asked_film<'m>(films: &[Stored], url: &'m [u8]) -> Option<Asked<'m>>
 }
 
 /// Whether a method may be asked of that film: it is the session's, or there is none, or it is to be described.
-fn is_own(method: Method, session: Option<usize>, film: usize) -> bool {
-    match (method, session) {
-        (Method::Describe, _) | (_, None) => true,
-        (_, Some(own)) => own == film,
+fn is_own(method: Method, place: Place, film: usize) -> bool
+    ensures { IsTrue result ↔ FitsFilm method place film }
+{
+    let own = place.film.is_none_or(|own| film == own);
+    match method {
+        Method::Options | Method::Describe => true,
+        _ => own,
     }
 }
 
@@ -167,7 +183,7 @@ fn task_of(films: usize, place: Place, method: Method, asked: Asked<'_>) -> Task
     requires session { NeedsSession method (is_some place.film) }
     requires valid { IsValid method place }
     ensures task { IsTask films place result }
-    ensures method { method_of result ≡ method }
+    ensures exact { result ≡ task_for method asked.entry }
 {
     let _ = (films, place);
     match method {
@@ -189,9 +205,10 @@ pub(crate) fn judge<'m>(
     place: Place,
     request: &Request<'m>,
 ) -> Result<Task<'m>, Refusal>
-    requires { length request.now.url.now ≤ 16384 }
+    requires films { AreFilms films.now }
+    requires url { length request.now.url.now ≤ 16384 }
     ensures task { IfOk result (IsTask (length films.now) place) }
-    ensures judged { IsJudged request.now.method.now request.now.head.now id.now place result }
+    ensures judged { IsJudged films.now id.now place request.now result }
 {
     let Some(method) = read_method(request.method) else {
         return Err(Refusal::Method);
@@ -213,7 +230,7 @@ pub(crate) fn judge<'m>(
     let Some(asked) = asked_film(films, request.url) else {
         return Err(Refusal::Film);
     };
-    if !is_own(method, place.film, asked.film) {
+    if !is_own(method, place, asked.film) {
         return Err(Refusal::Film);
     }
     if !is_valid(method, place, header(request, b"Range").is_some()) {

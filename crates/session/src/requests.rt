@@ -7,8 +7,10 @@ ghost use Rattle.rtsp_text.specs.Lines.{is_one_line};
 ghost use Rattle.session.specs.declared.asks.Ask.{Ask};
 ghost use Rattle.session.specs.Hearings.{Hears};
 ghost use Rattle.session.specs.Ranges.{AreFilms, IsSetup};
-ghost use Rattle.session.specs.Titles.{ms_at, title_at, title_of, titles_of};
-ghost use Rattle.session.specs.Replies.{describe_text, refusal_text};
+ghost use Rattle.session.specs.Films.{IsFilmAt};
+ghost use Rattle.session.specs.Judging.{place_of};
+ghost use Rattle.session.specs.Methods.{Describes, GetsParameter, HearsRequest, Looks, Offers, Pauses, Plays, SetsUp, TearsDown};
+ghost use Rattle.session.specs.Replies.{refusal_text};
 ghost use Rattle.session.specs.Plans.{IsPrepared};
 ghost use Rattle.session.specs.Standings.{AsksFor, CanHear, IsAtRest, IsSameBusiness, has_session_in, is_playing_in, replied};
 
@@ -20,7 +22,7 @@ use crate::refusals::{Place, Refusal, Task, judge, option_of, refusal_of};
 use crate::replies::{
     info_of, put_description, put_plain, put_play, put_public, put_refusal, put_session, put_setup,
 };
-use crate::runs::{Wanted, is_run, picture_time, wanted_run};
+use crate::runs::{Wanted, is_run, length_ms, wanted_run};
 use crate::sessions::Session;
 use crate::setups::read_setup;
 use crate::states::{Awaited, Counts, Next, Prepared, Run, Setup, State, counts_after, frames_of};
@@ -60,6 +62,7 @@ impl<'a> Session<'a> {
         requires hear { CanHear self.old }
         requires head { length request.now.head.now ≤ 16384 }
         requires url { length request.now.url.now ≤ 16384 }
+        ensures hears { HearsRequest self.old request.now result self.new }
         ensures asks { AsksFor result self.new }
         ensures same { IsSameBusiness self.old self.new }
     {
@@ -81,6 +84,7 @@ impl<'a> Session<'a> {
 
     /// Where the session stands, as far as refusals go by it.
     fn place(&self) -> Place
+        ensures place { result ≡ place_of self.now.state }
         ensures film { is_some result.film ≡ has_session_in self.now.state }
         ensures playing { result.playing ≡ is_playing_in self.now.state }
     {
@@ -127,19 +131,15 @@ impl<'a> Session<'a> {
     /// DESCRIBE (RFC 2326 section 10.2).
     fn describe(&mut self, sequence: u64, film: usize, authority: &[u8]) -> Ask
         requires hear { CanHear self.old }
-        requires film { film < self.old.films }
+        requires film { film < length self.old.films }
         requires authority { length authority.now ≤ 16384 }
         requires authority_line { is_one_line authority.now ≡ true }
-        ensures ask { result ≡ Ask.Reply }
-        ensures exact { self.new ≡ replied self.old (describe_text sequence authority.now
-            (title_at self.old.titles film).name (ms_at (title_at self.old.titles film) (length (title_at self.old.titles film).units))) }
+        ensures exact { Describes self.old sequence film authority.now result self.new }
         ensures asks { AsksFor result self.new }
         ensures same { IsSameBusiness self.old self.new }
     {
         let stored = stored_at(self.films, film);
-        law_film(&stored.film);
-        let units = stored.film.units.len() as u64;
-        let end_ms = units * u64::from(picture_time(&stored.film)) / 360;
+        let end_ms = length_ms(&stored.film);
         put_description(
             &mut self.reply,
             sequence,
@@ -153,8 +153,9 @@ impl<'a> Session<'a> {
     /// SETUP (RFC 2326 section 10.4).
     fn set_up(&mut self, request: &Request<'_>, film: usize) -> Ask
         requires hear { CanHear self.old }
-        requires film { film < self.old.films }
+        requires film { film < length self.old.films }
         requires first { has_session_in self.old.state ≡ false }
+        ensures exact { SetsUp self.old request.now film result self.new }
         ensures asks { AsksFor result self.new }
         ensures same { IsSameBusiness self.old self.new }
     {
@@ -207,6 +208,7 @@ impl<'a> Session<'a> {
     fn pause(&mut self, sequence: u64) -> Ask
         requires hear { CanHear self.old }
         requires playing { is_playing_in self.old.state ≡ true }
+        ensures exact { Pauses self.old sequence result self.new }
         ensures asks { AsksFor result self.new }
         ensures same { IsSameBusiness self.old self.new }
     {
@@ -225,6 +227,7 @@ impl<'a> Session<'a> {
     /// TEARDOWN (RFC 2326 section 10.7): a play is halted as by a PAUSE.
     fn tear_down(&mut self, sequence: u64) -> Ask
         requires hear { CanHear self.old }
+        ensures exact { TearsDown self.old.state self.old sequence result self.new }
         ensures asks { AsksFor result self.new }
         ensures same { IsSameBusiness self.old self.new }
     {
@@ -248,6 +251,7 @@ impl<'a> Session<'a> {
     /// GET_PARAMETER (RFC 2326 section 10.8).
     fn get_parameter(&mut self, request: &Request<'_>) -> Ask
         requires hear { CanHear self.old }
+        ensures exact { GetsParameter self.old request.now result self.new }
         ensures asks { AsksFor result self.new }
         ensures same { IsSameBusiness self.old self.new }
     {
@@ -266,6 +270,7 @@ impl<'a> Session<'a> {
     /// A look at the heard slot. There is room for the first ones from the beginning.
     fn look(&mut self, sequence: u64) -> Ask
         requires hear { CanHear self.old }
+        ensures exact { Looks self.old sequence result self.new }
         ensures asks { AsksFor result self.new }
         ensures same { IsSameBusiness self.old self.new }
     {
@@ -331,7 +336,7 @@ impl<'a> Session<'a> {
         paused: Option<Run>,
         range: Option<&[u8]>,
     ) -> Result<(Plan, Prepared<'a>), Refusal>
-        requires setup { IsSetup self.now.films setup.now }
+        requires setup { IsSetup (length self.now.films) setup.now }
         ensures prepared { IfOk result (λ both. IsPrepared both.1) }
         ensures plan { IfOk result (λ both. both.1.plan ≡ both.0) }
         ensures order { IfOk result (λ both. both.1.run.from_unit ≤ both.1.run.end_unit) }
@@ -368,7 +373,7 @@ impl<'a> Session<'a> {
 
     /// What the session has sent in all, once its paused run is given up.
     fn counts_without(&self, setup: &Setup, paused: Option<Run>) -> Counts
-        requires { IsSetup self.now.films setup.now }
+        requires { IsSetup (length self.now.films) setup.now }
     {
         let films = self.films;
         let stored = &films[setup.film];
@@ -397,7 +402,7 @@ fn stored_at(films: &[Stored], film: usize) -> &Stored
     requires films { AreFilms films.now }
     requires within { film < length films.now }
     ensures good { is_good_name (string_bytes result.now.name) ≡ true }
-    ensures title { title_at (titles_of films.now) film ≡ title_of result.now }
+    ensures film { IsFilmAt films.now film result.now }
 {
     &films[film]
 }

@@ -2,6 +2,7 @@
 
 ghost use Rattle.std.specs.Prelude.{◌≡◌, ◌+◌, ◌-◌, ◌*◌, ◌<◌, ◌≤◌, ◌^◌, length, IsTrue, IfSome};
 ghost use Rattle.mpeg_scan.specs.Rates.{picture_time};
+ghost use Rattle.session.specs.Films.{length_ms};
 ghost use Rattle.session.specs.Plans.{IsWanted};
 
 use crate::states::Run;
@@ -63,6 +64,14 @@ pub(crate) fn picture_time(film: &Film) -> u32
 {
     law_film(film);
     picture_units(film.rate)
+}
+
+/// How long a film is, in whole milliseconds.
+pub(crate) fn length_ms(film: &Film) -> u64
+    ensures { result ≡ length_ms film.now }
+{
+    law_film(film);
+    film.units.len() as u64 * u64::from(picture_time(film)) / 360
 }
 
 /// The new run from a time on, up to another or the film's end: from the last group that begins by then, up to the first later

@@ -1,7 +1,8 @@
 //! What a SETUP asks for.
 
-ghost use Rattle.std.specs.Prelude.{◌<◌, ◌≤◌, ◌^◌, ℕ, IfOk, IfSome};
+ghost use Rattle.std.specs.Prelude.{◌<◌, ◌≤◌, ◌^◌, ℕ, IfOk, IfSome, MatchOption};
 ghost use Rattle.session.specs.Ranges.{AreSettings, IsSetup};
+ghost use Rattle.session.specs.Setups.{IsBuffer, IsDelay, IsSetupRead};
 
 use crate::refusals::Refusal;
 use crate::settings::Settings;
@@ -12,6 +13,8 @@ use rtsp_text::{Request, header};
 /// The client's buffer.
 fn buffer_of(request: &Request<'_>, settings: &Settings) -> Option<u64>
     requires { AreSettings settings.now }
+    ensures read { MatchOption result ((n : ℕ) → ¬ IsBuffer settings.now request.now.head.now n)
+        (IsBuffer settings.now request.now.head.now) }
     ensures some { IfSome result (λ buffer. 1 ≤ buffer) }
     ensures most { IfSome result (λ buffer. buffer ≤ 2 ^ 42) }
 {
@@ -24,7 +27,9 @@ fn buffer_of(request: &Request<'_>, settings: &Settings) -> Option<u64>
 /// The slots before the first picture is used.
 fn delay_of(request: &Request<'_>, settings: &Settings) -> Option<u64>
     requires { AreSettings settings.now }
-    ensures { IfSome result (λ delay. delay ≤ 10000) }
+    ensures read { MatchOption result ((n : ℕ) → ¬ IsDelay settings.now request.now.head.now n)
+        (IsDelay settings.now request.now.head.now) }
+    ensures most { IfSome result (λ delay. delay ≤ 10000) }
 {
     match header(request, b"x-Startup") {
         Some(value) => read_startup(value),
@@ -39,7 +44,8 @@ pub(crate) fn read_setup(
     settings: &Settings,
 ) -> Result<Setup, Refusal>
     requires { AreSettings settings.now }
-    ensures { (films : ℕ) → film < films → IfOk result (IsSetup films) }
+    ensures read { IsSetupRead settings.now request.now.head.now film result }
+    ensures ranges { (films : ℕ) → film < films → IfOk result (IsSetup films) }
 {
     let Some(transport) = header(request, b"Transport") else {
         return Err(Refusal::Transport);
