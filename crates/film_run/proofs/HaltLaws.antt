@@ -1,0 +1,154 @@
+-- What a halt leaves: what was sent is ahead of what was played, and the rest fits in the buffer.
+use Rattle.std.proofs.Common.{◌≡◌, ℕ, ◌+◌, ◌-◌, ◌^◌, ◌<◌, ◌≤◌, List, Option, Some, None, length, sum, sym, ap, subst, ◌∙◌, inl, inr, arith}
+use Rattle.std.proofs.lemmas.Bool.{cases_lt}
+use Rattle.plan_cert.specs.declared.Segment.{Segment}
+use Rattle.plan_cert.specs.Slots.{sum_through, total_bytes, total_slots}
+use Rattle.plan_cert.proofs.SlotLaws.{sum_through_rises}
+use Rattle.wire_curve.specs.declared.film.Timing.{Timing}
+use Rattle.wire_curve.specs.FilmCurves.{IsWithinLimits, due, used_before}
+use Rattle.wire_curve.proofs.UseLaws.{used_before-none}
+use Rattle.film_run.specs.declared.runs.Run.{Run}
+use Rattle.film_run.specs.declared.plans.Playback.{Playback}
+use Rattle.film_run.specs.Runs.{Fits, IsRun, bytes_between}
+use Rattle.film_run.specs.Plans.{IsPlanOf, IsPlayback, rest_sizes, timing_of}
+use Rattle.film_run.specs.Pauses.{IsHalt, IsStop}
+use Rattle.film_run.proofs.CurveLaws.{KeepsTo, keeps-to, limits, total-of-rest}
+use Rattle.film_run.proofs.SumLaws.{bytes-first, bytes-join, bytes-most, length-between}
+use Rattle.film_run.proofs.UsedLaws.{used-front}
+
+pub halt-within : (plan : List Segment) (last : Option ℕ) (keep : ℕ) → IsHalt plan last keep → keep ≤ total_bytes plan
+halt-within plan None keep halt = omega arith
+halt-within plan (Some last) keep halt = halt.2
+
+-- what was played was sent
+pub stop-ahead : (sizes : List ℕ) (timing : Timing) (plan : List Segment) (last : Option ℕ) (keep stop : ℕ) → IsWithinLimits sizes timing
+    → KeepsTo sizes timing plan → IsHalt plan last keep → IsStop plan last keep stop → stop < total_slots plan
+    → used_before sizes timing stop ≤ timing.sent + keep
+stop-ahead sizes timing plan None keep stop limits keeps halt is inside =
+    let first : used_before sizes timing stop ≡ used_before sizes timing 0 = ap (used_before sizes timing) is in
+    omega (arith, first, used_before-none sizes timing, limits.played_was_sent)
+stop-ahead sizes timing plan (Some last) keep stop limits keeps halt is inside =
+    elim (cases_lt 0 stop) [
+      | inl some ↦
+          let t = stop - 1 in
+          let back : t + 1 ≡ stop = omega arith in
+          let above : used_before sizes timing stop ≤ timing.sent + sum_through plan t =
+          subst (λ u. used_before sizes timing u ≤ timing.sent + sum_through plan t) back (keeps.above t (omega (arith, keeps.slots))) in
+          elim (cases_lt t is.0) [
+            | inl before ↦ let less = is.1.0.not_before t before in omega arith
+            | inr from ↦ let rises = sum_through_rises plan t last (omega (arith, is.1.1)) in omega (arith, halt.1)
+          ]
+      | inr none ↦
+          let first : used_before sizes timing stop ≡ used_before sizes timing 0 = ap (used_before sizes timing) (omega arith) in
+          omega (arith, first, used_before-none sizes timing, limits.played_was_sent)
+    ]
+
+-- what was sent and isn't played fits in the buffer
+pub stop-fits : (sizes : List ℕ) (timing : Timing) (plan : List Segment) (last : Option ℕ) (keep stop : ℕ) → IsWithinLimits sizes timing
+    → KeepsTo sizes timing plan → IsHalt plan last keep → IsStop plan last keep stop → stop < total_slots plan
+    → timing.sent + keep ≤ used_before sizes timing stop + timing.buffer
+stop-fits sizes timing plan None keep stop limits keeps halt is inside =
+    let first : used_before sizes timing stop ≡ used_before sizes timing 0 = ap (used_before sizes timing) is in
+    omega (arith, first, used_before-none sizes timing, limits.sent_fits_buffer)
+stop-fits sizes timing plan (Some last) keep stop limits keeps halt is inside =
+    let below = keeps.below stop (omega (arith, keeps.slots)) in
+    let rises = sum_through_rises plan is.0 stop (omega (arith, is.1.1)) in
+    omega (arith, is.1.0.reached)
+
+-- a run's play is halted
+pub record IsHalting (sizes : List ℕ) (playback : Playback) (run : Run) (plan : List Segment) (last : Option ℕ) (keep : ℕ) : Type 0 where
+  pub plays : IsPlayback playback
+  pub is : IsRun sizes run
+  pub fits : Fits playback.buffer run
+  pub few : length sizes ≤ 4194304
+  pub small : sum sizes ≤ 2 ^ 42
+  pub planned : IsPlanOf sizes playback run plan
+  pub halt : IsHalt plan last keep
+
+pub halting-limits : (sizes : List ℕ) (playback : Playback) (run : Run) (plan : List Segment) (last : Option ℕ) (keep : ℕ)
+    → IsHalting sizes playback run plan last keep → IsWithinLimits (rest_sizes sizes run) (timing_of playback run)
+halting-limits sizes playback run plan last keep h = limits sizes playback run h.plays h.is h.fits h.few h.small
+
+pub halting-keeps : (sizes : List ℕ) (playback : Playback) (run : Run) (plan : List Segment) (last : Option ℕ) (keep : ℕ)
+    → IsHalting sizes playback run plan last keep → KeepsTo (rest_sizes sizes run) (timing_of playback run) plan
+halting-keeps sizes playback run plan last keep h =
+    keeps-to (rest_sizes sizes run) (timing_of playback run) plan (halting-limits sizes playback run plan last keep h) h.planned
+
+-- what is kept is of the run
+pub kept-whole : (sizes : List ℕ) (playback : Playback) (run : Run) (plan : List Segment) (last : Option ℕ) (keep : ℕ)
+    → IsHalting sizes playback run plan last keep → run.sent + keep ≤ bytes_between sizes run.first_unit run.end_unit
+kept-whole sizes playback run plan last keep h = omega (
+  arith,
+  halt-within plan last keep h.halt,
+  (halting-keeps sizes playback run plan last keep h).bytes,
+  total-of-rest sizes playback run h.is,
+)
+
+pub kept-small : (sizes : List ℕ) (playback : Playback) (run : Run) (plan : List Segment) (last : Option ℕ) (keep : ℕ)
+    → IsHalting sizes playback run plan last keep → run.sent + keep ≤ 2 ^ 42
+kept-small sizes playback run plan last keep h = omega (
+  arith,
+  kept-whole sizes playback run plan last keep h,
+  bytes-most sizes run.first_unit run.end_unit (omega (arith, h.is.order, h.is.rest)),
+  h.small,
+)
+
+-- the last picture isn't used before the slot of the stop
+pub goes-on : (sizes : List ℕ) (playback : Playback) (run : Run) (plan : List Segment) (last : Option ℕ) (keep from stop : ℕ)
+    → IsHalting sizes playback run plan last keep → run.from_unit ≤ from → from < run.end_unit → stop < total_slots plan
+    → due (timing_of playback run) (from - run.from_unit) < stop → from + 1 < run.end_unit
+goes-on sizes playback run plan last keep from stop h order within inside used =
+    let count = length-between sizes run.from_unit run.end_unit h.is.within in
+    let keeps = halting-keeps sizes playback run plan last keep h in
+    elim (cases_lt (from + 1) run.end_unit) [
+      | inl less ↦ less
+      | inr end ↦
+          let last_picture : from - run.from_unit ≡ length (rest_sizes sizes run) - 1 = omega arith in
+          let same = ap (due (timing_of playback run)) last_picture in
+          absurd (omega (arith, same, keeps.slots))
+    ]
+
+-- the bytes that were played
+pub played-by : (sizes : List ℕ) (playback : Playback) (run : Run) (from stop : ℕ) → IsPlayback playback → IsRun sizes run → run.from_unit ≤ from
+    → from < run.end_unit → ((unit : ℕ) → run.from_unit ≤ unit → unit < from → due (timing_of playback run) (unit - run.from_unit) < stop)
+    → stop ≤ due (timing_of playback run) (from - run.from_unit)
+    → bytes_between sizes run.first_unit from ≡ used_before (rest_sizes sizes run) (timing_of playback run) stop
+played-by sizes playback run from stop plays is order within used unused =
+    let n = from - run.from_unit in
+    let count = length-between sizes run.from_unit run.end_unit is.within in
+    let its = λ (k : ℕ) (lt : k < n).
+    let back : (run.from_unit + k) - run.from_unit ≡ k = omega arith in
+    subst (λ u. due (timing_of playback run) u < stop) back (used (run.from_unit + k) (omega arith) (omega arith)) in
+    let front = used-front (rest_sizes sizes run) (timing_of playback run) stop n plays.some_slot_units (omega (arith, count)) its unused in
+    let first = bytes-first sizes run.from_unit run.end_unit n (omega arith) in
+    let end : run.from_unit + n ≡ from = omega arith in
+    let same = ap (bytes_between sizes run.from_unit) end in
+    omega (arith, front, first, same, is.played_is, bytes-join sizes run.first_unit run.from_unit from is.order order)
+
+-- what is left is a run
+pub left-run : (sizes : List ℕ) (playback : Playback) (run left : Run) (plan : List Segment) (last : Option ℕ) (keep stop : ℕ)
+    → IsHalting sizes playback run plan last keep → IsStop plan last keep stop → stop < total_slots plan
+    → left.first_unit ≡ run.first_unit → left.end_unit ≡ run.end_unit → left.sent ≡ run.sent + keep
+    → run.from_unit ≤ left.from_unit → left.from_unit < run.end_unit
+    → left.played ≡ bytes_between sizes run.first_unit left.from_unit
+    → bytes_between sizes run.first_unit left.from_unit ≡ used_before (rest_sizes sizes run) (timing_of playback run) stop
+    → IsRun sizes left × Fits playback.buffer left
+left-run sizes playback run left plan last keep stop h stops inside first_is end_is sent_is not_back rest played_is used_is =
+    let within = halting-limits sizes playback run plan last keep h in
+    let keeps = halting-keeps sizes playback run plan last keep h in
+    let ahead = stop-ahead (rest_sizes sizes run) (timing_of playback run) plan last keep stop within keeps h.halt stops inside in
+    let held = stop-fits (rest_sizes sizes run) (timing_of playback run) plan last keep stop within keeps h.halt stops inside in
+    let whole = kept-whole sizes playback run plan last keep h in
+    let all : bytes_between sizes left.first_unit left.end_unit ≡ bytes_between sizes run.first_unit run.end_unit =
+    ap (λ f. bytes_between sizes f left.end_unit) first_is ∙ ap (λ e. bytes_between sizes run.first_unit e) end_is in
+    let front = ap (λ f. bytes_between sizes f left.from_unit) first_is in (
+      record {
+        order = omega (arith, h.is.order);
+        rest = omega arith;
+        within = omega (arith, h.is.within);
+        played_is = played_is ∙ sym front;
+        ahead = omega (arith, ahead);
+        whole = omega (arith, whole, all);
+      },
+      omega (arith, held),
+    )

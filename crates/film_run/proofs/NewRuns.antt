@@ -1,0 +1,72 @@
+-- Runs of which nothing was sent.
+use Rattle.std.proofs.Common.{◌≡◌, ℕ, ◌<◌, ◌≤◌, List, Option, length, refl, sym, subst, ◌∙◌, inl, inr, arith}
+use Rattle.mpeg_scan.specs.declared.units.Unit.{Unit as PictureUnit}
+use Rattle.mpeg_scan.specs.declared.films.Film.{Film}
+use Rattle.mpeg_scan.specs.Rates.{picture_time}
+use Rattle.std.proofs.lemmas.List.{length-map}
+use Rattle.film_frames.specs.Pieces.{wire_size}
+use Rattle.film_frames.specs.Tracks.{IsBoundary}
+use Rattle.film_frames.specs.Runs.{run_of, run_pieces}
+use Rattle.film_run.specs.declared.runs.Run.{Run}
+use Rattle.film_run.specs.Units.{film_sizes}
+use Rattle.film_run.specs.Runs.{EndsAtBoundary, IsNewRun, IsRun, bytes_between}
+use Rattle.film_run.specs.Seeks.{BeginsBy, IsAsked, IsEnd, IsGroupBy, IsReversed}
+use Rattle.film_run.proofs.SumLaws.{bytes-none}
+
+pub new-run : (sizes : List ℕ) (first end : ℕ) (run : Run) → first < end → end ≤ length sizes → run.first_unit ≡ first → run.end_unit ≡ end
+    → run.from_unit ≡ first → run.sent ≡ 0 → run.played ≡ 0 → IsNewRun sizes first end run
+new-run sizes first end run some within first_is end_is from_is sent_is played_is =
+    let none : bytes_between sizes run.first_unit run.from_unit ≡ 0 =
+    subst (λ u. bytes_between sizes run.first_unit u ≡ 0) (first_is ∙ sym from_is) (bytes-none sizes run.first_unit) in
+    let run_is : IsRun sizes run = record {
+      order = omega arith;
+      rest = omega arith;
+      within = omega arith;
+      played_is = played_is ∙ sym none;
+      ahead = omega arith;
+      whole = omega arith;
+    } in
+    record { first_is = first_is; end_is = end_is; from_is = from_is; sent_is = sent_is; played_is = played_is; run_is = run_is }
+
+pub none-at-boundary : (film : Film) (run : Run) → run.sent ≡ 0 → EndsAtBoundary film run
+none-at-boundary film run none = λ identity.
+    let pieces = run_pieces (run_of film run.first_unit run.end_unit identity) in
+    subst (λ n. IsBoundary pieces n) (sym none) (record { number = 0; among = omega arith; place_is = refl })
+
+-- what the times of a run say over a list of units and the time of one
+record Times (from : ℕ) (to : Option ℕ) (run : Run) (units : List PictureUnit) (unit_time : ℕ) : Type 0 where
+  rest : ¬ BeginsBy unit_time from (length units)
+  begins : IsGroupBy units unit_time from run.first_unit
+  ends : IsEnd units unit_time to run.first_unit run.end_unit
+  within : run.end_unit ≤ length units
+
+times-of : (from : ℕ) (to : Option ℕ) (run : Run) (units : List PictureUnit) (unit_time first end : ℕ) → ¬ BeginsBy unit_time from (length units)
+    → IsGroupBy units unit_time from first → IsEnd units unit_time to first end → end ≤ length units → run.first_unit ≡ first → run.end_unit ≡ end
+    → Times from to run units unit_time
+times-of from to run units unit_time first end rest begins ends within first_is end_is =
+    let P : ℕ → Type 0 = λ e. IsEnd units unit_time to first e in
+    let Q : ℕ → Type 0 = λ f. IsEnd units unit_time to f run.end_unit in
+    record {
+      rest = rest;
+      begins = subst (λ f. IsGroupBy units unit_time from f) (sym first_is) begins;
+      ends = subst Q (sym first_is) (subst P (sym end_is) ends);
+      within = omega arith;
+    }
+
+pub asked : (film : Film) (from : ℕ) (to : Option ℕ) (run : Run) (units : List PictureUnit) (unit_time first end : ℕ)
+    → units ≡ film.units.items → unit_time ≡ picture_time film.rate → ¬ IsReversed from to → ¬ BeginsBy unit_time from (length units)
+    → IsGroupBy units unit_time from first → IsEnd units unit_time to first end → first < end → end ≤ length units
+    → run.first_unit ≡ first → run.end_unit ≡ end → run.from_unit ≡ first → run.sent ≡ 0 → run.played ≡ 0 → IsAsked film from to run
+asked film from to run units unit_time first end units_are time_is order rest begins ends some within first_is end_is from_is sent_is played_is =
+    let its = times-of from to run units unit_time first end rest begins ends within first_is end_is in
+    let of_film : Times from to run film.units.items (picture_time film.rate) =
+    subst (λ t. Times from to run film.units.items t) time_is (subst (λ l. Times from to run l unit_time) units_are its) in
+    let count : length (film_sizes film.slice_starts.items film.units.items) ≡ length film.units.items = length-map film.units.items (λ u. wire_size film.slice_starts.items u) in
+    record {
+      some = λ nothing. elim nothing [ inl ended ↦ of_film.rest ended | inr reversed ↦ order reversed ];
+      begins = of_film.begins;
+      ends = of_film.ends;
+      new =
+          new-run (film_sizes film.slice_starts.items film.units.items) run.first_unit run.end_unit run (omega arith) (omega (arith, of_film.within, count))
+          refl refl (from_is ∙ sym first_is) sent_is played_is;
+    }

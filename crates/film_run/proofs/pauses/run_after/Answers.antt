@@ -1,0 +1,114 @@
+use Rattle.std.proofs.Common.{◌≡◌, ◌+◌, ◌-◌, ◌<◌, ◌≤◌, ◌∙◌, subst, inl, inr, arith}
+use Rattle.std.proofs.lemmas.Bool.{cases_lt}
+use Rattle.wire_curve.specs.FilmCurves.{due}
+use Rattle.film_run.specs.Plans.{timing_of}
+use Rattle.film_run.proofs.SumLaws.{bytes-more, bytes-most}
+use Rattle.film_run.proofs.HaltLaws.{IsHalting, goes-on, kept-small, left-run, played-by}
+use Rattle.film_run.proofs.pauses.run_after.Goals as goal
+
+pub overflow_add-left : goal.overflow_add-left
+overflow_add-left g c =
+    let sizes = g.U.Units.sizes c.args.units.now in
+    let h : IsHalting sizes c.args.playback.now c.args.run.now c.args.plan.now c.args.last c.args.keep = record {
+      plays = c.requires.playback;
+      is = c.requires.run;
+      fits = c.requires.fits;
+      few = c.count-count.ensures.few;
+      small = c.count-count.ensures.small;
+      planned = c.requires.plan;
+      halt = c.requires.halt;
+    } in
+    omega (arith, kept-small sizes c.args.playback.now c.args.run.now c.args.plan.now c.args.last c.args.keep h)
+
+pub overflow_add-left-in-loop-left : goal.overflow_add-left-in-loop-left
+overflow_add-left-in-loop-left g c =
+    let sizes = g.U.Units.sizes c.args.units.now in
+    let more = bytes-more sizes c.args.run.now.first_unit c.loop-left.left.from_unit (omega arith) (omega arith) in
+    let most = bytes-most sizes c.args.run.now.first_unit (c.loop-left.left.from_unit + 1) (omega arith) in
+    omega (arith, more, most, c.count-count.ensures.small, c.wire_size.ensures)
+
+pub loop-left-preserved : goal.loop-left-preserved
+loop-left-preserved g c =
+    let sizes = g.U.Units.sizes c.args.units.now in
+    let h : IsHalting sizes c.args.playback.now c.args.run.now c.args.plan.now c.args.last c.args.keep = record {
+      plays = c.requires.playback;
+      is = c.requires.run;
+      fits = c.requires.fits;
+      few = c.count-count.ensures.few;
+      small = c.count-count.ensures.small;
+      planned = c.requires.plan;
+      halt = c.requires.halt;
+    } in
+    let used : due (timing_of c.args.playback.now c.args.run.now) (c.loop-left.left.from_unit - c.args.run.now.from_unit) < c.stop_slot-stop.result = omega (arith, c.due_slot.ensures, c.loop-left-test.true) in
+    let more = bytes-more sizes c.args.run.now.first_unit c.loop-left.left.from_unit (omega arith) (omega arith) in
+    record {
+      first_is = c.loop-left.invariant.first_is;
+      end_is = c.loop-left.invariant.end_is;
+      sent_is = c.loop-left.invariant.sent_is;
+      from = omega arith;
+      rest =
+          goes-on sizes c.args.playback.now c.args.run.now c.args.plan.now c.args.last c.args.keep c.loop-left.left.from_unit c.stop_slot-stop.result h
+          c.loop-left.invariant.from c.loop-left.invariant.rest c.stop_slot-stop.ensures.inside used;
+      played = omega (arith, more, c.loop-left.invariant.played, c.wire_size.ensures);
+      used = λ unit from less.
+          elim (cases_lt unit c.loop-left.left.from_unit) [
+            | inl before ↦ c.loop-left.invariant.used unit from before
+            | inr here ↦
+                let same : c.loop-left.left.from_unit ≡ unit = omega arith in
+                subst (λ u. due (timing_of c.args.playback.now c.args.run.now) (u - c.args.run.now.from_unit) < c.stop_slot-stop.result) same used
+          ];
+    }
+
+pub returns-clause-left : goal.returns-clause-left
+returns-clause-left g c =
+    let sizes = g.U.Units.sizes c.args.units.now in
+    let unused : c.stop_slot-stop.result ≤ due (timing_of c.args.playback.now c.args.run.now) (c.loop-left.left.from_unit - c.args.run.now.from_unit) = omega (arith, c.due_slot.ensures, c.loop-left-test.false) in
+    let played = played-by sizes c.args.playback.now c.args.run.now c.loop-left.left.from_unit c.stop_slot-stop.result c.requires.playback c.requires.run
+    c.loop-left.invariant.from c.loop-left.invariant.rest c.loop-left.invariant.used unused in
+    record {
+      first_is = c.loop-left.invariant.first_is;
+      end_is = c.loop-left.invariant.end_is;
+      sent_is = c.loop-left.invariant.sent_is;
+      stop = c.stop_slot-stop.result;
+      stop_is = c.stop_slot-stop.ensures.stop;
+      played_is = c.loop-left.invariant.played ∙ played;
+      not_back = c.loop-left.invariant.from;
+      used = c.loop-left.invariant.used;
+      unused = unused;
+    }
+
+pub returns-clause-run : goal.returns-clause-run
+returns-clause-run g c =
+    let sizes = g.U.Units.sizes c.args.units.now in
+    let h : IsHalting sizes c.args.playback.now c.args.run.now c.args.plan.now c.args.last c.args.keep = record {
+      plays = c.requires.playback;
+      is = c.requires.run;
+      fits = c.requires.fits;
+      few = c.count-count.ensures.few;
+      small = c.count-count.ensures.small;
+      planned = c.requires.plan;
+      halt = c.requires.halt;
+    } in
+    let unused : c.stop_slot-stop.result ≤ due (timing_of c.args.playback.now c.args.run.now) (c.loop-left.left.from_unit - c.args.run.now.from_unit) = omega (arith, c.due_slot.ensures, c.loop-left-test.false) in
+    let played = played-by sizes c.args.playback.now c.args.run.now c.loop-left.left.from_unit c.stop_slot-stop.result c.requires.playback c.requires.run
+    c.loop-left.invariant.from c.loop-left.invariant.rest c.loop-left.invariant.used unused in
+    (left-run sizes c.args.playback.now c.args.run.now c.loop-left.left c.args.plan.now c.args.last c.args.keep c.stop_slot-stop.result h c.stop_slot-stop.ensures.stop c.stop_slot-stop.ensures.inside
+    c.loop-left.invariant.first_is c.loop-left.invariant.end_is c.loop-left.invariant.sent_is c.loop-left.invariant.from c.loop-left.invariant.rest c.loop-left.invariant.played played).0
+
+pub returns-clause-fits : goal.returns-clause-fits
+returns-clause-fits g c =
+    let sizes = g.U.Units.sizes c.args.units.now in
+    let h : IsHalting sizes c.args.playback.now c.args.run.now c.args.plan.now c.args.last c.args.keep = record {
+      plays = c.requires.playback;
+      is = c.requires.run;
+      fits = c.requires.fits;
+      few = c.count-count.ensures.few;
+      small = c.count-count.ensures.small;
+      planned = c.requires.plan;
+      halt = c.requires.halt;
+    } in
+    let unused : c.stop_slot-stop.result ≤ due (timing_of c.args.playback.now c.args.run.now) (c.loop-left.left.from_unit - c.args.run.now.from_unit) = omega (arith, c.due_slot.ensures, c.loop-left-test.false) in
+    let played = played-by sizes c.args.playback.now c.args.run.now c.loop-left.left.from_unit c.stop_slot-stop.result c.requires.playback c.requires.run
+    c.loop-left.invariant.from c.loop-left.invariant.rest c.loop-left.invariant.used unused in
+    (left-run sizes c.args.playback.now c.args.run.now c.loop-left.left c.args.plan.now c.args.last c.args.keep c.stop_slot-stop.result h c.stop_slot-stop.ensures.stop c.stop_slot-stop.ensures.inside
+    c.loop-left.invariant.first_is c.loop-left.invariant.end_is c.loop-left.invariant.sent_is c.loop-left.invariant.from c.loop-left.invariant.rest c.loop-left.invariant.played played).1

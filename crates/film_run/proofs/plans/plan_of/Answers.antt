@@ -1,0 +1,39 @@
+use Rattle.std.proofs.Common.{◌∙◌}
+use Rattle.film_run.specs.Plans.{IsPlanOf, rest_sizes, timing_of}
+use Rattle.film_run.proofs.CurveLaws.{limits, limits-both, keeps-to, best-of, taut-for-both, total-of-rest}
+use Rattle.film_run.proofs.plans.plan_of.Goals as goal
+
+pub film_curves-requires : goal.film_curves-requires
+film_curves-requires g c =
+    let sizes = g.U.Units.sizes c.args.units.now in
+    let playback = c.args.playback.now in
+    let run = c.args.run.now in
+    limits-both c.deref.result.now (rest_sizes sizes run) c.timing_of.result (timing_of playback run) (c.deref.ensures.value ∙ c.in_ok-sizes.ensures) c.timing_of.ensures
+    (limits sizes playback run c.requires.playback c.requires.run c.requires.fits c.count-count.ensures.few c.count-count.ensures.small)
+
+pub returns-in-Ok-clause-plan : goal.returns-in-Ok-clause-plan
+returns-in-Ok-clause-plan g c =
+    let sizes = g.U.Units.sizes c.args.units.now in
+    let playback = c.args.playback.now in
+    let run = c.args.run.now in
+    taut-for-both c.deref.result.now (rest_sizes sizes run) c.timing_of.result (timing_of playback run) c.in_ok-curves.curves c.in-Ok.plan
+    (c.deref.ensures.value ∙ c.in_ok-sizes.ensures) c.timing_of.ensures
+    c.in_ok-curves.ensures.accepted c.in_ok-curves.ensures.curves c.in-Ok.ensures.taut
+
+pub returns-in-Ok-clause-bytes : goal.returns-in-Ok-clause-bytes
+returns-in-Ok-clause-bytes g c =
+    let sizes = g.U.Units.sizes c.args.units.now in
+    let playback = c.args.playback.now in
+    let run = c.args.run.now in
+    let within = limits sizes playback run c.requires.playback c.requires.run c.requires.fits c.count-count.ensures.few c.count-count.ensures.small in
+    let is : IsPlanOf sizes playback run c.in-Ok.plan = returns-in-Ok-clause-plan g c in
+    (keeps-to (rest_sizes sizes run) (timing_of playback run) c.in-Ok.plan within is).bytes ∙ total-of-rest sizes playback run c.requires.run
+
+pub returns-in-Ok-clause-best : goal.returns-in-Ok-clause-best
+returns-in-Ok-clause-best g c =
+    let sizes = g.U.Units.sizes c.args.units.now in
+    let playback = c.args.playback.now in
+    let run = c.args.run.now in
+    let within = limits sizes playback run c.requires.playback c.requires.run c.requires.fits c.count-count.ensures.few c.count-count.ensures.small in
+    let is : IsPlanOf sizes playback run c.in-Ok.plan = returns-in-Ok-clause-plan g c in
+    best-of (rest_sizes sizes run) (timing_of playback run) c.in-Ok.plan within is

@@ -1,0 +1,5 @@
+pub mod Units
+pub mod Runs
+pub mod Plans
+pub mod Pauses
+pub mod Seeks

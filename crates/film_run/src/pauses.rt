@@ -1,0 +1,95 @@
+//! What a halt leaves of a run.
+
+ghost use Rattle.std.specs.Prelude.{◌≡◌, ◌+◌, ◌-◌, ◌<◌, ◌≤◌, ℕ, length, None, Some};
+ghost use Rattle.plan_cert.specs.Slots.{sum_through, total_bytes, total_slots};
+ghost use Rattle.plan_cert.specs.Plan.{IsPlan};
+ghost use Rattle.wire_curve.specs.FilmCurves.{due};
+ghost use Rattle.film_run.specs.Runs.{Fits, IsRun};
+ghost use Rattle.film_run.specs.Plans.{IsPlanOf, IsPlayback, timing_of};
+ghost use Rattle.film_run.specs.Pauses.{IsHalt, IsLeft, IsStop, ReachesAt};
+
+use crate::plans::Playback;
+use crate::runs::Run;
+use crate::units::Units;
+use plan_cert::Plan;
+
+/// The first slot of a plan through which it has so many bytes. It asks the plan for about twenty slots.
+fn slot_with(plan: &Plan, bytes: u64) -> u64
+    requires some { 0 < total_slots plan.now }
+    requires within { bytes ≤ total_bytes plan.now }
+    ensures reached { ReachesAt plan.now bytes result }
+    ensures inside { result < total_slots plan.now }
+{
+    let _kept = plan.segments();
+    let mut low = 0;
+    let mut high = plan.slots() - 1;
+    while low < high {
+        let middle = low + (high - low) / 2;
+        if plan.sum_at(middle) < bytes {
+            low = middle + 1;
+        } else {
+            high = middle;
+        }
+    }
+    low
+}
+
+/// The slot in which a halt stops a play. Its pictures count as unplayed.
+fn stop_slot(plan: &Plan, last: Option<u64>, keep: u64) -> u64
+    requires some { 0 < total_slots plan.now }
+    requires halt { IsHalt plan.now last keep }
+    ensures stop { IsStop plan.now last keep result }
+    ensures inside { result < total_slots plan.now }
+{
+    match last {
+        Some(last) => slot_with(plan, keep).max(last),
+        None => 0,
+    }
+}
+
+/// The slot of a play in which its picture of that number is used.
+fn due_slot(playback: &Playback, run: &Run, picture: u64) -> u64
+    requires playback { IsPlayback playback.now }
+    requires picture { picture < 4194304 }
+    ensures { result ≡ due (timing_of playback.now run.now) picture }
+{
+    let _run = run;
+    picture * u64::from(playback.picture_units) / u64::from(playback.slot_units) + playback.delay
+}
+
+/// What a halt leaves of a run: its play by `plan` stepped the plan's slot `last` last, or none, isn't done, and keeps `keep`
+/// bytes of its plan, at least those that were due.
+///
+/// The run was sent up to what is kept. It is unplayed from the first picture on that is used in the slot in which the play
+/// stops or after it: the later of the slot last stepped and the first one through which the plan has what is kept. Some of it
+/// is then unplayed, and what was sent and isn't played fits in the client's buffer.
+///
+/// It takes time in the pictures that were played and some twenty times in the plan's segments, and no memory.
+pub fn run_after<U: Units>(
+    units: &U,
+    playback: &Playback,
+    run: &Run,
+    plan: &Plan,
+    last: Option<u64>,
+    keep: u64,
+) -> Run
+    requires playback { IsPlayback playback.now }
+    requires run { IsRun (U.sizes units.now) run.now }
+    requires fits { Fits playback.now.buffer run.now }
+    requires plan { IsPlanOf (U.sizes units.now) playback.now run.now plan.now }
+    requires halt { IsHalt plan.now last keep }
+    ensures left { IsLeft (U.sizes units.now) playback.now run.now plan.now last keep result }
+    ensures run { IsRun (U.sizes units.now) result }
+    ensures fits { Fits playback.now.buffer result }
+{
+    let _count = units.count();
+    let stop = stop_slot(plan, last, keep);
+    let first = run.from_unit;
+    let mut left = *run;
+    left.sent += keep;
+    while due_slot(playback, run, (left.from_unit - first) as u64) < stop {
+        left.played += units.wire_size(left.from_unit);
+        left.from_unit += 1;
+    }
+    left
+}

@@ -1,0 +1,171 @@
+//! The run that a PLAY's times ask for (RFC 2326 section 10.5 and 12.29).
+
+ghost use Rattle.std.specs.Prelude.{◌≡◌, ◌+◌, ◌*◌, ◌^◌, ◌<◌, ◌≤◌, ℕ, ◌⊎◌, ◌↔◌, length, IsTrue, IfSome, MatchBool, MatchOption};
+ghost use Rattle.mpeg_scan.specs.Rates.{picture_time};
+ghost use Rattle.film_run.specs.Runs.{IsFilmRun};
+ghost use Rattle.film_run.specs.Seeks.{BeginsBy, HasNothing, IsAsked, IsEnd, IsGroupBy, IsGroupFrom, IsReversed, StartsGroup};
+
+use crate::runs::{Run, new_run};
+use mpeg_scan::{Film, Unit, law_film, law_units, picture_units};
+
+/// Nanoseconds in 25 units of 1/360,000 second, and 9 such units: 25,000 * 10^3 ns are 9 * 10^3 units.
+const NANOSECONDS: u128 = 25_000;
+
+const UNITS: u128 = 9;
+
+/// No film is as long, in nanoseconds.
+const LONGEST: u128 = 1 << 64;
+
+/// A time in whole units of 1/360,000 second, where a part of one isn't counted.
+fn units_before(nanoseconds: u128) -> u64
+    ensures most { result ≤ 2 ^ 63 }
+    ensures by_then { (place : ℕ) → place ≤ 2 ^ 42 → place ≤ result → place * 1000000000 ≤ nanoseconds * 360000 }
+    ensures all { (place : ℕ) → place ≤ 2 ^ 42 → place * 1000000000 ≤ nanoseconds * 360000 → place ≤ result }
+{
+    (nanoseconds.min(LONGEST) * UNITS / NANOSECONDS) as u64
+}
+
+/// A time in whole units of 1/360,000 second, where a part of one is counted as a whole one.
+fn units_after(nanoseconds: u128) -> u64
+    ensures most { result ≤ 2 ^ 63 }
+    ensures from_then { (place : ℕ) → place ≤ 2 ^ 42 → result ≤ place → nanoseconds * 360000 ≤ place * 1000000000 }
+    ensures all { (place : ℕ) → place ≤ 2 ^ 42 → nanoseconds * 360000 ≤ place * 1000000000 → result ≤ place }
+{
+    ((nanoseconds.min(LONGEST) * UNITS + (NANOSECONDS - 1)) / NANOSECONDS) as u64
+}
+
+/// Whether a unit starts a group.
+fn is_start(units: &[Unit], unit: usize) -> bool
+    requires { unit < length units.now }
+    ensures { MatchBool result (StartsGroup units.now unit) (¬ StartsGroup units.now unit) }
+{
+    units[unit].starts_group
+}
+
+/// The last unit at or before a place that starts a group.
+fn group_before(units: &[Unit], place: usize) -> usize
+    requires place { place < length units.now }
+    requires first { StartsGroup units.now 0 }
+    ensures group { StartsGroup units.now result }
+    ensures before { result ≤ place }
+    ensures last { (other : ℕ) → StartsGroup units.now other → other ≤ place → other ≤ result }
+{
+    let mut unit = place;
+    while unit > 0 && !is_start(units, unit) {
+        unit -= 1;
+    }
+    unit
+}
+
+/// The first unit at or after a place that starts a group, or the end.
+fn group_after(units: &[Unit], place: usize) -> usize
+    requires { place ≤ length units.now }
+    ensures after { place ≤ result }
+    ensures group { StartsGroup units.now result ⊎ (result ≡ length units.now) }
+    ensures first { (other : ℕ) → StartsGroup units.now other → place ≤ other → result ≤ other }
+{
+    let mut unit = place;
+    while unit < units.len() && !is_start(units, unit) {
+        unit += 1;
+    }
+    unit
+}
+
+/// The first unit after `first` that begins at a time or later, or the end. The time and that of a unit are in units of
+/// 1/360,000 second.
+fn end_place(units: usize, first: usize, time: u64, unit_time: u64) -> usize
+    requires first { first < units }
+    requires some { 1 ≤ unit_time }
+    ensures after { first < result }
+    ensures within { result ≤ units }
+    ensures begins { result < units → time ≤ result * unit_time }
+    ensures least { (other : ℕ) → first < other → other < units → time ≤ other * unit_time → result ≤ other }
+{
+    let place = time.div_ceil(unit_time);
+    (place.min(units as u64) as usize).max(first + 1)
+}
+
+/// The time of a picture of a film in 1/360,000 second.
+fn picture_time(film: &Film) -> u64
+    ensures time { result ≡ picture_time film.now.rate }
+    ensures some { 1 ≤ result }
+    ensures fits { result ≤ 360000 }
+{
+    law_film(film);
+    u64::from(picture_units(film.rate))
+}
+
+/// The last group that begins at or before a time in nanoseconds. None exactly where the units have ended then.
+fn group_by(units: &[Unit], unit_time: u64, time: u128) -> Option<usize>
+    requires few { length units.now ≤ 4194304 }
+    requires some { 1 ≤ unit_time }
+    requires fits { unit_time ≤ 360000 }
+    requires first { StartsGroup units.now 0 }
+    ensures found { MatchOption result
+        (BeginsBy unit_time time (length units.now))
+        (IsGroupBy units.now unit_time time) }
+    ensures rest { IfSome result (λ _. ¬ BeginsBy unit_time time (length units.now)) }
+{
+    let begin = units_before(time);
+    if units.len() as u64 * unit_time <= begin {
+        return None;
+    }
+    Some(group_before(units, (begin / unit_time) as usize))
+}
+
+/// The first group after a unit that begins at or after a time in nanoseconds, or the units' end.
+fn group_from(units: &[Unit], unit_time: u64, time: u128, after: usize) -> usize
+    requires few { length units.now ≤ 4194304 }
+    requires some { 1 ≤ unit_time }
+    requires fits { unit_time ≤ 360000 }
+    requires after { after < length units.now }
+    ensures { IsGroupFrom units.now unit_time time after result }
+{
+    let place = end_place(units.len(), after, units_after(time), unit_time);
+    group_after(units, place)
+}
+
+/// The unit at which a run ends that begins with a unit, and is to end by a time in nanoseconds or with the units.
+fn end_of(units: &[Unit], unit_time: u64, time: Option<u128>, first: usize) -> usize
+    requires few { length units.now ≤ 4194304 }
+    requires some { 1 ≤ unit_time }
+    requires fits { unit_time ≤ 360000 }
+    requires first { first < length units.now }
+    ensures end { IsEnd units.now unit_time time first result }
+    ensures after { first < result }
+    ensures within { result ≤ length units.now }
+{
+    match time {
+        Some(time) => group_from(units, unit_time, time, first),
+        None => units.len(),
+    }
+}
+
+/// Whether the end isn't after the beginning.
+fn is_reversed(from: u128, to: Option<u128>) -> bool
+    ensures { MatchBool result (IsReversed from to) (¬ IsReversed from to) }
+{
+    match to {
+        Some(to) => to <= from,
+        None => false,
+    }
+}
+
+/// The new run from a time on, up to another or the film's end, in nanoseconds: from the last group that begins at or before
+/// the first time, up to the first later group that begins at or after the second. None exactly where the film has ended at
+/// the first time, or the second isn't after it.
+pub fn run_between(film: &Film, from: u128, to: Option<u128>) -> Option<Run>
+    ensures asked { MatchOption result (HasNothing film.now from to) (IsAsked film.now from to) }
+    ensures run { IfSome result (IsFilmRun film.now) }
+{
+    law_film(film);
+    law_units(film);
+    if is_reversed(from, to) {
+        return None;
+    }
+    let time = picture_time(film);
+    let units = film.units.as_slice();
+    let first_unit = group_by(units, time, from)?;
+    let end_unit = end_of(units, time, to, first_unit);
+    Some(new_run(first_unit, end_unit))
+}
