@@ -13,3 +13,5 @@ pub mod FirstLemmas
 pub mod RoomLemmas
 pub mod OpenLemmas
 pub mod StandardLemmas
+pub mod SliceLemmas
+pub mod RefusalLemmas

@@ -14,3 +14,4 @@ pub mod Places
 pub mod Grammar
 pub mod Layout
 pub mod Standard
+pub mod Refusals

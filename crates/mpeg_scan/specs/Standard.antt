@@ -1,11 +1,12 @@
 -- The units of a film in the words of ISO/IEC 11172-2, over the start codes that stand in its bytes and nothing else. A
 -- word of it takes `Has`: that a code of a kind stands at a place.
-use Rattle.std.specs.Prelude.{ℕ, ◌+◌, ◌*◌, ◌/◌, ◌%◌, ◌<◌, ◌≤◌, ◌≡◌, ◌⊎◌, ◌↔◌, true, if◌then◌else◌, List, [], ◌∷◌, slice_index}
+use Rattle.std.specs.Prelude.{ℕ, ◌+◌, ◌*◌, ◌/◌, ◌%◌, ◌<◌, ◌≤◌, ◌≡◌, ◌⊎◌, ◌↔◌, true, if◌then◌else◌, List, [], ◌∷◌, ◌++◌, slice_index}
 use Rattle.mpeg_scan.specs.declared.codes.Code.{Code}
 use Rattle.mpeg_scan.specs.declared.units.Kind.{Kind}
 use Rattle.mpeg_scan.specs.declared.units.Kind.TheVariants.{I, P, B, D}
 use Rattle.mpeg_scan.specs.declared.units.Unit.{Unit as PictureUnit}
 use Rattle.mpeg_scan.specs.Places.{HasCode, StandsAt}
+use Rattle.mpeg_scan.specs.Words.{is_slice}
 
 -- ---- kinds of start codes (table 2-D.1)
 
@@ -110,3 +111,13 @@ ArePresented number group (unit ∷ units) =
 abbrev pub AreFalling : List Code → Type 0
 AreFalling [] = Unit {0}
 AreFalling (c ∷ past) = ((place kind : ℕ) → HasCode place kind past → place < c.place) × AreFalling past
+
+-- the places of the slices among these codes, which are given the latest first; the places are given in their order
+abbrev pub slice_places : List Code → List ℕ
+slice_places [] = []
+slice_places (c ∷ past) = if is_slice c.kind then slice_places past ++ c.place ∷ [] else slice_places past
+
+-- a place is among these
+abbrev pub IsAmong : ℕ → List ℕ → Type 0
+IsAmong place [] = ⊥
+IsAmong place (other ∷ others) = (other ≡ place) ⊎ IsAmong place others

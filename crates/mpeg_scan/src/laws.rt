@@ -1,11 +1,14 @@
-ghost use Rattle.std.specs.Prelude.{◌≡◌, ℕ, ◌+◌, ◌^◌, ◌<◌, ◌≤◌, ◌++◌, [], List, Some, length, true};
+ghost use Rattle.std.specs.Prelude.{◌≡◌, ◌↔◌, ℕ, ◌+◌, ◌^◌, ◌<◌, ◌≤◌, ◌++◌, [], List, Some, length, true};
 ghost use Rattle.mpeg_scan.specs.Codes.{codes_of, read};
 ghost use Rattle.mpeg_scan.specs.Counts.{AreNumbered};
 ghost use Rattle.mpeg_scan.specs.Faults.{first_fault};
 ghost use Rattle.mpeg_scan.specs.Films.{refusal, told_of};
 ghost use Rattle.mpeg_scan.specs.Grammar.{IsGrammatical};
 ghost use Rattle.mpeg_scan.specs.Layout.{AreInFilm, BeginsSequence, IsLaid, OfUnit};
-ghost use Rattle.mpeg_scan.specs.Standard.{AreFalling, ArePresented, IsUnitOf};
+ghost use Rattle.mpeg_scan.specs.Places.{StandsAt};
+ghost use Rattle.mpeg_scan.specs.Standard.{AreFalling, ArePresented, IsAmong, IsSliceKind, IsUnitOf};
+ghost use Rattle.mpeg_scan.specs.Standard.{StandsThere, slice_places};
+ghost use Rattle.mpeg_scan.specs.Refusals.{Tells};
 ghost use Rattle.mpeg_scan.specs.Tiles.{Tiles};
 ghost use Rattle.mpeg_scan.specs.Words.{pictures_of};
 
@@ -62,4 +65,22 @@ pub fn law_standard_units(film: &Film)
 /// The start codes of bytes are listed in their order, each once.
 pub fn law_codes_in_order()
     ensures { (bytes : List ℕ) → AreFalling (codes_of (read [] bytes)) }
+{}
+
+/// The places of a film's slices are those of the slice codes that stand in its bytes, in their order: a slice begins
+/// exactly where a slice code stands.
+pub fn law_slices(film: &Film)
+    ensures places { film.now.slice_starts.items ≡ slice_places (codes_of (read [] film.now.bytes.items)) }
+    ensures codes { (place : ℕ) → IsAmong place film.now.slice_starts.items
+        ↔ StandsThere (StandsAt film.now.bytes.items) place IsSliceKind }
+{
+    let _read = film.bytes.len();
+}
+
+/// What each refusal of a film says of its bytes: a start code of the kind that it speaks of stands at the place that it
+/// names; a header that is too short has the next code, or the film's end, inside it; and where there is no sequence
+/// header in front, the first code isn't one.
+pub fn law_refusals()
+    ensures { (bytes : List ℕ) (f : FilmFault) → refusal bytes ≡ Some f
+        → Tells (StandsAt bytes) (length bytes) f }
 {}

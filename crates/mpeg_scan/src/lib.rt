@@ -17,7 +17,10 @@ mod units;
 pub use faults::{FilmFault, ScanRefused};
 pub use films::{Film, scan, start_codes_stand};
 pub use found::Found;
-pub use laws::{law_codes_in_order, law_film, law_refused_early, law_standard_units, law_units};
+pub use laws::{
+    law_codes_in_order, law_film, law_refusals, law_refused_early, law_slices, law_standard_units,
+    law_units,
+};
 pub use scanner::{Ending, Scanner};
 pub use units::{Kind, Unit, picture_units};
 

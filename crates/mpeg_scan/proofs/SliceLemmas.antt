@@ -1,0 +1,138 @@
+-- The slices of an accepted film are those of its slice codes, in their order.
+use Rattle.std.proofs.Common.{ℕ, Bool, true, false, cond, eqb, ltb, leb, ◌&&◌, ◌+◌, ◌<◌, ◌≡◌, ◌⊎◌, ◌↔◌, List, [], ◌∷◌, ◌++◌, None, length, sym, ◌∙◌, ap, refl, subst, inl, inr, arith}
+use Rattle.std.proofs.lemmas.Bool.{cases_Bool, eqb-true, eq-eqb, ne_eqb, ltb-true, ltb-false, true≢false, false≢true, and_parts, and_from, leb-true, le-leb}
+use Rattle.std.proofs.lemmas.List.{append-nil}
+use Rattle.mpeg_scan.specs.declared.codes.Code.{Code}
+use Rattle.mpeg_scan.specs.declared.units.Unit.{Unit as PictureUnit}
+use Rattle.mpeg_scan.specs.Codes.{read, codes_of}
+use Rattle.mpeg_scan.specs.Words.{is_head, is_slice, slice_of, slices_of, tally_of}
+use Rattle.mpeg_scan.specs.Faults.{end_fault, first_fault, last_fault, latest_fault}
+use Rattle.mpeg_scan.specs.Calls.{head_call, slice_call, unit_call, calls_at, told, unit_at, unit_end}
+use Rattle.mpeg_scan.specs.Films.{IsFilm, slices_in}
+use Rattle.mpeg_scan.specs.Places.{HasCode, StandsAt}
+use Rattle.mpeg_scan.specs.Standard.{IsAmong, IsSliceKind, StandsThere, slice_places}
+use Rattle.mpeg_scan.proofs.StepLemmas.{otherwise-second}
+use Rattle.mpeg_scan.proofs.TileLemmas.{accepted-whole, ended-none, slice-apart, told-cons, told-nil}
+use Rattle.mpeg_scan.proofs.FilmLemmas.{slices_in-append}
+use Rattle.mpeg_scan.proofs.PlaceLemmas.{codes-stand}
+
+-- the slice that no call has told of yet, where the latest unit has so many
+abbrev pending : ℕ → ℕ → List ℕ
+pending n place = cond (eqb n 0) [] (place ∷ [])
+
+pending-some : (n place : ℕ) → 0 < n → pending n place ≡ place ∷ []
+pending-some n place some = ap (λ b. cond b [] (place ∷ [])) (ne_eqb n 0 (λ e. absurd (omega (arith, e, some))))
+
+none-count : (n : ℕ) → eqb n 0 ≡ true → ltb 0 n ≡ false
+none-count n e = elim (cases_Bool (ltb 0 n)) [
+  | inl t ↦ absurd (omega (arith, ltb-true 0 n t, eqb-true n 0 e))
+  | inr f ↦ f
+]
+
+some-count : (n : ℕ) → eqb n 0 ≡ false → ltb 0 n ≡ true
+some-count n e = elim (cases_Bool (ltb 0 n)) [
+  | inl t ↦ t
+  | inr f ↦ absurd (let none : n ≡ 0 = omega (arith, ltb-false 0 n f) in true≢false (sym (eq-eqb n 0 none) ∙ e))
+]
+
+-- one code more, over plain values: s, h: it is a slice, a head code; e, q: the unit has no slice, or some, so far
+raw-slices : (s h e q : Bool) (n slice at a b : ℕ) (unit : PictureUnit) (before places : List ℕ) → (s ≡ true → h ≡ false) → eqb n 0 ≡ e → (e ≡ true → q ≡ false) → (e ≡ false → q ≡ true)
+    → before ++ cond e [] (slice ∷ []) ≡ places
+    → (before ++ slices_in (cond s (cond e (head_call a b ∷ []) (slice_call slice at ∷ [])) (cond (h && q) (slice_call slice at ∷ unit_call unit ∷ []) [])))
+    ++ pending (cond h 0 (cond s (n + 1) n)) (cond s at slice) ≡ cond s (places ++ at ∷ []) places
+raw-slices true true e q n slice at a b unit before places apart en none some is = absurd (true≢false (apart refl))
+raw-slices true false true q n slice at a b unit before places apart en none some is =
+    ap (λ l. (before ++ []) ++ l) (pending-some (n + 1) at (omega arith)) ∙ ap (λ l. l ++ at ∷ []) is
+raw-slices true false false q n slice at a b unit before places apart en none some is =
+    ap (λ l. (before ++ slice ∷ []) ++ l) (pending-some (n + 1) at (omega arith)) ∙ ap (λ l. l ++ at ∷ []) is
+raw-slices false true true true n slice at a b unit before places apart en none some is = absurd (true≢false (none refl))
+raw-slices false true true false n slice at a b unit before places apart en none some is = append-nil (before ++ []) ∙ is
+raw-slices false true false true n slice at a b unit before places apart en none some is = append-nil (before ++ slice ∷ []) ∙ is
+raw-slices false true false false n slice at a b unit before places apart en none some is = absurd (false≢true (some refl))
+raw-slices false false e q n slice at a b unit before places apart en none some is =
+    ap (λ v. (before ++ []) ++ cond v [] (slice ∷ [])) en ∙ ap (λ l. l ++ cond e [] (slice ∷ [])) (append-nil before) ∙ is
+
+step-slices : (c : Code) (past : List Code) → slices_in (told past) ++ pending (slices_of past) (slice_of past) ≡ slice_places past
+    → (slices_in (told past) ++ slices_in (calls_at (tally_of past) c.place c.kind)) ++ pending (slices_of (c ∷ past)) (slice_of (c ∷ past)) ≡ slice_places (c ∷ past)
+unfolding calls_at
+step-slices c past is =
+    let n = slices_of past in
+    raw-slices (is_slice c.kind) (is_head c.kind) (eqb n 0) (ltb 0 n) n (slice_of past) c.place (tally_of past).unit c.place (unit_at (tally_of past) c.place) (slices_in (told past)) (slice_places past)
+    (slice-apart c.kind) refl (none-count n) (some-count n) is
+
+told-slices : (past : List Code) → slices_in (told past) ++ pending (slices_of past) (slice_of past) ≡ slice_places past
+told-slices [] = ap (λ l. slices_in l ++ []) told-nil
+told-slices (c ∷ past) =
+    ap (λ l. l ++ pending (slices_of (c ∷ past)) (slice_of (c ∷ past))) (ap slices_in (told-cons c past) ∙ slices_in-append (told past) (calls_at (tally_of past) c.place c.kind))
+    ∙ step-slices c past (told-slices past)
+
+whole-slices : (past : List Code) (n : ℕ) → end_fault past n ≡ None → slices_in (told past ++ unit_end (tally_of past) n) ≡ slice_places past
+unfolding end_fault
+whole-slices past n ended =
+    let some = ended-none (tally_of past) (otherwise-second (latest_fault past n) (last_fault (tally_of past)) ended) in
+    slices_in-append (told past) (unit_end (tally_of past) n) ∙ ap (λ l. slices_in (told past) ++ l) (sym (pending-some (slices_of past) (slice_of past) some)) ∙ told-slices past
+
+pub film-slices : (bytes : List ℕ) (rate : ℕ) (units : List PictureUnit) (starts : List ℕ) → IsFilm bytes rate units starts → starts ≡ slice_places (codes_of (read [] bytes))
+film-slices bytes rate units starts film =
+    let r = read [] bytes in
+    film.slices ∙ whole-slices (codes_of r) (length r) (otherwise-second (first_fault (codes_of r)) (end_fault (codes_of r) (length r)) (accepted-whole r film.accepted))
+
+-- ---- a place is among them exactly where a slice code stands there
+
+among-left : (place : ℕ) (xs ys : List ℕ) → IsAmong place xs → IsAmong place (xs ++ ys)
+among-left place [] ys in_ = absurd in_
+among-left place (x ∷ xs) ys (inl e) = inl e
+among-left place (x ∷ xs) ys (inr r) = inr (among-left place xs ys r)
+
+among-last : (place last : ℕ) (xs : List ℕ) → last ≡ place → IsAmong place (xs ++ last ∷ [])
+among-last place last [] e = inl e
+among-last place last (x ∷ xs) e = inr (among-last place last xs e)
+
+among-parts : (place last : ℕ) (xs : List ℕ) → IsAmong place (xs ++ last ∷ []) → IsAmong place xs ⊎ (last ≡ place)
+among-parts place last [] (inl e) = inr e
+among-parts place last [] (inr r) = absurd r
+among-parts place last (x ∷ xs) (inl e) = inl (inl e)
+among-parts place last (x ∷ xs) (inr r) = elim (among-parts place last xs r) [
+  | inl a ↦ inl (inr a)
+  | inr e ↦ inr e
+]
+
+slice-kind : (kind : ℕ) → is_slice kind ≡ true → IsSliceKind kind
+slice-kind kind e = let parts = and_parts (leb 1 kind) (leb kind 0xaf) e in (leb-true 1 kind parts.0, leb-true kind 0xaf parts.1)
+
+kind-slice : (kind : ℕ) → IsSliceKind kind → is_slice kind ≡ true
+kind-slice kind is = and_from (leb 1 kind) (leb kind 0xaf) (le-leb 1 kind is.0) (le-leb kind 0xaf is.1)
+
+abbrev ThereIn : List Code → ℕ → Type 0
+ThereIn past place = (kind : ℕ) × (HasCode place kind past × IsSliceKind kind)
+
+there-by : (b : Bool) (c : Code) (past : List Code) (place : ℕ) (places : List ℕ) → is_slice c.kind ≡ b → (IsAmong place places → ThereIn past place)
+    → IsAmong place (cond b (places ++ c.place ∷ []) places) → ThereIn (c ∷ past) place
+there-by false c past place places is older among = let it = older among in (it.0, (inr it.1.0, it.1.1))
+there-by true c past place places is older among = elim (among-parts place c.place places among) [
+  | inl a ↦ let it = older a in (it.0, (inr it.1.0, it.1.1))
+  | inr e ↦ (c.kind, (inl (e, refl), slice-kind c.kind is))
+]
+
+among-there : (past : List Code) (place : ℕ) → IsAmong place (slice_places past) → ThereIn past place
+among-there [] place among = absurd among
+among-there (c ∷ past) place among = there-by (is_slice c.kind) c past place (slice_places past) refl (among-there past place) among
+
+older-among : (b : Bool) (place last : ℕ) (places : List ℕ) → IsAmong place places → IsAmong place (cond b (places ++ last ∷ []) places)
+older-among true place last places among = among-left place places (last ∷ []) among
+older-among false place last places among = among
+
+there-among : (past : List Code) (place kind : ℕ) → HasCode place kind past → IsSliceKind kind → IsAmong place (slice_places past)
+there-among [] place kind has is = absurd has
+there-among (c ∷ past) place kind (inl new) is =
+    let slice : is_slice c.kind ≡ true = ap is_slice new.1 ∙ kind-slice kind is in
+    subst (λ b. IsAmong place (cond b (slice_places past ++ c.place ∷ []) (slice_places past))) (sym slice) (among-last place c.place (slice_places past) new.0)
+there-among (c ∷ past) place kind (inr old) is = older-among (is_slice c.kind) place c.place (slice_places past) (there-among past place kind old is)
+
+pub film-slice_codes : (bytes : List ℕ) (rate : ℕ) (units : List PictureUnit) (starts : List ℕ) → IsFilm bytes rate units starts → (place : ℕ) → IsAmong place starts ↔ StandsThere (StandsAt bytes) place IsSliceKind
+film-slice_codes bytes rate units starts film place =
+    let past = codes_of (read [] bytes) in
+    let same = film-slices bytes rate units starts film in (
+      λ among. let it = among-there past place (subst (λ l. IsAmong place l) same among) in (it.0, ((codes-stand bytes place it.0).0 it.1.0, it.1.1)),
+      λ it. subst (λ l. IsAmong place l) (sym same) (there-among past place it.0 ((codes-stand bytes place it.0).1 it.1.0) it.1.1),
+    )
