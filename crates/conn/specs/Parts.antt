@@ -1,9 +1,15 @@
 -- What a worker does with its part of a gate: one report for each connection that was given, each given back.
-use Rattle.std.specs.Prelude.{◌≡◌, ℕ, ◌<◌, List, [], ◌∷◌, ◌++◌, length, map, slice_index_or, Option, Some, None}
-use Rattle.vod_base.specs.Gates.{Content}
+use Rattle.std.specs.Prelude.{◌≡◌, ℕ, ◌<◌, ◌≤◌, List, [], ◌∷◌, ◌++◌, length, map, slice_index_or, Option, Some, None, IfSome}
+use Rattle.vod_base.specs.Outside.{HasRisen}
+use Rattle.vod_base.specs.Gates.{Content, NoMore, Failed}
 use Rattle.admission.specs.Makers.{Placed}
+use Rattle.film_frames.specs.declared.stores.Stored.{Stored}
 use Rattle.session.specs.declared.notes.Receipt.{Receipt}
+use Rattle.session.specs.declared.settings.Settings.{Settings}
+use Rattle.station.specs.Seats.{Sitting, IsSameSeat}
 use Rattle.conn.specs.declared.reports.ConnReport.{ConnReport}
+use Rattle.conn.specs.declared.reports.PartReport.{PartReport}
+use Rattle.conn.specs.declared.reports.PartEnd.TheVariants.{AllTaken, GateFault}
 use Rattle.conn.specs.Keeping.{Closed, course_from, entry_receipts, receipt_for}
 use Rattle.conn.specs.Words.{words_of}
 
@@ -42,3 +48,33 @@ pub record HasServed (mine : List Placed) (reports : List ConnReport) (new : Lis
   pub mine_is : new ≡ mine ++ made
   pub receipts_are : entries_told reports ≡ map receipt_for made
   pub course_is : course_from Closed made ≡ Closed
+
+-- a part of a gate: its count of faults, and what it tells
+pub record Outlet : Type 0 where
+  pub faults : ℕ
+  pub told : Option Content
+
+abbrev pub outlet : ℕ → Option Content → Outlet
+outlet faults told = record { faults = faults; told = told }
+
+-- what a worker is given to serve with: the films, their settings, the seed of all words, and its own number
+pub record Duty : Type 0 where
+  pub films : List Stored
+  pub settings : Settings
+  pub seed : List ℕ
+  pub worker : ℕ
+
+abbrev pub duty : List Stored → Settings → List ℕ → ℕ → Duty
+duty films settings seed worker = record { films = films; settings = settings; seed = seed; worker = worker }
+
+-- all that a worker's part of a gate brings: what it leaves of the seat and of the part, and its report
+pub record HasServedPart (duty : Duty) (old_seat new_seat : Sitting) (old new : Outlet) (result : PartReport) : Type 0 where
+  pub seat : IsSameSeat old_seat new_seat
+  pub entries : HasServed old_seat.mine result.reports.items new_seat.mine
+  pub reports : AreOf duty.seed duty.worker result.reports.items
+  pub served : IsServed old.told new.told (length result.reports.items)
+  -- a part failed only where its count rose; the last take is told
+  pub count : old.faults ≤ new.faults
+  pub all : result.end ≡ AllTaken → IfSome new.told (λ c. c.own.last ≡ NoMore)
+  pub fault : result.end ≡ GateFault → HasRisen old.faults new.faults
+  pub failed : result.end ≡ GateFault → IfSome new.told (λ c. c.own.last ≡ Failed)

@@ -1,7 +1,7 @@
 use Rattle.std.proofs.Common.{◌≤◌, length}
 use Rattle.station.specs.Seats.{IsSameSeat}
 use Rattle.conn.specs.Parts.{AreOf, HasServed, IsServed}
-use Rattle.conn.proofs.parts.serve_part.Given as goal
+use Rattle.conn.proofs.parts.serve_all.Given as goal
 
 abbrev pub invariant-connections : goal.invariant-connections
 invariant-connections g l =
