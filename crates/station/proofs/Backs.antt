@@ -1,19 +1,14 @@
 -- A seat that took the turn and gave it back.
-use Rattle.std.proofs.Common.{◌≡◌, ◌≢◌, ◌<◌, ◌≤◌, ◌+◌, ◌^◌, min, ℕ, zero, suc, List, [], ◌∷◌, ◌++◌, length, get_or, All, Some, arith, refl, sym, ap, subst, ◌∙◌, Result, Ok, Err, IfOk, IfErr}
+use Rattle.std.proofs.Common.{◌≡◌, ℕ, List, [], ◌∷◌, refl, sym, ap, subst, ◌∙◌, Result, Ok, Err, IfOk, IfErr}
 use mathlib.Core.List.{IsPrefix}
-use Rattle.std.proofs.lemmas.List.{get_or_push, length-append}
-use Rattle.std.proofs.lemmas.List.Elements.{All-push, All-weaker}
 use Rattle.plan_cert.specs.declared.Segment.{Segment}
-use Rattle.plan_cert.specs.Slots.{total_bytes}
-use Rattle.slot_calendar.specs.declared.profiles.CapStep.{CapStep}
 use Rattle.admission.specs.declared.entries.Answer.{Answer}
 use Rattle.admission.specs.declared.entries.Answer.TheVariants.{Admitted, Looked, Overflow}
 use Rattle.admission.specs.declared.entries.Command.{Command}
-use Rattle.admission.specs.declared.entries.Command.TheVariants.{Play, Halt, Look}
 use Rattle.admission.specs.declared.entries.Entry.{Entry}
 use Rattle.admission.specs.declared.entries.Full.{Full}
 use Rattle.admission.specs.Books.{Journal}
-use Rattle.admission.specs.Makers.{Placed, made_by}
+use Rattle.admission.specs.Makers.{made_by}
 use Rattle.turnstile.specs.declared.view.Terms.{Terms}
 use Rattle.turnstile.specs.Passes.{Standing}
 use Rattle.turnstile.proofs.Prefixes.{prefix_self, prefix_trans}

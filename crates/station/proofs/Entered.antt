@@ -1,26 +1,24 @@
 -- What a call at the book leaves of the seat that made it.
-use Rattle.std.proofs.Common.{◌≡◌, ◌≢◌, ◌<◌, ◌≤◌, ◌+◌, ◌^◌, min, ℕ, List, [], ◌∷◌, ◌++◌, length, get_or, All, Some, arith, refl, sym, ap, subst, ◌∙◌, Result, Ok, Err, IfOk, OnErr, true, false, true≢false}
+use Rattle.std.proofs.Common.{◌≡◌, ℕ, List, [], ◌∷◌, ◌++◌, length, get_or, arith, refl, sym, ap, subst, ◌∙◌, Result, Ok, Err, IfOk, OnErr, false, true≢false}
 use mathlib.Core.List.{IsPrefix}
-use Rattle.std.proofs.lemmas.List.{get_or_push, length-append}
 use Rattle.plan_cert.specs.declared.Segment.{Segment}
-use Rattle.plan_cert.specs.Slots.{total_bytes}
 use Rattle.slot_calendar.specs.declared.profiles.CapStep.{CapStep}
 use Rattle.admission.specs.declared.entries.Answer.{Answer}
-use Rattle.admission.specs.declared.entries.Answer.TheVariants.{Admitted, Halted, Overflow, Looked}
+use Rattle.admission.specs.declared.entries.Answer.TheVariants.{Overflow}
 use Rattle.admission.specs.declared.entries.Command.{Command}
-use Rattle.admission.specs.declared.entries.Command.TheVariants.{Play, Halt, Look}
+use Rattle.admission.specs.declared.entries.Command.TheVariants.{Halt}
 use Rattle.admission.specs.declared.entries.Entry.{Entry}
 use Rattle.admission.specs.Machine.{IsAnswer}
 use Rattle.admission.specs.declared.entries.Noted.{Noted}
-use Rattle.admission.specs.Books.{IsNoted, Journal, places_taken}
-use Rattle.admission.specs.Histories.{Halts, IsLegal, is_halt, live, state_after}
-use Rattle.admission.specs.Makers.{AreHaltsOwn, IsOpenAmong, Placed, made_by}
+use Rattle.admission.specs.Books.{IsNoted, Journal}
+use Rattle.admission.specs.Histories.{IsLegal, is_halt, live, state_after}
+use Rattle.admission.specs.Makers.{AreHaltsOwn, Placed, made_by}
 use Rattle.turnstile.proofs.Prefixes.{made_own}
 use Rattle.station.specs.declared.answers.PlayRefused.{PlayRefused}
 use Rattle.station.specs.declared.answers.PlayRefused.TheVariants.{JournalFull, Overflow as PlayOverflow}
 use Rattle.station.specs.Answers.{IsFull, IsRefused, Made}
 use Rattle.station.specs.Ledgers.{IsEntered, IsFullFor, IsPlayRefused, play_of}
-use Rattle.station.specs.Seats.{IsSameSeat, Sitting}
+use Rattle.station.specs.Seats.{Sitting}
 use Rattle.station.proofs.Halts.{halts-push}
 
 -- an entry keeps each play halted by its own maker

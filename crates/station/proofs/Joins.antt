@@ -1,11 +1,11 @@
 -- A seat to which another was joined.
-use Rattle.std.proofs.Common.{◌≡◌, List, [], ◌∷◌, ◌++◌, length, ltb, cond, Bool, true, false, sym, ap, subst, ◌∙◌}
+use Rattle.std.proofs.Common.{◌≡◌, List, length, ltb, cond, Bool, true, false, sym, subst}
 use Rattle.slot_calendar.specs.declared.profiles.CapStep.{CapStep}
 use Rattle.admission.specs.declared.entries.Entry.{Entry}
 use Rattle.admission.specs.Histories.{IsLegal}
 use Rattle.admission.specs.Makers.{AreHaltsOwn, made_by}
-use Rattle.turnstile.specs.Passes.{Standing, longer, after_join as after}
-use Rattle.station.specs.Seats.{IsSeat, Sitting}
+use Rattle.turnstile.specs.Passes.{Standing, after_join as after}
+use Rattle.station.specs.Seats.{IsSeat}
 use Rattle.station.proofs.Backs.{seat_of}
 
 either_of : (P : List Entry → Type 0) (b : Bool) (xs ys : List Entry) → P xs → P ys → P (cond b ys xs)

@@ -1,12 +1,9 @@
 -- What a station answers.
-use Rattle.std.specs.Prelude.{◌≡◌, ℕ, ◌+◌, ◌<◌, ◌≤◌, ◌^◌, min, max, List, [], ◌∷◌, ◌++◌, length}
+use Rattle.std.specs.Prelude.{◌≡◌, ℕ, ◌+◌, ◌<◌, ◌≤◌, List, [], ◌∷◌, ◌++◌, length}
 use Rattle.plan_cert.specs.declared.Segment.{Segment}
-use Rattle.slot_calendar.specs.declared.profiles.CapStep.{CapStep}
-use Rattle.slot_calendar.specs.Calendars.{HasRoom, IsFirstOverflow}
 use Rattle.admission.specs.declared.entries.Answer.{Answer}
-use Rattle.admission.specs.declared.entries.Answer.TheVariants.{Admitted, Looked, Overflow}
+use Rattle.admission.specs.declared.entries.Answer.TheVariants.{Overflow}
 use Rattle.admission.specs.declared.entries.Command.{Command}
-use Rattle.admission.specs.declared.entries.Command.TheVariants.{Look, Play}
 use Rattle.admission.specs.declared.entries.Entry.{Entry}
 use Rattle.admission.specs.Machine.{IsAnswer}
 use Rattle.admission.specs.Books.{places_taken}

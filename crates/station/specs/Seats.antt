@@ -1,12 +1,9 @@
 -- What contracts see of a station and of its seats.
-use Rattle.std.specs.Prelude.{◌≡◌, ℕ, ◌+◌, ◌<◌, ◌≤◌, List, [], ◌∷◌, ◌++◌, length, slice_index_or, if◌then◌else◌, ltb}
+use Rattle.std.specs.Prelude.{◌≡◌, ℕ, ◌+◌, ◌<◌, ◌≤◌, List, [], ◌∷◌, ◌++◌, length, slice_index_or}
 use mathlib.Core.List.{IsPrefix}
 use Rattle.atomic_table.specs.Seated.{TableId}
 use Rattle.slot_calendar.specs.declared.profiles.CapStep.{CapStep}
-use Rattle.admission.specs.declared.entries.Answer.{Answer}
-use Rattle.admission.specs.declared.entries.Command.{Command}
 use Rattle.admission.specs.declared.entries.Entry.{Entry}
-use Rattle.admission.specs.Books.{places_taken}
 use Rattle.admission.specs.Histories.{IsLegal}
 use Rattle.admission.specs.Makers.{AreHaltsOwn, Placed, made_by}
 use Rattle.turnstile.specs.declared.view.Joined.{Joined}

@@ -1,20 +1,20 @@
 -- What the last state tells the first pass.
-use Rattle.std.proofs.Common.{◌≡◌, ◌≢◌, ◌⊎◌, ℕ, zero, suc, ◌+◌, ◌<◌, ◌≤◌, List, [], ◌∷◌, ◌++◌, length, get_or, Option, Some, None, false, refl, ap, sym, ◌∙◌, subst, ⊎_elim, inl, inr, arith}
+use Rattle.std.proofs.Common.{◌≡◌, ◌≢◌, ℕ, zero, suc, ◌<◌, ◌≤◌, List, [], ◌∷◌, length, get_or, Option, Some, false, refl, ap, sym, ◌∙◌, subst, ⊎_elim, inl, inr, arith}
 use mathlib.Core.Logic.{dite}
 use mathlib.Core.List.{IsPrefix}
-use mathlib.Core.Option.{some, none, some-injective, some-ne-none}
+use mathlib.Core.Option.{some}
 use native.Mathlib.Decide.{ℕ_discrete}
 use lib.ListN.{get_elem?}
 use Rattle.atomic_table.specs.Table.{State, Final, Seen}
 use Rattle.atomic_table.specs.Seated.{TableId}
 use Rattle.admission.specs.declared.entries.Entry.{Entry}
 use Rattle.turnstile.specs.declared.view.Joined.{Joined}
-use Rattle.turnstile.specs.declared.view.Stage.TheVariants.{Idle, Holds}
+use Rattle.turnstile.specs.declared.view.Stage.TheVariants.{Idle}
 use Rattle.turnstile.specs.declared.view.Terms.{Terms}
 use Rattle.turnstile.specs.declared.view.View.{View}
 use Rattle.admission.specs.Makers.{made_by}
-use Rattle.turnstile.specs.Turns.{IsLive, Fits, IsAway, IsHome, IsRuled}
-use Rattle.turnstile.specs.Passes.{Standing, IsJoined, AllJoined, IsWhole}
+use Rattle.turnstile.specs.Turns.{IsLive, IsAway, IsHome, IsRuled}
+use Rattle.turnstile.specs.Passes.{IsJoined, IsWhole}
 use Rattle.turnstile.specs.Taken.{stands_as}
 use Rattle.turnstile.proofs.Turning.{idle_free, one_at}
 

@@ -1,26 +1,24 @@
 -- Passes that are split and joined keep the rule; the first state has it, and what the last one tells.
-use Rattle.std.proofs.Common.{◌≡◌, ◌≢◌, ◌⊎◌, ℕ, zero, suc, ◌+◌, ◌%◌, ◌^◌, ◌<◌, ◌≤◌, List, [], ◌∷◌, ◌++◌, length, set, get_or, Option, Some, None, Bool, true, false, refl, ap, sym, ◌∙◌, subst, ⊎_elim, inl, inr, arith, cond, ltb, length-set, true≢false}
+use Rattle.std.proofs.Common.{◌≡◌, ◌≢◌, ◌⊎◌, ℕ, zero, suc, ◌+◌, ◌^◌, ◌<◌, ◌≤◌, List, [], ◌∷◌, ◌++◌, length, set, Option, Some, Bool, true, false, refl, ap, sym, ◌∙◌, subst, ⊎_elim, inl, inr, arith, cond, ltb, length-set, true≢false}
 use mathlib.Core.Logic.{dite}
 use mathlib.Core.List.{IsPrefix}
 use mathlib.Core.Option.{some, none, some-injective, some-ne-none}
 use mathlib.Core.Option as maybe
-use native.Mathlib.Decide.{ℕ_discrete, dec_le}
+use native.Mathlib.Decide.{dec_le}
 use lib.ListN.{get_elem?}
-use Rattle.std.proofs.lemmas.Bool.{lt-ltb, le-ltb, cases_lt}
-use Rattle.atomic_table.specs.Table.{State, Splits, Joins, opening, Final, Seen}
-use Rattle.atomic_table.proofs.Lists.{at_set, set_here, set_else, at_longer}
+use Rattle.std.proofs.lemmas.Bool.{lt-ltb, le-ltb}
+use Rattle.atomic_table.specs.Table.{State, Splits, Joins, opening}
+use Rattle.atomic_table.proofs.Lists.{at_set, set_else, at_longer}
 use Rattle.admission.specs.declared.entries.Entry.{Entry}
 use Rattle.turnstile.specs.declared.view.Joined.{Joined}
-use Rattle.admission.specs.Makers.{Placed}
-use Rattle.turnstile.specs.declared.view.Stage.{Stage}
-use Rattle.turnstile.specs.declared.view.Stage.TheVariants.{Idle, Waits, Holds}
+use Rattle.turnstile.specs.declared.view.Stage.TheVariants.{Idle}
 use Rattle.turnstile.specs.declared.view.Terms.{Terms}
 use Rattle.turnstile.specs.declared.view.View.{View}
 use Rattle.admission.specs.Makers.{made_by}
-use Rattle.turnstile.specs.Turns.{total, alive, queued, has_ticket, IsLive, IsTicket, InTurn, IsPast, Fits, Apart, IsAway, IsHome, IsRuled}
+use Rattle.turnstile.specs.Turns.{alive, queued, has_ticket, IsLive, IsPast, Fits, Apart, IsRuled}
 use Rattle.turnstile.specs.Passes.{longer}
 use Rattle.turnstile.specs.Steps.{shorter, beginner, splitter, newcomer, past_of, joiner, spent_view}
-use Rattle.turnstile.proofs.Prefixes.{prefix_self, prefix_trans, prefix_shorter, made_nothing, made_between}
+use Rattle.turnstile.proofs.Prefixes.{prefix_shorter, made_nothing, made_between}
 use Rattle.turnstile.proofs.Sums.{total_set, total_push}
 use Rattle.turnstile.proofs.Turning.{lives, waits_in, idle_free, Free, one_at, at_inside, live_set, place_other}
 use Rattle.turnstile.proofs.Turning as step

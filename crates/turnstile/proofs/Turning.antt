@@ -1,14 +1,14 @@
 -- Each kind of step keeps the rule.
-use Rattle.std.proofs.Common.{◌≡◌, ◌≢◌, ◌⊎◌, ℕ, zero, suc, ◌+◌, ◌%◌, ◌^◌, ◌<◌, ◌≤◌, List, [], ◌∷◌, ◌++◌, length, set, get_or, Option, Some, None, Bool, true, false, refl, ap, sym, ◌∙◌, subst, ⊎_elim, inl, inr, arith, cond, eqb, length-append}
+use Rattle.std.proofs.Common.{◌≡◌, ◌≢◌, ◌⊎◌, ℕ, zero, suc, ◌+◌, ◌%◌, ◌^◌, ◌<◌, ◌≤◌, List, [], ◌∷◌, ◌++◌, length, set, get_or, Option, Some, Bool, false, refl, ap, sym, ◌∙◌, subst, ⊎_elim, inl, inr, arith, cond, length-append}
 use mathlib.Core.Logic.{dite}
 use mathlib.Core.List.{IsPrefix}
 use mathlib.Core.Option.{some, none, some-injective, some-ne-none}
 use mathlib.Core.Option as maybe
-use native.Mathlib.Decide.{ℕ_discrete, dec_le}
+use native.Mathlib.Decide.{ℕ_discrete}
 use lib.ListN.{get_elem?}
 use lib.Seq.{set-get_or}
-use Rattle.atomic_table.specs.Table.{State, Me, put_back, rest, keeps, takes, gives, stepped, Allows, Splits, Joins, opening}
-use Rattle.atomic_table.proofs.Lists.{at_set, set_here, set_else, set_again, at_snoc, at_longer, one_turn}
+use Rattle.atomic_table.specs.Table.{State, Me, put_back, rest, keeps, takes, gives, Allows}
+use Rattle.atomic_table.proofs.Lists.{at_set, set_here, set_else, set_again, one_turn}
 use Rattle.admission.specs.declared.entries.Entry.{Entry}
 use Rattle.turnstile.specs.declared.view.Joined.{Joined}
 use Rattle.turnstile.specs.declared.view.Stage.{Stage}
@@ -16,11 +16,10 @@ use Rattle.turnstile.specs.declared.view.Stage.TheVariants.{Idle, Waits, Holds}
 use Rattle.turnstile.specs.declared.view.Terms.{Terms}
 use Rattle.turnstile.specs.declared.view.View.{View}
 use Rattle.admission.specs.Makers.{made_by}
-use Rattle.turnstile.specs.Turns.{total, alive, queued, has_ticket, IsLive, IsTicket, InTurn, IsPast, Fits, Apart, IsAway, IsHome, IsRuled}
-use Rattle.turnstile.specs.Passes.{longer}
-use Rattle.turnstile.specs.Steps.{shorter, beginner, splitter, newcomer, past_of, joiner, spent_view, Knows, Took, listed, Drew, Left, Told, Looked, Raised}
-use Rattle.turnstile.proofs.Prefixes.{prefix_self, prefix_trans, prefix_longer, prefix_shorter, made_other, made_own, made_nothing}
-use Rattle.turnstile.proofs.Sums.{total_set, total_push, total_at, queued_total}
+use Rattle.turnstile.specs.Turns.{total, alive, queued, has_ticket, IsLive, IsTicket, InTurn, Fits, Apart, IsAway, IsHome, IsRuled}
+use Rattle.turnstile.specs.Steps.{Knows, Took, listed}
+use Rattle.turnstile.proofs.Prefixes.{prefix_self, prefix_trans, prefix_longer, made_other}
+use Rattle.turnstile.proofs.Sums.{total_set, queued_total}
 
 pub lives : (v : View) → v.spent ≡ false → alive v ≡ 1
 lives v e = ap (λ (b : Bool). cond b 0 1) e

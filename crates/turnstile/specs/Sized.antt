@@ -1,5 +1,5 @@
 -- A seat at the table of a turnstile.
-use Rattle.std.specs.Prelude.{◌≡◌, false, List, [], Option}
+use Rattle.std.specs.Prelude.{◌≡◌, false, [], Option}
 use Rattle.atomic_table.specs.Table.{Me}
 use Rattle.atomic_table.specs.Seated.{TableId}
 use Rattle.atomic_table.specs.declared.shared.Seat.{Seat}

@@ -1,5 +1,5 @@
 -- What each kind of step tells its pass.
-use Rattle.std.specs.Prelude.{◌≡◌, ◌≢◌, ◌⊎◌, ℕ, ◌+◌, ◌%◌, ◌^◌, ◌<◌, Bool, true, false, List, [], ◌∷◌, ◌++◌, length, Option, Some, None, if◌then◌else◌, ltb}
+use Rattle.std.specs.Prelude.{◌≡◌, ◌≢◌, ℕ, ◌+◌, ◌%◌, ◌^◌, true, false, List, [], ◌∷◌, ◌++◌, length, Option, Some, None, if◌then◌else◌, ltb}
 use mathlib.Core.List.{IsPrefix}
 use Rattle.atomic_table.specs.Table.{Me}
 use Rattle.admission.specs.declared.entries.Entry.{Entry}

@@ -1,5 +1,5 @@
 -- A pass and its seat, while it rests and while it has the turn.
-use Rattle.std.specs.Prelude.{◌≡◌, ℕ, Option, None, List, [], ◌∷◌, length, false}
+use Rattle.std.specs.Prelude.{◌≡◌, ℕ, Option, None, length, false}
 use Rattle.atomic_table.specs.Seated.{TableId}
 use Rattle.atomic_table.specs.declared.shared.Seat.{Seat}
 use Rattle.turnstile.specs.declared.view.View.{View}

@@ -1,4 +1,4 @@
-use Rattle.std.proofs.Common.{rules, arith, ap, ◌∙◌}
+use Rattle.std.proofs.Common.{arith}
 use Rattle.turnstile.proofs.Turning.{tells}
 use Rattle.turnstile.proofs.steps.tell.Goals as goal
 

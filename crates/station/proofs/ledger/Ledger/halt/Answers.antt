@@ -1,4 +1,4 @@
-use Rattle.std.proofs.Common.{◌≡◌, ℕ, refl, sym, ap, subst, ◌∙◌, get_or}
+use Rattle.std.proofs.Common.{ℕ, sym, ap, subst, ◌∙◌, get_or}
 use Rattle.admission.specs.Books.{Journal}
 use Rattle.admission.specs.declared.entries.Command.{Command}
 use Rattle.admission.specs.declared.entries.Command.TheVariants.{Halt, Look, Play}

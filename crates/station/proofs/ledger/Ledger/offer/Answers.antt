@@ -1,4 +1,4 @@
-use Rattle.std.proofs.Common.{rules, arith, ◌≡◌, ◌≤◌, ◌+◌, ◌^◌, ℕ, List, length, max, min, take, ap, sym, subst, ◌∙◌}
+use Rattle.std.proofs.Common.{arith, ◌≡◌, ◌≤◌, ◌+◌, ℕ, List, length, max, ap, sym, subst, ◌∙◌}
 use Rattle.std.proofs.lemmas.List.{take_all}
 use Rattle.slot_calendar.specs.Plays.{booked_by}
 use Rattle.slot_calendar.specs.Profiles.{capacity_at}

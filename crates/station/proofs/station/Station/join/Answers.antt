@@ -1,4 +1,4 @@
-use Rattle.std.proofs.Common.{◌≡◌, ap, ◌∙◌, false}
+use Rattle.std.proofs.Common.{ap, ◌∙◌}
 use Rattle.turnstile.specs.Passes.{Standing}
 use Rattle.turnstile.specs.declared.view.Terms.{Terms}
 use Rattle.station.proofs.Joins.{joined}

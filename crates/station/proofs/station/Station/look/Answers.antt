@@ -1,15 +1,14 @@
-use Rattle.std.proofs.Common.{◌≡◌, ℕ, ap, sym, ◌∙◌, subst, IfOk, IfErr}
+use Rattle.std.proofs.Common.{◌≡◌, ap, sym, ◌∙◌, subst, IfOk, IfErr}
 use Rattle.std.proofs.lemmas.Result.{IfErr-weaker, IfOk-weaker}
 use Rattle.admission.specs.Books.{Journal}
-use Rattle.admission.specs.Makers.{IsOpenAmong, made_by}
-use Rattle.admission.specs.declared.entries.Answer.TheVariants.{Admitted, Halted, Looked}
-use Rattle.admission.specs.declared.entries.Command.TheVariants.{Halt}
+use Rattle.admission.specs.Makers.{made_by}
+use Rattle.admission.specs.declared.entries.Answer.TheVariants.{Looked}
 use Rattle.turnstile.specs.Passes.{Standing}
-use Rattle.station.specs.Answers.{IsFull, IsRefused, Made}
-use Rattle.station.specs.Ledgers.{IsEntered, IsFullFor, IsPlayRefused, look_at, play_of}
+use Rattle.station.specs.Answers.{IsFull, Made}
+use Rattle.station.specs.Ledgers.{IsEntered, IsFullFor, look_at}
 use Rattle.station.specs.Seats.{IsSameSeat, Sitting}
-use Rattle.station.proofs.Entered.{IsAt, full_for, made, refused_for, seat_after}
-use Rattle.station.proofs.Backs.{back_at, back_seat, entered_longer, look_longer, play_longer, same_after, seat_of}
+use Rattle.station.proofs.Entered.{IsAt, full_for, made, seat_after}
+use Rattle.station.proofs.Backs.{back_at, back_seat, look_longer, same_after, seat_of}
 use Rattle.station.proofs.station.Station.look.Goals as goal
 
 pub returns-clause-same : goal.returns-clause-same

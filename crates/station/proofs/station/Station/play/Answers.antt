@@ -3,14 +3,13 @@ use Rattle.std.proofs.lemmas.Result.{IfErr-weaker, IfOk-weaker}
 use Rattle.plan_cert.specs.Slots.{total_bytes}
 use Rattle.admission.specs.Books.{Journal}
 use Rattle.admission.specs.Makers.{IsOpenAmong, made_by}
-use Rattle.admission.specs.declared.entries.Answer.TheVariants.{Admitted, Halted, Looked}
-use Rattle.admission.specs.declared.entries.Command.TheVariants.{Halt}
+use Rattle.admission.specs.declared.entries.Answer.TheVariants.{Admitted}
 use Rattle.turnstile.specs.Passes.{Standing}
-use Rattle.station.specs.Answers.{IsFull, IsRefused, Made}
-use Rattle.station.specs.Ledgers.{IsEntered, IsFullFor, IsPlayRefused, look_at, play_of}
+use Rattle.station.specs.Answers.{IsRefused, Made}
+use Rattle.station.specs.Ledgers.{IsEntered, IsPlayRefused, play_of}
 use Rattle.station.specs.Seats.{IsSameSeat, Sitting}
-use Rattle.station.proofs.Entered.{IsAt, full_for, made, refused_for, seat_after}
-use Rattle.station.proofs.Backs.{back_at, back_seat, entered_longer, look_longer, play_longer, same_after, seat_of}
+use Rattle.station.proofs.Entered.{IsAt, made, refused_for, seat_after}
+use Rattle.station.proofs.Backs.{back_at, back_seat, play_longer, same_after, seat_of}
 use Rattle.station.proofs.Plays.{opened}
 use Rattle.station.proofs.station.Station.play.Goals as goal
 

@@ -1,8 +1,8 @@
-use Rattle.std.proofs.Common.{rules, arith, ◌≡◌, ap, sym, ◌∙◌, Option, Some, None, subst}
+use Rattle.std.proofs.Common.{◌≡◌, ap, sym, ◌∙◌, Option, Some, None, subst}
 use mathlib.Core.Option.{some-injective}
 use Rattle.turnstile.specs.Passes.{AllJoined, IsWhole}
 use Rattle.turnstile.specs.Taken.{stands_as}
-use Rattle.turnstile.proofs.Closing.{IsLast, closes}
+use Rattle.turnstile.proofs.Closing.{closes}
 use Rattle.turnstile.proofs.turnstile.Turnstile.close.Goals as goal
 
 abbrev value_or : {A : Type 0} → A → Option A → A

@@ -1,4 +1,4 @@
-use Rattle.std.proofs.Common.{rules, arith, ◌≡◌, ap, sym, ◌∙◌}
+use Rattle.std.proofs.Common.{arith, ap, sym, ◌∙◌}
 use Rattle.turnstile.proofs.Parts.{joins}
 use Rattle.turnstile.proofs.turnstile.Turnstile.join.Goals as goal
 

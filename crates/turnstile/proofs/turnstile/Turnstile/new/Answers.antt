@@ -1,4 +1,4 @@
-use Rattle.std.proofs.Common.{rules, arith, ◌≡◌, ap, sym, ◌∙◌, [], ◌∷◌, ◌++◌, List, Option, Some, subst}
+use Rattle.std.proofs.Common.{◌≡◌, ap, sym, ◌∙◌, [], ◌∷◌, ◌++◌, List, Option, Some, subst}
 use Rattle.atomic_table.specs.Table.{opening}
 use Rattle.turnstile.specs.Turns.{IsRuled}
 use Rattle.turnstile.specs.Steps.{beginner}

@@ -1,4 +1,4 @@
-use Rattle.std.proofs.Common.{rules, arith, ◌≡◌, ap, sym, ◌∙◌}
+use Rattle.std.proofs.Common.{arith, ap, sym, ◌∙◌}
 use Rattle.turnstile.proofs.Parts.{splits}
 use Rattle.turnstile.proofs.turnstile.Turnstile.split.Goals as goal
 
