@@ -86,7 +86,26 @@ impl Book {
     }
 }
 
+/// 64 threads take the lock, the first of them for a second.
+fn hold() {
+    let lock = Mutex::new(());
+    std::thread::scope(|scope| {
+        for thread in 0..64 {
+            let lock = &lock;
+            scope.spawn(move || {
+                let _held = lock.lock().unwrap();
+                if thread == 0 {
+                    std::thread::sleep(std::time::Duration::from_secs(1));
+                }
+            });
+        }
+    });
+}
+
 fn main() {
+    if std::env::args().nth(1).is_some() {
+        return hold();
+    }
     for threads in [1u32, 2, 4, 16, 64] {
         let book = Mutex::new(Book { now: 0, totals: vec![0; RING], entries: Vec::with_capacity(1_048_576) });
         let start = Instant::now();
