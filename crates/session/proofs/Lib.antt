@@ -3,3 +3,4 @@ pub mod Halts
 pub mod SlotBytes
 pub mod Namings
 pub mod TaskLaws
+pub mod Fronts

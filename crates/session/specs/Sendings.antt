@@ -1,6 +1,6 @@
 -- What a session sends: in a slot, and as a reply, and what stands after it.
 use Rattle.std.specs.Prelude.{ℕ, ◌≡◌, ◌+◌, ◌-◌, ◌^◌, ◌++◌, ◌&&◌, nat_lt, nat_le, max, true, false, Bool, if◌then◌else◌, List, [], ◌∷◌, Option, Some, None}
-use Rattle.vod_base.specs.Links.{Doing, sends, told_more}
+use Rattle.vod_base.specs.Links.{Doing, IsFrontTold, sends, told_more}
 use Rattle.admission.specs.declared.entries.Answer.TheVariants.{Halted}
 use Rattle.film_frames.specs.Runs.{run_pieces}
 use Rattle.pacer.specs.Pacings.{is_done, plan_bytes, raised, stands_at_boundary, step_end, stepped, whole_pacing}
@@ -15,7 +15,7 @@ use Rattle.session.specs.declared.states.State.{State}
 use Rattle.session.specs.declared.states.State.TheVariants.{Init, Ready, Playing, Stopping}
 use Rattle.session.specs.declared.notes.PlayNote.{PlayNote}
 use Rattle.session.specs.Steps.{settled}
-use Rattle.session.specs.Standings.{Standing}
+use Rattle.session.specs.Standings.{Standing, open_in, open_of}
 
 -- no frame and no report is cut
 abbrev pub is_between : State → Bool
@@ -184,3 +184,10 @@ is_taken old slot = nat_lt old.heard slot && nat_le slot (2 ^ 62)
 abbrev pub slotted : Standing → ℕ → Standing
 slotted old slot =
     if is_taken old slot then (if is_sending old.state then finished (sent_slot old slot) else record old { heard = slot }) else old
+
+-- a send failed in a slot: a front of what is due was sent, and of the open booking as much is due as without the fault
+pub record HasFailed (old : Standing) (slot : ℕ) (told_old told_new : Option (List Doing)) (new : Standing) : Type 0 where
+  pub taken : is_taken old slot ≡ true
+  pub sending : is_sending old.state ≡ true
+  pub front : IsFrontTold told_old told_new (due_bytes old.waits old.state old.text slot)
+  pub booking : open_of new ≡ open_in (due_state old.waits old.state slot)

@@ -3,10 +3,10 @@
 ghost use Rattle.std.specs.Prelude.{◌≡◌, ◌-◌, ◌<◌, ◌≤◌, ◌++◌, ◌&&◌, is_some, IfOk, IfSome, OnErr, OnOk, false, true, max, if◌then◌else◌};
 ghost use Rattle.vod_base.specs.Outside.{HasRisen};
 ghost use Rattle.vod_base.specs.Links.{IsFrontTold, sends, told_more};
-ghost use Rattle.session.specs.Sendings.{IsTold, can_reply, due_bytes, due_state, finished, is_between, is_done_in, is_sending, is_taken};
+ghost use Rattle.session.specs.Sendings.{HasFailed, IsTold, can_reply, due_bytes, due_state, finished, is_between, is_done_in, is_sending, is_taken};
 ghost use Rattle.session.specs.Sendings.{sent_in, sent_reply, slotted, start_in, step_bytes, stepped_in};
 ghost use Rattle.session.specs.Steps.{IsCarried, IsEven, IsHaltIn, IsLeft, IsPacingIn, IsPlayIn, settled};
-ghost use Rattle.session.specs.Standings.{AreNotesKept, Brings, IsAtRest, IsSameBooking, open_of, taken_up};
+ghost use Rattle.session.specs.Standings.{AreNotesKept, Brings, IsAtRest, IsSameBooking, open_in, open_of, taken_up};
 
 use crate::asks::Slotted;
 use crate::sessions::Session;
@@ -48,6 +48,8 @@ fn step<K: Link>(
     requires { IsPacingIn state.old }
     ensures count { K.faults link.old ≤ K.faults link.new }
     ensures fault { OnErr result (HasRisen (K.faults link.old) (K.faults link.new)) }
+    ensures front { OnErr result (IsFrontTold (K.told link.old) (K.told link.new) (step_bytes stop slot state.old)) }
+    ensures due { OnErr result (open_in state.new ≡ open_in (stepped_in stop slot state.old)) }
     ensures carried { IsCarried state.old state.new }
     ensures left { IfOk result (IsLeft state.new) }
     ensures whole { OnOk result (stop ≡ false → IsEven state.new) }
@@ -93,6 +95,9 @@ fn send_due<K: Link>(
     requires sending { is_sending state.old ≡ true }
     ensures count { K.faults link.old ≤ K.faults link.new }
     ensures fault { OnErr result (HasRisen (K.faults link.old) (K.faults link.new)) }
+    ensures front { OnErr result
+        (IsFrontTold (K.told link.old) (K.told link.new) (due_bytes waits state.old reply.now slot)) }
+    ensures due { OnErr result (open_in state.new ≡ open_in (due_state waits state.old slot)) }
     ensures carried { IsCarried state.old state.new }
     ensures even { OnOk result (IsEven state.new) }
     ensures exact { OnOk result (state.new ≡ due_state waits state.old slot) }
@@ -122,8 +127,12 @@ fn send_both<K: Link>(
 ) -> Result<(), LinkFault>
     requires pacing { IsPacingIn state.old }
     requires sending { is_sending state.old ≡ true }
+    requires raised { open_in (stepped_in false slot state.old) ≡ open_in state.old }
     ensures count { K.faults link.old ≤ K.faults link.new }
     ensures fault { OnErr result (HasRisen (K.faults link.old) (K.faults link.new)) }
+    ensures front { OnErr result
+        (IsFrontTold (K.told link.old) (K.told link.new) (reply.now ++ step_bytes false slot state.old)) }
+    ensures due { OnErr result (open_in state.new ≡ open_in (stepped_in false slot state.old)) }
     ensures carried { IsCarried state.old state.new }
     ensures even { OnOk result (IsEven state.new) }
     ensures exact { OnOk result (state.new ≡ stepped_in false slot state.old) }
@@ -178,6 +187,8 @@ impl<'a> Session<'a> {
         ensures receipts { self.new.receipts ≡ self.old.receipts }
         ensures plays { self.new.plays ≡ self.old.plays }
         ensures offers { self.new.offers ≡ self.old.offers }
+        ensures count { K.faults link.old ≤ K.faults link.new }
+        ensures failed { OnErr result (HasFailed self.old t (K.told link.old) (K.told link.new) self.new) }
         ensures fault { OnErr result (HasRisen (K.faults link.old) (K.faults link.new)) }
     {
         if t <= self.heard || t > LATEST_SLOT {
@@ -234,6 +245,7 @@ impl<'a> Session<'a> {
         ensures open { open_of self.new ≡ open_of self.old }
         ensures receipts { self.new.receipts ≡ self.old.receipts }
         ensures notes { AreNotesKept self.old self.new }
+        ensures count { K.faults link.old ≤ K.faults link.new }
         ensures fault { OnErr result (HasRisen (K.faults link.old) (K.faults link.new)) }
     {
         if !self.waits || !is_between(&self.state) {
