@@ -1,6 +1,6 @@
 -- Lemmas on what a failed sending of a slot leaves.
-use Rattle.std.proofs.Common.{◌≡◌, ℕ, ◌+◌, ◌-◌, ◌≤◌, ◌<◌, ◌++◌, Bool, true, false, if◌then◌else◌, min, max, List, [], length, take, drop, Option, Some, None, refl, ap, sym, ◌∙◌, subst, arith, inl, inr}
-use Rattle.std.proofs.lemmas.Bool.{cases_lt}
+use Rattle.std.proofs.Common.{◌≡◌, ℕ, ◌+◌, ◌-◌, ◌≤◌, ◌<◌, ◌++◌, Bool, true, false, if◌then◌else◌, min, max, List, [], length, take, drop, Option, Some, None, Result, Ok, Err, OnErr, refl, ap, sym, ◌∙◌, subst, arith, inl, inr}
+use Rattle.std.proofs.lemmas.Bool.{cases_lt, true≢false}
 use Rattle.std.proofs.lemmas.List.{append_assoc, length-append, map-append, take-append-le, take-take, take_all}
 use Rattle.std.proofs.Math.Seq.{take-append-add}
 use Rattle.film_frames.specs.Tracks.{framed}
@@ -11,6 +11,11 @@ use Rattle.session.specs.declared.states.State.{State}
 use Rattle.session.specs.declared.states.State.TheVariants.{Init, Ready, Playing, Stopping}
 use Rattle.session.specs.Sendings.{stepped_in}
 use Rattle.session.specs.Standings.{open_in}
+
+-- a fact that holds, also where there is no fault
+pub on_err : {T E P : Type 0} (r : Result T E) → P → OnErr r P
+on_err (Ok t) p = tt
+on_err (Err e) p = p
 
 -- the first bytes, however many are asked for
 any_front : (bytes : List ℕ) (k : ℕ) → (n : ℕ) × ((n ≤ length bytes) × (take n bytes ≡ take k bytes))
@@ -40,8 +45,8 @@ front_right old mid new bytes more whole front = (
   (
     omega (arith, front.1.0, length-append bytes more),
     front.1.1 ∙ ap (λ t. told_more t (sends (take front.0 more))) whole ∙ told_on old (sends bytes) (sends (take front.0 more))
-    ∙ ap (told_more old) (sym (map-append Sent bytes (take front.0 more)))
-    ∙ ap (λ bs. told_more old (sends bs)) (sym (take-append-add bytes more front.0)),
+        ∙ ap (told_more old) (sym (map-append Sent bytes (take front.0 more)))
+        ∙ ap (λ bs. told_more old (sends bs)) (sym (take-append-add bytes more front.0)),
   ),
 )
 
@@ -54,13 +59,21 @@ failed_front stop slot p new told next failed =
     let whole : ℕ = (p.before + end) - (p.before + p.sent) in
     let within : part ≤ whole = omega (arith, failed.out_most) in
     front_of told next (plan_bytes p p.sent end) part
-        (failed.told ∙ ap (λ bs. told_more told (sends bs)) (sym (take-take part whole (drop (p.before + p.sent) (framed p.pieces)) within)))
+    (failed.told ∙ ap (λ bs. told_more told (sends bs)) (sym (take-take part whole (drop (p.before + p.sent) (framed p.pieces)) within)))
 
 pub failed_due : (stop : Bool) (slot : ℕ) (p new : Pacing) (told next : Option (List Doing)) → HasFailed stop slot p new told next → new.due ≡ due_by p slot
 failed_due stop slot p new told next failed = ap (λ (q : Pacing). q.due) failed.state
 
 max_twice : (a b : ℕ) → max (max a b) b ≡ max a b
 max_twice a b = omega arith
+
+-- both sends of a slot: a front of what comes after the first
+pub front_both : (waits between : Bool) (old mid new : Option (List Doing)) (one text after plain : List ℕ) → waits ≡ true → between ≡ true →
+    mid ≡ told_more old (sends one) → IsFrontTold mid new (text ++ after) →
+    IsFrontTold old new (if waits then one ++ (if between then text ++ after else []) else plain)
+front_both true true old mid new one text after plain waiting between told front = front_right old mid new one (text ++ after) told front
+front_both true false old mid new one text after plain waiting between told front = absurd (true≢false (sym between))
+front_both false between old mid new one text after plain waiting is told front = absurd (true≢false (sym waiting))
 
 -- a slot that was stepped makes nothing more due as it is stepped again
 pub raised_twice : (stop : Bool) (slot : ℕ) (state : State) → open_in (stepped_in false slot (stepped_in stop slot state)) ≡ open_in (stepped_in stop slot state)

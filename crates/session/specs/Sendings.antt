@@ -14,7 +14,7 @@ use Rattle.session.specs.declared.states.Awaited.TheVariants.{Nothing, Play, Hal
 use Rattle.session.specs.declared.states.State.{State}
 use Rattle.session.specs.declared.states.State.TheVariants.{Init, Ready, Playing, Stopping}
 use Rattle.session.specs.declared.notes.PlayNote.{PlayNote}
-use Rattle.session.specs.Steps.{settled}
+use Rattle.session.specs.Steps.{IsCarried, settled}
 use Rattle.session.specs.Standings.{Standing, open_in, open_of}
 
 -- no frame and no report is cut
@@ -191,3 +191,6 @@ pub record HasFailed (old : Standing) (slot : ℕ) (told_old told_new : Option (
   pub sending : is_sending old.state ≡ true
   pub front : IsFrontTold told_old told_new (due_bytes old.waits old.state old.text slot)
   pub booking : open_of new ≡ open_in (due_state old.waits old.state slot)
+  -- the play is the same, and its slots were missed as without the fault
+  pub carried : IsCarried old.state new.state
+  pub late : new.late ≡ old.late + missed_between old.heard (start_in old.state) slot

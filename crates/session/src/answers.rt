@@ -9,6 +9,7 @@ ghost use Rattle.session.specs.Standings.{AreNotesKept, IsAtRest, IsHalt, IsHand
 ghost use Rattle.session.specs.Standings.{awaits, booking_of, open_of, sequence_of};
 ghost use Rattle.session.specs.Hearings.{Halts, after_admission, after_full, after_look, after_offer, after_overflow};
 ghost use Rattle.session.specs.Replies.{play_text};
+ghost use Rattle.session.specs.Steps.{IsPlayIn};
 
 use crate::bodies::{put_look, put_offer};
 use crate::notes::{OfferNote, PlayNote, Receipt};
@@ -32,6 +33,7 @@ impl<'a> Session<'a> {
         ensures handed { IsHandedIn self.old (Receipt.Entry place (Answer.Admitted start)) self.new }
         ensures replies { self.new.waits ≡ true }
         ensures open { open_of self.new ≡ booking_of (awaits self.old) start }
+        ensures play { IsPlayIn self.new.state }
         ensures notes { AreNotesKept self.old self.new }
     {
         let Awaited::Play(prepared) = mem::replace(&mut self.awaited, Awaited::Nothing) else {

@@ -39,6 +39,7 @@ fn start_of(state: &State<'_>) -> Option<u64>
 }
 
 /// Sends what is due in a slot, with a stop up to the end of the piece in hand alone. It tells how many bytes are left.
+#[tactic(auto, using(crate::proofs::Fronts::failed_front, crate::proofs::Fronts::failed_due))]
 fn step<K: Link>(
     state: &mut State<'_>,
     slot: u64,
@@ -84,6 +85,7 @@ fn is_between(state: &State<'_>) -> bool
 
 /// Sends what is due in a slot, and the reply, if one waits, at the first boundary that is reached. It tells whether the reply
 /// was sent.
+#[tactic(auto, using(crate::proofs::Fronts::front_left, crate::proofs::Fronts::front_right, crate::proofs::Fronts::raised_twice, crate::proofs::Fronts::due_between))]
 fn send_due<K: Link>(
     state: &mut State<'_>,
     reply: &Reply,
@@ -119,6 +121,7 @@ fn send_due<K: Link>(
 }
 
 /// Sends the reply, and then what is due.
+#[tactic(auto, using(crate::proofs::Fronts::front_left, crate::proofs::Fronts::front_right))]
 fn send_both<K: Link>(
     state: &mut State<'_>,
     reply: &Reply,
@@ -238,6 +241,7 @@ impl<'a> Session<'a> {
         ensures exact { OnOk result (self.new ≡ (if can_reply self.old then sent_reply self.old else self.old)) }
         ensures told { OnOk result (IsTold (can_reply self.old) (K.told link.old) self.old.text (K.told link.new)) }
         ensures failed { OnErr result (self.new ≡ record self.old { lost = true }) }
+        ensures can { OnErr result (can_reply self.old ≡ true) }
         ensures front { OnErr result (IsFrontTold (K.told link.old) (K.told link.new) self.old.text) }
         ensures rest { IsAtRest self.new }
         ensures kept { OnOk result (self.new.lost ≡ self.old.lost) }
