@@ -5,3 +5,6 @@ pub mod TimeLaws
 pub mod SeekLaws
 pub mod NewRuns
 pub mod HaltLaws
+pub mod PlayLaws
+pub mod LeftLaws
+pub mod BoundaryLaws

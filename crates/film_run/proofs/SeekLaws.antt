@@ -1,19 +1,14 @@
 -- Where groups begin, in units of 1/360,000 second.
-use Rattle.std.proofs.Common.{◌≡◌, ℕ, ◌*◌, ◌/◌, ◌^◌, ◌<◌, ◌≤◌, ◌⊎◌, List, length, inl, inr, arith}
+use Rattle.std.proofs.Common.{◌≡◌, ℕ, ◌*◌, ◌/◌, ◌^◌, ◌≤◌, ◌⊎◌, List, length, inl, inr, arith}
 use Rattle.std.proofs.Math.Nat.{mul-le-mul_right, div-mul-le_self}
 use Rattle.std.proofs.lemmas.Bool.{cases_lt}
 use Rattle.std.proofs.lemmas.Nat.{le-div, mul-le}
 use Rattle.mpeg_scan.specs.declared.units.Unit.{Unit as PictureUnit}
-use Rattle.film_run.specs.Seeks.{IsGroupBy, IsGroupFrom, StartsGroup}
+use Rattle.film_run.specs.Seeks.{IsAfter, IsBefore, IsGroupBy, IsGroupFrom, IsPlaceAfter, StartsGroup}
 
 -- no unit begins later than this
 pub begins-small : (unit unit_time : ℕ) → unit ≤ 4194304 → unit_time ≤ 360000 → unit * unit_time ≤ 2 ^ 42
 begins-small unit unit_time few fits = let most = mul-le unit unit_time 4194304 360000 few fits in omega (arith, most)
-
--- a time in whole units, without the part of one
-pub record IsBefore (time begin : ℕ) : Type 0 where
-  pub by_then : (place : ℕ) → place ≤ 2 ^ 42 → place ≤ begin → place * 1000000000 ≤ time * 360000
-  pub all : (place : ℕ) → place ≤ 2 ^ 42 → place * 1000000000 ≤ time * 360000 → place ≤ begin
 
 pub group-by : (units : List PictureUnit) (unit_time time begin k : ℕ) → length units ≤ 4194304 → 1 ≤ unit_time → unit_time ≤ 360000
     → IsBefore time begin → StartsGroup units k → k ≤ begin / unit_time
@@ -28,18 +23,6 @@ group-by units unit_time time begin k few some fits before starts le greatest =
           greatest other its (le-div other begin unit_time some
           (before.all (other * unit_time) (begins-small other unit_time (omega (arith, its.within)) fits) by_then));
     }
-
--- a time in whole units, with the part of one as a whole one
-pub record IsAfter (time end : ℕ) : Type 0 where
-  pub from_then : (place : ℕ) → place ≤ 2 ^ 42 → end ≤ place → time * 360000 ≤ place * 1000000000
-  pub all : (place : ℕ) → place ≤ 2 ^ 42 → time * 360000 ≤ place * 1000000000 → end ≤ place
-
--- a place is the first after a unit that begins at a time in units or later, or the end
-pub record IsPlaceAfter (units after end unit_time place : ℕ) : Type 0 where
-  pub later : after < place
-  pub within : place ≤ units
-  pub begins : place < units → end ≤ place * unit_time
-  pub least : (other : ℕ) → after < other → other < units → end ≤ other * unit_time → place ≤ other
 
 pub group-from : (units : List PictureUnit) (unit_time time end after place k : ℕ) → length units ≤ 4194304 → unit_time ≤ 360000
     → IsAfter time end → IsPlaceAfter (length units) after end unit_time place → place ≤ k → (StartsGroup units k ⊎ (k ≡ length units))

@@ -15,10 +15,10 @@ cond-no : (a t n : ℕ) → t ≤ a → cond (ltb a t) n 0 ≡ 0
 cond-no a t n le = grind (arith, nat_tests)
 
 -- the pictures that are used before a slot
-abbrev used_of : List ℕ → Timing → ℕ → ℕ → ℕ
+abbrev pub used_of : List ℕ → Timing → ℕ → ℕ → ℕ
 used_of sizes timing t k = cond (ltb (due timing k) t) (get_or sizes k 0) 0
 
-used-part : (sizes : List ℕ) (timing : Timing) (t m : ℕ) → m ≤ length sizes → ((k : ℕ) → k < m → due timing k < t)
+pub used-part : (sizes : List ℕ) (timing : Timing) (t m : ℕ) → m ≤ length sizes → ((k : ℕ) → k < m → due timing k < t)
     → sum_by (used_of sizes timing t) (range_with_len 0 m) ≡ sum (take m sizes)
 used-part sizes timing t zero fits used = refl
 used-part sizes timing t (suc m) fits used =
@@ -28,7 +28,7 @@ used-part sizes timing t (suc m) fits used =
     let here = cond-yes (due timing m) t (get_or sizes m 0) (used m (omega arith)) in
     omega (arith, before, more, size, here)
 
-used-rest : (sizes : List ℕ) (timing : Timing) (t n d : ℕ) → ((k : ℕ) → n ≤ k → t ≤ due timing k)
+pub used-rest : (sizes : List ℕ) (timing : Timing) (t n d : ℕ) → ((k : ℕ) → n ≤ k → t ≤ due timing k)
     → sum_by (used_of sizes timing t) (range_with_len 0 (n + d)) ≡ sum_by (used_of sizes timing t) (range_with_len 0 n)
 used-rest sizes timing t n zero unused =
     let same : n + 0 ≡ n = omega arith in

@@ -3,3 +3,4 @@ pub mod Runs
 pub mod Plans
 pub mod Pauses
 pub mod Seeks
+pub mod Laws

@@ -9,7 +9,8 @@ use Rattle.cert_check.specs.Fault.{IsTaut}
 use Rattle.cert_check.specs.Best.{IsBestPlan}
 use Rattle.film_run.specs.declared.runs.Run.{Run}
 use Rattle.film_run.specs.declared.plans.Playback.{Playback}
-use Rattle.film_run.specs.Runs.{sizes_between}
+use Rattle.film_run.specs.Units.{IsTrace}
+use Rattle.film_run.specs.Runs.{Fits, IsRun, sizes_between}
 
 -- the ranges of a client's values
 pub record IsPlayback (playback : Playback) : Type 0 where
@@ -58,3 +59,10 @@ IsBestPlanOf sizes playback run plan =
     let rest = rest_sizes sizes run in
     let timing = timing_of playback run in
     IsBestPlan timing.sent (low_curve rest timing) (up_curve rest timing) plan
+
+-- a client can play a run of units of these sizes
+pub record CanPlay (sizes : List ℕ) (playback : Playback) (run : Run) : Type 0 where
+  pub sizes_are : IsTrace sizes
+  pub playback_is : IsPlayback playback
+  pub run_is : IsRun sizes run
+  pub fits : Fits playback.buffer run

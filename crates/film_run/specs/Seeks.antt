@@ -1,5 +1,6 @@
--- The run that a PLAY's times ask for (RFC 2326 section 10.5: a server begins at the nearest place before the time that it can).
-use Rattle.std.specs.Prelude.{ℕ, ◌≡◌, ◌*◌, ◌<◌, ◌≤◌, ◌⊎◌, true, List, length, Option, Some, None}
+-- The run that a PLAY's times ask for. A decoder can begin only at a group of pictures, so the range that is played is aligned to
+-- groups, as RFC 2326 section 10.5 lets a server do.
+use Rattle.std.specs.Prelude.{ℕ, ◌≡◌, ◌*◌, ◌^◌, ◌<◌, ◌≤◌, ◌⊎◌, true, List, length, Option, Some, None}
 use Rattle.mpeg_scan.specs.declared.units.Unit.{Unit as PictureUnit}
 use Rattle.mpeg_scan.specs.declared.films.Film.{Film}
 use Rattle.mpeg_scan.specs.Layout.{OfUnit}
@@ -15,6 +16,24 @@ BeginsBy picture_units time k = k * picture_units * 1000000000 ≤ time * 360000
 
 abbrev pub BeginsBefore : ℕ → ℕ → ℕ → Type 0
 BeginsBefore picture_units time k = k * picture_units * 1000000000 < time * 360000
+
+-- A time in nanoseconds as whole units of 1/360,000 second, where a part of one isn't counted: a place is at or before it, in
+-- units, exactly where it is at or before the time. No film ends later than at 2^42.
+pub record IsBefore (time begin : ℕ) : Type 0 where
+  pub by_then : (place : ℕ) → place ≤ 2 ^ 42 → place ≤ begin → place * 1000000000 ≤ time * 360000
+  pub all : (place : ℕ) → place ≤ 2 ^ 42 → place * 1000000000 ≤ time * 360000 → place ≤ begin
+
+-- the same, where a part of one is counted as a whole one, of places at or after the time
+pub record IsAfter (time end : ℕ) : Type 0 where
+  pub from_then : (place : ℕ) → place ≤ 2 ^ 42 → end ≤ place → time * 360000 ≤ place * 1000000000
+  pub all : (place : ℕ) → place ≤ 2 ^ 42 → time * 360000 ≤ place * 1000000000 → end ≤ place
+
+-- of so many units, which take so long each, this is the first after a unit that begins at a time or later, or the end
+pub record IsPlaceAfter (units after time unit_time place : ℕ) : Type 0 where
+  pub later : after < place
+  pub within : place ≤ units
+  pub begins : place < units → time ≤ place * unit_time
+  pub least : (other : ℕ) → after < other → other < units → time ≤ other * unit_time → place ≤ other
 
 -- unit k is there and starts a group
 pub record StartsGroup (units : List PictureUnit) (k : ℕ) : Type 0 where

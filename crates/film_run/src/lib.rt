@@ -5,14 +5,19 @@
 //! for what is still to be played. A film's units are its pictures; a trace is a list of sizes, one a picture.
 #![tactic(auto)]
 
+mod laws;
 mod pauses;
 mod plans;
 mod runs;
 mod seeks;
 mod units;
 
+pub use laws::{law_boundaries, law_left, law_plan};
 pub use pauses::run_after;
 pub use plans::{Playback, plan_of};
 pub use runs::{Run, whole_run};
 pub use seeks::run_between;
 pub use units::{Trace, Units};
+
+#[cfg(test)]
+mod tests;

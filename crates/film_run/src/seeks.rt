@@ -1,9 +1,10 @@
-//! The run that a PLAY's times ask for (RFC 2326 section 10.5 and 12.29).
+//! The run that a PLAY's times ask for, aligned to groups of pictures (RFC 2326 sections 10.5 and 12.29).
 
-ghost use Rattle.std.specs.Prelude.{◌≡◌, ◌+◌, ◌*◌, ◌^◌, ◌<◌, ◌≤◌, ℕ, ◌⊎◌, ◌↔◌, length, IsTrue, IfSome, MatchBool, MatchOption};
+ghost use Rattle.std.specs.Prelude.{◌≡◌, ◌^◌, ◌<◌, ◌≤◌, ℕ, ◌⊎◌, length, IfSome, MatchBool, MatchOption};
 ghost use Rattle.mpeg_scan.specs.Rates.{picture_time};
 ghost use Rattle.film_run.specs.Runs.{IsFilmRun};
-ghost use Rattle.film_run.specs.Seeks.{BeginsBy, HasNothing, IsAsked, IsEnd, IsGroupBy, IsGroupFrom, IsReversed, StartsGroup};
+ghost use Rattle.film_run.specs.Seeks.{BeginsBy, HasNothing, IsAfter, IsAsked, IsBefore, IsEnd, IsGroupBy};
+ghost use Rattle.film_run.specs.Seeks.{IsGroupFrom, IsPlaceAfter, IsReversed, StartsGroup};
 
 use crate::runs::{Run, new_run};
 use mpeg_scan::{Film, Unit, law_film, law_units, picture_units};
@@ -19,8 +20,7 @@ const LONGEST: u128 = 1 << 64;
 /// A time in whole units of 1/360,000 second, where a part of one isn't counted.
 fn units_before(nanoseconds: u128) -> u64
     ensures most { result ≤ 2 ^ 63 }
-    ensures by_then { (place : ℕ) → place ≤ 2 ^ 42 → place ≤ result → place * 1000000000 ≤ nanoseconds * 360000 }
-    ensures all { (place : ℕ) → place ≤ 2 ^ 42 → place * 1000000000 ≤ nanoseconds * 360000 → place ≤ result }
+    ensures whole { IsBefore nanoseconds result }
 {
     (nanoseconds.min(LONGEST) * UNITS / NANOSECONDS) as u64
 }
@@ -28,8 +28,7 @@ fn units_before(nanoseconds: u128) -> u64
 /// A time in whole units of 1/360,000 second, where a part of one is counted as a whole one.
 fn units_after(nanoseconds: u128) -> u64
     ensures most { result ≤ 2 ^ 63 }
-    ensures from_then { (place : ℕ) → place ≤ 2 ^ 42 → result ≤ place → nanoseconds * 360000 ≤ place * 1000000000 }
-    ensures all { (place : ℕ) → place ≤ 2 ^ 42 → nanoseconds * 360000 ≤ place * 1000000000 → result ≤ place }
+    ensures whole { IsAfter nanoseconds result }
 {
     ((nanoseconds.min(LONGEST) * UNITS + (NANOSECONDS - 1)) / NANOSECONDS) as u64
 }
@@ -76,10 +75,7 @@ fn group_after(units: &[Unit], place: usize) -> usize
 fn end_place(units: usize, first: usize, time: u64, unit_time: u64) -> usize
     requires first { first < units }
     requires some { 1 ≤ unit_time }
-    ensures after { first < result }
-    ensures within { result ≤ units }
-    ensures begins { result < units → time ≤ result * unit_time }
-    ensures least { (other : ℕ) → first < other → other < units → time ≤ other * unit_time → result ≤ other }
+    ensures { IsPlaceAfter units first time unit_time result }
 {
     let place = time.div_ceil(unit_time);
     (place.min(units as u64) as usize).max(first + 1)

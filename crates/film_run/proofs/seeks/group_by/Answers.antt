@@ -4,17 +4,17 @@ use Rattle.film_run.proofs.seeks.group_by.Goals as goal
 
 pub returns-then-units-unit_time-clause-found : goal.returns-then-units-unit_time-clause-found
 returns-then-units-unit_time-clause-found c =
-    c.units_before-begin.ensures.by_then (length c.args.units.now * c.args.unit_time)
+    c.units_before-begin.ensures.whole.by_then (length c.args.units.now * c.args.unit_time)
     (begins-small (length c.args.units.now) c.args.unit_time c.requires.few c.requires.fits) (omega arith)
 
 pub returns-clause-found : goal.returns-clause-found
 returns-clause-found c =
     group-by c.args.units.now c.args.unit_time c.args.time c.units_before-begin.result c.group_before.result c.requires.few c.requires.some c.requires.fits
-    (record { by_then = c.units_before-begin.ensures.by_then; all = c.units_before-begin.ensures.all })
+    c.units_before-begin.ensures.whole
     c.group_before.ensures.group c.group_before.ensures.before c.group_before.ensures.last
 
 pub returns-clause-rest : goal.returns-clause-rest
 returns-clause-rest c = λ by_then.
     let small = begins-small (length c.args.units.now) c.args.unit_time c.requires.few c.requires.fits in
-    let within = c.units_before-begin.ensures.all (length c.args.units.now * c.args.unit_time) small by_then in
+    let within = c.units_before-begin.ensures.whole.all (length c.args.units.now * c.args.unit_time) small by_then in
     omega arith

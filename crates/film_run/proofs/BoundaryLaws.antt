@@ -1,0 +1,21 @@
+-- The boundaries of a run don't hang on its identity.
+use Rattle.std.proofs.Common.{ℕ, ◌≤◌, length, refl, sym, ◌∙◌, arith}
+use Rattle.mpeg_scan.specs.declared.films.Film.{Film}
+use Rattle.rtp_pack.specs.declared.reports.Identity.{Identity}
+use Rattle.film_frames.specs.Tracks.{IsBoundary}
+use Rattle.film_frames.specs.Runs.{run_of, pieces_in, run_pieces}
+use Rattle.film_frames.proofs.RunLemmas.{blocks_from-count}
+use Rattle.film_frames.proofs.SentLemmas.{run-begin}
+
+pub same-boundaries : (film : Film) (first end : ℕ) (one other : Identity) (place : ℕ) → first ≤ end → end ≤ length film.units.items
+    → IsBoundary (run_pieces (run_of film first end one)) place → IsBoundary (run_pieces (run_of film first end other)) place
+same-boundaries film first end one other place order within b =
+    let a_run = run_of film first end one in
+    let b_run = run_of film first end other in
+    let a = run-begin film first end one a_run b.number (record { view = refl; order = order; within = within }) in
+    let c = run-begin film first end other b_run b.number (record { view = refl; order = order; within = within }) in
+    record {
+      number = b.number;
+      among = omega (arith, b.among, blocks_from-count a_run 0 0 (pieces_in a_run), blocks_from-count b_run 0 0 (pieces_in b_run));
+      place_is = b.place_is ∙ a ∙ sym c;
+    }

@@ -1,0 +1,113 @@
+-- What a run's plan promises its client.
+use Rattle.std.proofs.Common.{◌≡◌, ℕ, zero, suc, ◌+◌, ◌-◌, ◌<◌, ◌≤◌, ltb, List, length, take, get_or, sum, sum_by, ap, arith}
+use Rattle.std.specs.List.{range_with_len}
+use Rattle.plan_cert.specs.declared.Segment.{Segment}
+use Rattle.wire_curve.specs.declared.film.Timing.{Timing}
+use Rattle.wire_curve.specs.FilmCurves.{IsWithinLimits, due, used_before}
+use Rattle.wire_curve.proofs.Sums.{sum_by-range_more, sum_by-range-le, sum_by-range-take}
+use Rattle.wire_curve.proofs.UseLaws.{cond_le, due_in_range, due_rises}
+use Rattle.film_run.specs.declared.runs.Run.{Run}
+use Rattle.film_run.specs.declared.plans.Playback.{Playback}
+use Rattle.film_run.specs.Runs.{bytes_between}
+use Rattle.film_run.specs.Plans.{IsBestPlanOf, rest_sizes, timing_of}
+use Rattle.film_run.specs.Laws.{AreInTime, DoesFit, IsOnlyPlan, IsSending}
+use Rattle.film_run.proofs.SumLaws.{bytes-first, bytes-join, length-between}
+use Rattle.film_run.proofs.UsedLaws.{used_of, used-part, used-rest}
+use Rattle.film_run.proofs.CurveLaws.{KeepsTo, best-of, keeps-to, limits}
+
+pub sending-limits : (sizes : List ℕ) (playback : Playback) (run : Run) (plan : List Segment) → IsSending sizes playback run plan
+    → IsWithinLimits (rest_sizes sizes run) (timing_of playback run)
+sending-limits sizes playback run plan is =
+    let can = is.can_play in
+    limits sizes playback run can.playback_is can.run_is can.fits can.sizes_are.few can.sizes_are.small
+
+pub sending-keeps : (sizes : List ℕ) (playback : Playback) (run : Run) (plan : List Segment) → IsSending sizes playback run plan
+    → KeepsTo (rest_sizes sizes run) (timing_of playback run) plan
+sending-keeps sizes playback run plan is =
+    keeps-to (rest_sizes sizes run) (timing_of playback run) plan (sending-limits sizes playback run plan is) is.plan_is
+
+pub sending-best : (sizes : List ℕ) (playback : Playback) (run : Run) (plan : List Segment) → IsSending sizes playback run plan
+    → IsBestPlanOf sizes playback run plan
+sending-best sizes playback run plan is =
+    best-of (rest_sizes sizes run) (timing_of playback run) plan (sending-limits sizes playback run plan is) is.plan_is
+
+pub sending-one : (sizes : List ℕ) (playback : Playback) (run : Run) (plan : List Segment) → IsSending sizes playback run plan
+    → IsOnlyPlan sizes playback run plan
+sending-one sizes playback run plan is = λ other its. (sending-best sizes playback run plan is).only other its.taut
+
+-- more pictures use no less
+used-more : (sizes : List ℕ) (timing : Timing) (t n d : ℕ)
+    → sum_by (used_of sizes timing t) (range_with_len 0 n) ≤ sum_by (used_of sizes timing t) (range_with_len 0 (n + d))
+used-more sizes timing t n zero =
+    let same : n + 0 ≡ n = omega arith in
+    let sums = ap (λ m. sum_by (used_of sizes timing t) (range_with_len 0 m)) same in
+    omega (arith, sums)
+used-more sizes timing t n (suc d) =
+    let before = used-more sizes timing t n d in
+    let more = sum_by-range_more (used_of sizes timing t) (n + d) in
+    let same : n + suc d ≡ n + d + 1 = omega arith in
+    let next = ap (λ m. sum_by (used_of sizes timing t) (range_with_len 0 m)) same in
+    omega (arith, before, more, next)
+
+-- the first pictures are used by a slot
+used-least : (sizes : List ℕ) (timing : Timing) (t n : ℕ) → n ≤ length sizes → ((k : ℕ) → k < n → due timing k < t)
+    → timing.played + sum (take n sizes) ≤ used_before sizes timing t
+used-least sizes timing t n fits used =
+    let part = used-part sizes timing t n fits used in
+    let more = used-more sizes timing t n (length sizes - n) in
+    let same : n + (length sizes - n) ≡ length sizes = omega arith in
+    let all = ap (λ m. sum_by (used_of sizes timing t) (range_with_len 0 m)) same in
+    omega (arith, part, more, all)
+
+-- only the first pictures are
+used-most : (sizes : List ℕ) (timing : Timing) (t n : ℕ) → 1 ≤ timing.slot_units → n ≤ length sizes → t ≤ due timing n
+    → used_before sizes timing t ≤ timing.played + sum (take n sizes)
+used-most sizes timing t n some fits unused =
+    let later = λ (k : ℕ) (le : n ≤ k). let rises = due_rises timing n k some le in let h : t ≤ due timing k = omega arith in h in
+    let rest = used-rest sizes timing t n (length sizes - n) later in
+    let same : n + (length sizes - n) ≡ length sizes = omega arith in
+    let all = ap (λ m. sum_by (used_of sizes timing t) (range_with_len 0 m)) same in
+    let below = sum_by-range-le (used_of sizes timing t) (λ k. get_or sizes k 0) 0 n (λ k l u. cond_le (ltb (due timing k) t) (get_or sizes k 0)) in
+    omega (arith, rest, all, below, sum_by-range-take sizes n fits)
+
+-- the bytes of a run up to an unplayed unit
+front-bytes : (sizes : List ℕ) (playback : Playback) (run : Run) (plan : List Segment) (end : ℕ) → IsSending sizes playback run plan
+    → run.from_unit ≤ end → end ≤ run.end_unit
+    → bytes_between sizes run.first_unit end ≡ run.played + sum (take (end - run.from_unit) (rest_sizes sizes run))
+front-bytes sizes playback run plan end is order within =
+    let its = is.can_play.run_is in
+    let first = bytes-first sizes run.from_unit run.end_unit (end - run.from_unit) (omega arith) in
+    let same : run.from_unit + (end - run.from_unit) ≡ end = omega arith in
+    let place = ap (bytes_between sizes run.from_unit) same in
+    omega (arith, first, place, its.played_is, bytes-join sizes run.first_unit run.from_unit end its.order order)
+
+pub sending-in-time : (sizes : List ℕ) (playback : Playback) (run : Run) (plan : List Segment) → IsSending sizes playback run plan
+    → AreInTime sizes playback run plan
+sending-in-time sizes playback run plan is = λ unit at.
+    let rest = rest_sizes sizes run in
+    let timing = timing_of playback run in
+    let k = unit - run.from_unit in
+    let some = is.can_play.playback_is.some_slot_units in
+    let count = length-between sizes run.from_unit run.end_unit is.can_play.run_is.within in
+    let range = due_in_range rest timing k some (omega (arith, count, at.from, at.before_end)) in
+    let above = (sending-keeps sizes playback run plan is).above (due timing k) range in
+    let its = λ (j : ℕ) (lt : j < k + 1). let rises = due_rises timing j k some (omega arith) in let h : due timing j < due timing k + 1 = omega (arith, rises) in h in
+    let least = used-least rest timing (due timing k + 1) (k + 1) (omega (arith, count, at.from, at.before_end)) its in
+    let front = front-bytes sizes playback run plan (unit + 1) is (omega (arith, at.from)) (omega (arith, at.before_end)) in
+    let same : (unit + 1) - run.from_unit ≡ k + 1 = omega (arith, at.from) in
+    let place = ap (λ n. sum (take n rest)) same in
+    omega (arith, above, least, front, place)
+
+pub sending-fits : (sizes : List ℕ) (playback : Playback) (run : Run) (plan : List Segment) → IsSending sizes playback run plan
+    → DoesFit sizes playback run plan
+sending-fits sizes playback run plan is = λ slot unit inside at before.
+    let rest = rest_sizes sizes run in
+    let timing = timing_of playback run in
+    let k = unit - run.from_unit in
+    let some = is.can_play.playback_is.some_slot_units in
+    let count = length-between sizes run.from_unit run.end_unit is.can_play.run_is.within in
+    let keeps = sending-keeps sizes playback run plan is in
+    let below = keeps.below slot (omega (arith, keeps.slots)) in
+    let most = used-most rest timing slot k some (omega (arith, count, at.from, at.before_end)) before in
+    let front = front-bytes sizes playback run plan unit is at.from (omega (arith, at.before_end)) in
+    omega (arith, below, most, front)

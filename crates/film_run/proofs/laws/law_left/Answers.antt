@@ -1,0 +1,11 @@
+use Rattle.film_run.proofs.LeftLaws.{goes-on-after, halted-plays, left-one}
+use Rattle.film_run.proofs.laws.law_left.Goals as goal
+
+pub returns-clause-one : goal.returns-clause-one
+returns-clause-one c = λ sizes playback run plan is last keep left other. left-one sizes playback run left other plan last keep
+
+pub returns-clause-plays : goal.returns-clause-plays
+returns-clause-plays c = halted-plays
+
+pub returns-clause-on : goal.returns-clause-on
+returns-clause-on c = goes-on-after

@@ -1,0 +1,14 @@
+use Rattle.film_run.proofs.PlayLaws.{sending-best, sending-fits, sending-in-time, sending-one}
+use Rattle.film_run.proofs.laws.law_plan.Goals as goal
+
+pub returns-clause-in_time : goal.returns-clause-in_time
+returns-clause-in_time c = sending-in-time
+
+pub returns-clause-fits : goal.returns-clause-fits
+returns-clause-fits c = sending-fits
+
+pub returns-clause-best : goal.returns-clause-best
+returns-clause-best c = sending-best
+
+pub returns-clause-one : goal.returns-clause-one
+returns-clause-one c = sending-one

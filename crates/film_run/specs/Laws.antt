@@ -1,0 +1,78 @@
+-- What plans and halts promise a client, in its own words.
+use Rattle.std.specs.Prelude.{ℕ, ◌≡◌, ◌+◌, ◌-◌, ◌<◌, ◌≤◌, List, Option}
+use Rattle.plan_cert.specs.declared.Segment.{Segment}
+use Rattle.plan_cert.specs.Slots.{sum_through, total_bytes, total_slots}
+use Rattle.mpeg_scan.specs.declared.films.Film.{Film}
+use Rattle.rtp_pack.specs.declared.reports.Identity.{Identity}
+use Rattle.film_frames.specs.Tracks.{IsBoundary}
+use Rattle.film_frames.specs.Runs.{run_of, run_pieces}
+use Rattle.wire_curve.specs.FilmCurves.{due}
+use Rattle.film_run.specs.declared.runs.Run.{Run}
+use Rattle.film_run.specs.declared.plans.Playback.{Playback}
+use Rattle.film_run.specs.Runs.{bytes_between}
+use Rattle.film_run.specs.Plans.{CanPlay, IsPlanOf, timing_of}
+use Rattle.film_run.specs.Pauses.{IsHalt, IsLeft}
+
+-- a run is sent by a plan of its own
+pub record IsSending (sizes : List ℕ) (playback : Playback) (run : Run) (plan : List Segment) : Type 0 where
+  pub can_play : CanPlay sizes playback run
+  pub plan_is : IsPlanOf sizes playback run plan
+
+-- the slot of a play in which a unit of its run is used
+abbrev pub used_in : Playback → Run → ℕ → ℕ
+used_in playback run unit = due (timing_of playback run) (unit - run.from_unit)
+
+-- a fact of each run that is sent by a plan of its own
+abbrev pub OfSendings : (List ℕ → Playback → Run → List Segment → Type 0) → Type 0
+OfSendings Fact =
+    (sizes : List ℕ) (playback : Playback) (run : Run) (plan : List Segment)
+    → IsSending sizes playback run plan → Fact sizes playback run plan
+
+-- an unplayed unit of a run
+pub record IsUnplayed (run : Run) (unit : ℕ) : Type 0 where
+  pub from : run.from_unit ≤ unit
+  pub before_end : unit < run.end_unit
+
+-- Each unplayed picture is in time: by the end of the slot in which it is used it was sent whole, and all before it.
+abbrev pub AreInTime : List ℕ → Playback → Run → List Segment → Type 0
+AreInTime sizes playback run plan =
+    (unit : ℕ) → IsUnplayed run unit
+    → bytes_between sizes run.first_unit (unit + 1) ≤ run.sent + sum_through plan (used_in playback run unit)
+
+-- The buffer never overflows: what was sent by the end of a slot, without the pictures before one that is used in that slot or
+-- later, fits in it.
+abbrev pub DoesFit : List ℕ → Playback → Run → List Segment → Type 0
+DoesFit sizes playback run plan =
+    (slot unit : ℕ) → slot < total_slots plan → IsUnplayed run unit → slot ≤ used_in playback run unit
+    → run.sent + sum_through plan slot ≤ bytes_between sizes run.first_unit unit + playback.buffer
+
+-- no other list of segments is the run's plan
+abbrev pub IsOnlyPlan : List ℕ → Playback → Run → List Segment → Type 0
+IsOnlyPlan sizes playback run plan = (other : List Segment) → IsPlanOf sizes playback run other → other ≡ plan
+
+-- a halt leaves one run
+abbrev pub LeavesOne : List ℕ → Playback → Run → List Segment → Type 0
+LeavesOne sizes playback run plan =
+    (last : Option ℕ) (keep : ℕ) (left other : Run)
+    → IsLeft sizes playback run plan last keep left → IsLeft sizes playback run plan last keep other → other ≡ left
+
+-- the client can play what a halt leaves
+abbrev pub LeavesRun : List ℕ → Playback → Run → List Segment → Type 0
+LeavesRun sizes playback run plan =
+    (last : Option ℕ) (keep : ℕ) (left : Run)
+    → IsHalt plan last keep → IsLeft sizes playback run plan last keep left → CanPlay sizes playback left
+
+-- What is left is sent on from the byte after the last: what was kept of the plan and the plan of what is left are together the
+-- bytes of the plan.
+abbrev pub GoesOn : List ℕ → Playback → Run → List Segment → Type 0
+GoesOn sizes playback run plan =
+    (last : Option ℕ) (keep : ℕ) (left : Run) (rest : List Segment)
+    → IsHalt plan last keep → IsLeft sizes playback run plan last keep left → IsPlanOf sizes playback left rest
+    → keep + total_bytes rest ≡ total_bytes plan
+
+-- a place that is a boundary of a film's run is one of that run under every identity
+abbrev pub SharesBoundaries : Film → ℕ → ℕ → Type 0
+SharesBoundaries film first_unit end_unit =
+    (one other : Identity) (place : ℕ)
+    → IsBoundary (run_pieces (run_of film first_unit end_unit one)) place
+    → IsBoundary (run_pieces (run_of film first_unit end_unit other)) place
