@@ -1,11 +1,13 @@
 #!/usr/bin/env python3
-"""Draws as SVG what a film or trace needs of a link, beside its smoothed plan.
+"""Draws as SVG what a film or trace needs of a link beside its smoothed plan, and what a day books of a link.
 
     tools/draw.py plan trace=NAME [buffer=BYTES] [startup=SLOTS] [program=PATH] > plan.svg
+    tools/draw.py day script=NAME [capacity=BYTES] [journal=ENTRIES] [slot=UNITS] [program=PATH] > day.svg
 
-The words are those of `vodserve plan`, which is run in the current folder and whose segments are drawn. The upper
-picture has the bytes that must have been sent and may have been sent by the end of each slot, and the plan between
-them; the lower one has the bytes of each slot, as the pictures come and as the plan sends them.
+The words are those of `vodserve plan` and `vodserve day`, which is run in the current folder. A plan: the upper picture
+has the bytes that must have been sent and may have been sent by the end of each slot, and the plan between them; the
+lower one has the bytes of each slot, as the pictures come and as the plan sends them. A day: the bytes that each
+admitted play books in each slot, one on another, below the capacity; a script with `resume` isn't drawn.
 Each drawn line carries its numbers in `data-values`, so that a script can compare them (tools/draw_test.sh).
 """
 import os
@@ -96,6 +98,12 @@ class Panel:
             f"V{self.y(v)}H{self.x(k + 1)}" for k, v in enumerate(values)) + f"V{self.y(0)}"
         self.add("path", name, values, f'd="{path}" fill="{fill}" stroke="{color}" stroke-width="{width}"')
 
+    def area(self, name, values, tops, color):
+        """What a play adds to those below it: filled up to the tops, with its own values as numbers."""
+        path = f"M{self.x(0)},{self.y(0)}" + "".join(
+            f"V{self.y(v)}H{self.x(k + 1)}" for k, v in enumerate(tops)) + f"V{self.y(0)}Z"
+        self.add("path", name, values, f'd="{path}" fill="{color}" stroke="none"')
+
     def add(self, kind, name, values, rest):
         numbers = " ".join(map(str, values))
         self.parts.append(f'<{kind} id="{name}" data-values="{numbers}" {rest}><title>{name}</title></{kind}>')
@@ -137,13 +145,122 @@ def draw_plan(program, words):
                                    ("the plan", "#181"), ("as the pictures come", "#bbb")])
 
 
+class Play:
+    """An admitted play: what its plan books in each slot from its start on, up to what is kept."""
+
+    def __init__(self, number, client, start, slots):
+        self.number, self.client, self.start, self.slots = number, client, start, slots
+        self.keep = self.total = sum(slots)
+
+    def booked(self, end):
+        """The bytes of each slot before `end`."""
+        sums = [0] + [min(total, self.keep) for total in sums_of(self.slots)]
+        values = [0] * self.start + [b - a for a, b in zip(sums, sums[1:])]
+        return (values + [0] * end)[:end]
+
+    def is_done(self, slot):
+        return slot >= self.start and sum(self.slots[:slot - self.start + 1]) == self.total
+
+
+class Day:
+    """The plays of a script, as the lines that `day` printed tell them."""
+
+    def __init__(self, program, words):
+        self.program, self.slot_units = program, words.get("slot")
+        self.printed = output_of(program, "day", words)
+        self.at, self.heard, self.plays, self.open = 0, 0, [], {}
+        with open(words["script"]) as script:
+            for line in script.read().splitlines():
+                self.follow(line.split())
+        while "halt" in self.front():
+            self.halt(self.next())
+
+    def front(self):
+        return self.printed[self.at] if self.at < len(self.printed) else []
+
+    def next(self):
+        self.at += 1
+        return self.printed[self.at - 1]
+
+    def follow(self, line):
+        """Takes what was printed for a line of the script."""
+        if not line:
+            return
+        if line[0] == "offer":
+            while self.front()[0] == "tried":
+                self.next()
+        printed = self.next()
+        if line[0] == "slot":
+            self.heard = int(line[1])
+            for _ in [play for play in self.open.values() if play.is_done(self.heard)]:
+                self.halt(self.next())
+        elif line[0] == "play" and "admitted" in printed:
+            self.admit(line, printed)
+        elif line[0] == "pause" and "halt" in printed:
+            self.halt(printed)
+        elif line[0] == "resume" and "admitted" in printed:
+            fail("a script with a resume isn't drawn")
+
+    def admit(self, line, printed):
+        words = {line[2]: line[3], "buffer": line[4], "startup": line[5]}
+        if line[2] == "film" and self.slot_units:
+            words["slot"] = self.slot_units
+        plan = output_of(self.program, "plan", words)
+        slots = slots_of([(int(part[1]), int(part[2])) for part in plan if part[0] == "segment"])
+        play = Play(int(printed[0]), int(line[1]), int(printed[-1].split("=")[1]), slots)
+        self.plays.append(play)
+        self.open[play.number] = play
+
+    def halt(self, printed):
+        values = dict(word.split("=") for word in printed if "=" in word)
+        self.open.pop(int(values["number"])).keep = int(values["keep"])
+
+
+def capacities_of(word, end):
+    """The capacity of each slot: one number, or steps SLOT:BYTES."""
+    steps = [part.split(":") for part in word.split(",")] if ":" in word else [["0", word]]
+    values, bytes_now = [], 0
+    for slot in range(end):
+        bytes_now = next((int(size) for begin, size in steps if int(begin) == slot), bytes_now)
+        values.append(bytes_now)
+    return values
+
+
+COLORS = ["#7aa6d8", "#e6a15c", "#8cc28c", "#c98bb9", "#d8c56a", "#8fb9b9"]
+
+
+def draw_day(program, words):
+    if "script" not in words:
+        fail("day needs script=NAME")
+    day = Day(program, words)
+    end = max([day.heard + 1] + [play.start + len(play.slots) for play in day.plays])
+    capacities = capacities_of(words.get("capacity", "50000"), end)
+    panel = Panel(30, end, max(capacities), "bytes booked in each slot, play on play, below the capacity")
+    below = [0] * end
+    layers = []
+    for play in day.plays:
+        booked = play.booked(end)
+        below = [a + b for a, b in zip(below, booked)]
+        layers.append((play, booked, below))
+    for play, booked, top in reversed(layers):
+        color = COLORS[play.client % len(COLORS)]
+        panel.area(f"play{play.number}", booked, top, color)
+    panel.steps("capacity", capacities, "#c33")
+    panel.add("path", "heard", [day.heard], f'd="M{panel.x(day.heard + 1)},{panel.top}v{HEIGHT}" stroke="#555" '
+              'stroke-dasharray="4 4"')
+    clients = sorted({play.client for play in day.plays})
+    return svg_of([panel], [("capacity", "#c33"), ("last slot heard", "#555")]
+                  + [(f"client {c}", COLORS[c % len(COLORS)]) for c in clients])
+
+
 def main():
-    if len(sys.argv) < 2 or sys.argv[1] != "plan":
+    drawings = {"plan": draw_plan, "day": draw_day}
+    if len(sys.argv) < 2 or sys.argv[1] not in drawings:
         fail(__doc__.split("\n\n")[1].strip())
     words = words_of(sys.argv[2:])
     here = os.path.dirname(os.path.abspath(__file__))
     program = words.pop("program", os.path.join(here, "..", "vodserve"))
-    sys.stdout.write(draw_plan(program, words))
+    sys.stdout.write(drawings[sys.argv[1]](program, words))
 
 
 if __name__ == "__main__":
