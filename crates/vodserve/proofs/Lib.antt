@@ -5,3 +5,4 @@ pub mod RunLemmas
 pub mod WorkerLemmas
 pub mod ServeLemmas
 pub mod JournalLemmas
+pub mod ServeLaws

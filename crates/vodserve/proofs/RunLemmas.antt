@@ -6,16 +6,16 @@ use Rattle.plan_cert.specs.declared.Segment.{Segment}
 use Rattle.troubles.specs.Causes.{IsReadOnly, IsReadTrouble}
 use Rattle.troubles.specs.declared.faults.Trouble.{Trouble}
 use Rattle.troubles.specs.declared.faults.Trouble.TheVariants.{Usage, Refused, StoreFault, SinkFault, NoMemory, GateFault}
-use Rattle.vod_base.specs.Outside.{more}
+use Rattle.vod_base.specs.Outside.{File, more}
 use Rattle.vodserve.specs.Carrying.{IsDone, IsInputRefused, IsRead, made_text}
 use Rattle.vodserve.specs.Texts.{help_text, version_text}
 use Rattle.vodserve.proofs.CommandLemmas.{text_of}
-use Rattle.vodserve.specs.Run.{World, Does, IsCause, IsWritten, Printed, Prints, Ran}
+use Rattle.vodserve.specs.Run.{World, Does, HasServedNothing, IsCarriedOut, IsCause, IsWritten, Printed, Prints, Ran}
 use Rattle.vodserve.specs.declared.done.Done.{Done}
 use Rattle.vodserve.specs.declared.run.Ended.{Ended}
 
 written : (before after : World) (order : Order) (done : Done) (ended : Ended) → IsDone before.store.told order done.status done.text.items done.plan →
-    IsWritten before.out after.out before.err after.err done ended → Prints before after order ended
+    IsWritten before.out after.out before.err after.err done ended → IsCarriedOut before after order ended
 written before after order done ended is (inl whole) = inl (record {
   text = done.text.items;
   done = subst (λ (status : ℕ). IsDone before.store.told order status done.text.items ended.plan) (sym whole.0)
@@ -40,41 +40,47 @@ caused before after order SinkFault same cause = absurd cause
 caused before after order NoMemory same cause = same
 caused before after order GateFault same cause = absurd cause
 
+carried_out : (before after : World) (order : Order) (result : Result Done Trouble) (ended : Ended) →
+    IfOk result (λ done. IsDone before.store.told order done.status done.text.items done.plan) →
+    IfErr result (IsReadTrouble (IsRead order) (IsInputRefused order) before.store.told before.store.faults after.store.faults) →
+    Printed before.out after.out before.err after.err result ended → IsCarriedOut before after order ended
+carried_out before after order (Ok done) ended ok err is = written before after order done ended ok is
+carried_out before after order (Err trouble) ended ok err is = inr (trouble, (caused before after order trouble is.0 err, is.1))
+
 -- a command was carried out, and its text printed
-pub printed : (before after : World) (order : Order) (result : Result Done Trouble) (ended : Ended) →
+pub printed : (before after : World) (order : Order) (result : Result Done Trouble) (ended : Ended) → after.gate ≡ before.gate → HasServedNothing ended →
     IfOk result (λ done. IsDone before.store.told order done.status done.text.items done.plan) →
     IfErr result (IsReadTrouble (IsRead order) (IsInputRefused order) before.store.told before.store.faults after.store.faults) →
     Printed before.out after.out before.err after.err result ended → Prints before after order ended
-printed before after order (Ok done) ended ok err is = written before after order done ended ok is
-printed before after order (Err trouble) ended ok err is = inr (trouble, (caused before after order trouble is.0 err, is.1))
+printed before after order result ended gate nothing ok err is =
+    record { gate = gate; nothing = nothing; out = carried_out before after order result ended ok err is }
 
 -- what the words ask for was done
-pub ran_as : (before after : World) (asked : Option Order) (order : Order) (ended : Ended) → asked ≡ Some order →
-    IsReadOnly before.store.told after.store.told before.store.faults after.store.faults → before.out.faults ≤ after.out.faults → before.gate ≤ after.gate →
-    Does before after order ended → Ran before after asked ended
-ran_as before after asked order ended is library output gate does = record { library = library; output = output; gate = gate; does = inl (order, (is, does)) }
+pub ran_as : (before after : World) (seed : List ℕ) (asked : Option Order) (order : Order) (ended : Ended) → asked ≡ Some order →
+    IsReadOnly before.store.told after.store.told before.store.faults after.store.faults → before.out.faults ≤ after.out.faults → before.gate.faults ≤ after.gate.faults →
+    Does before after seed order ended → Ran before after seed asked ended
+ran_as before after seed asked order ended is library output gate does = record { library = library; output = output; gate = gate; does = inl (order, (is, does)) }
 
-pub made_done : {E : Type 0} (before : World) (kind : Made) (seed pictures : ℕ) (made : Result (Vec ℕ Global) E) → IfOk made (λ text. text.items ≡ made_text kind seed pictures) →
+pub made_done : {E : Type 0} (told : Option (List File)) (kind : Made) (seed pictures : ℕ) (made : Result (Vec ℕ Global) E) → IfOk made (λ text. text.items ≡ made_text kind seed pictures) →
     (result : Result Done Trouble) → IfOk result (λ done. (done.status ≡ 0) × (made ≡ Ok done.text) × (done.plan ≡ None)) →
-    IfOk result (λ done. IsDone before.store.told (make_of kind seed pictures) done.status done.text.items done.plan)
-made_done before kind seed pictures made text (Err trouble) is = tt
-made_done before kind seed pictures made text (Ok done) is = (is.0, is.2, text_of (made_text kind seed pictures) made done.text text is.1)
+    IfOk result (λ done. IsDone told (make_of kind seed pictures) done.status done.text.items done.plan)
+made_done told kind seed pictures made text (Err trouble) is = tt
+made_done told kind seed pictures made text (Ok done) is = (is.0, is.2, text_of (made_text kind seed pictures) made done.text text is.1)
 
-pub help_done : {E : Type 0} (before : World) (made : Result (Vec ℕ Global) E) → IfOk made (λ text. text.items ≡ help_text) →
+pub help_done : {E : Type 0} (told : Option (List File)) (made : Result (Vec ℕ Global) E) → IfOk made (λ text. text.items ≡ help_text) →
     (result : Result Done Trouble) → IfOk result (λ done. (done.status ≡ 0) × (made ≡ Ok done.text) × (done.plan ≡ None)) →
-    IfOk result (λ done. IsDone before.store.told help done.status done.text.items done.plan)
-help_done before made text (Err trouble) is = tt
-help_done before made text (Ok done) is = (is.0, is.2, text_of help_text made done.text text is.1)
+    IfOk result (λ done. IsDone told help done.status done.text.items done.plan)
+help_done told made text (Err trouble) is = tt
+help_done told made text (Ok done) is = (is.0, is.2, text_of help_text made done.text text is.1)
 
-pub version_done : {E : Type 0} (before : World) (made : Result (Vec ℕ Global) E) → IfOk made (λ text. text.items ≡ version_text) →
+pub version_done : {E : Type 0} (told : Option (List File)) (made : Result (Vec ℕ Global) E) → IfOk made (λ text. text.items ≡ version_text) →
     (result : Result Done Trouble) → IfOk result (λ done. (done.status ≡ 0) × (made ≡ Ok done.text) × (done.plan ≡ None)) →
-    IfOk result (λ done. IsDone before.store.told version done.status done.text.items done.plan)
-version_done before made text (Err trouble) is = tt
-version_done before made text (Ok done) is = (is.0, is.2, text_of version_text made done.text text is.1)
+    IfOk result (λ done. IsDone told version done.status done.text.items done.plan)
+version_done told made text (Err trouble) is = tt
+version_done told made text (Ok done) is = (is.0, is.2, text_of version_text made done.text text is.1)
 
 -- want of memory keeps from each order
-pub no_memory : (before after : World) (order : Order) (result : Result Done Trouble) → IfErr result (λ trouble. trouble ≡ NoMemory) →
-    IfErr result (IsReadTrouble (IsRead order) (IsInputRefused order) before.store.told before.store.faults after.store.faults)
-no_memory before after order (Ok done) is = tt
-no_memory before after order (Err trouble) is =
-    subst (IsReadTrouble (IsRead order) (IsInputRefused order) before.store.told before.store.faults after.store.faults) (sym is) tt
+pub no_memory : (told : Option (List File)) (faults faults' : ℕ) (order : Order) (result : Result Done Trouble) → IfErr result (λ trouble. trouble ≡ NoMemory) →
+    IfErr result (IsReadTrouble (IsRead order) (IsInputRefused order) told faults faults')
+no_memory told faults faults' order (Ok done) is = tt
+no_memory told faults faults' order (Err trouble) is = subst (IsReadTrouble (IsRead order) (IsInputRefused order) told faults faults') (sym is) tt

@@ -1,5 +1,5 @@
 -- The films that words name.
-use Rattle.std.proofs.Common.{◌≡◌, ◌≢◌, ◌∙◌, ◌+◌, ◌<◌, ◌≤◌, ◌&&◌, not, ℕ, Bool, true, false, List, [], ◌∷◌, ◌++◌, length, drop, get_or, Option, Some, None, refl, sym, ap, subst, suc, zero, arith, string_bytes, String, Global, add-one, length-append}
+use Rattle.std.proofs.Common.{◌≡◌, ◌≢◌, ◌∙◌, ◌+◌, ◌<◌, ◌≤◌, ◌&&◌, not, ℕ, Bool, true, false, List, [], ◌∷◌, ◌++◌, length, drop, get_or, Option, Some, None, refl, sym, ap, subst, suc, zero, arith, string_bytes, String, Global, add-one, add-zero, length-append}
 use Rattle.std.specs.Prelude.{All, codes, map, nat_le, option_map, slice_index_or}
 use Rattle.std.specs.List.{Contains, list_all, list_any}
 use Rattle.std.specs.Option.{option_to_list}
@@ -12,9 +12,16 @@ use Rattle.std.proofs.lemmas.List.Folds.{list_any_at}
 use Rattle.vod_base.specs.Names.{is_good_name}
 use Rattle.film_frames.specs.declared.stores.Stored.{Stored}
 use Rattle.session.specs.Ranges.{AreFilms, names_of}
+use Rattle.session.specs.declared.settings.Settings.{Settings}
+use Rattle.turnstile.specs.declared.view.Joined.{Joined}
+use Rattle.conn.specs.Parts.{Outlet, duty}
+use Rattle.conn.specs.declared.reports.ConnReport.{ConnReport}
+use Rattle.conn.specs.declared.reports.PartReport.{PartReport}
+use Rattle.conn.specs.declared.reports.PartEnd.{PartEnd}
+use Rattle.conn.specs.declared.reports.PartEnd.TheVariants.{GateFault as PartFault}
 use Rattle.command_words.specs.Settings.{setting_value, texts, values_of}
 use Rattle.command_words.specs.Words.{are_distinct, are_films, are_names}
-use Rattle.vod_base.specs.Outside.{File}
+use Rattle.vod_base.specs.Outside.{File, HasRisen, file_named}
 use Rattle.vod_base.specs.Gates.{Content, opened}
 use Rattle.vod_base.specs.declared.gates.Opening.{Opening}
 use Rattle.slot_calendar.specs.declared.profiles.CapStep.{CapStep}
@@ -27,15 +34,18 @@ use Rattle.troubles.specs.Causes.{IsReadTrouble}
 use Rattle.troubles.specs.declared.faults.Trouble.{Trouble}
 use Rattle.troubles.specs.declared.faults.Trouble.TheVariants.{Usage, Refused, StoreFault, SinkFault, NoMemory, GateFault}
 use Rattle.inputs.specs.Films.{IsHeldRefused}
-use Rattle.vodserve.specs.Workers.{IsBack, IsMakeTrouble}
-use Rattle.vodserve.specs.Served.{IsJournal, IsNewlyOpen, IsServeTrouble, IsWordNamed}
+use Rattle.vodserve.specs.Worked.{AllWorked, AreLeft, HasOne, HasWorked, HaveWorked, IsHeld, IsOpenAs, opening_of, settings_of}
+use Rattle.vodserve.specs.Workers.{AreJoined, AreWorkers, HasFinished, IsMakeTrouble, report_of}
+use Rattle.vodserve.specs.Served.{HasFewer, IsJournal, IsNewlyOpen, IsServeTrouble, IsWordNamed}
+use Rattle.vodserve.specs.declared.workers.Worker.{Worker}
+use Rattle.vodserve.proofs.WorkerLemmas.{all_worked, counted_parts, risen_since, risen_some}
 
 contains_seam : (xs ys zs : List (List ℕ)) (y : List ℕ) → zs ≡ xs ++ y ∷ ys → Contains zs y
 contains_seam xs ys zs y is = subst (λ (l : List (List ℕ)). Contains l y) (sym is)
     (length xs, omega (arith, length-append xs (y ∷ ys)), get_or-append_seam xs y ys y)
 
 -- what a word and the words after it give
-values_rest : (key : List ℕ) (words : List (String Global)) (i : ℕ) (word : String Global) → i < length words → word ≡ get_or words i word →
+pub values_rest : (key : List ℕ) (words : List (String Global)) (i : ℕ) (word : String Global) → i < length words → word ≡ get_or words i word →
     values_of key (texts (drop i words)) ≡ option_to_list (setting_value key (string_bytes word)) ++ values_of key (texts (drop (i + 1) words))
 values_rest key words i word h at =
     ap (λ (ws : List (String Global)). values_of key (texts ws)) (drop-cons words i word h)
@@ -86,45 +96,128 @@ films_are films names is named =
       differ = λ i j before inside. apart (names_of films) each.1 i j before (omega (arith, inside, long));
     }
 
+-- a film that the library holds under its name
+pub held_film : (told : Option (List File)) (film : Stored) (name : List ℕ) → string_bytes film.name ≡ name →
+    ((held : List File) → told ≡ Some held → file_named held name ≡ Some film.film.bytes.items) → IsHeld told film
+held_film told film name named is = λ held told_is. subst (λ (n : List ℕ). file_named held n ≡ Some film.film.bytes.items) (sym named) (is held told_is)
+
 -- a trouble of reading keeps from serving
-pub read_serves : (films : List (List ℕ)) (told : Option (List File)) (faults faults' gate gate' : ℕ) (t : Trouble) →
-    IsReadTrouble (Contains films) IsHeldRefused told faults faults' t → IsServeTrouble films told faults faults' gate gate' t
-read_serves films told faults faults' gate gate' Usage is = is
-read_serves films told faults faults' gate gate' (Refused name fault) is = is
-read_serves films told faults faults' gate gate' (StoreFault name) is = is
-read_serves films told faults faults' gate gate' SinkFault is = is
-read_serves films told faults faults' gate gate' NoMemory is = tt
-read_serves films told faults faults' gate gate' GateFault is = absurd is
+pub read_serves : (serving : Serving) (told : Option (List File)) (faults faults' : ℕ) (gate gate' : Outlet) (t : Trouble) →
+    IsReadTrouble (Contains serving.films) IsHeldRefused told faults faults' t → IsServeTrouble serving told faults faults' gate gate' t
+read_serves serving told faults faults' gate gate' Usage is = is
+read_serves serving told faults faults' gate gate' (Refused name fault) is = is
+read_serves serving told faults faults' gate gate' (StoreFault name) is = is
+read_serves serving told faults faults' gate gate' SinkFault is = is
+read_serves serving told faults faults' gate gate' NoMemory is = tt
+read_serves serving told faults faults' gate gate' GateFault is = absurd is
 
 -- and so does one of making workers
-pub make_serves : (films : List (List ℕ)) (told : Option (List File)) (faults faults' gate gate' gate'' : ℕ) (t : Trouble) → IsMakeTrouble gate' gate'' t → gate ≤ gate' →
-    IsServeTrouble films told faults faults' gate gate'' t
-make_serves films told faults faults' gate gate' gate'' Usage is low = is
-make_serves films told faults faults' gate gate' gate'' (Refused name fault) is low = absurd is
-make_serves films told faults faults' gate gate' gate'' (StoreFault name) is low = absurd is
-make_serves films told faults faults' gate gate' gate'' SinkFault is low = is
-make_serves films told faults faults' gate gate' gate'' NoMemory is low = tt
-make_serves films told faults faults' gate gate' gate'' GateFault is low = λ end. omega (arith, is end, low)
-
-pub make_later : (gate gate' gate'' : ℕ) (t : Trouble) → IsMakeTrouble gate gate' t → gate' ≤ gate'' → IsMakeTrouble gate gate'' t
-make_later gate gate' gate'' Usage is low = is
-make_later gate gate' gate'' (Refused name fault) is low = is
-make_later gate gate' gate'' (StoreFault name) is low = is
-make_later gate gate' gate'' SinkFault is low = is
-make_later gate gate' gate'' NoMemory is low = tt
-make_later gate gate' gate'' GateFault is low = λ end. omega (arith, is (omega (arith, low, end)), low)
+pub make_serves : (serving : Serving) (told : Option (List File)) (faults faults' gate' : ℕ) (gate gate'' : Outlet) (t : Trouble) → IsMakeTrouble gate' gate''.faults t →
+    gate.faults ≤ gate' → HasFewer serving.listening.workers gate''.told → IsServeTrouble serving told faults faults' gate gate'' t
+make_serves serving told faults faults' gate' gate gate'' Usage is low fewer = is
+make_serves serving told faults faults' gate' gate gate'' (Refused name fault) is low fewer = absurd is
+make_serves serving told faults faults' gate' gate gate'' (StoreFault name) is low fewer = absurd is
+make_serves serving told faults faults' gate' gate gate'' SinkFault is low fewer = is
+make_serves serving told faults faults' gate' gate gate'' NoMemory is low fewer = tt
+make_serves serving told faults faults' gate' gate gate'' GateFault is low fewer = (λ end. omega (arith, is end, low), fewer)
 
 -- what is told of a gate that was opened
-pub newly_open : (how : Opening) (gate gate' : Option Content) → gate' ≡ option_map (opened (Some how)) gate → IsNewlyOpen gate'
-newly_open how None gate' is = subst IsNewlyOpen (sym is) tt
-newly_open how (Some c) gate' is = subst IsNewlyOpen (sym is) (refl, refl)
+pub newly_open : (how : Opening) (gate gate' : Option Content) → gate' ≡ option_map (opened (Some how)) gate → IsNewlyOpen how gate'
+newly_open how None gate' is = subst (IsNewlyOpen how) (sym is) tt
+newly_open how (Some c) gate' is = subst (IsNewlyOpen how) (sym is) (refl, refl)
+
+pub newly_open_as : (how : Opening) (gate : Option Content) → IsNewlyOpen how gate → IsOpenAs how gate
+newly_open_as how None is = tt
+newly_open_as how (Some c) is = is.0
+
+-- a gate that couldn't be opened has no parts
+pub lost_fewer : (workers : ℕ) (gate gate' : Option Content) → gate' ≡ option_map (opened None) gate → 1 ≤ workers → HasFewer workers gate'
+lost_fewer workers None gate' is some = subst (HasFewer workers) (sym is) tt
+lost_fewer workers (Some c) gate' is some = subst (HasFewer workers) (sym is) (omega (arith, some))
 
 -- the journal of a station that was closed
-pub closed_journal : (serving : Serving) (hall : Hall) (count : ℕ) (seat : Sitting) (entries : List Entry) → IsBack hall count seat → IsWhole seat entries →
-    hall.steps ≡ serving.capacity → count ≤ serving.listening.workers → IsJournal serving entries
-closed_journal serving hall count seat entries back whole steps few = record {
+pub closed_journal : {G : Type 0} (told : G → Option Content) (serving : Serving) (hall : Hall) (workers : List (Worker G)) (seat : Sitting) (gate : Option Content)
+    (entries : List Entry) → AreJoined told hall (length workers) workers seat gate → IsWhole seat entries → hall.steps ≡ serving.capacity →
+    length workers ≡ serving.listening.workers → IsJournal serving entries
+closed_journal told serving hall workers seat gate entries back whole steps count = record {
   legal = subst (λ (s : List CapStep). IsLegal s entries) (back.steps ∙ steps) whole.legal;
   halts = whole.halts;
   first = ap (λ (n : ℕ). made_by n entries) (sym back.number) ∙ sym whole.mine ∙ back.mine;
-  others = λ maker high. whole.others maker (omega (arith, back.splits, few, high));
+  others = λ maker high. whole.others maker (omega (arith, back.splits, count, high));
 }
+
+-- what the workers of a closed station did
+pub have_worked : {G : Type 0} (told : G → Option Content) (faults : G → ℕ) (films : List Stored) (seed : List ℕ) (serving : Serving) (hall : Hall)
+    (workers : List (Worker G)) (seat : Sitting) (entries : List Entry) (gate gate' : Outlet) (end : PartEnd) (reports : List ConnReport) →
+    AreWorkers told faults hall 0 workers → All (HasFinished told faults films (settings_of serving) seed) workers →
+    AreJoined told hall (length workers) workers seat gate'.told → All (λ worker. 0 < faults worker.part → HasRisen gate.faults gate'.faults) workers →
+    IsWhole seat entries → length workers ≡ serving.listening.workers → IsOpenAs (opening_of serving) gate'.told → AreLeft (map report_of workers) end reports →
+    HaveWorked films seed serving entries gate gate' end reports
+have_worked told faults films seed serving hall workers seat entries gate gate' end reports all finished back counted whole count open_as left = record {
+  parts = map report_of workers;
+  count = length-map workers report_of ∙ count;
+  each = all_worked told faults films (settings_of serving) seed entries seat.seen gate gate' hall 0 workers all finished back.seen whole.seen back.back counted
+      (subst (All (λ (joined : Joined). joined.mine ≡ made_by joined.number entries)) back.joined whole.joined);
+  open_as = open_as;
+  split = counted_parts (length workers) (length workers) serving.listening.workers gate'.told back.out count;
+  left = left;
+}
+
+-- the same from an earlier count of the gate's faults on
+worked_since : (films : List Stored) (settings : Settings) (seed : List ℕ) (entries : List Entry) (before gate gate' : Outlet) (from : ℕ) (parts : List PartReport) →
+    AllWorked films settings seed entries gate gate' from parts → before.faults ≤ gate.faults → AllWorked films settings seed entries before gate' from parts
+worked_since films settings seed entries before gate gate' from [] all low = tt
+worked_since films settings seed entries before gate gate' from (part ∷ parts) all low = (
+  record {
+    seat = all.0.seat;
+    left = all.0.left;
+    part = all.0.part;
+    after = all.0.after;
+    served = all.0.served;
+    number = all.0.number;
+    mine = all.0.mine;
+    untouched = all.0.untouched;
+    seen = all.0.seen;
+    made = all.0.made;
+    back = all.0.back;
+    counted = λ some. risen_since before.faults gate.faults gate'.faults (all.0.counted some) low;
+  },
+  worked_since films settings seed entries before gate gate' (from + 1) parts all.1 low,
+)
+
+pub have_worked_since : (films : List Stored) (seed : List ℕ) (serving : Serving) (entries : List Entry) (before gate gate' : Outlet) (end : PartEnd) (reports : List ConnReport) →
+    HaveWorked films seed serving entries gate gate' end reports → before.faults ≤ gate.faults → HaveWorked films seed serving entries before gate' end reports
+have_worked_since films seed serving entries before gate gate' end reports worked low =
+    record {
+      parts = worked.parts;
+      count = worked.count;
+      each = worked_since films (settings_of serving) seed entries before gate gate' 0 worked.parts worked.each low;
+      open_as = worked.open_as;
+      split = worked.split;
+      left = worked.left;
+    }
+
+-- the worker of a number
+pub worker_worked : (films : List Stored) (settings : Settings) (seed : List ℕ) (entries : List Entry) (gate gate' : Outlet) (from : ℕ) (parts : List PartReport) →
+    AllWorked films settings seed entries gate gate' from parts → (k : ℕ) (none : PartReport) → k < length parts →
+    HasWorked (duty films settings seed (from + k)) entries gate gate' (slice_index_or parts k none)
+worker_worked films settings seed entries gate gate' from [] all k none inside = absurd (omega (arith, inside))
+worker_worked films settings seed entries gate gate' from (part ∷ parts) all zero none inside =
+    subst (λ (n : ℕ). HasWorked (duty films settings seed n) entries gate gate' part) (sym (add-zero from)) all.0
+worker_worked films settings seed entries gate gate' from (part ∷ parts) all (suc k) none inside =
+    let on : from + 1 + k ≡ from + suc k = omega arith in
+    subst (λ (n : ℕ). HasWorked (duty films settings seed n) entries gate gate' (slice_index_or parts k none)) on
+    (worker_worked films settings seed entries gate gate' (from + 1) parts all.1 k none (omega (arith, inside)))
+
+-- a part that failed was counted
+fault_counted : (films : List Stored) (settings : Settings) (seed : List ℕ) (entries : List Entry) (gate gate' : Outlet) (parts : List PartReport) →
+    AllWorked films settings seed entries gate gate' 0 parts → HasOne PartFault parts → HasRisen gate.faults gate'.faults
+fault_counted films settings seed entries gate gate' [] all one = absurd (omega (arith, one.inside))
+fault_counted films settings seed entries gate gate' (part ∷ parts) all one =
+    let worked = worker_worked films settings seed entries gate gate' 0 (part ∷ parts) all one.worker part one.inside in
+    worked.counted (risen_some 0 worked.after.faults (worked.served.fault (one.ended part)))
+
+pub fault_risen : (films : List Stored) (seed : List ℕ) (serving : Serving) (entries : List Entry) (gate gate' : Outlet) (end : PartEnd) (reports : List ConnReport) →
+    HaveWorked films seed serving entries gate gate' end reports → end ≡ PartFault → HasRisen gate.faults gate'.faults
+fault_risen films seed serving entries gate gate' end reports worked is =
+    fault_counted films (settings_of serving) seed entries gate gate' worked.parts worked.each (worked.left.failed is)

@@ -1,21 +1,32 @@
 -- Workers that are made, run and joined.
-use Rattle.std.proofs.Common.{◌≡◌, ◌≢◌, ◌∙◌, ◌+◌, ◌<◌, ◌≤◌, ◌-◌, ◌^◌, ℕ, List, [], ◌∷◌, ◌++◌, length, take, drop, Option, Some, None, ◌⊎◌, inl, inr, sym, ap, subst, refl, suc, zero, arith, add-zero, add_assoc, length-append}
-use Rattle.std.specs.Prelude.{IfSome, All, option_map, slice_index_or, slice_set}
+use Rattle.std.proofs.Common.{◌≡◌, ◌≢◌, ◌∙◌, ◌+◌, ◌<◌, ◌≤◌, ◌-◌, ◌^◌, ℕ, List, [], ◌∷◌, ◌++◌, length, Option, Some, None, ◌⊎◌, inl, inr, sym, ap, subst, refl, suc, zero, arith, add-zero, zero-add, length-append}
+use Rattle.std.specs.Prelude.{IfSome, IsSome, All, map, option_map, slice_index_or, slice_set}
 use Rattle.std.specs.List.{remove}
+use mathlib.Core.List.{IsPrefix}
 use Rattle.std.proofs.Math.ListN.{length-set, get_or-append}
 use Rattle.std.proofs.Math.Seq.{get_or-append_seam}
-use Rattle.vod_base.specs.Outside.{HasRisen}
 use Rattle.std.proofs.lemmas.Bool.{cases_lt}
-use Rattle.std.proofs.lemmas.List.{get_or-set_other}
-use Rattle.std.proofs.lemmas.List.Elements.{All-append, All-cons, All-nil}
-use Rattle.conn.specs.Parts.{IsServed, IsUntouched}
+use Rattle.std.proofs.lemmas.List.{append-nil, append_assoc, get_or-set_other, get_or-set_same, map-append}
+use Rattle.std.proofs.lemmas.List.Elements.{All-append, All-cons, All-head, All-nil, All-tail}
+use Rattle.vod_base.specs.Outside.{HasRisen}
 use Rattle.vod_base.specs.Gates.{Content, Part, IsOpen, IsOut, new_part, rejoined, split_off, told_rejoined}
+use Rattle.vod_base.specs.declared.gates.Opening.{Opening}
+use Rattle.film_frames.specs.declared.stores.Stored.{Stored}
+use Rattle.admission.specs.declared.entries.Entry.{Entry}
+use Rattle.admission.specs.Makers.{made_by}
 use Rattle.turnstile.specs.Passes.{IsJoined}
 use Rattle.turnstile.specs.declared.view.Joined.{Joined}
-use Rattle.station.specs.Seats.{Hall, Sitting, after_join}
+use Rattle.turnstile.proofs.Prefixes.{prefix_trans}
+use Rattle.session.specs.declared.settings.Settings.{Settings}
+use Rattle.station.specs.Seats.{AllJoined, Hall, Sitting, after_join}
+use Rattle.conn.specs.Parts.{IsServed, IsUntouched, Outlet, duty, outlet}
+use Rattle.conn.specs.declared.reports.ConnReport.{ConnReport}
+use Rattle.conn.specs.declared.reports.PartReport.{PartReport}
 use Rattle.conn.specs.declared.reports.PartEnd.{PartEnd}
-use Rattle.conn.specs.declared.reports.PartEnd.TheVariants.{GateFault as PartFault}
-use Rattle.vodserve.specs.Workers.{AreOut, AreWorkers, IsBack, IsFresh, IsWorker}
+use Rattle.conn.specs.declared.reports.PartEnd.TheVariants.{AllTaken, GateFault as PartFault, NoMemory}
+use Rattle.vodserve.specs.Served.{HasFewer}
+use Rattle.vodserve.specs.Worked.{AllWorked, AreLeft, HasBack, HasOne, HasParts, HasWorked, IsOpenAs, IsWorse, all_reports}
+use Rattle.vodserve.specs.Workers.{AreBack, AreJoined, AreOut, AreWorkers, HasFinished, IsFresh, IsWorker, joined_of, report_of}
 use Rattle.vodserve.specs.declared.workers.Worker.{Worker}
 
 -- a worker more
@@ -111,92 +122,242 @@ may_rejoin from count None (Some c) short number are = tt
 may_rejoin from count (Some p) (Some c) short number are =
     (omega (arith, number, short, are.counted), ap (λ (k : ℕ). slice_index_or c.parts k None) number ∙ are.out from (omega arith) short)
 
--- seats that were joined
-joined_left : (xs ys : List Joined) (k : ℕ) → IsJoined xs k → IsJoined (xs ++ ys) k
-joined_left [] ys k is = absurd is
-joined_left (x ∷ xs) ys k (inl here) = inl here
-joined_left (x ∷ xs) ys k (inr rest) = inr (joined_left xs ys k rest)
+-- one more of which something holds
+pub all_push : {A : Type 0} (P : A → Type 0) (items : List A) (item : A) → All P items → P item → All P (items ++ item ∷ [])
+all_push P items item all is = All-append P items (item ∷ []) all (All-cons P item [] is (All-nil P))
 
-joined_last : (xs : List Joined) (y : Joined) (ys : List Joined) (k : ℕ) → y.number ≡ k → IsJoined (xs ++ y ∷ ys) k
-joined_last [] y ys k is = inl is
-joined_last (x ∷ xs) y ys k is = inr (joined_last xs y ys k is)
+-- a part that came back is in the gate, and those from before are too
+kept_one : (k : ℕ) (told part gate : Option Content) → IfSome gate (HasBack k told) → IfSome part (λ p. k < p.own.number) → IfSome (told_rejoined part gate) (HasBack k told)
+kept_one k told None None is apart = tt
+kept_one k told None (Some c) is apart = tt
+kept_one k told (Some p) None is apart = tt
+kept_one k told (Some p) (Some c) is apart =
+    (is.0, (is.1.0, set_other c.parts p.own.number k (Some p.own) None (omega (arith, apart)) ∙ is.1.1))
 
--- the first `from` of `count` workers were joined, and these are left
-pub record AreJoined {G : Type 0} (told : G → Option Content) (faults : G → ℕ) (hall : Hall) (count from : ℕ) (seat : Sitting) (gate : Option Content) (workers : List (Worker G)) : Type 0 where
-  pub whole : from + length workers ≡ count
-  pub id : seat.id ≡ hall.id
-  pub steps : seat.steps ≡ hall.steps
-  pub limit : seat.limit ≡ hall.limit
-  pub number : seat.number ≡ 0
-  pub mine : seat.mine ≡ []
-  pub splits : seat.splits ≡ count
-  pub joined : (k : ℕ) → 0 < k → k ≤ from → IsJoined seat.joined k
-  pub left : AreWorkers told faults hall from workers
-  pub parts : IfSome gate (AreOut from count)
+own_back : (k count : ℕ) (part gate : Option Content) → IfSome part (λ p. p.own.number ≡ k) → IfSome gate (AreOut k count) → k < count →
+    IfSome (told_rejoined part gate) (HasBack k part)
+own_back k count None None number out inside = tt
+own_back k count None (Some c) number out inside = tt
+own_back k count (Some p) None number out inside = tt
+own_back k count (Some p) (Some c) number out inside = (
+  p,
+  (
+    refl,
+    ap (λ (j : ℕ). slice_index_or (slice_set c.parts j (Some p.own)) k None) number
+        ∙ get_or-set_same c.parts k (Some p.own) None (omega (arith, inside, out.counted)),
+  ),
+)
 
-pub join_one : {G : Type 0} (told : G → Option Content) (faults : G → ℕ) (hall : Hall) (count from : ℕ) (seat seat' : Sitting) (gate gate' : Option Content)
-    (workers : List (Worker G)) (worker : Worker G) → AreJoined told faults hall count from seat gate workers → 0 < length workers →
-    worker ≡ slice_index_or workers 0 worker → seat' ≡ after_join seat worker.seat → gate' ≡ told_rejoined (told worker.part) gate →
-    AreJoined told faults hall count (from + 1) seat' gate' (remove workers 0)
-join_one told faults hall count from seat seat' gate gate' workers worker so_far some is seated rejoins =
-    let first : (worker.number ≡ from) × IsWorker told faults hall worker = first_worker told faults hall from workers worker so_far.left some is in
-    subst (λ (s : Sitting). AreJoined told faults hall count (from + 1) s gate' (remove workers 0)) (sym seated)
-    (subst (λ (c : Option Content). AreJoined told faults hall count (from + 1) (after_join seat worker.seat) c (remove workers 0)) (sym rejoins)
-    (record {
-      whole = omega (arith, so_far.whole, length_removed workers some);
-      id = so_far.id;
-      steps = so_far.steps;
-      limit = so_far.limit;
-      number = so_far.number;
-      mine = so_far.mine;
-      splits = so_far.splits;
-      joined = λ k low high. elim (cases_lt from k) [
-        | inl last ↦ joined_last seat.joined (record { number = worker.seat.number; mine = worker.seat.mine }) worker.seat.joined k
-            (omega (arith, first.1.seat, first.0, last, high))
-        | inr before ↦ joined_left seat.joined (record { number = worker.seat.number; mine = worker.seat.mine } ∷ worker.seat.joined) k
-            (so_far.joined k low before)
-      ];
-      left = rest_workers told faults hall from workers so_far.left some;
-      parts = told_less from count (told worker.part) gate (number_of (told worker.part) worker.number from first.1.part first.0) so_far.parts;
-    }))
+later : (part : Option Content) (k n : ℕ) → IfSome part (λ p. p.own.number ≡ n) → k < n → IfSome part (λ p. k < p.own.number)
+later None k n number before = tt
+later (Some p) k n number before = omega (arith, number, before)
 
-pub all_back : {G : Type 0} (told : G → Option Content) (faults : G → ℕ) (hall : Hall) (count from : ℕ) (seat : Sitting) (gate : Option Content) (workers : List (Worker G)) →
-    AreJoined told faults hall count from seat gate workers → length workers ≡ 0 → IsBack hall count seat
-all_back told faults hall count from seat gate workers so_far none = record {
-  id = so_far.id;
-  steps = so_far.steps;
-  limit = so_far.limit;
-  number = so_far.number;
-  mine = so_far.mine;
-  splits = so_far.splits;
-  joined = record { each = λ k low high. so_far.joined k low (omega (arith, high, so_far.splits, so_far.whole, none)) };
+kept_back : {G : Type 0} (told : G → Option Content) (from n : ℕ) (workers : List (Worker G)) (part gate : Option Content) → AreBack told gate from workers →
+    IfSome part (λ p. p.own.number ≡ n) → from + length workers ≤ n → AreBack told (told_rejoined part gate) from workers
+kept_back told from n [] part gate all number before = tt
+kept_back told from n (worker ∷ workers) part gate all number before = (
+  kept_one from (told worker.part) part gate all.0 (later part from n number (omega (arith, before))),
+  kept_back told (from + 1) n workers part gate all.1 number (omega (arith, before)),
+)
+
+back_push : {G : Type 0} (told : G → Option Content) (from : ℕ) (workers : List (Worker G)) (worker : Worker G) (gate : Option Content) → AreBack told gate from workers →
+    IfSome gate (HasBack (from + length workers) (told worker.part)) → AreBack told gate from (workers ++ worker ∷ [])
+back_push told from [] worker gate all last = (subst (λ (k : ℕ). IfSome gate (HasBack k (told worker.part))) (add-zero from) last, tt)
+back_push told from (first ∷ workers) worker gate all last = (
+  all.0,
+  back_push told (from + 1) workers worker gate all.1
+      (let on : from + length (first ∷ workers) ≡ from + 1 + length workers = omega arith in
+      subst (λ (k : ℕ). IfSome gate (HasBack k (told worker.part))) on last),
+)
+
+-- a worker more is joined
+pub join_one : {G : Type 0} (told : G → Option Content) (faults : G → ℕ) (hall : Hall) (count : ℕ) (workers : List (Worker G)) (worker : Worker G)
+    (seat seat' : Sitting) (gate gate' : Option Content) → AreJoined told hall count workers seat gate → IsWorker told faults hall worker →
+    worker.number ≡ length workers → length workers < count → seat' ≡ after_join seat worker.seat → gate' ≡ told_rejoined (told worker.part) gate →
+    IsPrefix seat.seen seat'.seen → IsPrefix worker.seat.seen seat'.seen → AreJoined told hall count (workers ++ worker ∷ []) seat' gate'
+join_one told faults hall count workers worker seat seat' gate gate' so_far is number inside seated rejoins longer seen =
+    let own : IfSome (told worker.part) (λ content. content.own.number ≡ length workers) = number_of (told worker.part) worker.number (length workers) is.part number in
+    let one_more : length workers + 1 ≡ length (workers ++ worker ∷ []) = sym (length-append workers (worker ∷ [])) in
+    record {
+      id = ap (λ (s : Sitting). s.id) seated ∙ so_far.id;
+      steps = ap (λ (s : Sitting). s.steps) seated ∙ so_far.steps;
+      limit = ap (λ (s : Sitting). s.limit) seated ∙ so_far.limit;
+      number = ap (λ (s : Sitting). s.number) seated ∙ so_far.number;
+      mine = ap (λ (s : Sitting). s.mine) seated ∙ so_far.mine;
+      splits = ap (λ (s : Sitting). s.splits) seated ∙ so_far.splits;
+      joined = ap (λ (s : Sitting). s.joined) seated
+          ∙ ap (λ (js : List Joined). seat.joined ++ joined_of worker ∷ js) is.joined
+          ∙ ap (λ (js : List Joined). js ++ joined_of worker ∷ []) so_far.joined
+          ∙ sym (map-append joined_of workers (worker ∷ []));
+      seen = all_push (λ (w : Worker _). IsPrefix w.seat.seen seat'.seen) workers worker
+          (λ i d within. prefix_trans (slice_index_or workers i d).seat.seen seat.seen seat'.seen (so_far.seen i d within) longer) seen;
+      out = subst (λ (c : Option Content). IfSome c (AreOut (length (workers ++ worker ∷ [])) count)) (sym rejoins)
+          (subst (λ (k : ℕ). IfSome (told_rejoined (told worker.part) gate) (AreOut k count)) one_more
+          (told_less (length workers) count (told worker.part) gate own so_far.out));
+      back = subst (λ (c : Option Content). AreBack told c 0 (workers ++ worker ∷ [])) (sym rejoins)
+          (back_push told 0 workers worker (told_rejoined (told worker.part) gate)
+          (kept_back told 0 (length workers) workers (told worker.part) gate so_far.back own (omega arith))
+          (subst (λ (k : ℕ). IfSome (told_rejoined (told worker.part) gate) (HasBack k (told worker.part))) (sym (zero-add (length workers)))
+          (own_back (length workers) count (told worker.part) gate own so_far.out inside)));
+    }
+
+-- every seat that was split is joined
+joined_at : {G : Type 0} (told : G → Option Content) (faults : G → ℕ) (hall : Hall) (from : ℕ) (workers : List (Worker G)) → AreWorkers told faults hall from workers →
+    (k : ℕ) → from < k → k ≤ from + length workers → IsJoined (map joined_of workers) k
+joined_at told faults hall from [] all k low high = absurd (omega (arith, low, high))
+joined_at told faults hall from (worker ∷ workers) all k low high = elim (cases_lt (from + 1) k) [
+  | inl after ↦ inr (joined_at told faults hall (from + 1) workers all.2 k after (omega (arith, high)))
+  | inr here ↦ inl (omega (arith, all.1.seat, all.0, here, low))
+]
+
+pub all_joined : {G : Type 0} (told : G → Option Content) (faults : G → ℕ) (hall : Hall) (workers : List (Worker G)) (seat : Sitting) (gate : Option Content) →
+    AreWorkers told faults hall 0 workers → AreJoined told hall (length workers) workers seat gate → AllJoined seat
+all_joined told faults hall workers seat gate all back = record {
+  each = λ k low high. subst (λ (js : List Joined). IsJoined js k) (sym back.joined)
+      (joined_at told faults hall 0 workers all k low (omega (arith, high, back.splits)));
 }
+
+-- how the workers ended, and their reports
+reports_push : (parts : List PartReport) (part : PartReport) → all_reports (parts ++ part ∷ []) ≡ all_reports parts ++ part.reports.items
+reports_push [] part = append-nil part.reports.items
+reports_push (first ∷ parts) part =
+    ap (λ (rs : List ConnReport). first.reports.items ++ rs) (reports_push parts part)
+    ∙ sym (append_assoc first.reports.items (all_reports parts) part.reports.items)
+
+one_before : (end : PartEnd) (parts : List PartReport) (part : PartReport) → HasOne end parts → HasOne end (parts ++ part ∷ [])
+one_before end parts part one = record {
+  worker = one.worker;
+  inside = omega (arith, one.inside, length-append parts (part ∷ []));
+  ended = λ none. ap (λ (r : PartReport). r.end) (get_or-append parts (part ∷ []) none one.worker one.inside) ∙ one.ended none;
+}
+
+one_last : (end : PartEnd) (parts : List PartReport) (part : PartReport) → part.end ≡ end → HasOne end (parts ++ part ∷ [])
+one_last end parts part is = record {
+  worker = length parts;
+  inside = omega (arith, length-append parts (part ∷ []));
+  ended = λ none. ap (λ (r : PartReport). r.end) (get_or-append_seam parts part [] none) ∙ is;
+}
+
+pub left_more : (parts : List PartReport) (part : PartReport) (end end' : PartEnd) (reports : List ConnReport) → AreLeft parts end reports → IsWorse end part.end end' →
+    AreLeft (parts ++ part ∷ []) end' (reports ++ part.reports.items)
+left_more parts part end end' reports left worse = record {
+  taken = λ e. all_push (λ (p : PartReport). p.end ≡ AllTaken) parts part (left.taken (worse.taken e).0) (worse.taken e).1;
+  failed = λ e. elim (worse.fault e) [
+    | inl one ↦ one_before PartFault parts part (left.failed one)
+    | inr other ↦ one_last PartFault parts part other
+  ];
+  whole = elim left.whole [
+    | inl none ↦ inl (worse.memory none)
+    | inr all ↦ inr (ap (λ (rs : List ConnReport). rs ++ part.reports.items) all ∙ sym (reports_push parts part))
+  ];
+}
+
+pub left_short : (parts : List PartReport) (reports : List ConnReport) → AreLeft parts NoMemory reports
+left_short parts reports = record {
+  taken = λ e. let bad : ⊥ = cc in absurd bad;
+  failed = λ e. let bad : ⊥ = cc in absurd bad;
+  whole = inl refl;
+}
+
+-- a worker that served, as the closed journal and the gate tell of it
+one_worked : {G : Type 0} (told : G → Option Content) (faults : G → ℕ) (films : List Stored) (settings : Settings) (seed : List ℕ) (journal seen : List Entry) (gate gate' : Outlet)
+    (hall : Hall) (worker : Worker G) → IsWorker told faults hall worker → HasFinished told faults films settings seed worker → IsPrefix worker.seat.seen seen → IsPrefix seen journal →
+    IfSome gate'.told (HasBack worker.number (told worker.part)) → (0 < faults worker.part → HasRisen gate.faults gate'.faults) →
+    worker.seat.mine ≡ made_by worker.seat.number journal → HasWorked (duty films settings seed worker.number) journal gate gate' worker.report
+one_worked told faults films settings seed journal seen gate gate' hall worker is finished front whole back counted made = record {
+  seat = finished.seat;
+  left = worker.seat;
+  part = finished.part;
+  after = outlet (faults worker.part) (told worker.part);
+  served = finished.served;
+  number = finished.number;
+  mine = finished.mine;
+  untouched = finished.untouched;
+  seen = prefix_trans worker.seat.seen seen journal front whole;
+  made = made ∙ ap (λ (n : ℕ). made_by n journal) is.seat;
+  back = back;
+  counted = counted;
+}
+
+pub all_worked : {G : Type 0} (told : G → Option Content) (faults : G → ℕ) (films : List Stored) (settings : Settings) (seed : List ℕ) (journal seen : List Entry)
+    (gate gate' : Outlet) (hall : Hall) (from : ℕ) (workers : List (Worker G)) → AreWorkers told faults hall from workers → All (HasFinished told faults films settings seed) workers →
+    All (λ worker. IsPrefix worker.seat.seen seen) workers → IsPrefix seen journal → AreBack told gate'.told from workers →
+    All (λ worker. 0 < faults worker.part → HasRisen gate.faults gate'.faults) workers → All (λ joined. joined.mine ≡ made_by joined.number journal) (map joined_of workers) →
+    AllWorked films settings seed journal gate gate' from (map report_of workers)
+all_worked told faults films settings seed journal seen gate gate' hall from [] all finished front whole back counted made = tt
+all_worked told faults films settings seed journal seen gate gate' hall from (worker ∷ workers) all finished front whole back counted made =
+    let Ends : Worker _ → Type 0 = HasFinished told faults films settings seed in
+    let Saw : Worker _ → Type 0 = λ worker. IsPrefix worker.seat.seen seen in
+    let Counts : Worker _ → Type 0 = λ worker. 0 < faults worker.part → HasRisen gate.faults gate'.faults in
+    let Made : Joined → Type 0 = λ joined. joined.mine ≡ made_by joined.number journal in (
+      subst (λ (n : ℕ). HasWorked (duty films settings seed n) journal gate gate' worker.report) all.0
+          (one_worked told faults films settings seed journal seen gate gate' hall worker all.1 (All-head Ends worker workers finished) (All-head Saw worker workers front) whole
+          (subst (λ (n : ℕ). IfSome gate'.told (HasBack n (told worker.part))) (sym all.0) back.0) (All-head Counts worker workers counted)
+          (All-head Made (joined_of worker) (map joined_of workers) made)),
+      all_worked told faults films settings seed journal seen gate gate' hall (from + 1) workers all.2 (All-tail Ends worker workers finished) (All-tail Saw worker workers front) whole back.1
+          (All-tail Counts worker workers counted) (All-tail Made (joined_of worker) (map joined_of workers) made),
+    )
+
+-- the first of the workers that are left
+pub first_split : {A : Type 0} (xs : List A) (x : A) → 0 < length xs → x ≡ slice_index_or xs 0 x → xs ≡ x ∷ remove xs 0
+first_split [] x some is = absurd (omega (arith, some))
+first_split (y ∷ ys) x some is = ap (λ (z : _). z ∷ ys) (sym is)
+
+pub one_done : {A : Type 0} (all done rest : List A) (x : A) → all ≡ done ++ rest → rest ≡ x ∷ remove rest 0 → all ≡ (done ++ x ∷ []) ++ remove rest 0
+one_done all done rest x whole split = whole ∙ ap (λ (r : List _). done ++ r) split ∙ sym (append_assoc done (x ∷ []) (remove rest 0))
+
+pub all_done : {A : Type 0} (all done rest : List A) → all ≡ done ++ rest → length rest ≡ 0 → done ≡ all
+all_done all done [] whole none = sym (whole ∙ append-nil done)
+all_done all done (x ∷ rest) whole none = absurd (omega (arith, none))
+
+-- so many parts are in the gate
+pub counted_parts : (from count workers : ℕ) (gate : Option Content) → IfSome gate (AreOut from count) → count ≡ workers → HasParts workers gate
+counted_parts from count workers None out same = tt
+counted_parts from count workers (Some c) out same = out.counted ∙ same
+
+pub fewer_parts : (from count workers : ℕ) (gate : Option Content) → IfSome gate (AreOut from count) → count < workers → HasFewer workers gate
+fewer_parts from count workers None out less = tt
+fewer_parts from count workers (Some c) out less = omega (arith, out.counted, less)
+
+pub risen_on : (f g h : ℕ) → HasRisen f g → g ≤ h → HasRisen f h
+risen_on f g h risen high = λ end. omega (arith, risen (omega (arith, high, end)), high)
+
+pub risen_since : (f g h : ℕ) → HasRisen g h → f ≤ g → HasRisen f h
+risen_since f g h risen low = λ end. omega (arith, risen end, low)
 
 pub told_out_more : (count : ℕ) (gate gate' : Option Content) → IfSome gate (AreOut 0 count) → gate' ≡ option_map split_off gate → IfSome gate' (AreOut 0 (count + 1))
 told_out_more count None gate' are is = subst (λ (c : Option Content). IfSome c (AreOut 0 (count + 1))) (sym is) tt
 told_out_more count (Some c) gate' are is = subst (λ (c' : Option Content). IfSome c' (AreOut 0 (count + 1))) (sym is) (out_more count c are)
 
-pub still_open : (gate gate' : Option Content) → IfSome gate (λ content. IsOpen content) → gate' ≡ option_map split_off gate → IfSome gate' (λ content. IsOpen content)
-still_open None gate' are is = subst (λ (c : Option Content). IfSome c (λ content. IsOpen content)) (sym is) tt
-still_open (Some c) gate' are is = subst (λ (c' : Option Content). IfSome c' (λ content. IsOpen content)) (sym is) are
+-- a gate that is open stays so as parts are split from it and come back
+pub split_still_open : (opening : Opening) (gate gate' : Option Content) → IsOpenAs opening gate → gate' ≡ option_map split_off gate → IsOpenAs opening gate'
+split_still_open opening None gate' are is = subst (IsOpenAs opening) (sym is) tt
+split_still_open opening (Some c) gate' are is = subst (IsOpenAs opening) (sym is) are
+
+pub split_open : (gate gate' : Option Content) → IfSome gate (λ content. IsOpen content) → gate' ≡ option_map split_off gate → IfSome gate' (λ content. IsOpen content)
+split_open None gate' are is = subst (λ (c : Option Content). IfSome c (λ content. IsOpen content)) (sym is) tt
+split_open (Some c) gate' are is = subst (λ (c' : Option Content). IfSome c' (λ content. IsOpen content)) (sym is) are
+
+open_back : (opening : Opening) (part gate : Option Content) → IsOpenAs opening gate → IsOpenAs opening (told_rejoined part gate)
+open_back opening None None is = tt
+open_back opening None (Some c) is = tt
+open_back opening (Some p) None is = tt
+open_back opening (Some p) (Some c) is = is
+
+pub back_still_open : (opening : Opening) (part gate gate' : Option Content) → IsOpenAs opening gate → gate' ≡ told_rejoined part gate → IsOpenAs opening gate'
+back_still_open opening part gate gate' is rejoins = subst (IsOpenAs opening) (sym rejoins) (open_back opening part gate is)
+
+pub is_open : (opening : Opening) (gate : Option Content) → IsOpenAs opening gate → IfSome gate (λ content. IsOpen content)
+is_open opening None is = tt
+is_open opening (Some c) is = subst IsSome (sym is) refl
 
 pub new_number : (count : ℕ) (gate part : Option Content) → IfSome gate (AreOut 0 count) → part ≡ option_map new_part gate → IfSome part (λ content. content.own.number ≡ count)
 new_number count None part are is = subst (λ (c : Option Content). IfSome c (λ content. content.own.number ≡ count)) (sym is) tt
 new_number count (Some c) part are is = subst (λ (c' : Option Content). IfSome c' (λ content. content.own.number ≡ count)) (sym is) are.counted
 
--- the fault of a part that came back, or one before it
-pub fault_joined : (one other : PartEnd) (f g h p : ℕ) → (one ≡ PartFault) ⊎ (other ≡ PartFault) → (one ≡ PartFault → HasRisen f g) → (other ≡ PartFault → 0 < p) →
-    (0 < p → HasRisen g h) → f ≤ g → g ≤ h → HasRisen f h
-fault_joined one other f g h p (inl is) before part risen low high = λ end. omega (arith, before is (omega (arith, high, end)), high)
-fault_joined one other f g h p (inr is) before part risen low high = λ end. omega (arith, risen (part is) end, low)
-
 pub new_untouched : (gate part : Option Content) → part ≡ option_map new_part gate → IfSome part IsUntouched
 new_untouched None part is = subst (λ (c : Option Content). IfSome c IsUntouched) (sym is) tt
 new_untouched (Some c) part is = subst (λ (c' : Option Content). IfSome c' IsUntouched) (sym is) (record { given = refl; back = refl })
-
-pub fresh_push : {G : Type 0} (told : G → Option Content) (workers : List (Worker G)) (worker : Worker G) → All (IsFresh told) workers → IsFresh told worker →
-    All (IsFresh told) (workers ++ worker ∷ [])
-fresh_push told workers worker all is = All-append (IsFresh told) workers (worker ∷ []) all (All-cons (IsFresh told) worker [] is (All-nil (IsFresh told)))
 
 -- a part that was served keeps its number
 pub served_number : (old new : Option Content) (count number : ℕ) → IsServed old new count → IfSome old (λ content. content.own.number ≡ number) →

@@ -3,5 +3,7 @@ pub mod Run
 pub mod ScanText
 pub mod Texts
 pub mod Verdict
+pub mod Worked
 pub mod Workers
 pub mod Served
+pub mod Laws

@@ -9,8 +9,12 @@ use Rattle.troubles.specs.Statuses.{status_of}
 use Rattle.troubles.specs.Causes.{IsReadOnly, IsReadTrouble}
 use Rattle.troubles.specs.declared.faults.Trouble.{Trouble}
 use Rattle.troubles.specs.declared.faults.Trouble.TheVariants.{Usage, Refused, StoreFault, SinkFault, NoMemory, GateFault}
+use Rattle.vod_base.specs.Gates.{Content}
+use Rattle.film_frames.specs.declared.stores.Stored.{Stored}
+use Rattle.conn.specs.Parts.{Outlet, outlet}
 use Rattle.conn.specs.declared.reports.PartEnd.{PartEnd}
 use Rattle.conn.specs.declared.reports.PartEnd.TheVariants.{GateFault as PartFault}
+use Rattle.vodserve.specs.Worked.{AreLoaded, HaveWorked}
 use Rattle.vodserve.specs.Served.{IsJournal, IsPrinted, IsServeTrouble, served_text}
 use Rattle.vodserve.specs.Carrying.{IsDone, IsRead, IsInputRefused}
 use Rattle.vodserve.specs.declared.done.Done.{Done}
@@ -21,12 +25,22 @@ pub record Seen (T : Type 0) : Type 0 where
   pub faults : ℕ
   pub told : Option T
 
--- the library, the output and the error stream, and how many faults the gate counted
+-- what is seen of a library, a stream or a gate
+abbrev pub seen : {S T : Type 0} → (S → ℕ) → (S → Option T) → S → Seen T
+seen faults told it = record { faults = faults it; told = told it }
+
+abbrev pub gate_seen : {G : Type 0} → (G → ℕ) → (G → Option Content) → G → Outlet
+gate_seen faults told gate = outlet (faults gate) (told gate)
+
+-- the library, the output, the error stream and the gate
 pub record World : Type 0 where
   pub store : Seen (List File)
   pub out : Seen (List ℕ)
   pub err : Seen (List ℕ)
-  pub gate : ℕ
+  pub gate : Outlet
+
+abbrev pub world : Seen (List File) → Seen (List ℕ) → Seen (List ℕ) → Outlet → World
+world store out err gate = record { store = store; out = out; err = err; gate = gate }
 
 -- a trouble's status, and its line on the error stream, or after a fault there a front of it
 pub record Fails (err err' : Seen (List ℕ)) (trouble : Trouble) (ended : Ended) : Type 0 where
@@ -75,9 +89,9 @@ IsCause before after order SinkFault = IsCut before after order
 IsCause before after order NoMemory = after.out ≡ before.out
 IsCause before after order GateFault = ⊥
 
--- a command whose text is printed at its end
-abbrev pub Prints : World → World → Order → Ended → Type 0
-Prints before after order ended =
+-- all was done and its text written; or a trouble kept from that
+abbrev pub IsCarriedOut : World → World → Order → Ended → Type 0
+IsCarriedOut before after order ended =
     Finishes before after order ended
     ⊎ ((trouble : Trouble) × (IsCause before after order trouble × Fails before.err after.err trouble ended))
 
@@ -85,43 +99,54 @@ Prints before after order ended =
 abbrev pub HasServedNothing : Ended → Type 0
 HasServedNothing ended = (ended.journal.items ≡ []) × (ended.reports.items ≡ [])
 
+-- a command whose text is printed at its end; the gate is as it was
+pub record Prints (before after : World) (order : Order) (ended : Ended) : Type 0 where
+  pub gate : after.gate ≡ before.gate
+  pub nothing : HasServedNothing ended
+  pub out : IsCarriedOut before after order ended
+
 -- a server's end: its text was written whole; or what went wrong was said
 abbrev pub Ends : Seen (List ℕ) → Seen (List ℕ) → Seen (List ℕ) → Seen (List ℕ) → List ℕ → PartEnd → Ended → Type 0
 Ends out out' err err' text end ended =
     (IsPrinted out.faults out'.faults out.told out'.told text end None × (ended.status ≡ 0) × (ended.plan ≡ None) × (err' ≡ err))
     ⊎ ((trouble : Trouble) × (IsPrinted out.faults out'.faults out.told out'.told text end (Some trouble) × Fails err err' trouble ended))
 
--- a server that served: its journal, and its end; where a worker ended by a fault of the gate, the gate counted one
-pub record HasServed (before after : World) (serving : Serving) (ended : Ended) : Type 0 where
+-- a server that served: the films as they were loaded, the journal, what the workers did, and the text that tells of it; where a worker
+-- ended by a fault of the gate, the gate counted one
+pub record HasServed (before after : World) (seed : List ℕ) (serving : Serving) (ended : Ended) : Type 0 where
+  pub films : List Stored
+  pub loaded : AreLoaded before.store.told serving.films films
   pub journal : IsJournal serving ended.journal.items
   pub end : PartEnd
-  pub fault : end ≡ PartFault → HasRisen before.gate after.gate
+  pub worked : HaveWorked films seed serving ended.journal.items before.gate after.gate end ended.reports.items
+  pub fault : end ≡ PartFault → HasRisen before.gate.faults after.gate.faults
   pub ends : Ends before.out after.out before.err after.err (served_text ended.journal.items (length ended.reports.items)) end ended
 
 -- a server: what kept it from its work, and then nothing was written; or it served
-abbrev pub Serves : World → World → Serving → Ended → Type 0
-Serves before after serving ended =
-    ((trouble : Trouble) × (IsServeTrouble serving.films before.store.told before.store.faults after.store.faults before.gate after.gate trouble
+abbrev pub Serves : World → World → List ℕ → Serving → Ended → Type 0
+Serves before after seed serving ended =
+    ((trouble : Trouble) × (IsServeTrouble serving before.store.told before.store.faults after.store.faults before.gate after.gate trouble
     × (after.out ≡ before.out) × HasServedNothing ended × Fails before.err after.err trouble ended))
-    ⊎ HasServed before after serving ended
+    ⊎ HasServed before after seed serving ended
 
 -- words without meaning: the line alone
 abbrev pub IsUsage : World → World → Ended → Type 0
-IsUsage before after ended = (after.out ≡ before.out) × Fails before.err after.err Usage ended
+IsUsage before after ended =
+    (after.out ≡ before.out) × (after.gate ≡ before.gate) × HasServedNothing ended × Fails before.err after.err Usage ended
 
 -- one definition for each command
-abbrev pub Does : World → World → Order → Ended → Type 0
-Does before after help ended = Prints before after help ended
-Does before after version ended = Prints before after version ended
-Does before after (plan_of viewer) ended = Prints before after (plan_of viewer) ended
-Does before after (check_of viewer cert) ended = Prints before after (check_of viewer cert) ended
-Does before after (make_of kind seed pictures) ended = Prints before after (make_of kind seed pictures) ended
-Does before after (scan_of film) ended = Prints before after (scan_of film) ended
-Does before after (serve_of serving) ended = Serves before after serving ended
+abbrev pub Does : World → World → List ℕ → Order → Ended → Type 0
+Does before after seed help ended = Prints before after help ended
+Does before after seed version ended = Prints before after version ended
+Does before after seed (plan_of viewer) ended = Prints before after (plan_of viewer) ended
+Does before after seed (check_of viewer cert) ended = Prints before after (check_of viewer cert) ended
+Does before after seed (make_of kind number pictures) ended = Prints before after (make_of kind number pictures) ended
+Does before after seed (scan_of film) ended = Prints before after (scan_of film) ended
+Does before after seed (serve_of serving) ended = Serves before after seed serving ended
 
 -- the library is as it was, and what the words ask for was done, if they mean something
-pub record Ran (before after : World) (asked : Option Order) (ended : Ended) : Type 0 where
+pub record Ran (before after : World) (seed : List ℕ) (asked : Option Order) (ended : Ended) : Type 0 where
   pub library : IsReadOnly before.store.told after.store.told before.store.faults after.store.faults
   pub output : before.out.faults ≤ after.out.faults
-  pub gate : before.gate ≤ after.gate
-  pub does : ((order : Order) × ((asked ≡ Some order) × Does before after order ended)) ⊎ ((asked ≡ None) × IsUsage before after ended)
+  pub gate : before.gate.faults ≤ after.gate.faults
+  pub does : ((order : Order) × ((asked ≡ Some order) × Does before after seed order ended)) ⊎ ((asked ≡ None) × IsUsage before after ended)

@@ -2,12 +2,14 @@
 use Rattle.std.specs.Prelude.{◌≡◌, ℕ, ◌+◌, ◌<◌, List, [], ◌∷◌, ◌++◌, length, codes, decimal, ◌⊎◌, Option, Some, None, IfSome}
 use Rattle.std.specs.List.{Contains}
 use Rattle.vod_base.specs.Outside.{File, HasRisen, IsFrontMore, more}
-use Rattle.vod_base.specs.Gates.{Content, IsOpen}
+use Rattle.vod_base.specs.Gates.{Content}
+use Rattle.vod_base.specs.declared.gates.Opening.{Opening}
 use Rattle.slot_calendar.specs.declared.profiles.CapStep.{CapStep}
 use Rattle.admission.specs.declared.entries.Entry.{Entry}
 use Rattle.admission.specs.Machine.{booked_in}
 use Rattle.admission.specs.Histories.{IsLegal, state_after}
 use Rattle.admission.specs.Makers.{AreHaltsOwn, made_by}
+use Rattle.conn.specs.Parts.{Outlet}
 use Rattle.conn.specs.declared.reports.PartEnd.{PartEnd}
 use Rattle.conn.specs.declared.reports.PartEnd.TheVariants.{AllTaken, GateFault as PartFault}
 use Rattle.report.specs.EntryLines.{entry_line}
@@ -41,20 +43,25 @@ pub record IsJournal (serving : Serving) (entries : List Entry) : Type 0 where
   pub first : made_by 0 entries ≡ []
   pub others : (maker : ℕ) → serving.listening.workers < maker → made_by maker entries ≡ []
 
--- what keeps a server from its work: a film, the library, memory, or the gate, which counted a fault
-abbrev pub IsServeTrouble : List (List ℕ) → Option (List File) → ℕ → ℕ → ℕ → ℕ → Trouble → Type 0
-IsServeTrouble films told faults faults' gate gate' Usage = ⊥
-IsServeTrouble films told faults faults' gate gate' (Refused name fault) =
-    IsReadTrouble (Contains films) IsHeldRefused told faults faults' (Refused name fault)
-IsServeTrouble films told faults faults' gate gate' (StoreFault name) =
-    IsReadTrouble (Contains films) IsHeldRefused told faults faults' (StoreFault name)
-IsServeTrouble films told faults faults' gate gate' SinkFault = ⊥
-IsServeTrouble films told faults faults' gate gate' NoMemory = Unit {0}
-IsServeTrouble films told faults faults' gate gate' GateFault = HasRisen gate gate'
+-- fewer parts than workers were split from a gate
+abbrev pub HasFewer : ℕ → Option Content → Type 0
+HasFewer workers told = IfSome told (λ content. length content.parts < workers)
 
--- a gate that was opened, and not split since
-abbrev pub IsNewlyOpen : Option Content → Type 0
-IsNewlyOpen told = IfSome told (λ content. IsOpen content × (content.parts ≡ []))
+-- what keeps a server from its work: a film, the library, memory, or the gate, which counted a fault and gave a part too few
+abbrev pub IsServeTrouble : Serving → Option (List File) → ℕ → ℕ → Outlet → Outlet → Trouble → Type 0
+IsServeTrouble serving told faults faults' gate gate' Usage = ⊥
+IsServeTrouble serving told faults faults' gate gate' (Refused name fault) =
+    IsReadTrouble (Contains serving.films) IsHeldRefused told faults faults' (Refused name fault)
+IsServeTrouble serving told faults faults' gate gate' (StoreFault name) =
+    IsReadTrouble (Contains serving.films) IsHeldRefused told faults faults' (StoreFault name)
+IsServeTrouble serving told faults faults' gate gate' SinkFault = ⊥
+IsServeTrouble serving told faults faults' gate gate' NoMemory = Unit {0}
+IsServeTrouble serving told faults faults' gate gate' GateFault =
+    HasRisen gate.faults gate'.faults × HasFewer serving.listening.workers gate'.told
+
+-- a gate that was opened in this way, and not split since
+abbrev pub IsNewlyOpen : Opening → Option Content → Type 0
+IsNewlyOpen opening told = IfSome told (λ content. (content.opening ≡ Some opening) × (content.parts ≡ []))
 
 -- the name that a word gives to the key `film`
 abbrev pub IsWordNamed : List ℕ → List ℕ → Type 0

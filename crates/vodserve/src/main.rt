@@ -9,6 +9,8 @@ mod plans;
 mod run;
 mod scan_text;
 mod scans;
+#[cfg(test)]
+mod serve_tests;
 mod served;
 mod serving;
 #[cfg(test)]

@@ -10,7 +10,8 @@ ghost use Rattle.vodserve.specs.Carrying.{IsDone, IsInputRefused, IsPlanned, IsR
 ghost use Rattle.command_words.specs.Orders.{serving_of};
 ghost use Rattle.command_words.specs.Ranges.{IsServingInRange};
 ghost use Rattle.vodserve.specs.Served.{served_text};
-ghost use Rattle.vodserve.specs.Run.{Ends, Fails, HasServedNothing, Printed, Ran, Serves};
+ghost use Rattle.vodserve.specs.Laws.{LeavesNoneOut, ServesWhatItMay};
+ghost use Rattle.vodserve.specs.Run.{Ends, Fails, HasServedNothing, Printed, Ran, Serves, gate_seen, seen, world};
 
 use crate::checks::check_trace;
 use crate::done::{Done, finish};
@@ -46,8 +47,8 @@ pub struct Ended {
 
 /// Ends with a trouble: says its line, whose own faults change nothing.
 fn end_with<E: Sink>(alloc: Global, err: &mut E, trouble: Trouble<'_>) -> Ended
-    ensures fails { Fails (record { faults = E.faults err.old; told = E.written err.old })
-        (record { faults = E.faults err.new; told = E.written err.new }) trouble.entry result }
+    ensures fails { Fails (seen E.faults E.written err.old) (seen E.faults E.written err.new)
+        trouble.entry result }
     ensures nothing { HasServedNothing result }
 {
     let status = status_of(&trouble);
@@ -67,10 +68,8 @@ fn print<O: Sink, E: Sink>(
     err: &mut E,
     done: Result<Done, Trouble<'_>>,
 ) -> Ended
-    ensures printed { Printed (record { faults = O.faults out.old; told = O.written out.old })
-        (record { faults = O.faults out.new; told = O.written out.new })
-        (record { faults = E.faults err.old; told = E.written err.old })
-        (record { faults = E.faults err.new; told = E.written err.new }) done.entry result }
+    ensures printed { Printed (seen O.faults O.written out.old) (seen O.faults O.written out.new)
+        (seen E.faults E.written err.old) (seen E.faults E.written err.new) done.entry result }
     ensures count { O.faults out.old ≤ O.faults out.new }
     ensures nothing { HasServedNothing result }
 {
@@ -101,10 +100,8 @@ fn end_server<O: Sink, E: Sink>(alloc: Global, out: &mut O, err: &mut E, closed:
     ensures journal { result.journal.items ≡ closed.book.entries }
     ensures reports { result.reports.items ≡ closed.reports.items }
     ensures count { O.faults out.old ≤ O.faults out.new }
-    ensures ends { Ends (record { faults = O.faults out.old; told = O.written out.old })
-        (record { faults = O.faults out.new; told = O.written out.new })
-        (record { faults = E.faults err.old; told = E.written err.old })
-        (record { faults = E.faults err.new; told = E.written err.new })
+    ensures ends { Ends (seen O.faults O.written out.old) (seen O.faults O.written out.new)
+        (seen E.faults E.written err.old) (seen E.faults E.written err.new)
         (served_text closed.book.entries (length closed.reports.items)) closed.end result }
 {
     let trouble = print_served(alloc, out, &closed);
@@ -143,23 +140,16 @@ fn serve<R: Threads + Wait + Sync, L: Library, O: Sink, E: Sink, G: Gate + Send 
 where
     G::Conn: Send,
     requires { IsServingInRange serving.now }
-    ensures library { IsReadOnly (L.files library.old) (L.files library.new) (L.faults library.old) (L.faults library.new) }
+    ensures library { IsReadOnly (L.files library.old) (L.files library.new)
+        (L.faults library.old) (L.faults library.new) }
     ensures output { O.faults out.old ≤ O.faults out.new }
     ensures gate { G.faults gate.old ≤ G.faults gate.new }
     ensures serves { Serves
-        (record {
-          store = record { faults = L.faults library.old; told = L.files library.old };
-          out = record { faults = O.faults out.old; told = O.written out.old };
-          err = record { faults = E.faults err.old; told = E.written err.old };
-          gate = G.faults gate.old;
-        })
-        (record {
-          store = record { faults = L.faults library.new; told = L.files library.new };
-          out = record { faults = O.faults out.new; told = O.written out.new };
-          err = record { faults = E.faults err.new; told = E.written err.new };
-          gate = G.faults gate.new;
-        })
-        (serving_of serving.entry.now) result }
+        (world (seen L.faults L.files library.old) (seen O.faults O.written out.old)
+        (seen E.faults E.written err.old) (gate_seen G.faults G.told gate.old))
+        (world (seen L.faults L.files library.new) (seen O.faults O.written out.new)
+        (seen E.faults E.written err.new) (gate_seen G.faults G.told gate.new))
+        seed (serving_of serving.entry.now) result }
 {
     let prepared = match prepare(alloc, library, gate, serving) {
         Ok(prepared) => prepared,
@@ -170,6 +160,17 @@ where
         Err(trouble) => end_with(alloc, err, trouble),
     }
 }
+
+/// A law: a server whose films are accepted serves, where nothing fails outside and memory is found.
+pub fn law_serves()
+    ensures { ServesWhatItMay }
+{}
+
+/// A law: with status 0 the gate was opened as the words say, and each part of it gave connections until there were no more
+/// and got each one back.
+pub fn law_all_served()
+    ensures { LeavesNoneOut }
+{}
 
 /// Carries out the words of the command line, which come without the program's name.
 ///
@@ -189,19 +190,11 @@ pub fn run<R: Threads + Wait + Sync, L: Library, O: Sink, E: Sink, G: Gate + Sen
 where
     G::Conn: Send,
     ensures ran { Ran
-        (record {
-          store = record { faults = L.faults library.old; told = L.files library.old };
-          out = record { faults = O.faults out.old; told = O.written out.old };
-          err = record { faults = E.faults err.old; told = E.written err.old };
-          gate = G.faults gate.old;
-        })
-        (record {
-          store = record { faults = L.faults library.new; told = L.files library.new };
-          out = record { faults = O.faults out.new; told = O.written out.new };
-          err = record { faults = E.faults err.new; told = E.written err.new };
-          gate = G.faults gate.new;
-        })
-        (meaning (texts words.now)) result }
+        (world (seen L.faults L.files library.old) (seen O.faults O.written out.old)
+        (seen E.faults E.written err.old) (gate_seen G.faults G.told gate.old))
+        (world (seen L.faults L.files library.new) (seen O.faults O.written out.new)
+        (seen E.faults E.written err.new) (gate_seen G.faults G.told gate.new))
+        seed (meaning (texts words.now)) result }
 {
     let Some(order) = read_words(words) else {
         return end_with(alloc, err, Trouble::Usage);

@@ -1,17 +1,19 @@
-ghost use Rattle.std.specs.Prelude.{◌≡◌, ◌≤◌, ◌++◌, Some, true, codes, IfSome, IfOk, IfErr, OnOk};
+ghost use Rattle.std.specs.Prelude.{◌≡◌, ◌≤◌, ◌++◌, Some, true, codes, All, IfSome, IfOk, IfErr, OnOk};
 ghost use Rattle.std.specs.List.{Contains};
 ghost use Rattle.std.specs.Option.{option_to_list};
 ghost use Rattle.vod_base.specs.Outside.{HasRisen};
 ghost use Rattle.slot_calendar.specs.Profiles.{IsProfile};
 ghost use Rattle.session.specs.Ranges.{AreFilms, names_of};
 ghost use Rattle.station.specs.Seats.{first_seat};
+ghost use Rattle.conn.specs.Parts.{outlet};
 ghost use Rattle.command_words.specs.Settings.{setting_value, texts, values_of};
 ghost use Rattle.command_words.specs.Words.{are_films};
 ghost use Rattle.command_words.specs.Orders.{serving_of};
 ghost use Rattle.command_words.specs.Ranges.{IsServingInRange};
 ghost use Rattle.troubles.specs.Causes.{IsReadOnly, IsReadTrouble};
 ghost use Rattle.inputs.specs.Films.{IsHeldRefused};
-ghost use Rattle.vodserve.specs.Served.{IsJournal, IsNewlyOpen, IsServeTrouble, IsWordNamed};
+ghost use Rattle.vodserve.specs.Served.{HasFewer, IsJournal, IsNewlyOpen, IsServeTrouble, IsWordNamed};
+ghost use Rattle.vodserve.specs.Worked.{AreLoaded, HaveWorked, IsHeld, opening_of};
 ghost use Rattle.vodserve.specs.Workers.{IsMakeTrouble};
 
 use crate::workers::{Service, join_workers, make_workers, run_workers};
@@ -52,9 +54,12 @@ fn add_film<'a, L: Library>(
     films: &mut Vec<Stored>,
     word: &'a str,
 ) -> Result<(), Trouble<'a>>
-    ensures library { IsReadOnly (L.files library.old) (L.files library.new) (L.faults library.old) (L.faults library.new) }
+    ensures library { IsReadOnly (L.files library.old) (L.files library.new)
+        (L.faults library.old) (L.faults library.new) }
     ensures added { OnOk result (names_of films.new.items
         ≡ names_of films.old.items ++ option_to_list (setting_value (codes "film") word.entry.now)) }
+    ensures held { All (IsHeld (L.files library.old)) films.old.items →
+        OnOk result (All (IsHeld (L.files library.old)) films.new.items) }
     ensures trouble { IfErr result (IsReadTrouble (IsWordNamed word.entry.now) IsHeldRefused
         (L.files library.old) (L.faults library.old) (L.faults library.new)) }
 {
@@ -78,9 +83,13 @@ fn load_films<'a, L: Library>(
     words: &'a [String],
 ) -> Result<Vec<Stored>, Trouble<'a>>
     requires { are_films (values_of (codes "film") (texts words.now)) ≡ true }
-    ensures library { IsReadOnly (L.files library.old) (L.files library.new) (L.faults library.old) (L.faults library.new) }
+    ensures library { IsReadOnly (L.files library.old) (L.files library.new)
+        (L.faults library.old) (L.faults library.new) }
     ensures films { IfOk result (λ films. AreFilms films.items) }
-    ensures trouble { IfErr result (IsReadTrouble (Contains (values_of (codes "film") (texts words.entry.now))) IsHeldRefused
+    ensures loaded { IfOk result (λ films. AreLoaded (L.files library.old)
+        (values_of (codes "film") (texts words.entry.now)) films.items) }
+    ensures trouble { IfErr result (IsReadTrouble
+        (Contains (values_of (codes "film") (texts words.entry.now))) IsHeldRefused
         (L.files library.old) (L.faults library.old) (L.faults library.new)) }
 {
     let mut films = Vec::new(alloc);
@@ -127,14 +136,20 @@ pub(crate) fn prepare<'a, L: Library, G: Gate>(
     serving: &Serving<'a>,
 ) -> Result<Prepared, Trouble<'a>>
     requires { IsServingInRange serving.now }
-    ensures library { IsReadOnly (L.files library.old) (L.files library.new) (L.faults library.old) (L.faults library.new) }
+    ensures library { IsReadOnly (L.files library.old) (L.files library.new)
+        (L.faults library.old) (L.faults library.new) }
     ensures count { G.faults gate.old ≤ G.faults gate.new }
     ensures films { IfOk result (λ prepared. AreFilms prepared.films.items) }
-    ensures steps { IfOk result (λ prepared. prepared.station.steps ≡ serving.entry.now.capacity) }
+    ensures loaded { IfOk result (λ prepared. AreLoaded (L.files library.old)
+        (serving_of serving.entry.now).films prepared.films.items) }
+    ensures steps { IfOk result (λ prepared.
+        prepared.station.steps ≡ serving.entry.now.capacity) }
     ensures seat { IfOk result (λ prepared. prepared.seat ≡ first_seat prepared.station) }
-    ensures opened { IfOk result (λ prepared. IsNewlyOpen (G.told gate.new)) }
-    ensures trouble { IfErr result (IsServeTrouble (serving_of serving.entry.now).films
-        (L.files library.old) (L.faults library.old) (L.faults library.new) (G.faults gate.old) (G.faults gate.new)) }
+    ensures opened { IfOk result (λ prepared.
+        IsNewlyOpen (opening_of (serving_of serving.entry.now)) (G.told gate.new)) }
+    ensures trouble { IfErr result (IsServeTrouble (serving_of serving.entry.now)
+        (L.files library.old) (L.faults library.old) (L.faults library.new)
+        (outlet (G.faults gate.old) (G.told gate.old)) (outlet (G.faults gate.new) (G.told gate.new))) }
 {
     let films = match load_films(alloc, library, serving.words) {
         Ok(films) => films,
@@ -174,11 +189,17 @@ where
     requires films { AreFilms prepared.films.items }
     requires steps { prepared.station.steps ≡ serving.now.capacity }
     requires seat { prepared.seat ≡ first_seat prepared.station }
-    requires opened { IsNewlyOpen (G.told gate.old) }
+    requires opened { IsNewlyOpen (opening_of (serving_of serving.now)) (G.told gate.old) }
     ensures count { G.faults gate.old ≤ G.faults gate.new }
-    ensures closed { IfOk result (λ closed. IsJournal (serving_of serving.entry.now) closed.book.entries) }
-    ensures fault { IfOk result (λ closed. closed.end ≡ PartEnd.GateFault → HasRisen (G.faults gate.old) (G.faults gate.new)) }
+    ensures closed { IfOk result (λ closed.
+        IsJournal (serving_of serving.entry.now) closed.book.entries) }
+    ensures worked { IfOk result (λ closed. HaveWorked prepared.films.items seed
+        (serving_of serving.entry.now) closed.book.entries
+        (outlet (G.faults gate.old) (G.told gate.old)) (outlet (G.faults gate.new) (G.told gate.new))
+        closed.end closed.reports.items) }
     ensures trouble { IfErr result (IsMakeTrouble (G.faults gate.old) (G.faults gate.new)) }
+    ensures fewer { IfErr result (λ trouble.
+        HasFewer (serving_of serving.entry.now).listening.workers (G.told gate.new)) }
 {
     let Prepared {
         films,
@@ -191,28 +212,26 @@ where
         startup: serving.pace.startup,
     };
     let mut workers = Vec::new(alloc);
-    let mut reports = Vec::new(alloc);
-    let made = make_workers(
+    match make_workers(
         alloc,
         &station,
         &mut seat,
         gate,
         serving.listening.workers,
         &mut workers,
-    );
-    if made.is_ok() {
-        let service = Service {
-            station: &station,
-            films: films.as_slice(),
-            settings: &settings,
-            seed,
-        };
-        run_workers(rt, alloc, service, &mut workers);
+    ) {
+        Ok(()) => {}
+        Err(trouble) => return Err(trouble),
     }
+    let service = Service {
+        station: &station,
+        films: films.as_slice(),
+        settings: &settings,
+        seed,
+    };
+    run_workers(rt, alloc, service, &mut workers);
+    let mut reports = Vec::new(alloc);
     let end = join_workers(&station, &mut seat, gate, workers, &mut reports);
     let book = station.close(seat);
-    match made {
-        Ok(()) => Ok(Closed { book, reports, end }),
-        Err(trouble) => Err(trouble),
-    }
+    Ok(Closed { book, reports, end })
 }

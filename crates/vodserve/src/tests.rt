@@ -3,26 +3,26 @@ use std::alloc::Global;
 use std::sync::Wait;
 use std::test::Fail;
 use std::thread::Threads;
-use vod_base::{Event, MemoryGate, MemoryLibrary, MemoryLink, MemoryPart, MemorySink, NoMemory};
+use vod_base::{MemoryGate, MemoryLibrary, MemoryPart, MemorySink, NoMemory};
 
 /// What a run over objects in memory gave: its status, output and error line.
 #[derive(Drop)]
-struct Outcome {
-    status: u8,
+pub(crate) struct Outcome {
+    pub(crate) status: u8,
     planned: bool,
-    out: Vec<u8>,
+    pub(crate) out: Vec<u8>,
     err: Vec<u8>,
 }
 
 /// The calls that are to fail.
 #[derive(Drop)]
-struct Failing {
+pub(crate) struct Failing {
     library: Vec<u64>,
     out: Vec<u64>,
     err: Vec<u64>,
 }
 
-fn no_failing(alloc: Global) -> Failing {
+pub(crate) fn no_failing(alloc: Global) -> Failing {
     Failing {
         library: Vec::new(alloc),
         out: Vec::new(alloc),
@@ -30,7 +30,7 @@ fn no_failing(alloc: Global) -> Failing {
     }
 }
 
-fn sink(alloc: Global, failing: Vec<u64>) -> Result<MemorySink, Fail> {
+pub(crate) fn sink(alloc: Global, failing: Vec<u64>) -> Result<MemorySink, Fail> {
     match MemorySink::new(alloc, 1 << 22, failing) {
         Ok(sink) => Ok(sink),
         Err(NoMemory) => Err(Fail::from(std::alloc::AllocError)),
@@ -45,7 +45,7 @@ fn gate(alloc: Global, parts: Vec<MemoryPart>) -> Result<MemoryGate, Fail> {
     }
 }
 
-fn ran<R: Threads + Wait + Sync>(
+pub(crate) fn ran<R: Threads + Wait + Sync>(
     rt: &R,
     alloc: Global,
     line: &str,
@@ -322,7 +322,7 @@ fn says_what_failed(rt: HostRuntime) -> Result<(), Fail> {
 }
 
 /// The bytes of hexadecimal digits, blanks between them passed over.
-fn hex(alloc: Global, text: &str) -> Result<Vec<u8>, Fail> {
+pub(crate) fn hex(alloc: Global, text: &str) -> Result<Vec<u8>, Fail> {
     let mut bytes = Vec::new(alloc);
     let mut high = None;
     for digit in text.bytes() {
@@ -477,124 +477,5 @@ fn refuses_a_film_of_too_many_pictures(rt: HostRuntime) -> Result<(), Fail> {
         b"vodserve: a.mpg: TooLong\n".as_slice()
     );
     assert_eq!(rt; got.status, 3);
-    Ok(())
-}
-
-/// A link that says these requests and then hears so many slots.
-fn link(alloc: Global, requests: &str, slots: u64) -> Result<MemoryLink, Fail> {
-    let mut events = Vec::new(alloc);
-    if !requests.is_empty() {
-        events.push(Event::Bytes(Vec::from_slice(alloc, requests.as_bytes())?))?;
-    }
-    for slot in 0..slots {
-        events.push(Event::Slot(slot + 1))?;
-    }
-    match MemoryLink::new(alloc, events, 1 << 16, Vec::new(alloc), Vec::new(alloc)) {
-        Ok(link) => Ok(link),
-        Err(NoMemory) => Err(Fail::from(std::alloc::AllocError)),
-    }
-}
-
-/// A part with one link, whose calls of those numbers fail.
-fn part(alloc: Global, link: MemoryLink, failing: &[u64]) -> Result<MemoryPart, Fail> {
-    let mut links = Vec::new(alloc);
-    links.push(link)?;
-    Ok(MemoryPart {
-        links,
-        failing: Vec::from_slice(alloc, failing)?,
-    })
-}
-
-/// The requests of a connection of that worker that sets film b.mpg up and plays it.
-fn play_b(alloc: Global, worker: u32) -> Result<String, Fail> {
-    let words = conn::connection_words([7; 32], worker, 0);
-    let (first, second) = (words[0], words[1]);
-    Ok(format!(in alloc;
-        "SETUP rtsp://h/b.mpg RTSP/1.0\r\nCSeq: 1\r\nTransport: RTP/AVP/TCP;unicast;interleaved=0-1\r\nx-Startup: 2\r\n\r\n\
-         PLAY rtsp://h/b.mpg RTSP/1.0\r\nCSeq: 2\r\nSession: {first:08x}{second:08x}\r\n\r\n"
-    )?)
-}
-
-/// What `serve` with these words over that gate gave, and how many reports.
-fn served<R: Threads + Wait + Sync>(
-    rt: &R,
-    alloc: Global,
-    line: &str,
-    parts: Vec<MemoryPart>,
-) -> Result<(Outcome, usize, usize), Fail> {
-    let mut bytes = hex(alloc, SEQUENCE)?;
-    bytes.extend_from_slice(&hex(alloc, FIRST_PICTURE)?)?;
-    bytes.extend_from_slice(&hex(alloc, "000001000057fff880 000001011234")?)?;
-    let mut held = Vec::new(alloc);
-    held.push((String::from_str(alloc, "b.mpg")?, bytes))?;
-    let mut words = Vec::new(alloc);
-    for word in line.split_whitespace() {
-        words.push(String::from_str(alloc, word)?)?;
-    }
-    let mut library = MemoryLibrary::new(held, Vec::new(alloc));
-    let mut out = sink(alloc, Vec::new(alloc))?;
-    let mut err = sink(alloc, Vec::new(alloc))?;
-    let mut gate = gate(alloc, parts)?;
-    let ended = run(
-        rt,
-        alloc,
-        &words,
-        &mut library,
-        &mut out,
-        &mut err,
-        &mut gate,
-        [7; 32],
-    );
-    let outcome = Outcome {
-        status: ended.status,
-        planned: ended.plan.is_some(),
-        out: Vec::from_slice(alloc, out.bytes())?,
-        err: Vec::from_slice(alloc, err.bytes())?,
-    };
-    Ok((outcome, ended.reports.len(), ended.journal.len()))
-}
-
-#[test]
-fn serves_two_that_race(rt: HostRuntime) -> Result<(), Fail> {
-    let alloc = rt.alloc();
-    let mut parts = Vec::new(alloc);
-    for worker in 0..2 {
-        let requests = play_b(alloc, worker)?;
-        parts.push(part(alloc, link(alloc, requests.as_str(), 4)?, &[])?)?;
-    }
-    let (got, reports, entries) = served(
-        &rt,
-        alloc,
-        "serve film=b.mpg workers=2 capacity=36",
-        parts,
-    )?;
-    assert_eq!(rt; (got.status, reports, entries), (0, 2, 3));
-    assert!(rt; got.err.is_empty());
-    assert!(rt;
-        got.out
-            .ends_with(b"\nend\nserved connections=2 entries=3\n")
-    );
-    Ok(())
-}
-
-#[test]
-fn serves_on_when_a_part_fails(rt: HostRuntime) -> Result<(), Fail> {
-    let alloc = rt.alloc();
-    let mut parts = Vec::new(alloc);
-    parts.push(part(alloc, link(alloc, "", 0)?, &[1])?)?;
-    parts.push(part(alloc, link(alloc, "", 0)?, &[])?)?;
-    let (got, reports, _) = served(&rt, alloc, "serve film=b.mpg workers=2", parts)?;
-    assert_eq!(rt; (got.status, reports), (7, 1));
-    assert_eq!(rt; got.err.as_slice(), b"vodserve: GateFault\n".as_slice());
-    assert_eq!(rt;
-        got.out.as_slice(),
-        b"calendar from=0\nend\nserved connections=1 entries=0\n".as_slice()
-    );
-    let (got, _, _) = served(&rt, alloc, "serve film=c.mpg", Vec::new(alloc))?;
-    assert_eq!(rt; got.status, 3);
-    assert_eq!(rt;
-        got.err.as_slice(),
-        b"vodserve: c.mpg: NotFound\n".as_slice()
-    );
     Ok(())
 }

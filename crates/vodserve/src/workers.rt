@@ -1,9 +1,12 @@
-ghost use Rattle.std.specs.Prelude.{◌≡◌, ◌≤◌, ◌⊎◌, [], length, All, IfSome, IfErr, OnOk};
+ghost use Rattle.std.specs.Prelude.{◌≡◌, ◌<◌, ◌≤◌, ◌⊎◌, ◌++◌, ◌∷◌, [], List, length, map, All, IfSome, IfErr, OnOk};
 ghost use Rattle.vod_base.specs.Outside.{HasRisen};
-ghost use Rattle.vodserve.specs.Served.{IsNewlyOpen};
+ghost use Rattle.vod_base.specs.declared.gates.Opening.{Opening};
 ghost use Rattle.session.specs.Standings.{AreFilms, AreSettings};
 ghost use Rattle.station.specs.Seats.{first_seat};
-ghost use Rattle.vodserve.specs.Workers.{AreOut, AreWorkers, IsBack, IsFresh, IsMakeTrouble, IsWorker, split_seat};
+ghost use Rattle.conn.specs.declared.reports.PartReport.{PartReport};
+ghost use Rattle.vodserve.specs.Served.{HasFewer, IsNewlyOpen};
+ghost use Rattle.vodserve.specs.Worked.{AreLeft, IsOpenAs, IsWorse};
+ghost use Rattle.vodserve.specs.Workers.{AreJoined, AreOut, AreWorkers, HasFinished, IsFresh, IsMakeTrouble, IsWorker, report_of, split_seat};
 
 use conn::{ConnReport, PartEnd, PartReport, serve_part};
 use film_frames::Stored;
@@ -45,17 +48,19 @@ pub(crate) fn make_workers<G: Gate + Drop>(
     workers: &mut Vec<Worker<G>>,
 ) -> Result<(), Trouble<'static>>
     requires seat { seat.old ≡ first_seat station.now }
-    requires opened { IsNewlyOpen (G.told gate.old) }
+    requires opened { (opening : Opening) × IsNewlyOpen opening (G.told gate.old) }
     requires few { count ≤ 256 }
     requires none { workers.old.items ≡ [] }
     ensures count { G.faults gate.old ≤ G.faults gate.new }
+    ensures opened { (opening : Opening) →
+        IsOpenAs opening (G.told gate.old) → IsOpenAs opening (G.told gate.new) }
     ensures seat { seat.new ≡ split_seat station.now (length workers.new.items) }
     ensures workers { AreWorkers G.told G.faults station.now 0 workers.new.items }
-    ensures untouched { All (IsFresh G.told) workers.new.items }
+    ensures fresh { All (IsFresh G.told G.faults) workers.new.items }
     ensures parts { IfSome (G.told gate.new) (AreOut 0 (length workers.new.items)) }
     ensures made { OnOk result (length workers.new.items ≡ count) }
-    ensures few { length workers.new.items ≤ count }
     ensures trouble { IfErr result (IsMakeTrouble (G.faults gate.old) (G.faults gate.new)) }
+    ensures fewer { IfErr result (λ trouble. HasFewer count (G.told gate.new)) }
 {
     for number in 0..count {
         if workers.reserve(1).is_err() {
@@ -80,11 +85,13 @@ pub(crate) fn make_workers<G: Gate + Drop>(
 /// Serves the connections of the worker's part.
 fn work<R: Wait, G: Gate>(rt: &R, alloc: Global, service: Service<'_>, worker: &mut Worker<G>)
     requires worker { IsWorker G.told G.faults service.station.now worker.old }
-    requires untouched { IsFresh G.told worker.old }
+    requires fresh { IsFresh G.told G.faults worker.old }
     requires settings { AreSettings service.settings.now }
     requires films { AreFilms service.films.now }
     ensures number { worker.new.number ≡ worker.old.number }
     ensures worker { IsWorker G.told G.faults service.entry.station.now worker.new }
+    ensures finished { HasFinished G.told G.faults service.entry.films.now
+        service.entry.settings.now service.entry.seed worker.new }
 {
     worker.report = serve_part(
         rt,
@@ -110,10 +117,12 @@ where
     G::Conn: Send,
     requires workers { AreWorkers G.told G.faults service.station.now 0 workers.old.items }
     requires each { All (IsWorker G.told G.faults service.station.now) workers.old.items }
-    requires untouched { All (IsFresh G.told) workers.old.items }
+    requires fresh { All (IsFresh G.told G.faults) workers.old.items }
     requires settings { AreSettings service.settings.now }
     requires films { AreFilms service.films.now }
     ensures workers { AreWorkers G.told G.faults service.entry.station.now 0 workers.new.items }
+    ensures finished { All (HasFinished G.told G.faults service.entry.films.now
+        service.entry.settings.now service.entry.seed) workers.new.items }
     ensures count { length workers.new.items ≡ length workers.old.items }
 {
     let count = workers.len().max(1);
@@ -122,22 +131,41 @@ where
         workers.as_mut_slice(),
         count,
         &|_: usize, worker: &mut Worker<G>|
-            requires { IsWorker G.told G.faults service.station.now worker.now × IsFresh G.told worker.now
+            requires { IsWorker G.told G.faults service.station.now worker.now
+                × IsFresh G.told G.faults worker.now
                 × AreSettings service.settings.now × AreFilms service.films.now }
             ensures { (worker.exit.now.number ≡ worker.entry.now.number)
-                × IsWorker G.told G.faults service.entry.station.now worker.exit.now }
+                × IsWorker G.told G.faults service.entry.station.now worker.exit.now
+                × HasFinished G.told G.faults service.entry.films.now
+                service.entry.settings.now service.entry.seed worker.exit.now }
         { work(rt, alloc, service, worker) },
     );
 }
 
 /// The worse of two ends: want of memory before a fault of the gate.
 fn worse(one: PartEnd, other: PartEnd) -> PartEnd
-    ensures { result ≡ PartEnd.GateFault → (one ≡ PartEnd.GateFault) ⊎ (other ≡ PartEnd.GateFault) }
+    ensures { IsWorse one other result }
 {
     match (one, other) {
         (PartEnd::NoMemory, _) | (_, PartEnd::NoMemory) => PartEnd::NoMemory,
         (PartEnd::GateFault, _) => PartEnd::GateFault,
         (PartEnd::AllTaken, other) => other,
+    }
+}
+
+/// Appends a worker's reports, and answers the worse of its end and of another, or want of memory where there was none for
+/// the reports.
+fn add_reports(end: PartEnd, report: PartReport, reports: &mut Vec<ConnReport>) -> PartEnd
+    ensures left { (parts : List PartReport) → AreLeft parts end reports.old.items →
+        AreLeft (parts ++ report ∷ []) result reports.new.items }
+{
+    let PartReport {
+        end: other,
+        reports: mut more,
+    } = report;
+    match reports.append(&mut more) {
+        Ok(()) => worse(end, other),
+        Err(_) => PartEnd::NoMemory,
     }
 }
 
@@ -153,9 +181,15 @@ pub(crate) fn join_workers<G: Gate + Drop>(
     requires seat { seat.old ≡ split_seat station.now (length workers.items) }
     requires workers { AreWorkers G.told G.faults station.now 0 workers.items }
     requires parts { IfSome (G.told gate.old) (AreOut 0 (length workers.items)) }
-    ensures seat { IsBack station.now (length workers.items) seat.new }
+    requires none { reports.old.items ≡ [] }
+    ensures joined { AreJoined G.told station.now (length workers.items) workers.items
+        seat.new (G.told gate.new) }
+    ensures left { AreLeft (map report_of workers.items) result reports.new.items }
+    ensures opened { (opening : Opening) →
+        IsOpenAs opening (G.told gate.old) → IsOpenAs opening (G.told gate.new) }
     ensures count { G.faults gate.old ≤ G.faults gate.new }
-    ensures fault { result ≡ PartEnd.GateFault → HasRisen (G.faults gate.old) (G.faults gate.new) }
+    ensures counted { All (λ worker. 0 < G.faults worker.part →
+        HasRisen (G.faults gate.old) (G.faults gate.new)) workers.items }
 {
     let mut end = PartEnd::AllTaken;
     while !workers.is_empty() {
@@ -163,14 +197,11 @@ pub(crate) fn join_workers<G: Gate + Drop>(
             number: _,
             seat: other,
             part,
-            mut report,
+            report,
         } = workers.remove(0);
         station.join(seat, other);
         gate.rejoin(part);
-        end = worse(end, report.end);
-        if reports.append(&mut report.reports).is_err() {
-            end = PartEnd::NoMemory;
-        }
+        end = add_reports(end, report, reports);
     }
     end
 }

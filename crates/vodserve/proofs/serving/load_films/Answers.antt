@@ -1,13 +1,16 @@
-use Rattle.std.proofs.Common.{◌≡◌, ◌∙◌, ◌≤◌, ◌++◌, List, ℕ, [], ap, arith, sym, length, drop, string_bytes}
-use Rattle.std.specs.Prelude.{codes}
+use Rattle.std.proofs.Common.{Option, rules, subst, ◌+◌, ◌≡◌, ◌∙◌, ◌≤◌, ◌++◌, List, ℕ, [], ap, arith, sym, length, drop, string_bytes}
+use Rattle.std.specs.Prelude.{All, codes}
+use Rattle.vod_base.specs.Outside.{File}
+use Rattle.vodserve.specs.Worked.{IsHeld}
 use Rattle.std.specs.List.{Contains}
-use Rattle.std.proofs.lemmas.List.{append-nil, drop_all}
+use Rattle.std.specs.Option.{option_to_list}
+use Rattle.std.proofs.lemmas.List.{append-nil, append_assoc, drop_all}
 use Rattle.session.specs.Ranges.{names_of}
-use Rattle.command_words.specs.Settings.{texts, values_of}
+use Rattle.command_words.specs.Settings.{setting_value, texts, values_of}
 use Rattle.troubles.proofs.CauseLemmas.{trouble_map}
 use Rattle.inputs.specs.Films.{IsHeldRefused}
 use Rattle.vodserve.specs.Served.{IsWordNamed}
-use Rattle.vodserve.proofs.ServeLemmas.{films_are, word_film}
+use Rattle.vodserve.proofs.ServeLemmas.{films_are, values_rest, word_film}
 use Rattle.vodserve.proofs.serving.load_films.Goals as goal
 
 pub returns-in-Err-clause-trouble : goal.returns-in-Err-clause-trouble
@@ -27,3 +30,29 @@ returns-clause-films g c =
     films_are c.loop-word.films.items (values_of (codes "film") (texts c.args.words.now)) c.requires
     (c.loop-word.invariant.names ∙ ap (λ (ws : List _). names_of c.loop-word.films.items ++ values_of (codes "film") (texts ws)) (drop_all c.loop-word.word-index c.args.words.now ends)
     ∙ append-nil (names_of c.loop-word.films.items))
+
+pub returns-clause-loaded : goal.returns-clause-loaded
+returns-clause-loaded g c =
+    let ends : length c.args.words.now ≤ c.loop-word.word-index = c.loop-word-test.false in
+    record {
+      names_are = sym (c.loop-word.invariant.names ∙ ap (λ (ws : List _). names_of c.loop-word.films.items ++ values_of (codes "film") (texts ws)) (drop_all c.loop-word.word-index c.args.words.now ends)
+          ∙ append-nil (names_of c.loop-word.films.items));
+      held = c.loop-word.invariant.held;
+    }
+
+pub loop-word-preserved : goal.loop-word-preserved
+loop-word-preserved g c =
+    let key : List ℕ = codes "film" in
+    let so_far : List (List ℕ) = names_of c.loop-word.films.items in
+    let rest : List (List ℕ) = values_of key (texts (drop (c.loop-word.word-index + 1) c.args.words.now)) in
+    record {
+      library = search rules;
+      held = subst (λ (t : Option (List File)). All (IsHeld t) c.add_film.new.films.items) c.loop-word.invariant.library.kept
+          ((c.in-Ok.ensures {u = tt}).held
+          (subst (λ (t : Option (List File)). All (IsHeld t) c.loop-word.films.items) (sym c.loop-word.invariant.library.kept) c.loop-word.invariant.held));
+      names = c.loop-word.invariant.names
+          ∙ ap (λ (vs : List (List ℕ)). so_far ++ vs) (values_rest key c.args.words.now c.loop-word.word-index c.word-item.result c.loop-word-test.true c.word-item.is)
+          ∙ ap (λ (w : List ℕ). so_far ++ (option_to_list (setting_value key w) ++ rest)) (sym c.as_str.ensures.value)
+          ∙ sym (append_assoc so_far (option_to_list (setting_value key c.as_str.result.now)) rest)
+          ∙ ap (λ (ns : List (List ℕ)). ns ++ rest) (sym ((c.in-Ok.ensures {u = tt}).added));
+    }

@@ -1,21 +1,47 @@
-use Rattle.std.proofs.Common.{◌≡◌, ◌≤◌, length, ap, arith, Vec, Global}
+use Rattle.std.proofs.Common.{◌≡◌, ◌∙◌, ℕ, List, length, subst}
+use Rattle.std.specs.Prelude.{All}
+use Rattle.film_frames.specs.declared.stores.Stored.{Stored}
+use Rattle.conn.specs.Parts.{outlet}
+use Rattle.command_words.specs.Words.{Serving}
 use Rattle.command_words.specs.Orders.{serving_of}
-use Rattle.vodserve.specs.declared.workers.Worker.{Worker}
-use Rattle.vodserve.proofs.ServeLemmas.{closed_journal}
-use Rattle.vodserve.proofs.WorkerLemmas.{all_workers}
+use Rattle.vodserve.specs.Worked.{opening_of, settings_of}
+use Rattle.vodserve.specs.Workers.{HasFinished}
+use Rattle.vodserve.proofs.ServeLemmas.{closed_journal, have_worked, newly_open_as}
+use Rattle.vodserve.proofs.WorkerLemmas.{all_joined, all_workers, risen_since}
 use Rattle.vodserve.proofs.serving.run_server.Goals as goal
-use Rattle.vodserve.proofs.serving.run_server.Goals.{then-is_ok, else-is_ok}
+
+pub make_workers-requires-clause-opened : goal.make_workers-requires-clause-opened
+make_workers-requires-clause-opened g c = (opening_of (serving_of c.args.serving.now), c.requires.opened)
 
 pub run_workers-requires-clause-each : goal.run_workers-requires-clause-each
 run_workers-requires-clause-each g c κs within =
-    all_workers g.G.Gate.told g.G.Gate.faults c.args.prepared.station 0 c.make_workers-made.new.workers.items c.make_workers-made.ensures.workers
+    all_workers g.G.Gate.told g.G.Gate.faults c.args.prepared.station 0 c.make_workers.new.workers.items c.make_workers.ensures.workers
 
-pub returns-in-Ok-clause-closed : goal.returns-in-Ok-clause-closed
-returns-in-Ok-clause-closed g c =
-    let few : length c.if-is_ok.workers.items ≤ c.args.serving.now.listening.workers =
-    elim c.if-is_ok.branch [
-      | then-is_ok w ↦ omega (arith, ap (λ (v : Vec (Worker _) Global). length v.items) w.workers-is, w.run_workers.ensures.count, c.make_workers-made.ensures.few)
-      | else-is_ok w ↦ omega (arith, ap (λ (v : Vec (Worker _) Global). length v.items) w.workers-is, c.make_workers-made.ensures.few)
-    ] in
-    closed_journal (serving_of c.args.serving.now) c.args.prepared.station (length c.if-is_ok.workers.items) c.join_workers-end.new.seat c.close-book.result.entries
-    c.join_workers-end.ensures.seat c.close-book.ensures.whole c.requires.steps few
+pub close-book-requires-clause-all : goal.close-book-requires-clause-all
+close-book-requires-clause-all g c =
+    all_joined g.G.Gate.told g.G.Gate.faults c.args.prepared.station c.run_workers.new.workers.items c.join_workers-end.new.seat
+    (g.G.Gate.told c.join_workers-end.new.gate) c.run_workers.ensures.workers c.join_workers-end.ensures.joined
+
+pub returns-clause-closed : goal.returns-clause-closed
+returns-clause-closed g c =
+    closed_journal g.G.Gate.told (serving_of c.args.serving.now) c.args.prepared.station c.run_workers.new.workers.items c.join_workers-end.new.seat
+    (g.G.Gate.told c.join_workers-end.new.gate) c.close-book.result.entries c.join_workers-end.ensures.joined c.close-book.ensures.whole c.requires.steps
+    (c.run_workers.ensures.count ∙ (c.in-Ok.ensures {u = tt}).made)
+
+pub returns-clause-worked : goal.returns-clause-worked
+returns-clause-worked g c =
+    let serving : Serving = serving_of c.args.serving.now in
+    let before : ℕ = g.G.Gate.faults c.args.gate.now in
+    let after : ℕ = g.G.Gate.faults c.join_workers-end.new.gate in
+    have_worked g.G.Gate.told g.G.Gate.faults c.args.prepared.films.items c.args.seed serving c.args.prepared.station c.run_workers.new.workers.items
+    c.join_workers-end.new.seat c.close-book.result.entries (outlet before (g.G.Gate.told c.args.gate.now))
+    (outlet after (g.G.Gate.told c.join_workers-end.new.gate)) c.join_workers-end.result c.join_workers-end.new.reports.items
+    c.run_workers.ensures.workers
+    (subst (λ (films : List Stored). All (HasFinished g.G.Gate.told g.G.Gate.faults films (settings_of serving) c.args.seed) c.run_workers.new.workers.items)
+    c.as_slice.ensures.value c.run_workers.ensures.finished)
+    c.join_workers-end.ensures.joined
+    (λ i d h some. risen_since before (g.G.Gate.faults c.make_workers.new.gate) after (c.join_workers-end.ensures.counted i d h some) c.make_workers.ensures.count)
+    c.close-book.ensures.whole (c.run_workers.ensures.count ∙ (c.in-Ok.ensures {u = tt}).made)
+    (c.join_workers-end.ensures.opened (opening_of serving)
+    (c.make_workers.ensures.opened (opening_of serving) (newly_open_as (opening_of serving) (g.G.Gate.told c.args.gate.now) c.requires.opened)))
+    c.join_workers-end.ensures.left

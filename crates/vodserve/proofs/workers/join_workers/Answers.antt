@@ -1,57 +1,77 @@
-use Rattle.std.proofs.Common.{◌≡◌, ◌∙◌, ◌+◌, ◌<◌, ℕ, List, length, ap, sym, subst, refl, arith}
+use Rattle.std.proofs.Common.{◌≡◌, ◌∙◌, ◌+◌, ◌<◌, ◌++◌, ◌∷◌, [], ℕ, List, length, ap, sym, subst, inr, refl, arith, length-append}
+use Rattle.std.specs.Prelude.{All, map}
+use Rattle.std.specs.List.{remove}
+use Rattle.std.proofs.lemmas.List.{map-append}
+use Rattle.std.proofs.lemmas.List.Elements.{All-nil}
+use Rattle.vod_base.specs.Outside.{HasRisen}
 use Rattle.station.specs.Seats.{Sitting}
-use Rattle.turnstile.specs.Passes.{IsJoined}
-use Rattle.conn.specs.declared.reports.PartEnd.TheVariants.{GateFault}
-use Rattle.vodserve.specs.Workers.{IsWorker}
+use Rattle.conn.specs.declared.reports.PartReport.{PartReport}
+use Rattle.vodserve.specs.Worked.{AreLeft}
+use Rattle.vodserve.specs.Workers.{AreJoined, AreWorkers, IsWorker, report_of}
 use Rattle.vodserve.specs.declared.workers.Worker.{Worker}
-use Rattle.vodserve.proofs.WorkerLemmas.{AreJoined, all_back, fault_joined, first_worker, join_one, may_rejoin}
+use Rattle.vodserve.proofs.WorkerLemmas.{all_done, all_push, first_split, first_worker, join_one, may_rejoin, one_done, rest_workers, risen_on, risen_since, back_still_open}
 use Rattle.vodserve.proofs.workers.join_workers.Goals as goal
-use Rattle.vodserve.proofs.workers.join_workers.Goals.{then-is_err, else-is_err}
 
 pub loop-workers-init : goal.loop-workers-init
-loop-workers-init g c = record {
-  joined = (
-    0,
-    record {
-      whole = omega arith;
+loop-workers-init g c = (
+  [],
+  record {
+    whole = refl;
+    rest = c.requires.workers;
+    joined = record {
       id = ap (λ (s : Sitting). s.id) c.requires.seat;
       steps = ap (λ (s : Sitting). s.steps) c.requires.seat;
       limit = ap (λ (s : Sitting). s.limit) c.requires.seat;
       number = ap (λ (s : Sitting). s.number) c.requires.seat;
       mine = ap (λ (s : Sitting). s.mine) c.requires.seat;
       splits = ap (λ (s : Sitting). s.splits) c.requires.seat;
-      joined = λ k low high. absurd (omega (arith, low, high));
-      left = c.requires.workers;
-      parts = c.requires.parts;
-    },
-  );
-  count = omega arith;
-  fault = λ e. cc;
-}
+      joined = ap (λ (s : Sitting). s.joined) c.requires.seat;
+      seen = All-nil (λ (w : Worker _). _);
+      out = c.requires.parts;
+      back = tt;
+    };
+    left = record {
+      taken = λ e. All-nil (λ (p : PartReport). _);
+      failed = λ e. let bad : ⊥ = cc in absurd bad;
+      whole = inr c.requires.none;
+    };
+    opened = λ opening is. is;
+    count = omega arith;
+    counted = All-nil (λ (w : Worker _). _);
+  },
+)
 
 pub loop-workers-preserved : goal.loop-workers-preserved
 loop-workers-preserved g c =
-    let from : ℕ = c.loop-workers.invariant.joined.0 in
-    let so_far : AreJoined g.G.Gate.told g.G.Gate.faults c.args.station.now (length c.args.workers.items) from c.loop-workers.seat (g.G.Gate.told c.loop-workers.gate) c.loop-workers.workers.items =
-    c.loop-workers.invariant.joined.1 in
-    let some : 0 < length c.loop-workers.workers.items = omega (arith, c.remove-other.ensures.len, c.loop-workers.workers.ok) in
-    let first : (c.remove-other.result.number ≡ from) × IsWorker g.G.Gate.told g.G.Gate.faults c.args.station.now c.remove-other.result =
-    first_worker g.G.Gate.told g.G.Gate.faults c.args.station.now from c.loop-workers.workers.items c.remove-other.result so_far.left some c.remove-other.ensures.value in
-    record {
-      joined = (
-        from + 1,
-        subst (λ (ws : List (Worker _)).
-            AreJoined g.G.Gate.told g.G.Gate.faults c.args.station.now (length c.args.workers.items) (from + 1) c.join.new.seat (g.G.Gate.told c.rejoin.new.self) ws) (sym c.remove-other.ensures.items)
-            (join_one g.G.Gate.told g.G.Gate.faults c.args.station.now (length c.args.workers.items) from c.loop-workers.seat c.join.new.seat
-            (g.G.Gate.told c.loop-workers.gate) (g.G.Gate.told c.rejoin.new.self) c.loop-workers.workers.items c.remove-other.result so_far some c.remove-other.ensures.value
-            c.join.ensures.same c.rejoin.ensures.joined),
-      );
-      count = omega (arith, c.rejoin.ensures.count, c.loop-workers.invariant.count);
-      fault = elim c.if-is_err.branch [
-        | then-is_err w ↦ λ e. cc
-        | else-is_err w ↦ λ e. fault_joined c.loop-workers.end c.remove-other.result.report.end (g.G.Gate.faults c.args.gate.now) (g.G.Gate.faults c.loop-workers.gate)
-            (g.G.Gate.faults c.rejoin.new.self) (g.G.Gate.faults c.remove-other.result.part)
-            (c.worse-end.ensures (sym w.end-is ∙ e)) c.loop-workers.invariant.fault first.1.fault c.rejoin.ensures.risen
-            c.loop-workers.invariant.count c.rejoin.ensures.count
-      ];
-    }
+    let inv = c.loop-workers.invariant.1 in
+    let done : List (Worker _) = c.loop-workers.invariant.0 in
+    let rest : List (Worker _) = c.loop-workers.workers.items in
+    let worker : Worker _ = c.remove-other.result in
+    let some : 0 < length rest = omega (arith, c.remove-other.ensures.len, c.loop-workers.workers.ok) in
+    let first : (worker.number ≡ length done) × IsWorker g.G.Gate.told g.G.Gate.faults c.args.station.now worker =
+    first_worker g.G.Gate.told g.G.Gate.faults c.args.station.now (length done) rest worker inv.rest some c.remove-other.ensures.value in
+    let one_more : length done + 1 ≡ length (done ++ worker ∷ []) = sym (length-append done (worker ∷ [])) in
+    let inside : length done < length c.args.workers.items = omega (arith, ap length inv.whole, length-append done rest, some) in (
+      done ++ worker ∷ [],
+      record {
+        whole = subst (λ (ws : List (Worker _)). c.args.workers.items ≡ (done ++ worker ∷ []) ++ ws) (sym c.remove-other.ensures.items)
+            (one_done c.args.workers.items done rest worker inv.whole (first_split rest worker some c.remove-other.ensures.value));
+        rest = subst (λ (ws : List (Worker _)). AreWorkers g.G.Gate.told g.G.Gate.faults c.args.station.now (length (done ++ worker ∷ [])) ws) (sym c.remove-other.ensures.items)
+            (subst (λ (n : ℕ). AreWorkers g.G.Gate.told g.G.Gate.faults c.args.station.now n (remove rest 0)) one_more
+            (rest_workers g.G.Gate.told g.G.Gate.faults c.args.station.now (length done) rest inv.rest some));
+        joined = join_one g.G.Gate.told g.G.Gate.faults c.args.station.now (length c.args.workers.items) done worker c.loop-workers.seat c.join.new.seat
+            (g.G.Gate.told c.loop-workers.gate) (g.G.Gate.told c.rejoin.new.self) inv.joined first.1 first.0 inside c.join.ensures.same c.rejoin.ensures.joined
+            c.join.ensures.longer c.join.ensures.told;
+        left = subst (λ (ps : List PartReport). AreLeft ps c.add_reports-end.result c.add_reports-end.new.reports.items) (sym (map-append report_of done (worker ∷ [])))
+            (c.add_reports-end.ensures.left (map report_of done) inv.left);
+        opened = λ opening is. back_still_open opening (g.G.Gate.told worker.part) (g.G.Gate.told c.loop-workers.gate) (g.G.Gate.told c.rejoin.new.self) (inv.opened opening is)
+            c.rejoin.ensures.joined;
+        count = omega (arith, c.rejoin.ensures.count, inv.count);
+        counted = all_push
+            (λ (w : Worker _). 0 < g.G.Gate.faults w.part → HasRisen (g.G.Gate.faults c.args.gate.now) (g.G.Gate.faults c.rejoin.new.self)) done worker
+            (λ i d h some. risen_on (g.G.Gate.faults c.args.gate.now) (g.G.Gate.faults c.loop-workers.gate) (g.G.Gate.faults c.rejoin.new.self)
+            (inv.counted i d h some) c.rejoin.ensures.count)
+            (λ some. risen_since (g.G.Gate.faults c.args.gate.now) (g.G.Gate.faults c.loop-workers.gate) (g.G.Gate.faults c.rejoin.new.self)
+            (c.rejoin.ensures.risen some) inv.count);
+      },
+    )

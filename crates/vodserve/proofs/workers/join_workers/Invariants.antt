@@ -1,14 +1,21 @@
-use Rattle.std.proofs.Common.{◌≡◌, ◌≤◌, ℕ, length}
+use Rattle.std.proofs.Common.{◌≡◌, ◌<◌, ◌≤◌, ◌++◌, ℕ, List, length}
+use Rattle.std.specs.Prelude.{All, map}
 use Rattle.vod_base.specs.Outside.{HasRisen}
-use Rattle.conn.specs.declared.reports.PartEnd.TheVariants.{GateFault}
-use Rattle.vodserve.proofs.WorkerLemmas.{AreJoined}
+use Rattle.vod_base.specs.declared.gates.Opening.{Opening}
+use Rattle.vodserve.specs.Worked.{AreLeft, IsOpenAs}
+use Rattle.vodserve.specs.Workers.{AreJoined, AreWorkers, report_of}
+use Rattle.vodserve.specs.declared.workers.Worker.{Worker}
 use Rattle.vodserve.proofs.workers.join_workers.Given as goal
 
 abbrev pub invariant-loop-workers : goal.invariant-loop-workers
-invariant-loop-workers g l = record {
-  joined : (from : ℕ) × AreJoined g.G.Gate.told g.G.Gate.faults l.station (length l.initial.workers.items) from l.seat (g.G.Gate.told l.gate) l.workers.items;
+invariant-loop-workers g l = (done : List (Worker _)) × record {
+  whole : l.initial.workers.items ≡ done ++ l.workers.items;
+  rest : AreWorkers g.G.Gate.told g.G.Gate.faults l.station (length done) l.workers.items;
+  joined : AreJoined g.G.Gate.told l.station (length l.initial.workers.items) done l.seat (g.G.Gate.told l.gate);
+  left : AreLeft (map report_of done) l.end l.reports.items;
+  opened : (opening : Opening) → IsOpenAs opening (g.G.Gate.told l.fn.gate) → IsOpenAs opening (g.G.Gate.told l.gate);
   count : g.G.Gate.faults l.fn.gate ≤ g.G.Gate.faults l.gate;
-  fault : l.end ≡ GateFault → HasRisen (g.G.Gate.faults l.fn.gate) (g.G.Gate.faults l.gate);
+  counted : All (λ worker. 0 < g.G.Gate.faults worker.part → HasRisen (g.G.Gate.faults l.fn.gate) (g.G.Gate.faults l.gate)) done;
 }
 
 abbrev pub decreases-loop-workers : goal.decreases-loop-workers

@@ -1,10 +1,10 @@
-use Rattle.std.proofs.Common.{◌≡◌, ◌∙◌, ◌+◌, ◌++◌, ◌∷◌, [], List, length, ap, sym, subst, arith, length-append}
+use Rattle.std.proofs.Common.{refl, ◌≡◌, ◌∙◌, ◌+◌, ◌++◌, ◌∷◌, [], List, length, ap, sym, subst, arith, length-append}
 use Rattle.std.specs.Prelude.{All}
 use Rattle.station.specs.Seats.{Sitting, after_split}
 use Rattle.conn.specs.declared.reports.PartEnd.TheVariants.{AllTaken}
 use Rattle.vodserve.specs.Workers.{AreWorkers, IsFresh, IsWorker}
 use Rattle.vodserve.specs.declared.workers.Worker.{Worker}
-use Rattle.vodserve.proofs.WorkerLemmas.{fresh_push, new_untouched, workers_push, told_out_more, still_open, new_number}
+use Rattle.vodserve.proofs.WorkerLemmas.{all_push, fewer_parts, new_untouched, workers_push, told_out_more, split_open, split_still_open, new_number}
 use Rattle.vodserve.proofs.workers.make_workers.Goals as goal
 
 pub loop-number-preserved : goal.loop-number-preserved
@@ -21,9 +21,15 @@ loop-number-preserved g c =
       id = ap (λ (s : Sitting). s.id) c.split-in-loop-number.ensures.new ∙ ap (λ (s : Sitting). s.id) c.loop-number.invariant.seat;
       steps = ap (λ (s : Sitting). s.steps) c.split-in-loop-number.ensures.new ∙ ap (λ (s : Sitting). s.steps) c.loop-number.invariant.seat;
       seat = ap (λ (s : Sitting). s.number) c.split-in-loop-number.ensures.new ∙ ap (λ (s : Sitting). s.splits + 1) c.loop-number.invariant.seat;
+      joined = ap (λ (s : Sitting). s.joined) c.split-in-loop-number.ensures.new;
       part = new_number c.loop-number.number (g.G.Gate.told c.loop-number.gate) (g.G.Gate.told c.in-Ok.part) c.loop-number.invariant.parts
           (((c.in-Ok.ensures {u = tt}).part).0);
       fault = λ e. cc;
+    } in
+    let fresh : IsFresh g.G.Gate.told g.G.Gate.faults worker = record {
+      mine = ap (λ (s : Sitting). s.mine) c.split-in-loop-number.ensures.new;
+      part = new_untouched (g.G.Gate.told c.loop-number.gate) (g.G.Gate.told c.in-Ok.part) (((c.in-Ok.ensures {u = tt}).part).0);
+      count = ((c.in-Ok.ensures {u = tt}).part).1;
     } in
     record {
       made = omega (arith, ap length items, length-append c.loop-number.workers.items (worker ∷ []), c.loop-number.invariant.made);
@@ -31,10 +37,11 @@ loop-number-preserved g c =
       workers = subst (AreWorkers g.G.Gate.told g.G.Gate.faults c.args.station.now 0) (sym items)
           (workers_push g.G.Gate.told g.G.Gate.faults c.args.station.now 0 c.loop-number.workers.items worker c.loop-number.invariant.workers
           (omega (arith, c.loop-number.invariant.made)) is);
-      untouched = subst (All (IsFresh g.G.Gate.told)) (sym items)
-          (fresh_push g.G.Gate.told c.loop-number.workers.items worker c.loop-number.invariant.untouched
-          (new_untouched (g.G.Gate.told c.loop-number.gate) (g.G.Gate.told c.in-Ok.part) (((c.in-Ok.ensures {u = tt}).part).0)));
-      opened = still_open (g.G.Gate.told c.loop-number.gate) (g.G.Gate.told c.split.new.self) c.loop-number.invariant.opened ((c.in-Ok.ensures {u = tt}).split);
+      fresh = subst (All (IsFresh g.G.Gate.told g.G.Gate.faults)) (sym items)
+          (all_push (IsFresh g.G.Gate.told g.G.Gate.faults) c.loop-number.workers.items worker c.loop-number.invariant.fresh fresh);
+      opened = split_open (g.G.Gate.told c.loop-number.gate) (g.G.Gate.told c.split.new.self) c.loop-number.invariant.opened ((c.in-Ok.ensures {u = tt}).split);
+      kept = λ opening is.
+          split_still_open opening (g.G.Gate.told c.loop-number.gate) (g.G.Gate.told c.split.new.self) (c.loop-number.invariant.kept opening is) ((c.in-Ok.ensures {u = tt}).split);
       parts = told_out_more c.loop-number.number (g.G.Gate.told c.loop-number.gate) (g.G.Gate.told c.split.new.self) c.loop-number.invariant.parts
           ((c.in-Ok.ensures {u = tt}).split);
       count = omega (arith, c.split.ensures.count, c.loop-number.invariant.count);

@@ -1,7 +1,8 @@
 use Rattle.std.proofs.Common.{◌≡◌, ◌∙◌, ◌<◌, ℕ, List, length, drop, sym, ap, subst, arith}
 use Rattle.std.specs.Prelude.{slice_index_or}
 use Rattle.std.proofs.lemmas.List.{take_at}
-use Rattle.vodserve.specs.Workers.{AreWorkers, IsWorker}
+use Rattle.std.specs.Prelude.{All}
+use Rattle.vodserve.specs.Workers.{AreWorkers, HasFinished, IsWorker}
 use Rattle.vodserve.specs.declared.workers.Worker.{Worker}
 use Rattle.vodserve.proofs.WorkerLemmas.{same_workers}
 use Rattle.vodserve.proofs.workers.run_workers.Goals as goal
@@ -18,3 +19,13 @@ returns-clause-workers g c =
     ∙ ap (λ (w : Worker _). w.number) (k.argument_is ∙ ap (λ (ws : List (Worker _)). slice_index_or ws i d) c.as_mut_slice.ensures.value))
     (λ i d h. let k = (c.for_each_mut.ensures i d (omega (arith, h, value))).1 in
     subst (IsWorker g.G.Gate.told g.G.Gate.faults c.args.service.station.now) k.left k.call.1))
+
+pub returns-clause-finished : goal.returns-clause-finished
+returns-clause-finished g c =
+    let value : length c.as_mut_slice.result.now ≡ length c.args.workers.now.items = ap (λ (ws : List (Worker _)). length ws) c.as_mut_slice.ensures.value in
+    let long : length c.for_each_mut.new.s ≡ length c.args.workers.now.items = omega (arith, c.for_each_mut.auto.s, value) in
+    let Ends : Worker _ → Type 0 =
+    HasFinished g.G.Gate.told g.G.Gate.faults c.args.service.films.now c.args.service.settings.now c.args.service.seed in
+    subst (All Ends)
+    (sym (take_at c.for_each_mut.new.s (drop (length c.for_each_mut.new.s) c.args.workers.now.items) c.args.workers.now.len (omega (arith, long, c.args.workers.now.ok))))
+    (λ i d h. let k = (c.for_each_mut.ensures i d (omega (arith, h, long, value))).1 in subst Ends k.left k.call.2)

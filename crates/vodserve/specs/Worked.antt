@@ -1,0 +1,111 @@
+-- What a server serves with, and what its workers did.
+use Rattle.std.specs.Prelude.{◌≡◌, ◌⊎◌, ℕ, ◌+◌, ◌<◌, ⊤, List, [], ◌∷◌, ◌++◌, All, length, slice_index_or, string_bytes, Option, Some, None, IfSome}
+use mathlib.Core.List.{IsPrefix}
+use Rattle.vod_base.specs.Outside.{File, HasRisen, file_named}
+use Rattle.vod_base.specs.Gates.{Content}
+use Rattle.vod_base.specs.declared.gates.Opening.{Opening}
+use Rattle.film_frames.specs.declared.stores.Stored.{Stored}
+use Rattle.admission.specs.declared.entries.Entry.{Entry}
+use Rattle.admission.specs.Makers.{made_by}
+use Rattle.session.specs.Ranges.{names_of}
+use Rattle.session.specs.declared.settings.Settings.{Settings}
+use Rattle.station.specs.Seats.{Sitting}
+use Rattle.conn.specs.Parts.{Duty, HasServedPart, IsUntouched, Outlet, duty, outlet}
+use Rattle.conn.specs.declared.reports.ConnReport.{ConnReport}
+use Rattle.conn.specs.declared.reports.PartReport.{PartReport}
+use Rattle.conn.specs.declared.reports.PartEnd.{PartEnd}
+use Rattle.conn.specs.declared.reports.PartEnd.TheVariants.{AllTaken, GateFault, NoMemory}
+use Rattle.command_words.specs.Words.{Serving}
+
+-- how the words open the gate
+abbrev pub opening_of : Serving → Opening
+opening_of serving =
+    record {
+      port = serving.listening.port;
+      all = serving.listening.all;
+      connections = serving.listening.connections;
+      slot_units = serving.pace.slot;
+    }
+
+-- what the words let clients settle by themselves, and the slot length
+abbrev pub settings_of : Serving → Settings
+settings_of serving = record { slot_units = serving.pace.slot; buffer = serving.pace.buffer; startup = serving.pace.startup }
+
+-- a film is what the library holds under its name
+abbrev pub IsHeld : Option (List File) → Stored → Type 0
+IsHeld told film = (held : List File) → told ≡ Some held → file_named held (string_bytes film.name) ≡ Some film.film.bytes.items
+
+-- the films of these names, in their order, as the library holds them
+pub record AreLoaded (told : Option (List File)) (names : List (List ℕ)) (films : List Stored) : Type 0 where
+  pub names_are : names_of films ≡ names
+  pub held : All (IsHeld told) films
+
+-- a gate is open in this way
+abbrev pub IsOpenAs : Opening → Option Content → Type 0
+IsOpenAs opening told = IfSome told (λ content. content.opening ≡ Some opening)
+
+-- so many parts were split from a gate
+abbrev pub HasParts : ℕ → Option Content → Type 0
+HasParts count told = IfSome told (λ content. length content.parts ≡ count)
+
+-- a part is back in its gate as it was told last
+abbrev pub HasBack : ℕ → Option Content → Content → Type 0
+HasBack number told gate = (part : Content) × ((told ≡ Some part) × (slice_index_or gate.parts number None ≡ Some part.own))
+
+-- A worker served its part of the gate, of which no connection had been taken before, from the seat of the number after its own. The
+-- journal's entries of that seat are those that the worker made, and all that it saw of the journal is its front. The part is back in the
+-- gate, and a fault of it was counted there.
+pub record HasWorked (by : Duty) (journal : List Entry) (gate gate' : Outlet) (report : PartReport) : Type 0 where
+  pub seat : Sitting
+  pub left : Sitting
+  pub part : Option Content
+  pub after : Outlet
+  pub served : HasServedPart by seat left (outlet 0 part) after report
+  pub number : seat.number ≡ by.worker + 1
+  pub mine : seat.mine ≡ []
+  pub untouched : IfSome part IsUntouched
+  pub seen : IsPrefix left.seen journal
+  pub made : left.mine ≡ made_by (by.worker + 1) journal
+  pub back : IfSome gate'.told (HasBack by.worker after.told)
+  pub counted : 0 < after.faults → HasRisen gate.faults gate'.faults
+
+-- workers whose numbers go on from one, with their reports
+abbrev pub AllWorked : List Stored → Settings → List ℕ → List Entry → Outlet → Outlet → ℕ → List PartReport → Type 0
+AllWorked films settings seed journal gate gate' from [] = ⊤
+AllWorked films settings seed journal gate gate' from (report ∷ reports) =
+    HasWorked (duty films settings seed from) journal gate gate' report
+    × AllWorked films settings seed journal gate gate' (from + 1) reports
+
+-- the reports of workers on their connections: those of the first one, then those of the next, and so on
+abbrev pub all_reports : List PartReport → List ConnReport
+all_reports [] = []
+all_reports (part ∷ parts) = part.reports.items ++ all_reports parts
+
+-- the worse of two ends: want of memory before a fault of the gate
+pub record IsWorse (one other end : PartEnd) : Type 0 where
+  pub fault : end ≡ GateFault → (one ≡ GateFault) ⊎ (other ≡ GateFault)
+  pub taken : end ≡ AllTaken → (one ≡ AllTaken) × (other ≡ AllTaken)
+  pub memory : one ≡ NoMemory → end ≡ NoMemory
+
+-- a worker ended so
+pub record HasOne (end : PartEnd) (parts : List PartReport) : Type 0 where
+  pub worker : ℕ
+  pub inside : worker < length parts
+  pub ended : (none : PartReport) → (slice_index_or parts worker none).end ≡ end
+
+-- how workers ended in all, and what is left of their connections: all have taken all; or one part failed; without want of memory all
+-- reports are left
+pub record AreLeft (parts : List PartReport) (end : PartEnd) (reports : List ConnReport) : Type 0 where
+  pub taken : end ≡ AllTaken → All (λ part. part.end ≡ AllTaken) parts
+  pub failed : end ≡ GateFault → HasOne GateFault parts
+  pub whole : (end ≡ NoMemory) ⊎ (reports ≡ all_reports parts)
+
+-- The workers of a server: as many as the words say, each over a part of a gate that was opened as they say, and what is left of them.
+pub record HaveWorked (films : List Stored) (seed : List ℕ) (serving : Serving) (journal : List Entry) (gate gate' : Outlet) (end : PartEnd)
+    (reports : List ConnReport) : Type 0 where
+  pub parts : List PartReport
+  pub count : length parts ≡ serving.listening.workers
+  pub each : AllWorked films (settings_of serving) seed journal gate gate' 0 parts
+  pub open_as : IsOpenAs (opening_of serving) gate'.told
+  pub split : HasParts serving.listening.workers gate'.told
+  pub left : AreLeft parts end reports
