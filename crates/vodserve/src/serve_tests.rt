@@ -148,9 +148,12 @@ fn playing_part(alloc: Global, worker: u32) -> Result<MemoryPart, Fail> {
 
 /// Whether a text stands in bytes.
 fn has(bytes: &[u8], text: &str) -> bool {
-    bytes
-        .windows(text.len())
-        .any(|window| window == text.as_bytes())
+    for start in 0..bytes.len() {
+        if bytes[start..].starts_with(text.as_bytes()) {
+            return true;
+        }
+    }
+    false
 }
 
 #[test]
@@ -291,7 +294,10 @@ fn answers_a_look_in_mid_report(rt: HostRuntime) -> Result<(), Fail> {
 fn film_bytes(alloc: Global, blocks: &[u8]) -> Result<Vec<u8>, Fail> {
     let mut film = Vec::new(alloc);
     let mut rest = blocks;
-    while let [b'$', channel, high, low, after @ ..] = rest {
+    for _ in 0..blocks.len() {
+        let [b'$', channel, high, low, after @ ..] = rest else {
+            break;
+        };
         let length = usize::from(*high) * 256 + usize::from(*low);
         let Some((block, next)) = after.split_at_checked(length) else {
             return Err(Fail::from("a block that is cut"));
