@@ -1,5 +1,6 @@
 -- What an event brings: what was taken up, and how the connection ended, if it did.
-use Rattle.std.specs.Prelude.{◌≡◌, ℕ, ◌+◌, ◌<◌, ◌⊎◌, ◌++◌, ⊤, true, false, if◌then◌else◌, nat_lt, List, length, take, Option, Some, None, Ok, Err}
+use Rattle.std.specs.Prelude.{◌≡◌, ℕ, ◌+◌, ◌<◌, ◌≤◌, ◌⊎◌, ◌++◌, ⊤, Bool, true, false, if◌then◌else◌, nat_lt, List, length, take, Option, Some, None, Ok, Err}
+use Rattle.vod_base.specs.Outside.{HasRisen}
 use Rattle.vod_base.specs.declared.links.Heard.{Heard}
 use Rattle.vod_base.specs.declared.links.Heard.TheVariants.{Bytes, Slot, End as PeerEnd}
 use Rattle.interleave.specs.Pieces.{IsFirst}
@@ -56,3 +57,25 @@ abbrev pub IsTaken : Taken → ℕ → Connection → Type 0
 IsTaken Gone waiting c = (c.session.lost ≡ false) × (length c.input < waiting)
 IsTaken Waits waiting c = IsTakenUp None c
 IsTaken (End end) waiting c = IsTakenUp (Some end) c
+
+-- the link failed
+abbrev pub is_fault : Option ConnEnd → Bool
+is_fault None = false
+is_fault (Some LinkFault) = true
+is_fault (Some Ended) = false
+is_fault (Some TornDown) = false
+is_fault (Some TooMuchInput) = false
+is_fault (Some HeadTooLong) = false
+is_fault (Some BodyTooLong) = false
+is_fault (Some TurnsSpent) = false
+is_fault (Some NoMemory) = false
+
+abbrev pub end_in : Taken → Option ConnEnd
+end_in Gone = None
+end_in Waits = None
+end_in (End end) = Some end
+
+-- the link's count of faults never falls, and it rose where the connection ended because the link failed
+pub record HasCounted (end : Option ConnEnd) (old new : ℕ) : Type 0 where
+  pub count : old ≤ new
+  pub fault : is_fault end ≡ true → HasRisen old new

@@ -1,12 +1,16 @@
 //! A connection as it goes on: its input, its session, and the booking that is open for it.
 
-ghost use Rattle.std.specs.Prelude.{◌≡◌, ◌≤◌, false, None, [], drop, length as list_length, IfOk, OnOk, OnErr};
-ghost use Rattle.vod_base.specs.Links.{IsWithin};
+ghost use Rattle.std.specs.Prelude.{◌≡◌, ◌≤◌, false, None, [], drop, take, length as list_length, IfOk, OnOk, OnErr};
+ghost use Rattle.vod_base.specs.Links.{IsWithin, doing_of};
 ghost use Rattle.interleave.specs.Pieces.{IsRequestLength};
 ghost use Rattle.station.specs.Seats.{IsSameSeat};
 ghost use Rattle.session.specs.Standings.{AreFilms, AreSettings, CanKeep, IsAtRest, IsHalt, PlayAnswer, LookAnswer, OfferAnswer, awaits, open_of};
 ghost use Rattle.conn.specs.Keeping.{HasGone, IsHeld, IsQuiet, business};
-ghost use Rattle.conn.specs.Events.{CutsOn, HasHeard, IsEndOf, IsTaken, IsTakenUp, with_heard};
+ghost use Rattle.conn.specs.Sights.{HasAnswered, HasAsked, HasBroken, HasComeTo, HasHalted, HasPassed, HasTakenUp, TakesNext, sight};
+ghost use Rattle.session.specs.declared.asks.Ask.{Ask};
+ghost use Rattle.conn.specs.Served.{HasClosed, IsBegun};
+ghost use Rattle.conn.specs.Events.{CutsOn, HasCounted, HasHeard, IsEndOf, IsTaken, IsTakenUp, end_in, with_heard};
+ghost use Rattle.vod_base.specs.Outside.{HasRisen};
 
 use crate::reports::ConnEnd;
 use early_start::Offers;
@@ -38,6 +42,7 @@ impl<'a> Connection<'a> {
         requires settings { AreSettings settings.now }
         requires films { AreFilms films.now }
         ensures input { IfOk result (λ connection. connection.input ≡ []) }
+        ensures begun { IfOk result (λ connection. IsBegun connection.session) }
         ensures booking { IfOk result (λ connection. connection.booking ≡ None) }
         ensures session { IfOk result (λ connection. IsAtRest connection.session) }
         ensures open { IfOk result (λ connection. open_of connection.session ≡ None) }
@@ -56,6 +61,7 @@ impl<'a> Connection<'a> {
     }
 
     /// Takes up an event, and answers how it ended the connection, if it did. The bytes that came stand in front of `bytes`.
+    #[tactic(auto, using(crate::proofs::Counting::counted_same, crate::proofs::Counting::counted_end, crate::proofs::Counting::counted_fault, crate::proofs::Counting::counted_on))]
     pub(crate) fn hear<R: Wait, K: Link>(
         &mut self,
         rt: &R,
@@ -73,8 +79,11 @@ impl<'a> Connection<'a> {
         ensures seat { IsSameSeat seat.old seat.new }
         ensures quiet { IsQuiet seat.new.mine self.new }
         ensures gone { HasGone (business seat.old.mine self.old) (business seat.new.mine self.new) }
+        ensures comes { HasComeTo result (doing_of heard bytes.now)
+            (sight self.old (K.told link.old) seat.old) (sight self.new (K.told link.new) seat.new) }
         ensures cut { CutsOn (with_heard self.old.input heard bytes.now) self.new.input }
         ensures taken { HasHeard heard (list_length self.old.input) result self.new }
+        ensures counted { HasCounted result (K.faults link.old) (K.faults link.new) }
     {
         match heard {
             Heard::End => Some(ConnEnd::Ended),
@@ -109,8 +118,14 @@ impl<'a> Connection<'a> {
         ensures seat { IsSameSeat seat.old seat.new }
         ensures quiet { IsQuiet seat.new.mine self.new }
         ensures gone { HasGone (business seat.old.mine self.old) (business seat.new.mine self.new) }
+        ensures passed { OnOk result (HasPassed
+            (sight self.old (K.told link.old) seat.old) (sight self.new (K.told link.new) seat.new) slot) }
+        ensures broken { OnErr result (HasBroken
+            (sight self.old (K.told link.old) seat.old) (sight self.new (K.told link.new) seat.new) slot) }
         ensures input { self.new.input ≡ self.old.input }
         ensures lost { OnOk result (self.new.session.lost ≡ false) }
+        ensures count { K.faults link.old ≤ K.faults link.new }
+        ensures fault { OnErr result (HasRisen (K.faults link.old) (K.faults link.new)) }
     {
         match self.session.slot(slot, link)? {
             Slotted::Going => {}
@@ -120,6 +135,7 @@ impl<'a> Connection<'a> {
     }
 
     /// Takes up what waits, and answers how it ended the connection, if it did.
+    #[tactic(auto, using(crate::proofs::Counting::counted_same, crate::proofs::Counting::counted_end, crate::proofs::Counting::counted_fault, crate::proofs::Counting::counted_on))]
     fn take_up<R: Wait, K: Link>(
         &mut self,
         rt: &R,
@@ -133,8 +149,11 @@ impl<'a> Connection<'a> {
         ensures seat { IsSameSeat seat.old seat.new }
         ensures quiet { IsQuiet seat.new.mine self.new }
         ensures gone { HasGone (business seat.old.mine self.old) (business seat.new.mine self.new) }
+        ensures up { HasTakenUp result
+            (sight self.old (K.told link.old) seat.old) (sight self.new (K.told link.new) seat.new) }
         ensures cut { CutsOn self.old.input self.new.input }
         ensures taken { IsTakenUp result self.new }
+        ensures counted { HasCounted result (K.faults link.old) (K.faults link.new) }
     {
         'pieces: loop {
             match self.take_next(rt, station, seat, link) {
@@ -146,6 +165,7 @@ impl<'a> Connection<'a> {
     }
 
     /// Takes up the piece in front. A request is taken up only where no reply waits, and none is once a TEARDOWN was answered 200.
+    #[tactic(auto, using(crate::proofs::Counting::counted_same, crate::proofs::Counting::counted_end, crate::proofs::Counting::counted_fault, crate::proofs::Counting::counted_on))]
     fn take_next<R: Wait, K: Link>(
         &mut self,
         rt: &R,
@@ -159,8 +179,11 @@ impl<'a> Connection<'a> {
         ensures seat { IsSameSeat seat.old seat.new }
         ensures quiet { IsQuiet seat.new.mine self.new }
         ensures gone { HasGone (business seat.old.mine self.old) (business seat.new.mine self.new) }
+        ensures takes { TakesNext result
+            (sight self.old (K.told link.old) seat.old) (sight self.new (K.told link.new) seat.new) }
         ensures cut { CutsOn self.old.input self.new.input }
         ensures taken { IsTaken result (list_length self.old.input) self.new }
+        ensures counted { HasCounted (end_in result) (K.faults link.old) (K.faults link.new) }
     {
         if self.session.torn() {
             return Taken::End(ConnEnd::TornDown);
@@ -201,6 +224,7 @@ impl<'a> Connection<'a> {
         ensures seat { IsSameSeat seat.old seat.new }
         ensures quiet { IsQuiet seat.new.mine self.new }
         ensures gone { HasGone (business seat.old.mine self.old) (business seat.new.mine self.new) }
+        ensures heard { HasAsked self.old.session (take length self.old.input) self.new.session seat.old seat.new }
         ensures input { self.new.input ≡ drop length self.old.input }
         ensures lost { self.new.session.lost ≡ self.old.session.lost }
     {
@@ -224,6 +248,7 @@ impl<'a> Connection<'a> {
         ensures seat { IsSameSeat seat.old seat.new }
         ensures quiet { IsQuiet seat.new.mine self.new }
         ensures gone { HasGone (business seat.old.mine self.old) (business seat.new.mine self.new) }
+        ensures answered { HasAnswered self.old.session (Ask.Play plan) self.new.session seat.old seat.new }
         ensures input { self.new.input ≡ self.old.input }
         ensures lost { self.new.session.lost ≡ self.old.session.lost }
     {
@@ -256,6 +281,7 @@ impl<'a> Connection<'a> {
         ensures seat { IsSameSeat seat.old seat.new }
         ensures quiet { IsQuiet seat.new.mine self.new }
         ensures gone { HasGone (business seat.old.mine self.old) (business seat.new.mine self.new) }
+        ensures halted { HasHalted self.old.session keep self.new.session seat.old seat.new }
         ensures input { self.new.input ≡ self.old.input }
         ensures open { open_of self.new.session ≡ None }
         ensures booking { self.new.booking ≡ None }
@@ -278,6 +304,7 @@ impl<'a> Connection<'a> {
         ensures seat { IsSameSeat seat.old seat.new }
         ensures quiet { IsQuiet seat.new.mine self.new }
         ensures gone { HasGone (business seat.old.mine self.old) (business seat.new.mine self.new) }
+        ensures answered { HasAnswered self.old.session (Ask.Look slot) self.new.session seat.old seat.new }
         ensures input { self.new.input ≡ self.old.input }
         ensures lost { self.new.session.lost ≡ self.old.session.lost }
     {
@@ -306,6 +333,7 @@ impl<'a> Connection<'a> {
         ensures seat { IsSameSeat seat.old seat.new }
         ensures quiet { IsQuiet seat.new.mine self.new }
         ensures gone { HasGone (business seat.old.mine self.old) (business seat.new.mine self.new) }
+        ensures answered { HasAnswered self.old.session (Ask.Offer plan offers) self.new.session seat.old seat.new }
         ensures input { self.new.input ≡ self.old.input }
         ensures lost { self.new.session.lost ≡ self.old.session.lost }
     {
@@ -323,6 +351,7 @@ impl<'a> Connection<'a> {
         ensures seat { IsSameSeat seat.old seat.new }
         ensures quiet { IsQuiet seat.new.mine self.new }
         ensures gone { HasGone (business seat.old.mine self.old) (business seat.new.mine self.new) }
+        ensures closed { HasClosed self.old.session self.new.session seat.old seat.new }
         ensures open { open_of self.new.session ≡ None }
         ensures booking { self.new.booking ≡ None }
     {
@@ -338,6 +367,9 @@ impl<'a> Connection<'a> {
         requires open { open_of self.session ≡ None }
         requires booking { self.booking ≡ None }
         ensures receipts { result.receipts.items ≡ self.entry.session.receipts }
+        ensures plays { result.plays.items ≡ self.entry.session.plays }
+        ensures late { result.late ≡ self.entry.session.late }
+        ensures offers { result.offers.items ≡ self.entry.session.offers }
     {
         let Connection {
             session,

@@ -1,9 +1,14 @@
 //! One connection from its first event to its report.
 
-ghost use Rattle.std.specs.Prelude.{◌≡◌, ◌≤◌, [], false};
+ghost use Rattle.std.specs.Prelude.{◌≡◌, ◌≤◌, [], Some, false};
+ghost use Rattle.vod_base.specs.Outside.{HasRisen};
 ghost use Rattle.session.specs.Standings.{AreFilms, AreSettings};
 ghost use Rattle.station.specs.Seats.{IsSameSeat};
+ghost use Rattle.conn.specs.declared.reports.ConnEnd.TheVariants.{LinkFault};
+ghost use Rattle.conn.specs.Events.{HasCounted};
 ghost use Rattle.conn.specs.Keeping.{HasGone, IsQuiet, at_rest, business};
+ghost use Rattle.conn.specs.Served.{HasServedConnection};
+ghost use Rattle.conn.specs.Sights.{HasCourse, sight};
 
 use crate::connections::Connection;
 use crate::reports::{ConnEnd, ConnReport};
@@ -42,6 +47,9 @@ pub fn serve_connection<R: Wait, K: Link>(
     ensures seat { IsSameSeat seat.old seat.new }
     ensures worker { result.worker ≡ worker }
     ensures words { result.words ≡ words }
+    ensures served { HasServedConnection (K.told link.old) (K.told link.new) seat.old seat.new result }
+    ensures count { K.faults link.old ≤ K.faults link.new }
+    ensures fault { result.end ≡ LinkFault → HasRisen (K.faults link.old) (K.faults link.new) }
     ensures entries { HasGone (at_rest seat.old.mine []) (at_rest seat.new.mine result.receipts.items) }
 {
     let Ok(mut connection) = Connection::new(alloc, films, settings, words) else {
@@ -59,7 +67,7 @@ pub fn serve_connection<R: Wait, K: Link>(
 }
 
 /// Hears events until one of them ends the connection.
-#[tactic(auto, using(crate::proofs::Cutting::seat_on, crate::proofs::Cutting::seat_none, crate::proofs::Going::gone_on, crate::proofs::Going::gone_still))]
+#[tactic(auto, using(crate::proofs::Cutting::seat_on, crate::proofs::Cutting::seat_none, crate::proofs::Going::gone_on, crate::proofs::Going::gone_still, crate::proofs::Counting::counted_same, crate::proofs::Counting::counted_fault, crate::proofs::Counting::counted_on))]
 fn hear_all<R: Wait, K: Link>(
     rt: &R,
     station: &Station,
@@ -74,9 +82,12 @@ fn hear_all<R: Wait, K: Link>(
     ensures seat { IsSameSeat seat.old seat.new }
     ensures quiet { IsQuiet seat.new.mine connection.new }
     ensures gone { HasGone (business seat.old.mine connection.old) (business seat.new.mine connection.new) }
+    ensures counted { HasCounted (Some result) (K.faults link.old) (K.faults link.new) }
+    ensures course { HasCourse result (sight connection.old (K.told link.old) seat.old)
+        (sight connection.new (K.told link.new) seat.new) }
 {
     let mut into = [0; MOST_HEARD];
-    'events: for _ in 0..MOST_EVENTS {
+    'events: for _event in 0..MOST_EVENTS {
         let Ok(heard) = link.next(&mut into) else {
             return ConnEnd::LinkFault;
         };

@@ -1,5 +1,6 @@
-use Rattle.std.proofs.Common.{◌≡◌, false}
+use Rattle.std.proofs.Common.{◌≡◌, ◌≤◌, false}
 use Rattle.conn.specs.Keeping.{HasGone, IsQuiet, business}
+use Rattle.conn.specs.Sights.{HasRun, sight}
 use Rattle.station.specs.Seats.{IsSameSeat}
 use Rattle.conn.proofs.serving.hear_all.Given as goal
 
@@ -10,3 +11,5 @@ invariant-events g l =
     × HasGone (business l.initial.seat.mine l.initial.connection) (business l.seat.mine l.connection)
     × (l.connection.session.torn ≡ false)
     × (l.connection.session.lost ≡ false)
+    × HasRun l._event (sight l.initial.connection (g.K.Link.told l.initial.link) l.initial.seat) (sight l.connection (g.K.Link.told l.link) l.seat)
+    × (g.K.Link.faults l.initial.link ≤ g.K.Link.faults l.link)

@@ -1,5 +1,6 @@
-use Rattle.std.proofs.Common.{rules}
+use Rattle.std.proofs.Common.{rules, refl}
 use Rattle.conn.specs.Keeping.{business}
+use Rattle.conn.proofs.Sighting.{halted_entry}
 use Rattle.conn.proofs.Going.{gone_halt}
 use Rattle.conn.proofs.connections.Connection.halt.Goals as goal
 
@@ -9,3 +10,8 @@ returns-clause-gone g c =
     (business c.halt-place.new.seat.mine (record { session = c.halted.new.self; input = c.args.self.now.input; booking = c.replace.new.dest }))
     c.args.seat.now.number c.halt-place.result c.args.keep c.in-Some.booking (search rules) (search rules) c.halt-place.ensures.made.mine
     c.halted.ensures.handed.receipts
+
+pub returns-clause-halted : goal.returns-clause-halted
+returns-clause-halted g c =
+    halted_entry c.args.self.now.session c.args.keep c.halted.new.self c.args.seat.now c.halt-place.new.seat c.in-Some.booking.number
+    c.halt-place.result c.args.seat.now.number c.halted.ensures.halts c.halt-place.ensures.made.mine

@@ -1,5 +1,7 @@
 use Rattle.std.proofs.Common.{refl}
 use Rattle.conn.specs.Keeping.{business}
+use Rattle.session.specs.declared.asks.Ask.TheVariants.{Look as AskLook}
+use Rattle.conn.proofs.Sighting.{answered_entry, answered_full}
 use Rattle.conn.proofs.Going.{gone_look, gone_full}
 use Rattle.conn.proofs.connections.Connection.look.Goals as goal
 
@@ -15,3 +17,13 @@ returns-in-Err-clause-gone g c =
     gone_full (business c.args.seat.now.mine c.args.self.now)
     (business c.look.new.seat.mine (record { session = c.full.new.self; input = c.args.self.now.input; booking = c.args.self.now.booking }))
     c.in-Err.full.entries c.in-Err.full.live c.in-Err.ensures.full.mine refl c.full.ensures.handed.receipts
+
+pub returns-in-Ok-clause-answered : goal.returns-in-Ok-clause-answered
+returns-in-Ok-clause-answered g c =
+    answered_entry c.args.self.now.session (AskLook c.args.slot) c.looked.new.self c.args.seat.now c.look.new.seat _
+    (refl, c.looked.ensures.exact) c.in-Ok.ensures.made.mine
+
+pub returns-in-Err-clause-answered : goal.returns-in-Err-clause-answered
+returns-in-Err-clause-answered g c =
+    answered_full c.args.self.now.session (AskLook c.args.slot) c.full.new.self c.args.seat.now c.look.new.seat
+    c.in-Err.full.entries c.in-Err.full.live c.full.ensures.exact c.in-Err.ensures.full.mine

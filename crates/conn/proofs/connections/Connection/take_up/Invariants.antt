@@ -1,6 +1,7 @@
-use Rattle.std.proofs.Common.{◌≡◌, false, length}
+use Rattle.std.proofs.Common.{◌≡◌, ◌≤◌, false, length}
 use Rattle.conn.specs.Events.{CutsOn}
 use Rattle.conn.specs.Keeping.{HasGone, IsQuiet, business}
+use Rattle.conn.specs.Sights.{HasTaken, sight}
 use Rattle.station.specs.Seats.{IsSameSeat}
 use Rattle.conn.proofs.connections.Connection.take_up.Given as goal
 
@@ -11,6 +12,8 @@ invariant-pieces g l =
     × HasGone (business l.initial.seat.mine l.initial.self) (business l.seat.mine l.self)
     × (l.self.session.lost ≡ false)
     × CutsOn l.initial.self.input l.self.input
+    × HasTaken (sight l.initial.self (g.K.Link.told l.initial.link) l.initial.seat) (sight l.self (g.K.Link.told l.link) l.seat)
+    × (g.K.Link.faults l.initial.link ≤ g.K.Link.faults l.link)
 
 abbrev pub decreases-pieces : goal.decreases-pieces
 decreases-pieces g l = length l.self.input

@@ -1,0 +1,34 @@
+-- A send that failed in a slot.
+use Rattle.std.proofs.Common.{◌≡◌, ℕ, if◌then◌else◌, take, Result, Ok, Err, OnErr, refl, ap, ◌∙◌}
+use Rattle.session.specs.Sendings.{HasFailed, due_bytes}
+use Rattle.session.specs.Standings.{IsAtRest, taken_up}
+use Rattle.conn.specs.Sights.{HasBroken, Sight}
+
+-- a fact that holds, also where there is no fault
+pub on_err : {T E P : Type 0} (r : Result T E) → P → OnErr r P
+on_err (Ok t) p = tt
+on_err (Err e) p = p
+
+-- a send failed in a slot
+pub broken_slot : (a b : Sight) (slot : ℕ) → HasFailed a.stage.session slot a.told b.told b.stage.session → b.stage.input ≡ a.stage.input →
+    b.stage.session.heard ≡ taken_up a.stage.session.heard slot → IsAtRest b.stage.session → b.stage.session.receipts ≡ a.stage.session.receipts →
+    b.stage.session.plays ≡ a.stage.session.plays → b.stage.session.offers ≡ a.stage.session.offers → b.seat ≡ a.seat → HasBroken a b slot
+broken_slot a b slot failed input heard rest receipts plays offers seat = record {
+  front = take failed.front.0 (due_bytes a.stage.session.waits a.stage.session.state a.stage.session.text slot);
+  fails = record {
+    taken = failed.taken;
+    sending = failed.sending;
+    front_is = (failed.front.0, (failed.front.1.0, refl));
+    input = input;
+    heard = heard ∙ ap (λ b. if b then slot else a.stage.session.heard) failed.taken;
+    rest = rest;
+    booking = failed.booking;
+    carried = failed.carried;
+    late = failed.late;
+    receipts = receipts;
+    plays = plays;
+    offers = offers;
+  };
+  sent = failed.front.1.1;
+  noted = seat;
+}

@@ -1,0 +1,469 @@
+-- Lemmas on the course of a connection, one doing after another.
+use Rattle.std.specs.Prelude.{⊤}
+use Rattle.std.proofs.Common.{◌≡◌, ℕ, ◌+◌, ◌<◌, ◌≤◌, ◌&&◌, Bool, true, false, if◌then◌else◌, List, [], ◌∷◌, ◌++◌, length, take, drop, Option, Some, None, Ok, refl, ap, sym, ◌∙◌, subst, arith, inl, inr}
+use Rattle.std.proofs.lemmas.List.{append-nil, append_assoc, map-append, length-append, length-take-le}
+use Rattle.interleave.specs.Pieces.{IsFirst}
+use Rattle.interleave.specs.declared.pieces.Step.TheVariants.{Request}
+use Rattle.vod_base.specs.Links.{Doing, IsFrontTold, Sent, HeardBytes, HeardEnd, HeardSlot, sends, told_more}
+use Rattle.vod_base.specs.declared.links.Heard.{Heard}
+use Rattle.vod_base.specs.declared.links.Heard.TheVariants.{Bytes, Slot, End}
+use Rattle.station.specs.Seats.{Sitting}
+use Rattle.admission.specs.Makers.{Placed}
+use Rattle.admission.specs.declared.entries.Answer.TheVariants.{Halted}
+use Rattle.admission.specs.declared.entries.Command.TheVariants.{Halt}
+use Rattle.conn.specs.declared.reports.ConnEnd.{ConnEnd}
+use Rattle.conn.specs.declared.reports.ConnEnd.TheVariants.{Ended, LinkFault, TooMuchInput}
+use Rattle.session.specs.Hearings.{Halts, Hears}
+use Rattle.session.specs.declared.asks.Ask.{Ask}
+use Rattle.session.specs.declared.asks.Ask.TheVariants.{Reply as AskReply, Halt as AskHalt}
+use Rattle.session.specs.declared.notes.OfferNote.{OfferNote}
+use Rattle.session.specs.Sendings.{IsTold, can_reply, due_bytes, is_between, is_sending, is_taken, step_bytes, stepped_in}
+use Rattle.session.specs.Standings.{IsDue, Open, Standing, open_of}
+use Rattle.conn.specs.declared.connections.Connection.{Connection}
+use Rattle.conn.specs.Events.{HasHeard}
+use Rattle.conn.specs.Served.{HasClosed}
+use Rattle.conn.specs.Turns.{Outcome, Unasked, Entered, WasFull, Offered, Part, Film, Text, Stage, Taking, Passed, Answered, IsAnswered, IsClosed, IsHalted, IsNext, IsPassed, Takes, TakesAll, after_reply, due_parts, entry_in, parts_bytes, reply_parts, slot_parts, stage}
+use Rattle.conn.specs.Rounds.{Comes, Ends, Unheard, PeerEnded, Overfull, AtPiece, InSlot, InReply, IsIdle, IsStopped, IsUnheard, Round, Runs, RunsAll, ending_bytes, ending_doings, ending_outcomes, entries_in, round_bytes, round_outcomes, rounds_doings, rounds_outcomes, taking_bytes, taking_outcomes, takings_bytes, takings_outcomes}
+use Rattle.conn.specs.Sights.{AreNoted, HasAnswered, HasAsked, HasBroken, HasHalted, HasComeTo, HasCourse, HasEnded, HasLost, HasPassed, HasRound, HasRun, HasTaken, HasTakenUp, IsSent, Sight}
+
+-- what the link tells
+told_on : (old : Option (List Doing)) (xs ys : List Doing) → told_more (told_more old xs) ys ≡ told_more old (xs ++ ys)
+told_on None xs ys = refl
+told_on (Some told) xs ys = ap Some (append_assoc told xs ys)
+
+told_none : (old : Option (List Doing)) → told_more old [] ≡ old
+told_none None = refl
+told_none (Some told) = ap Some (append-nil told)
+
+pub sent_none : (told : Option (List Doing)) → IsSent told [] told
+sent_none told = sym (told_none told)
+
+pub sent_on : (a b c : Option (List Doing)) (xs ys : List ℕ) → IsSent a xs b → IsSent b ys c → IsSent a (xs ++ ys) c
+sent_on a b c xs ys first second =
+    second ∙ ap (λ t. told_more t (sends ys)) first ∙ told_on a (sends xs) (sends ys) ∙ ap (told_more a) (sym (map-append Sent xs ys))
+
+-- what the seat made
+entries_in-append : (xs ys : List Outcome) → entries_in (xs ++ ys) ≡ entries_in xs ++ entries_in ys
+entries_in-append [] ys = refl
+entries_in-append (x ∷ xs) ys =
+    ap (λ es. entry_in x ++ es) (entries_in-append xs ys) ∙ sym (append_assoc (entry_in x) (entries_in xs) (entries_in ys))
+
+pub noted_none : (seat : Sitting) → AreNoted seat seat []
+noted_none seat = record { mine = sym (append-nil seat.mine) }
+
+pub noted_unasked : (seat : Sitting) → AreNoted seat seat (Unasked ∷ [])
+noted_unasked seat = record { mine = sym (append-nil seat.mine) }
+
+pub noted_on : (a b c : Sitting) (xs ys : List Outcome) → AreNoted a b xs → AreNoted b c ys → AreNoted a c (xs ++ ys)
+noted_on a b c xs ys first second = record {
+  mine = second.mine ∙ ap (λ m. m ++ entries_in ys) first.mine ∙ append_assoc a.mine (entries_in xs) (entries_in ys)
+      ∙ ap (λ es. a.mine ++ es) (sym (entries_in-append xs ys));
+}
+
+-- pieces
+takes_on : (a b c : Stage) (xs ys : List Taking) → TakesAll a xs b → TakesAll b ys c → TakesAll a (xs ++ ys) c
+takes_on a b c [] ys first second = subst (λ s. TakesAll s ys c) first second
+takes_on a b c (x ∷ xs) ys first second = (first.0, (first.1.0, takes_on first.0 b c xs ys first.1.1 second))
+
+takings_bytes-append : (xs ys : List Taking) → takings_bytes (xs ++ ys) ≡ takings_bytes xs ++ takings_bytes ys
+takings_bytes-append [] ys = refl
+takings_bytes-append (x ∷ xs) ys =
+    ap (λ bs. taking_bytes x ++ bs) (takings_bytes-append xs ys) ∙ sym (append_assoc (taking_bytes x) (takings_bytes xs) (takings_bytes ys))
+
+takings_outcomes-append : (xs ys : List Taking) → takings_outcomes (xs ++ ys) ≡ takings_outcomes xs ++ takings_outcomes ys
+takings_outcomes-append [] ys = refl
+takings_outcomes-append (x ∷ xs) ys =
+    ap (λ os. taking_outcomes x ++ os) (takings_outcomes-append xs ys) ∙ sym (append_assoc (taking_outcomes x) (takings_outcomes xs) (takings_outcomes ys))
+
+pub taken_none : (a : Sight) → HasTaken a a
+taken_none a = record { takings = []; takes = refl; sent = sent_none a.told; noted = noted_none a.seat }
+
+pub taken_one : (a b : Sight) (taking : Taking) → Takes a.stage taking b.stage → IsSent a.told (taking_bytes taking) b.told →
+    AreNoted a.seat b.seat (taking_outcomes taking) → HasTaken a b
+taken_one a b taking takes sent noted = record {
+  takings = taking ∷ [];
+  takes = (b.stage, (takes, refl));
+  sent = subst (λ bs. IsSent a.told bs b.told) (sym (append-nil (taking_bytes taking))) sent;
+  noted = subst (λ os. AreNoted a.seat b.seat os) (sym (append-nil (taking_outcomes taking))) noted;
+}
+
+pub taken_on : (a b c : Sight) → HasTaken a b → HasTaken b c → HasTaken a c
+taken_on a b c first second = record {
+  takings = first.takings ++ second.takings;
+  takes = takes_on a.stage b.stage c.stage first.takings second.takings first.takes second.takes;
+  sent = subst (λ bs. IsSent a.told bs c.told) (sym (takings_bytes-append first.takings second.takings))
+      (sent_on a.told b.told c.told (takings_bytes first.takings) (takings_bytes second.takings) first.sent second.sent);
+  noted = subst (λ os. AreNoted a.seat c.seat os) (sym (takings_outcomes-append first.takings second.takings))
+      (noted_on a.seat b.seat c.seat (takings_outcomes first.takings) (takings_outcomes second.takings) first.noted second.noted);
+}
+
+lost_on : (a b c : Sight) → HasTaken a b → HasLost b c → HasLost a c
+lost_on a b c first lost = record {
+  mid = lost.mid;
+  taken = taken_on a b lost.mid first lost.taken;
+  message = lost.message;
+  outcome = lost.outcome;
+  front = lost.front;
+  fails = lost.fails;
+  sent = lost.sent;
+  noted = lost.noted;
+}
+
+pub up_on : (result : Option ConnEnd) (a b c : Sight) → HasTaken a b → HasTakenUp result b c → HasTakenUp result a c
+up_on None a b c first up = (taken_on a b c first up.0, up.1)
+up_on (Some end) a b c first up =
+    elim up [
+      | inl lost ↦ inl (lost.0, lost_on a b c first lost.1)
+      | inr stopped ↦ inr (taken_on a b c first stopped.0, stopped.1)
+    ]
+
+-- an event, and what was taken up after it
+event_round : (event : Doing) (due : List Part) (halt : Outcome) (a b c : Sight) → Comes a.stage event due halt b.stage → IsSent a.told (parts_bytes due) b.told →
+    AreNoted a.seat b.seat (halt ∷ []) → HasTaken b c → IsIdle c.stage → HasRound event a c
+event_round event due halt a b c comes sent noted taken idle = record {
+  round = record { event = event; due = due; halt = halt; takings = taken.takings };
+  event_is = refl;
+  runs = record { opened = b.stage; comes = comes; takes = taken.takes };
+  idle = idle;
+  sent = sent_on a.told b.told c.told (parts_bytes due) (takings_bytes taken.takings) sent taken.sent;
+  noted = noted_on a.seat b.seat c.seat (halt ∷ []) (takings_outcomes taken.takings) noted taken.noted;
+}
+
+event_stop : (event : Doing) (due : List Part) (halt : Outcome) (end : ConnEnd) (count : ℕ) (a b c : Sight) → Comes a.stage event due halt b.stage →
+    IsSent a.told (parts_bytes due) b.told → AreNoted a.seat b.seat (halt ∷ []) → HasTaken b c → IsStopped end c.stage → HasEnded (event ∷ []) end count a c
+event_stop event due halt end count a b c comes sent noted taken stopped = record {
+  ending = AtPiece (record { event = event; due = due; halt = halt; takings = taken.takings });
+  event_is = refl;
+  ends = (record { opened = b.stage; comes = comes; takes = taken.takes }, stopped);
+  sent = sent_on a.told b.told c.told (parts_bytes due) (takings_bytes taken.takings) sent taken.sent;
+  noted = noted_on a.seat b.seat c.seat (halt ∷ []) (takings_outcomes taken.takings) noted taken.noted;
+}
+
+event_lost : (event : Doing) (due : List Part) (halt : Outcome) (end : ConnEnd) (count : ℕ) (a b c : Sight) → Comes a.stage event due halt b.stage →
+    IsSent a.told (parts_bytes due) b.told → AreNoted a.seat b.seat (halt ∷ []) → end ≡ LinkFault → HasLost b c → HasEnded (event ∷ []) end count a c
+event_lost event due halt end count a b c comes sent noted is lost =
+    let mid = lost.mid in
+    let round : Round = record { event = event; due = due; halt = halt; takings = lost.taken.takings } in record {
+      ending = InReply round lost.message lost.outcome lost.front;
+      event_is = refl;
+      ends = (
+        is,
+        record {
+          mid = mid.stage;
+          runs = record { opened = b.stage; comes = comes; takes = lost.taken.takes };
+          fails = lost.fails;
+        },
+      );
+      sent = sent_on a.told mid.told c.told (round_bytes round) lost.front
+          (sent_on a.told b.told mid.told (parts_bytes due) (takings_bytes lost.taken.takings) sent lost.taken.sent) lost.sent;
+      noted = noted_on a.seat mid.seat c.seat (round_outcomes round) (lost.outcome ∷ [])
+          (noted_on a.seat b.seat mid.seat (halt ∷ []) (takings_outcomes lost.taken.takings) noted lost.taken.noted) lost.noted;
+    }
+
+event_up : (result : Option ConnEnd) (event : Doing) (due : List Part) (halt : Outcome) (a b c : Sight) → Comes a.stage event due halt b.stage →
+    IsSent a.told (parts_bytes due) b.told → AreNoted a.seat b.seat (halt ∷ []) → HasTakenUp result b c → HasComeTo result event a c
+event_up None event due halt a b c comes sent noted up = event_round event due halt a b c comes sent noted up.0 up.1
+event_up (Some end) event due halt a b c comes sent noted up =
+    λ count.
+    elim up [
+      | inl lost ↦ event_lost event due halt end count a b c comes sent noted lost.0 lost.1
+      | inr stopped ↦ event_stop event due halt end count a b c comes sent noted stopped.0 stopped.1
+    ]
+
+-- bytes came
+pub bytes_up : (result : Option ConnEnd) (bytes : List ℕ) (a b c : Sight) → length a.stage.input + length bytes ≤ 131072 →
+    b.stage ≡ stage a.stage.session (a.stage.input ++ bytes) → b.told ≡ a.told → b.seat ≡ a.seat → HasTakenUp result b c →
+    HasComeTo result (HeardBytes bytes) a c
+bytes_up result bytes a b c few is told seat up =
+    event_up result (HeardBytes bytes) [] Unasked a b c (refl, refl, few, is) (told ∙ sent_none a.told)
+    (subst (λ s. AreNoted a.seat s (Unasked ∷ [])) (sym seat) (noted_unasked a.seat)) up
+
+-- a slot began
+pub slot_up : (result : Option ConnEnd) (slot : ℕ) (a b c : Sight) → HasPassed a b slot → HasTakenUp result b c → HasComeTo result (HeardSlot slot) a c
+slot_up result slot a b c passed up =
+    event_up result (HeardSlot slot) passed.parts passed.halt a b c (passed.input, passed.stepped) passed.sent passed.noted up
+
+pub slot_broken : (slot : ℕ) (a c : Sight) → HasBroken a c slot → HasComeTo (Some LinkFault) (HeardSlot slot) a c
+slot_broken slot a c broken =
+    λ count. record {
+      ending = InSlot slot broken.front;
+      event_is = refl;
+      ends = (refl, broken.fails);
+      sent = broken.sent;
+      noted = subst (λ s. AreNoted a.seat s []) (sym broken.noted) (noted_none a.seat);
+    }
+
+pub peer_ended : (a c : Sight) → c ≡ a → HasComeTo (Some Ended) HeardEnd a c
+peer_ended a c is =
+    subst (λ s. HasComeTo (Some Ended) HeardEnd a s) (sym is)
+    (λ count. record { ending = PeerEnded; event_is = refl; ends = (refl, refl); sent = sent_none a.told; noted = noted_none a.seat })
+
+pub overfull : (bytes : List ℕ) (a c : Sight) → 131072 < length a.stage.input + length bytes → c ≡ a → HasComeTo (Some TooMuchInput) (HeardBytes bytes) a c
+overfull bytes a c many is =
+    subst (λ s. HasComeTo (Some TooMuchInput) (HeardBytes bytes) a s) (sym is)
+    (λ count. record { ending = Overfull bytes; event_is = refl; ends = (refl, many, refl); sent = sent_none a.told; noted = noted_none a.seat })
+
+-- the connection goes on
+abbrev GoesOn : Option ConnEnd → Type 0
+GoesOn None = ⊤
+GoesOn (Some end) = ⊥
+
+pub goes_on : (heard : Heard) (waiting : ℕ) (c : Connection) → HasHeard heard waiting None c → (c.session.torn ≡ false) × (c.session.lost ≡ false)
+goes_on End waiting c has = absurd (subst GoesOn has tt)
+goes_on (Slot slot) waiting c has = (has.0, has.1)
+goes_on (Bytes n) waiting c has =
+    elim has [
+      | inl full ↦ absurd (subst GoesOn full.1 tt)
+      | inr up ↦ (up.1.0, up.1.1)
+    ]
+
+-- events, one after another
+runs_on : (a b c : Stage) (rounds : List Round) (round : Round) → RunsAll a rounds b → Runs b round c → IsIdle c → RunsAll a (rounds ++ round ∷ []) c
+runs_on a b c [] round runs next idle = (c, (subst (λ s. Runs s round c) runs next, idle, refl))
+runs_on a b c (first ∷ rounds) round runs next idle = (runs.0, (runs.1.0, runs.1.1, runs_on runs.0 b c rounds round runs.1.2 next idle))
+
+rounds_doings-append : (xs ys : List Round) → rounds_doings (xs ++ ys) ≡ rounds_doings xs ++ rounds_doings ys
+rounds_doings-append [] ys = refl
+rounds_doings-append (x ∷ xs) ys =
+    let first : List Doing = x.event ∷ sends (round_bytes x) in
+    ap (λ ds. first ++ ds) (rounds_doings-append xs ys) ∙ sym (append_assoc first (rounds_doings xs) (rounds_doings ys))
+
+rounds_outcomes-append : (xs ys : List Round) → rounds_outcomes (xs ++ ys) ≡ rounds_outcomes xs ++ rounds_outcomes ys
+rounds_outcomes-append [] ys = refl
+rounds_outcomes-append (x ∷ xs) ys =
+    ap (λ os. round_outcomes x ++ os) (rounds_outcomes-append xs ys) ∙ sym (append_assoc (round_outcomes x) (rounds_outcomes xs) (rounds_outcomes ys))
+
+pub run_none : (a : Sight) → HasRun 0 a a
+run_none a = record {
+  rounds = [];
+  count_is = refl;
+  runs = refl;
+  told = sym (told_none a.told);
+  noted = noted_none a.seat;
+}
+
+-- an event was heard
+heard_sent : (a b c : Option (List Doing)) (event : Doing) (bytes : List ℕ) → b ≡ told_more a (event ∷ []) → IsSent b bytes c →
+    c ≡ told_more a (event ∷ sends bytes)
+heard_sent a b c event bytes heard sent = sent ∙ ap (λ t. told_more t (sends bytes)) heard ∙ told_on a (event ∷ []) (sends bytes)
+
+pub run_on : (count : ℕ) (event : Doing) (a b heard c : Sight) → HasRun count a b → heard.stage ≡ b.stage → heard.seat ≡ b.seat →
+    heard.told ≡ told_more b.told (event ∷ []) → HasRound event heard c → HasRun (count + 1) a c
+run_on count event a b heard c run stage_is seat_is told_is next =
+    let round = next.round in
+    let doings : List Doing = round.event ∷ sends (round_bytes round) in
+    let last : rounds_doings (round ∷ []) ≡ doings = append-nil doings in
+    let told : heard.told ≡ told_more b.told (round.event ∷ []) = told_is ∙ ap (λ e. told_more b.told (e ∷ [])) (sym next.event_is) in
+    let outcomes : rounds_outcomes (round ∷ []) ≡ round_outcomes round = append-nil (round_outcomes round) in record {
+      rounds = run.rounds ++ round ∷ [];
+      count_is = length-append run.rounds (round ∷ []) ∙ ap (λ n. n + 1) run.count_is;
+      runs = runs_on a.stage b.stage c.stage run.rounds round run.runs (subst (λ s. Runs s round c.stage) stage_is next.runs) next.idle;
+      told = heard_sent b.told heard.told c.told round.event (round_bytes round) told next.sent
+          ∙ ap (λ t. told_more t doings) run.told ∙ told_on a.told (rounds_doings run.rounds) doings
+          ∙ ap (λ ds. told_more a.told (rounds_doings run.rounds ++ ds)) (sym last)
+          ∙ ap (told_more a.told) (sym (rounds_doings-append run.rounds (round ∷ [])));
+      noted = subst (λ os. AreNoted a.seat c.seat os) (sym (rounds_outcomes-append run.rounds (round ∷ []) ∙ ap (λ os. rounds_outcomes run.rounds ++ os) outcomes))
+          (noted_on a.seat b.seat c.seat (rounds_outcomes run.rounds) (round_outcomes round) run.noted
+          (subst (λ s. AreNoted s c.seat (round_outcomes round)) seat_is next.noted));
+    }
+
+-- and it was the last
+pub run_end : (count : ℕ) (event : Doing) (end : ConnEnd) (a b heard c : Sight) → HasRun count a b → heard.stage ≡ b.stage → heard.seat ≡ b.seat →
+    heard.told ≡ told_more b.told (event ∷ []) → HasEnded (event ∷ []) end count heard c → HasCourse end a c
+run_end count event end a b heard c run stage_is seat_is told_is last =
+    let ending = last.ending in record {
+      rounds = run.rounds;
+      mid = b.stage;
+      runs = run.runs;
+      ending = ending;
+      ends = subst (λ n. Ends b.stage n ending end c.stage) (sym run.count_is) (subst (λ s. Ends s count ending end c.stage) stage_is last.ends);
+      told = heard_sent b.told heard.told c.told event (ending_bytes ending) told_is last.sent
+          ∙ ap (λ es. told_more b.told (es ++ sends (ending_bytes ending))) (sym last.event_is)
+          ∙ ap (λ t. told_more t (ending_doings ending)) run.told ∙ told_on a.told (rounds_doings run.rounds) (ending_doings ending);
+      noted = noted_on a.seat b.seat c.seat (rounds_outcomes run.rounds) (ending_outcomes ending) run.noted
+          (subst (λ s. AreNoted s c.seat (ending_outcomes ending)) seat_is last.noted);
+    }
+
+-- or no event was heard any more
+pub run_over : (count : ℕ) (end : ConnEnd) (a b c : Sight) → HasRun count a b → IsUnheard end count → c ≡ b → HasCourse end a c
+run_over count end a b c run unheard is =
+    subst (λ s. HasCourse end a s) (sym is) (record {
+      rounds = run.rounds;
+      mid = b.stage;
+      runs = run.runs;
+      ending = Unheard;
+      ends = (subst (IsUnheard end) (sym run.count_is) unheard, refl);
+      told = run.told ∙ ap (told_more a.told) (sym (append-nil (rounds_doings run.rounds)));
+      noted = subst (λ os. AreNoted a.seat b.seat os) (sym (append-nil (rounds_outcomes run.rounds))) run.noted;
+    })
+
+-- the station's answers
+pub answered_entry : (old : Standing) (ask : Ask) (new : Standing) (seat next : Sitting) (placed : Placed) → IsAnswered old ask (Entered placed) new →
+    next.mine ≡ seat.mine ++ placed ∷ [] → HasAnswered old ask new seat next
+answered_entry old ask new seat next placed answered mine = record {
+  outcome = Entered placed;
+  answered = answered;
+  noted = record { mine = mine };
+}
+
+pub answered_full : (old : Standing) (ask : Ask) (new : Standing) (seat next : Sitting) (entries live : ℕ) → IsAnswered old ask (WasFull entries live) new →
+    next.mine ≡ seat.mine → HasAnswered old ask new seat next
+answered_full old ask new seat next entries live answered mine = record {
+  outcome = WasFull entries live;
+  answered = answered;
+  noted = record { mine = mine ∙ sym (append-nil seat.mine) };
+}
+
+pub answered_offer : (old : Standing) (ask : Ask) (new : Standing) (seat next : Sitting) (note : OfferNote) → IsAnswered old ask (Offered note) new →
+    next.mine ≡ seat.mine → HasAnswered old ask new seat next
+answered_offer old ask new seat next note answered mine = record {
+  outcome = Offered note;
+  answered = answered;
+  noted = record { mine = mine ∙ sym (append-nil seat.mine) };
+}
+
+pub halted_entry : (old : Standing) (keep : ℕ) (new : Standing) (seat next : Sitting) (number place maker : ℕ) → Halts old place new →
+    next.mine ≡ seat.mine ++ record { place = place; entry = record { maker = maker; command = Halt number keep; answer = Halted } } ∷ [] →
+    HasHalted old keep new seat next
+halted_entry old keep new seat next number place maker halts mine = record {
+  outcome = Entered (record { place = place; entry = record { maker = maker; command = Halt number keep; answer = Halted } });
+  halted = record { number = number; command = refl; answer = refl; halts = halts };
+  noted = record { mine = mine };
+}
+
+-- a request, by what it asks for
+pub asked_reply : (old : Standing) (message : List ℕ) (ask : Ask) (new : Standing) (seat next : Sitting) → Hears old message ask new → ask ≡ AskReply →
+    next ≡ seat → HasAsked old message new seat next
+asked_reply old message ask new seat next hears is same = record {
+  outcome = Unasked;
+  heard = record {
+    ask = ask;
+    asking = new;
+    hears = hears;
+    answered = subst (λ a. IsAnswered new a Unasked new) (sym is) refl;
+  };
+  noted = subst (λ s. AreNoted seat s (Unasked ∷ [])) (sym same) (noted_unasked seat);
+}
+
+pub asked_station : (old : Standing) (message : List ℕ) (ask is_ask : Ask) (asking new : Standing) (seat next : Sitting) → Hears old message ask asking →
+    ask ≡ is_ask → HasAnswered asking is_ask new seat next → HasAsked old message new seat next
+asked_station old message ask is_ask asking new seat next hears is has = record {
+  outcome = has.outcome;
+  heard = record {
+    ask = ask;
+    asking = asking;
+    hears = hears;
+    answered = subst (λ a. IsAnswered asking a has.outcome new) (sym is) has.answered;
+  };
+  noted = has.noted;
+}
+
+pub asked_halt : (old : Standing) (message : List ℕ) (ask : Ask) (keep : ℕ) (asking new : Standing) (seat next : Sitting) → Hears old message ask asking →
+    ask ≡ AskHalt keep → HasHalted asking keep new seat next → HasAsked old message new seat next
+asked_halt old message ask keep asking new seat next hears is has = record {
+  outcome = has.outcome;
+  heard = record {
+    ask = ask;
+    asking = asking;
+    hears = hears;
+    answered = subst (λ a. IsAnswered asking a has.outcome new) (sym is) has.halted;
+  };
+  noted = has.noted;
+}
+
+-- what a slot brings is what is sent in it
+due_is : (waits between : Bool) (one plain after text : List ℕ) →
+    parts_bytes (if waits then Film one ∷ (if between then Text text ∷ Film after ∷ [] else []) else Film plain ∷ [])
+    ≡ (if waits then one ++ (if between then text ++ after else []) else plain)
+due_is false between one plain after text = append-nil plain
+due_is true false one plain after text = refl
+due_is true true one plain after text = ap (λ bs. one ++ (text ++ bs)) (append-nil after)
+
+told_if : (sends_it : Bool) (parts : List Part) (bytes : List ℕ) (old new : Option (List Doing)) → parts_bytes parts ≡ bytes → IsTold sends_it old bytes new →
+    IsSent old (parts_bytes (if sends_it then parts else [])) new
+told_if true parts bytes old new is told = told ∙ ap (λ bs. told_more old (sends bs)) (sym is)
+told_if false parts bytes old new is told = told ∙ sym (told_none old)
+
+pub slot_sent : (session : Standing) (slot : ℕ) (old new : Option (List Doing)) →
+    IsTold (is_taken session slot && is_sending session.state) old (due_bytes session.waits session.state session.text slot) new →
+    IsSent old (parts_bytes (slot_parts session slot)) new
+slot_sent session slot old new told =
+    told_if (is_taken session slot && is_sending session.state) (due_parts session slot) (due_bytes session.waits session.state session.text slot) old new
+    (due_is session.waits (is_between (stepped_in true slot session.state)) (step_bytes true slot session.state)
+    (step_bytes false slot session.state) (step_bytes false slot (stepped_in true slot session.state)) session.text) told
+
+pub reply_sent : (session : Standing) (old new : Option (List Doing)) → IsTold (can_reply session) old session.text new →
+    IsSent old (parts_bytes (reply_parts session)) new
+reply_sent session old new told = told_if (can_reply session) (Text session.text ∷ []) session.text old new (append-nil session.text) told
+
+-- the piece in front was passed over
+pub taken_passed : (a b : Sight) (n : ℕ) → IsPassed a.stage.input n → a.stage.session.torn ≡ false →
+    b ≡ record a { stage = stage a.stage.session (drop n a.stage.input) } → HasTaken a b
+taken_passed a b n passed torn is = subst (HasTaken a) (sym is)
+    (taken_one a (record a { stage = stage a.stage.session (drop n a.stage.input) }) (Passed n) (passed, torn, refl) (sent_none a.told) (noted_none a.seat))
+
+-- the request in front, of so many bytes
+next_is : (a : Stage) (n : ℕ) → IsFirst a.input (Ok (Request n)) → a.session.waits ≡ false → a.session.torn ≡ false → IsNext a (take n a.input)
+next_is a n first replied torn =
+    let is : length (take n a.input) ≡ n = length-take-le n a.input first.2 in record {
+      first = subst (λ k. IsFirst a.input (Ok (Request k))) (sym is) first;
+      message_is = ap (λ k. take k a.input) (sym is);
+      replied = replied;
+      torn = torn;
+    }
+
+pub taken_reply : (a b : Sight) (asked : Standing) (n : ℕ) → IsFirst a.stage.input (Ok (Request n)) → a.stage.session.waits ≡ false → a.stage.session.torn ≡ false →
+    HasAsked a.stage.session (take n a.stage.input) asked a.seat b.seat → b.stage ≡ stage (after_reply asked) (drop n a.stage.input) →
+    IsTold (can_reply asked) a.told asked.text b.told → HasTaken a b
+taken_reply a b asked n first replied torn heard is told =
+    let message : List ℕ = take n a.stage.input in
+    let long : length message ≡ n = length-take-le n a.stage.input first.2 in
+    taken_one a b (Answered message heard.outcome (reply_parts asked)) (record {
+      next = next_is a.stage n first replied torn;
+      answered = asked;
+      heard = heard.heard;
+      parts_are = refl;
+      new_is = is ∙ ap (λ k. stage (after_reply asked) (drop k a.stage.input)) (sym long);
+    }) (reply_sent asked a.told b.told told) heard.noted
+
+pub lost_reply : (a b : Sight) (asked : Standing) (n : ℕ) → IsFirst a.stage.input (Ok (Request n)) → a.stage.session.waits ≡ false → a.stage.session.torn ≡ false →
+    HasAsked a.stage.session (take n a.stage.input) asked a.seat b.seat → can_reply asked ≡ true →
+    b.stage ≡ stage (record asked { lost = true }) (drop n a.stage.input) → IsFrontTold a.told b.told asked.text → HasLost a b
+lost_reply a b asked n first replied torn heard can is told =
+    let message : List ℕ = take n a.stage.input in
+    let long : length message ≡ n = length-take-le n a.stage.input first.2 in record {
+      mid = a;
+      taken = taken_none a;
+      message = message;
+      outcome = heard.outcome;
+      front = take told.0 asked.text;
+      fails = record {
+        next = next_is a.stage n first replied torn;
+        answered = asked;
+        heard = heard.heard;
+        can = can;
+        front_is = (told.0, (told.1.0, refl));
+        new_is = is ∙ ap (λ k. stage (record asked { lost = true }) (drop k a.stage.input)) (sym long);
+      };
+      sent = told.1.1;
+      noted = heard.noted;
+    }
+
+-- a booking that is open at the end
+pub closed_none : (booking : Option Open) (session : Standing) (seat next : Sitting) → booking ≡ None → next ≡ seat → open_of session ≡ booking →
+    HasClosed session session seat next
+closed_none booking session seat next none same is = record {
+  halt = Unasked;
+  closes = subst (λ b. IsClosed b session Unasked session) (sym (is ∙ none)) refl;
+  noted = subst (λ s. AreNoted seat s (Unasked ∷ [])) (sym same) (noted_unasked seat);
+}
+
+pub closed_some : (booking : Option Open) (old : Standing) (due : ℕ) (new : Standing) (seat next : Sitting) → open_of old ≡ booking → IsDue booking due →
+    HasHalted old due new seat next → HasClosed old new seat next
+closed_some None old due new seat next is due_is halted = absurd due_is
+closed_some (Some booking) old due new seat next is due_is halted = record {
+  halt = halted.outcome;
+  closes = subst (λ b. IsClosed b old halted.outcome new) (sym is)
+      (subst (λ n. IsHalted old n halted.outcome new) due_is halted.halted);
+  noted = halted.noted;
+}

@@ -1,0 +1,55 @@
+use Rattle.std.proofs.Common.{◌≡◌, ◌<◌, ◌≤◌, ◌+◌, ◌++◌, ℕ, List, length, take, rules, refl, ap, subst, sym, Some}
+use Rattle.vod_base.specs.Links.{doing_of}
+use Rattle.vod_base.specs.declared.links.Heard.{Heard}
+use Rattle.vod_base.specs.declared.links.Heard.TheVariants.{Bytes, Slot}
+use Rattle.conn.specs.declared.reports.ConnEnd.TheVariants.{LinkFault, TooMuchInput}
+use Rattle.conn.specs.Sights.{HasBroken, HasComeTo, HasPassed, Sight, sight}
+use Rattle.conn.specs.Turns.{stage}
+use Rattle.conn.proofs.Sighting.{bytes_up, overfull, slot_broken, slot_up}
+use Rattle.conn.proofs.connections.Connection.hear.Goals as goal
+
+pub returns-then-is_err-clause-comes : goal.returns-then-is_err-clause-comes
+returns-then-is_err-clause-comes g c =
+    let bytes : List ℕ = take c.in-Bytes.count c.args.bytes.now in
+    let many : 131072 < length c.args.self.now.input + length bytes = search rules in
+    let same : c.put.new.self ≡ c.args.self.now.input = search rules in
+    let here : Sight = sight c.args.self.now (g.K.Link.told c.args.link.now) c.args.seat.now in
+    subst (λ (h : Heard). HasComeTo (Some TooMuchInput) (doing_of h c.args.bytes.now) here
+    (sight (record { session = c.args.self.now.session; input = c.put.new.self; booking = c.args.self.now.booking })
+    (g.K.Link.told c.args.link.now) c.args.seat.now)) (sym c.in-Bytes.is)
+    (overfull bytes here (sight (record { session = c.args.self.now.session; input = c.put.new.self; booking = c.args.self.now.booking })
+    (g.K.Link.told c.args.link.now) c.args.seat.now) many
+    (ap (λ (i : List ℕ). record {
+      stage = stage c.args.self.now.session i;
+      told = g.K.Link.told c.args.link.now;
+      seat = c.args.seat.now;
+    }) same))
+
+pub returns-then-is_err-2-clause-comes : goal.returns-then-is_err-2-clause-comes
+returns-then-is_err-2-clause-comes g c =
+    let here : Sight = sight c.args.self.now (g.K.Link.told c.args.link.now) c.args.seat.now in
+    let after : Sight = sight c.step.new.self (g.K.Link.told c.step.new.link) c.step.new.seat in
+    let broken : HasBroken here after c.in-Slot.slot = search rules in
+    subst (λ (h : Heard). HasComeTo (Some LinkFault) (doing_of h c.args.bytes.now) here after) (sym c.in-Slot.is)
+    (slot_broken c.in-Slot.slot here after broken)
+
+pub returns-else-is_err-clause-comes : goal.returns-else-is_err-clause-comes
+returns-else-is_err-clause-comes g c =
+    let bytes : List ℕ = take c.in-Bytes.count c.args.bytes.now in
+    let few : length c.args.self.now.input + length bytes ≤ 131072 = search rules in
+    let input : c.put.new.self ≡ c.args.self.now.input ++ bytes = search rules in
+    let here : Sight = sight c.args.self.now (g.K.Link.told c.args.link.now) c.args.seat.now in
+    let mid : Sight = sight (record { session = c.args.self.now.session; input = c.put.new.self; booking = c.args.self.now.booking })
+    (g.K.Link.told c.args.link.now) c.args.seat.now in
+    let after : Sight = sight c.take_up.new.self (g.K.Link.told c.take_up.new.link) c.take_up.new.seat in
+    subst (λ (h : Heard). HasComeTo c.take_up.result (doing_of h c.args.bytes.now) here after) (sym c.in-Bytes.is)
+    (bytes_up c.take_up.result bytes here mid after few (ap (stage c.args.self.now.session) input) refl refl c.take_up.ensures.up)
+
+pub returns-else-is_err-2-clause-comes : goal.returns-else-is_err-2-clause-comes
+returns-else-is_err-2-clause-comes g c =
+    let here : Sight = sight c.args.self.now (g.K.Link.told c.args.link.now) c.args.seat.now in
+    let mid : Sight = sight c.step.new.self (g.K.Link.told c.step.new.link) c.step.new.seat in
+    let after : Sight = sight c.take_up-in-Slot.new.self (g.K.Link.told c.take_up-in-Slot.new.link) c.take_up-in-Slot.new.seat in
+    let passed : HasPassed here mid c.in-Slot.slot = search rules in
+    subst (λ (h : Heard). HasComeTo c.take_up-in-Slot.result (doing_of h c.args.bytes.now) here after) (sym c.in-Slot.is)
+    (slot_up c.take_up-in-Slot.result c.in-Slot.slot here mid after passed c.take_up-in-Slot.ensures.up)

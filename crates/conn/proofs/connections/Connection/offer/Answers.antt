@@ -1,0 +1,9 @@
+use Rattle.std.proofs.Common.{refl, rules}
+use Rattle.session.specs.declared.asks.Ask.TheVariants.{Offer as AskOffer}
+use Rattle.conn.proofs.Sighting.{answered_offer}
+use Rattle.conn.proofs.connections.Connection.offer.Goals as goal
+
+pub returns-clause-answered : goal.returns-clause-answered
+returns-clause-answered g c =
+    answered_offer c.args.self.now.session (AskOffer c.args.plan c.args.offers) c.offered.new.self c.args.seat.now c.offer-offered.new.seat _
+    (refl, search rules, c.offered.ensures.exact) (search rules)

@@ -1,0 +1,131 @@
+-- What is seen of a connection as it goes on, and what each of its doings adds.
+use Rattle.std.specs.Prelude.{◌≡◌, ℕ, ◌⊎◌, ◌++◌, List, [], ◌∷◌, length, Option, Some, None}
+use Rattle.vod_base.specs.Links.{Doing, sends, told_more}
+use Rattle.station.specs.Seats.{Sitting}
+use Rattle.session.specs.declared.asks.Ask.{Ask}
+use Rattle.session.specs.Standings.{Standing}
+use Rattle.conn.specs.declared.connections.Connection.{Connection}
+use Rattle.conn.specs.declared.connections.Taken.{Taken}
+use Rattle.conn.specs.declared.connections.Taken.TheVariants.{Gone, Waits, End}
+use Rattle.conn.specs.declared.reports.ConnEnd.{ConnEnd}
+use Rattle.conn.specs.declared.reports.ConnEnd.TheVariants.{LinkFault}
+use Rattle.conn.specs.Turns.{HasHeard, HasStepped, IsAnswered, IsHalted, Outcome, Part, Stage, Taking, TakesAll, parts_bytes, stage}
+use Rattle.conn.specs.Rounds.{Ending, Ends, HasFailedInReply, HasFailedInSlot, IsIdle, IsStopped, Round, Runs, RunsAll, ending_bytes, ending_doings, ending_events, ending_outcomes, entries_in, round_bytes, round_outcomes, rounds_doings, rounds_outcomes, takings_bytes, takings_outcomes}
+
+-- where a connection stands, what its link told, and its seat
+pub record Sight : Type 0 where
+  pub stage : Stage
+  pub told : Option (List Doing)
+  pub seat : Sitting
+
+abbrev pub sight : Connection → Option (List Doing) → Sitting → Sight
+sight connection told seat = record { stage = stage connection.session connection.input; told = told; seat = seat }
+
+-- what the station answered is what the seat made
+pub record AreNoted (old new : Sitting) (outcomes : List Outcome) : Type 0 where
+  pub mine : new.mine ≡ old.mine ++ entries_in outcomes
+
+-- these bytes were sent
+abbrev pub IsSent : Option (List Doing) → List ℕ → Option (List Doing) → Type 0
+IsSent old bytes new = new ≡ told_more old (sends bytes)
+
+-- the station was asked, and answered
+pub record HasAnswered (old : Standing) (ask : Ask) (new : Standing) (old_seat new_seat : Sitting) : Type 0 where
+  pub outcome : Outcome
+  pub answered : IsAnswered old ask outcome new
+  pub noted : AreNoted old_seat new_seat (outcome ∷ [])
+
+-- a booking was halted
+pub record HasHalted (old : Standing) (keep : ℕ) (new : Standing) (old_seat new_seat : Sitting) : Type 0 where
+  pub outcome : Outcome
+  pub halted : IsHalted old keep outcome new
+  pub noted : AreNoted old_seat new_seat (outcome ∷ [])
+
+-- a request was heard, and answered as far as the station goes
+pub record HasAsked (old : Standing) (message : List ℕ) (new : Standing) (old_seat new_seat : Sitting) : Type 0 where
+  pub outcome : Outcome
+  pub heard : HasHeard old message outcome new
+  pub noted : AreNoted old_seat new_seat (outcome ∷ [])
+
+-- pieces were taken up
+pub record HasTaken (old new : Sight) : Type 0 where
+  pub takings : List Taking
+  pub takes : TakesAll old.stage takings new.stage
+  pub sent : IsSent old.told (takings_bytes takings) new.told
+  pub noted : AreNoted old.seat new.seat (takings_outcomes takings)
+
+-- pieces were taken up, and then a request's reply couldn't be sent
+pub record HasLost (old new : Sight) : Type 0 where
+  pub mid : Sight
+  pub taken : HasTaken old mid
+  pub message : List ℕ
+  pub outcome : Outcome
+  pub front : List ℕ
+  pub fails : HasFailedInReply mid.stage message outcome front new.stage
+  pub sent : IsSent mid.told front new.told
+  pub noted : AreNoted mid.seat new.seat (outcome ∷ [])
+
+-- pieces were taken up until nothing more can be, or until the connection ended, for this cause
+abbrev pub HasTakenUp : Option ConnEnd → Sight → Sight → Type 0
+HasTakenUp None old new = HasTaken old new × IsIdle new.stage
+HasTakenUp (Some end) old new = ((end ≡ LinkFault) × HasLost old new) ⊎ (HasTaken old new × IsStopped end new.stage)
+
+-- one piece was taken up; or nothing more can be; or the connection ended
+abbrev pub TakesNext : Taken → Sight → Sight → Type 0
+TakesNext Gone old new = HasTaken old new
+TakesNext Waits old new = (new ≡ old) × IsIdle new.stage
+TakesNext (End end) old new = HasTakenUp (Some end) old new
+
+-- a slot was taken up
+pub record HasPassed (old new : Sight) (slot : ℕ) : Type 0 where
+  pub parts : List Part
+  pub halt : Outcome
+  pub input : new.stage.input ≡ old.stage.input
+  pub stepped : HasStepped old.stage.session slot parts halt new.stage.session
+  pub sent : IsSent old.told (parts_bytes parts) new.told
+  pub noted : AreNoted old.seat new.seat (halt ∷ [])
+
+-- or a send failed in it
+pub record HasBroken (old new : Sight) (slot : ℕ) : Type 0 where
+  pub front : List ℕ
+  pub fails : HasFailedInSlot old.stage slot front new.stage
+  pub sent : IsSent old.told front new.told
+  pub noted : new.seat ≡ old.seat
+
+-- after an event: it was taken up with all that can be taken up then; or the connection ended, where it stood after so many events
+pub record HasRound (event : Doing) (old new : Sight) : Type 0 where
+  pub round : Round
+  pub event_is : round.event ≡ event
+  pub runs : Runs old.stage round new.stage
+  pub idle : IsIdle new.stage
+  pub sent : IsSent old.told (round_bytes round) new.told
+  pub noted : AreNoted old.seat new.seat (round_outcomes round)
+
+pub record HasEnded (event : List Doing) (end : ConnEnd) (count : ℕ) (old new : Sight) : Type 0 where
+  pub ending : Ending
+  pub event_is : ending_events ending ≡ event
+  pub ends : Ends old.stage count ending end new.stage
+  pub sent : IsSent old.told (ending_bytes ending) new.told
+  pub noted : AreNoted old.seat new.seat (ending_outcomes ending)
+
+abbrev pub HasComeTo : Option ConnEnd → Doing → Sight → Sight → Type 0
+HasComeTo None event old new = HasRound event old new
+HasComeTo (Some end) event old new = (count : ℕ) → HasEnded (event ∷ []) end count old new
+
+-- so many events were heard, and the connection goes on
+pub record HasRun (count : ℕ) (old new : Sight) : Type 0 where
+  pub rounds : List Round
+  pub count_is : length rounds ≡ count
+  pub runs : RunsAll old.stage rounds new.stage
+  pub told : new.told ≡ told_more old.told (rounds_doings rounds)
+  pub noted : AreNoted old.seat new.seat (rounds_outcomes rounds)
+
+-- a connection's whole course, up to its end
+pub record HasCourse (end : ConnEnd) (old new : Sight) : Type 0 where
+  pub rounds : List Round
+  pub mid : Stage
+  pub runs : RunsAll old.stage rounds mid
+  pub ending : Ending
+  pub ends : Ends mid (length rounds) ending end new.stage
+  pub told : new.told ≡ told_more old.told (rounds_doings rounds ++ ending_doings ending)
+  pub noted : AreNoted old.seat new.seat (rounds_outcomes rounds ++ ending_outcomes ending)
