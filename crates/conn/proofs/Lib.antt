@@ -1,3 +1,4 @@
+pub mod Agreeing
 pub mod Breaking
 pub mod Counting
 pub mod Cutting

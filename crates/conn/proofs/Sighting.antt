@@ -31,7 +31,7 @@ told_on : (old : Option (List Doing)) (xs ys : List Doing) → told_more (told_m
 told_on None xs ys = refl
 told_on (Some told) xs ys = ap Some (append_assoc told xs ys)
 
-told_none : (old : Option (List Doing)) → told_more old [] ≡ old
+pub told_none : (old : Option (List Doing)) → told_more old [] ≡ old
 told_none None = refl
 told_none (Some told) = ap Some (append-nil told)
 

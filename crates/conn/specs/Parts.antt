@@ -1,7 +1,8 @@
 -- What a worker does with its part of a gate: one report for each connection that was given, each given back.
-use Rattle.std.specs.Prelude.{◌≡◌, ℕ, ◌<◌, ◌≤◌, List, [], ◌∷◌, ◌++◌, length, map, slice_index_or, Option, Some, None, IfSome}
+use Rattle.std.specs.Prelude.{◌≡◌, ℕ, ◌<◌, ◌≤◌, List, [], ◌∷◌, ◌++◌, length, map, slice_index_or, Option, Some, None, IfSome, ⊤}
 use Rattle.vod_base.specs.Outside.{HasRisen}
-use Rattle.vod_base.specs.Gates.{Content, NoMore, Failed}
+use Rattle.vod_base.specs.Gates.{Content, Returned, NoMore, Failed}
+use Rattle.vod_base.specs.Links.{Doing}
 use Rattle.admission.specs.Makers.{Placed}
 use Rattle.film_frames.specs.declared.stores.Stored.{Stored}
 use Rattle.session.specs.declared.notes.Receipt.{Receipt}
@@ -11,6 +12,8 @@ use Rattle.conn.specs.declared.reports.ConnReport.{ConnReport}
 use Rattle.conn.specs.declared.reports.PartReport.{PartReport}
 use Rattle.conn.specs.declared.reports.PartEnd.TheVariants.{AllTaken, GateFault}
 use Rattle.conn.specs.Keeping.{Closed, course_from, entry_receipts, receipt_for}
+use Rattle.conn.specs.declared.reports.ConnEnd.TheVariants.{LinkFault}
+use Rattle.conn.specs.Served.{HasServedConnection}
 use Rattle.conn.specs.Words.{words_of}
 
 -- a part that no connection was taken of
@@ -49,6 +52,29 @@ pub record HasServed (mine : List Placed) (reports : List ConnReport) (new : Lis
   pub receipts_are : entries_told reports ≡ map receipt_for made
   pub course_is : course_from Closed made ≡ Closed
 
+-- before its first event a connection did nothing, where it tells what it does
+abbrev pub fresh_told : Option (List Doing) → Option (List Doing)
+fresh_told None = None
+fresh_told (Some told) = Some []
+
+-- a connection that came back, and its report: what it tells is its course, and it failed only where its count rose
+pub record HasServedOne (returned : Returned) (report : ConnReport) (old new : Sitting) : Type 0 where
+  pub served : HasServedConnection (fresh_told returned.told) returned.told old new report
+  pub fault : report.end ≡ LinkFault → HasRisen 0 returned.faults
+
+-- connections that came back, and their reports, one after another: each with its own
+abbrev pub AreServed : Sitting → List Returned → List ConnReport → Sitting → Type 0
+AreServed old [] [] new = new ≡ old
+AreServed old [] (report ∷ reports) new = ⊥
+AreServed old (returned ∷ back) [] new = ⊥
+AreServed old (returned ∷ back) (report ∷ reports) new =
+    (mid : Sitting) × (HasServedOne returned report old mid × AreServed mid back reports new)
+
+-- the same of what is told of the part
+abbrev pub AreTold : Option Content → List ConnReport → Sitting → Sitting → Type 0
+AreTold None reports old new = ⊤
+AreTold (Some content) reports old new = AreServed old content.own.back reports new
+
 -- a part of a gate: its count of faults, and what it tells
 pub record Outlet : Type 0 where
   pub faults : ℕ
@@ -73,6 +99,7 @@ pub record HasServedPart (duty : Duty) (old_seat new_seat : Sitting) (old new : 
   pub entries : HasServed old_seat.mine result.reports.items new_seat.mine
   pub reports : AreOf duty.seed duty.worker result.reports.items
   pub served : IsServed old.told new.told (length result.reports.items)
+  pub connections : AreTold new.told result.reports.items old_seat new_seat
   -- a part failed only where its count rose; the last take is told
   pub count : old.faults ≤ new.faults
   pub all : result.end ≡ AllTaken → IfSome new.told (λ c. c.own.last ≡ NoMore)

@@ -6,7 +6,7 @@ ghost use Rattle.vod_base.specs.Gates.{NoMore, Failed};
 ghost use Rattle.session.specs.Standings.{AreFilms, AreSettings};
 ghost use Rattle.station.specs.Seats.{IsSameSeat};
 ghost use Rattle.conn.specs.declared.reports.PartEnd.TheVariants.{AllTaken, GateFault};
-ghost use Rattle.conn.specs.Parts.{AreOf, HasServed, HasServedPart, IsServed, IsUntouched, duty, outlet};
+ghost use Rattle.conn.specs.Parts.{AreOf, AreTold, HasServed, HasServedPart, IsServed, IsUntouched, duty, outlet};
 
 use crate::reports::{PartEnd, PartReport};
 use crate::serving::serve_connection;
@@ -56,7 +56,7 @@ pub fn serve_part<R: Wait, G: Gate>(
 
 /// The same, clause by clause.
 #[allow(clippy::too_many_arguments)]
-#[tactic(auto, using(crate::proofs::Cutting::seat_on, crate::proofs::Cutting::seat_none))]
+#[tactic(auto, using(crate::proofs::Cutting::seat_on, crate::proofs::Cutting::seat_none, crate::proofs::Agreeing::told_first, crate::proofs::Agreeing::told_end))]
 fn serve_all<R: Wait, G: Gate>(
     rt: &R,
     alloc: Global,
@@ -76,6 +76,7 @@ fn serve_all<R: Wait, G: Gate>(
     ensures entries { HasServed seat.old.mine result.reports.items seat.new.mine }
     ensures reports { AreOf seed worker result.reports.items }
     ensures served { IsServed (G.told part.old) (G.told part.new) (length result.reports.items) }
+    ensures connections { AreTold (G.told part.new) result.reports.items seat.old seat.new }
     ensures count { G.faults part.old ≤ G.faults part.new }
     ensures all { result.end ≡ AllTaken → IfSome (G.told part.new) (λ c. c.own.last ≡ NoMore) }
     ensures fault { result.end ≡ GateFault → HasRisen (G.faults part.old) (G.faults part.new) }

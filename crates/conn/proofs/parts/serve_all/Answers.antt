@@ -3,6 +3,7 @@ use Rattle.std.proofs.lemmas.List.{length-append}
 use Rattle.vod_base.specs.Gates.{gave}
 use Rattle.conn.specs.Parts.{IsServed}
 use Rattle.conn.specs.Words.{words_of}
+use Rattle.conn.proofs.Agreeing.{served_fresh, told_one}
 use Rattle.conn.proofs.Cutting.{seat_on}
 use Rattle.conn.proofs.Workers.{are_more, has_one, served_one}
 use Rattle.conn.proofs.parts.serve_all.Goals as goal
@@ -25,4 +26,8 @@ connections-preserved g c =
           (served_one (g.G.Gate.told c.args.part.now) (g.G.Gate.told c.connections.part) (g.G.Gate.told c.take.new.self) (g.G.Gate.told c.give_back.new.self)
           (length c.connections.reports.items) _ inv.3 given c.give_back.ensures.back),
       search rules,
+      told_one (g.G.Gate.told c.connections.part) (g.G.Gate.told c.take.new.self) (g.G.Gate.told c.give_back.new.self) c.args.seat.now c.connections.seat
+          c.serve_connection-report.new.seat c.connections.reports.items c.push_reserved.new.self.items _ report inv.5 given c.give_back.ensures.back items
+          (served_fresh _ _ _ _ c.connections.seat c.serve_connection-report.new.seat report (search rules) (search rules)
+          c.serve_connection-report.ensures.served c.serve_connection-report.ensures.fault),
     )

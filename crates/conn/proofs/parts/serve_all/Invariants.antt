@@ -1,6 +1,6 @@
 use Rattle.std.proofs.Common.{◌≤◌, length}
 use Rattle.station.specs.Seats.{IsSameSeat}
-use Rattle.conn.specs.Parts.{AreOf, HasServed, IsServed}
+use Rattle.conn.specs.Parts.{AreOf, AreTold, HasServed, IsServed}
 use Rattle.conn.proofs.parts.serve_all.Given as goal
 
 abbrev pub invariant-connections : goal.invariant-connections
@@ -10,3 +10,4 @@ invariant-connections g l =
     × AreOf l.seed l.worker l.reports.items
     × IsServed (g.G.Gate.told l.initial.part) (g.G.Gate.told l.part) (length l.reports.items)
     × (g.G.Gate.faults l.initial.part ≤ g.G.Gate.faults l.part)
+    × AreTold (g.G.Gate.told l.part) l.reports.items l.initial.seat l.seat

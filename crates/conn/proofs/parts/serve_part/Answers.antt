@@ -6,6 +6,7 @@ returns-clause-part g c = record {
   entries = c.serve_all.ensures.entries;
   reports = c.serve_all.ensures.reports;
   served = c.serve_all.ensures.served;
+  connections = c.serve_all.ensures.connections;
   count = c.serve_all.ensures.count;
   all = c.serve_all.ensures.all;
   fault = c.serve_all.ensures.fault;
