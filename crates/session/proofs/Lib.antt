@@ -2,5 +2,12 @@ pub mod Boundaries
 pub mod Halts
 pub mod SlotBytes
 pub mod Namings
+pub mod Sums
+pub mod Playables
+pub mod Pausing
+pub mod Carries
 pub mod TaskLaws
 pub mod Fronts
+pub mod HearingLaws
+pub mod Askings
+pub mod Numbers

@@ -7,13 +7,16 @@ use Rattle.rtsp_fields.specs.Urls.{IsRead}
 use Rattle.film_frames.specs.declared.stores.Stored.{Stored}
 use Rattle.film_frames.specs.Runs.{Run as Sending, frames_before, octets_before, run_of}
 use Rattle.session.specs.declared.states.Setup.{Setup}
-use Rattle.session.specs.declared.states.Run.{Run}
+use Rattle.film_run.specs.declared.runs.Run.{Run}
 use Rattle.session.specs.declared.states.Counts.{Counts}
 use Rattle.session.specs.declared.states.Source.{Source}
 
 -- the film of that number
 abbrev pub IsFilmAt : List Stored → ℕ → Stored → Type 0
 IsFilmAt films number stored = slice_get films number ≡ Some stored
+
+abbrev pub OfFilm : List Stored → ℕ → (Stored → Type 0) → Type 0
+OfFilm films number P = (stored : Stored) → IsFilmAt films number stored → P stored
 
 -- the film of that name
 pub record IsFilmNamed (films : List Stored) (name : List ℕ) (number : ℕ) : Type 0 where

@@ -1,5 +1,9 @@
 -- What each call of a session makes of it.
-use Rattle.std.specs.Prelude.{ℕ, ◌≡◌, ◌-◌, ◌++◌, ◌⊎◌, Bool, true, false, List, [], ◌∷◌, Option, Some, None, codes, decimal}
+use Rattle.std.specs.Int.{w64, to_be_bytes}
+use Rattle.hex.specs.Hex.{encode_lower}
+use Rattle.session.specs.declared.settings.Settings.{Settings}
+use Rattle.session.specs.declared.states.Source.{Source}
+use Rattle.std.specs.Prelude.{ℕ, ◌≡◌, ◌+◌, ◌-◌, ◌*◌, ◌%◌, ◌^◌, slice_index, ◌++◌, ◌⊎◌, if◌then◌else◌, Bool, true, false, List, [], ◌∷◌, Option, Some, None, codes, decimal, slice_get}
 use Rattle.plan_cert.specs.declared.Segment.{Segment}
 use Rattle.rtsp_text.specs.Fields.{first_sequence}
 use Rattle.rtsp_text.specs.Replies.{field_line}
@@ -20,8 +24,43 @@ use Rattle.session.specs.declared.refusals.Refusal.TheVariants.{Memory}
 use Rattle.session.specs.Judging.{fault_refusal}
 use Rattle.session.specs.Methods.{HearsRequest, IsRefused}
 use Rattle.session.specs.Replies.{field, full_text, look_body, offer_body, overflow_text, parameters_text}
-use Rattle.session.specs.Sendings.{admitted_in, halted_in, halted_notes}
-use Rattle.session.specs.Standings.{IsAtRest, IsHandedIn, Standing, answered, open_of, sequence_of}
+use Rattle.session.specs.declared.states.Next.{Next}
+use Rattle.session.specs.declared.states.Next.TheVariants.{Done, Paused, Torn}
+use Rattle.session.specs.declared.states.Play.{Play as Played}
+use Rattle.session.specs.declared.states.Setup.{Setup}
+use Rattle.session.specs.declared.states.State.{State}
+use Rattle.session.specs.declared.states.State.TheVariants.{Init, Ready, Playing, Stopping}
+use Rattle.session.specs.Films.{counts_after, sending_of}
+use Rattle.film_frames.specs.declared.stores.Stored.{Stored}
+use Rattle.session.specs.Sendings.{admitted_in, halted_in, halted_notes, kept_of, next_of}
+use Rattle.session.specs.Standings.{Standing, answered, sequence_of}
+
+-- a session of a new connection, with the connection's words: two for the session's id, the SSRC, the sequence number of the
+-- first frame in 16 bits, and the timestamp of the film's beginning (RFC 3550 section 5.1)
+abbrev pub source_of : List ℕ → Source
+source_of words = record { ssrc = slice_index words 2; sequence = slice_index words 3 % 65536; timestamp = slice_index words 4 }
+
+abbrev pub new_standing : List Stored → Settings → List ℕ → Standing
+new_standing films settings words = record {
+  films = films;
+  settings = settings;
+  id = encode_lower (to_be_bytes w64 (slice_index words 0 * 2 ^ 32 + slice_index words 1));
+  source = source_of words;
+  state = Init;
+  counts = record { frames = 0; octets = 0 };
+  awaited = Nothing;
+  text = [];
+  waits = false;
+  tearing = false;
+  torn = false;
+  lost = false;
+  heard = 0;
+  late = 0;
+  looks_left = 1024;
+  receipts = [];
+  plays = [];
+  offers = [];
+}
 
 -- a message that is no request
 pub record HearsFault (old : Standing) (message : List ℕ) (ask : Ask) (new : Standing) : Type 0 where
@@ -72,16 +111,48 @@ after_overflow old place slot booked asked =
 abbrev pub after_full : Standing → ℕ → ℕ → Standing
 after_full old entries live = answered old (Full entries live) (full_text (sequence_of old.awaited) entries live)
 
+-- what was sent in all, once a play is done that kept so many bytes
+abbrev pub counts_done : Standing → Setup → Played → ℕ → Option Stored → Counts
+counts_done old setup play keep None = old.counts
+counts_done old setup play keep (Some stored) =
+    counts_after old.counts (sending_of stored.film old.source setup old.counts play.run) (play.run.sent + keep)
+
+abbrev pub counts_next : Standing → Setup → Played → ℕ → Next → Counts
+counts_next old setup play keep Done = counts_done old setup play keep (slice_get old.films setup.film)
+counts_next old setup play keep (Paused run) = old.counts
+counts_next old setup play keep Torn = old.counts
+
+abbrev pub halted_counts : Standing → State → Counts
+halted_counts old Init = old.counts
+halted_counts old (Ready setup paused) = old.counts
+halted_counts old (Playing setup play) = counts_next old setup play (kept_of old.awaited play.pacer.due) (next_of old.awaited)
+halted_counts old (Stopping setup stop) = old.counts
+
+-- a PAUSE and a TEARDOWN are answered once the rest up to a boundary was sent; a play that is done has no reply
+abbrev pub is_answered : Next → Bool
+is_answered Done = false
+is_answered (Paused run) = true
+is_answered Torn = true
+
+abbrev pub is_torn : Next → Bool
+is_torn Done = false
+is_torn (Paused run) = false
+is_torn Torn = true
+
 -- once the booking was halted
-pub record Halts (old : Standing) (place : ℕ) (new : Standing) : Type 0 where
-  pub state : new.state ≡ halted_in old.state old.awaited
-  pub plays : new.plays ≡ old.plays ++ halted_notes old.state old.awaited
-  pub text : new.text ≡ old.text
-  pub late : new.late ≡ old.late
-  pub looks : new.looks_left ≡ old.looks_left
-  pub offers : new.offers ≡ old.offers
-  pub handed : IsHandedIn old (Entry place Halted) new
-  pub booking : open_of new ≡ None
+abbrev pub after_halt : Standing → ℕ → Standing
+after_halt old place = record old {
+  state = halted_in old.state old.awaited;
+  counts = halted_counts old old.state;
+  awaited = Nothing;
+  waits = if is_answered (next_of old.awaited) then true else old.waits;
+  tearing = if is_torn (next_of old.awaited) then true else old.tearing;
+  receipts = old.receipts ++ Entry place Halted ∷ [];
+  plays = old.plays ++ halted_notes old.state old.awaited;
+}
+
+abbrev pub Halts : Standing → ℕ → Standing → Type 0
+Halts old place new = new ≡ after_halt old place
 
 -- once the station had looked
 abbrev pub after_look : Standing → ℕ → ℕ → ℕ → ℕ → Standing

@@ -1,14 +1,28 @@
 -- How a session is kept.
-use Rattle.std.specs.Prelude.{ℕ, ◌≡◌, ◌+◌, ◌≤◌, ◌^◌, ⊤, true, false, Bool, length}
+use Rattle.std.specs.Prelude.{ℕ, ◌≡◌, ◌+◌, ◌≤◌, ◌^◌, ⊤, true, false, Bool, List, length}
+use Rattle.plan_cert.specs.Slots.{total_bytes}
+use Rattle.film_frames.specs.declared.stores.Stored.{Stored}
+use Rattle.film_frames.specs.Runs.{run_pieces}
+use Rattle.film_run.specs.declared.runs.Run.{Run}
+use Rattle.pacer.specs.Pacings.{IsPacing, is_done}
 use Rattle.rtsp_text.specs.Lines.{is_one_line}
+use Rattle.session.specs.Films.{OfFilm, sending_of}
 use Rattle.session.specs.Plans.{IsPlay, IsPrepared}
-use Rattle.pacer.specs.Pacings.{IsPacing}
+use Rattle.session.specs.Planning.{IsPausedIn}
+use Rattle.session.specs.Playing.{IsPlayable, IsRunOf}
 use Rattle.session.specs.Ranges.{AreFilms, AreSettings, IsSetup}
 use Rattle.session.specs.Standings.{Standing}
 use Rattle.session.specs.Steps.{IsHaltIn}
+use Rattle.session.specs.declared.settings.Settings.{Settings}
+use Rattle.session.specs.declared.states.Counts.{Counts}
+use Rattle.session.specs.declared.states.Setup.{Setup}
+use Rattle.session.specs.declared.states.Source.{Source}
+use Rattle.session.specs.declared.states.Play.{Play as Played}
 use Rattle.session.specs.declared.states.Prepared.{Prepared}
 use Rattle.session.specs.declared.states.Awaited.{Awaited}
 use Rattle.session.specs.declared.states.Awaited.TheVariants.{Nothing, Play, Halt, Look, Offer}
+use Rattle.session.specs.declared.states.Next.{Next}
+use Rattle.session.specs.declared.states.Next.TheVariants.{Done, Paused, Torn}
 use Rattle.session.specs.declared.states.State.{State}
 use Rattle.session.specs.declared.states.State.TheVariants.{Init, Ready, Playing, Stopping}
 use Rattle.session.specs.declared.sessions.Session.TheInside.{Inside}
@@ -63,32 +77,61 @@ awaited_offers (Halt keep next) = 0
 awaited_offers (Look sequence) = 0
 awaited_offers (Offer sequence) = 1
 
-abbrev pub IsStateKept : ℕ → State → Type 0
-IsStateKept films Init = ⊤
-IsStateKept films (Ready setup paused) = IsSetup films setup
-IsStateKept films (Playing setup play) = IsSetup films setup × IsPlay play
-IsStateKept films (Stopping setup stop) = IsSetup films setup × IsPacing stop.pacer
+-- a play is sent as such a run
+pub record IsPlaying (stored : Stored) (source : Source) (settings : Settings) (setup : Setup) (counts : Counts) (play : Played) : Type 0 where
+  pub playable : IsPlayable stored source settings setup counts play.run play.plan
+  pub pieces : play.pacer.pieces ≡ run_pieces (sending_of stored.film source setup counts play.run)
 
--- a play is asked for in Ready
-abbrev pub IsPreparedIn : State → Prepared → Type 0
-IsPreparedIn Init prepared = ⊥
-IsPreparedIn (Ready setup paused) prepared = IsPrepared prepared
-IsPreparedIn (Playing setup play) prepared = ⊥
-IsPreparedIn (Stopping setup stop) prepared = ⊥
+abbrev pub IsStateKept : List Stored → Source → Settings → Counts → State → Type 0
+IsStateKept films source settings counts Init = ⊤
+IsStateKept films source settings counts (Ready setup paused) = IsSetup (length films) setup × IsPausedIn films source counts setup paused
+IsStateKept films source settings counts (Playing setup play) =
+    IsSetup (length films) setup × IsPlay play × OfFilm films setup.film (λ stored. IsPlaying stored source settings setup counts play)
+IsStateKept films source settings counts (Stopping setup stop) =
+    IsSetup (length films) setup × IsPacing stop.pacer × IsPausedIn films source counts setup stop.paused
 
--- in a play in which no halt was asked all that is due was sent, unless the link failed
+-- a play is asked for in Ready: the frames of a run, and its plan
+pub record IsPreparedAs (stored : Stored) (source : Source) (settings : Settings) (setup : Setup) (prepared : Prepared) : Type 0 where
+  pub playable : IsPlayable stored source settings setup prepared.counts prepared.run prepared.plan
+  pub frames_are : prepared.frames ≡ sending_of stored.film source setup prepared.counts prepared.run
+
+abbrev pub IsPreparedIn : List Stored → Source → Settings → State → Prepared → Type 0
+IsPreparedIn films source settings Init prepared = ⊥
+IsPreparedIn films source settings (Ready setup paused) prepared =
+    IsPrepared prepared × OfFilm films setup.film (λ stored. IsPreparedAs stored source settings setup prepared)
+IsPreparedIn films source settings (Playing setup play) prepared = ⊥
+IsPreparedIn films source settings (Stopping setup stop) prepared = ⊥
+
+-- in a play in which no halt was asked all that is due was sent, and some of it isn't due yet, unless the link failed
+pub record IsUnhalted (play : Played) : Type 0 where
+  pub even : play.pacer.due ≡ play.pacer.sent
+  pub whole : play.pacer.keep ≡ total_bytes play.plan
+  pub going : is_done play.pacer ≡ false
+
 abbrev pub IsGoing : Bool → State → Type 0
 IsGoing lost Init = ⊤
 IsGoing lost (Ready setup paused) = ⊤
-IsGoing lost (Playing setup play) = lost ≡ false → play.pacer.due ≡ play.pacer.sent
+IsGoing lost (Playing setup play) = lost ≡ false → IsUnhalted play
 IsGoing lost (Stopping setup stop) = ⊤
 
-abbrev pub IsAwaitedKept : Bool → State → Awaited → Type 0
-IsAwaitedKept lost state Nothing = IsGoing lost state
-IsAwaitedKept lost state (Play prepared) = IsPreparedIn state prepared
-IsAwaitedKept lost state (Halt keep next) = IsHaltIn state keep
-IsAwaitedKept lost state (Look sequence) = IsGoing lost state
-IsAwaitedKept lost state (Offer sequence) = IsGoing lost state
+-- what a halt leaves can be sent on
+abbrev pub IsLeftIn : List Stored → Source → Counts → State → Run → Type 0
+IsLeftIn films source counts Init run = ⊥
+IsLeftIn films source counts (Ready setup paused) run = ⊥
+IsLeftIn films source counts (Playing setup play) run = OfFilm films setup.film (λ stored. IsRunOf stored source setup counts run)
+IsLeftIn films source counts (Stopping setup stop) run = ⊥
+
+abbrev pub IsNextIn : List Stored → Source → Counts → State → Next → Type 0
+IsNextIn films source counts state Done = ⊤
+IsNextIn films source counts state (Paused run) = IsLeftIn films source counts state run
+IsNextIn films source counts state Torn = ⊤
+
+abbrev pub IsAwaitedKept : List Stored → Source → Settings → Counts → Bool → State → Awaited → Type 0
+IsAwaitedKept films source settings counts lost state Nothing = IsGoing lost state
+IsAwaitedKept films source settings counts lost state (Play prepared) = IsPreparedIn films source settings state prepared
+IsAwaitedKept films source settings counts lost state (Halt keep next) = IsHaltIn state keep × IsNextIn films source counts state next
+IsAwaitedKept films source settings counts lost state (Look sequence) = IsGoing lost state
+IsAwaitedKept films source settings counts lost state (Offer sequence) = IsGoing lost state
 
 -- the reply to a request that stopped a play waits until it is sent
 abbrev pub IsStopAnswered : State → Bool → Type 0
@@ -101,8 +144,8 @@ pub record IsKept (session : Inside) : Type 0 where
   pub films : AreFilms session.films.now
   pub settings : AreSettings session.settings
   pub id : is_one_line session.id ≡ true
-  pub state : IsStateKept (length session.films.now) session.state
-  pub awaited : IsAwaitedKept session.lost session.state session.awaited
+  pub state : IsStateKept session.films.now session.source session.settings session.counts session.state
+  pub awaited : IsAwaitedKept session.films.now session.source session.settings session.counts session.lost session.state session.awaited
   pub stop : IsStopAnswered session.state session.waits
   pub receipt_room : session.looks_left + (open_receipts session.state + awaited_receipts session.awaited) ≤ session.log.receipt_room
   pub play_room : open_receipts session.state + awaited_plays session.awaited ≤ session.log.play_room

@@ -2,6 +2,7 @@ pub mod Logs
 pub mod Replies
 pub mod Ranges
 pub mod Films
+pub mod Playing
 pub mod Plans
 pub mod Tasks
 pub mod Judging
@@ -9,6 +10,8 @@ pub mod Setups
 pub mod Steps
 pub mod Standings
 pub mod Sendings
+pub mod Planning
 pub mod Inside
 pub mod Methods
 pub mod Hearings
+pub mod Laws

@@ -1,16 +1,26 @@
 -- What each method asks of the station, and the session after it (RFC 2326 section 10).
-use Rattle.std.specs.Prelude.{ℕ, ◌≡◌, ◌-◌, ◌⊎◌, ⊤, true, List, [], Option, Some, None, Result, Ok, Err, string_bytes}
+use Rattle.std.specs.Prelude.{ℕ, ◌≡◌, ◌-◌, ◌⊎◌, true, List, [], Option, Some, None, Result, Ok, Err, codes, string_bytes}
+use Rattle.rtsp_text.specs.Fields.{header_value}
 use Rattle.rtsp_text.specs.Replies.{reply_front}
+use Rattle.rtsp_fields.specs.Values.{IsWithin}
+use Rattle.early_start.specs.Offered.{Found}
 use Rattle.rtsp_text.specs.declared.requests.Request.{Request}
 use Rattle.film_frames.specs.declared.stores.Stored.{Stored}
-use Rattle.pacer.specs.Pacings.{next_boundary}
+use Rattle.pacer.specs.Pacings.{next_boundary, slots_through}
+use Rattle.film_run.specs.declared.runs.Run.{Run}
+use Rattle.film_run.specs.Pauses.{IsLeft}
+use Rattle.film_run.specs.Units.{stored_sizes}
+use Rattle.session.specs.declared.plans.Planned.{Planned}
+use Rattle.session.specs.declared.states.Prepared.{Prepared}
+use Rattle.session.specs.Planning.{IsPlanned}
+use Rattle.session.specs.Playing.{playback_of}
 use Rattle.session.specs.declared.asks.Ask.{Ask}
 use Rattle.session.specs.declared.asks.Ask.TheVariants.{Reply, Play as AskPlay, Halt as AskHalt, Look as AskLook, Offer as AskOffer}
 use Rattle.session.specs.declared.methods.Topic.{Topic}
 use Rattle.session.specs.declared.methods.Topic.TheVariants.{Nothing, Booked, Offer as OfferTopic, Unknown}
 use Rattle.session.specs.declared.refusals.Asked.{Asked}
 use Rattle.session.specs.declared.refusals.Refusal.{Refusal}
-use Rattle.session.specs.declared.refusals.Refusal.TheVariants.{Parameter, Memory}
+use Rattle.session.specs.declared.refusals.Refusal.TheVariants.{Session as NoSession, State as NotNow, Parameter, Memory}
 use Rattle.session.specs.declared.refusals.Task.{Task}
 use Rattle.session.specs.declared.refusals.Task.TheVariants.{Options as ToOptions, Describe as ToDescribe, Setup as ToSetup, Play as ToPlay, Pause as ToPause, Teardown as ToTeardown, GetParameter as ToGetParameter}
 use Rattle.session.specs.declared.states.Awaited.TheVariants.{Play, Halt, Look, Offer}
@@ -20,11 +30,11 @@ use Rattle.session.specs.declared.states.Play.{Play as Played}
 use Rattle.session.specs.declared.states.Setup.{Setup}
 use Rattle.session.specs.declared.states.State.{State}
 use Rattle.session.specs.declared.states.State.TheVariants.{Init, Ready, Playing, Stopping}
-use Rattle.session.specs.Films.{IsFilmAt, length_ms}
+use Rattle.session.specs.Films.{IsFilmAt, counts_after, identity_of, length_ms, ms_at, sending_of, timestamp_at}
 use Rattle.session.specs.Judging.{IsJudged, IsTopic, option_of, place_of}
-use Rattle.session.specs.Replies.{describe_text, plain_text, public_text, refusal_text, session_text, setup_text}
+use Rattle.session.specs.Replies.{describe_text, plain_text, play_fields, public_text, refusal_text, session_text, setup_text}
 use Rattle.session.specs.Setups.{IsSetupRead}
-use Rattle.session.specs.Standings.{AsksFor, IsSameBusiness, Standing, replied}
+use Rattle.session.specs.Standings.{Standing, replied}
 
 -- the session replies by itself, and nothing else changes
 abbrev pub IsReplied : Standing → List ℕ → Ask → Standing → Type 0
@@ -84,20 +94,121 @@ pub record LacksRoom (old : Standing) (sequence : ℕ) (ask : Ask) (new : Standi
 abbrev pub Looks : Standing → ℕ → Ask → Standing → Type 0
 Looks old sequence ask new = AsksLook old sequence ask new ⊎ LacksRoom old sequence ask new
 
-abbrev pub Plays : Standing → Request → Asked → Ask → Standing → Type 0
-Plays old request asked ask new = AsksFor ask new × IsSameBusiness old new
+-- what a play needs that the station is asked for
+abbrev pub prepared_of : Standing → Stored → Setup → Planned → ℕ → Prepared
+prepared_of old stored setup planned sequence = record {
+  run = planned.run;
+  counts = planned.counts;
+  frames = sending_of stored.film old.source setup planned.counts planned.run;
+  plan = planned.plan;
+  paced = planned.plan;
+  sequence = sequence;
+}
 
-abbrev pub Pauses : Standing → ℕ → Ask → Standing → Type 0
-Pauses old sequence ask new = AsksFor ask new × IsSameBusiness old new
+-- the sequence number of its first frame
+abbrev pub first_number : Standing → Stored → Setup → Planned → ℕ
+first_number old stored setup planned =
+    let sending = sending_of stored.film old.source setup planned.counts planned.run in
+    (identity_of old.source setup (counts_after planned.counts sending planned.run.sent)).sequence
 
-abbrev pub Offers : Standing → Request → Ask → Standing → Type 0
-Offers old request ask new = AsksFor ask new × IsSameBusiness old new
+-- its reply, up to its start: from the run's first unplayed picture to its end
+abbrev pub play_front : Standing → Stored → Setup → Planned → ℕ → List ℕ → List ℕ
+play_front old stored setup planned sequence authority = reply_front 200 (Some sequence)
+    (play_fields old.id (ms_at stored.film planned.run.from_unit) (ms_at stored.film planned.run.end_unit) authority
+    (string_bytes stored.name) (first_number old stored setup planned) (timestamp_at stored.film old.source planned.run.from_unit))
+
+-- PLAY
+pub record AsksPlay (old : Standing) (sequence : ℕ) (authority : List ℕ) (setup : Setup) (planned : Planned) (ask : Ask)
+    (new : Standing) : Type 0 where
+  pub stored : Stored
+  pub at : IsFilmAt old.films setup.film stored
+  pub command : ask ≡ AskPlay planned.plan
+  pub state : new ≡ record old {
+    awaited = Play (prepared_of old stored setup planned sequence);
+    text = play_front old stored setup planned sequence authority;
+  }
+
+-- where memory is wanting for what the play leaves for the report, the request is refused
+abbrev pub AsksPlayOr : Standing → ℕ → List ℕ → Setup → Result Planned Refusal → Ask → Standing → Type 0
+AsksPlayOr old sequence authority setup (Ok planned) ask new =
+    AsksPlay old sequence authority setup planned ask new ⊎ IsRefused old (Some sequence) Memory [] ask new
+AsksPlayOr old sequence authority setup (Err refusal) ask new = IsRefused old (Some sequence) refusal [] ask new
+
+pub record PlaysReady (old : Standing) (request : Request) (authority : List ℕ) (setup : Setup) (paused : Option Run) (ask : Ask)
+    (new : Standing) : Type 0 where
+  pub planned : Result Planned Refusal
+  pub is_planned : IsPlanned old setup paused (header_value request.head.now (codes "Range")) planned
+  pub asks : AsksPlayOr old request.sequence authority setup planned ask new
+
+-- a PLAY in Playing changes nothing
+abbrev pub Plays : State → Standing → Request → List ℕ → Ask → Standing → Type 0
+Plays Init old request authority ask new = ⊥
+Plays (Ready setup paused) old request authority ask new = PlaysReady old request authority setup paused ask new
+Plays (Playing setup play) old request authority ask new = IsReplied old (session_text request.sequence old.id) ask new
+Plays (Stopping setup stop) old request authority ask new = IsReplied old (session_text request.sequence old.id) ask new
+
+-- PAUSE: what is kept of the play, and what that leaves of its run
+pub record PausesPlay (old : Standing) (sequence : ℕ) (setup : Setup) (play : Played) (ask : Ask) (new : Standing) : Type 0 where
+  pub stored : Stored
+  pub at : IsFilmAt old.films setup.film stored
+  pub last : Option ℕ
+  pub last_is : slots_through last ≡ play.pacer.passed
+  pub left : Run
+  pub left_is : IsLeft (stored_sizes stored) (playback_of stored.film old.settings setup) play.run play.plan last (next_boundary play.pacer) left
+  pub asks : AsksHalt old sequence setup play (Paused left) ask new
+
+abbrev pub Pauses : State → Standing → ℕ → Ask → Standing → Type 0
+Pauses Init old sequence ask new = ⊥
+Pauses (Ready setup paused) old sequence ask new = ⊥
+Pauses (Playing setup play) old sequence ask new = PausesPlay old sequence setup play ask new
+Pauses (Stopping setup stop) old sequence ask new = ⊥
+
+-- GET_PARAMETER for an offer: the plan of a PLAY without Range, and the slots that may be waited for its start
+abbrev pub IsWaitOf : Option (List ℕ) → ℕ → Type 0
+IsWaitOf None wait = ⊥
+IsWaitOf (Some value) wait = IsWithin 0 255 value wait
+
+abbrev pub HasWait : List ℕ → ℕ → Type 0
+HasWait head wait = IsWaitOf (header_value head (codes "x-Wait")) wait
+
+pub record AsksOffer (old : Standing) (sequence wait : ℕ) (planned : Planned) (ask : Ask) (new : Standing) : Type 0 where
+  pub offers : Found
+  pub wait_is : offers.wait ≡ wait
+  pub start_is : offers.start ≡ None
+  pub tried_is : offers.tried ≡ []
+  pub command : ask ≡ AskOffer planned.plan offers
+  pub state : new ≡ record old { awaited = Offer sequence }
+
+abbrev pub AsksOfferOr : Standing → ℕ → ℕ → Result Planned Refusal → Ask → Standing → Type 0
+AsksOfferOr old sequence wait (Ok planned) ask new =
+    AsksOffer old sequence wait planned ask new ⊎ IsRefused old (Some sequence) Memory [] ask new
+AsksOfferOr old sequence wait (Err refusal) ask new = IsRefused old (Some sequence) refusal [] ask new
+
+pub record OffersReady (old : Standing) (sequence wait : ℕ) (setup : Setup) (paused : Option Run) (ask : Ask) (new : Standing) : Type 0 where
+  pub planned : Result Planned Refusal
+  pub is_planned : IsPlanned old setup paused None planned
+  pub asks : AsksOfferOr old sequence wait planned ask new
+
+pub record OffersIn (old : Standing) (request : Request) (setup : Setup) (paused : Option Run) (ask : Ask) (new : Standing) : Type 0 where
+  pub wait : ℕ
+  pub has_wait : HasWait request.head.now wait
+  pub offers : OffersReady old request.sequence wait setup paused ask new
+
+pub record LacksWait (old : Standing) (request : Request) (ask : Ask) (new : Standing) : Type 0 where
+  pub none : (wait : ℕ) → ¬ HasWait request.head.now wait
+  pub refused : IsRefused old (Some request.sequence) Parameter [] ask new
+
+abbrev pub GetsOffer : State → Standing → Request → Ask → Standing → Type 0
+GetsOffer Init old request ask new = IsRefused old (Some request.sequence) NoSession [] ask new
+GetsOffer (Ready setup paused) old request ask new = LacksWait old request ask new ⊎ OffersIn old request setup paused ask new
+GetsOffer (Playing setup play) old request ask new = IsRefused old (Some request.sequence) NotNow [] ask new
+GetsOffer (Stopping setup stop) old request ask new = IsRefused old (Some request.sequence) NotNow [] ask new
 
 -- GET_PARAMETER by its body
 abbrev pub Gets : Standing → Request → Topic → Ask → Standing → Type 0
 Gets old request Nothing ask new = IsReplied old (plain_text request.sequence) ask new
 Gets old request Booked ask new = Looks old request.sequence ask new
-Gets old request OfferTopic ask new = Offers old request ask new
+Gets old request OfferTopic ask new = GetsOffer old.state old request ask new
 Gets old request Unknown ask new = IsRefused old (Some request.sequence) Parameter [] ask new
 
 pub record GetsParameter (old : Standing) (request : Request) (ask : Ask) (new : Standing) : Type 0 where
@@ -110,8 +221,8 @@ abbrev pub Takes : Standing → Request → Result Task Refusal → Ask → Stan
 Takes old request (Ok ToOptions) ask new = IsReplied old (public_text request.sequence) ask new
 Takes old request (Ok (ToDescribe asked)) ask new = Describes old request.sequence asked.film asked.authority.now ask new
 Takes old request (Ok (ToSetup film)) ask new = SetsUp old request film ask new
-Takes old request (Ok (ToPlay asked)) ask new = Plays old request asked ask new
-Takes old request (Ok ToPause) ask new = Pauses old request.sequence ask new
+Takes old request (Ok (ToPlay asked)) ask new = Plays old.state old request asked.authority.now ask new
+Takes old request (Ok ToPause) ask new = Pauses old.state old request.sequence ask new
 Takes old request (Ok ToTeardown) ask new = TearsDown old.state old request.sequence ask new
 Takes old request (Ok ToGetParameter) ask new = GetsParameter old request ask new
 Takes old request (Err refusal) ask new = IsRefused old (Some request.sequence) refusal (option_of request.head.now) ask new

@@ -6,7 +6,6 @@ use Rattle.film_frames.specs.Runs.{run_pieces}
 use Rattle.pacer.specs.Pacings.{is_done, plan_bytes, raised, stands_at_boundary, step_end, stepped, whole_pacing}
 use Rattle.session.specs.declared.states.Play.{Play as Played}
 use Rattle.session.specs.declared.states.Setup.{Setup}
-use Rattle.session.specs.declared.states.Run.{Run}
 use Rattle.session.specs.declared.states.Next.{Next}
 use Rattle.session.specs.declared.states.Next.TheVariants.{Done, Paused, Torn}
 use Rattle.session.specs.declared.states.Awaited.{Awaited}
@@ -14,7 +13,7 @@ use Rattle.session.specs.declared.states.Awaited.TheVariants.{Nothing, Play, Hal
 use Rattle.session.specs.declared.states.State.{State}
 use Rattle.session.specs.declared.states.State.TheVariants.{Init, Ready, Playing, Stopping}
 use Rattle.session.specs.declared.notes.PlayNote.{PlayNote}
-use Rattle.session.specs.Steps.{IsCarried, settled}
+use Rattle.session.specs.Steps.{IsCarried, IsHaltIn, settled}
 use Rattle.session.specs.Standings.{Standing, open_in, open_of}
 
 -- no frame and no report is cut
@@ -157,8 +156,19 @@ sent_in (Playing setup play) = play.pacer.sent
 sent_in (Stopping setup stop) = stop.pacer.sent
 
 -- a play that is done is to be halted
+abbrev pub finished_in : State → Awaited → Awaited
+finished_in state awaited = if is_done_in state then Halt (sent_in state) Done else awaited
+
+-- a halt is asked of a play that is done, and of no other
+abbrev pub IsFinished : State → Awaited → Type 0
+IsFinished state Nothing = is_done_in state ≡ false
+IsFinished state (Play prepared) = ⊥
+IsFinished state (Halt keep next) = IsHaltIn state keep × (next ≡ Done)
+IsFinished state (Look sequence) = ⊥
+IsFinished state (Offer sequence) = ⊥
+
 abbrev pub finished : Standing → Standing
-finished old = if is_done_in old.state then record old { awaited = Halt (sent_in old.state) Done } else old
+finished old = record old { awaited = finished_in old.state old.awaited }
 
 -- the slots from a play's start on that were not heard between two heard ones
 abbrev pub missed_between : ℕ → ℕ → ℕ → ℕ

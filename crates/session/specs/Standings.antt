@@ -17,6 +17,7 @@ use Rattle.session.specs.declared.states.Awaited.TheVariants.{Nothing, Play, Hal
 use Rattle.session.specs.declared.states.State.{State}
 use Rattle.session.specs.declared.states.State.TheVariants.{Init, Ready, Playing, Stopping}
 use Rattle.session.specs.declared.states.Counts.{Counts}
+use Rattle.session.specs.declared.states.Setup.{Setup}
 use Rattle.session.specs.declared.states.Source.{Source}
 
 pub record Standing : Type 0 where
@@ -106,9 +107,12 @@ abbrev pub taken_up : ℕ → ℕ → ℕ
 taken_up heard slot = if nat_lt heard slot && nat_le slot (2 ^ 62) then slot else heard
 
 -- what a slot brought
+abbrev pub BringsIn : Slotted → Awaited → State → Type 0
+BringsIn Going awaited state = awaits_of awaited ≡ NoAnswer
+BringsIn (Finished bytes) awaited state = (awaits_of awaited ≡ HaltAnswer bytes) × CanKeep (open_in state) bytes
+
 abbrev pub Brings : Slotted → Standing → Type 0
-Brings Going new = awaits new ≡ NoAnswer
-Brings (Finished bytes) new = (awaits new ≡ HaltAnswer bytes) × CanKeep (open_of new) bytes
+Brings slotted new = BringsIn slotted new.awaited new.state
 
 -- a booking goes on: only more may be due
 abbrev pub IsSameBooking : Option Open → Option Open → Type 0
@@ -211,6 +215,13 @@ is_playing_in Init = false
 is_playing_in (Ready setup paused) = false
 is_playing_in (Playing setup play) = true
 is_playing_in (Stopping setup stop) = false
+
+-- the session is Ready, with this of SETUP
+abbrev pub IsReadyIn : State → Setup → Type 0
+IsReadyIn Init setup = ⊥
+IsReadyIn (Ready own paused) setup = own ≡ setup
+IsReadyIn (Playing own play) setup = ⊥
+IsReadyIn (Stopping own stop) setup = ⊥
 
 -- the request that waits for the station's answer
 abbrev pub sequence_of : Awaited → ℕ

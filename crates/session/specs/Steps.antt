@@ -9,9 +9,11 @@ use Rattle.session.specs.Plans.{IsPlay}
 -- the same sending, in which only more may be due
 pub record IsSamePacing (old new : Pacing) : Type 0 where
   pub pacing : IsPacing new
+  pub pieces : new.pieces ≡ old.pieces
   pub before : new.before ≡ old.before
   pub plan : new.plan ≡ old.plan
   pub start : new.start ≡ old.start
+  pub keep : new.keep ≡ old.keep
   pub due : old.due ≤ new.due
 
 -- the same state, but for what was sent

@@ -12,12 +12,14 @@ ghost use Rattle.session.specs.Replies.{play_text};
 ghost use Rattle.session.specs.Steps.{IsPlayIn};
 
 use crate::bodies::{put_look, put_offer};
+use crate::films::{counts_after, frames_of, stored_at};
 use crate::notes::{OfferNote, PlayNote, Receipt};
 use crate::replies::{put_full, put_overflow, put_parameters, put_start};
 use crate::sessions::Session;
-use crate::states::{Awaited, Next, Play, Prepared, Run, Setup, State, Stop, counts_after};
+use crate::states::{Awaited, Next, Play, Prepared, Setup, State, Stop};
 use admission::Answer;
 use early_start::Offers;
+use film_run::Run;
 use pacer::Pacer;
 use plan_cert::Plan;
 use std::mem;
@@ -128,6 +130,7 @@ impl<'a> Session<'a> {
         ensures handed { IsHandedIn self.old (Receipt.Entry place Answer.Halted) self.new }
         ensures open { open_of self.new ≡ None }
     {
+        let films = self.films;
         let asked = mem::replace(&mut self.awaited, Awaited::Nothing);
         let State::Playing(setup, play) = mem::replace(&mut self.state, State::Init) else {
             unreachable!()
@@ -148,7 +151,8 @@ impl<'a> Session<'a> {
             .note_play(note_of(&setup, &run, number, start, plan, keep));
         match next {
             Next::Done => {
-                let (frames, _) = pacer.end();
+                let stored = stored_at(films, setup.film);
+                let frames = frames_of(stored, self.source, &setup, self.counts, &run);
                 self.counts = counts_after(self.counts, &frames, run.sent + keep);
                 self.state = State::Ready(setup, None);
             }

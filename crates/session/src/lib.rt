@@ -4,23 +4,25 @@
 mod answers;
 mod asks;
 mod bodies;
+mod films;
+mod laws;
 mod logs;
 mod methods;
 mod notes;
-mod pauses;
 mod plans;
 mod refusals;
 mod replies;
 mod requests;
-mod runs;
 mod sessions;
 mod settings;
 mod setups;
 mod slots;
 mod states;
 mod texts;
+mod wanted;
 
 pub use asks::{Ask, Slotted};
+pub use laws::{law_numbers_go_on, law_play_goes_on, law_refusal_leaves, law_resume_goes_on};
 pub use notes::{Notes, OfferNote, PlayNote, Receipt};
 pub use sessions::Session;
 pub use settings::Settings;

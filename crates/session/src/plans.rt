@@ -1,139 +1,125 @@
 //! The plan of a play.
 
-ghost use Rattle.std.specs.Prelude.{◌≡◌, ◌-◌, ◌≤◌, ℕ, length, IsTrue, IfOk};
-ghost use Rattle.wire_curve.specs.Sound.{IsSound};
-ghost use Rattle.film_frames.specs.Runs.{run_pieces};
+ghost use Rattle.std.specs.Prelude.{◌≡◌, ℕ, List, Option, length, option_map, IfOk, IfSome};
+ghost use Rattle.film_run.specs.Plans.{IsPlayback};
+ghost use Rattle.session.specs.Films.{OfFilm};
+ghost use Rattle.session.specs.Planning.{IsPausedIn, IsPlanned};
+ghost use Rattle.session.specs.Playing.{IsAskedRun, IsPlayable, IsRunOf, counts_before, counts_for, curve_refusal, playback_of, run_of};
 ghost use Rattle.session.specs.Ranges.{AreSettings, IsSetup};
-ghost use Rattle.session.specs.Plans.{IsAllowed, IsGoingOn};
 
+use crate::films::{counts_after, frames_of, picture_time, stored_at};
 use crate::refusals::Refusal;
-use crate::runs::picture_time;
+use crate::sessions::Session;
 use crate::settings::Settings;
-use crate::states::{Run, Setup};
-use film_frames::{Frames, Stored, Track};
-use mpeg_scan::law_film;
+use crate::states::{Counts, Setup, Source};
+use crate::wanted::{Wanted, wanted_run};
+use film_frames::Stored;
+use film_run::{Playback, Run, plan_of};
+use mpeg_scan::Film;
 use plan_cert::Plan;
-use std::alloc::Global;
-use taut_plan::plan;
-use vod_base::NoMemory;
-use wire_curve::{CurveFault, CurveRefused, Curves, Timing, film_curves};
+use wire_curve::{CurveFault, CurveRefused};
 
-/// When the pictures of a run's play are used, and what the client can hold.
-fn timing_of(stored: &Stored, settings: &Settings, setup: &Setup, run: &Run) -> Timing
-    ensures some { 1 ≤ result.picture_units }
-    ensures short { result.picture_units ≤ 360000 }
-    ensures slots { result.slot_units ≡ settings.now.slot_units }
-    ensures buffer { result.buffer ≡ setup.now.buffer }
-    ensures delay { result.delay ≡ setup.now.delay }
+/// A run that is to be sent, what was sent before it, and the plan by which it is sent.
+#[derive(Drop)]
+pub(crate) struct Planned {
+    pub(crate) run: Run,
+    pub(crate) counts: Counts,
+    pub(crate) plan: Plan,
+}
+
+/// How a client plays a film, by what SETUP settled.
+pub(crate) fn playback_of(film: &Film, settings: &Settings, setup: &Setup) -> Playback
+    requires settings { AreSettings settings.now }
+    requires setup { (films : ℕ) × IsSetup films setup.now }
+    ensures playback { result ≡ playback_of film.now settings.now setup.now }
+    ensures ranges { IsPlayback result }
 {
-    Timing {
-        picture_units: picture_time(&stored.film),
+    Playback {
+        picture_units: picture_time(film),
         slot_units: settings.slot_units,
         buffer: setup.buffer,
         delay: setup.delay,
-        played: run.played,
-        sent: run.sent,
     }
-}
-
-/// The bytes of the units that a run hasn't played, on the wire.
-fn sizes_of(alloc: Global, stored: &Stored, run: &Run) -> Result<Vec<u64>, NoMemory>
-    requires order { run.now.from_unit ≤ run.now.end_unit }
-    requires within { run.now.end_unit ≤ length stored.now.film.units.items }
-    ensures { IfOk result (λ sizes. length sizes.items ≡ run.now.end_unit - run.now.from_unit) }
-{
-    let mut sizes = Vec::with_capacity(alloc, run.end_unit - run.from_unit)?;
-    for unit in run.from_unit..run.end_unit {
-        sizes.push(stored.wire_size(unit))?;
-    }
-    Ok(sizes)
-}
-
-/// The most bytes of a run.
-const MOST_BYTES: u64 = 1 << 42;
-
-/// Whether what was sent lies between what was played and all bytes, and fits in the client's buffer.
-fn is_within(sizes: &[u64], timing: &Timing) -> bool
-    ensures { IsTrue result → IsAllowed sizes.now timing.now }
-{
-    if timing.played > MOST_BYTES
-        || timing.sent < timing.played
-        || timing.sent - timing.played > timing.buffer
-    {
-        return false;
-    }
-    let mut total = timing.played;
-    for size in sizes {
-        if *size > MOST_BYTES - total {
-            return false;
-        }
-        total += *size;
-    }
-    timing.sent <= total
-}
-
-/// Whether a plan sends on from the bytes that were sent, which end at a boundary, to the end.
-pub(crate) fn goes_on(frames: &Frames<'_>, sent: u64, plan: &Plan) -> bool
-    ensures { IsTrue result → IsGoingOn (run_pieces frames.now) sent plan.now }
-{
-    let total = frames.total();
-    sent <= total && frames.boundary_after(sent) == sent && plan.bytes() == total - sent
 }
 
 /// The refusal of a play whose units have no curves.
-fn refusal_of(refused: CurveRefused) -> Refusal {
+fn refusal_of(refused: CurveRefused) -> Refusal
+    ensures { result ≡ curve_refusal refused }
+{
     match refused {
         CurveRefused::NoMemory => Refusal::Memory,
-        CurveRefused::Fault(CurveFault::BufferTooSmall { least, .. }) => Refusal::Buffer(least),
-        CurveRefused::Fault(_) => Refusal::Range,
+        CurveRefused::Fault(fault) => match fault {
+            CurveFault::NoPictures => Refusal::Range,
+            CurveFault::TooManySlots { .. } => Refusal::Range,
+            CurveFault::BufferTooSmall { least, .. } => Refusal::Buffer(least),
+        },
     }
 }
 
-fn curves_of(
-    alloc: Global,
+/// What was sent before a new run, once a paused one is given up.
+fn counts_before(
     stored: &Stored,
-    settings: &Settings,
+    source: Source,
     setup: &Setup,
-    run: &Run,
-) -> Result<Curves, Refusal>
-    requires order { run.now.from_unit ≤ run.now.end_unit }
-    requires within { run.now.end_unit ≤ length stored.now.film.units.items }
-    requires settings { AreSettings settings.now }
-    requires setup { (films : ℕ) × IsSetup films setup.now }
-    ensures { IfOk result (λ curves. IsSound curves.from curves.low.items curves.up.items) }
+    counts: Counts,
+    paused: Option<Run>,
+) -> Counts
+    requires { IfSome paused (IsRunOf stored.now source setup.now counts) }
+    ensures { result ≡ counts_before stored.now.film source setup.now counts paused }
 {
-    let Ok(sizes) = sizes_of(alloc, stored, run) else {
-        return Err(Refusal::Memory);
-    };
-    let timing = timing_of(stored, settings, setup, run);
-    if !is_within(&sizes, &timing) {
-        return Err(Refusal::Range);
-    }
-    law_film(&stored.film);
-    match film_curves(alloc, &sizes, &timing) {
-        Ok(curves) => Ok(curves),
-        Err(refused) => Err(refusal_of(refused)),
+    match paused {
+        Some(run) => {
+            let frames = frames_of(stored, source, setup, counts, &run);
+            counts_after(counts, &frames, run.sent)
+        }
+        None => counts,
     }
 }
 
-/// The plan by which a run is sent on: the taut one between the curves of its units' sizes on the wire.
-///
-/// It takes time in the units and slots that are still to be played, whatever stands before them.
-pub(crate) fn plan_of(
-    alloc: Global,
+/// The run that a play sends, and what was sent before it: a paused run is sent on, and a new one follows on all that was sent.
+fn run_and_counts(
     stored: &Stored,
-    settings: &Settings,
+    source: Source,
     setup: &Setup,
-    run: &Run,
-) -> Result<Plan, Refusal>
-    requires order { run.now.from_unit ≤ run.now.end_unit }
-    requires within { run.now.end_unit ≤ length stored.now.film.units.items }
-    requires settings { AreSettings settings.now }
-    requires setup { (films : ℕ) × IsSetup films setup.now }
+    counts: Counts,
+    paused: Option<Run>,
+    wanted: Wanted,
+) -> (Run, Counts)
+    requires paused { IfSome paused (IsRunOf stored.now source setup.now counts) }
+    requires wanted { (range : Option (List ℕ)) × IsAskedRun stored.now.film paused range wanted }
+    ensures run { result.0 ≡ run_of wanted }
+    ensures counts { result.1 ≡ counts_for stored.now.film source setup.now counts paused wanted }
+    ensures goes_on { IsRunOf stored.now source setup.now result.1 result.0 }
 {
-    let curves = curves_of(alloc, stored, settings, setup, run)?;
-    match plan(alloc, &curves) {
-        Ok(plan) => Ok(plan),
-        Err(NoMemory) => Err(Refusal::Memory),
+    match wanted {
+        Wanted::Resumed(run) => (run, counts),
+        Wanted::New(run) => (run, counts_before(stored, source, setup, counts, paused)),
+    }
+}
+
+impl<'a> Session<'a> {
+    /// The plan that a PLAY asks with: of the run that its Range asks for, or a PLAY without one.
+    pub(crate) fn planned(
+        &self,
+        setup: &Setup,
+        paused: Option<Run>,
+        range: Option<&[u8]>,
+    ) -> Result<Planned, Refusal>
+        requires setup { IsSetup (length self.now.films) setup.now }
+        requires paused { IsPausedIn self.now.films self.now.source self.now.counts setup.now paused }
+        ensures exact { IsPlanned self.now setup.now paused (option_map (λ value. value.now) range.entry) result }
+        ensures playable { IfOk result (λ planned. OfFilm self.now.films setup.now.film (λ stored.
+            IsPlayable stored self.now.source self.now.settings setup.now planned.counts planned.run planned.plan)) }
+    {
+        let stored = stored_at(self.films, setup.film);
+        let Some(wanted) = wanted_run(&stored.film, paused, range) else {
+            return Err(Refusal::Range);
+        };
+        let (run, counts) = run_and_counts(stored, self.source, setup, self.counts, paused, wanted);
+        let playback = playback_of(&stored.film, &self.settings, setup);
+        match plan_of(self.alloc, stored, &playback, &run) {
+            Ok(plan) => Ok(Planned { run, counts, plan }),
+            Err(refused) => Err(refusal_of(refused)),
+        }
     }
 }

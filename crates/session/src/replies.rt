@@ -3,6 +3,7 @@
 ghost use Rattle.session.specs.Replies.{code_of, refusal_fields, refusal_text, public_text, describe_text, setup_text, session_text};
 ghost use Rattle.session.specs.Replies.{plain_text, play_fields, play_text, overflow_text, full_text, parameters_text};
 ghost use Rattle.std.specs.Prelude.{◌≡◌, ◌≤◌, IsTrue, true, length, string_bytes, ℕ, List, Option, Some, [], decimal};
+ghost use Rattle.session.specs.Films.{counts_after, identity_of, ms_at, timestamp_at};
 ghost use Rattle.session.specs.Hearings.{started_text};
 ghost use Rattle.std.specs.Int.{w32, to_be_bytes};
 ghost use Rattle.hex.specs.Hex.{encode_lower};
@@ -10,9 +11,9 @@ ghost use Rattle.vod_base.specs.Names.{is_good_name};
 ghost use Rattle.rtsp_text.specs.Lines.{is_one_line};
 ghost use Rattle.rtsp_text.specs.Replies.{Field, is_code, reply_front};
 
+use crate::films::{counts_after, identity_of, ms_at, timestamp_at};
 use crate::refusals::Refusal;
-use crate::runs::picture_time;
-use crate::states::{Prepared, Setup, Source, counts_after, identity_of};
+use crate::states::{Prepared, Setup, Source};
 use film_frames::Stored;
 use itoa::Buffer;
 use rtsp_fields::{description, seconds_text};
@@ -207,29 +208,26 @@ pub(crate) fn info_of<'m>(
     prepared: &Prepared<'_>,
     authority: &'m [u8],
 ) -> Info<'m>
-    requires order { prepared.now.run.from_unit ≤ prepared.now.run.end_unit }
-    requires few { prepared.now.run.end_unit ≤ 4194304 }
+    requires from { prepared.now.run.from_unit ≤ 4194304 }
+    requires end { prepared.now.run.end_unit ≤ 4194304 }
+    ensures first { result.first_ms ≡ ms_at stored.now.film prepared.now.run.from_unit }
+    ensures end { result.end_ms ≡ ms_at stored.now.film prepared.now.run.end_unit }
     ensures authority { result.authority.now ≡ authority.now }
     ensures name { result.name.now ≡ string_bytes stored.now.name }
+    ensures number { let sent = counts_after prepared.now.counts prepared.now.frames prepared.now.run.sent in
+        result.sequence ≡ (identity_of source setup.now sent).sequence }
+    ensures time { result.timestamp ≡ timestamp_at stored.now.film source prepared.now.run.from_unit }
 {
     let run = prepared.run;
-    let time = u64::from(picture_time(&stored.film));
     let sent = counts_after(prepared.counts, &prepared.frames, run.sent);
     Info {
-        first_ms: run.from_unit as u64 * time / 360,
-        end_ms: run.end_unit as u64 * time / 360,
+        first_ms: ms_at(&stored.film, run.from_unit),
+        end_ms: ms_at(&stored.film, run.end_unit),
         authority,
         name: stored.name.as_bytes(),
         sequence: identity_of(source, setup, sent).sequence,
-        timestamp: timestamp_of(source, run.from_unit as u64 * time),
+        timestamp: timestamp_at(&stored.film, source, run.from_unit),
     }
-}
-
-/// The timestamp, in 1/90,000 second, at which a unit that begins at this time in 1/360,000 second is played.
-fn timestamp_of(source: Source, time: u64) -> u32 {
-    source
-        .timestamp
-        .wrapping_add((time / 4 & 0xffff_ffff) as u32)
 }
 
 /// The front of the 200 of a PLAY: all but the start.

@@ -1,33 +1,33 @@
 //! Requests, method by method.
 
-ghost use Rattle.std.specs.Prelude.{◌≡◌, ◌<◌, ◌≤◌, true, false, length, is_some, string_bytes, IfOk};
+ghost use Rattle.std.specs.Prelude.{◌≡◌, ◌<◌, ◌≤◌, ℕ, true, false, length, is_some, IfOk, IfSome, MatchOption, Ok};
 ghost use Rattle.interleave.specs.Pieces.{IsRequestLength};
-ghost use Rattle.vod_base.specs.Names.{is_good_name};
 ghost use Rattle.rtsp_text.specs.Lines.{is_one_line};
 ghost use Rattle.session.specs.declared.asks.Ask.{Ask};
 ghost use Rattle.session.specs.Hearings.{Hears};
-ghost use Rattle.session.specs.Ranges.{AreFilms, IsSetup};
-ghost use Rattle.session.specs.Films.{IsFilmAt};
+ghost use Rattle.session.specs.Playing.{IsPlayable};
+ghost use Rattle.session.specs.Ranges.{IsSetup};
+ghost use Rattle.session.specs.Films.{OfFilm};
 ghost use Rattle.session.specs.Judging.{place_of};
-ghost use Rattle.session.specs.Methods.{Describes, GetsParameter, HearsRequest, Looks, Offers, Pauses, Plays, SetsUp, TearsDown};
+ghost use Rattle.session.specs.Methods.{AsksOfferOr, AsksPlayOr, Describes, GetsParameter, HasWait, HearsRequest, Looks, GetsOffer, OffersReady};
+ghost use Rattle.session.specs.Methods.{Pauses, Plays, SetsUp, TearsDown};
+ghost use Rattle.session.specs.Planning.{IsPausedIn};
 ghost use Rattle.session.specs.Replies.{refusal_text};
-ghost use Rattle.session.specs.Plans.{IsPrepared};
-ghost use Rattle.session.specs.Standings.{AsksFor, CanHear, IsAtRest, IsSameBusiness, has_session_in, is_playing_in, replied};
+ghost use Rattle.session.specs.Standings.{AsksFor, CanHear, IsAtRest, IsReadyIn, IsSameBusiness, has_session_in, is_playing_in, replied};
 
 use crate::asks::Ask;
+use crate::films::{frames_of, length_ms, stored_at};
 use crate::methods::{Topic, read_topic};
-use crate::pauses::paused_run;
-use crate::plans::{goes_on, plan_of};
+use crate::plans::{Planned, playback_of};
 use crate::refusals::{Place, Refusal, Task, judge, option_of, refusal_of};
 use crate::replies::{
     info_of, put_description, put_plain, put_play, put_public, put_refusal, put_session, put_setup,
 };
-use crate::runs::{Wanted, is_run, length_ms, wanted_run};
 use crate::sessions::Session;
 use crate::setups::read_setup;
-use crate::states::{Awaited, Counts, Next, Prepared, Run, Setup, State, counts_after, frames_of};
+use crate::states::{Awaited, Next, Prepared, Setup, State};
 use early_start::Offers;
-use film_frames::Stored;
+use film_run::{Run, run_after};
 use mpeg_scan::law_film;
 use plan_cert::Plan;
 use rtsp_fields::read_wait;
@@ -181,6 +181,7 @@ impl<'a> Session<'a> {
         requires session { has_session_in self.old.state ≡ true }
         requires authority { length authority.now ≤ 16384 }
         requires authority_line { is_one_line authority.now ≡ true }
+        ensures exact { Plays self.old.state self.old request.now authority.now result self.new }
         ensures asks { AsksFor result self.new }
         ensures same { IsSameBusiness self.old self.new }
     {
@@ -189,16 +190,44 @@ impl<'a> Session<'a> {
             put_session(&mut self.reply, sequence, &self.id);
             return self.replied();
         };
-        let range = header(request, b"Range");
-        let (plan, prepared) = match self.prepare(sequence, &setup, paused, range) {
-            Ok(both) => both,
-            Err(refusal) => return self.refuse(Some(sequence), refusal, b""),
-        };
-        if self.log.reserve_for_play(self.looks_left).is_err() {
-            return self.refuse(Some(sequence), Refusal::Memory, b"");
+        match self.planned(&setup, paused, header(request, b"Range")) {
+            Ok(planned) => self.ask_play(sequence, authority, &setup, planned),
+            Err(refusal) => self.refuse(Some(sequence), refusal, b""),
         }
-        let stored = stored_at(self.films, setup.film);
-        let info = info_of(stored, self.source, &setup, &prepared, authority);
+    }
+
+    /// Asks for a play, once there is memory for what it leaves for the report.
+    fn ask_play(&mut self, sequence: u64, authority: &[u8], setup: &Setup, planned: Planned) -> Ask
+        requires hear { CanHear self.old }
+        requires ready { IsReadyIn self.old.state setup.now }
+        requires authority { length authority.now ≤ 16384 }
+        requires authority_line { is_one_line authority.now ≡ true }
+        requires run { OfFilm self.old.films setup.now.film (λ stored.
+            IsPlayable stored self.old.source self.old.settings setup.now planned.counts planned.run planned.plan) }
+        ensures exact { AsksPlayOr self.old sequence authority.now setup.now (Ok planned) result self.new }
+        ensures asks { AsksFor result self.new }
+        ensures same { IsSameBusiness self.old self.new }
+    {
+        let Ok((own, paced)) = two_more(&planned.plan) else {
+            return self.refuse(Some(sequence), Refusal::Memory, b"");
+        };
+        let Ok(()) = self.log.reserve_for_play(self.looks_left) else {
+            return self.refuse(Some(sequence), Refusal::Memory, b"");
+        };
+        let films = self.films;
+        let stored = stored_at(films, setup.film);
+        law_film(&stored.film);
+        let Planned { run, counts, plan } = planned;
+        let frames = frames_of(stored, self.source, setup, counts, &run);
+        let prepared = Prepared {
+            run,
+            counts,
+            frames,
+            plan: own,
+            paced,
+            sequence,
+        };
+        let info = info_of(stored, self.source, setup, &prepared, authority);
         put_play(&mut self.reply, sequence, &self.id, &info);
         self.awaited = Awaited::Play(prepared);
         Ask::Play(plan)
@@ -208,7 +237,7 @@ impl<'a> Session<'a> {
     fn pause(&mut self, sequence: u64) -> Ask
         requires hear { CanHear self.old }
         requires playing { is_playing_in self.old.state ≡ true }
-        ensures exact { Pauses self.old sequence result self.new }
+        ensures exact { Pauses self.old.state self.old sequence result self.new }
         ensures asks { AsksFor result self.new }
         ensures same { IsSameBusiness self.old self.new }
     {
@@ -216,11 +245,14 @@ impl<'a> Session<'a> {
         let State::Playing(setup, mut play) = mem::replace(&mut self.state, State::Init) else {
             unreachable!()
         };
+        let stored = stored_at(films, setup.film);
         let keep = play.pacer.ask_halt();
-        let run = paused_run(&films[setup.film], &self.settings, &setup, &play, keep);
+        let playback = playback_of(&stored.film, &self.settings, &setup);
+        let last = play.pacer.last_slot();
+        let left = run_after(stored, &playback, &play.run, &play.plan, last, keep);
         put_session(&mut self.reply, sequence, &self.id);
         self.state = State::Playing(setup, play);
-        self.awaited = Awaited::Halt(keep, Next::Paused(run));
+        self.awaited = Awaited::Halt(keep, Next::Paused(left));
         Ask::Halt(keep)
     }
 
@@ -287,103 +319,64 @@ impl<'a> Session<'a> {
     /// An offer: from which slot on the play would fit that a PLAY without Range asks for.
     fn offer(&mut self, request: &Request<'_>) -> Ask
         requires hear { CanHear self.old }
+        ensures exact { GetsOffer self.old.state self.old request.now result self.new }
         ensures asks { AsksFor result self.new }
         ensures same { IsSameBusiness self.old self.new }
     {
         let sequence = request.sequence;
-        let (plan, offers) = match self.prepare_offer(request) {
-            Ok(both) => both,
-            Err(refusal) => return self.refuse(Some(sequence), refusal, b""),
+        match self.state {
+            State::Ready(setup, paused) => match wait_of(request) {
+                Some(wait) => self.offer_ready(sequence, wait, &setup, paused),
+                None => self.refuse(Some(sequence), Refusal::Parameter, b""),
+            },
+            State::Init => self.refuse(Some(sequence), Refusal::Session, b""),
+            State::Playing(..) => self.refuse(Some(sequence), Refusal::State, b""),
+            State::Stopping(..) => self.refuse(Some(sequence), Refusal::State, b""),
+        }
+    }
+
+    fn offer_ready(&mut self, sequence: u64, wait: u64, setup: &Setup, paused: Option<Run>) -> Ask
+        requires hear { CanHear self.old }
+        requires setup { IsSetup (length self.old.films) setup.now }
+        requires paused { IsPausedIn self.old.films self.old.source self.old.counts setup.now paused }
+        requires wait { wait ≤ 255 }
+        ensures exact { OffersReady self.old sequence wait setup.now paused result self.new }
+        ensures asks { AsksFor result self.new }
+        ensures same { IsSameBusiness self.old self.new }
+    {
+        match self.planned(setup, paused, None) {
+            Ok(planned) => self.ask_offer(sequence, wait, planned),
+            Err(refusal) => self.refuse(Some(sequence), refusal, b""),
+        }
+    }
+
+    /// Asks for an offer, once there is memory for it and for its note.
+    fn ask_offer(&mut self, sequence: u64, wait: u64, planned: Planned) -> Ask
+        requires hear { CanHear self.old }
+        requires wait { wait ≤ 255 }
+        ensures exact { AsksOfferOr self.old sequence wait (Ok planned) result self.new }
+        ensures asks { AsksFor result self.new }
+        ensures same { IsSameBusiness self.old self.new }
+    {
+        let Ok(offers) = Offers::new(self.alloc, wait) else {
+            return self.refuse(Some(sequence), Refusal::Memory, b"");
         };
         if self.log.reserve_offer().is_err() {
             return self.refuse(Some(sequence), Refusal::Memory, b"");
         }
         self.awaited = Awaited::Offer(sequence);
-        Ask::Offer(plan, offers)
+        Ask::Offer(planned.plan, offers)
     }
+}
 
-    /// What an offer needs: the plan that a PLAY without Range would ask with, and room for the starts that are tried.
-    fn prepare_offer(&self, request: &Request<'_>) -> Result<(Plan, Offers), Refusal> {
-        let (setup, paused) = match self.state {
-            State::Ready(setup, paused) => (setup, paused),
-            State::Init => return Err(Refusal::Session),
-            _ => return Err(Refusal::State),
-        };
-        let Some(value) = header(request, b"x-Wait") else {
-            return Err(Refusal::Parameter);
-        };
-        let Some(wait) = read_wait(value) else {
-            return Err(Refusal::Parameter);
-        };
-        let films = self.films;
-        let stored = &films[setup.film];
-        let run = match wanted_run(&stored.film, paused, None) {
-            Some(Wanted::Resumed(run) | Wanted::New(run)) => run,
-            None => return Err(Refusal::Range),
-        };
-        let plan = plan_of(self.alloc, stored, &self.settings, &setup, &run)?;
-        match Offers::new(self.alloc, wait) {
-            Ok(offers) => Ok((plan, offers)),
-            Err(NoMemory) => Err(Refusal::Memory),
-        }
-    }
-
-    /// What a play needs: its run, what sends it, and its plan three times.
-    fn prepare(
-        &self,
-        sequence: u64,
-        setup: &Setup,
-        paused: Option<Run>,
-        range: Option<&[u8]>,
-    ) -> Result<(Plan, Prepared<'a>), Refusal>
-        requires setup { IsSetup (length self.now.films) setup.now }
-        ensures prepared { IfOk result (λ both. IsPrepared both.1) }
-        ensures plan { IfOk result (λ both. both.1.plan ≡ both.0) }
-        ensures order { IfOk result (λ both. both.1.run.from_unit ≤ both.1.run.end_unit) }
-        ensures few { IfOk result (λ both. both.1.run.end_unit ≤ 4194304) }
-    {
-        let films = self.films;
-        let stored = &films[setup.film];
-        law_film(&stored.film);
-        let (run, counts) = match wanted_run(&stored.film, paused, range) {
-            Some(Wanted::Resumed(run)) => (run, self.counts),
-            Some(Wanted::New(run)) => (run, self.counts_without(setup, paused)),
-            None => return Err(Refusal::Range),
-        };
-        let plan = plan_of(self.alloc, stored, &self.settings, setup, &run)?;
-        let frames = frames_of(stored, self.source, setup, counts, &run);
-        if !goes_on(&frames, run.sent, &plan) {
-            return Err(Refusal::Range);
-        }
-        match two_more(&plan) {
-            Ok((own, paced)) => Ok((
-                plan,
-                Prepared {
-                    run,
-                    counts,
-                    frames,
-                    plan: own,
-                    paced,
-                    sequence,
-                },
-            )),
-            Err(NoMemory) => Err(Refusal::Memory),
-        }
-    }
-
-    /// What the session has sent in all, once its paused run is given up.
-    fn counts_without(&self, setup: &Setup, paused: Option<Run>) -> Counts
-        requires { IsSetup (length self.now.films) setup.now }
-    {
-        let films = self.films;
-        let stored = &films[setup.film];
-        match paused {
-            Some(run) if is_run(&stored.film, &run) => {
-                let frames = frames_of(stored, self.source, setup, self.counts, &run);
-                counts_after(self.counts, &frames, run.sent)
-            }
-            _ => self.counts,
-        }
+/// How many slots may be waited for an offer's start.
+fn wait_of(request: &Request<'_>) -> Option<u64>
+    ensures read { MatchOption result ((wait : ℕ) → ¬ HasWait request.now.head.now wait) (HasWait request.now.head.now) }
+    ensures most { IfSome result (λ wait. wait ≤ 255) }
+{
+    match header(request, b"x-Wait") {
+        Some(value) => read_wait(value),
+        None => None,
     }
 }
 
@@ -395,14 +388,4 @@ fn two_more(plan: &Plan) -> Result<(Plan, Plan), NoMemory>
     let own = plan.copy()?;
     let paced = plan.copy()?;
     Ok((own, paced))
-}
-
-/// The film of that number, whose name is good.
-fn stored_at(films: &[Stored], film: usize) -> &Stored
-    requires films { AreFilms films.now }
-    requires within { film < length films.now }
-    ensures good { is_good_name (string_bytes result.now.name) ≡ true }
-    ensures film { IsFilmAt films.now film result.now }
-{
-    &films[film]
 }

@@ -1,5 +1,6 @@
 ghost use Rattle.std.specs.Prelude.{◌≡◌, ◌≤◌, ◌^◌, [], false, None, IfOk, IfSome, MatchOption};
 ghost use Rattle.session.specs.Ranges.{AreFilms, AreSettings};
+ghost use Rattle.session.specs.Hearings.{new_standing};
 ghost use Rattle.session.specs.Standings.{CanKeep, IsAtRest, IsDue, open_of};
 
 use crate::logs::{LOOKS, Log};
@@ -72,6 +73,7 @@ impl<'a> Session<'a> {
     ) -> Result<Session<'a>, NoMemory>
         requires settings { AreSettings settings }
         requires films { AreFilms films.now }
+        ensures exact { IfOk result (λ session. session ≡ new_standing films.now settings words) }
         ensures rest { IfOk result (λ session. IsAtRest session) }
         ensures open { IfOk result (λ session. open_of session ≡ None) }
         ensures replies { IfOk result (λ session. session.waits ≡ false) }
@@ -91,7 +93,7 @@ impl<'a> Session<'a> {
             alloc,
             films,
             settings,
-            id: session_id(u64::from(words[0]) << 32 | u64::from(words[1])),
+            id: session_id(u64::from(words[0]) * (1 << 32) + u64::from(words[1])),
             source: source_of(&words),
             state: State::Init,
             counts: Counts {

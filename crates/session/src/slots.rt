@@ -3,10 +3,10 @@
 ghost use Rattle.std.specs.Prelude.{◌≡◌, ◌-◌, ◌<◌, ◌≤◌, ◌++◌, ◌&&◌, is_some, IfOk, IfSome, OnErr, OnOk, false, true, max, if◌then◌else◌};
 ghost use Rattle.vod_base.specs.Outside.{HasRisen};
 ghost use Rattle.vod_base.specs.Links.{IsFrontTold, sends, told_more};
-ghost use Rattle.session.specs.Sendings.{HasFailed, IsTold, can_reply, due_bytes, due_state, finished, is_between, is_done_in, is_sending, is_taken};
-ghost use Rattle.session.specs.Sendings.{sent_in, sent_reply, slotted, start_in, step_bytes, stepped_in};
+ghost use Rattle.session.specs.Sendings.{HasFailed, IsFinished, IsTold, can_reply, due_bytes, due_state, finished_in, is_between, is_done_in};
+ghost use Rattle.session.specs.Sendings.{is_sending, is_taken, sent_in, sent_reply, slotted, start_in, step_bytes, stepped_in};
 ghost use Rattle.session.specs.Steps.{IsCarried, IsEven, IsHaltIn, IsLeft, IsPacingIn, IsPlayIn, settled};
-ghost use Rattle.session.specs.Standings.{AreNotesKept, Brings, IsAtRest, IsSameBooking, open_in, open_of, taken_up};
+ghost use Rattle.session.specs.Standings.{AreNotesKept, Brings, BringsIn, IsAtRest, IsSameBooking, NoAnswer, awaits_of, open_in, open_of, taken_up};
 
 use crate::asks::Slotted;
 use crate::sessions::Session;
@@ -170,6 +170,23 @@ fn settled(state: State<'_>) -> State<'_>
     }
 }
 
+/// Asks for the halt of a play that is done.
+fn finish<'a>(state: &State<'a>, awaited: &mut Awaited<'a>) -> Slotted
+    requires play { IsPlayIn state.now }
+    requires rest { awaits_of awaited.old ≡ NoAnswer }
+    ensures awaited { awaited.new ≡ finished_in state.now awaited.old }
+    ensures halt { IsFinished state.now awaited.new }
+    ensures brings { BringsIn result awaited.new state.now }
+{
+    match done_bytes(state) {
+        Some(bytes) => {
+            *awaited = Awaited::Halt(bytes, Next::Done);
+            Slotted::Finished(bytes)
+        }
+        None => Slotted::Going,
+    }
+}
+
 impl<'a> Session<'a> {
     /// Takes up a slot, if it is a later one than the last and none above 2^62, and sends what is due in it. A waiting reply
     /// goes out at the first boundary that is reached.
@@ -210,25 +227,9 @@ impl<'a> Session<'a> {
             self.waits = false;
             self.torn = self.tearing;
             self.state = settled(mem::replace(&mut self.state, State::Init));
-            return Ok(self.finish());
+            return Ok(finish(&self.state, &mut self.awaited));
         }
-        Ok(self.finish())
-    }
-
-    /// Asks for the halt of a play that is done.
-    fn finish(&mut self) -> Slotted
-        requires { IsAtRest self.old }
-        ensures exact { self.new ≡ finished self.old }
-        ensures brings { Brings result self.new }
-        ensures same { self.new ≡ record self.old { awaited = self.new.awaited } }
-    {
-        match done_bytes(&self.state) {
-            Some(bytes) => {
-                self.awaited = Awaited::Halt(bytes, Next::Done);
-                Slotted::Finished(bytes)
-            }
-            None => Slotted::Going,
-        }
+        Ok(finish(&self.state, &mut self.awaited))
     }
 
     /// Sends the waiting reply in one send where no frame and no report is cut; else it does nothing.

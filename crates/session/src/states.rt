@@ -1,11 +1,12 @@
 //! Where a session stands (RFC 2326 appendix A.2).
 
-ghost use Rattle.std.specs.Prelude.{◌<◌, ◌≤◌, length};
+ghost use Rattle.std.specs.Prelude.{◌≡◌};
+ghost use Rattle.session.specs.Hearings.{source_of};
 
-use film_frames::{Frames, Stored};
+use film_frames::Frames;
+use film_run::Run;
 use pacer::Pacer;
 use plan_cert::Plan;
-use rtp_pack::Identity;
 
 /// What SETUP settled.
 #[derive(Clone, Copy, Debug, PartialEq, Eq)]
@@ -20,21 +21,6 @@ pub(crate) struct Setup {
     pub(crate) buffer: u64,
     /// The slots before the first picture is used.
     pub(crate) delay: u64,
-}
-
-/// A run: units of the film that are sent, in one or more plays.
-#[derive(Clone, Copy, Debug, PartialEq, Eq)]
-pub(crate) struct Run {
-    /// Its first unit.
-    pub(crate) first_unit: usize,
-    /// The unit at which it ends.
-    pub(crate) end_unit: usize,
-    /// Its first unplayed unit.
-    pub(crate) from_unit: usize,
-    /// The bytes of it that were sent.
-    pub(crate) sent: u64,
-    /// The bytes of it that were played: those of the units before the first unplayed one.
-    pub(crate) played: u64,
 }
 
 /// The frames that a session sent, and their octets, both modulo 2^32.
@@ -130,57 +116,13 @@ pub(crate) enum Awaited<'a> {
     Offer(u64),
 }
 
-/// The identity of a run that begins after so many frames and octets (RFC 3550 section 5.1).
-pub(crate) fn identity_of(source: Source, setup: &Setup, counts: Counts) -> Identity {
-    Identity {
-        channel: setup.media,
-        control: setup.control,
-        ssrc: source.ssrc,
-        sequence: source
-            .sequence
-            .wrapping_add((counts.frames & 0xffff) as u16),
-        timestamp: source.timestamp,
-        packets: counts.frames,
-        octets: counts.octets,
-    }
-}
-
-/// The frames of a run that is sent under an identity.
-pub(crate) fn frames_of<'a>(
-    stored: &'a Stored,
-    source: Source,
-    setup: &Setup,
-    counts: Counts,
-    run: &Run,
-) -> Frames<'a>
-    requires order { run.now.first_unit < run.now.end_unit }
-    requires within { run.now.end_unit ≤ length stored.now.film.units.items }
-{
-    Frames::new(
-        stored,
-        run.first_unit,
-        run.end_unit,
-        identity_of(source, setup, counts),
-    )
-}
-
-/// What the session has sent in all, where so many bytes of these frames were sent.
-pub(crate) fn counts_after(counts: Counts, frames: &Frames<'_>, sent: u64) -> Counts {
-    Counts {
-        frames: counts
-            .frames
-            .wrapping_add((frames.frames_before(sent) & 0xffff_ffff) as u32),
-        octets: counts
-            .octets
-            .wrapping_add((frames.octets_before(sent) & 0xffff_ffff) as u32),
-    }
-}
-
 /// What a connection's words give its stream.
-pub(crate) fn source_of(words: &[u32; 5]) -> Source {
+pub(crate) fn source_of(words: &[u32; 5]) -> Source
+    ensures { result ≡ source_of words.now }
+{
     Source {
         ssrc: words[2],
-        sequence: (words[3] & 0xffff) as u16,
+        sequence: (words[3] % 65_536) as u16,
         timestamp: words[4],
     }
 }

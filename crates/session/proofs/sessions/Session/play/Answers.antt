@@ -1,9 +1,29 @@
-use Rattle.std.proofs.Common.{ap, ◌∙◌, string_bytes}
-use Rattle.rtsp_text.specs.Lines.{is_one_line}
-use Rattle.rtsp_text.proofs.OneLines.{one_line-name}
+use Rattle.std.proofs.Common.{◌≡◌, ℕ, List, Option, Ok, sym, subst}
+use Rattle.session.specs.Inside.{IsStateKept}
+use Rattle.session.specs.Methods.{Plays}
+use Rattle.session.specs.Planning.{IsPausedIn, IsPlanned}
+use Rattle.session.specs.Standings.{Standing}
+use Rattle.session.specs.declared.states.State.{State}
+use Rattle.session.specs.declared.states.State.TheVariants.{Ready}
 use Rattle.session.proofs.sessions.Session.play.Goals as goal
 
-pub put_play-requires-clause-name_line : goal.put_play-requires-clause-name_line
-put_play-requires-clause-name_line c =
-    ap is_one_line c.info_of-info.ensures.name
-    ∙ one_line-name (string_bytes c.stored_at-stored.result.now.name) c.stored_at-stored.ensures.good
+pub planned-requires-clause-paused : goal.planned-requires-clause-paused
+planned-requires-clause-paused c =
+    let inside = c.self.inside in
+    let kept = subst (λ (s : State). IsStateKept inside.films.now inside.source inside.settings inside.counts s) c.in-Ready.is
+    c.self.invariant.state in
+    subst (λ (old : Standing). IsPausedIn old.films old.source old.counts c.in-Ready.setup c.in-Ready.paused) c.self.view_is kept.1
+
+pub returns-in-Ok-clause-exact : goal.returns-in-Ok-clause-exact
+returns-in-Ok-clause-exact c =
+    let old : Standing = c.args.self.now in
+    let setup = c.in-Ready.setup in
+    let paused = c.in-Ready.paused in
+    let state : old.state ≡ Ready setup paused = subst (λ (s : Standing). s.state ≡ Ready setup paused) c.self.view_is c.in-Ready.is in
+    subst (λ (s : State). Plays s old c.args.request.now c.args.authority.now c.ask_play.result c.ask_play.new.self) (sym state)
+    (record {
+      planned = Ok c.in-Ok.planned;
+      is_planned = subst (λ (range : Option (List ℕ)). IsPlanned old setup paused range (Ok c.in-Ok.planned)) c.header.ensures.value
+          c.in-Ok.ensures.exact;
+      asks = c.ask_play.ensures.exact;
+    })

@@ -3,7 +3,7 @@ use Rattle.std.proofs.lemmas.Option.{slice_get_read}
 use Rattle.std.proofs.lemmas.List.Elements.{All-get_or}
 use Rattle.vod_base.specs.Names.{is_good_name}
 use Rattle.film_frames.specs.declared.stores.Stored.{Stored}
-use Rattle.session.proofs.requests.stored_at.Goals as goal
+use Rattle.session.proofs.films.stored_at.Goals as goal
 
 pub returns-clause-good : goal.returns-clause-good
 returns-clause-good c =

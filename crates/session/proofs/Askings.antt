@@ -1,0 +1,123 @@
+-- What a play, a halt and an admission leave of how a session is kept.
+use Rattle.std.proofs.Common.{◌≡◌, ℕ, ◌+◌, Bool, false, List, Option, Some, length, refl, sym, ap, subst, ◌∙◌}
+use Rattle.plan_cert.specs.declared.Segment.{Segment}
+use Rattle.plan_cert.specs.Slots.{total_bytes}
+use Rattle.film_frames.specs.declared.stores.Stored.{Stored}
+use Rattle.film_frames.specs.Runs.{Run as Sending, run_pieces}
+use Rattle.film_frames.specs.Tracks.{IsBoundary, framed}
+use Rattle.film_run.specs.declared.runs.Run.{Run}
+use Rattle.film_run.specs.Runs.{bytes_between}
+use Rattle.film_run.specs.Units.{stored_sizes}
+use Rattle.pacer.specs.Pacings.{IsPacing, Pacing, is_done, whole_pacing}
+use Rattle.session.specs.Films.{IsFilmAt, OfFilm, sending_of}
+use Rattle.session.specs.Inside.{IsAwaitedKept, IsGoing, IsNextIn, IsPlaying, IsPreparedAs, IsPreparedIn, IsStateKept, open_receipts}
+use Rattle.session.specs.Planning.{IsPausedIn}
+use Rattle.session.specs.Plans.{IsPrepared}
+use Rattle.session.specs.Playing.{IsPlayable}
+use Rattle.session.specs.Ranges.{IsSetup}
+use Rattle.session.specs.Sendings.{next_of}
+use Rattle.session.specs.Standings.{IsReadyIn}
+use Rattle.session.specs.declared.settings.Settings.{Settings}
+use Rattle.session.specs.declared.states.Awaited.{Awaited}
+use Rattle.session.specs.declared.states.Awaited.TheVariants.{Nothing, Play, Halt, Look, Offer}
+use Rattle.session.specs.declared.states.Counts.{Counts}
+use Rattle.session.specs.declared.states.Play.{Play as Played}
+use Rattle.session.specs.declared.states.Prepared.{Prepared}
+use Rattle.session.specs.declared.states.Setup.{Setup}
+use Rattle.session.specs.declared.states.Source.{Source}
+use Rattle.session.specs.declared.states.State.{State}
+use Rattle.session.specs.declared.states.State.TheVariants.{Init, Ready, Playing, Stopping}
+use Rattle.session.proofs.Playables.{of_film}
+
+ready_in : (films : List Stored) (source : Source) (settings : Settings) (state : State) (setup : Setup) (prepared : Prepared)
+    → IsReadyIn state setup → IsPrepared prepared
+    → OfFilm films setup.film (λ stored. IsPreparedAs stored source settings setup prepared)
+    → IsPreparedIn films source settings state prepared
+ready_in films source settings Init setup prepared ready is all = absurd ready
+ready_in films source settings (Ready own paused) setup prepared ready is all =
+    subst (λ (x : Setup). IsPreparedIn films source settings (Ready x paused) prepared) (sym ready) (is, all)
+ready_in films source settings (Playing own play) setup prepared ready is all = absurd ready
+ready_in films source settings (Stopping own stop) setup prepared ready is all = absurd ready
+
+-- no booking is open in Ready
+pub ready_closed : (state : State) (setup : Setup) → IsReadyIn state setup → open_receipts state ≡ 0
+ready_closed Init setup ready = absurd ready
+ready_closed (Ready own paused) setup ready = refl
+ready_closed (Playing own play) setup ready = absurd ready
+ready_closed (Stopping own stop) setup ready = absurd ready
+
+-- a play that is asked for can be sent
+pub prepared_in : (films : List Stored) (source : Source) (settings : Settings) (state : State) (setup : Setup) (stored : Stored)
+    (plan : List Segment) (prepared : Prepared) → IsReadyIn state setup → IsFilmAt films setup.film stored
+    → IsPlayable stored source settings setup prepared.counts prepared.run plan
+    → prepared.frames ≡ sending_of stored.film source setup prepared.counts prepared.run
+    → length (framed (run_pieces prepared.frames)) ≡ bytes_between (stored_sizes stored) prepared.run.first_unit prepared.run.end_unit
+    → prepared.plan ≡ plan → prepared.paced ≡ plan → IsPreparedIn films source settings state prepared
+prepared_in films source settings state setup stored plan prepared ready at playable frames bytes own paced =
+    let same : IsPlayable stored source settings setup prepared.counts prepared.run prepared.plan =
+    subst (λ (l : List Segment). IsPlayable stored source settings setup prepared.counts prepared.run l) (sym own) playable in
+    let boundary : IsBoundary (run_pieces prepared.frames) prepared.run.sent =
+    subst (λ (s : Sending). IsBoundary (run_pieces s) prepared.run.sent) (sym frames) same.run_of.boundary in
+    ready_in films source settings state setup prepared ready
+    (record { going = record { boundary = boundary; whole = same.bytes ∙ sym bytes }; paced = paced ∙ sym own })
+    (of_film films setup.film stored (λ s. IsPreparedAs s source settings setup prepared) at
+    (record { playable = same; frames_are = frames }))
+
+-- what an admission makes of it
+pub admitted_state : (films : List Stored) (source : Source) (settings : Settings) (setup : Setup) (paused : Option Run)
+    (prepared : Prepared) (play : Played) → IsSetup (length films) setup
+    → IsPreparedIn films source settings (Ready setup paused) prepared → IsPacing play.pacer → play.run ≡ prepared.run
+    → play.plan ≡ prepared.plan → play.pacer ≡ whole_pacing (run_pieces prepared.frames) prepared.run.sent prepared.paced play.start
+    → IsStateKept films source settings prepared.counts (Playing setup play)
+admitted_state films source settings setup paused prepared play is_setup kept pacing run plan pacer = (
+  is_setup,
+  record {
+    pacing = pacing;
+    before = ap (λ (p : Pacing). p.before) pacer ∙ ap (λ (r : Run). r.sent) (sym run);
+    plan = ap (λ (p : Pacing). p.plan) pacer ∙ kept.0.paced ∙ sym plan;
+  },
+  λ stored at.
+      let made : IsPreparedAs stored source settings setup prepared = kept.1 stored at in
+      record {
+        playable = subst (λ (r : Run). IsPlayable stored source settings setup prepared.counts r play.plan) (sym run)
+            (subst (λ (l : List Segment). IsPlayable stored source settings setup prepared.counts prepared.run l) (sym plan) made.playable);
+        pieces = ap (λ (p : Pacing). p.pieces) pacer ∙ ap run_pieces made.frames_are
+            ∙ ap (λ (r : Run). run_pieces (sending_of stored.film source setup prepared.counts r)) (sym run);
+      },
+)
+
+pub admitted_going : (lost : Bool) (setup : Setup) (play : Played) (pieces : List (List ℕ)) (before start : ℕ) (paced : List Segment)
+    → play.pacer ≡ whole_pacing pieces before paced start → paced ≡ play.plan → IsGoing lost (Playing setup play)
+admitted_going lost setup play pieces before start paced pacer same = λ linked. record {
+  even = ap (λ (p : Pacing). p.due) pacer ∙ sym (ap (λ (p : Pacing). p.sent) pacer);
+  whole = ap (λ (p : Pacing). p.keep) pacer ∙ ap total_bytes same;
+  going = ap is_done pacer;
+}
+
+-- what a halt leads to can be sent on
+pub next_in : (films : List Stored) (source : Source) (settings : Settings) (counts : Counts) (lost : Bool) (state : State)
+    (awaited : Awaited) → IsAwaitedKept films source settings counts lost state awaited
+    → IsNextIn films source counts state (next_of awaited)
+next_in films source settings counts lost state Nothing kept = tt
+next_in films source settings counts lost state (Play prepared) kept = tt
+next_in films source settings counts lost state (Halt keep next) kept = kept.1
+next_in films source settings counts lost state (Look sequence) kept = tt
+next_in films source settings counts lost state (Offer sequence) kept = tt
+
+-- a play of which a halt is asked is the same but for what is kept
+pub halting_kept : (films : List Stored) (source : Source) (settings : Settings) (counts : Counts) (setup : Setup) (play : Played)
+    (pacer : Pacing) (keep : ℕ) → IsStateKept films source settings counts (Playing setup play) → IsPacing pacer
+    → pacer ≡ record play.pacer { keep = keep }
+    → IsStateKept films source settings counts (Playing setup (record play { pacer = pacer }))
+halting_kept films source settings counts setup play pacer keep kept pacing is = (
+  kept.0,
+  record {
+    pacing = pacing;
+    before = ap (λ (p : Pacing). p.before) is ∙ kept.1.before;
+    plan = ap (λ (p : Pacing). p.plan) is ∙ kept.1.plan;
+  },
+  λ stored at. record {
+    playable = (kept.2 stored at).playable;
+    pieces = ap (λ (p : Pacing). p.pieces) is ∙ (kept.2 stored at).pieces;
+  },
+)

@@ -1,0 +1,67 @@
+-- Laws of a session, in RFC 2326's words.
+use Rattle.std.specs.Prelude.{ℕ, ◌≡◌, ◌+◌, ◌%◌, ◌^◌, ◌⊎◌, ⊤, List, Option}
+use Rattle.rtp_pack.specs.declared.reports.Identity.{Identity}
+use Rattle.film_run.specs.declared.runs.Run.{Run}
+use Rattle.rtsp_text.specs.Replies.{Field, reply_text}
+use Rattle.session.specs.declared.asks.Ask.{Ask}
+use Rattle.session.specs.declared.asks.Ask.TheVariants.{Reply, Play as AskPlay, Halt as AskHalt, Look as AskLook, Offer as AskOffer}
+use Rattle.session.specs.declared.plans.Planned.{Planned}
+use Rattle.session.specs.declared.states.State.{State}
+use Rattle.session.specs.declared.states.State.TheVariants.{Init, Ready, Playing, Stopping}
+use Rattle.session.specs.Standings.{Standing, replied}
+
+-- the states of RFC 2326's server (appendix A.2); a play that was halted is over, also while its rest is sent
+pub data Stage : Type 0 where
+  InitStage : Stage
+  ReadyStage : Stage
+  PlayingStage : Stage
+
+abbrev pub stage_of : State → Stage
+stage_of Init = InitStage
+stage_of (Ready setup paused) = ReadyStage
+stage_of (Playing setup play) = PlayingStage
+stage_of (Stopping setup stop) = ReadyStage
+
+-- the state stays, or goes from one to another
+pub record Goes (from to : Stage) (old new : Standing) : Type 0 where
+  pub begins : stage_of old.state ≡ from
+  pub ends : stage_of new.state ≡ to
+
+abbrev pub StaysOr : Stage → Stage → Standing → Standing → Type 0
+StaysOr from to old new = (stage_of new.state ≡ stage_of old.state) ⊎ Goes from to old new
+
+-- a reply of 200
+pub record IsOk (text : List ℕ) : Type 0 where
+  pub sequence : Option ℕ
+  pub fields : List Field
+  pub body : List ℕ
+  pub text_is : text ≡ reply_text 200 sequence fields body
+
+-- a reply other than 200 leaves all but the reply
+abbrev pub LeavesOr : Standing → Standing → Type 0
+LeavesOr old new = IsOk new.text ⊎ (new ≡ replied old new.text)
+
+-- no halt is asked for
+abbrev pub IsNoHalt : Ask → Type 0
+IsNoHalt Reply = ⊤
+IsNoHalt (AskPlay plan) = ⊤
+IsNoHalt (AskHalt keep) = ⊥
+IsNoHalt (AskLook slot) = ⊤
+IsNoHalt (AskOffer plan offers) = ⊤
+
+-- the play and the slots are as they were
+pub record PlaysOn (old new : Standing) : Type 0 where
+  pub state : new.state ≡ old.state
+  pub heard : new.heard ≡ old.heard
+
+-- a run's identity goes on from what was sent before: the next frame's sequence number modulo 2^16, and the packets and octets
+-- that its reports count modulo 2^32 (RFC 3550 sections 5.1 and 6.4.1)
+pub record GoesOn (before after : Identity) (frames bytes : ℕ) : Type 0 where
+  pub number : after.sequence ≡ (before.sequence + frames) % 2 ^ 16
+  pub packets : after.packets ≡ (before.packets + frames) % 2 ^ 32
+  pub octets : after.octets ≡ (before.octets + bytes) % 2 ^ 32
+
+-- the play goes on in its run, from the byte after the last that was sent
+pub record Resumes (old : Standing) (paused : Run) (planned : Planned) : Type 0 where
+  pub run : planned.run ≡ paused
+  pub counts : planned.counts ≡ old.counts

@@ -1,0 +1,110 @@
+-- Which units a PLAY sends, and by which plan (RFC 2326 sections 10.5 and 12.29).
+use Rattle.std.specs.Prelude.{ℕ, ◌≡◌, ◌+◌, List, Option, Some, None}
+use Rattle.plan_cert.specs.declared.Segment.{Segment}
+use Rattle.plan_cert.specs.Slots.{total_bytes}
+use Rattle.mpeg_scan.specs.Rates.{picture_time}
+use Rattle.mpeg_scan.specs.declared.films.Film.{Film}
+use Rattle.wire_curve.specs.declared.film.CurveFault.TheVariants.{NoPictures, TooManySlots, BufferTooSmall}
+use Rattle.wire_curve.specs.declared.film.CurveRefused.{CurveRefused}
+use Rattle.wire_curve.specs.declared.film.CurveRefused.TheVariants.{Fault, NoMemory}
+use Rattle.film_frames.specs.declared.stores.Stored.{Stored}
+use Rattle.film_frames.specs.Tracks.{IsBoundary}
+use Rattle.film_frames.specs.Runs.{run_pieces}
+use Rattle.film_run.specs.declared.plans.Playback.{Playback}
+use Rattle.film_run.specs.declared.runs.Run.{Run}
+use Rattle.film_run.specs.Plans.{IsPlanOf}
+use Rattle.film_run.specs.Runs.{Fits, IsRun, bytes_between}
+use Rattle.film_run.specs.Seeks.{HasNothing, IsAsked}
+use Rattle.film_run.specs.Units.{stored_sizes}
+use Rattle.rtsp_fields.specs.Ranges.{IsSpan}
+use Rattle.rtsp_fields.specs.declared.ranges.Origin.{Origin}
+use Rattle.rtsp_fields.specs.declared.ranges.Origin.TheVariants.{Now, At}
+use Rattle.rtsp_fields.specs.declared.ranges.Span.{Span}
+use Rattle.session.specs.declared.refusals.Refusal.{Refusal}
+use Rattle.session.specs.declared.refusals.Refusal.TheVariants.{Buffer, Range, Memory}
+use Rattle.session.specs.declared.settings.Settings.{Settings}
+use Rattle.session.specs.declared.states.Counts.{Counts}
+use Rattle.session.specs.declared.states.Setup.{Setup}
+use Rattle.session.specs.declared.states.Source.{Source}
+use Rattle.session.specs.declared.wanted.Wanted.{Wanted}
+use Rattle.session.specs.declared.wanted.Wanted.TheVariants.{Resumed, New}
+use Rattle.session.specs.Films.{counts_after, sending_of}
+
+-- the span of play that a Range gives; from now on, where there is none
+abbrev pub IsSpanOf : Option (List ℕ) → Span → Type 0
+IsSpanOf None span = span ≡ record { from = Now; to = None }
+IsSpanOf (Some value) span = IsSpan value span
+
+-- a new run between two times
+abbrev pub IsNewRun : Film → ℕ → Option ℕ → Wanted → Type 0
+IsNewRun film from to (Resumed run) = ⊥
+IsNewRun film from to (New run) = IsAsked film from to run
+
+abbrev pub IsResumed : Run → Wanted → Type 0
+IsResumed paused (Resumed run) = run ≡ paused
+IsResumed paused (New run) = ⊥
+
+-- from now on a paused run is resumed, whatever its end; where none is paused, now is the film's beginning
+abbrev pub IsWanted : Film → Option Run → Origin → Option ℕ → Wanted → Type 0
+IsWanted film None Now to wanted = IsNewRun film 0 to wanted
+IsWanted film (Some paused) Now to wanted = IsResumed paused wanted
+IsWanted film None (At time) to wanted = IsNewRun film time to wanted
+IsWanted film (Some paused) (At time) to wanted = IsNewRun film time to wanted
+
+abbrev pub WantsNothing : Film → Option Run → Origin → Option ℕ → Type 0
+WantsNothing film None Now to = HasNothing film 0 to
+WantsNothing film (Some paused) Now to = ⊥
+WantsNothing film None (At time) to = HasNothing film time to
+WantsNothing film (Some paused) (At time) to = HasNothing film time to
+
+-- what a Range asks for, and a Range that has no meaning for the film
+pub record IsAskedRun (film : Film) (paused : Option Run) (range : Option (List ℕ)) (wanted : Wanted) : Type 0 where
+  pub span : Span
+  pub is_span : IsSpanOf range span
+  pub is_wanted : IsWanted film paused span.from span.to wanted
+
+abbrev pub IsNoRange : Film → Option Run → Option (List ℕ) → Type 0
+IsNoRange film paused range = (span : Span) → IsSpanOf range span → WantsNothing film paused span.from span.to
+
+abbrev pub run_of : Wanted → Run
+run_of (Resumed run) = run
+run_of (New run) = run
+
+-- what was sent before a new run: all that was, with what was sent of the run that was paused
+abbrev pub counts_before : Film → Source → Setup → Counts → Option Run → Counts
+counts_before film source setup counts None = counts
+counts_before film source setup counts (Some paused) = counts_after counts (sending_of film source setup counts paused) paused.sent
+
+abbrev pub counts_for : Film → Source → Setup → Counts → Option Run → Wanted → Counts
+counts_for film source setup counts paused (Resumed run) = counts
+counts_for film source setup counts paused (New run) = counts_before film source setup counts paused
+
+-- how a client plays a film, by what SETUP settled
+abbrev pub playback_of : Film → Settings → Setup → Playback
+playback_of film settings setup = record {
+  picture_units = picture_time film.rate;
+  slot_units = settings.slot_units;
+  buffer = setup.buffer;
+  delay = setup.delay;
+}
+
+-- a run of a film that can be sent on: what was sent of it ends at the end of a frame or of a report, and what of that isn't
+-- played fits in the client's buffer
+pub record IsRunOf (stored : Stored) (source : Source) (setup : Setup) (counts : Counts) (run : Run) : Type 0 where
+  pub run_is : IsRun (stored_sizes stored) run
+  pub fits : Fits setup.buffer run
+  pub boundary : IsBoundary (run_pieces (sending_of stored.film source setup counts run)) run.sent
+
+-- a run that can be sent on, with its plan
+pub record IsPlayable (stored : Stored) (source : Source) (settings : Settings) (setup : Setup) (counts : Counts) (run : Run)
+    (plan : List Segment) : Type 0 where
+  pub run_of : IsRunOf stored source setup counts run
+  pub plan_is : IsPlanOf (stored_sizes stored) (playback_of stored.film settings setup) run plan
+  pub bytes : run.sent + total_bytes plan ≡ bytes_between (stored_sizes stored) run.first_unit run.end_unit
+
+-- why a run has no plan
+abbrev pub curve_refusal : CurveRefused → Refusal
+curve_refusal (Fault NoPictures) = Range
+curve_refusal (Fault (TooManySlots slots)) = Range
+curve_refusal (Fault (BufferTooSmall slot used least)) = Buffer least
+curve_refusal NoMemory = Memory

@@ -1,0 +1,124 @@
+//! The films of a session, and what is sent of them.
+
+ghost use Rattle.std.specs.Prelude.{◌≡◌, ◌+◌, ◌*◌, ◌%◌, ◌^◌, ◌<◌, ◌≤◌, ℕ, true, length, string_bytes};
+ghost use Rattle.vod_base.specs.Names.{is_good_name};
+ghost use Rattle.mpeg_scan.specs.Rates.{picture_time};
+ghost use Rattle.film_frames.specs.Runs.{run_pieces};
+ghost use Rattle.film_frames.specs.Tracks.{framed};
+ghost use Rattle.film_run.specs.Runs.{bytes_between};
+ghost use Rattle.film_run.specs.Units.{stored_sizes};
+ghost use Rattle.session.specs.Films.{IsFilmAt, counts_after, identity_of, length_ms, ms_at, sending_of, timestamp_at};
+ghost use Rattle.session.specs.Ranges.{AreFilms};
+
+use crate::states::{Counts, Setup, Source};
+use film_frames::{Frames, Stored, law_piece_sizes};
+use film_run::Run;
+use mpeg_scan::{Film, law_film, picture_units};
+use rtp_pack::Identity;
+
+/// The film of that number, whose name is good.
+pub(crate) fn stored_at(films: &[Stored], film: usize) -> &Stored
+    requires films { AreFilms films.now }
+    requires within { film < length films.now }
+    ensures film { IsFilmAt films.now film result.now }
+    ensures good { is_good_name (string_bytes result.now.name) ≡ true }
+{
+    &films[film]
+}
+
+/// The time of a picture in 1/360,000 second.
+pub(crate) fn picture_time(film: &Film) -> u32
+    ensures time { result ≡ picture_time film.now.rate }
+    ensures some { 1 ≤ result }
+    ensures fits { result ≤ 360000 }
+{
+    law_film(film);
+    picture_units(film.rate)
+}
+
+/// The time at which a unit begins, in whole milliseconds.
+pub(crate) fn ms_at(film: &Film, unit: usize) -> u64
+    requires { unit ≤ 4194304 }
+    ensures { result ≡ ms_at film.now unit }
+{
+    unit as u64 * u64::from(picture_time(film)) / 360
+}
+
+/// How long a film is, in whole milliseconds.
+pub(crate) fn length_ms(film: &Film) -> u64
+    ensures { result ≡ length_ms film.now }
+{
+    law_film(film);
+    ms_at(film, film.units.len())
+}
+
+/// A sum modulo 2^16.
+#[tactic(auto, using(crate::proofs::Sums::sum_mod))]
+fn sum_16(one: u16, other: u32) -> u16
+    ensures { result ≡ (one + other) % 65536 }
+{
+    ((u32::from(one) + other % 65_536) % 65_536) as u16
+}
+
+/// A sum modulo 2^32.
+#[tactic(auto, using(crate::proofs::Sums::sum_mod))]
+fn sum_32(one: u32, other: u64) -> u32
+    ensures { result ≡ (one + other) % 4294967296 }
+{
+    ((u64::from(one) + other % 4_294_967_296) % 4_294_967_296) as u32
+}
+
+/// The timestamp of a unit, in 1/90,000 second.
+pub(crate) fn timestamp_at(film: &Film, source: Source, unit: usize) -> u32
+    requires { unit ≤ 4194304 }
+    ensures { result ≡ timestamp_at film.now source unit }
+{
+    sum_32(
+        source.timestamp,
+        unit as u64 * u64::from(picture_time(film)) / 4,
+    )
+}
+
+/// The identity of a run that begins after so many frames and octets (RFC 3550 section 5.1).
+pub(crate) fn identity_of(source: Source, setup: &Setup, counts: Counts) -> Identity
+    ensures { result ≡ identity_of source setup.now counts }
+{
+    Identity {
+        channel: setup.media,
+        control: setup.control,
+        ssrc: source.ssrc,
+        sequence: sum_16(source.sequence, counts.frames),
+        timestamp: source.timestamp,
+        packets: counts.frames,
+        octets: counts.octets,
+    }
+}
+
+/// The frames of a run that is sent after so many frames and octets.
+pub(crate) fn frames_of<'a>(
+    stored: &'a Stored,
+    source: Source,
+    setup: &Setup,
+    counts: Counts,
+    run: &Run,
+) -> Frames<'a>
+    requires order { run.now.first_unit < run.now.end_unit }
+    requires within { run.now.end_unit ≤ length (stored_sizes stored.now) }
+    ensures frames { result ≡ sending_of stored.now.film source setup.now counts run.now }
+    ensures bytes { length (framed (run_pieces result))
+        ≡ bytes_between (stored_sizes stored.now) run.now.first_unit run.now.end_unit }
+{
+    let identity = identity_of(source, setup, counts);
+    law_piece_sizes(&stored.film, run.first_unit, run.end_unit, identity);
+    Frames::new(stored, run.first_unit, run.end_unit, identity)
+}
+
+/// What the session has sent in all, where so many bytes of these frames were sent.
+pub(crate) fn counts_after(counts: Counts, frames: &Frames<'_>, sent: u64) -> Counts
+    ensures { result ≡ counts_after counts frames.now sent }
+{
+    Counts {
+        frames: sum_32(counts.frames, frames.frames_before(sent)),
+        octets: sum_32(counts.octets, frames.octets_before(sent)),
+    }
+}

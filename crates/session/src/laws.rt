@@ -1,0 +1,43 @@
+//! Laws of a session, in RFC 2326's words.
+
+ghost use Rattle.std.specs.Prelude.{◌≡◌, ℕ, List, Some, None};
+ghost use Rattle.film_frames.specs.declared.stores.Stored.{Stored};
+ghost use Rattle.film_frames.specs.Runs.{Run as Sending, frames_before, octets_before};
+ghost use Rattle.film_run.specs.declared.runs.Run.{Run};
+ghost use Rattle.session.specs.declared.asks.Ask.{Ask};
+ghost use Rattle.session.specs.declared.plans.Planned.{Planned};
+ghost use Rattle.session.specs.declared.states.Counts.{Counts};
+ghost use Rattle.session.specs.declared.states.Play.{Play as Played};
+ghost use Rattle.session.specs.declared.states.Setup.{Setup};
+ghost use Rattle.session.specs.declared.states.Source.{Source};
+ghost use Rattle.session.specs.declared.states.State.TheVariants.{Playing};
+ghost use Rattle.session.specs.Films.{counts_after, identity_of};
+ghost use Rattle.session.specs.Hearings.{Hears};
+ghost use Rattle.session.specs.Laws.{GoesOn, IsNoHalt, LeavesOr, PlaysOn, Resumes};
+ghost use Rattle.session.specs.Planning.{IsPlannedRun};
+ghost use Rattle.session.specs.Standings.{Standing};
+
+/// A reply other than 200 leaves all of the session but the reply (RFC 2326 section 7.1.1).
+pub fn law_refusal_leaves()
+    ensures { (old new : Standing) (message : List ℕ) → Hears old message Ask.Reply new → LeavesOr old new }
+{}
+
+/// A request in Playing that asks for no halt leaves the play.
+pub fn law_play_goes_on()
+    ensures { (old new : Standing) (message : List ℕ) (ask : Ask) (setup : Setup) (play : Played) → Hears old message ask new
+        → old.state ≡ Playing setup play → IsNoHalt ask → PlaysOn old new }
+{}
+
+/// What is sent after so many bytes of a run goes on from it: the next frame's sequence number modulo 2^16, and the packets
+/// and octets that reports count modulo 2^32 (RFC 3550 sections 5.1 and 6.4.1).
+pub fn law_numbers_go_on()
+    ensures { (source : Source) (setup : Setup) (counts : Counts) (sending : Sending) (bytes : ℕ)
+        → GoesOn (identity_of source setup counts) (identity_of source setup (counts_after counts sending bytes))
+        (frames_before sending bytes) (octets_before sending bytes) }
+{}
+
+/// A PLAY without a Range sends a paused run on, from the byte after the last that was sent (RFC 2326 section 10.5).
+pub fn law_resume_goes_on()
+    ensures { (old : Standing) (stored : Stored) (setup : Setup) (paused : Run) (planned : Planned)
+        → IsPlannedRun old stored setup (Some paused) None planned → Resumes old paused planned }
+{}
