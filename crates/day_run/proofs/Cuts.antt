@@ -1,0 +1,55 @@
+-- Texts that are cut at a byte, against their lines and words.
+use Rattle.std.proofs.Common.{◌≡◌, ◌≢◌, ◌<◌, ◌+◌, ◌-◌, ℕ, false, true, ◌==◌, cond, List, [], ◌∷◌, ◌++◌, All, length, map, arith, refl, sym, ap, ◌∙◌, ne_eqb, Bor}
+use Rattle.std.proofs.lemmas.Bool.{cond-true, cond-false}
+use Rattle.std.proofs.lemmas.List.{append-nil, append_assoc, length-append, map-append}
+use Rattle.std.proofs.lemmas.List.Elements.{All-head, All-tail}
+use Rattle.std.specs.List.{slice_split, onto_first}
+use Rattle.plan_cert.specs.Reading.{lines_of, IsCut}
+use Rattle.plan_cert.proofs.Grammar.{lines-cut, lines-none}
+use Rattle.day_run.specs.Lines.{is_space, lines_of_script, last_line, shown, without_return}
+
+words-front : (front after : List ℕ) → All (λ b. b ≢ 32) front → slice_split is_space (front ++ 32 ∷ after) ≡ front ∷ slice_split is_space after
+words-front [] after none = refl
+words-front (x ∷ front) after none =
+    let other : is_space x ≡ false = ne_eqb x 32 (All-head (λ b. b ≢ 32) x front none) in
+    cond-false (is_space x) ([] ∷ slice_split is_space (front ++ 32 ∷ after)) (onto_first x (slice_split is_space (front ++ 32 ∷ after))) other
+    ∙ ap (onto_first x) (words-front front after (All-tail (λ b. b ≢ 32) x front none))
+
+pub words-cut : (text front after : List ℕ) → IsCut 32 text front after → slice_split is_space text ≡ front ∷ slice_split is_space after
+words-cut text front after cut = ap (slice_split is_space) cut.text_is ∙ words-front front after cut.not_in_front
+
+pub words-none : (text : List ℕ) → All (λ b. b ≢ 32) text → slice_split is_space text ≡ text ∷ []
+words-none [] none = refl
+words-none (x ∷ text) none =
+    let other : is_space x ≡ false = ne_eqb x 32 (All-head (λ b. b ≢ 32) x text none) in
+    cond-false (is_space x) ([] ∷ slice_split is_space text) (onto_first x (slice_split is_space text)) other
+    ∙ ap (onto_first x) (words-none text (All-tail (λ b. b ≢ 32) x text none))
+
+pub cut-shorter : (c : ℕ) (text front after : List ℕ) → IsCut c text front after → length after < length text
+cut-shorter c text front after cut = omega (arith, ap length cut.text_is, length-append front (c ∷ after))
+
+pub script-cut : (text front after : List ℕ) → IsCut 10 text front after → lines_of_script text ≡ without_return front ∷ lines_of_script after
+script-cut text front after cut =
+    ap (λ ls. map without_return ls.whole ++ last_line ls.rest) (ap lines_of cut.text_is ∙ lines-cut front after cut.not_in_front)
+
+pub script-last : (c : ℕ) (text : List ℕ) → All (λ b. b ≢ 10) (c ∷ text) → lines_of_script (c ∷ text) ≡ (c ∷ text) ∷ []
+script-last c text none = ap (λ ls. map without_return ls.whole ++ last_line ls.rest) (lines-none (c ∷ text) none)
+
+pub script-rest : (text : List ℕ) → text ≢ [] → All (λ b. b ≢ 10) text → lines_of_script text ≡ text ∷ lines_of_script []
+script-rest [] some none = absurd (some refl)
+script-rest (c ∷ text) some none = script-last c text none
+
+-- one more word was put after those before
+pub words-more : (before after : List (Bor (List ℕ))) (word : Bor (List ℕ)) (rest next : List ℕ) (whole : List (List ℕ)) → after ≡ before ++ word ∷ []
+    → IsCut 32 rest word.now next → shown before ++ slice_split is_space rest ≡ whole → shown after ++ slice_split is_space next ≡ whole
+words-more before after word rest next whole e cut h =
+    ap (λ ws. shown ws ++ slice_split is_space next) e
+    ∙ ap (λ ws. ws ++ slice_split is_space next) (map-append (λ (text : Bor (List ℕ)). text.now) before (word ∷ []))
+    ∙ append_assoc (shown before) (word.now ∷ []) (slice_split is_space next)
+    ∙ ap (λ ws. shown before ++ ws) (sym (words-cut rest word.now next cut)) ∙ h
+
+pub words-last : (before after : List (Bor (List ℕ))) (word : Bor (List ℕ)) (whole : List (List ℕ)) → after ≡ before ++ word ∷ []
+    → All (λ b. b ≢ 32) word.now → shown before ++ slice_split is_space word.now ≡ whole → shown after ≡ whole
+words-last before after word whole e none h =
+    ap shown e ∙ map-append (λ (text : Bor (List ℕ)). text.now) before (word ∷ [])
+    ∙ ap (λ ws. shown before ++ ws) (sym (words-none word.now none)) ∙ h

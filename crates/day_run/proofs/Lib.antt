@@ -1,0 +1,13 @@
+pub mod Cuts
+pub mod Quiet
+pub mod ReadLines
+pub mod ScriptLines
+pub mod Bookings
+pub mod Pausing
+pub mod DaySteps
+pub mod Idles
+pub mod TraceReels
+pub mod SlotSums
+pub mod Drawn
+pub mod TriedTexts
+pub mod TextSteps

@@ -1,0 +1,79 @@
+-- What a pause keeps of a play.
+use Rattle.std.proofs.Common.{◌≡◌, ◌^◌, ◌<◌, ◌≤◌, ◌+◌, ◌-◌, ◌&&◌, ◌==◌, ℕ, min, true, false, T, nat_lt, List, length, take, sum, Option, None, Some, arith, refl, sym, ap, subst, ◌∙◌, inl, inr}
+use Rattle.std.proofs.lemmas.Bool.{cases_lt, lt-ltb}
+use Rattle.std.proofs.Math.Dec.{eqb_refl}
+use Rattle.plan_cert.specs.declared.Segment.{Segment}
+use Rattle.plan_cert.specs.Plan.{IsPlan}
+use Rattle.plan_cert.specs.Slots.{plan_slots, sum_through, total_bytes, total_slots}
+use Rattle.plan_cert.proofs.SlotSums.{sum_through-past}
+use Rattle.film_frames.specs.Tracks.{IsBoundaryAfter}
+use Rattle.film_run.specs.declared.runs.Run.{Run}
+use Rattle.film_run.specs.Pauses.{IsHalt, IsLeft}
+use Rattle.film_run.specs.Runs.{Fits, IsRun}
+use Rattle.pacer.specs.Pacings.{IsPacing, Pacing, first_slots, is_done, slots_through, stepped}
+use Rattle.day_run.specs.declared.clients.Play.{Play}
+use Rattle.day_run.specs.declared.clients.Rest.{Rest}
+use Rattle.day_run.specs.declared.clients.Stop.{Stop}
+use Rattle.day_run.specs.Clients.{IsPlaying, IsRest, IsStopping}
+use Rattle.day_run.specs.Reels.{reel_pieces, reel_sizes}
+
+-- a slot was stepped, and what was due in it was sent
+pub playing-stepped : (slot : ℕ) (play : Play) (p : Pacing) → p ≡ stepped false slot play.pacer → IsPacing p → IsPlaying play → IsPlaying (record play { pacer = p })
+playing-stepped slot play p e pacing playing = record {
+  rest = playing.rest;
+  plan = playing.plan;
+  plan_is = ap (λ (q : Pacing). q.plan) e ∙ playing.plan_is;
+  pieces_are = ap (λ (q : Pacing). q.pieces) e ∙ playing.pieces_are;
+  before_is = ap (λ (q : Pacing). q.before) e ∙ playing.before_is;
+  whole = ap (λ (q : Pacing). q.keep) e ∙ playing.whole;
+  pacing = pacing;
+  all_sent = ap (λ (q : Pacing). q.sent) e ∙ sym (ap (λ (q : Pacing). q.due) e);
+}
+
+pub stopping-stepped : (slot : ℕ) (stop : Stop) (p : Pacing) → p ≡ stepped false slot stop.pacer → IsPacing p → IsStopping stop → IsStopping (record stop { pacer = p })
+stopping-stepped slot stop p e pacing stopping = record {
+  rest = stopping.rest;
+  keep_is = ap (λ (q : Pacing). q.keep) e ∙ stopping.keep_is;
+  pacing = pacing;
+  all_sent = ap (λ (q : Pacing). q.sent) e ∙ sym (ap (λ (q : Pacing). q.due) e);
+}
+
+-- no more is sent in a step than a plan has
+pub few-sent : (p old : Pacing) → IsPacing p → p.sent - old.sent ≤ 2 ^ 42
+few-sent p old pacing = omega (arith, pacing.sent, pacing.due, pacing.most, pacing.plan.few_bytes)
+
+undone-apart : (p : Pacing) → is_done p ≡ false → 0 < p.passed → p.sent ≡ p.keep → ⊥
+undone-apart p undone some same =
+    let e : (p.keep == p.keep) ≡ false =
+    ap (λ n. n == p.keep) (sym same) ∙ ap (λ b. b && (p.sent == p.keep)) (sym (lt-ltb 0 p.passed some)) ∙ undone in
+    subst T e (eqb_refl p.keep)
+
+-- the halt of a play that isn't done
+pub halts : (play : Play) (last : Option ℕ) (keep : ℕ) → IsPlaying play → is_done play.pacer ≡ false → slots_through last ≡ play.pacer.passed
+    → IsBoundaryAfter play.pacer.pieces (play.pacer.before + play.pacer.sent) (play.pacer.before + keep) → keep ≤ play.pacer.keep → IsHalt play.plan last keep
+halts play None keep playing undone passed boundary most =
+    let p = play.pacer in
+    let nothing : first_slots p.plan p.passed ≡ 0 = ap (first_slots p.plan) (sym passed) in
+    let sent : p.sent ≡ 0 = omega (arith, playing.all_sent, playing.pacing.due, nothing) in
+    let le : p.before + keep ≤ p.before = boundary.least p.before playing.pacing.begins (omega (arith, sent)) in
+    omega (arith, le)
+halts play (Some last) keep playing undone passed boundary most =
+    let p = play.pacer in
+    let due : p.due ≡ min (sum_through p.plan last) p.keep = playing.pacing.due ∙ ap (λ n. min (first_slots p.plan n) p.keep) (sym passed) in
+    let apart : p.sent ≡ p.keep → ⊥ = undone-apart p undone (omega (arith, passed)) in
+    let through : sum_through play.plan last ≡ p.sent =
+    ap (λ s. sum_through s last) (sym playing.plan_is) ∙ elim (cases_lt (sum_through p.plan last) p.keep) [
+      | inl below ↦ omega (arith, below, due, playing.all_sent)
+      | inr reached ↦ absurd (apart (omega (arith, reached, due, playing.all_sent)))
+    ] in
+    let P : List Segment → Type 0 = λ s. IsPlan s in
+    let plan : IsPlan play.plan = subst P playing.plan_is playing.pacing.plan in
+    let below : p.sent < p.keep = elim (cases_lt p.sent p.keep) [
+      | inl less ↦ less
+      | inr more ↦ absurd (apart (omega (arith, more, playing.pacing.sent, playing.pacing.due)))
+    ] in
+    let inside : last < total_slots play.plan = elim (cases_lt last (total_slots play.plan)) [
+      | inl within ↦ within
+      | inr past ↦ absurd (omega (arith, sum_through-past play.plan last plan (omega (arith, past)), through, below, playing.whole))
+    ] in
+    (inside, omega (arith, through, boundary.after), omega (arith, most, playing.whole))

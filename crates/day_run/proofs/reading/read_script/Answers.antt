@@ -1,0 +1,45 @@
+use Rattle.std.proofs.Common.{◌≡◌, ◌+◌, ◌≤◌, ◌∷◌, [], length, take, drop, Some, ◌∙◌, arith, sym, ap, inl, inr}
+use Rattle.std.proofs.lemmas.List.{length-drop, take_all}
+use Rattle.day_run.specs.Lines.{lines_of_script}
+use Rattle.day_run.specs.Readings.{lines_read, nothing_read, reading_of}
+use Rattle.day_run.proofs.ReadLines.{NextLine, next-line, read-next, bad-next}
+use Rattle.day_run.proofs.reading.read_script.Goals as goal
+
+pub returns-then-number-eq-MOST_LINES-clause-refused : goal.returns-then-number-eq-MOST_LINES-clause-refused
+returns-then-number-eq-MOST_LINES-clause-refused c =
+    let inv = c.loop-line.invariant in
+    let at : NextLine (lines_of_script c.args.text.now) c.loop-line.number c.in-Some.line.now (lines_of_script c.in-Some.next.now) =
+    next-line (lines_of_script c.args.text.now) c.loop-line.number c.in-Some.line.now (lines_of_script c.in-Some.next.now) (inv.left ∙ c.in-Some.ensures.some) in
+    bad-next c.args.text.now c.in-Some.line.now _ c.loop-line.number (reading_of c.loop-line.draft) at inv.few inv.read (inl (omega arith))
+
+pub returns-in-Ok-false-clause-refused : goal.returns-in-Ok-false-clause-refused
+returns-in-Ok-false-clause-refused c =
+    let inv = c.loop-line.invariant in
+    let at : NextLine (lines_of_script c.args.text.now) c.loop-line.number c.in-Some.line.now (lines_of_script c.in-Some.next.now) =
+    next-line (lines_of_script c.args.text.now) c.loop-line.number c.in-Some.line.now (lines_of_script c.in-Some.next.now) (inv.left ∙ c.in-Some.ensures.some) in
+    bad-next c.args.text.now c.in-Some.line.now _ c.loop-line.number (reading_of c.loop-line.draft) at inv.few inv.read (inr (rw c.in-Ok-false.field-0-test at c.in-Ok-false.ensures.taken))
+
+pub loop-line-preserved : goal.loop-line-preserved
+loop-line-preserved c =
+    let inv = c.loop-line.invariant in
+    let at : NextLine (lines_of_script c.args.text.now) c.loop-line.number c.in-Some.line.now (lines_of_script c.in-Some.next.now) =
+    next-line (lines_of_script c.args.text.now) c.loop-line.number c.in-Some.line.now (lines_of_script c.in-Some.next.now) (inv.left ∙ c.in-Some.ensures.some) in
+    record {
+      few = omega arith;
+      inside = at.inside;
+      left = at.left;
+      read = read-next c.args.text.now c.in-Some.line.now _ c.loop-line.number (reading_of c.loop-line.draft) (reading_of c.read.new.self) at inv.read (rw c.in-Ok-true.field-0-test at c.in-Ok-true.ensures.taken);
+      draft = c.in-Ok-true.ensures.draft c.in-Ok-true.field-0-test;
+    }
+
+pub returns-clause-script : goal.returns-clause-script
+returns-clause-script c =
+    let inv = c.loop-line.invariant in
+    let empty : lines_of_script c.loop-line.rest.now ≡ [] = ap lines_of_script c.in_default.ensures.none in
+    let gone : length (drop c.loop-line.number (lines_of_script c.args.text.now)) ≡ 0 = ap length (inv.left ∙ empty) in
+    let all : length (lines_of_script c.args.text.now) ≤ c.loop-line.number = omega (arith, gone, length-drop c.loop-line.number (lines_of_script c.args.text.now)) in
+    record {
+      few = omega (arith, inv.few, all);
+      slot = c.loop-line.draft.slot;
+      read = ap (lines_read nothing_read) (sym (take_all c.loop-line.number (lines_of_script c.args.text.now) all)) ∙ inv.read;
+    }

@@ -1,0 +1,37 @@
+use Rattle.std.proofs.Common.{◌≡◌, ◌<◌, ◌++◌, ◌∷◌, [], List, Option, IfSome, get_or, set, length, ap, refl, sym, subst, ◌∙◌, arith}
+use Rattle.admission.specs.declared.entries.Command.TheVariants.{Halt}
+use Rattle.admission.specs.declared.entries.Entry.{Entry}
+use Rattle.admission.specs.Books.{Journal}
+use Rattle.admission.specs.Histories.{state_after}
+use Rattle.day_run.specs.declared.clients.Client.{Client}
+use Rattle.day_run.specs.declared.clients.Client.TheVariants.{Idle}
+use Rattle.day_run.specs.declared.clients.Halt.{Halt as ClientHalt}
+use Rattle.day_run.specs.Clients.{AreBooked, IsHaltOf}
+use Rattle.day_run.proofs.Bookings.{booked-halt, going-set}
+use Rattle.day_run.proofs.DaySteps.{halted-now, open-halt}
+use Rattle.day_run.proofs.runners.end_play.Goals as goal
+
+pub returns-in-Some-clause-going : goal.returns-in-Some-clause-going
+returns-in-Some-clause-going c = going-set c.args.clients.now c.args.client Idle tt c.requires.going
+
+pub returns-in-Some-clause-booked : goal.returns-in-Some-clause-booked
+returns-in-Some-clause-booked c =
+    let xs = c.args.book.now.entries in
+    let cs = c.args.clients.now in
+    let halt = c.in-Some.halt in
+    let e : Entry = record { maker = c.args.client; command = Halt halt.number halt.keep; answer = c.halt-noted.result.answer } in
+    let y : c.halt-noted.new.self.entries ≡ xs ++ e ∷ [] = ap (λ (j : Journal). j.entries) c.halt-noted.ensures.noted.journal_is in
+    let H : Option ClientHalt → Type 0 = λ o. IfSome o (λ (h : ClientHalt). (none : Client) → IsHaltOf (get_or cs c.args.client none) h) in
+    let is = subst H c.in-Some.is c.requires.halt in
+    let its = open-halt xs c.args.client (get_or cs c.args.client Idle) halt (c.requires.going.each c.args.client Idle c.requires.inside)
+    (c.requires.booked.each c.args.client Idle c.requires.inside) (is Idle) in
+    let Y : List Entry → Type 0 = λ l. AreBooked l (set cs c.args.client Idle) in
+    subst Y (sym y) (booked-halt xs cs c.args.client Idle e halt.number halt.keep halt.keep refl its tt c.requires.booked)
+
+pub returns-in-Some-clause-now : goal.returns-in-Some-clause-now
+returns-in-Some-clause-now c =
+    let xs = c.args.book.now.entries in
+    let halt = c.in-Some.halt in
+    let e : Entry = record { maker = c.args.client; command = Halt halt.number halt.keep; answer = c.halt-noted.result.answer } in
+    let y : c.halt-noted.new.self.entries ≡ xs ++ e ∷ [] = ap (λ (j : Journal). j.entries) c.halt-noted.ensures.noted.journal_is in
+    ap (λ (l : List Entry). (state_after l).now) y ∙ halted-now xs e halt.number halt.keep refl

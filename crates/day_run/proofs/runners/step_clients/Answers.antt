@@ -1,0 +1,22 @@
+use Rattle.std.proofs.Common.{◌≡◌, ◌<◌, List, length, sym, subst, arith}
+use Rattle.admission.specs.declared.entries.Entry.{Entry}
+use Rattle.day_run.specs.declared.clients.Client.{Client}
+use Rattle.day_run.specs.Clients.{AreBooked, IsBooked}
+use Rattle.day_run.proofs.Bookings.{booked-same, going-set}
+use Rattle.day_run.proofs.runners.step_clients.Goals as goal
+
+pub loop-client-preserved : goal.loop-client-preserved
+loop-client-preserved c =
+    let inv = c.loop-client.invariant in
+    let cs = c.loop-client.clients in
+    let i = c.loop-client.client in
+    let old = c.index-clients-client.result in
+    let new = c.step-sent.new.self in
+    let inside : i < length cs = omega arith in
+    record {
+      going = going-set cs i new c.step-sent.ensures.going inv.going;
+      booked = λ (entries : List Entry) (begun : AreBooked entries c.args.clients.now).
+          let own = (inv.booked entries begun).each i old inside in
+          booked-same entries cs i new (c.step-sent.ensures.booked entries i own) (inv.booked entries begun);
+      few = omega (arith, inv.few, c.step-sent.ensures.few);
+    }

@@ -1,0 +1,11 @@
+use Rattle.std.proofs.Common.{◌≤◌, ◌*◌, ◌^◌, List}
+use Rattle.admission.specs.declared.entries.Entry.{Entry}
+use Rattle.day_run.specs.Clients.{AreBooked, AreGoing}
+use Rattle.day_run.proofs.runners.step_clients.Given as goal
+
+abbrev pub invariant-loop-client : goal.invariant-loop-client
+invariant-loop-client l = record {
+  going : AreGoing l.clients;
+  booked : (entries : List Entry) → AreBooked entries l.initial.clients → AreBooked entries l.clients;
+  few : l.sent ≤ l.client * 2 ^ 42;
+}

@@ -1,0 +1,13 @@
+use Rattle.std.proofs.Common.{◌++◌, codes}
+use Rattle.report.proofs.AppendLemmas.{both}
+use Rattle.day_run.specs.Prints.{slot_words, turn_words}
+use Rattle.day_run.proofs.TextSteps.{then_more}
+use Rattle.day_run.proofs.texts.push_fair.Goals as goal
+
+pub returns : goal.returns
+returns c =
+    let out = c.args.out.now.items in
+    let turns = turn_words c.args.counts.now c.args.made.now in
+    let slots = slot_words c.args.counts.now in
+    then_more c.push.result out (turns ++ slots) (codes "\n") c.push_slots.new.out.items c.push.new.out.items
+    (both out turns slots c.push_turns.new.out.items c.push_slots.new.out.items c.in_ok-push_turns.ensures c.in_ok-push_slots.ensures) c.push.ensures

@@ -1,0 +1,11 @@
+use Rattle.std.proofs.Common.{codes}
+use Rattle.report.specs.Fields.{field}
+use Rattle.day_run.specs.Prints.{made_words, turn_words}
+use Rattle.day_run.proofs.TextSteps.{then_more}
+use Rattle.day_run.proofs.texts.push_turns.Goals as goal
+
+pub returns : goal.returns
+unfolding turn_words
+returns c =
+    then_more c.push_made.result c.args.out.now.items (field (codes "fair turns=") c.args.counts.now.turns) (made_words c.args.made.now)
+    c.push_field.new.out.items c.push_made.new.out.items c.in_ok-push_field.ensures c.push_made.ensures

@@ -1,0 +1,10 @@
+pub mod Lines
+pub mod Sayings
+pub mod Readings
+pub mod Scripts
+pub mod Reels
+pub mod Sources
+pub mod Clients
+pub mod Runners
+pub mod Prints
+pub mod Fairs

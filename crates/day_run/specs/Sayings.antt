@@ -1,0 +1,73 @@
+-- What the words of a line say.
+use Rattle.std.specs.Prelude.{ℕ, ◌≤◌, ◌^◌, Bool, true, false, ◌&&◌, if◌then◌else◌, nat_le, List, [], ◌∷◌, codes, Option, Some, None, option_map}
+use Rattle.std.specs.Option.{option_and_then}
+use Rattle.std.specs.Str.{bytes_eq}
+use Rattle.vod_base.specs.Numbers.{number_of}
+use Rattle.day_run.specs.declared.sayings.Asked.{Asked}
+use Rattle.day_run.specs.declared.sayings.Saying.{Saying}
+use Rattle.day_run.specs.declared.sayings.Saying.TheVariants.{Play, Pause, Resume, Look, Slot, Offer}
+
+-- a number that is in a range
+abbrev pub in_range : ℕ → ℕ → Option ℕ → Option ℕ
+in_range least most None = None
+in_range least most (Some number) = if nat_le least number && nat_le number most then Some number else None
+
+-- the number that a word writes, where it is in a range
+abbrev pub number_in : ℕ → ℕ → List ℕ → Option ℕ
+number_in least most word = in_range least most (number_of word)
+
+abbrev pub client_in : List ℕ → Option ℕ
+client_in word = number_in 0 255 word
+
+-- whether a film is meant, or a trace
+abbrev pub film_in : List ℕ → Option Bool
+film_in word = if bytes_eq word (codes "film") then Some true else (if bytes_eq word (codes "trace") then Some false else None)
+
+-- a client, `film` or `trace`, a buffer and a start delay; the name is read where it is noted
+abbrev pub asked_in : List ℕ → List ℕ → List ℕ → List ℕ → Option Asked
+asked_in client kind buffer delay =
+    option_and_then (λ c. option_and_then (λ f. option_and_then (λ b. option_map (λ d.
+    record { client = c; film = f; buffer = b; delay = d })
+    (number_in 0 10000 delay)) (number_in 1 (2 ^ 42) buffer)) (film_in kind)) (client_in client)
+
+-- the lines of two words
+abbrev pub pair_in : List ℕ → List ℕ → Option Saying
+pair_in verb word =
+    if bytes_eq verb (codes "pause") then option_map Pause (client_in word)
+    else (if bytes_eq verb (codes "resume") then option_map Resume (client_in word)
+    else (if bytes_eq verb (codes "look") then option_map Look (number_in 0 (2 ^ 62) word)
+    else (if bytes_eq verb (codes "slot") then option_map Slot (number_in 1 (2 ^ 62) word)
+    else None)))
+
+-- the lines of six words, and those of seven
+abbrev pub play_in : List ℕ → Option Asked → Option Saying
+play_in verb asked = if bytes_eq verb (codes "play") then option_map Play asked else None
+
+abbrev pub offer_in : List ℕ → Option Asked → List ℕ → Option Saying
+offer_in verb asked wait =
+    if bytes_eq verb (codes "offer")
+    then option_and_then (λ a. option_map (Offer a) (number_in 0 255 wait)) asked
+    else None
+
+-- what a line of these words says; None where it says nothing
+abbrev pub saying_in : List (List ℕ) → Option Saying
+saying_in (verb ∷ word ∷ []) = pair_in verb word
+saying_in (verb ∷ client ∷ kind ∷ name ∷ buffer ∷ delay ∷ []) =
+    play_in verb (asked_in client kind buffer delay)
+saying_in (verb ∷ client ∷ kind ∷ name ∷ buffer ∷ delay ∷ wait ∷ []) =
+    offer_in verb (asked_in client kind buffer delay) wait
+saying_in _ = None
+
+-- what is asked for is in its ranges
+pub record IsAskedInRange (asked : Asked) : Type 0 where
+  pub some_buffer : 1 ≤ asked.buffer
+  pub buffer_fits : asked.buffer ≤ 2 ^ 42
+  pub delay_fits : asked.delay ≤ 10000
+
+abbrev pub IsInRange : Saying → Type 0
+IsInRange (Play asked) = IsAskedInRange asked
+IsInRange (Pause client) = Unit {0}
+IsInRange (Resume client) = Unit {0}
+IsInRange (Look slot) = Unit {0}
+IsInRange (Slot slot) = slot ≤ 2 ^ 62
+IsInRange (Offer asked wait) = IsAskedInRange asked × (wait ≤ 255)

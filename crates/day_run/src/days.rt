@@ -1,0 +1,170 @@
+//! Scripts, run from their first line to the day's end.
+
+ghost use Rattle.std.specs.Prelude.{◌≡◌, ◌^◌, ◌≤◌, ◌<◌, length, IfOk, OnOk};
+ghost use Rattle.admission.specs.Histories.{IsLegal};
+ghost use Rattle.day_run.specs.Runners.{IsKept, IsRunner};
+ghost use Rattle.day_run.specs.Scripts.{AreLines, StandsAfter, slot_after};
+ghost use Rattle.day_run.specs.Sources.{AreSources};
+
+use crate::reels::Source;
+use crate::runners::{Runner, Told};
+use crate::scripts::{Line, Script};
+use crate::sources::reels_of;
+use crate::texts::{push_fault, push_full, push_offer, push_slot, push_state};
+use admission::{Book, Entry};
+use report::{calendar_text, entry_line, law_kinds};
+use slot_calendar::Profile;
+use std::alloc::Global;
+use vod_base::NoMemory;
+
+/// What a day leaves.
+#[derive(Drop)]
+pub struct Day {
+    /// What it printed.
+    pub text: Vec<u8>,
+    /// Its journal.
+    pub journal: Vec<Entry>,
+}
+
+/// Prints the entries of a journal from a place on.
+fn print_entries(book: &Book, from: usize, text: &mut Vec<u8>) -> Result<(), NoMemory> {
+    let entries = book.entries();
+    law_kinds(book.calendar().profile(), entries);
+    for place in from..entries.len() {
+        entry_line(place as u64, &entries[place], text)?;
+    }
+    Ok(())
+}
+
+/// Prints what a client was told.
+fn print_told(book: &Book, told: Told, text: &mut Vec<u8>) -> Result<(), NoMemory> {
+    match told {
+        Told::Entry(place) => print_entries(book, place as usize, text),
+        Told::Full(full) => push_full(text, full),
+        Told::State => push_state(text),
+        Told::Fault(fault) => push_fault(text, fault),
+    }
+}
+
+/// Runs a `slot` line.
+fn run_slot(runner: &mut Runner<'_>, slot: u64, text: &mut Vec<u8>) -> Result<(), NoMemory>
+    requires runner { IsRunner runner.old }
+    requires later { runner.old.heard < slot }
+    requires small { slot ≤ 2 ^ 62 }
+    ensures runner { OnOk result (IsRunner runner.new) }
+    ensures kept { OnOk result (IsKept runner.old runner.new) }
+    ensures heard { OnOk result (runner.new.heard ≡ slot) }
+{
+    let from = runner.book.entries().len();
+    let passed = runner.slot(slot);
+    push_slot(text, slot, passed.sent, passed.booked)?;
+    print_entries(&runner.book, from, text)
+}
+
+/// Runs a line.
+fn run_line(
+    alloc: Global,
+    runner: &mut Runner<'_>,
+    line: Line,
+    text: &mut Vec<u8>,
+) -> Result<(), NoMemory>
+    requires runner { IsRunner runner.old }
+    requires line { StandsAfter runner.old.heard (length runner.old.reels.now) line }
+    ensures runner { OnOk result (IsRunner runner.new) }
+    ensures kept { OnOk result (IsKept runner.old runner.new) }
+    ensures heard { OnOk result (runner.new.heard ≡ slot_after runner.old.heard line) }
+{
+    let told = match line {
+        Line::Play {
+            client,
+            source,
+            buffer,
+            delay,
+        } => runner.play(alloc, client, source, buffer, delay)?,
+        Line::Pause(client) => runner.pause(client),
+        Line::Resume(client) => runner.resume(alloc, client)?,
+        Line::Look(slot) => runner.look(slot),
+        Line::Slot(slot) => return run_slot(runner, slot, text),
+        Line::Offer {
+            client: _,
+            source,
+            buffer,
+            delay,
+            wait,
+        } => match runner.offer(alloc, source, buffer, delay, wait)? {
+            Ok(offers) => return push_offer(text, &offers),
+            Err(fault) => Told::Fault(fault),
+        },
+    };
+    print_told(&runner.book, told, text)
+}
+
+/// Ends a day.
+fn run_end(runner: &mut Runner<'_>, text: &mut Vec<u8>) -> Result<(), NoMemory>
+    requires { IsRunner runner.old }
+    ensures { OnOk result (IsKept runner.old runner.new) }
+{
+    let from = runner.book.entries().len();
+    runner.end();
+    print_entries(&runner.book, from, text)?;
+    calendar_text(runner.book.calendar(), text)
+}
+
+/// Runs the lines of a script.
+fn run_lines(
+    alloc: Global,
+    runner: &mut Runner<'_>,
+    lines: &[Line],
+    text: &mut Vec<u8>,
+) -> Result<(), NoMemory>
+    requires runner { IsRunner runner.old }
+    requires begun { runner.old.heard ≡ 0 }
+    requires lines { AreLines (length runner.old.reels.now) lines.now }
+    ensures runner { OnOk result (IsRunner runner.new) }
+    ensures kept { OnOk result (IsKept runner.old runner.new) }
+{
+    for line in lines {
+        run_line(alloc, runner, *line, text)?;
+    }
+    Ok(())
+}
+
+/// Runs a script on a link of this capacity, whose journal has room for `limit` entries, 2 to 1,048,576, in slots of
+/// `slot_units`, 1 to 360,000, in 1/360,000 s. The sources are those that the script names, in order.
+///
+/// # Errors
+///
+/// [`NoMemory`] alone.
+pub fn run_script(
+    alloc: Global,
+    script: &Script,
+    sources: &[Source],
+    profile: Profile,
+    limit: u64,
+    slot_units: u32,
+) -> Result<Day, NoMemory>
+    requires some { 2 ≤ limit }
+    requires few { limit ≤ 1048576 }
+    requires some_slot_units { 1 ≤ slot_units }
+    requires slot_units_fit { slot_units ≤ 360000 }
+    requires sources { AreSources sources.now }
+    requires lines { AreLines (length sources.now) script.now.lines.items }
+    ensures legal { IfOk result (λ day. IsLegal profile day.journal.items) }
+{
+    let reels = reels_of(alloc, sources)?;
+    let mut runner = Runner::new(alloc, &reels, profile, limit, slot_units)?;
+    let mut text = Vec::new(alloc);
+    run_lines(alloc, &mut runner, &script.lines, &mut text)?;
+    run_end(&mut runner, &mut text)?;
+    let Runner {
+        reels: _,
+        slot_units: _,
+        book,
+        clients: _,
+        heard: _,
+    } = runner;
+    Ok(Day {
+        text,
+        journal: book.into_entries(),
+    })
+}

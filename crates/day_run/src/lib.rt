@@ -1,0 +1,26 @@
+//! A link's day on one thread: scripts of plays, pauses, resumes, looks, offers and slots, run against one calendar.
+#![tactic(auto)]
+
+mod clients;
+mod counts;
+mod days;
+mod drains;
+mod fairs;
+mod reading;
+mod reels;
+mod rolls;
+mod runners;
+mod sayings;
+mod scripts;
+mod sources;
+mod splits;
+mod texts;
+
+pub use days::{Day, run_script};
+pub use fairs::fair;
+pub use reading::read_script;
+pub use reels::Source;
+pub use scripts::{Line, Named, Script, ScriptRefused};
+
+#[cfg(test)]
+mod tests;

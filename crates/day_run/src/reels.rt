@@ -1,0 +1,139 @@
+//! What the plays of a day send: films and traces, unit by unit, and as tracks.
+
+ghost use Rattle.std.specs.Prelude.{◌≡◌, ◌^◌, ◌≤◌, ◌<◌, length, sum, IfOk};
+ghost use Rattle.film_frames.specs.Tracks.{framed};
+ghost use Rattle.film_run.specs.Units.{IsTrace};
+ghost use Rattle.day_run.specs.Reels.{reel_pieces, reel_sizes, sending_pieces};
+
+use crate::rolls::Rolled;
+use film_frames::{Frames, Part, Stored, TraceTrack, Track, law_piece_sizes};
+use film_run::{Trace, Units};
+use mpeg_scan::{law_film, picture_units};
+use rtp_pack::Identity;
+use std::alloc::Global;
+use vod_base::NoMemory;
+
+/// A film or a trace that a script names.
+#[derive(Drop)]
+pub enum Source {
+    /// A film.
+    Film(Stored),
+    /// The sizes of a trace's pictures in bytes, one picture a slot.
+    Trace(Vec<u64>),
+}
+
+/// The identity of what is sent: nobody hears it.
+const NOBODY: Identity = Identity {
+    channel: 0,
+    control: 0,
+    ssrc: 0,
+    sequence: 0,
+    timestamp: 0,
+    packets: 0,
+    octets: 0,
+};
+
+/// A source as it is played.
+#[derive(Drop)]
+pub(crate) enum Reel<'s> {
+    Film(&'s Stored),
+    Trace(Rolled<'s>),
+}
+
+/// All of a source as a track.
+#[derive(Drop)]
+pub(crate) enum Sending<'r> {
+    Film(Frames<'r>),
+    Trace(&'r TraceTrack),
+}
+
+impl<'s> Reel<'s> {
+    /// A trace as it is played.
+    pub(crate) fn trace(alloc: Global, sizes: &'s [u64]) -> Result<Reel<'s>, NoMemory>
+        requires { IsTrace sizes.now }
+        ensures { IfOk result (λ reel. reel_sizes reel ≡ sizes.now) }
+    {
+        let track = TraceTrack::new(Vec::from_slice(alloc, sizes)?)?;
+        let sizes = Trace::new(sizes);
+        Ok(Reel::Trace(Rolled { sizes, track }))
+    }
+
+    /// The time of a picture in 1/360,000 second; a trace has one picture a slot.
+    pub(crate) fn picture_units(&self, slot_units: u32) -> u32
+        requires some { 1 ≤ slot_units }
+        requires fits { slot_units ≤ 360000 }
+        ensures some { 1 ≤ result }
+        ensures fits { result ≤ 360000 }
+    {
+        match self {
+            Reel::Film(stored) => {
+                law_film(&stored.film);
+                picture_units(stored.film.rate)
+            }
+            Reel::Trace(_) => slot_units,
+        }
+    }
+
+    /// All of it as a track.
+    pub(crate) fn sending(&self) -> Sending<'_>
+        requires { 0 < length (reel_sizes self.now) }
+        ensures pieces { sending_pieces result ≡ reel_pieces self.now }
+        ensures all { length (framed (reel_pieces self.now)) ≡ sum (reel_sizes self.now) }
+    {
+        match self {
+            Reel::Film(stored) => {
+                let end = stored.film.units.len();
+                law_piece_sizes(&stored.film, 0, end, NOBODY);
+                Sending::Film(Frames::new(stored, 0, end, NOBODY))
+            }
+            Reel::Trace(rolled) => Sending::Trace(&rolled.track),
+        }
+    }
+}
+
+impl Units for Reel<'_> {
+    ghost use Rattle.day_run.specs.Reels.{reel_sizes};
+
+    ghost sizes = { reel_sizes };
+
+    fn count(&self) -> usize {
+        match self {
+            Reel::Film(stored) => stored.count(),
+            Reel::Trace(rolled) => rolled.sizes.count(),
+        }
+    }
+
+    fn wire_size(&self, unit: usize) -> u64 {
+        match self {
+            Reel::Film(stored) => Units::wire_size(*stored, unit),
+            Reel::Trace(rolled) => rolled.sizes.wire_size(unit),
+        }
+    }
+}
+
+impl Track for Sending<'_> {
+    ghost use Rattle.day_run.specs.Reels.{sending_pieces};
+
+    ghost pieces = { sending_pieces };
+
+    fn total(&self) -> u64 {
+        match self {
+            Sending::Film(frames) => frames.total(),
+            Sending::Trace(track) => track.total(),
+        }
+    }
+
+    fn boundary_after(&self, at: u64) -> u64 {
+        match self {
+            Sending::Film(frames) => frames.boundary_after(at),
+            Sending::Trace(track) => track.boundary_after(at),
+        }
+    }
+
+    fn part(&self, at: u64, head: &mut [u8; 52]) -> Part<'_> {
+        match self {
+            Sending::Film(frames) => frames.part(at, head),
+            Sending::Trace(track) => track.part(at, head),
+        }
+    }
+}

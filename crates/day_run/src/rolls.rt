@@ -1,0 +1,12 @@
+ghost use Rattle.std.specs.Prelude.{◌≡◌};
+
+use film_frames::TraceTrack;
+use film_run::Trace;
+
+/// A trace with its track.
+#[derive(Drop)]
+pub(crate) struct Rolled<'s> {
+    pub(crate) sizes: Trace<'s>,
+    pub(crate) track: TraceTrack,
+    pub(crate) ghost same: { track ≡ sizes },
+}

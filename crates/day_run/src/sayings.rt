@@ -1,0 +1,153 @@
+//! What a line says.
+
+ghost use Rattle.std.specs.Prelude.{◌≡◌, ◌≤◌, ◌^◌, IfSome};
+ghost use Rattle.std.specs.Str.{bytes_eq};
+ghost use Rattle.vod_base.specs.Numbers.{number_of};
+ghost use Rattle.day_run.specs.Lines.{shown};
+ghost use Rattle.day_run.specs.Sayings.{IsAskedInRange, IsInRange, asked_in, film_in, number_in, client_in, pair_in, play_in, offer_in, saying_in};
+
+use vod_base::read_number;
+
+/// What a play or an offer asks for; its film or trace is the line's fourth word.
+#[derive(Clone, Copy, Debug, PartialEq, Eq)]
+pub(crate) struct Asked {
+    pub(crate) client: u8,
+    pub(crate) film: bool,
+    pub(crate) buffer: u64,
+    pub(crate) delay: u64,
+}
+
+/// What a line says.
+#[derive(Clone, Copy, Debug, PartialEq, Eq)]
+pub(crate) enum Saying {
+    Play(Asked),
+    Pause(u8),
+    Resume(u8),
+    Look(u64),
+    Slot(u64),
+    Offer(Asked, u64),
+}
+
+/// Whether a word is this text.
+fn is_text(word: &[u8], text: &[u8]) -> bool
+    ensures { result ≡ bytes_eq word.now text.now }
+{
+    word == text
+}
+
+/// The number that a word writes, from `least` to `most`.
+fn number_in(word: &[u8], least: u64, most: u64) -> Option<u64>
+    ensures number { result ≡ number_in least most word.now }
+    ensures range { IfSome result (λ number. (least ≤ number) × (number ≤ most)) }
+{
+    match read_number(word) {
+        Ok(number) if least <= number && number <= most => Some(number),
+        _ => None,
+    }
+}
+
+/// The client that a word names.
+fn client_in(word: &[u8]) -> Option<u8>
+    ensures { result ≡ client_in word.now }
+{
+    let number = number_in(word, 0, 255)?;
+    Some(number as u8)
+}
+
+/// Whether a word says `film`; it says nothing where it is neither that nor `trace`.
+fn film_in(word: &[u8]) -> Option<bool>
+    ensures { result ≡ film_in word.now }
+{
+    if is_text(word, b"film") {
+        Some(true)
+    } else if is_text(word, b"trace") {
+        Some(false)
+    } else {
+        None
+    }
+}
+
+/// What is asked for by the words after `play` or `offer` beside the name.
+fn asked_in(client: &[u8], kind: &[u8], buffer: &[u8], delay: &[u8]) -> Option<Asked>
+    ensures asked { result ≡ asked_in client.now kind.now buffer.now delay.now }
+    ensures range { IfSome result IsAskedInRange }
+{
+    let client = client_in(client)?;
+    let film = film_in(kind)?;
+    let buffer = number_in(buffer, 1, 1 << 42)?;
+    let delay = number_in(delay, 0, 10_000)?;
+    Some(Asked {
+        client,
+        film,
+        buffer,
+        delay,
+    })
+}
+
+/// What a line of two words says.
+fn pair_in(verb: &[u8], word: &[u8]) -> Option<Saying>
+    ensures saying { result ≡ pair_in verb.now word.now }
+    ensures range { IfSome result IsInRange }
+{
+    if is_text(verb, b"pause") {
+        let client = client_in(word)?;
+        return Some(Saying::Pause(client));
+    }
+    if is_text(verb, b"resume") {
+        let client = client_in(word)?;
+        return Some(Saying::Resume(client));
+    }
+    if is_text(verb, b"look") {
+        let slot = number_in(word, 0, 1 << 62)?;
+        return Some(Saying::Look(slot));
+    }
+    if is_text(verb, b"slot") {
+        let slot = number_in(word, 1, 1 << 62)?;
+        return Some(Saying::Slot(slot));
+    }
+    None
+}
+
+/// What a line of six words says.
+fn play_in(verb: &[u8], asked: Option<Asked>) -> Option<Saying>
+    requires { IfSome asked IsAskedInRange }
+    ensures saying { result ≡ play_in verb.now asked }
+    ensures range { IfSome result IsInRange }
+{
+    if !is_text(verb, b"play") {
+        return None;
+    }
+    let asked = asked?;
+    Some(Saying::Play(asked))
+}
+
+/// What a line of seven words says.
+fn offer_in(verb: &[u8], asked: Option<Asked>, wait: &[u8]) -> Option<Saying>
+    requires { IfSome asked IsAskedInRange }
+    ensures saying { result ≡ offer_in verb.now asked wait.now }
+    ensures range { IfSome result IsInRange }
+{
+    if !is_text(verb, b"offer") {
+        return None;
+    }
+    let asked = asked?;
+    let wait = number_in(wait, 0, 255)?;
+    Some(Saying::Offer(asked, wait))
+}
+
+/// What a line of these words says.
+pub(crate) fn saying_in(words: &[&[u8]]) -> Option<Saying>
+    ensures saying { result ≡ saying_in (shown words.now) }
+    ensures range { IfSome result IsInRange }
+{
+    match words {
+        [verb, word] => pair_in(verb, word),
+        [verb, client, kind, _, buffer, delay] => {
+            play_in(verb, asked_in(client, kind, buffer, delay))
+        }
+        [verb, client, kind, _, buffer, delay, wait] => {
+            offer_in(verb, asked_in(client, kind, buffer, delay), wait)
+        }
+        _ => None,
+    }
+}

@@ -1,0 +1,77 @@
+use std::error::Error;
+use std::fmt;
+
+/// A line of a script. Clients are 0 to 255.
+#[derive(Clone, Copy, Debug, PartialEq, Eq)]
+pub enum Line {
+    /// `play C film NAME B D` or `play C trace NAME B D`: a client asks for a play.
+    Play {
+        /// The client.
+        client: u8,
+        /// The place of the film or trace in the script's list of names.
+        source: usize,
+        /// The bytes that its buffer holds, 1 to 2^42.
+        buffer: u64,
+        /// The slots before the first picture is used, at most 10,000.
+        delay: u64,
+    },
+    /// `pause C`
+    Pause(u8),
+    /// `resume C`
+    Resume(u8),
+    /// `look T`: what is booked in a slot, at most 2^62.
+    Look(u64),
+    /// `slot T`: the link comes to a slot, from 1 to 2^62, later than that of each `slot` line before.
+    Slot(u64),
+    /// `offer C film NAME B D W` or `offer C trace NAME B D W`: from when on a play would be admitted.
+    Offer {
+        /// The client.
+        client: u8,
+        /// The place of the film or trace in the script's list of names.
+        source: usize,
+        /// The bytes that its buffer holds, 1 to 2^42.
+        buffer: u64,
+        /// The slots before the first picture is used, at most 10,000.
+        delay: u64,
+        /// How many slots later than the first one the play may start, at most 255.
+        wait: u64,
+    },
+}
+
+/// A film or trace that a script names.
+#[derive(Debug, Drop)]
+pub struct Named {
+    /// Whether it is named as a film; else it is named as a trace.
+    pub film: bool,
+    /// Its name, as of a file of the library.
+    pub name: String,
+}
+
+/// A script.
+#[derive(Debug, Drop)]
+pub struct Script {
+    /// Its lines that aren't empty, in order.
+    pub lines: Vec<Line>,
+    /// Each film and each trace that they name, once, in the order of the lines that name them first.
+    pub named: Vec<Named>,
+}
+
+/// Why a text isn't read as a script.
+#[derive(Clone, Copy, Debug, PartialEq, Eq)]
+pub enum ScriptRefused {
+    /// The first line, from 1, that is no line of a script, or comes after 1,000,000 others.
+    BadScript { line: u64 },
+    /// Want of memory.
+    NoMemory,
+}
+
+impl fmt::Display for ScriptRefused {
+    fn fmt<W: fmt::Write>(&self, f: &mut fmt::Formatter<W>) -> fmt::Result {
+        match self {
+            ScriptRefused::BadScript { line } => write!(f, "line {line} of the script is bad"),
+            ScriptRefused::NoMemory => f.write_str("no memory"),
+        }
+    }
+}
+
+impl Error for ScriptRefused {}

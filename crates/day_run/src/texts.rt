@@ -1,0 +1,188 @@
+//! The printed lines of a day that are no entries of the journal.
+
+ghost use Rattle.std.specs.Prelude.{◌≡◌, ◌++◌, OnOk, decimal, flat_map};
+ghost use Rattle.report.specs.Fields.{field};
+ghost use Rattle.day_run.specs.Prints.{fair_text, fault_text, fault_words, full_text, made_words, offer_text, slot_text, slot_words, start_words, state_text, sum_words, tried_text, turn_words};
+
+use crate::counts::{Counts, Made};
+use admission::Full;
+use early_start::{Offers, Tried};
+use itoa::Buffer;
+use vod_base::NoMemory;
+use wire_curve::CurveFault;
+
+/// Appends a text.
+fn push(out: &mut Vec<u8>, text: &[u8]) -> Result<(), NoMemory>
+    ensures { OnOk result (out.new.items ≡ out.old.items ++ text.now) }
+{
+    match out.extend_from_slice(text) {
+        Ok(()) => Ok(()),
+        Err(_) => Err(NoMemory),
+    }
+}
+
+/// Appends a number in decimal, without leading zeros.
+fn push_number(out: &mut Vec<u8>, number: u64) -> Result<(), NoMemory>
+    ensures { OnOk result (out.new.items ≡ out.old.items ++ (decimal number)) }
+{
+    push(out, Buffer::new().format(number).as_bytes())
+}
+
+#[tactic(auto, using(std::proofs::lemmas::List::append_assoc))]
+/// Appends a label and a number.
+fn push_field(out: &mut Vec<u8>, label: &[u8], number: u64) -> Result<(), NoMemory>
+    ensures { OnOk result (out.new.items ≡ out.old.items ++ (field label.now number)) }
+{
+    push(out, label)?;
+    push_number(out, number)
+}
+
+/// Appends the line of a client that can't be asked in its state.
+pub(crate) fn push_state(out: &mut Vec<u8>) -> Result<(), NoMemory>
+    ensures { OnOk result (out.new.items ≡ out.old.items ++ state_text) }
+{
+    push(out, b"refused state\n")
+}
+
+#[tactic(auto, using(std::proofs::lemmas::List::append_assoc))]
+/// Appends the name of the curves' refusal and its numbers.
+fn push_fault_words(out: &mut Vec<u8>, fault: CurveFault) -> Result<(), NoMemory>
+    ensures { OnOk result (out.new.items ≡ out.old.items ++ (fault_words fault)) }
+{
+    match fault {
+        CurveFault::NoPictures => push(out, b"refused NoPictures"),
+        CurveFault::TooManySlots { slots } => push_field(out, b"refused TooManySlots ", slots),
+        CurveFault::BufferTooSmall { slot, used, least } => {
+            push_field(out, b"refused BufferTooSmall ", slot)?;
+            push_field(out, b" ", used)?;
+            push_field(out, b" ", least)
+        }
+    }
+}
+
+#[tactic(auto, using(std::proofs::lemmas::List::append_assoc))]
+/// Appends the line of curves that are refused.
+pub(crate) fn push_fault(out: &mut Vec<u8>, fault: CurveFault) -> Result<(), NoMemory>
+    ensures { OnOk result (out.new.items ≡ out.old.items ++ (fault_text fault)) }
+{
+    push_fault_words(out, fault)?;
+    push(out, b"\n")
+}
+
+#[tactic(auto, using(std::proofs::lemmas::List::append_assoc))]
+/// Appends the line of a full journal.
+pub(crate) fn push_full(out: &mut Vec<u8>, full: Full) -> Result<(), NoMemory>
+    ensures { OnOk result (out.new.items ≡ out.old.items ++ (full_text full)) }
+{
+    push_field(out, b"refused journal entries=", full.entries)?;
+    push_field(out, b" open=", full.live)?;
+    push(out, b"\n")
+}
+
+#[tactic(auto, using(std::proofs::lemmas::List::append_assoc))]
+/// Appends the line of a slot.
+pub(crate) fn push_slot(
+    out: &mut Vec<u8>,
+    slot: u64,
+    sent: u64,
+    booked: u64,
+) -> Result<(), NoMemory>
+    ensures { OnOk result (out.new.items ≡ out.old.items ++ (slot_text slot sent booked)) }
+{
+    push_field(out, b"slot ", slot)?;
+    push_field(out, b" sent=", sent)?;
+    push_field(out, b" booked=", booked)?;
+    push(out, b"\n")
+}
+
+#[tactic(auto, using(std::proofs::lemmas::List::append_assoc))]
+/// Appends the line of a start that was tried in vain.
+fn push_tried(out: &mut Vec<u8>, tried: &Tried) -> Result<(), NoMemory>
+    ensures { OnOk result (out.new.items ≡ out.old.items ++ (tried_text tried.now)) }
+{
+    push_field(out, b"tried start=", tried.start)?;
+    push_field(out, b" slot=", tried.over.slot)?;
+    push_field(out, b" booked=", tried.over.booked)?;
+    push_field(out, b" asked=", tried.over.asked)?;
+    push(out, b"\n")
+}
+
+/// Appends the lines of the starts that were tried in vain.
+fn push_all_tried(out: &mut Vec<u8>, tried: &[Tried]) -> Result<(), NoMemory>
+    ensures { OnOk result (out.new.items ≡ out.old.items ++ (flat_map tried_text tried.now)) }
+{
+    for start in tried {
+        push_tried(out, start)?;
+    }
+    Ok(())
+}
+
+/// Appends what is offered.
+fn push_start(out: &mut Vec<u8>, start: Option<u64>) -> Result<(), NoMemory>
+    ensures { OnOk result (out.new.items ≡ out.old.items ++ (start_words start)) }
+{
+    match start {
+        Some(start) => push_field(out, b"offer start=", start),
+        None => push(out, b"offer none"),
+    }
+}
+
+#[tactic(auto, using(std::proofs::lemmas::List::append_assoc))]
+/// Appends the lines of an offer: one for each start that was tried in vain, and one for what is offered.
+pub(crate) fn push_offer(out: &mut Vec<u8>, offers: &Offers) -> Result<(), NoMemory>
+    ensures { OnOk result (out.new.items ≡ out.old.items ++ (offer_text offers.now)) }
+{
+    push_all_tried(out, offers.tried())?;
+    push_start(out, offers.start())?;
+    push_field(out, b" tried=", offers.tried().len() as u64)?;
+    push(out, b"\n")
+}
+
+#[tactic(auto, using(std::proofs::lemmas::List::append_assoc), unfolding(crate::specs::Prints::made_words))]
+/// Appends what was made in a fair.
+fn push_made(out: &mut Vec<u8>, made: &Made) -> Result<(), NoMemory>
+    ensures { OnOk result (out.new.items ≡ out.old.items ++ made_words made.now) }
+{
+    push_field(out, b" admitted=", made.admitted)?;
+    push_field(out, b" overflow=", made.overflows)?;
+    push_field(out, b" halted=", made.halted)
+}
+
+#[tactic(auto, using(std::proofs::lemmas::List::append_assoc), unfolding(crate::specs::Prints::sum_words))]
+/// Appends what a fair's slots brought.
+fn push_sums(out: &mut Vec<u8>, counts: &Counts) -> Result<(), NoMemory>
+    ensures { OnOk result (out.new.items ≡ out.old.items ++ sum_words counts.now) }
+{
+    push_field(out, b" sent=", counts.sent)?;
+    push_field(out, b" booked=", counts.booked)?;
+    push_field(out, b" peak=", counts.peak)
+}
+
+#[tactic(auto, using(std::proofs::lemmas::List::append_assoc), unfolding(crate::specs::Prints::turn_words))]
+/// Appends the turns of a fair and what was made in them.
+fn push_turns(out: &mut Vec<u8>, counts: &Counts, made: &Made) -> Result<(), NoMemory>
+    ensures { OnOk result (out.new.items ≡ out.old.items ++ turn_words counts.now made.now) }
+{
+    push_field(out, b"fair turns=", counts.turns)?;
+    push_made(out, made)
+}
+
+#[tactic(auto, using(std::proofs::lemmas::List::append_assoc), unfolding(crate::specs::Prints::slot_words))]
+/// Appends how often the journal was full, the last slot, and what the slots brought.
+fn push_slots(out: &mut Vec<u8>, counts: &Counts) -> Result<(), NoMemory>
+    ensures { OnOk result (out.new.items ≡ out.old.items ++ slot_words counts.now) }
+{
+    push_field(out, b" full=", counts.full)?;
+    push_field(out, b" last=", counts.last)?;
+    push_sums(out, counts)
+}
+
+#[tactic(auto, using(std::proofs::lemmas::List::append_assoc))]
+/// Appends the line of a fair.
+pub(crate) fn push_fair(out: &mut Vec<u8>, counts: &Counts, made: &Made) -> Result<(), NoMemory>
+    ensures { OnOk result (out.new.items ≡ out.old.items ++ fair_text counts.now made.now) }
+{
+    push_turns(out, counts, made)?;
+    push_slots(out, counts)?;
+    push(out, b"\n")
+}
