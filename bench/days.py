@@ -225,12 +225,14 @@ class Day:
 
     def settle(self, client):
         state = self.clients[client]
-        play = self.plays[state[1]]
-        if state[0] == "pausing" and play.sent(self.heard) == play.keep:
-            self.clients[client] = ("paused",) + state[1:]
+        if state[0] == "pausing":
+            play = self.plays[state[1]]
+            if play.sent(self.heard) == play.keep:
+                self.clients[client] = ("paused",) + state[1:]
 
     def to_slot(self, slot):
-        sent = sum(p.sent(slot) - p.sent(self.heard) for p in (self.plays[s[1]] for s in self.clients.values() if s[0] in ("playing", "pausing")))
+        under_way = [self.plays[state[1]] for state in self.clients.values() if state[0] in ("playing", "pausing")]
+        sent = sum(play.sent(slot) - play.sent(self.heard) for play in under_way)
         booked = sum(play.sent(slot) - play.sent(self.heard) for play in self.plays.values())
         if slot - self.heard < 50:
             assert booked == sum(self.booked(t) for t in range(self.heard + 1, slot + 1))
