@@ -11,3 +11,4 @@ pub mod Fronts
 pub mod HearingLaws
 pub mod Askings
 pub mod Numbers
+pub mod Moves

@@ -12,8 +12,8 @@ ghost use Rattle.session.specs.declared.states.Setup.{Setup};
 ghost use Rattle.session.specs.declared.states.Source.{Source};
 ghost use Rattle.session.specs.declared.states.State.TheVariants.{Playing};
 ghost use Rattle.session.specs.Films.{counts_after, identity_of};
-ghost use Rattle.session.specs.Hearings.{Hears};
-ghost use Rattle.session.specs.Laws.{GoesOn, IsNoHalt, LeavesOr, PlaysOn, Resumes};
+ghost use Rattle.session.specs.Hearings.{Hears, after_admission, after_halt};
+ghost use Rattle.session.specs.Laws.{GoesOn, InitStage, IsNoHalt, LeavesOr, PlayingStage, PlaysOn, ReadyStage, Resumes, StaysOr};
 ghost use Rattle.session.specs.Planning.{IsPlannedRun};
 ghost use Rattle.session.specs.Standings.{Standing};
 
@@ -40,4 +40,14 @@ pub fn law_numbers_go_on()
 pub fn law_resume_goes_on()
     ensures { (old : Standing) (stored : Stored) (setup : Setup) (paused : Run) (planned : Planned)
         → IsPlannedRun old stored setup (Some paused) None planned → Resumes old paused planned }
+{}
+
+/// The state moves only as RFC 2326 appendix A.2 has it: a request moves Init to Ready, an admission Ready to Playing, and a halt
+/// Playing to Ready.
+pub fn law_states()
+    ensures request { (old new : Standing) (message : List ℕ) (ask : Ask) → Hears old message ask new
+        → StaysOr InitStage ReadyStage old new }
+    ensures admission { (old : Standing) (place start : ℕ)
+        → StaysOr ReadyStage PlayingStage old (after_admission old place start) }
+    ensures halt { (old : Standing) (place : ℕ) → StaysOr PlayingStage ReadyStage old (after_halt old place) }
 {}

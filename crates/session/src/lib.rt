@@ -22,7 +22,9 @@ mod texts;
 mod wanted;
 
 pub use asks::{Ask, Slotted};
-pub use laws::{law_numbers_go_on, law_play_goes_on, law_refusal_leaves, law_resume_goes_on};
+pub use laws::{
+    law_numbers_go_on, law_play_goes_on, law_refusal_leaves, law_resume_goes_on, law_states,
+};
 pub use notes::{Notes, OfferNote, PlayNote, Receipt};
 pub use sessions::Session;
 pub use settings::Settings;
