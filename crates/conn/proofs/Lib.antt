@@ -1,8 +1,14 @@
 pub mod Agreeing
+pub mod Beginning
+pub mod Between
 pub mod Breaking
 pub mod Counting
 pub mod Cutting
+pub mod Filming
 pub mod Going
-pub mod Workers
+pub mod Playing
+pub mod Refusing
+pub mod Replying
 pub mod Sighting
 pub mod Taking
+pub mod Workers

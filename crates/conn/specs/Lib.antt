@@ -1,4 +1,5 @@
 pub mod Events
+pub mod Films
 pub mod Keeping
 pub mod Parts
 pub mod Rounds

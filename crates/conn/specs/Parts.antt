@@ -7,6 +7,7 @@ use Rattle.admission.specs.Makers.{Placed}
 use Rattle.film_frames.specs.declared.stores.Stored.{Stored}
 use Rattle.session.specs.declared.notes.Receipt.{Receipt}
 use Rattle.session.specs.declared.settings.Settings.{Settings}
+use Rattle.session.specs.Hearings.{new_standing}
 use Rattle.station.specs.Seats.{Sitting, IsSameSeat}
 use Rattle.conn.specs.declared.reports.ConnReport.{ConnReport}
 use Rattle.conn.specs.declared.reports.PartReport.{PartReport}
@@ -58,22 +59,22 @@ fresh_told None = None
 fresh_told (Some told) = Some []
 
 -- a connection that came back, and its report: what it tells is its course, and it failed only where its count rose
-pub record HasServedOne (returned : Returned) (report : ConnReport) (old new : Sitting) : Type 0 where
-  pub served : HasServedConnection (fresh_told returned.told) returned.told old new report
+pub record HasServedOne (films : List Stored) (settings : Settings) (returned : Returned) (report : ConnReport) (old new : Sitting) : Type 0 where
+  pub served : HasServedConnection (new_standing films settings report.words) (fresh_told returned.told) returned.told old new report
   pub fault : report.end ≡ LinkFault → HasRisen 0 returned.faults
 
 -- connections that came back, and their reports, one after another: each with its own
-abbrev pub AreServed : Sitting → List Returned → List ConnReport → Sitting → Type 0
-AreServed old [] [] new = new ≡ old
-AreServed old [] (report ∷ reports) new = ⊥
-AreServed old (returned ∷ back) [] new = ⊥
-AreServed old (returned ∷ back) (report ∷ reports) new =
-    (mid : Sitting) × (HasServedOne returned report old mid × AreServed mid back reports new)
+abbrev pub AreServed : List Stored → Settings → Sitting → List Returned → List ConnReport → Sitting → Type 0
+AreServed films settings old [] [] new = new ≡ old
+AreServed films settings old [] (report ∷ reports) new = ⊥
+AreServed films settings old (returned ∷ back) [] new = ⊥
+AreServed films settings old (returned ∷ back) (report ∷ reports) new =
+    (mid : Sitting) × (HasServedOne films settings returned report old mid × AreServed films settings mid back reports new)
 
 -- the same of what is told of the part
-abbrev pub AreTold : Option Content → List ConnReport → Sitting → Sitting → Type 0
-AreTold None reports old new = ⊤
-AreTold (Some content) reports old new = AreServed old content.own.back reports new
+abbrev pub AreTold : List Stored → Settings → Option Content → List ConnReport → Sitting → Sitting → Type 0
+AreTold films settings None reports old new = ⊤
+AreTold films settings (Some content) reports old new = AreServed films settings old content.own.back reports new
 
 -- a part of a gate: its count of faults, and what it tells
 pub record Outlet : Type 0 where
@@ -99,7 +100,7 @@ pub record HasServedPart (duty : Duty) (old_seat new_seat : Sitting) (old new : 
   pub entries : HasServed old_seat.mine result.reports.items new_seat.mine
   pub reports : AreOf duty.seed duty.worker result.reports.items
   pub served : IsServed old.told new.told (length result.reports.items)
-  pub connections : AreTold new.told result.reports.items old_seat new_seat
+  pub connections : AreTold duty.films duty.settings new.told result.reports.items old_seat new_seat
   -- a part failed only where its count rose; the last take is told
   pub count : old.faults ≤ new.faults
   pub all : result.end ≡ AllTaken → IfSome new.told (λ c. c.own.last ≡ NoMore)

@@ -1,28 +1,12 @@
 -- A connection from its first event to its report.
-use Rattle.std.specs.Prelude.{◌≡◌, ℕ, ◌⊎◌, true, false, List, [], ◌∷◌, length, Option, None}
+use Rattle.std.specs.Prelude.{◌≡◌, ◌⊎◌, List, [], ◌∷◌, Option}
 use Rattle.vod_base.specs.Links.{Doing}
-use Rattle.film_frames.specs.declared.stores.Stored.{Stored}
 use Rattle.station.specs.Seats.{Sitting}
-use Rattle.session.specs.declared.settings.Settings.{Settings}
-use Rattle.session.specs.Standings.{IsAtRest, Standing, open_of}
+use Rattle.session.specs.Standings.{Standing, open_of}
 use Rattle.conn.specs.Turns.{IsClosed, Outcome, stage}
 use Rattle.conn.specs.Sights.{AreNoted, HasCourse, Sight}
 use Rattle.conn.specs.declared.reports.ConnEnd.TheVariants.{NoMemory}
 use Rattle.conn.specs.declared.reports.ConnReport.{ConnReport}
-
--- a session that heard nothing yet
-pub record IsBegun (session : Standing) : Type 0 where
-  pub rest : IsAtRest session
-  pub closed : open_of session ≡ None
-  pub waits : session.waits ≡ false
-  pub tearing : session.tearing ≡ false
-  pub torn : session.torn ≡ false
-  pub lost : session.lost ≡ false
-  pub heard : session.heard ≡ 0
-  pub late : session.late ≡ 0
-  pub receipts : session.receipts ≡ []
-  pub plays : session.plays ≡ []
-  pub offers : session.offers ≡ []
 
 -- the report tells what the session noted
 pub record IsToldOf (session : Standing) (report : ConnReport) : Type 0 where
@@ -37,10 +21,8 @@ pub record HasClosed (old new : Standing) (old_seat new_seat : Sitting) : Type 0
   pub closes : IsClosed (open_of old) old halt new
   pub noted : AreNoted old_seat new_seat (halt ∷ [])
 
--- a connection with its course, and the halt of a booking that is open at its end
-pub record HasServedFrom (old_told new_told : Option (List Doing)) (old_seat new_seat : Sitting) (report : ConnReport) : Type 0 where
-  pub session : Standing
-  pub begins : IsBegun session
+-- a connection with its course, from a session that heard nothing yet, and the halt of a booking that is open at its end
+pub record HasServedFrom (session : Standing) (old_told new_told : Option (List Doing)) (old_seat new_seat : Sitting) (report : ConnReport) : Type 0 where
   pub ended : Sight
   pub course : HasCourse report.end (record { stage = stage session []; told = old_told; seat = old_seat }) ended
   pub closed : Standing
@@ -58,7 +40,7 @@ pub record HasDoneNothing (old_told new_told : Option (List Doing)) (old_seat ne
   pub late : report.late ≡ 0
   pub offers : report.offers.items ≡ []
 
--- what a connection's service is
-abbrev pub HasServedConnection : Option (List Doing) → Option (List Doing) → Sitting → Sitting → ConnReport → Type 0
-HasServedConnection old_told new_told old_seat new_seat report =
-    HasServedFrom old_told new_told old_seat new_seat report ⊎ HasDoneNothing old_told new_told old_seat new_seat report
+-- what a connection's service is, from a session on
+abbrev pub HasServedConnection : Standing → Option (List Doing) → Option (List Doing) → Sitting → Sitting → ConnReport → Type 0
+HasServedConnection session old_told new_told old_seat new_seat report =
+    HasServedFrom session old_told new_told old_seat new_seat report ⊎ HasDoneNothing old_told new_told old_seat new_seat report

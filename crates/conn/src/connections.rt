@@ -8,7 +8,8 @@ ghost use Rattle.session.specs.Standings.{AreFilms, AreSettings, CanKeep, IsAtRe
 ghost use Rattle.conn.specs.Keeping.{HasGone, IsHeld, IsQuiet, business};
 ghost use Rattle.conn.specs.Sights.{HasAnswered, HasAsked, HasBroken, HasComeTo, HasHalted, HasPassed, HasTakenUp, TakesNext, sight};
 ghost use Rattle.session.specs.declared.asks.Ask.{Ask};
-ghost use Rattle.conn.specs.Served.{HasClosed, IsBegun};
+ghost use Rattle.conn.specs.Served.{HasClosed};
+ghost use Rattle.session.specs.Hearings.{new_standing};
 ghost use Rattle.conn.specs.Events.{CutsOn, HasCounted, HasHeard, IsEndOf, IsTaken, IsTakenUp, end_in, with_heard};
 ghost use Rattle.vod_base.specs.Outside.{HasRisen};
 
@@ -42,7 +43,8 @@ impl<'a> Connection<'a> {
         requires settings { AreSettings settings.now }
         requires films { AreFilms films.now }
         ensures input { IfOk result (λ connection. connection.input ≡ []) }
-        ensures begun { IfOk result (λ connection. IsBegun connection.session) }
+        ensures exact { IfOk result
+            (λ connection. connection.session ≡ new_standing films.now settings.now words) }
         ensures booking { IfOk result (λ connection. connection.booking ≡ None) }
         ensures session { IfOk result (λ connection. IsAtRest connection.session) }
         ensures open { IfOk result (λ connection. open_of connection.session ≡ None) }
@@ -224,7 +226,8 @@ impl<'a> Connection<'a> {
         ensures seat { IsSameSeat seat.old seat.new }
         ensures quiet { IsQuiet seat.new.mine self.new }
         ensures gone { HasGone (business seat.old.mine self.old) (business seat.new.mine self.new) }
-        ensures heard { HasAsked self.old.session (take length self.old.input) self.new.session seat.old seat.new }
+        ensures heard { HasAsked self.old.session (take length self.old.input) self.new.session
+            seat.old seat.new }
         ensures input { self.new.input ≡ drop length self.old.input }
         ensures lost { self.new.session.lost ≡ self.old.session.lost }
     {
@@ -248,7 +251,8 @@ impl<'a> Connection<'a> {
         ensures seat { IsSameSeat seat.old seat.new }
         ensures quiet { IsQuiet seat.new.mine self.new }
         ensures gone { HasGone (business seat.old.mine self.old) (business seat.new.mine self.new) }
-        ensures answered { HasAnswered self.old.session (Ask.Play plan) self.new.session seat.old seat.new }
+        ensures answered { HasAnswered self.old.session (Ask.Play plan) self.new.session
+            seat.old seat.new }
         ensures input { self.new.input ≡ self.old.input }
         ensures lost { self.new.session.lost ≡ self.old.session.lost }
     {
@@ -304,7 +308,8 @@ impl<'a> Connection<'a> {
         ensures seat { IsSameSeat seat.old seat.new }
         ensures quiet { IsQuiet seat.new.mine self.new }
         ensures gone { HasGone (business seat.old.mine self.old) (business seat.new.mine self.new) }
-        ensures answered { HasAnswered self.old.session (Ask.Look slot) self.new.session seat.old seat.new }
+        ensures answered { HasAnswered self.old.session (Ask.Look slot) self.new.session
+            seat.old seat.new }
         ensures input { self.new.input ≡ self.old.input }
         ensures lost { self.new.session.lost ≡ self.old.session.lost }
     {
@@ -333,7 +338,8 @@ impl<'a> Connection<'a> {
         ensures seat { IsSameSeat seat.old seat.new }
         ensures quiet { IsQuiet seat.new.mine self.new }
         ensures gone { HasGone (business seat.old.mine self.old) (business seat.new.mine self.new) }
-        ensures answered { HasAnswered self.old.session (Ask.Offer plan offers) self.new.session seat.old seat.new }
+        ensures answered { HasAnswered self.old.session (Ask.Offer plan offers) self.new.session
+            seat.old seat.new }
         ensures input { self.new.input ≡ self.old.input }
         ensures lost { self.new.session.lost ≡ self.old.session.lost }
     {

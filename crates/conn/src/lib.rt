@@ -2,11 +2,15 @@
 #![tactic(auto)]
 
 mod connections;
+mod laws;
 mod parts;
 mod reports;
 mod serving;
 mod words;
 
+pub use laws::{
+    law_between_curves, law_count_by_plan, law_film_by_plan, law_play_begins, law_replies_between,
+};
 pub use parts::serve_part;
 pub use reports::{ConnEnd, ConnReport, PartEnd, PartReport};
 pub use serving::serve_connection;

@@ -76,7 +76,8 @@ fn serve_all<R: Wait, G: Gate>(
     ensures entries { HasServed seat.old.mine result.reports.items seat.new.mine }
     ensures reports { AreOf seed worker result.reports.items }
     ensures served { IsServed (G.told part.old) (G.told part.new) (length result.reports.items) }
-    ensures connections { AreTold (G.told part.new) result.reports.items seat.old seat.new }
+    ensures connections { AreTold films.now settings.now (G.told part.new) result.reports.items
+        seat.old seat.new }
     ensures count { G.faults part.old ≤ G.faults part.new }
     ensures all { result.end ≡ AllTaken → IfSome (G.told part.new) (λ c. c.own.last ≡ NoMore) }
     ensures fault { result.end ≡ GateFault → HasRisen (G.faults part.old) (G.faults part.new) }

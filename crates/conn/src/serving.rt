@@ -2,6 +2,7 @@
 
 ghost use Rattle.std.specs.Prelude.{◌≡◌, ◌≤◌, [], Some, false};
 ghost use Rattle.vod_base.specs.Outside.{HasRisen};
+ghost use Rattle.session.specs.Hearings.{new_standing};
 ghost use Rattle.session.specs.Standings.{AreFilms, AreSettings};
 ghost use Rattle.station.specs.Seats.{IsSameSeat};
 ghost use Rattle.conn.specs.declared.reports.ConnEnd.TheVariants.{LinkFault};
@@ -29,6 +30,9 @@ const MOST_EVENTS: u64 = 1 << 40;
 ///
 /// Bytes that come are cut into requests, which a session answers; plays are booked with the station, and what is due is sent
 /// as slots begin. An open booking is halted at the end, whatever ends the connection.
+///
+/// What the link tells is the connection's course, event by event: what was sent in its slot, the halt of a play that is then
+/// done, and each request that was taken up with the station's answer and the reply. The report tells what was noted on the way.
 #[allow(clippy::too_many_arguments)]
 pub fn serve_connection<R: Wait, K: Link>(
     rt: &R,
@@ -47,7 +51,8 @@ pub fn serve_connection<R: Wait, K: Link>(
     ensures seat { IsSameSeat seat.old seat.new }
     ensures worker { result.worker ≡ worker }
     ensures words { result.words ≡ words }
-    ensures served { HasServedConnection (K.told link.old) (K.told link.new) seat.old seat.new result }
+    ensures served { HasServedConnection (new_standing films.now settings.now words)
+        (K.told link.old) (K.told link.new) seat.old seat.new result }
     ensures count { K.faults link.old ≤ K.faults link.new }
     ensures fault { result.end ≡ LinkFault → HasRisen (K.faults link.old) (K.faults link.new) }
     ensures entries { HasGone (at_rest seat.old.mine []) (at_rest seat.new.mine result.receipts.items) }

@@ -10,4 +10,4 @@ invariant-connections g l =
     × AreOf l.seed l.worker l.reports.items
     × IsServed (g.G.Gate.told l.initial.part) (g.G.Gate.told l.part) (length l.reports.items)
     × (g.G.Gate.faults l.initial.part ≤ g.G.Gate.faults l.part)
-    × AreTold (g.G.Gate.told l.part) l.reports.items l.initial.seat l.seat
+    × AreTold l.films l.settings (g.G.Gate.told l.part) l.reports.items l.initial.seat l.seat

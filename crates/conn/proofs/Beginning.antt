@@ -1,0 +1,73 @@
+-- Lemmas on a play that begins.
+use Rattle.std.proofs.Common.{◌≡◌, ℕ, ◌+◌, ◌-◌, ◌<◌, ◌≤◌, min, [], take, drop, refl, ap, sym, ◌∙◌, subst, arith}
+use Rattle.film_frames.specs.Runs.{run_pieces}
+use Rattle.film_frames.specs.Tracks.{framed}
+use Rattle.pacer.specs.Pacings.{IsPacing, Pacing, first_slots, whole_pacing}
+use Rattle.plan_cert.specs.Slots.{total_bytes}
+use Rattle.admission.specs.declared.entries.Answer.TheVariants.{Admitted}
+use Rattle.admission.specs.Makers.{Placed}
+use Rattle.session.specs.declared.states.Awaited.{Awaited}
+use Rattle.session.specs.declared.states.Awaited.TheVariants.{Play}
+use Rattle.session.specs.declared.states.Play.{Play as Played}
+use Rattle.session.specs.declared.states.Prepared.{Prepared}
+use Rattle.session.specs.declared.states.Setup.{Setup}
+use Rattle.session.specs.declared.states.State.{State}
+use Rattle.session.specs.declared.states.State.TheVariants.{Init, Playing, Ready, Stopping}
+use Rattle.session.specs.Plans.{IsPlay}
+use Rattle.session.specs.Steps.{IsPlayIn}
+use Rattle.session.specs.Sendings.{admitted_in}
+use Rattle.session.specs.Standings.{Standing}
+use Rattle.conn.specs.Turns.{IsPlayAnswered}
+use Rattle.conn.specs.Films.{HasBegun, HasSent, IsReady, planned_bytes}
+
+-- a play of which nothing is sent
+abbrev new_play : Prepared → ℕ → ℕ → Played
+new_play prepared place start = record {
+  run = prepared.run;
+  place = place;
+  start = start;
+  plan = prepared.plan;
+  pacer = whole_pacing (run_pieces prepared.frames) prepared.run.sent prepared.paced start;
+}
+
+nothing_sent : (prepared : Prepared) (place start heard : ℕ) → heard < start → IsPlay (new_play prepared place start) → HasSent (new_play prepared place start) heard []
+nothing_sent prepared place start heard later is =
+    let none : heard + 1 - start ≡ 0 = omega (arith, later) in record {
+      pacing = is.pacing;
+      plan = is.plan;
+      before = is.before;
+      kept = refl;
+      start = refl;
+      passed = sym none;
+      sent = refl;
+      film_is = ap (λ n. take (first_slots prepared.paced n) (drop prepared.run.sent (framed (run_pieces prepared.frames)))) (sym none);
+    }
+
+admitted_is : (state : State) (setup : Setup) (prepared : Prepared) (place start : ℕ) → IsReady setup state →
+    admitted_in state (Play prepared) place start ≡ Playing setup (new_play prepared place start)
+admitted_is Init setup prepared place start ready = absurd ready
+admitted_is (Ready own paused) setup prepared place start ready = ap (λ s. Playing s (new_play prepared place start)) ready
+admitted_is (Playing own play) setup prepared place start ready = absurd ready
+admitted_is (Stopping own stop) setup prepared place start ready = absurd ready
+
+pub play_begins : (old new : Standing) (placed : Placed) (start : ℕ) (setup : Setup) (prepared : Prepared) →
+    IsPlayAnswered old placed (Admitted start) new → IsReady setup old.state → old.awaited ≡ Play prepared →
+    HasBegun setup prepared placed.place start new
+play_begins old new placed start setup prepared answered ready awaits =
+    let play : Played = new_play prepared placed.place start in
+    let state : new.state ≡ Playing setup play =
+    ap (λ (s : Standing). s.state) answered.1 ∙ ap (λ a. admitted_in old.state a placed.place start) awaits
+    ∙ admitted_is old.state setup prepared placed.place start ready in
+    let heard : new.heard ≡ old.heard = ap (λ (s : Standing). s.heard) answered.1 in
+    let is : IsPlay play = subst IsPlayIn state answered.2 in record {
+      play = play;
+      state = state;
+      run = refl;
+      place_is = refl;
+      start_is = refl;
+      plan = refl;
+      paced = is.plan;
+      pieces = refl;
+      before = refl;
+      sent = nothing_sent prepared placed.place start new.heard (subst (λ h. h < start) (sym heard) answered.0) is;
+    }

@@ -1,0 +1,343 @@
+-- Lemmas on a play that goes on, one event after another.
+use Rattle.std.proofs.Common.{◌≡◌, ℕ, ◌+◌, ◌^◌, ◌<◌, ◌≤◌, ◌++◌, ◌&&◌, Bool, true, false, if◌then◌else◌, nat_lt, nat_le, List, [], ◌∷◌, refl, ap, sym, ◌∙◌, subst, arith, inl, inr}
+use Rattle.std.proofs.lemmas.Bool.{ltb-true, true≢false}
+use Rattle.std.proofs.lemmas.List.{append-nil, append_assoc}
+use Rattle.admission.specs.declared.entries.Answer.{Answer}
+use Rattle.admission.specs.declared.entries.Answer.TheVariants.{Admitted, Halted, Looked, Overflow}
+use Rattle.admission.specs.Makers.{Placed}
+use Rattle.session.specs.declared.asks.Ask.{Ask}
+use Rattle.session.specs.declared.asks.Ask.TheVariants.{Reply as AskReply, Play as AskPlay, Halt as AskHalt, Look as AskLook, Offer as AskOffer}
+use Rattle.session.specs.declared.states.Awaited.{Awaited}
+use Rattle.pacer.specs.Pacings.{Pacing, plan_bytes, raised, stands_at_boundary, step_end, stepped}
+use Rattle.session.specs.declared.states.Play.{Play as Played}
+use Rattle.session.specs.declared.states.Setup.{Setup}
+use Rattle.session.specs.declared.states.State.{State}
+use Rattle.session.specs.declared.states.State.TheVariants.{Playing}
+use Rattle.session.specs.Sendings.{admitted_in, can_reply, due_state, finished, is_between, is_done_in, is_sending, is_taken, sent_due, sent_reply, sent_slot, slotted, step_bytes, stepped_in}
+use Rattle.session.specs.Standings.{Awaits, NoAnswer, PlayAnswer, HaltAnswer, LookAnswer, OfferAnswer, Standing, awaits}
+use Rattle.session.specs.Steps.{settled}
+use Rattle.conn.specs.Turns.{Outcome, Unasked, Entered, WasFull, Offered, Part, Film, Text, Stage, Taking, Passed, Answered, HasHeard, IsAnswered, IsFinished, IsHalted, IsLookAnswered, IsPlayAnswered, Takes, TakesAll, after_reply, due_parts, film_bytes, slot_parts}
+use Rattle.vod_base.specs.Links.{Doing, HeardBytes, HeardEnd, HeardSlot, Sent}
+use Rattle.session.specs.Hearings.{Hears}
+use Rattle.conn.specs.Rounds.{Comes, Round, Runs, RunsAll, round_outcomes, rounds_outcomes, taking_outcomes, takings_outcomes}
+use Rattle.conn.specs.Films.{AreUnhalted, GoesOn, HasSent, HasSentOn, IsNoHalt as IsNoHaltMade, IsUnhalted, rounds_film}
+use Rattle.session.specs.Laws.{IsNoHalt}
+use Rattle.session.proofs.HearingLaws.{hears_plays}
+use Rattle.conn.proofs.Filming.{sent_slot as sent_by, sent_through, slot_film, slot_is, slot_pacing}
+
+-- a halt is an entry that halts
+no_halt : (old : Standing) (keep : ℕ) (outcome : Outcome) (new : Standing) → IsHalted old keep outcome new → IsUnhalted outcome → ⊥
+no_halt old keep Unasked new halted free = halted
+no_halt old keep (Entered placed) new halted free = subst IsNoHaltMade halted.command free
+no_halt old keep (WasFull entries live) new halted free = halted
+no_halt old keep (Offered note) new halted free = halted
+
+finished_same : (asks : Awaits) (old : Standing) (halt : Outcome) (new : Standing) → IsFinished asks old halt new → IsUnhalted halt → new ≡ old
+finished_same NoAnswer old Unasked new is free = is
+finished_same NoAnswer old (Entered placed) new is free = absurd is
+finished_same NoAnswer old (WasFull entries live) new is free = absurd is
+finished_same NoAnswer old (Offered note) new is free = absurd is
+finished_same (PlayAnswer plan) old halt new is free = absurd is
+finished_same (HaltAnswer keep) old halt new is free = absurd (no_halt old keep halt new is free)
+finished_same LookAnswer old halt new is free = absurd is
+finished_same OfferAnswer old halt new is free = absurd is
+
+-- the state and the heard slot, after a slot that is taken up
+reply_state : (goes : Bool) (s : Standing) → (if goes then sent_reply s else s).state ≡ (if goes then settled s.state else s.state)
+reply_state true s = refl
+reply_state false s = refl
+
+reply_heard : (goes : Bool) (s : Standing) → (if goes then sent_reply s else s).heard ≡ s.heard
+reply_heard true s = refl
+reply_heard false s = refl
+
+finished_state : (s : Standing) → (finished s).state ≡ s.state
+finished_state s = refl
+
+finished_heard : (s : Standing) → (finished s).heard ≡ s.heard
+finished_heard s = refl
+
+abbrev with_pacer : Setup → Played → Pacing → State
+with_pacer setup play p = Playing setup (record play { pacer = p })
+
+-- a play's state after a slot, and the film's bytes in it
+state_cases : (waits between : Bool) (setup : Setup) (play : Played) (both one plain : Pacing) →
+    (if waits && between
+    then settled (if waits then (if between then with_pacer setup play both else with_pacer setup play one) else with_pacer setup play plain)
+    else (if waits then (if between then with_pacer setup play both else with_pacer setup play one) else with_pacer setup play plain))
+    ≡ with_pacer setup play (if waits then (if between then both else one) else plain)
+state_cases false between setup play both one plain = refl
+state_cases true false setup play both one plain = refl
+state_cases true true setup play both one plain = refl
+
+film_cases : (waits between : Bool) (one after plain text : List ℕ) →
+    film_bytes (if waits then Film one ∷ (if between then Text text ∷ Film after ∷ [] else []) else Film plain ∷ [])
+    ≡ (if waits then one ++ (if between then after else []) else plain)
+film_cases false between one after plain text = append-nil plain
+film_cases true false one after plain text = refl
+film_cases true true one after plain text = ap (λ bs. one ++ bs) (append-nil after)
+
+abbrev state_after : Bool → State → ℕ → State
+state_after waits state slot =
+    if waits && is_between (stepped_in true slot state) then settled (due_state waits state slot) else due_state waits state slot
+
+abbrev parts_of : Bool → State → List ℕ → ℕ → List Part
+parts_of waits state text slot =
+    if waits then Film (step_bytes true slot state)
+    ∷ (if is_between (stepped_in true slot state)
+    then Text text ∷ Film (step_bytes false slot (stepped_in true slot state)) ∷ [] else [])
+    else Film (step_bytes false slot state) ∷ []
+
+play_state : (waits : Bool) (setup : Setup) (play : Played) (slot : ℕ) →
+    state_after waits (Playing setup play) slot ≡ with_pacer setup play (slot_pacing waits slot play.pacer)
+play_state waits setup play slot =
+    let p = play.pacer in
+    state_cases waits (stands_at_boundary (stepped true slot p)) setup play (stepped false slot (stepped true slot p)) (stepped true slot p) (stepped false slot p)
+
+play_film : (waits : Bool) (setup : Setup) (play : Played) (text : List ℕ) (slot : ℕ) →
+    film_bytes (parts_of waits (Playing setup play) text slot) ≡ slot_film waits slot play.pacer
+play_film waits setup play text slot =
+    let p = play.pacer in
+    let p' = stepped true slot p in
+    film_cases waits (stands_at_boundary p') (plan_bytes p p.sent (step_end true (raised slot p))) (plan_bytes p' p'.sent (step_end false (raised slot p')))
+    (plan_bytes p p.sent (step_end false (raised slot p))) text
+
+-- a play goes on by a slot that is taken up
+taken_slot : (old : Standing) (slot : ℕ) (setup : Setup) (play : Played) (film : List ℕ) → old.state ≡ Playing setup play → HasSent play old.heard film →
+    old.heard < slot → HasSentOn setup play (finished (sent_slot old slot)) (film ++ film_bytes (due_parts old slot))
+taken_slot old slot setup play film is has later =
+    let goes : Bool = old.waits && is_between (stepped_in true slot old.state) in
+    let s : Standing = sent_slot old slot in
+    let now : Played = record play { pacer = slot_pacing old.waits slot play.pacer } in
+    let state : (finished s).state ≡ Playing setup now =
+    finished_state s ∙ reply_state goes (sent_due old slot) ∙ ap (λ st. state_after old.waits st slot) is ∙ play_state old.waits setup play slot in
+    let heard : (finished s).heard ≡ slot = finished_heard s ∙ reply_heard goes (sent_due old slot) in
+    let bytes : film_bytes (due_parts old slot) ≡ slot_film old.waits slot play.pacer =
+    ap (λ st. film_bytes (parts_of old.waits st old.text slot)) is ∙ play_film old.waits setup play old.text slot in
+    let through : slot_pacing old.waits slot play.pacer ≡ sent_through slot play.pacer =
+    slot_is old.waits (stands_at_boundary (stepped true slot play.pacer)) slot play.pacer has.pacing refl in
+    let sent : HasSent now slot (film ++ slot_film old.waits slot play.pacer) = sent_by play old.heard slot old.waits film has later in record {
+      now = now;
+      state = state;
+      run = refl;
+      place = refl;
+      start = refl;
+      plan = refl;
+      before = ap (λ (q : Pacing). q.before) through;
+      pieces = ap (λ (q : Pacing). q.pieces) through;
+      paced = ap (λ (q : Pacing). q.plan) through;
+      sent = subst (λ n. HasSent now n (film ++ film_bytes (due_parts old slot))) (sym heard)
+          (subst (λ bs. HasSent now slot (film ++ bs)) (sym bytes) sent);
+    }
+
+-- nothing is sent: the play goes on as it was
+pub as_it_was : (session : Standing) (setup : Setup) (play : Played) (film : List ℕ) → session.state ≡ Playing setup play → HasSent play session.heard film →
+    HasSentOn setup play session film
+as_it_was session setup play film is has = record {
+  now = play;
+  state = is;
+  run = refl;
+  place = refl;
+  start = refl;
+  plan = refl;
+  before = refl;
+  pieces = refl;
+  paced = refl;
+  sent = has;
+}
+
+slot_cases : (taken sending : Bool) (old next still : Standing) (parts : List Part) (setup : Setup) (play : Played) (film : List ℕ) → sending ≡ true →
+    HasSentOn setup play old film → (taken ≡ true → HasSentOn setup play next (film ++ film_bytes parts)) →
+    HasSentOn setup play (if taken then (if sending then next else still) else old) (film ++ film_bytes (if taken && sending then parts else []))
+slot_cases false sending old next still parts setup play film sends was goes = subst (HasSentOn setup play old) (sym (append-nil film)) was
+slot_cases true true old next still parts setup play film sends was goes = goes refl
+slot_cases true false old next still parts setup play film sends was goes = absurd (true≢false (sym sends))
+
+and_left : (a b : Bool) → (a && b) ≡ true → a ≡ true
+and_left true b both = refl
+and_left false b both = both
+
+later_slot : (old : Standing) (slot : ℕ) → is_taken old slot ≡ true → old.heard < slot
+later_slot old slot taken = ltb-true old.heard slot (and_left (nat_lt old.heard slot) (nat_le slot (2 ^ 62)) taken)
+
+-- a play goes on by a slot
+pub play_slot : (old : Standing) (slot : ℕ) (halt : Outcome) (new : Standing) (setup : Setup) (play : Played) (film : List ℕ) →
+    old.state ≡ Playing setup play → HasSent play old.heard film → IsFinished (awaits (slotted old slot)) (slotted old slot) halt new → IsUnhalted halt →
+    HasSentOn setup play new (film ++ film_bytes (slot_parts old slot))
+play_slot old slot halt new setup play film is has finishes free =
+    subst (λ s. HasSentOn setup play s (film ++ film_bytes (slot_parts old slot))) (sym (finished_same (awaits (slotted old slot)) (slotted old slot) halt new finishes free))
+    (slot_cases (is_taken old slot) (is_sending old.state) old (finished (sent_slot old slot)) (record old { heard = slot }) (due_parts old slot) setup play film
+    (ap is_sending is) (as_it_was old setup play film is has)
+    (λ taken. taken_slot old slot setup play film is has (later_slot old slot taken)))
+
+-- a play that goes on, and then goes on
+pub goes_on : (setup : Setup) (play : Played) (mid new : Standing) (film more : List ℕ) (on : HasSentOn setup play mid film) →
+    HasSentOn setup on.now new more → HasSentOn setup play new more
+goes_on setup play mid new film more on next = record {
+  now = next.now;
+  state = next.state;
+  run = next.run ∙ on.run;
+  place = next.place ∙ on.place;
+  start = next.start ∙ on.start;
+  plan = next.plan ∙ on.plan;
+  before = next.before ∙ on.before;
+  pieces = next.pieces ∙ on.pieces;
+  paced = next.paced ∙ on.paced;
+  sent = next.sent;
+}
+
+-- what a request leaves of a play
+abbrev pub IsLeft : Standing → Standing → Type 0
+IsLeft old new = (new.state ≡ old.state) × (new.heard ≡ old.heard)
+
+play_admitted : (state : State) (awaited : Awaited) (place start : ℕ) (setup : Setup) (play : Played) → state ≡ Playing setup play →
+    admitted_in state awaited place start ≡ state
+play_admitted state awaited place start setup play is =
+    subst (λ st. admitted_in st awaited place start ≡ st) (sym is) refl
+
+play_left : (old : Standing) (placed : Placed) (answer : Answer) (new : Standing) (setup : Setup) (play : Played) → old.state ≡ Playing setup play →
+    IsPlayAnswered old placed answer new → IsLeft old new
+play_left old placed (Admitted start) new setup play is answered =
+    subst (IsLeft old) (sym answered.1) (play_admitted old.state old.awaited placed.place start setup play is, refl)
+play_left old placed (Overflow slot booked asked) new setup play is answered = subst (IsLeft old) (sym answered) (refl, refl)
+play_left old placed Halted new setup play is answered = absurd answered
+play_left old placed (Looked now at booked) new setup play is answered = absurd answered
+
+look_left : (old : Standing) (placed : Placed) (answer : Answer) (new : Standing) → IsLookAnswered old placed answer new → IsLeft old new
+look_left old placed (Admitted start) new answered = absurd answered
+look_left old placed (Overflow slot booked asked) new answered = absurd answered
+look_left old placed Halted new answered = absurd answered
+look_left old placed (Looked now at booked) new answered = subst (IsLeft old) (sym answered) (refl, refl)
+
+answer_left : (old : Standing) (ask : Ask) (outcome : Outcome) (new : Standing) (setup : Setup) (play : Played) → old.state ≡ Playing setup play →
+    IsAnswered old ask outcome new → IsUnhalted outcome → IsLeft old new
+answer_left old AskReply Unasked new setup play is answered free = subst (IsLeft old) (sym answered) (refl, refl)
+answer_left old AskReply (Entered placed) new setup play is answered free = absurd answered
+answer_left old AskReply (WasFull entries live) new setup play is answered free = absurd answered
+answer_left old AskReply (Offered note) new setup play is answered free = absurd answered
+answer_left old (AskPlay plan) Unasked new setup play is answered free = absurd answered
+answer_left old (AskPlay plan) (Entered placed) new setup play is answered free = play_left old placed placed.entry.answer new setup play is answered.1
+answer_left old (AskPlay plan) (WasFull entries live) new setup play is answered free = subst (IsLeft old) (sym answered) (refl, refl)
+answer_left old (AskPlay plan) (Offered note) new setup play is answered free = absurd answered
+answer_left old (AskHalt keep) outcome new setup play is answered free = absurd (no_halt old keep outcome new answered free)
+answer_left old (AskLook slot) Unasked new setup play is answered free = absurd answered
+answer_left old (AskLook slot) (Entered placed) new setup play is answered free = look_left old placed placed.entry.answer new answered.1
+answer_left old (AskLook slot) (WasFull entries live) new setup play is answered free = subst (IsLeft old) (sym answered) (refl, refl)
+answer_left old (AskLook slot) (Offered note) new setup play is answered free = absurd answered
+answer_left old (AskOffer plan offers) Unasked new setup play is answered free = absurd answered
+answer_left old (AskOffer plan offers) (Entered placed) new setup play is answered free = absurd answered
+answer_left old (AskOffer plan offers) (WasFull entries live) new setup play is answered free = absurd answered
+answer_left old (AskOffer plan offers) (Offered note) new setup play is answered free = subst (IsLeft old) (sym answered.2) (refl, refl)
+
+left_on : (a b c : Standing) → IsLeft a b → IsLeft b c → IsLeft a c
+left_on a b c first second = (second.0 ∙ first.0, second.1 ∙ first.1)
+
+hears_left : (old : Standing) (message : List ℕ) (ask : Ask) (new : Standing) (setup : Setup) (play : Played) → Hears old message ask new →
+    old.state ≡ Playing setup play → IsNoHalt ask → IsLeft old new
+hears_left old message ask new setup play hears is free =
+    let plays = hears_plays old new message ask setup play hears is free in (plays.state, plays.heard)
+
+ask_free : (old : Standing) (ask : Ask) (outcome : Outcome) (new : Standing) → IsAnswered old ask outcome new → IsUnhalted outcome → IsNoHalt ask
+ask_free old AskReply outcome new answered free = tt
+ask_free old (AskPlay plan) outcome new answered free = tt
+ask_free old (AskHalt keep) outcome new answered free = no_halt old keep outcome new answered free
+ask_free old (AskLook slot) outcome new answered free = tt
+ask_free old (AskOffer plan offers) outcome new answered free = tt
+
+pub heard_left : (old : Standing) (message : List ℕ) (outcome : Outcome) (new : Standing) (setup : Setup) (play : Played) → HasHeard old message outcome new →
+    IsUnhalted outcome → old.state ≡ Playing setup play → IsLeft old new
+heard_left old message outcome new setup play heard free is =
+    let asking : IsLeft old heard.asking = hears_left old message heard.ask heard.asking setup play heard.hears is
+    (ask_free heard.asking heard.ask outcome new heard.answered free) in
+    left_on old heard.asking new asking (answer_left heard.asking heard.ask outcome new setup play (asking.0 ∙ is) heard.answered free)
+
+settled_play : (state : State) (setup : Setup) (play : Played) → state ≡ Playing setup play → settled state ≡ state
+settled_play state setup play is = subst (λ st. settled st ≡ st) (sym is) refl
+
+reply_left : (goes : Bool) (s : Standing) (setup : Setup) (play : Played) → s.state ≡ Playing setup play → IsLeft s (if goes then sent_reply s else s)
+reply_left true s setup play is = (settled_play s.state setup play is, refl)
+reply_left false s setup play is = (refl, refl)
+
+pub taking_left : (old new : Stage) (taking : Taking) (setup : Setup) (play : Played) → Takes old taking new → AreUnhalted (taking_outcomes taking) →
+    old.session.state ≡ Playing setup play → IsLeft old.session new.session
+taking_left old new (Passed n) setup play takes free is = subst (λ (s : Stage). IsLeft old.session s.session) (sym takes.2) (refl, refl)
+taking_left old new (Answered message outcome parts) setup play takes free is =
+    let heard : IsLeft old.session takes.answered = heard_left old.session message outcome takes.answered setup play takes.heard free.0 is in
+    subst (λ (s : Stage). IsLeft old.session s.session) (sym takes.new_is)
+    (left_on old.session takes.answered (after_reply takes.answered) heard
+    (reply_left (can_reply takes.answered) takes.answered setup play (heard.0 ∙ is)))
+
+pub unhalted_front : (xs ys : List Outcome) → AreUnhalted (xs ++ ys) → AreUnhalted xs
+unhalted_front [] ys free = tt
+unhalted_front (x ∷ xs) ys free = (free.0, unhalted_front xs ys free.1)
+
+pub unhalted_rest : (xs ys : List Outcome) → AreUnhalted (xs ++ ys) → AreUnhalted ys
+unhalted_rest [] ys free = free
+unhalted_rest (x ∷ xs) ys free = unhalted_rest xs ys free.1
+
+pub takes_left : (old new : Stage) (takings : List Taking) (setup : Setup) (play : Played) → TakesAll old takings new →
+    AreUnhalted (takings_outcomes takings) → old.session.state ≡ Playing setup play → IsLeft old.session new.session
+takes_left old new [] setup play takes free is = subst (λ (s : Stage). IsLeft old.session s.session) (sym takes) (refl, refl)
+takes_left old new (taking ∷ takings) setup play takes free is =
+    let first : IsLeft old.session takes.0.session = taking_left old takes.0 taking setup play takes.1.0
+    (unhalted_front (taking_outcomes taking) (takings_outcomes takings) free) is in
+    left_on old.session takes.0.session new.session first
+    (takes_left takes.0 new takings setup play takes.1.1 (unhalted_rest (taking_outcomes taking) (takings_outcomes takings) free) (first.0 ∙ is))
+
+-- what was sent of a play stays
+on_left : (setup : Setup) (play : Played) (old new : Standing) (film : List ℕ) → HasSentOn setup play old film → IsLeft old new → HasSentOn setup play new film
+on_left setup play old new film on left = record {
+  now = on.now;
+  state = left.0 ∙ on.state;
+  run = on.run;
+  place = on.place;
+  start = on.start;
+  plan = on.plan;
+  before = on.before;
+  pieces = on.pieces;
+  paced = on.paced;
+  sent = subst (λ n. HasSent on.now n film) (sym left.1) on.sent;
+}
+
+pub comes_on : (old new : Stage) (event : Doing) (due : List Part) (halt : Outcome) (setup : Setup) (play : Played) (film : List ℕ) →
+    Comes old event due halt new → IsUnhalted halt → old.session.state ≡ Playing setup play → HasSent play old.session.heard film →
+    HasSentOn setup play new.session (film ++ film_bytes due)
+comes_on old new (HeardBytes bytes) due halt setup play film comes free is has =
+    subst (λ ps. HasSentOn setup play new.session (film ++ film_bytes ps)) (sym comes.0)
+    (subst (λ (s : Stage). HasSentOn setup play s.session (film ++ [])) (sym comes.3)
+    (subst (HasSentOn setup play old.session) (sym (append-nil film)) (as_it_was old.session setup play film is has)))
+comes_on old new (HeardSlot slot) due halt setup play film comes free is has =
+    subst (λ ps. HasSentOn setup play new.session (film ++ film_bytes ps)) (sym comes.1.parts_are)
+    (play_slot old.session slot halt new.session setup play film is has comes.1.finished free)
+comes_on old new HeardEnd due halt setup play film comes free is has = absurd comes
+comes_on old new (Sent byte) due halt setup play film comes free is has = absurd comes
+
+pub round_on : (old new : Stage) (round : Round) (setup : Setup) (play : Played) (film : List ℕ) → Runs old round new → AreUnhalted (round_outcomes round) →
+    old.session.state ≡ Playing setup play → HasSent play old.session.heard film → HasSentOn setup play new.session (film ++ film_bytes round.due)
+round_on old new round setup play film runs free is has =
+    let opened = runs.opened in
+    let on : HasSentOn setup play opened.session (film ++ film_bytes round.due) =
+    comes_on old opened round.event round.due round.halt setup play film runs.comes free.0 is has in
+    on_left setup play opened.session new.session (film ++ film_bytes round.due) on (takes_left opened new round.takings setup on.now runs.takes free.1 on.state)
+
+-- a play goes on by events, as long as it isn't halted
+pub rounds_on : (old new : Stage) (rounds : List Round) (setup : Setup) (play : Played) (film : List ℕ) → RunsAll old rounds new →
+    AreUnhalted (rounds_outcomes rounds) → old.session.state ≡ Playing setup play → HasSent play old.session.heard film →
+    HasSentOn setup play new.session (film ++ rounds_film rounds)
+rounds_on old new [] setup play film runs free is has =
+    subst (λ (s : Stage). HasSentOn setup play s.session (film ++ [])) (sym runs)
+    (subst (HasSentOn setup play old.session) (sym (append-nil film)) (as_it_was old.session setup play film is has))
+rounds_on old new (round ∷ rounds) setup play film runs free is has =
+    let first = round_on old runs.0 round setup play film runs.1.0 (unhalted_front (round_outcomes round) (rounds_outcomes rounds) free) is has in
+    let rest = rounds_on runs.0 new rounds setup first.now (film ++ film_bytes round.due) runs.1.2
+    (unhalted_rest (round_outcomes round) (rounds_outcomes rounds) free) first.state first.sent in
+    subst (HasSentOn setup play new.session) (append_assoc film (film_bytes round.due) (rounds_film rounds))
+    (goes_on setup play runs.0.session new.session (film ++ film_bytes round.due) ((film ++ film_bytes round.due) ++ rounds_film rounds) first rest)
+
+-- and by what is taken up before the next event
+pub film_on : (old new : Stage) (play : Played) (film : List ℕ) (takings : List Taking) (rounds : List Round) (on : GoesOn old play film takings rounds new) →
+    HasSentOn on.setup play new.session (film ++ rounds_film rounds)
+film_on old new play film takings rounds on =
+    let left = takes_left old on.mid takings on.setup play on.takes (unhalted_front (takings_outcomes takings) (rounds_outcomes rounds) on.unhalted) on.state in
+    rounds_on on.mid new rounds on.setup play film on.runs (unhalted_rest (takings_outcomes takings) (rounds_outcomes rounds) on.unhalted)
+    (left.0 ∙ on.state) (subst (λ h. HasSent play h film) (sym left.1) on.sent)

@@ -1,0 +1,217 @@
+-- Lemmas on where replies stand among a film's frames and reports.
+use Rattle.std.proofs.Common.{◌≡◌, ℕ, ◌+◌, ◌-◌, ◌≤◌, ◌++◌, ◌&&◌, Bool, true, false, if◌then◌else◌, min, List, [], ◌∷◌, length, take, drop, refl, ap, sym, ◌∙◌, subst, arith}
+use Rattle.std.proofs.lemmas.Bool.{eqb-true, true≢false}
+use Rattle.std.proofs.lemmas.List.{append-nil, append_assoc, length-append}
+use Rattle.film_frames.specs.Tracks.{IsBoundary, framed}
+use Rattle.pacer.specs.Pacings.{IsPacing, Pacing, due_by, first_slots, next_boundary, plan_bytes, raised, slots_by, stands_at_boundary, step_end, stepped}
+use Rattle.pacer.proofs.PacingLemmas.{boundary-from, due-of-both}
+use Rattle.pacer.proofs.SendingLemmas.{between-length}
+use Rattle.vod_base.specs.Links.{Doing, HeardBytes, HeardEnd, HeardSlot, Sent}
+use Rattle.session.specs.declared.states.Play.{Play as Played}
+use Rattle.session.specs.declared.states.Setup.{Setup}
+use Rattle.session.specs.declared.states.State.{State}
+use Rattle.session.specs.declared.states.State.TheVariants.{Playing}
+use Rattle.session.specs.Sendings.{can_reply, is_between, is_sending, is_taken, step_bytes, stepped_in}
+use Rattle.session.specs.Standings.{Standing}
+use Rattle.conn.specs.Turns.{Outcome, Part, Film, Text, Stage, Taking, Passed, Answered, Takes, TakesAll, due_parts, film_bytes, reply_parts, slot_parts}
+use Rattle.conn.specs.Rounds.{Comes, Round, Runs, RunsAll, round_outcomes, rounds_outcomes, taking_outcomes, takings_outcomes}
+use Rattle.conn.specs.Films.{AreUnhalted, GoesOn, HasSent, HasSentOn, StandBetween, round_parts, rounds_parts, takings_parts}
+use Rattle.conn.proofs.Filming.{few_slots}
+use Rattle.conn.proofs.Playing.{comes_on, heard_left, round_on, taking_left, takes_left, unhalted_front, unhalted_rest}
+
+-- as many bytes were sent as the plan has up to the heard slot
+pub film_count : (play : Played) (heard : ℕ) (film : List ℕ) → HasSent play heard film → length film ≡ first_slots play.pacer.plan (heard + 1 - play.start)
+film_count play heard film has =
+    let p = play.pacer in
+    let n : ℕ = first_slots p.plan (heard + 1 - p.start) in
+    let few : n ≤ p.keep = omega (arith, few_slots p.plan (heard + 1 - p.start) has.pacing.plan, has.kept) in
+    let whole : p.before + n ≤ length (framed p.pieces) = omega (arith, few, has.pacing.whole, has.pacing.most) in
+    let exact : (p.before + n) - p.before ≡ n = omega arith in
+    ap length has.film_is ∙ ap (λ k. length (take k (drop p.before (framed p.pieces)))) (sym exact)
+    ∙ between-length p.pieces p.before (p.before + n) (omega arith) whole ∙ exact ∙ ap (λ s. first_slots p.plan (heard + 1 - s)) has.start
+
+-- what was sent of a play ends where its film does
+sent_place : (play : Played) (heard : ℕ) (film : List ℕ) → HasSent play heard film → play.pacer.before + length film ≡ play.pacer.before + play.pacer.sent
+sent_place play heard film has =
+    let sent : play.pacer.sent ≡ first_slots play.pacer.plan (heard + 1 - play.start) = has.sent ∙ ap (first_slots play.pacer.plan) has.passed in
+    omega (arith, film_count play heard film has, sent)
+
+-- a pacing that stands at a boundary
+boundary_here : (p : Pacing) → IsPacing p → stands_at_boundary p ≡ true → IsBoundary p.pieces (p.before + p.sent)
+boundary_here p is stands =
+    let inside : p.before + p.sent ≤ length (framed p.pieces) = omega (arith, is.whole, is.most, is.due, is.sent) in
+    let next = boundary-from p.pieces (p.before + p.sent) inside in
+    let same : next_boundary p ≡ p.sent = eqb-true (next_boundary p) p.sent stands in
+    subst (IsBoundary p.pieces) (omega (arith, same, next.after)) next.boundary
+
+stopped_is : (slot : ℕ) (p : Pacing) → IsPacing p → IsPacing (stepped true slot p)
+stopped_is slot p is = record {
+  plan = is.plan;
+  whole = is.whole;
+  short = is.short;
+  begins = is.begins;
+  ends = is.ends;
+  most = is.most;
+  due = due-of-both p.plan p.passed (slots_by p slot) p.keep p.due is.due;
+  sent = omega arith;
+}
+
+-- as far as a step with a stop goes
+stopped_place : (slot : ℕ) (p : Pacing) → IsPacing p → (p.before + p.sent) + length (plan_bytes p p.sent (step_end true (raised slot p)))
+    ≡ p.before + (stepped true slot p).sent
+stopped_place slot p is =
+    let mid : ℕ = step_end true (raised slot p) in
+    let inside : p.before + p.sent ≤ length (framed p.pieces) = omega (arith, is.whole, is.most, is.due, is.sent) in
+    let next = boundary-from p.pieces (p.before + p.sent) inside in
+    let least : p.sent ≤ mid = omega (arith, next.after, is.sent) in
+    let now = stopped_is slot p is in
+    let most : p.before + mid ≤ length (framed p.pieces) = omega (arith, now.whole, now.most, now.due, now.sent) in
+    omega (arith, least, between-length p.pieces (p.before + p.sent) (p.before + mid) (omega (arith, least)) most)
+
+stand-append : (pieces : List (List ℕ)) (place : ℕ) (xs ys : List Part) → StandBetween pieces place xs →
+    StandBetween pieces (place + length (film_bytes xs)) ys → StandBetween pieces place (xs ++ ys)
+stand-append pieces place [] ys first second = subst (λ n. StandBetween pieces n ys) (omega arith) second
+stand-append pieces place (Film bytes ∷ xs) ys first second =
+    stand-append pieces (place + length bytes) xs ys first (subst (λ n. StandBetween pieces n ys) (omega (arith, length-append bytes (film_bytes xs))) second)
+stand-append pieces place (Text text ∷ xs) ys first second = (first.0, stand-append pieces place xs ys first.1 second)
+
+-- a slot's parts
+slot_stands : (waits between : Bool) (pieces : List (List ℕ)) (place : ℕ) (one after plain text : List ℕ) →
+    (between ≡ true → IsBoundary pieces (place + length one)) →
+    StandBetween pieces place (if waits then Film one ∷ (if between then Text text ∷ Film after ∷ [] else []) else Film plain ∷ [])
+slot_stands false between pieces place one after plain text stands = tt
+slot_stands true false pieces place one after plain text stands = tt
+slot_stands true true pieces place one after plain text stands = (stands refl, tt)
+
+due_stand : (session : Standing) (slot : ℕ) (setup : Setup) (play : Played) (film : List ℕ) → session.state ≡ Playing setup play →
+    HasSent play session.heard film → StandBetween play.pacer.pieces (play.pacer.before + length film) (due_parts session slot)
+due_stand session slot setup play film is has =
+    let p = play.pacer in
+    let State' : State → Type 0 = λ st. (is_between (stepped_in true slot st) ≡ true → IsBoundary p.pieces ((p.before + length film) + length (step_bytes true slot st))) in
+    let stands : State' (Playing setup play) =
+    λ between. subst (IsBoundary p.pieces) (omega (arith, sent_place play session.heard film has, stopped_place slot p has.pacing))
+    (boundary_here (stepped true slot p) (stopped_is slot p has.pacing) between) in
+    slot_stands session.waits (is_between (stepped_in true slot session.state)) p.pieces (p.before + length film) (step_bytes true slot session.state)
+    (step_bytes false slot (stepped_in true slot session.state)) (step_bytes false slot session.state) session.text
+    (subst State' (sym is) stands)
+
+none_stand : (goes : Bool) (pieces : List (List ℕ)) (place : ℕ) (parts : List Part) → (goes ≡ true → StandBetween pieces place parts) →
+    StandBetween pieces place (if goes then parts else [])
+none_stand true pieces place parts stands = stands refl
+none_stand false pieces place parts stands = tt
+
+comes_stand : (old new : Stage) (event : Doing) (due : List Part) (halt : Outcome) (setup : Setup) (play : Played) (film : List ℕ) →
+    Comes old event due halt new → old.session.state ≡ Playing setup play → HasSent play old.session.heard film →
+    StandBetween play.pacer.pieces (play.pacer.before + length film) due
+comes_stand old new (HeardBytes bytes) due halt setup play film comes is has =
+    subst (StandBetween play.pacer.pieces (play.pacer.before + length film)) (sym comes.0) tt
+comes_stand old new (HeardSlot slot) due halt setup play film comes is has =
+    subst (StandBetween play.pacer.pieces (play.pacer.before + length film)) (sym comes.1.parts_are)
+    (none_stand (is_taken old.session slot && is_sending old.session.state) play.pacer.pieces (play.pacer.before + length film) (due_parts old.session slot)
+    (λ goes. due_stand old.session slot setup play film is has))
+comes_stand old new HeardEnd due halt setup play film comes is has = absurd comes
+comes_stand old new (Sent byte) due halt setup play film comes is has = absurd comes
+
+-- a reply's part
+and_right : (a b : Bool) → (a && b) ≡ true → b ≡ true
+and_right true b both = both
+and_right false b both = absurd (true≢false (sym both))
+
+reply_stands : (session : Standing) (setup : Setup) (play : Played) (film : List ℕ) → session.state ≡ Playing setup play →
+    HasSent play session.heard film → StandBetween play.pacer.pieces (play.pacer.before + length film) (reply_parts session)
+reply_stands session setup play film is has =
+    none_stand (can_reply session) play.pacer.pieces (play.pacer.before + length film) (Text session.text ∷ [])
+    (λ can. (
+      subst (IsBoundary play.pacer.pieces) (sym (sent_place play session.heard film has))
+          (boundary_here play.pacer has.pacing (subst (λ st. is_between st ≡ true) is (and_right session.waits (is_between session.state) can))),
+      tt,
+    ))
+
+no_film : (goes : Bool) (text : List ℕ) → film_bytes (if goes then Text text ∷ [] else []) ≡ []
+no_film true text = refl
+no_film false text = refl
+
+film_bytes-append : (xs ys : List Part) → film_bytes (xs ++ ys) ≡ film_bytes xs ++ film_bytes ys
+film_bytes-append [] ys = refl
+film_bytes-append (Film bytes ∷ xs) ys =
+    ap (λ bs. bytes ++ bs) (film_bytes-append xs ys) ∙ sym (append_assoc bytes (film_bytes xs) (film_bytes ys))
+film_bytes-append (Text text ∷ xs) ys = film_bytes-append xs ys
+
+takings_film : (old new : Stage) (takings : List Taking) → TakesAll old takings new → film_bytes (takings_parts takings) ≡ []
+takings_film old new [] takes = refl
+takings_film old new (Passed n ∷ takings) takes = takings_film takes.0 new takings takes.1.1
+takings_film old new (Answered message outcome parts ∷ takings) takes =
+    film_bytes-append parts (takings_parts takings)
+    ∙ ap (λ bs. bs ++ film_bytes (takings_parts takings)) (ap film_bytes takes.1.0.parts_are ∙ no_film (can_reply takes.1.0.answered) takes.1.0.answered.text)
+    ∙ takings_film takes.0 new takings takes.1.1
+
+takes_stand : (old new : Stage) (takings : List Taking) (setup : Setup) (play : Played) (film : List ℕ) → TakesAll old takings new →
+    AreUnhalted (takings_outcomes takings) → old.session.state ≡ Playing setup play → HasSent play old.session.heard film →
+    StandBetween play.pacer.pieces (play.pacer.before + length film) (takings_parts takings)
+takes_stand old new [] setup play film takes free is has = tt
+takes_stand old new (Passed n ∷ takings) setup play film takes free is has =
+    let left = taking_left old takes.0 (Passed n) setup play takes.1.0 tt is in
+    takes_stand takes.0 new takings setup play film takes.1.1 free (left.0 ∙ is) (subst (λ h. HasSent play h film) (sym left.1) has)
+takes_stand old new (Answered message outcome parts ∷ takings) setup play film takes free is has =
+    let first : AreUnhalted (outcome ∷ []) = (free.0, tt) in
+    let left = taking_left old takes.0 (Answered message outcome parts) setup play takes.1.0 first is in
+    let heard = heard_left old.session message outcome takes.1.0.answered setup play takes.1.0.heard free.0 is in
+    let place : ℕ = play.pacer.before + length film in
+    let none : film_bytes parts ≡ [] =
+    ap film_bytes takes.1.0.parts_are ∙ no_film (can_reply takes.1.0.answered) takes.1.0.answered.text in
+    let reply : StandBetween play.pacer.pieces place parts =
+    subst (StandBetween play.pacer.pieces place) (sym takes.1.0.parts_are)
+    (reply_stands takes.1.0.answered setup play film (heard.0 ∙ is) (subst (λ h. HasSent play h film) (sym heard.1) has)) in
+    let rest : StandBetween play.pacer.pieces place (takings_parts takings) =
+    takes_stand takes.0 new takings setup play film takes.1.1 free.1 (left.0 ∙ is) (subst (λ h. HasSent play h film) (sym left.1) has) in
+    stand-append play.pacer.pieces place parts (takings_parts takings) reply
+    (subst (λ n. StandBetween play.pacer.pieces n (takings_parts takings)) (omega (arith, ap length none)) rest)
+
+round_stands : (old new : Stage) (round : Round) (setup : Setup) (play : Played) (film : List ℕ) → Runs old round new → AreUnhalted (round_outcomes round) →
+    old.session.state ≡ Playing setup play → HasSent play old.session.heard film →
+    StandBetween play.pacer.pieces (play.pacer.before + length film) (round_parts round)
+round_stands old new round setup play film runs free is has =
+    let opened = runs.opened in
+    let on = comes_on old opened round.event round.due round.halt setup play film runs.comes free.0 is has in
+    let rest : StandBetween on.now.pacer.pieces (on.now.pacer.before + length (film ++ film_bytes round.due)) (takings_parts round.takings) =
+    takes_stand opened new round.takings setup on.now (film ++ film_bytes round.due) runs.takes free.1 on.state on.sent in
+    let same : StandBetween play.pacer.pieces (on.now.pacer.before + length (film ++ film_bytes round.due)) (takings_parts round.takings) =
+    subst (λ ps. StandBetween ps (on.now.pacer.before + length (film ++ film_bytes round.due)) (takings_parts round.takings)) on.pieces rest in
+    stand-append play.pacer.pieces (play.pacer.before + length film) round.due (takings_parts round.takings)
+    (comes_stand old opened round.event round.due round.halt setup play film runs.comes is has)
+    (subst (λ n. StandBetween play.pacer.pieces n (takings_parts round.takings)) (omega (arith, on.before, length-append film (film_bytes round.due))) same)
+
+-- while a play goes on, each reply stands between frames and reports
+pub rounds_stand : (old new : Stage) (rounds : List Round) (setup : Setup) (play : Played) (film : List ℕ) → RunsAll old rounds new →
+    AreUnhalted (rounds_outcomes rounds) → old.session.state ≡ Playing setup play → HasSent play old.session.heard film →
+    StandBetween play.pacer.pieces (play.pacer.before + length film) (rounds_parts rounds)
+rounds_stand old new [] setup play film runs free is has = tt
+rounds_stand old new (round ∷ rounds) setup play film runs free is has =
+    let first_free = unhalted_front (round_outcomes round) (rounds_outcomes rounds) free in
+    let on = round_on old runs.0 round setup play film runs.1.0 first_free is has in
+    let more : List ℕ = film ++ film_bytes round.due in
+    let rest : StandBetween on.now.pacer.pieces (on.now.pacer.before + length more) (rounds_parts rounds) =
+    rounds_stand runs.0 new rounds setup on.now more runs.1.2 (unhalted_rest (round_outcomes round) (rounds_outcomes rounds) free) on.state on.sent in
+    let same : StandBetween play.pacer.pieces (on.now.pacer.before + length more) (rounds_parts rounds) =
+    subst (λ ps. StandBetween ps (on.now.pacer.before + length more) (rounds_parts rounds)) on.pieces rest in
+    let film_is : length (film_bytes (round_parts round)) ≡ length (film_bytes round.due) =
+    ap length (film_bytes-append round.due (takings_parts round.takings)
+    ∙ ap (λ bs. film_bytes round.due ++ bs) (takings_film runs.1.0.opened runs.0 round.takings runs.1.0.takes)
+    ∙ append-nil (film_bytes round.due)) in
+    stand-append play.pacer.pieces (play.pacer.before + length film) (round_parts round) (rounds_parts rounds)
+    (round_stands old runs.0 round setup play film runs.1.0 first_free is has)
+    (subst (λ n. StandBetween play.pacer.pieces n (rounds_parts rounds)) (omega (arith, on.before, film_is, length-append film (film_bytes round.due))) same)
+
+-- from a play's beginning on
+pub replies_stand : (old new : Stage) (play : Played) (film : List ℕ) (takings : List Taking) (rounds : List Round) → GoesOn old play film takings rounds new →
+    StandBetween play.pacer.pieces (play.pacer.before + length film) (takings_parts takings ++ rounds_parts rounds)
+replies_stand old new play film takings rounds on =
+    let first = unhalted_front (takings_outcomes takings) (rounds_outcomes rounds) on.unhalted in
+    let left = takes_left old on.mid takings on.setup play on.takes first on.state in
+    let place : ℕ = play.pacer.before + length film in
+    let rest : StandBetween play.pacer.pieces place (rounds_parts rounds) =
+    rounds_stand on.mid new rounds on.setup play film on.runs (unhalted_rest (takings_outcomes takings) (rounds_outcomes rounds) on.unhalted)
+    (left.0 ∙ on.state) (subst (λ h. HasSent play h film) (sym left.1) on.sent) in
+    stand-append play.pacer.pieces place (takings_parts takings) (rounds_parts rounds)
+    (takes_stand old on.mid takings on.setup play film on.takes first on.state on.sent)
+    (subst (λ n. StandBetween play.pacer.pieces n (rounds_parts rounds)) (omega (arith, ap length (takings_film old on.mid takings on.takes))) rest)
