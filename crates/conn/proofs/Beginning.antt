@@ -1,12 +1,10 @@
 -- Lemmas on a play that begins.
-use Rattle.std.proofs.Common.{◌≡◌, ℕ, ◌+◌, ◌-◌, ◌<◌, ◌≤◌, min, [], take, drop, refl, ap, sym, ◌∙◌, subst, arith}
+use Rattle.std.proofs.Common.{◌≡◌, ℕ, ◌+◌, ◌-◌, ◌<◌, [], take, drop, refl, ap, sym, ◌∙◌, subst, arith}
 use Rattle.film_frames.specs.Runs.{run_pieces}
 use Rattle.film_frames.specs.Tracks.{framed}
-use Rattle.pacer.specs.Pacings.{IsPacing, Pacing, first_slots, whole_pacing}
-use Rattle.plan_cert.specs.Slots.{total_bytes}
+use Rattle.pacer.specs.Pacings.{first_slots, whole_pacing}
 use Rattle.admission.specs.declared.entries.Answer.TheVariants.{Admitted}
 use Rattle.admission.specs.Makers.{Placed}
-use Rattle.session.specs.declared.states.Awaited.{Awaited}
 use Rattle.session.specs.declared.states.Awaited.TheVariants.{Play}
 use Rattle.session.specs.declared.states.Play.{Play as Played}
 use Rattle.session.specs.declared.states.Prepared.{Prepared}
@@ -18,7 +16,7 @@ use Rattle.session.specs.Steps.{IsPlayIn}
 use Rattle.session.specs.Sendings.{admitted_in}
 use Rattle.session.specs.Standings.{Standing}
 use Rattle.conn.specs.Turns.{IsPlayAnswered}
-use Rattle.conn.specs.Films.{HasBegun, HasSent, IsReady, planned_bytes}
+use Rattle.conn.specs.Films.{HasBegun, HasSent, IsReady}
 
 -- a play of which nothing is sent
 abbrev new_play : Prepared → ℕ → ℕ → Played

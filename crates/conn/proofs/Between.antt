@@ -1,5 +1,5 @@
 -- What was sent of a run lies between its curves.
-use Rattle.std.proofs.Common.{◌≡◌, ℕ, ◌+◌, ◌-◌, ◌<◌, ◌≤◌, List, length, refl, ap, sym, ◌∙◌, arith}
+use Rattle.std.proofs.Common.{◌≡◌, ℕ, ◌+◌, ◌-◌, List, length, ap, ◌∙◌, arith}
 use Rattle.film_run.specs.declared.plans.Playback.{Playback}
 use Rattle.film_run.specs.Plans.{rest_sizes, timing_of}
 use Rattle.film_run.proofs.CurveLaws.{low-at-slot, low-slots, up-at-slot}

@@ -1,5 +1,5 @@
 -- The link's count of faults, one call after another.
-use Rattle.std.proofs.Common.{◌≡◌, ℕ, ◌^◌, ◌-◌, ◌<◌, ◌≤◌, true, false, Option, Some, refl, sym, ◌∙◌, ap, arith}
+use Rattle.std.proofs.Common.{◌≡◌, ℕ, ◌≤◌, false, Option, Some, sym, ◌∙◌, ap, arith}
 use Rattle.std.proofs.lemmas.Bool.{true≢false}
 use Rattle.vod_base.specs.Outside.{HasRisen}
 use Rattle.interleave.specs.declared.pieces.DemuxFault.{DemuxFault}

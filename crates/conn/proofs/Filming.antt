@@ -11,7 +11,7 @@ use Rattle.std.proofs.lemmas.List.Sums.{sum_by-take-le}
 use Rattle.session.specs.declared.states.Play.{Play as Played}
 use Rattle.conn.specs.Films.{HasSent, planned_bytes}
 use Rattle.pacer.specs.Boundaries.{bytes_between}
-use Rattle.pacer.specs.Pacings.{IsPacing, Pacing, due_by, first_slots, next_boundary, pacing_of, plan_bytes, raised, slots_by, stands_at_boundary, step_end, stepped}
+use Rattle.pacer.specs.Pacings.{IsPacing, Pacing, due_by, first_slots, pacing_of, plan_bytes, raised, slots_by, stands_at_boundary, step_end, stepped}
 use Rattle.pacer.proofs.PacingLemmas.{boundary-from, due-of-both}
 use Rattle.pacer.proofs.SendingLemmas.{between-join}
 use Rattle.session.proofs.Boundaries.{stop_between}

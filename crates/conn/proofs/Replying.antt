@@ -1,9 +1,9 @@
 -- Lemmas on where replies stand among a film's frames and reports.
-use Rattle.std.proofs.Common.{◌≡◌, ℕ, ◌+◌, ◌-◌, ◌≤◌, ◌++◌, ◌&&◌, Bool, true, false, if◌then◌else◌, min, List, [], ◌∷◌, length, take, drop, refl, ap, sym, ◌∙◌, subst, arith}
+use Rattle.std.proofs.Common.{◌≡◌, ℕ, ◌+◌, ◌-◌, ◌≤◌, ◌++◌, ◌&&◌, Bool, true, false, if◌then◌else◌, List, [], ◌∷◌, length, take, drop, refl, ap, sym, ◌∙◌, subst, arith}
 use Rattle.std.proofs.lemmas.Bool.{eqb-true, true≢false}
 use Rattle.std.proofs.lemmas.List.{append-nil, append_assoc, length-append}
 use Rattle.film_frames.specs.Tracks.{IsBoundary, framed}
-use Rattle.pacer.specs.Pacings.{IsPacing, Pacing, due_by, first_slots, next_boundary, plan_bytes, raised, slots_by, stands_at_boundary, step_end, stepped}
+use Rattle.pacer.specs.Pacings.{IsPacing, Pacing, first_slots, next_boundary, plan_bytes, raised, slots_by, stands_at_boundary, step_end, stepped}
 use Rattle.pacer.proofs.PacingLemmas.{boundary-from, due-of-both}
 use Rattle.pacer.proofs.SendingLemmas.{between-length}
 use Rattle.vod_base.specs.Links.{Doing, HeardBytes, HeardEnd, HeardSlot, Sent}
@@ -13,9 +13,9 @@ use Rattle.session.specs.declared.states.State.{State}
 use Rattle.session.specs.declared.states.State.TheVariants.{Playing}
 use Rattle.session.specs.Sendings.{can_reply, is_between, is_sending, is_taken, step_bytes, stepped_in}
 use Rattle.session.specs.Standings.{Standing}
-use Rattle.conn.specs.Turns.{Outcome, Part, Film, Text, Stage, Taking, Passed, Answered, Takes, TakesAll, due_parts, film_bytes, reply_parts, slot_parts}
-use Rattle.conn.specs.Rounds.{Comes, Round, Runs, RunsAll, round_outcomes, rounds_outcomes, taking_outcomes, takings_outcomes}
-use Rattle.conn.specs.Films.{AreUnhalted, GoesOn, HasSent, HasSentOn, StandBetween, round_parts, rounds_parts, takings_parts}
+use Rattle.conn.specs.Turns.{Outcome, Part, Film, Text, Stage, Taking, Passed, Answered, TakesAll, due_parts, film_bytes, reply_parts}
+use Rattle.conn.specs.Rounds.{Comes, Round, Runs, RunsAll, round_outcomes, rounds_outcomes, takings_outcomes}
+use Rattle.conn.specs.Films.{AreUnhalted, GoesOn, HasSent, StandBetween, round_parts, rounds_parts, takings_parts}
 use Rattle.conn.proofs.Filming.{few_slots}
 use Rattle.conn.proofs.Playing.{comes_on, heard_left, round_on, taking_left, takes_left, unhalted_front, unhalted_rest}
 

@@ -8,9 +8,9 @@ use Rattle.admission.specs.Makers.{Placed}
 use Rattle.session.specs.Sendings.{can_reply, due_bytes, due_state, is_sending, is_taken, missed_between, start_in}
 use Rattle.session.specs.Steps.{IsCarried}
 use Rattle.session.specs.Standings.{IsAtRest, Standing, open_in, open_of}
-use Rattle.conn.specs.Turns.{HasHeard, HasStepped, IsClosed, IsNext, Outcome, Unasked, Part, Stage, Taking, Passed, Answered, TakesAll, entry_in, parts_bytes, stage}
+use Rattle.conn.specs.Turns.{HasHeard, HasStepped, IsNext, Outcome, Unasked, Part, Stage, Taking, Passed, Answered, TakesAll, entry_in, parts_bytes, stage}
 use Rattle.conn.specs.declared.reports.ConnEnd.{ConnEnd}
-use Rattle.conn.specs.declared.reports.ConnEnd.TheVariants.{Ended, TornDown, LinkFault, TooMuchInput, HeadTooLong, BodyTooLong, TurnsSpent, NoMemory}
+use Rattle.conn.specs.declared.reports.ConnEnd.TheVariants.{Ended, TornDown, LinkFault, TooMuchInput, HeadTooLong, BodyTooLong, TurnsSpent}
 
 -- an event, what was sent in its slot, the halt of a play that was done, and the pieces that were taken up after it
 pub record Round : Type 0 where

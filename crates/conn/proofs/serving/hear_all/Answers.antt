@@ -1,4 +1,4 @@
-use Rattle.std.proofs.Common.{◌≡◌, ◌<◌, ◌∷◌, [], List, length, Option, rules, refl, ap, arith, Some}
+use Rattle.std.proofs.Common.{◌≡◌, ◌∷◌, [], List, length, Option, rules, refl, ap, arith, Some}
 use Rattle.vod_base.specs.Links.{Doing, doing_of, told_more}
 use Rattle.conn.specs.declared.reports.ConnEnd.TheVariants.{LinkFault, TurnsSpent}
 use Rattle.conn.specs.Keeping.{business}

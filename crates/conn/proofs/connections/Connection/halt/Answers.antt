@@ -1,4 +1,4 @@
-use Rattle.std.proofs.Common.{rules, refl}
+use Rattle.std.proofs.Common.{rules}
 use Rattle.conn.specs.Keeping.{business}
 use Rattle.conn.proofs.Sighting.{halted_entry}
 use Rattle.conn.proofs.Going.{gone_halt}

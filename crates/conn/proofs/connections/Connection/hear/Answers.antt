@@ -1,7 +1,6 @@
 use Rattle.std.proofs.Common.{◌≡◌, ◌<◌, ◌≤◌, ◌+◌, ◌++◌, ℕ, List, length, take, rules, refl, ap, subst, sym, Some}
 use Rattle.vod_base.specs.Links.{doing_of}
 use Rattle.vod_base.specs.declared.links.Heard.{Heard}
-use Rattle.vod_base.specs.declared.links.Heard.TheVariants.{Bytes, Slot}
 use Rattle.conn.specs.declared.reports.ConnEnd.TheVariants.{LinkFault, TooMuchInput}
 use Rattle.conn.specs.Sights.{HasBroken, HasComeTo, HasPassed, Sight, sight}
 use Rattle.conn.specs.Turns.{stage}

@@ -1,4 +1,4 @@
-use Rattle.std.proofs.Common.{rules, refl}
+use Rattle.std.proofs.Common.{refl}
 use Rattle.conn.specs.Sights.{sight}
 use Rattle.conn.proofs.Breaking.{broken_slot, on_err}
 use Rattle.conn.proofs.connections.Connection.step.Goals as goal

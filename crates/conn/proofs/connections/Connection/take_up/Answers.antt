@@ -1,4 +1,4 @@
-use Rattle.std.proofs.Common.{◌≡◌, rules, subst, sym, refl, arith, None, Some}
+use Rattle.std.proofs.Common.{rules, subst, sym, arith, None, Some}
 use Rattle.conn.specs.Keeping.{business}
 use Rattle.conn.specs.Sights.{HasTaken, sight}
 use Rattle.conn.proofs.Counting.{counted_on}
