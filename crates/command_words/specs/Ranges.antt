@@ -4,13 +4,23 @@ use Rattle.slot_calendar.specs.Profiles.{IsProfile}
 use Rattle.command_words.specs.Settings.{texts, values_of}
 use Rattle.command_words.specs.Words.{are_films}
 use Rattle.command_words.specs.declared.orders.Order.{Order}
-use Rattle.command_words.specs.declared.orders.Order.TheVariants.{Help, Version, Plan, Check, Make, Scan, Serve}
+use Rattle.command_words.specs.declared.orders.Order.TheVariants.{Help, Version, Plan, Check, Scan, Make, Day, Fair, Serve, Watch}
+use Rattle.command_words.specs.declared.orders.Source.{Source}
+use Rattle.command_words.specs.declared.orders.Source.TheVariants.{Trace, Film}
 use Rattle.command_words.specs.declared.orders.Viewer.{Viewer}
 use Rattle.command_words.specs.declared.orders.Listening.{Listening}
 use Rattle.command_words.specs.declared.orders.Pace.{Pace}
 use Rattle.command_words.specs.declared.orders.Serving.{Serving}
+use Rattle.command_words.specs.declared.orders.ScriptRun.{ScriptRun}
+use Rattle.command_words.specs.declared.orders.FairRun.{FairRun}
+use Rattle.command_words.specs.declared.orders.Watching.{Watching}
+
+abbrev pub IsSourceInRange : Source → Type 0
+IsSourceInRange (Trace name) = Unit {0}
+IsSourceInRange (Film name slot) = (360 ≤ slot) × (slot ≤ 360000)
 
 pub record IsViewerInRange (viewer : Viewer) : Type 0 where
+  pub source : IsSourceInRange viewer.source
   pub some_buffer : 1 ≤ viewer.buffer
   pub buffer_fits : viewer.buffer ≤ 2 ^ 42
   pub startup_fits : viewer.startup ≤ 10000
@@ -36,11 +46,31 @@ pub record IsServingInRange (serving : Serving) : Type 0 where
   pub listening : IsListeningInRange serving.listening
   pub pace : IsPaceInRange serving.pace
 
+pub record IsScriptRunInRange (run : ScriptRun) : Type 0 where
+  pub profile : IsProfile run.capacity
+  pub some_journal : 2 ≤ run.journal
+  pub journal_fits : run.journal ≤ 1048576
+  pub some_slot : 360 ≤ run.slot
+  pub slot_fits : run.slot ≤ 360000
+
+pub record IsFairRunInRange (run : FairRun) : Type 0 where
+  pub some_plays : 1 ≤ run.plays
+  pub plays_fit : run.plays ≤ 100000
+  pub profile : IsProfile run.capacity
+
+pub record IsWatchingInRange (watching : Watching) : Type 0 where
+  pub some_port : 1 ≤ watching.port
+  pub port_fits : watching.port ≤ 65535
+  pub pace : IsPaceInRange watching.pace
+
 abbrev pub IsOrderInRange : Order → Type 0
 IsOrderInRange Help = Unit {0}
 IsOrderInRange Version = Unit {0}
 IsOrderInRange (Plan viewer) = IsViewerInRange viewer
 IsOrderInRange (Check viewer cert) = IsViewerInRange viewer
-IsOrderInRange (Make kind seed pictures) = Unit {0}
 IsOrderInRange (Scan film) = Unit {0}
+IsOrderInRange (Make kind seed pictures) = (1 ≤ pictures) × (pictures ≤ 100000)
+IsOrderInRange (Day run) = IsScriptRunInRange run
+IsOrderInRange (Fair run) = IsFairRunInRange run
 IsOrderInRange (Serve serving) = IsServingInRange serving
+IsOrderInRange (Watch watching) = IsWatchingInRange watching

@@ -1,6 +1,6 @@
 -- Settings: words `key=value`, split at their first '='. Their order is free, and each key comes at most once, but for
 -- those that say otherwise.
-use Rattle.std.specs.Prelude.{ℕ, ◌&&◌, ◌==◌, if◌then◌else◌, nat_lt, nat_le, List, [], ◌∷◌, length, Option, Some, None, map, flat_map, string_bytes, String}
+use Rattle.std.specs.Prelude.{ℕ, Bool, true, false, ◌&&◌, ◌==◌, if◌then◌else◌, nat_lt, nat_le, List, [], ◌∷◌, length, Option, Some, None, map, flat_map, string_bytes, String}
 use Rattle.std.specs.Global.{Global}
 use Rattle.std.specs.List.{before_first, after_first, position_or_len}
 use Rattle.std.specs.Option.{option_to_list}
@@ -21,6 +21,11 @@ setting_value key word =
 -- the values that words give to a key, in order
 abbrev pub values_of : List ℕ → List (List ℕ) → List (List ℕ)
 values_of key words = flat_map (λ word. option_to_list (setting_value key word)) words
+
+-- no value was given
+abbrev pub is_absent : List (List ℕ) → Bool
+is_absent [] = true
+is_absent (value ∷ values) = false
 
 -- a name that was given once, where it is a good one
 abbrev pub one_name : List (List ℕ) → Option (List ℕ)

@@ -1,30 +1,24 @@
 -- What the words of the command line mean: a command, and its settings.
-use Rattle.std.specs.Prelude.{ℕ, ◌-◌, ◌^◌, Bool, true, false, not, ◌||◌, ◌&&◌, if◌then◌else◌, nat_le, List, [], ◌∷◌, length, Option, Some, None, is_some, option_map, codes}
+use Rattle.std.specs.Prelude.{ℕ, Bool, true, not, ◌&&◌, if◌then◌else◌, nat_le, List, [], ◌∷◌, length, Option, Some, None, option_map, codes}
 use Rattle.std.specs.List.{list_all, list_any}
 use Rattle.std.specs.Option.{option_and_then}
 use Rattle.std.specs.Str.{bytes_eq}
 use Rattle.vod_base.specs.Names.{is_good_name}
 use Rattle.slot_calendar.specs.declared.profiles.CapStep.{CapStep}
-use Rattle.command_words.specs.Settings.{setting_value, values_of, one_name, one_number, number_or}
-use Rattle.command_words.specs.Capacities.{one_capacity}
+use Rattle.command_words.specs.Settings.{values_of, one_name, number_or}
+use Rattle.command_words.specs.Keys.{Made, film_given, cert_given, script_given, buffer_given, startup_given, slot_given, capacity_given, journal_given, port_given, workers_given, connections_given, seed_given, pictures_given, plays_given, one_kind, one_bind}
+use Rattle.command_words.specs.Commands.{command_named, is_word_of}
+use Rattle.command_words.specs.declared.commands.Command.{Command}
+use Rattle.command_words.specs.declared.commands.Command.TheVariants.{Plan, Check, Scan, Make, Day, Fair, Serve, Watch}
 
--- what `make` makes: the trace, film or system stream of a number
-pub data Made : Type 0 where
-  made_film : Made
-  made_trace : Made
-  made_system : Made
+-- what is planned: a trace, or a film in slots of a length in 1/360,000 second
+pub data Source : Type 0 where
+  trace_source : (name : List ℕ) → Source
+  film_source : (name : List ℕ) → (slot : ℕ) → Source
 
-abbrev pub one_kind : List (List ℕ) → Option Made
-one_kind [] = None
-one_kind (value ∷ []) =
-    if bytes_eq value (codes "film") then Some made_film
-    else if bytes_eq value (codes "trace") then Some made_trace
-    else if bytes_eq value (codes "system") then Some made_system else None
-one_kind (value ∷ other ∷ others) = None
-
--- a trace's name, the client's buffer in bytes and its start delay in slots
+-- what is planned, for a client with a buffer in bytes and a start delay in slots
 pub record Viewer : Type 0 where
-  pub trace : List ℕ
+  pub source : Source
   pub buffer : ℕ
   pub startup : ℕ
 
@@ -50,58 +44,87 @@ pub record Serving : Type 0 where
   pub listening : Listening
   pub pace : Pace
 
+-- a script that is run over one link
+pub record ScriptRun : Type 0 where
+  pub script : List ℕ
+  pub capacity : List CapStep
+  pub journal : ℕ
+  pub slot : ℕ
+
+-- drawn plays that are run over one link
+pub record FairRun : Type 0 where
+  pub seed : ℕ
+  pub plays : ℕ
+  pub capacity : List CapStep
+
+-- a film that a server at 127.0.0.1 is asked for
+pub record Watching : Type 0 where
+  pub film : List ℕ
+  pub port : ℕ
+  pub pace : Pace
+
 -- what the words ask for
 pub data Order : Type 0 where
   help : Order
   version : Order
   plan_of : Viewer → Order
   check_of : Viewer → (cert : List ℕ) → Order
-  make_of : Made → (seed pictures : ℕ) → Order
   scan_of : (film : List ℕ) → Order
+  make_of : Made → (seed pictures : ℕ) → Order
+  day_of : ScriptRun → Order
+  fair_of : FairRun → Order
   serve_of : Serving → Order
+  watch_of : Watching → Order
 
--- `trace` once; `buffer` from 1 to 2^42, by default 1,048,576; `startup` up to 10,000, by default 25
+-- exactly one of `trace` and `film`; `slot` with `film` alone
+abbrev pub source_of : List (List ℕ) → List (List ℕ) → List (List ℕ) → Option Source
+source_of [] films slots =
+    option_and_then (λ name. option_map (λ slot. film_source name slot) (number_or 14400 360 360000 slots)) (one_name films)
+source_of (trace ∷ traces) [] [] = option_map trace_source (one_name (trace ∷ traces))
+source_of (trace ∷ traces) [] (slot ∷ slots) = None
+source_of (trace ∷ traces) (film ∷ films) slots = None
+
+abbrev pub source_given : List (List ℕ) → Option Source
+source_given words = source_of (values_of (codes "trace") words) (values_of (codes "film") words) (values_of (codes "slot") words)
+
 abbrev pub viewer_given : List (List ℕ) → Option Viewer
 viewer_given words =
-    option_and_then (λ trace.
+    option_and_then (λ source.
     option_and_then (λ buffer.
-    option_map (λ startup. record { trace = trace; buffer = buffer; startup = startup })
-    (number_or 25 0 10000 (values_of (codes "startup") words)))
-    (number_or 1048576 1 (2 ^ 42) (values_of (codes "buffer") words)))
-    (one_name (values_of (codes "trace") words))
+    option_map (λ startup. record { source = source; buffer = buffer; startup = startup })
+    (startup_given words))
+    (buffer_given words))
+    (source_given words)
 
-abbrev pub is_viewer_word : List ℕ → Bool
-is_viewer_word word = is_some (setting_value (codes "trace") word) || is_some (setting_value (codes "buffer") word) || is_some (setting_value (codes "startup") word)
+abbrev pub check_given : List (List ℕ) → Option Order
+check_given words = option_and_then (λ viewer. option_map (λ cert. check_of viewer cert) (cert_given words)) (viewer_given words)
 
-abbrev pub plan_order : List (List ℕ) → Option Order
-plan_order words = if list_all is_viewer_word words then option_map plan_of (viewer_given words) else None
-
-abbrev pub is_check_word : List ℕ → Bool
-is_check_word word = is_viewer_word word || is_some (setting_value (codes "cert") word)
-
-abbrev pub check_order : List (List ℕ) → Option Order
-check_order words =
-    if list_all is_check_word words
-    then option_and_then (λ viewer. option_map (λ cert. check_of viewer cert) (one_name (values_of (codes "cert") words))) (viewer_given words)
-    else None
-
-abbrev pub is_make_word : List ℕ → Bool
-is_make_word word = is_some (setting_value (codes "kind") word) || is_some (setting_value (codes "seed") word) || is_some (setting_value (codes "pictures") word)
-
-abbrev pub make_order : List (List ℕ) → Option Order
-make_order words =
-    if list_all is_make_word words
-    then option_and_then (λ kind. option_and_then (λ seed. option_map (λ pictures. make_of kind seed pictures)
-    (one_number 1 100000 (values_of (codes "pictures") words)))
-    (one_number 0 (2 ^ 64 - 1) (values_of (codes "seed") words)))
+abbrev pub make_given : List (List ℕ) → Option Order
+make_given words =
+    option_and_then (λ kind. option_and_then (λ seed. option_map (λ pictures. make_of kind seed pictures)
+    (pictures_given words))
+    (seed_given words))
     (one_kind (values_of (codes "kind") words))
-    else None
 
-abbrev pub is_scan_word : List ℕ → Bool
-is_scan_word word = is_some (setting_value (codes "film") word)
+abbrev pub script_run_given : List (List ℕ) → Option ScriptRun
+script_run_given words =
+    option_and_then (λ script.
+    option_and_then (λ capacity.
+    option_and_then (λ journal.
+    option_map (λ slot. record { script = script; capacity = capacity; journal = journal; slot = slot })
+    (slot_given words))
+    (journal_given words))
+    (capacity_given words))
+    (script_given words)
 
-abbrev pub scan_order : List (List ℕ) → Option Order
-scan_order words = if list_all is_scan_word words then option_map scan_of (one_name (values_of (codes "film") words)) else None
+abbrev pub fair_run_given : List (List ℕ) → Option FairRun
+fair_run_given words =
+    option_and_then (λ seed.
+    option_and_then (λ plays.
+    option_map (λ capacity. record { seed = seed; plays = plays; capacity = capacity })
+    (capacity_given words))
+    (plays_given words))
+    (seed_given words)
 
 -- no name stands twice
 abbrev pub are_distinct : List (List ℕ) → Bool
@@ -116,37 +139,27 @@ are_names names = list_all is_good_name names && are_distinct names
 abbrev pub are_films : List (List ℕ) → Bool
 are_films names = nat_le 1 (length names) && (nat_le (length names) 64 && are_names names)
 
--- `bind`: `local`, the default, or `all`
-abbrev pub one_bind : List (List ℕ) → Option Bool
-one_bind [] = Some false
-one_bind (value ∷ []) =
-    if bytes_eq value (codes "local") then Some false
-    else if bytes_eq value (codes "all") then Some true else None
-one_bind (value ∷ other ∷ others) = None
-
--- `port` from 1 to 65,535, by default 8554; `bind`; `workers` from 1 to 256, by default 32; `connections` by default 0
 abbrev pub listening_given : List (List ℕ) → Option Listening
 listening_given words =
     option_and_then (λ port.
     option_and_then (λ all.
     option_and_then (λ workers.
     option_map (λ connections. record { port = port; all = all; workers = workers; connections = connections })
-    (number_or 0 0 (2 ^ 64 - 1) (values_of (codes "connections") words)))
-    (number_or 32 1 256 (values_of (codes "workers") words)))
+    (connections_given words))
+    (workers_given words))
     (one_bind (values_of (codes "bind") words)))
-    (number_or 8554 1 65535 (values_of (codes "port") words))
+    (port_given words)
 
--- `buffer` and `startup` as for a trace; `slot` from 360 to 360,000, by default 14,400
 abbrev pub pace_given : List (List ℕ) → Option Pace
 pace_given words =
     option_and_then (λ buffer.
     option_and_then (λ startup.
     option_map (λ slot. record { buffer = buffer; startup = startup; slot = slot })
-    (number_or 14400 360 360000 (values_of (codes "slot") words)))
-    (number_or 25 0 10000 (values_of (codes "startup") words)))
-    (number_or 1048576 1 (2 ^ 42) (values_of (codes "buffer") words))
+    (slot_given words))
+    (startup_given words))
+    (buffer_given words)
 
--- `film` from 1 to 64 times; `capacity`; `journal` from 2 to 1,048,576, by default 65,536
+-- `film` from 1 to 64 times
 abbrev pub serving_given : List (List ℕ) → Option Serving
 serving_given words =
     if are_films (values_of (codes "film") words)
@@ -156,25 +169,33 @@ serving_given words =
     option_map (λ pace. record { films = values_of (codes "film") words; capacity = capacity; journal = journal; listening = listening; pace = pace })
     (pace_given words))
     (listening_given words))
-    (number_or 65536 2 1048576 (values_of (codes "journal") words)))
-    (one_capacity (values_of (codes "capacity") words))
+    (journal_given words))
+    (capacity_given words)
     else None
 
-abbrev pub is_pace_word : List ℕ → Bool
-is_pace_word word = is_some (setting_value (codes "buffer") word) || is_some (setting_value (codes "startup") word) || is_some (setting_value (codes "slot") word)
+abbrev pub watching_given : List (List ℕ) → Option Watching
+watching_given words =
+    option_and_then (λ film.
+    option_and_then (λ port.
+    option_map (λ pace. record { film = film; port = port; pace = pace })
+    (pace_given words))
+    (port_given words))
+    (film_given words)
 
-abbrev pub is_listening_word : List ℕ → Bool
-is_listening_word word =
-    is_some (setting_value (codes "port") word) || is_some (setting_value (codes "bind") word)
-    || is_some (setting_value (codes "workers") word) || is_some (setting_value (codes "connections") word)
+-- what the settings of a command ask for
+abbrev pub order_given : Command → List (List ℕ) → Option Order
+order_given Plan words = option_map plan_of (viewer_given words)
+order_given Check words = check_given words
+order_given Scan words = option_map scan_of (film_given words)
+order_given Make words = make_given words
+order_given Day words = option_map day_of (script_run_given words)
+order_given Fair words = option_map fair_of (fair_run_given words)
+order_given Serve words = option_map serve_of (serving_given words)
+order_given Watch words = option_map watch_of (watching_given words)
 
-abbrev pub is_serve_word : List ℕ → Bool
-is_serve_word word =
-    is_some (setting_value (codes "film") word) || is_some (setting_value (codes "capacity") word) || is_some (setting_value (codes "journal") word)
-    || is_listening_word word || is_pace_word word
-
-abbrev pub serve_order : List (List ℕ) → Option Order
-serve_order words = if list_all is_serve_word words then option_map serve_of (serving_given words) else None
+-- what a command and its words ask for, where each gives a value to a key that the command takes
+abbrev pub command_order : List (List ℕ) → Command → Option Order
+command_order words command = if list_all (is_word_of command) words then order_given command words else None
 
 -- what stands alone
 abbrev pub lone_order : Order → List (List ℕ) → Option Order
@@ -187,9 +208,4 @@ meaning [] = None
 meaning (command ∷ words) =
     if bytes_eq command (codes "--help") then lone_order help words
     else if bytes_eq command (codes "--version") then lone_order version words
-    else if bytes_eq command (codes "plan") then plan_order words
-    else if bytes_eq command (codes "check") then check_order words
-    else if bytes_eq command (codes "make") then make_order words
-    else if bytes_eq command (codes "scan") then scan_order words
-    else if bytes_eq command (codes "serve") then serve_order words
-    else None
+    else option_and_then (command_order words) (command_named command)

@@ -2,15 +2,21 @@
 #![tactic(auto)]
 
 mod capacities;
+mod commands;
 mod films;
+mod keys;
 mod orders;
 mod servers;
 mod settings;
 mod steps;
+mod viewers;
 mod words;
 
+pub use commands::{Command, command_named, keys_of};
 pub use films::film_named;
-pub use orders::{Listening, Made, Order, Pace, Serving, Viewer};
+pub use orders::{
+    FairRun, Listening, Made, Order, Pace, ScriptRun, Serving, Source, Viewer, Watching,
+};
 pub use steps::Steps;
 pub use words::read_words;
 

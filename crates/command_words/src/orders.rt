@@ -1,3 +1,6 @@
+ghost use Rattle.std.specs.Prelude.{◌≡◌};
+ghost use Rattle.command_words.specs.Orders.{source_name, source_read};
+
 use crate::steps::Steps;
 
 /// What the words of the command line ask for.
@@ -7,23 +10,50 @@ pub enum Order<'a> {
     Help,
     /// `--version` alone.
     Version,
-    /// `plan`: the plan of a trace.
+    /// `plan`: the plan of a trace or film.
     Plan(Viewer<'a>),
     /// `check`: whether a certificate is that of the best plan.
     Check(Viewer<'a>, &'a str),
-    /// `make`: a trace, film or system stream from a number.
-    Make(Made, u64, u32),
     /// `scan`: the units of a film.
     Scan(&'a str),
+    /// `make`: a trace, film or system stream from a number, with 1 to 100,000 pictures.
+    Make(Made, u64, u32),
+    /// `day`: a script of plays over one link.
+    Day(ScriptRun<'a>),
+    /// `fair`: drawn plays over one link.
+    Fair(FairRun),
     /// `serve`: films over RTSP.
     Serve(Serving<'a>),
+    /// `watch`: a film from a server.
+    Watch(Watching<'a>),
 }
 
-/// A trace and the client that it is planned for.
+/// What is planned, by its name.
+#[derive(Clone, Copy, Debug, PartialEq, Eq)]
+pub enum Source<'a> {
+    /// A trace, with one picture a slot.
+    Trace(&'a str),
+    /// A film, in slots of this length, from 360 to 360,000 in 1/360,000 second.
+    Film(&'a str, u32),
+}
+
+impl<'a> Source<'a> {
+    /// Its name in the library.
+    pub fn name(&self) -> &'a str
+        ensures { result.now ≡ source_name (source_read self.now) }
+    {
+        match self {
+            Source::Trace(name) => name,
+            Source::Film(name, _) => name,
+        }
+    }
+}
+
+/// A trace or film and the client that it is planned for.
 #[derive(Clone, Copy, Debug)]
 pub struct Viewer<'a> {
-    /// The name of the trace.
-    pub trace: &'a str,
+    /// What is planned.
+    pub source: Source<'a>,
     /// The client's buffer, from 1 to 2^42 bytes.
     pub buffer: u64,
     /// The start delay, from 0 to 10,000 slots.
@@ -74,5 +104,40 @@ pub struct Serving<'a> {
     /// Where it listens.
     pub listening: Listening,
     /// What it plans by.
+    pub pace: Pace,
+}
+
+/// A script and the link that it runs over.
+#[derive(Debug, Drop)]
+pub struct ScriptRun<'a> {
+    /// The name of the script.
+    pub script: &'a str,
+    /// The steps of the link's capacity.
+    pub capacity: Steps,
+    /// The most entries of the journal, from 2 to 1,048,576.
+    pub journal: u64,
+    /// The length of a slot, from 360 to 360,000 in 1/360,000 second.
+    pub slot: u32,
+}
+
+/// Drawn plays and the link that they run over.
+#[derive(Debug, Drop)]
+pub struct FairRun {
+    /// The number that the generator begins with.
+    pub seed: u64,
+    /// How many turns are run, from 1 to 100,000.
+    pub plays: u32,
+    /// The steps of the link's capacity.
+    pub capacity: Steps,
+}
+
+/// A film that is watched, and its server at 127.0.0.1.
+#[derive(Clone, Copy, Debug)]
+pub struct Watching<'a> {
+    /// The name of the film.
+    pub film: &'a str,
+    /// The server's port, from 1 to 65,535.
+    pub port: u16,
+    /// The client's buffer and start delay, and the length of a slot.
     pub pace: Pace,
 }

@@ -1,4 +1,4 @@
-use crate::{Order, Serving, read_words};
+use crate::{Order, Serving, Source, command_named, keys_of, read_words};
 use std::alloc::{AllocError, Global};
 use std::test::Fail;
 
@@ -83,7 +83,30 @@ fn refuses_wrong_words(rt: HostRuntime) -> Result<(), Fail> {
         "serve film=a journal=1",
         "serve film=a slot=359",
         "serve film=a port=1 port=1",
-        "watch film=a",
+        "plan buffer=10",
+        "plan trace=a film=b",
+        "plan trace=a slot=7200",
+        "plan trace=a trace=b",
+        "plan film=a film=b",
+        "plan film=a slot=360001",
+        "plan film=a cert=b",
+        "check film=a",
+        "scan film=a slot=7200",
+        "make kind=day seed=1 pictures=1",
+        "make kind=film seed=18446744073709551616 pictures=1",
+        "make kind=film seed=1 pictures=100001",
+        "day",
+        "day script=a startup=1",
+        "day script=a slot=1",
+        "fair seed=1",
+        "fair seed=1 plays=0",
+        "fair seed=1 plays=1 journal=2",
+        "watch film=a film=b",
+        "watch film=a bind=all",
+        "watch port=1",
+        "play film=a",
+        "--help plan",
+        "",
     ] {
         let words = words_of(alloc, line)?;
         assert!(rt; read_words(&words).is_none(), "at {line}");
@@ -101,5 +124,81 @@ fn takes_64_films(rt: HostRuntime) -> Result<(), Fail> {
     assert!(rt; read_words(&words).is_some());
     words.push(String::from_str(alloc, "film=another")?)?;
     assert!(rt; read_words(&words).is_none());
+    Ok(())
+}
+
+/// What an order asks for: its command, the name of its input, and its numbers.
+fn asked(alloc: Global, order: &Order<'_>) -> Result<String, AllocError> {
+    match order {
+        Order::Plan(viewer) => match viewer.source {
+            Source::Trace(name) => {
+                format!(in alloc; "plan {name} {} {}", viewer.buffer, viewer.startup)
+            }
+            Source::Film(name, slot) => {
+                format!(in alloc;
+                    "plan {name} at {slot} {} {}",
+                    viewer.buffer, viewer.startup
+                )
+            }
+        },
+        Order::Check(viewer, cert) => format!(in alloc; "check {cert} {}", viewer.startup),
+        Order::Scan(film) => format!(in alloc; "scan {film}"),
+        Order::Make(kind, seed, pictures) => format!(in alloc; "make {kind:?} {seed} {pictures}"),
+        Order::Day(run) => format!(in alloc; "day {} {} {}", run.script, run.journal, run.slot),
+        Order::Fair(run) => format!(in alloc; "fair {} {}", run.seed, run.plays),
+        Order::Watch(watching) => format!(in alloc;
+            "watch {} {} {} {} {}",
+            watching.film,
+            watching.port,
+            watching.pace.buffer,
+            watching.pace.startup,
+            watching.pace.slot
+        ),
+        Order::Help => format!(in alloc; "help"),
+        Order::Version => format!(in alloc; "version"),
+        Order::Serve(serving) => format!(in alloc; "serve {}", serving.journal),
+    }
+}
+
+#[test]
+fn reads_each_command(rt: HostRuntime) -> Result<(), Fail> {
+    let alloc = rt.alloc();
+    for (line, wanted) in [
+        ("plan trace=t", "plan t 1048576 25"),
+        (
+            "plan startup=0 slot=7200 film=b.mpg",
+            "plan b.mpg at 7200 1048576 0",
+        ),
+        ("plan film=b.mpg", "plan b.mpg at 14400 1048576 25"),
+        ("check cert=c film=b slot=360", "check c 25"),
+        ("scan film=a", "scan a"),
+        ("make pictures=250 seed=1 kind=system", "make System 1 250"),
+        ("day script=s journal=2", "day s 2 14400"),
+        ("fair seed=7 plays=2000 capacity=0:0", "fair 7 2000"),
+        ("serve film=a", "serve 65536"),
+        (
+            "watch film=a port=9 buffer=1 startup=2 slot=360",
+            "watch a 9 1 2 360",
+        ),
+        ("--help", "help"),
+        ("--version", "version"),
+    ] {
+        let words = words_of(alloc, line)?;
+        let Some(order) = read_words(&words) else {
+            return Err(Fail::from("refused"));
+        };
+        let text = asked(alloc, &order)?;
+        assert_eq!(rt; text.as_str(), wanted, "at {line}");
+    }
+    Ok(())
+}
+
+#[test]
+fn tells_the_keys_of_a_command(rt: HostRuntime) -> Result<(), Fail> {
+    let Some(command) = command_named("fair") else {
+        return Err(Fail::from("no command"));
+    };
+    assert_eq!(rt; keys_of(command), ["seed", "plays", "capacity"].as_slice());
+    assert!(rt; command_named("--help").is_none());
     Ok(())
 }

@@ -1,152 +1,61 @@
-ghost use Rattle.std.specs.Prelude.{◌≡◌, ◌≤◌, ◌∷◌, [], option_map, IfSome};
-ghost use Rattle.std.specs.List.{list_all};
+ghost use Rattle.std.specs.Prelude.{◌≡◌, option_map, codes, IfSome};
 ghost use Rattle.command_words.specs.Settings.{texts, values_of};
-ghost use Rattle.command_words.specs.Ranges.{IsViewerInRange, IsOrderInRange};
-ghost use Rattle.command_words.specs.Words.{one_kind, is_viewer_word, viewer_given, plan_order, check_order, make_order, scan_order, serve_order, lone_order, meaning};
-ghost use Rattle.command_words.specs.Orders.{viewer_of, made_of, order_of};
-ghost use Rattle.command_words.specs.Commands.{is_word_of};
+ghost use Rattle.command_words.specs.Ranges.{IsOrderInRange};
+ghost use Rattle.command_words.specs.Words.{check_given, make_given, order_given, command_order, lone_order, meaning};
+ghost use Rattle.command_words.specs.Orders.{order_of};
 
-use crate::orders::{Made, Order, Viewer};
-use crate::servers::{is_serve_word, serving_given};
-use crate::settings::{Given, find_given, number_or, one_name, one_number, setting};
+use crate::commands::{Command, are_words_of, command_named};
+use crate::keys::{cert_given, film_given, one_kind, pictures_given, seed_given};
+use crate::orders::Order;
+use crate::servers::{serving_given, watching_given};
+use crate::viewers::{fair_run_given, script_run_given, viewer_given};
 
-/// The commands whose words are settings.
-#[derive(Clone, Copy, Debug)]
-enum Command {
-    Plan,
-    Check,
-    Make,
-    Scan,
-    Serve,
-}
-
-fn one_kind(words: &[String], key: &str) -> Option<Made>
-    ensures { option_map made_of result ≡ one_kind (values_of key.now (texts words.now)) }
-{
-    match find_given(words, key) {
-        Given::Once(text) => kind_named(text),
-        _ => None,
-    }
-}
-
-fn kind_named(text: &str) -> Option<Made>
-    ensures { option_map made_of result ≡ one_kind (text.now ∷ []) }
-{
-    if text == "film" {
-        Some(Made::Film)
-    } else if text == "trace" {
-        Some(Made::Trace)
-    } else if text == "system" {
-        Some(Made::System)
-    } else {
-        None
-    }
-}
-
-fn is_viewer_word(word: &str) -> bool
-    ensures { result ≡ is_viewer_word word.now }
-{
-    setting(word, "trace").is_some()
-        || setting(word, "buffer").is_some()
-        || setting(word, "startup").is_some()
-}
-
-/// Whether the word gives a value to a key that the command takes.
-fn is_word_of(command: Command, word: &str) -> bool
-    ensures { result ≡ is_word_of command word.now }
-{
-    match command {
-        Command::Plan => is_viewer_word(word),
-        Command::Check => is_viewer_word(word) || setting(word, "cert").is_some(),
-        Command::Make => setting(word, "kind").is_some()
-            || setting(word, "seed").is_some()
-            || setting(word, "pictures").is_some(),
-        Command::Scan => setting(word, "film").is_some(),
-        Command::Serve => is_serve_word(word),
-    }
-}
-
-fn are_words_of(command: Command, words: &[String]) -> bool
-    ensures { result ≡ list_all (is_word_of command) (texts words.now) }
-{
-    for word in words {
-        if !is_word_of(command, word.as_str()) {
-            return false;
-        }
-    }
-    true
-}
-
-fn viewer_given<'a>(words: &'a [String]) -> Option<Viewer<'a>>
-    ensures viewer { option_map viewer_of result ≡ viewer_given (texts words.entry.now) }
-    ensures range { IfSome result IsViewerInRange }
-{
-    let trace = one_name(words, "trace")?;
-    let buffer = number_or(words, "buffer", 1_048_576, 1, 1 << 42)?;
-    let startup = number_or(words, "startup", 25, 0, 10_000)?;
-    Some(Viewer {
-        trace,
-        buffer,
-        startup,
-    })
-}
-
-fn plan_order<'a>(words: &'a [String]) -> Option<Order<'a>>
-    ensures order { option_map order_of result ≡ plan_order (texts words.entry.now) }
+fn check_given<'a>(words: &'a [String]) -> Option<Order<'a>>
+    ensures order { option_map order_of result ≡ check_given (texts words.entry.now) }
     ensures range { IfSome result IsOrderInRange }
 {
-    if !are_words_of(Command::Plan, words) {
-        return None;
-    }
     let viewer = viewer_given(words)?;
-    Some(Order::Plan(viewer))
-}
-
-fn check_order<'a>(words: &'a [String]) -> Option<Order<'a>>
-    ensures order { option_map order_of result ≡ check_order (texts words.entry.now) }
-    ensures range { IfSome result IsOrderInRange }
-{
-    if !are_words_of(Command::Check, words) {
-        return None;
-    }
-    let viewer = viewer_given(words)?;
-    let cert = one_name(words, "cert")?;
+    let cert = cert_given(words)?;
     Some(Order::Check(viewer, cert))
 }
 
-fn make_order<'a>(words: &'a [String]) -> Option<Order<'a>>
-    ensures order { option_map order_of result ≡ make_order (texts words.entry.now) }
+fn make_given<'a>(words: &[String]) -> Option<Order<'a>>
+    ensures order { option_map order_of result ≡ make_given (texts words.now) }
     ensures range { IfSome result IsOrderInRange }
 {
-    if !are_words_of(Command::Make, words) {
-        return None;
-    }
     let kind = one_kind(words, "kind")?;
-    let seed = one_number(words, "seed", 0, u64::MAX)?;
-    let pictures = one_number(words, "pictures", 1, 100_000)?;
-    Some(Order::Make(kind, seed, pictures as u32))
+    let seed = seed_given(words)?;
+    let pictures = pictures_given(words)?;
+    Some(Order::Make(kind, seed, pictures))
 }
 
-fn scan_order<'a>(words: &'a [String]) -> Option<Order<'a>>
-    ensures order { option_map order_of result ≡ scan_order (texts words.entry.now) }
+/// What the settings of a command ask for.
+fn order_given<'a>(command: Command, words: &'a [String]) -> Option<Order<'a>>
+    ensures order { option_map order_of result ≡ order_given command (texts words.entry.now) }
     ensures range { IfSome result IsOrderInRange }
 {
-    if !are_words_of(Command::Scan, words) {
-        return None;
+    match command {
+        Command::Plan => Some(Order::Plan(viewer_given(words)?)),
+        Command::Check => check_given(words),
+        Command::Scan => Some(Order::Scan(film_given(words)?)),
+        Command::Make => make_given(words),
+        Command::Day => Some(Order::Day(script_run_given(words)?)),
+        Command::Fair => Some(Order::Fair(fair_run_given(words)?)),
+        Command::Serve => Some(Order::Serve(serving_given(words)?)),
+        Command::Watch => Some(Order::Watch(watching_given(words)?)),
     }
-    let film = one_name(words, "film")?;
-    Some(Order::Scan(film))
 }
 
-fn serve_order<'a>(words: &'a [String]) -> Option<Order<'a>>
-    ensures order { option_map order_of result ≡ serve_order (texts words.entry.now) }
+/// What a command asks for, where each word gives a value to one of its keys.
+fn command_order<'a>(command: Command, words: &'a [String]) -> Option<Order<'a>>
+    ensures order { option_map order_of result ≡ command_order (texts words.entry.now) command }
     ensures range { IfSome result IsOrderInRange }
 {
-    if !are_words_of(Command::Serve, words) {
-        return None;
+    if are_words_of(command, words) {
+        order_given(command, words)
+    } else {
+        None
     }
-    let serving = serving_given(words)?;
-    Some(Order::Serve(serving))
 }
 
 /// The order, where no word follows.
@@ -177,17 +86,6 @@ pub fn read_words<'a>(words: &'a [String]) -> Option<Order<'a>>
     if command == "--version" {
         return lone_order(Order::Version, rest);
     }
-    if command == "plan" {
-        plan_order(rest)
-    } else if command == "check" {
-        check_order(rest)
-    } else if command == "make" {
-        make_order(rest)
-    } else if command == "scan" {
-        scan_order(rest)
-    } else if command == "serve" {
-        serve_order(rest)
-    } else {
-        None
-    }
+    let command = command_named(command)?;
+    command_order(command, rest)
 }

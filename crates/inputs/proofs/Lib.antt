@@ -1,4 +1,9 @@
 pub mod ReadLemmas
+pub mod OpeningLemmas
 pub mod ScanLemmas
+pub mod StreamLemmas
+pub mod SizeLemmas
+pub mod VideoLemmas
 pub mod Tokens
+pub mod TokenLaws
 pub mod LoadLemmas

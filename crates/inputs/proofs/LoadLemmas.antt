@@ -1,55 +1,66 @@
 -- A film that is loaded to be served.
-use Rattle.std.proofs.Common.{◌≡◌, ℕ, ◌<◌, ◌≤◌, ◌^◌, List, [], length, Some, Option, sym, ap, ◌∙◌, arith, subst}
+use Rattle.std.proofs.Common.{◌≡◌, ℕ, ◌+◌, ◌-◌, ◌<◌, ◌≤◌, ◌^◌, List, [], length, take, drop, Some, None, Option, inl, inr, refl, sym, arith, subst}
 use Rattle.std.specs.Prelude.{option_map}
+use Rattle.std.proofs.lemmas.List.{length-drop}
 use Rattle.vod_base.specs.Outside.{File, file_named}
+use Rattle.mpeg_scan.specs.Films.{refusal}
+use Rattle.sys_demux.specs.Streams.{IsRefused, IsSystem}
+use Rattle.sys_demux.specs.declared.faults.SystemFault.{SystemFault}
 use Rattle.troubles.specs.Causes.{IsReadTrouble}
 use Rattle.troubles.specs.declared.faults.Fault.{Fault}
-use Rattle.troubles.specs.declared.faults.Fault.TheVariants.{NotFound, BadTrace, Curves, BadCert, Film, FilmTooLarge}
+use Rattle.troubles.specs.declared.faults.Fault.TheVariants.{Film}
 use Rattle.troubles.specs.declared.faults.Trouble.{Trouble}
 use Rattle.troubles.specs.declared.faults.Trouble.TheVariants.{Usage, Refused, StoreFault, SinkFault, NoMemory, GateFault}
-use Rattle.inputs.specs.Files.{IsFront, IsMissing, IsNamed}
-use Rattle.inputs.specs.Films.{IsBytesRefused, IsBytesTrouble, IsHeldRefused}
+use Rattle.inputs.specs.Files.{IsFront, IsNamed}
+use Rattle.inputs.specs.Films.{IsBytesTrouble, IsFilmTrouble}
+use Rattle.inputs.specs.Scans.{HoldsVideo}
+use Rattle.inputs.specs.Videos.{IsRefusedAbove, IsStreamFault, IsStreamFaultFrom, IsVideo, IsVideoFrom, moved, pack_in}
 use Rattle.inputs.proofs.ReadLemmas.{first_front}
+use Rattle.inputs.proofs.Tokens.{slice_from}
 
-pub missing_held : (held : List File) (name : List ℕ) (fault : Fault) → IsMissing held name fault → IsHeldRefused held name fault
-missing_held held name fault missing = subst (IsHeldRefused held name) (sym missing.0) missing.1
-
--- a file whose size was found is longer than that, or not
-pub long_file : (held : List File) (name : List ℕ) (size : ℕ) → Some size ≡ option_map length (file_named held name) → 2 ^ 30 < size →
-    (bytes : List ℕ) × ((file_named held name ≡ Some bytes) × (2 ^ 30 < length bytes))
-long_file held name size found long =
+-- a file whose size was found has too many bytes
+pub size_above : (held : List File) (name : List ℕ) (size most : ℕ) (over : Fault) → Some size ≡ option_map length (file_named held name) → most < size → IsRefusedAbove most over held name over
+size_above held name size most over found long =
     let file : IsFront held name size [] = first_front held name size found in
-    (file.whole, (file.found, omega (arith, file.sized, long)))
+    inr (file.whole, (file.found, inl (omega (arith, file.sized, long), refl)))
 
-short_file : (held : List File) (name : List ℕ) (size : ℕ) (bytes : List ℕ) → Some size ≡ option_map length (file_named held name) →
-    file_named held name ≡ Some bytes → size ≤ 2 ^ 30 → length bytes ≤ 2 ^ 30
-short_file held name size bytes found is short =
-    let same : Some size ≡ Some (length bytes) = found ∙ ap (option_map length) is in
-    let long : size ≡ length bytes = cc in
-    omega (arith, long, short)
+-- the video of a file without a system stream
+pub plain_is : (file : List ℕ) → pack_in file ≡ None → IsVideo file file
+plain_is file pack = subst (λ (o : Option ℕ). IsVideoFrom o file file) (sym pack) refl
 
-bytes_held : (held : List File) (name bytes : List ℕ) (fault : Fault) → IsBytesRefused bytes fault → file_named held name ≡ Some bytes → length bytes ≤ 2 ^ 30 →
-    IsHeldRefused held name fault
-bytes_held held name bytes NotFound is found short = absurd is
-bytes_held held name bytes (BadTrace place) is found short = is
-bytes_held held name bytes (Curves fault) is found short = is
-bytes_held held name bytes (BadCert line) is found short = is
-bytes_held held name bytes (Film fault) is found short = (bytes, (found, short, is))
-bytes_held held name bytes FilmTooLarge is found short = absurd is
+-- the video of a file's system stream, and its fault
+pub stream_is : (file video : List ℕ) (from : ℕ) → pack_in file ≡ Some from → IsSystem (take (length file - from) (drop from file)) video → IsVideo file video
+stream_is file video from pack system =
+    subst (λ (o : Option ℕ). IsVideoFrom o file video) (sym pack) (subst (λ (l : List ℕ). IsSystem l video) (slice_from file from) system)
+
+pub fault_is : (file : List ℕ) (from : ℕ) (own fault : SystemFault) → pack_in file ≡ Some from → from ≤ length file → length file ≤ 2 ^ 40 → IsRefused (take (length file - from) (drop from file)) own →
+    ((bytes : List ℕ) → IsRefused bytes own → from + length bytes ≤ 2 ^ 40 → fault ≡ moved from own) → IsStreamFault file fault
+fault_is file from own fault pack within short refused moves =
+    let stream : IsRefused (drop from file) own = subst (λ (l : List ℕ). IsRefused l own) (slice_from file from) refused in
+    let its : IsStreamFaultFrom (Some from) file fault = (own, (stream, moves (drop from file) stream (omega (arith, length-drop from file, within, short)))) in
+    subst (λ (o : Option ℕ). IsStreamFaultFrom o file fault) (sym pack) its
+
+-- the refusal of a file's video is that of the file
+pub video_trouble : (name file video : List ℕ) (t : Trouble) → IsVideo file video → IsFilmTrouble name (λ fault. refusal video ≡ Some fault) t → IsBytesTrouble name file t
+video_trouble name file video Usage is h = h
+video_trouble name file video (Refused other (Film fault)) is h = (h.0, (video, (is, h.1)))
+video_trouble name file video (Refused other fault) is h = absurd h
+video_trouble name file video (StoreFault other) is h = h
+video_trouble name file video SinkFault is h = h
+video_trouble name file video NoMemory is h = tt
+video_trouble name file video GateFault is h = h
 
 -- what the bytes of a file come to is what the file comes to
-pub bytes_trouble : (told : Option (List File)) (faults faults' : ℕ) (name bytes : List ℕ) (size : ℕ) (t : Trouble) → IsBytesTrouble name bytes t →
-    ((held : List File) → told ≡ Some held → Some size ≡ option_map length (file_named held name)) →
-    ((held : List File) → told ≡ Some held → file_named held name ≡ Some bytes) → size ≤ 2 ^ 30 →
-    IsReadTrouble (IsNamed name) IsHeldRefused told faults faults' t
-bytes_trouble told faults faults' name bytes size Usage h sized found short = h
-bytes_trouble told faults faults' name bytes size (Refused other fault) h sized found short = (
-  h.0,
-  λ held is.
-      let held_so : IsHeldRefused held name fault = bytes_held held name bytes fault h.1 (found held is) (short_file held name size bytes (sized held is) (found held is) short) in
-      subst (λ (n : List ℕ). IsHeldRefused held n fault) (sym h.0) held_so,
-)
-bytes_trouble told faults faults' name bytes size (StoreFault other) h sized found short = absurd h
-bytes_trouble told faults faults' name bytes size SinkFault h sized found short = h
-bytes_trouble told faults faults' name bytes size NoMemory h sized found short = tt
-bytes_trouble told faults faults' name bytes size GateFault h sized found short = h
+pub bytes_trouble : (most : ℕ) (over : Fault) (told : Option (List File)) (faults faults' : ℕ) (name file : List ℕ) (t : Trouble) → IsBytesTrouble name file t →
+    ((held : List File) → told ≡ Some held → file_named held name ≡ Some file) → length file ≤ most → IsReadTrouble (IsNamed name) (IsRefusedAbove most over) told faults faults' t
+bytes_trouble most over told faults faults' name file Usage h found short = h
+bytes_trouble most over told faults faults' name file (Refused other fault) h found short =
+    (h.0, λ held is. subst (λ (n : List ℕ). IsRefusedAbove most over held n fault) (sym h.0) (inr (file, (found held is, inr (short, h.1)))))
+bytes_trouble most over told faults faults' name file (StoreFault other) h found short = absurd h
+bytes_trouble most over told faults faults' name file SinkFault h found short = h
+bytes_trouble most over told faults faults' name file NoMemory h found short = tt
+bytes_trouble most over told faults faults' name file GateFault h found short = h
+
+pub film_loaded : (held : List File) (name file video : List ℕ) → file_named held name ≡ Some file → length file ≤ 2 ^ 40 → IsVideo file video → refusal video ≡ None → HoldsVideo held name video
+film_loaded held name file video found short is accepted =
+    record { file = file; found = found; short = omega (arith, short); is_video = is; accepted = accepted }

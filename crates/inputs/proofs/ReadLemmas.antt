@@ -2,7 +2,7 @@
 use Rattle.std.proofs.Common.{◌≡◌, ℕ, ◌+◌, ◌-◌, ◌<◌, ◌≤◌, Bool, true, false, List, [], ◌++◌, length, take, drop, Some, None, Option, refl, sym, ap, ◌∙◌, arith, if◌then◌else◌, unwrap_or, length-append}
 use Rattle.std.specs.Prelude.{option_map}
 use Rattle.std.proofs.Math.Seq.{take-add}
-use Rattle.std.proofs.lemmas.List.{take_all, length-take-le, take-take}
+use Rattle.std.proofs.lemmas.List.{take_all, length-take-le, take-append-drop, take-take}
 use Rattle.vod_base.specs.Outside.{File, file_named, bytes_named, IsRead}
 use Rattle.inputs.specs.Files.{IsFront}
 
@@ -62,3 +62,11 @@ pub measure_falls : (size len len' : ℕ) (more more' : Bool) → more ≡ true 
 measure_falls size len len' false more' h before longer grows = let e : size ≡ len = cc in omega (arith, e, before)
 measure_falls size len len' true false h before longer grows = omega (arith, before, longer)
 measure_falls size len len' true true h before longer grows = omega (arith, before, grows refl)
+
+pub one_file : (held : List File) (name a b : List ℕ) → file_named held name ≡ Some a → file_named held name ≡ Some b → a ≡ b
+one_file held name a b p q = let e : Some a ≡ Some b = sym p ∙ q in cc
+
+-- a front of a file, and the rest of it
+pub front_rest : (held : List File) (name : List ℕ) (size : ℕ) (bytes : List ℕ) → (front : IsFront held name size bytes) → bytes ++ drop (length bytes) front.whole ≡ front.whole
+front_rest held name size bytes front =
+    ap (λ (l : List ℕ). l ++ drop (length bytes) front.whole) front.front ∙ take-append-drop (length bytes) front.whole

@@ -1,137 +1,192 @@
 -- A film that is scanned piece by piece.
-use Rattle.std.proofs.Common.{◌≡◌, ℕ, ◌+◌, ◌<◌, ◌≤◌, ◌^◌, Bool, true, List, [], ◌++◌, length, take, drop, Some, None, Option, refl, sym, ap, ◌∙◌, arith, subst, length-append}
-use Rattle.std.specs.Prelude.{option_map}
+use Rattle.std.proofs.Common.{◌≡◌, ℕ, ◌+◌, ◌<◌, ◌≤◌, ◌^◌, Bool, true, List, [], ◌++◌, length, take, drop, Some, None, Option, Result, Ok, Err, inl, inr, refl, sym, ap, ◌∙◌, arith, subst, length-append}
+use Rattle.std.specs.Prelude.{option_map, IfErr, IfOk}
 use Rattle.std.proofs.lemmas.List.{length-take-le}
-use Rattle.vod_base.specs.Outside.{File, file_named, bytes_named, IsRead}
+use Rattle.vod_base.specs.Outside.{File, file_named}
 use Rattle.mpeg_scan.specs.declared.faults.FilmFault.{FilmFault}
 use Rattle.mpeg_scan.specs.declared.faults.FilmFault.TheVariants.{TooLong}
-use Rattle.mpeg_scan.specs.declared.units.Unit.{Unit as PictureUnit}
 use Rattle.mpeg_scan.specs.declared.scanner.Scanner.{Scanner}
 use Rattle.mpeg_scan.specs.Codes.{read, codes_of}
 use Rattle.mpeg_scan.specs.Calls.{Call, told, all_told}
 use Rattle.mpeg_scan.specs.Faults.{first_fault, refusal_of}
 use Rattle.mpeg_scan.specs.Words.{rate_of}
-use Rattle.mpeg_scan.specs.Films.{refusal, units_in, slices_in, told_of}
+use Rattle.mpeg_scan.specs.Films.{refusal}
 use Rattle.mpeg_scan.specs.Scans.{Fed, bytes_fed}
-use Rattle.mpeg_scan.proofs.ReadLemmas.{read-append, read-rest, fault-stays}
-use Rattle.mpeg_scan.proofs.FilmLemmas.{length-read, told-none, refusal-at_code, refusal-too_long}
+use Rattle.mpeg_scan.proofs.ReadLemmas.{read-append, fault-stays}
+use Rattle.mpeg_scan.proofs.FilmLemmas.{length-read, told-none, refusal-at_code}
 use Rattle.troubles.specs.declared.faults.Fault.{Fault}
-use Rattle.inputs.specs.Files.{IsFront, IsMissing}
-use Rattle.inputs.specs.Scans.{HasScanned, HoldsFilm, IsFilmRefused}
-use Rattle.inputs.proofs.ReadLemmas.{first_front, more_front, read_some, whole_front}
+use Rattle.troubles.specs.declared.faults.Fault.TheVariants.{Film}
+use Rattle.troubles.specs.declared.faults.Trouble.{Trouble}
+use Rattle.troubles.specs.declared.faults.Trouble.TheVariants.{Usage, Refused, StoreFault, SinkFault, NoMemory, GateFault}
+use Rattle.troubles.specs.Causes.{IsReadTrouble}
+use Rattle.troubles.proofs.CauseLemmas.{trouble_map}
+use Rattle.inputs.specs.Films.{IsFilmTrouble}
+use Rattle.inputs.specs.Files.{IsFront, IsMissing, IsNamed}
+use Rattle.inputs.specs.Scans.{HasEnded, HasHeard, HasRefused, HasScanned, HasScannedAll, HasTold, IsFilmRefused, IsOpened, WasOpened}
+use Rattle.inputs.specs.Videos.{IsVideo, IsVideoFrom, pack_in}
+use Rattle.inputs.proofs.ReadLemmas.{first_front, front_rest, one_file, whole_front}
 
--- the library holds and counts as before; the scanner was fed no more bytes than were read; and where the library tells what it
--- holds, the film before the place was scanned, and the reads end with the film
-pub record HasFed (files now : Option (List File)) (faults faults' : ℕ) (name : List ℕ) (size place : ℕ) (first scanner : Scanner) (none units : List PictureUnit) (more : Bool) : Type 0 where
+-- the library holds and counts as before; the film before the place was scanned; and where the library tells what it holds, the
+-- reads end with the film
+pub record HasFed (Heard : List Call → Type 0) (files now : Option (List File)) (faults faults' : ℕ) (name : List ℕ) (size place : ℕ) (scanner : Scanner) (more : Bool) : Type 0 where
   pub kept : now ≡ files
   pub count : faults ≤ faults'
   pub within : place ≤ size
-  pub fed : bytes_fed scanner ≤ place
-  pub told : (held : List File) → files ≡ Some held → HasScanned held name size 0 first none → HasScanned held name size place scanner units × (more ≡ true)
+  pub scanned : HasScanned Heard files name size place scanner
+  pub more_is : (held : List File) → files ≡ Some held → more ≡ true
 
--- the film's refusal
-abbrev pub IsHeldRefusal : List File → List ℕ → FilmFault → Type 0
-IsHeldRefusal held name fault = (bytes : List ℕ) × ((file_named held name ≡ Some bytes) × (refusal bytes ≡ Some fault))
+-- a video that a file is
+pub plain_video : (held : List File) (name : List ℕ) (size : ℕ) (whole : List ℕ) → IsOpened held name size None → file_named held name ≡ Some whole → IsVideo whole whole
+plain_video held name size whole opened found =
+    let pack : pack_in whole ≡ None = ap pack_in (one_file held name whole opened.file found opened.found) ∙ opened.pack in
+    subst (λ (o : Option ℕ). IsVideoFrom o whole whole) (sym pack) refl
 
--- a read at the place is one behind the bytes
-read_here : (held : List File) (name piece bytes : List ℕ) (place n : ℕ) → length bytes ≡ place → IsRead (bytes_named held name) place n piece →
-    IsRead (bytes_named held name) (length bytes) n piece
-read_here held name piece bytes place n long got = subst (λ (m : ℕ). IsRead (bytes_named held name) m n piece) (sym long) got
-
-front_here : (held : List File) (name : List ℕ) (size place : ℕ) (scanner : Scanner) (units : List PictureUnit) (piece : List ℕ) (n k : ℕ) →
-    (so_far : HasScanned held name size place scanner units) → IsRead (bytes_named held name) place n piece → k ≤ n →
-    IsFront held name size (so_far.bytes ++ take k piece)
-front_here held name size place scanner units piece n k so_far got fits =
-    more_front held name size so_far.bytes piece n k so_far.front (read_here held name piece so_far.bytes place n so_far.long got) fits
+plain_refused : (held : List File) (name : List ℕ) (size : ℕ) (whole : List ℕ) (fault : FilmFault) → IsOpened held name size None → file_named held name ≡ Some whole →
+    length whole ≤ 2 ^ 40 → refusal whole ≡ Some fault → IsFilmRefused held name (Film fault)
+plain_refused held name size whole fault opened found short refused =
+    inr (whole, (found, inr (short, (whole, (plain_video held name size whole opened found, refused)))))
 
 -- a piece more
-pub more_scanned : (held : List File) (name : List ℕ) (size place : ℕ) (scanner scanner' : Scanner) (units units' : List PictureUnit) (piece : List ℕ) (n k : ℕ) →
-    HasScanned held name size place scanner units → IsRead (bytes_named held name) place n piece → k ≤ n →
-    ((r : List ℕ) → Fed scanner r → Fed scanner' (read r (take k piece))) →
-    ((r : List ℕ) (calls : List Call) → Fed scanner r → units ≡ units_in (calls ++ told (codes_of r)) → units' ≡ units_in (calls ++ told (codes_of (read r (take k piece))))) →
-    HasScanned held name size (place + k) scanner' units'
-more_scanned held name size place scanner scanner' units units' piece n k so_far got fits kept tells =
-    let joined : read [] (so_far.bytes ++ take k piece) ≡ read (read [] so_far.bytes) (take k piece) = read-append [] so_far.bytes (take k piece) in
+pub more_told : (Heard Heard' : List Call → Type 0) (scanner scanner' : Scanner) (video more : List ℕ) → HasTold Heard scanner video →
+    ((r : List ℕ) → Fed scanner r → Fed scanner' (read r more)) →
+    ((r : List ℕ) (calls : List Call) → Fed scanner r → Heard (calls ++ told (codes_of r)) → Heard' (calls ++ told (codes_of (read r more)))) →
+    HasTold Heard' scanner' (video ++ more)
+more_told Heard Heard' scanner scanner' video more so_far kept tells =
+    let joined : read [] (video ++ more) ≡ read (read [] video) more = read-append [] video more in
     record {
-      bytes = so_far.bytes ++ take k piece;
-      front = front_here held name size place scanner units piece n k so_far got fits;
-      long = omega (arith, length-append so_far.bytes (take k piece), so_far.long, length-take-le k piece (omega (arith, got.within, fits)));
-      fed = subst (λ (r : List ℕ). Fed scanner' r) (sym joined) (kept (read [] so_far.bytes) so_far.fed);
-      units_are = tells (read [] so_far.bytes) [] so_far.fed so_far.units_are ∙ ap (λ (r : List ℕ). units_in (told (codes_of r))) (sym joined);
+      fed = subst (λ (r : List ℕ). Fed scanner' r) (sym joined) (kept (read [] video) so_far.fed);
+      heard = subst (λ (r : List ℕ). Heard' (told (codes_of r))) (sym joined) (tells (read [] video) [] so_far.fed so_far.heard);
     }
 
--- before the end a read gives some bytes
-pub scanned_some : (held : List File) (name : List ℕ) (size place : ℕ) (scanner : Scanner) (units : List PictureUnit) (piece : List ℕ) (n : ℕ) →
-    HasScanned held name size place scanner units → IsRead (bytes_named held name) place n piece → 0 < length piece → place < size → 0 < n
-scanned_some held name size place scanner units piece n so_far got some before =
-    read_some held name size so_far.bytes piece n so_far.front (read_here held name piece so_far.bytes place n so_far.long got) some (omega (arith, so_far.long, before))
-
--- what is refused at a code of the film's front is refused
-front_refused : (held : List File) (name : List ℕ) (size : ℕ) (bytes : List ℕ) (fault : FilmFault) → IsFront held name size bytes → size ≤ 2 ^ 40 →
-    first_fault (codes_of (read [] bytes)) ≡ Some fault → IsHeldRefusal held name fault
-front_refused held name size bytes fault so_far short is =
-    let whole : read [] so_far.whole ≡ read (read [] bytes) (drop (length bytes) so_far.whole) =
-    sym (read-rest [] so_far.whole (length bytes)) ∙ ap (λ (l : List ℕ). read (read [] l) (drop (length bytes) so_far.whole)) (sym so_far.front) in (
-      so_far.whole,
-      (
-        so_far.found,
-        refusal-at_code so_far.whole fault (omega (arith, so_far.sized, short))
-            (ap (λ (r : List ℕ). first_fault (codes_of r)) whole ∙ fault-stays (drop (length bytes) so_far.whole) (read [] bytes) fault is),
-      ),
-    )
-
-pub piece_refused : (held : List File) (name : List ℕ) (size place : ℕ) (scanner : Scanner) (units : List PictureUnit) (piece : List ℕ) (n k : ℕ) (fault : FilmFault) →
-    HasScanned held name size place scanner units → IsRead (bytes_named held name) place n piece → k ≤ n → size ≤ 2 ^ 40 →
-    ((r : List ℕ) → Fed scanner r → first_fault (codes_of (read r (take k piece))) ≡ Some fault) → IsHeldRefusal held name fault
-piece_refused held name size place scanner units piece n k fault so_far got fits short is =
-    front_refused held name size (so_far.bytes ++ take k piece) fault (front_here held name size place scanner units piece n k so_far got fits) short
-    (ap (λ (r : List ℕ). first_fault (codes_of r)) (read-append [] so_far.bytes (take k piece)) ∙ is (read [] so_far.bytes) so_far.fed)
-
--- before the first piece
-pub first_scanned : (held : List File) (name : List ℕ) (size : ℕ) (scanner : Scanner) (units : List PictureUnit) → Some size ≡ option_map length (file_named held name) →
-    Fed scanner [] → units ≡ [] → HasScanned held name size 0 scanner units
-first_scanned held name size scanner units found fed none = record {
-  bytes = [];
-  front = first_front held name size found;
-  long = refl;
-  fed = fed;
-  units_are = none ∙ sym (ap units_in told-none);
+pub more_scanned : (Heard Heard' : List Call → Type 0) (told' : Option (List File)) (name : List ℕ) (size place : ℕ) (scanner scanner' : Scanner) (piece : List ℕ) (count : ℕ) →
+    (so_far : HasScanned Heard told' name size place scanner) → ((held : List File) → told' ≡ Some held → IsFront held name size (so_far.bytes ++ take count piece)) → count ≤ length piece →
+    ((r : List ℕ) → Fed scanner r → Fed scanner' (read r (take count piece))) →
+    ((r : List ℕ) (calls : List Call) → Fed scanner r → Heard (calls ++ told (codes_of r)) → Heard' (calls ++ told (codes_of (read r (take count piece))))) →
+    HasScanned Heard' told' name size (place + count) scanner'
+more_scanned Heard Heard' told' name size place scanner scanner' piece count so_far front within kept tells = record {
+  bytes = so_far.bytes ++ take count piece;
+  long = omega (arith, length-append so_far.bytes (take count piece), so_far.long, length-take-le count piece within);
+  scanned = more_told Heard Heard' scanner scanner' so_far.bytes (take count piece) so_far.scanned kept tells;
+  front = front;
 }
 
-pub size_refused : (held : List File) (name : List ℕ) (size : ℕ) → Some size ≡ option_map length (file_named held name) → 2 ^ 40 < size → IsHeldRefusal held name TooLong
+-- a scanner was fed as many bytes as were read
+pub scanned_fed : (Heard : List Call → Type 0) (told' : Option (List File)) (name : List ℕ) (size place : ℕ) (scanner : Scanner) → HasScanned Heard told' name size place scanner → bytes_fed scanner ≤ place
+scanned_fed Heard told' name size place scanner so_far = omega (arith, so_far.scanned.fed.progress.fed, length-read so_far.bytes [], so_far.long)
+
+-- what is refused at a code of a front of the bytes is refused
+pub front_refused : (front rest : List ℕ) (fault : FilmFault) → length (front ++ rest) ≤ 2 ^ 40 → first_fault (codes_of (read [] front)) ≡ Some fault →
+    refusal (front ++ rest) ≡ Some fault
+front_refused front rest fault short is =
+    refusal-at_code (front ++ rest) fault short (ap (λ (r : List ℕ). first_fault (codes_of r)) (read-append [] front rest) ∙ fault-stays rest (read [] front) fault is)
+
+pub piece_refused : (Heard : List Call → Type 0) (held : List File) (name : List ℕ) (size : ℕ) (scanner : Scanner) (bytes piece : List ℕ) (fault : FilmFault) →
+    HasTold Heard scanner bytes → IsOpened held name size None → IsFront held name size (bytes ++ piece) → size ≤ 2 ^ 40 →
+    ((r : List ℕ) → Fed scanner r → first_fault (codes_of (read r piece)) ≡ Some fault) → IsFilmRefused held name (Film fault)
+piece_refused Heard held name size scanner bytes piece fault so_far opened front short is =
+    let rest : List ℕ = drop (length (bytes ++ piece)) front.whole in
+    let whole : (bytes ++ piece) ++ rest ≡ front.whole = front_rest held name size (bytes ++ piece) front in
+    let few : length front.whole ≤ 2 ^ 40 = omega (arith, front.sized, short) in
+    let at : first_fault (codes_of (read [] (bytes ++ piece))) ≡ Some fault =
+    ap (λ (r : List ℕ). first_fault (codes_of r)) (read-append [] bytes piece) ∙ is (read [] bytes) so_far.fed in
+    plain_refused held name size front.whole fault opened front.found few
+    (ap refusal (sym whole) ∙ front_refused (bytes ++ piece) rest fault (omega (arith, few, ap length whole)) at)
+
+-- before the first piece
+pub none_told : (Heard : List Call → Type 0) (scanner : Scanner) → Fed scanner [] → Heard [] → HasTold Heard scanner []
+none_told Heard scanner fed fresh = record { fed = fed; heard = subst Heard (sym told-none) fresh }
+
+pub first_scanned : (Heard : List Call → Type 0) (told' : Option (List File)) (name : List ℕ) (size : ℕ) (scanner : Scanner) (from : Option ℕ) → WasOpened told' name size from →
+    Fed scanner [] → Heard [] → HasScanned Heard told' name size 0 scanner
+first_scanned Heard told' name size scanner from opened fed fresh = record {
+  bytes = [];
+  long = refl;
+  scanned = none_told Heard scanner fed fresh;
+  front = λ held is. record { whole = (opened held is).file; found = (opened held is).found; sized = (opened held is).sized; front = refl };
+}
+
+pub size_refused : (held : List File) (name : List ℕ) (size : ℕ) → Some size ≡ option_map length (file_named held name) → 2 ^ 40 < size → IsFilmRefused held name (Film TooLong)
 size_refused held name size found long =
     let file : IsFront held name size [] = first_front held name size found in
-    (file.whole, (file.found, refusal-too_long file.whole (omega (arith, file.sized, long))))
-
--- the whole film
-whole_scanned : (held : List File) (name : List ℕ) (size : ℕ) (scanner : Scanner) (units : List PictureUnit) → (so_far : HasScanned held name size size scanner units) →
-    file_named held name ≡ Some so_far.bytes
-whole_scanned held name size scanner units so_far = whole_front held name size so_far.bytes so_far.front (omega (arith, so_far.long))
-
-pub end_refused : (held : List File) (name : List ℕ) (size : ℕ) (scanner : Scanner) (units : List PictureUnit) (fault : FilmFault) → HasScanned held name size size scanner units →
-    ((r : List ℕ) → Fed scanner r → refusal_of r ≡ Some fault) → IsHeldRefusal held name fault
-end_refused held name size scanner units fault so_far is =
-    (so_far.bytes, (whole_scanned held name size scanner units so_far, is (read [] so_far.bytes) so_far.fed))
-
-pub film_scanned : (held : List File) (name : List ℕ) (size : ℕ) (scanner : Scanner) (units units' : List PictureUnit) (rate bytes : ℕ) → HasScanned held name size size scanner units →
-    ((r : List ℕ) → Fed scanner r → (refusal_of r ≡ None) × (rate ≡ rate_of (codes_of r)) × (bytes ≡ length r)) →
-    ((r : List ℕ) (calls : List Call) → Fed scanner r → units ≡ units_in (calls ++ told (codes_of r)) → units' ≡ units_in (calls ++ all_told r)) →
-    HoldsFilm held name bytes rate units'
-film_scanned held name size scanner units units' rate bytes so_far ended tells =
-    let end : (refusal_of (read [] so_far.bytes) ≡ None) × (rate ≡ rate_of (codes_of (read [] so_far.bytes))) × (bytes ≡ length (read [] so_far.bytes)) =
-    ended (read [] so_far.bytes) so_far.fed in
-    record {
-      bytes = so_far.bytes;
-      found = whole_scanned held name size scanner units so_far;
-      sized = omega (arith, end.2, length-read so_far.bytes []);
-      slices = slices_in (told_of so_far.bytes);
-      grammar = record {
-        accepted = end.0;
-        rate = end.1;
-        units = tells (read [] so_far.bytes) [] so_far.fed so_far.units_are;
-        slices = refl;
-      };
-    }
+    inr (file.whole, (file.found, inl (omega (arith, file.sized, long), refl)))
 
 pub missing_refused : (held : List File) (name : List ℕ) (fault : Fault) → IsMissing held name fault → IsFilmRefused held name fault
-missing_refused held name fault missing = subst (IsFilmRefused held name) (sym missing.0) missing.1
+missing_refused held name fault missing = inl missing
+
+-- ---- the end of a video
+
+pub told_ended : (Heard Heard' : List Call → Type 0) (scanner : Scanner) (video : List ℕ) (size rate : ℕ) → HasTold Heard scanner video →
+    ((r : List ℕ) → Fed scanner r → (refusal_of r ≡ None) × (rate ≡ rate_of (codes_of r)) × (size ≡ length r)) →
+    ((r : List ℕ) (calls : List Call) → Fed scanner r → Heard (calls ++ told (codes_of r)) → Heard' (calls ++ all_told r)) →
+    HasEnded Heard' video size rate
+told_ended Heard Heard' scanner video size rate so_far ended tells =
+    let end : (refusal_of (read [] video) ≡ None) × (rate ≡ rate_of (codes_of (read [] video))) × (size ≡ length (read [] video)) = ended (read [] video) so_far.fed in
+    record {
+      accepted = end.0;
+      sized = omega (arith, end.2, length-read video []);
+      rate_is = end.1;
+      heard = tells (read [] video) [] so_far.fed so_far.heard;
+    }
+
+pub refused_ended : (scanner : Scanner) (video : List ℕ) → length video ≤ 2 ^ 40 → (so_far : HasRefused scanner video) → refusal video ≡ Some so_far.fault
+refused_ended scanner video short so_far =
+    ap refusal so_far.video_is ∙ front_refused so_far.front so_far.rest so_far.fault (omega (arith, short, ap length so_far.video_is)) so_far.refused
+
+-- ---- the whole film
+
+pub all_scanned : (Heard : List Call → Type 0) (told' : Option (List File)) (name : List ℕ) (size place : ℕ) (scanner : Scanner) → HasScanned Heard told' name size place scanner → place ≤ size →
+    ((held : List File) → told' ≡ Some held → size ≤ place) → HasScannedAll Heard told' name size scanner
+all_scanned Heard told' name size place scanner so_far within end = record {
+  bytes = so_far.bytes;
+  few = omega (arith, so_far.long, within);
+  scanned = so_far.scanned;
+  whole = λ held is. whole_front held name size so_far.bytes (so_far.front held is) (omega (arith, so_far.long, end held is));
+}
+
+pub film_heard : (Heard Heard' : List Call → Type 0) (told' : Option (List File)) (name : List ℕ) (size : ℕ) (scanner : Scanner) (bytes rate : ℕ) → size ≤ 2 ^ 40 → WasOpened told' name size None →
+    (so_far : HasScannedAll Heard told' name size scanner) → HasEnded Heard' so_far.bytes bytes rate → HasHeard Heard' told' name bytes rate
+film_heard Heard Heard' told' name size scanner bytes rate short opened so_far ended = record {
+  video = so_far.bytes;
+  ended = ended;
+  holds = λ held is. record {
+    file = so_far.bytes;
+    found = so_far.whole held is;
+    short = omega (arith, so_far.few, short);
+    is_video = plain_video held name size so_far.bytes (opened held is) (so_far.whole held is);
+    accepted = ended.accepted;
+  };
+}
+
+pub end_refused : (Heard : List Call → Type 0) (told' : Option (List File)) (held : List File) (name : List ℕ) (size : ℕ) (scanner : Scanner) (fault : FilmFault) → size ≤ 2 ^ 40 →
+    WasOpened told' name size None → (so_far : HasScannedAll Heard told' name size scanner) → told' ≡ Some held → refusal so_far.bytes ≡ Some fault → IsFilmRefused held name (Film fault)
+end_refused Heard told' held name size scanner fault short opened so_far is refused =
+    plain_refused held name size so_far.bytes fault (opened held is) (so_far.whole held is) (omega (arith, so_far.few, short)) refused
+
+-- ---- answers that are handed on
+
+pub ok_map : {T E : Type 0} (P Q : T → Type 0) (r : Result T E) → ((x : T) → P x → Q x) → IfOk r P → IfOk r Q
+ok_map P Q (Ok x) f h = f x h
+ok_map P Q (Err e) f h = tt
+
+pub err_map : {T E : Type 0} (P Q : E → Type 0) (r : Result T E) → ((x : E) → P x → Q x) → IfErr r P → IfErr r Q
+err_map P Q (Ok x) f h = tt
+err_map P Q (Err e) f h = f e h
+
+-- a trouble of the film's end, where the library tells what it holds
+pub end_trouble : (name : List ℕ) (Refuses : FilmFault → Type 0) (told' : Option (List File)) (faults faults' : ℕ) (t : Trouble) →
+    ((held : List File) (fault : FilmFault) → told' ≡ Some held → Refuses fault → IsFilmRefused held name (Film fault)) → IsFilmTrouble name Refuses t →
+    IsReadTrouble (IsNamed name) IsFilmRefused told' faults faults' t
+end_trouble name Refuses told' faults faults' Usage refuses h = absurd h
+end_trouble name Refuses told' faults faults' (Refused other (Film fault)) refuses h =
+    (h.0, λ held is. subst (λ (n : List ℕ). IsFilmRefused held n (Film fault)) (sym h.0) (refuses held fault is h.1))
+end_trouble name Refuses told' faults faults' (Refused other fault) refuses h = absurd h
+end_trouble name Refuses told' faults faults' (StoreFault other) refuses h = absurd h
+end_trouble name Refuses told' faults faults' SinkFault refuses h = absurd h
+end_trouble name Refuses told' faults faults' NoMemory refuses h = tt
+end_trouble name Refuses told' faults faults' GateFault refuses h = absurd h
+
+-- what was found out before is not less known after more of the library was read
+pub trouble_on : (name : List ℕ) (Refuses : List File → List ℕ → Fault → Type 0) (told told' : Option (List File)) (a b c : ℕ) (t : Trouble) → told' ≡ told → a ≤ b →
+    IsReadTrouble (IsNamed name) Refuses told' b c t → IsReadTrouble (IsNamed name) Refuses told a c t
+trouble_on name Refuses told told' a b c t kept count h =
+    trouble_map (IsNamed name) (IsNamed name) Refuses Refuses told' told b c a c t (λ n is. is) (λ held n fault is named refused. refused) (λ held is. kept ∙ is) count (omega arith) h

@@ -21,7 +21,7 @@ not_true true h = sym h
 not_true false h = refl
 
 -- blanks in front are passed over
-tokens-blanks : (at : ℕ) (blanks rest : List ℕ) → list_all is_blank blanks ≡ true → tokens_from at (blanks ++ rest) ≡ tokens_from (at + length blanks) rest
+pub tokens-blanks : (at : ℕ) (blanks rest : List ℕ) → list_all is_blank blanks ≡ true → tokens_from at (blanks ++ rest) ≡ tokens_from (at + length blanks) rest
 tokens-blanks at [] rest h = ap (λ (n : ℕ). tokens_from n rest) (sym (add-zero at))
 tokens-blanks at (b ∷ blanks) rest h =
     ap (λ (v : Bool). if v then tokens_from (at + 1) (blanks ++ rest) else joined at b (begins_token (blanks ++ rest)) (tokens_from (at + 1) (blanks ++ rest)))
@@ -44,7 +44,7 @@ tokens-word at b (c ∷ word) rest first others ends =
     (tokens-word (at + 1) c word rest next (and_right (not (is_blank c)) (list_all (λ x. not (is_blank x)) word) others) ends)
     ∙ ap (λ (n : ℕ). (record { from = at; bytes = b ∷ c ∷ word }) ∷ tokens_from n rest) (omega arith)
 
-word_list : (at : ℕ) (word rest : List ℕ) → 0 < length word → list_all (λ x. not (is_blank x)) word ≡ true → begins_token rest ≡ false →
+pub word_list : (at : ℕ) (word rest : List ℕ) → 0 < length word → list_all (λ x. not (is_blank x)) word ≡ true → begins_token rest ≡ false →
     tokens_from at (word ++ rest) ≡ (record { from = at; bytes = word }) ∷ tokens_from (at + length word) rest
 word_list at [] rest some all ends = absurd (omega arith)
 word_list at (b ∷ word) rest some all ends =

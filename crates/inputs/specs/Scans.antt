@@ -1,41 +1,142 @@
 -- Scanning a film of a library piece by piece.
-use Rattle.std.specs.Prelude.{◌≡◌, ℕ, List, [], length, Some, None}
+use Rattle.std.specs.Prelude.{◌≡◌, ◌⊎◌, ℕ, ◌+◌, ◌≤◌, ◌^◌, List, [], ◌++◌, length, drop, Option, Some, None, IfSome}
 use Rattle.vod_base.specs.Outside.{File, file_named}
+use Rattle.mpeg_scan.specs.declared.faults.FilmFault.{FilmFault}
+use Rattle.mpeg_scan.specs.declared.faults.ScanRefused.TheVariants.{Fault as FaultAnswer}
 use Rattle.mpeg_scan.specs.declared.units.Unit.{Unit as PictureUnit}
 use Rattle.mpeg_scan.specs.declared.scanner.Scanner.{Scanner}
 use Rattle.mpeg_scan.specs.Codes.{read, codes_of}
-use Rattle.mpeg_scan.specs.Calls.{told}
-use Rattle.mpeg_scan.specs.Films.{IsFilm, refusal, units_in}
-use Rattle.mpeg_scan.specs.Scans.{Fed}
+use Rattle.mpeg_scan.specs.Calls.{Call, told}
+use Rattle.mpeg_scan.specs.Faults.{first_fault}
+use Rattle.mpeg_scan.specs.Films.{IsFilm, refusal, told_of}
+use Rattle.mpeg_scan.specs.Scans.{Fed, refused_by}
+use Rattle.mpeg_scan.specs.Words.{rate_of}
+use Rattle.sys_demux.specs.States.{WasFed}
+use Rattle.sys_demux.specs.declared.unwrapper.Unwrapper.{Unwrapper}
+use Rattle.sys_demux.specs.Streams.{IsRefused}
+use Rattle.inputs.specs.declared.streams.StreamRefused.{StreamRefused}
+use Rattle.inputs.specs.declared.streams.StreamRefused.TheVariants.{Fault as StreamFault, NoMemory as NoRoom}
 use Rattle.inputs.specs.Files.{IsFront}
-use Rattle.troubles.specs.declared.faults.Fault.{Fault}
-use Rattle.troubles.specs.declared.faults.Fault.TheVariants.{NotFound, BadTrace, Curves, BadCert, Film, FilmTooLarge}
+use Rattle.inputs.specs.Sizes.{sizes_of}
+pub use Rattle.inputs.specs.Videos.{IsFilmRefused, IsVideo, pack_in}
 
--- the film before a place was scanned: the scanner was fed that front of the file, and the units are those that end there
-pub record HasScanned (held : List File) (name : List ℕ) (size place : ℕ) (scanner : Scanner) (units : List PictureUnit) : Type 0 where
-  pub bytes : List ℕ
-  pub front : IsFront held name size bytes
-  pub long : length bytes ≡ place
-  pub fed : Fed scanner (read [] bytes)
-  pub units_are : units ≡ units_in (told (codes_of (read [] bytes)))
+-- ---- a film
 
--- the film that the library holds is accepted, with this size, rate code and units
+-- the library holds a film: the video in this file is accepted
+pub record HoldsVideo (held : List File) (name : List ℕ) (video : List ℕ) : Type 0 where
+  pub file : List ℕ
+  pub found : file_named held name ≡ Some file
+  pub short : length file ≤ 2 ^ 40
+  pub is_video : IsVideo file video
+  pub accepted : refusal video ≡ None
+
+-- the film that the library holds has a video of this size, with this rate code and these units
 pub record HoldsFilm (held : List File) (name : List ℕ) (size rate : ℕ) (units : List PictureUnit) : Type 0 where
-  pub bytes : List ℕ
-  pub found : file_named held name ≡ Some bytes
-  pub sized : size ≡ length bytes
+  pub video : List ℕ
+  pub holds : HoldsVideo held name video
+  pub sized : size ≡ length video
   pub slices : List ℕ
-  pub grammar : IsFilm bytes rate units slices
+  pub grammar : IsFilm video rate units slices
 
--- no such file, or the refusal of the film that it is
-abbrev pub IsFilmRefused : List File → List ℕ → Fault → Type 0
-IsFilmRefused held name NotFound = file_named held name ≡ None
-IsFilmRefused held name (BadTrace place) = ⊥
-IsFilmRefused held name (Curves fault) = ⊥
-IsFilmRefused held name (BadCert line) = ⊥
-IsFilmRefused held name (Film fault) = (bytes : List ℕ) × ((file_named held name ≡ Some bytes) × (refusal bytes ≡ Some fault))
-IsFilmRefused held name FilmTooLarge = ⊥
+-- the film that the library holds has this rate code, and its units have these sizes on the wire
+pub record HoldsSizes (held : List File) (name : List ℕ) (rate : ℕ) (sizes : List ℕ) : Type 0 where
+  pub video : List ℕ
+  pub holds : HoldsVideo held name video
+  pub rate_is : rate ≡ rate_of (codes_of (read [] video))
+  pub sizes_are : sizes ≡ sizes_of video
 
--- the same, where the film before the place was scanned so
-abbrev pub IsRefusedFrom : ℕ → ℕ → Scanner → List PictureUnit → List File → List ℕ → Fault → Type 0
-IsRefusedFrom size place scanner units held name fault = HasScanned held name size place scanner units → IsFilmRefused held name fault
+-- ---- what was scanned of it
+
+-- all that ended in the video so far was told
+pub record HasTold (Heard : List Call → Type 0) (scanner : Scanner) (video : List ℕ) : Type 0 where
+  pub fed : Fed scanner (read [] video)
+  pub heard : Heard (told (codes_of (read [] video)))
+
+-- a code of a front of the video is refused, and the scanner answers so from then on
+pub record HasRefused (scanner : Scanner) (video : List ℕ) : Type 0 where
+  pub fault : FilmFault
+  pub answers : refused_by scanner ≡ Some (FaultAnswer fault)
+  pub front : List ℕ
+  pub rest : List ℕ
+  pub video_is : video ≡ front ++ rest
+  pub refused : first_fault (codes_of (read [] front)) ≡ Some fault
+
+abbrev pub HasTaken : (List Call → Type 0) → Scanner → List ℕ → Type 0
+HasTaken Heard scanner video = HasTold Heard scanner video ⊎ HasRefused scanner video
+
+-- the film before a place was scanned: the scanner was fed so many bytes, which are that front of the file, where the library
+-- tells what it holds
+pub record HasScanned (Heard : List Call → Type 0) (told : Option (List File)) (name : List ℕ) (size place : ℕ) (scanner : Scanner) : Type 0 where
+  pub bytes : List ℕ
+  pub long : length bytes ≡ place
+  pub scanned : HasTold Heard scanner bytes
+  pub front : (held : List File) → told ≡ Some held → IsFront held name size bytes
+
+-- an unwrapper was fed these bytes, and the scanner the video among them
+pub record HasUnwrapped (Heard : List Call → Type 0) (unwrapper : Unwrapper) (scanner : Scanner) (seen : List ℕ) : Type 0 where
+  pub video : List ℕ
+  pub fed : WasFed unwrapper seen video
+  pub few : length video ≤ length seen
+  pub taken : HasTaken Heard scanner video
+
+-- all of it was scanned
+pub record HasScannedAll (Heard : List Call → Type 0) (told : Option (List File)) (name : List ℕ) (size : ℕ) (scanner : Scanner) : Type 0 where
+  pub bytes : List ℕ
+  pub few : length bytes ≤ size
+  pub scanned : HasTold Heard scanner bytes
+  pub whole : (held : List File) → told ≡ Some held → file_named held name ≡ Some bytes
+
+-- the bytes of a file from a place on, as far as they were read
+abbrev pub IsStreamFront : ℕ → ℕ → List ℕ → List File → List ℕ → Type 0
+IsStreamFront size from seen held name = (before : List ℕ) × ((length before ≡ from) × IsFront held name size (before ++ seen))
+
+-- the stream that begins at `from` was unwrapped up to a place of the file
+pub record HasStreamed (Heard : List Call → Type 0) (told : Option (List File)) (name : List ℕ) (size from place : ℕ) (unwrapper : Unwrapper) (scanner : Scanner) : Type 0 where
+  pub seen : List ℕ
+  pub long : from + length seen ≡ place
+  pub unwrapped : HasUnwrapped Heard unwrapper scanner seen
+  pub front : (held : List File) → told ≡ Some held → IsStreamFront size from seen held name
+
+-- all of it was unwrapped
+pub record HasStreamedAll (Heard : List Call → Type 0) (told : Option (List File)) (name : List ℕ) (size from : ℕ) (unwrapper : Unwrapper) (scanner : Scanner) : Type 0 where
+  pub seen : List ℕ
+  pub few : length seen ≤ size
+  pub unwrapped : HasUnwrapped Heard unwrapper scanner seen
+  pub whole : (held : List File) → told ≡ Some held → (file : List ℕ) × ((file_named held name ≡ Some file) × (drop from file ≡ seen))
+
+-- ---- a file whose first start code was looked for
+
+-- the library holds a file of this size, in which a system stream begins there, if one does
+pub record IsOpened (held : List File) (name : List ℕ) (size : ℕ) (from : Option ℕ) : Type 0 where
+  pub file : List ℕ
+  pub found : file_named held name ≡ Some file
+  pub sized : size ≡ length file
+  pub pack : pack_in file ≡ from
+  pub within : IfSome from (λ place. place ≤ size)
+
+-- the same, where the library tells what it holds
+abbrev pub WasOpened : Option (List File) → List ℕ → ℕ → Option ℕ → Type 0
+WasOpened told name size from = (held : List File) → told ≡ Some held → IsOpened held name size from
+
+-- what a whole video comes to: it was accepted and all its parts told; or it is refused
+pub record HasEnded (Heard : List Call → Type 0) (video : List ℕ) (size rate : ℕ) : Type 0 where
+  pub accepted : refusal video ≡ None
+  pub sized : size ≡ length video
+  pub rate_is : rate ≡ rate_of (codes_of (read [] video))
+  pub heard : Heard (told_of video)
+
+abbrev pub IsRefusedAtEnd : (List Call → Type 0) → Scanner → FilmFault → Type 0
+IsRefusedAtEnd Heard scanner fault =
+    (video : List ℕ) → length video ≤ 2 ^ 40 → HasTaken Heard scanner video → refusal video ≡ Some fault
+
+-- a film was accepted, with this size and rate code, and all its parts were told; it is the one that the library holds, where it
+-- tells what that is
+pub record HasHeard (Heard : List Call → Type 0) (told : Option (List File)) (name : List ℕ) (size rate : ℕ) : Type 0 where
+  pub video : List ℕ
+  pub ended : HasEnded Heard video size rate
+  pub holds : (held : List File) → told ≡ Some held → HoldsVideo held name video
+
+-- why a piece of a stream is refused, after these bytes of it and whatever follows
+abbrev pub IsPieceRefused : List ℕ → List ℕ → StreamRefused → Type 0
+IsPieceRefused seen piece (StreamFault fault) = (more : List ℕ) → IsRefused (seen ++ piece ++ more) fault
+IsPieceRefused seen piece NoRoom = Unit {0}

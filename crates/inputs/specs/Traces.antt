@@ -1,5 +1,6 @@
 -- Traces of picture sizes: decimal numbers with blanks between them.
 use Rattle.std.specs.Prelude.{◌≡◌, ℕ, ◌+◌, ◌<◌, ◌≤◌, ◌^◌, Bool, true, false, not, ◌||◌, ◌==◌, if◌then◌else◌, List, [], ◌∷◌, ◌++◌, length, map, sum, Some, All}
+use Rattle.std.specs.List.{list_all}
 use Rattle.vod_base.specs.Numbers.{number_of}
 
 -- space, tab, CR or LF
@@ -55,3 +56,16 @@ pub record AddsSize (token : List ℕ) (count total size : ℕ) : Type 0 where
   pub small : size ≤ 2 ^ 32
   pub few_bytes : total + size ≤ 2 ^ 40
   pub few : count < 1000000
+
+-- at least one byte, and no blank
+abbrev pub IsWord : List ℕ → Type 0
+IsWord bytes = (0 < length bytes) × (list_all (λ b. not (is_blank b)) bytes ≡ true)
+
+-- these are the tokens of a text that stands at a place: words with their places, with blanks between them, in front and at the end
+abbrev pub AreSeparated : ℕ → List ℕ → List Token → Type 0
+AreSeparated at text [] = list_all is_blank text ≡ true
+AreSeparated at text (token ∷ tokens) =
+    (front : List ℕ) × ((rest : List ℕ) × (
+    (text ≡ front ++ (token.bytes ++ rest)) × (list_all is_blank front ≡ true) × IsWord token.bytes × (begins_token rest ≡ false)
+    × (token.from ≡ at + length front) × AreSeparated (token.from + length token.bytes) rest tokens
+    ))

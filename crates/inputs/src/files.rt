@@ -1,4 +1,4 @@
-ghost use Rattle.std.specs.Prelude.{◌≡◌, ◌<◌, ◌≤◌, Some, List, length, option_map, vec_len, true, IfErr, IfOk};
+ghost use Rattle.std.specs.Prelude.{◌≡◌, ◌<◌, ◌≤◌, ◌+◌, ◌++◌, Some, ℕ, List, length, take, option_map, vec_len, true, IfErr, IfOk};
 ghost use Rattle.vod_base.specs.Outside.{File, file_named};
 ghost use Rattle.troubles.specs.Causes.{IsReadOnly, IsReadTrouble};
 ghost use Rattle.inputs.specs.Files.{IsFront, IsMissing, IsNamed, IsNever};
@@ -32,6 +32,33 @@ pub(crate) fn find_file<'a, L: Library>(library: &mut L, name: &'a str) -> Resul
     }
 }
 
+/// Reads the bytes of a file of that size from a place on, and answers how many: 0 at its end.
+pub(crate) fn read_at<'a, L: Library>(
+    library: &mut L,
+    name: &'a str,
+    size: u64,
+    at: u64,
+    piece: &mut [u8],
+) -> Result<usize, Trouble<'a>>
+    requires some { 0 < length piece.old }
+    requires before { at < size }
+    ensures library { IsReadOnly (L.files library.old) (L.files library.new) (L.faults library.old) (L.faults library.new) }
+    ensures within { IfOk result (λ count. count ≤ length piece.new) }
+    ensures fits { IfOk result (λ count. at + count ≤ size) }
+    ensures told { (held : List File) (bytes : List ℕ) → L.files library.old ≡ Some held
+        → IsFront held name.entry.now size bytes → length bytes ≡ at
+        → IfOk result (λ count. IsFront held name.entry.now size (bytes ++ take count piece.new)) }
+    ensures more { (held : List File) (bytes : List ℕ) → L.files library.old ≡ Some held
+        → IsFront held name.entry.now size bytes → length bytes ≡ at → IfOk result (λ count. 0 < count) }
+    ensures trouble { IfErr result (IsReadTrouble (IsNamed name.entry.now) IsNever
+        (L.files library.old) (L.faults library.old) (L.faults library.new)) }
+{
+    match library.read(name, at, piece) {
+        Ok(count) => Ok(count.min((size - at) as usize)),
+        Err(_) => Err(Trouble::StoreFault(name)),
+    }
+}
+
 /// Reads one piece after the bytes read so far, and tells whether there was more to read.
 fn read_piece<'a, L: Library>(
     library: &mut L,
@@ -44,6 +71,7 @@ fn read_piece<'a, L: Library>(
     requires before { vec_len bytes.old < size }
     ensures library { IsReadOnly (L.files library.old) (L.files library.new) (L.faults library.old) (L.faults library.new) }
     ensures longer { vec_len bytes.old ≤ vec_len bytes.new }
+    ensures within { vec_len bytes.new ≤ size }
     ensures grows { IfOk result (λ more. more ≡ true → vec_len bytes.old < vec_len bytes.new) }
     ensures told { (held : List File) → L.files library.old ≡ Some held → IsFront held name.entry.now size bytes.old.items
         → IfOk result (λ more. IsFront held name.entry.now size bytes.new.items × (more ≡ true)) }
@@ -51,9 +79,9 @@ fn read_piece<'a, L: Library>(
         (L.files library.old) (L.faults library.old) (L.faults library.new)) }
 {
     let at = bytes.len() as u64;
-    let count = match library.read(name, at, piece) {
-        Ok(count) => count.min((size - at) as usize),
-        Err(_) => return Err(Trouble::StoreFault(name)),
+    let count = match read_at(library, name, size, at, piece) {
+        Ok(count) => count,
+        Err(trouble) => return Err(trouble),
     };
     if count == 0 {
         return Ok(false);
@@ -76,6 +104,7 @@ pub(crate) fn read_bytes<'a, L: Library>(
     ensures read { (held : List File) → L.files library.old ≡ Some held
         → Some size ≡ option_map length (file_named held name.entry.now)
         → IfOk result (λ bytes. file_named held name.entry.now ≡ Some bytes.items) }
+    ensures within { IfOk result (λ bytes. vec_len bytes ≤ size) }
     ensures trouble { IfErr result (IsReadTrouble (IsNamed name.entry.now) IsNever
         (L.files library.old) (L.faults library.old) (L.faults library.new)) }
 {

@@ -1,18 +1,28 @@
-ghost use Rattle.std.specs.Prelude.{◌≡◌, Some, List, IfErr, IfOk, string_bytes};
-ghost use Rattle.vod_base.specs.Outside.{File, file_named};
+ghost use Rattle.std.specs.Prelude.{◌≡◌, ◌≤◌, ◌^◌, Some, List, length, vec_len, IfErr, IfOk, string_bytes};
+ghost use Rattle.vod_base.specs.Outside.{File};
+ghost use Rattle.mpeg_scan.specs.Films.{refusal};
+ghost use Rattle.sys_demux.specs.Streams.{IsSystem};
 ghost use Rattle.troubles.specs.Causes.{IsReadOnly, IsReadTrouble};
 ghost use Rattle.inputs.specs.Files.{IsNamed};
-ghost use Rattle.inputs.specs.Films.{IsBytesTrouble, IsHeldRefused};
+ghost use Rattle.inputs.specs.Films.{IsBytesTrouble, IsFilmTrouble, IsHeldRefused, IsStreamRefused};
+ghost use Rattle.inputs.specs.Scans.{HoldsVideo};
+ghost use Rattle.inputs.specs.Videos.{IsFilmRefused, IsRefusedAbove, IsVideo};
 
 use crate::files::{find_file, read_bytes};
+use crate::openings::pack_in;
+use crate::streams::{StreamRefused, move_fault};
 use film_frames::Stored;
-use mpeg_scan::{Film, ScanRefused, scan};
+use mpeg_scan::{Film, FilmFault, ScanRefused, scan};
 use std::alloc::Global;
+use sys_demux::Unwrapper;
 use troubles::{Fault, Trouble};
 use vod_base::{Library, NoMemory};
 
 /// The most bytes of a film that a server holds.
 const HELD: u64 = 1 << 30;
+
+/// The most bytes of a film.
+const FILM: u64 = 1 << 40;
 
 /// The film under its name, with its table of frames.
 fn store(alloc: Global, name: &str, film: Film) -> Result<Stored, NoMemory>
@@ -25,20 +35,114 @@ fn store(alloc: Global, name: &str, film: Film) -> Result<Stored, NoMemory>
     }
 }
 
-/// The film that bytes are.
-fn scan_bytes<'a>(alloc: Global, name: &'a str, bytes: Vec<u8>) -> Result<Film, Trouble<'a>>
-    ensures film { IfOk result (λ film. film.bytes.items ≡ bytes.items) }
-    ensures trouble { IfErr result (IsBytesTrouble name.entry.now bytes.items) }
+/// The video of a system stream.
+fn unwrap_stream(alloc: Global, stream: &[u8]) -> Result<Vec<u8>, StreamRefused>
+    requires { length stream.now ≤ 2 ^ 40 }
+    ensures video { IfOk result (λ video. IsSystem stream.now video.items) }
+    ensures refused { IfErr result (IsStreamRefused stream.now) }
 {
-    match scan(alloc, bytes) {
+    let mut unwrapper = Unwrapper::new();
+    let mut video = Vec::new(alloc);
+    let mut at = 0;
+    while at < stream.len() {
+        let fed = match unwrapper.feed(&stream[at..]) {
+            Ok(fed) => fed,
+            Err(fault) => return Err(StreamRefused::Fault(fault)),
+        };
+        match video.extend_from_slice(fed.video) {
+            Ok(()) => at += fed.taken,
+            Err(_) => return Err(StreamRefused::NoMemory),
+        }
+    }
+    match unwrapper.finish() {
+        Ok(()) => Ok(video),
+        Err(fault) => Err(StreamRefused::Fault(fault)),
+    }
+}
+
+/// The video of a file that was read.
+fn video_of<'a>(alloc: Global, name: &'a str, file: Vec<u8>) -> Result<Vec<u8>, Trouble<'a>>
+    requires { vec_len file ≤ 2 ^ 40 }
+    ensures video { IfOk result (λ video. IsVideo file.items video.items) }
+    ensures trouble { IfErr result (IsBytesTrouble name.entry.now file.items) }
+{
+    let from = match pack_in(&file) {
+        Some(from) => from,
+        None => return Ok(file),
+    };
+    match unwrap_stream(alloc, &file[from as usize..]) {
+        Ok(video) => Ok(video),
+        Err(StreamRefused::Fault(fault)) => Err(Trouble::Refused(
+            name,
+            Fault::System(move_fault(from, fault)),
+        )),
+        Err(StreamRefused::NoMemory) => Err(Trouble::NoMemory),
+    }
+}
+
+/// The film that a video is.
+fn scan_video<'a>(alloc: Global, name: &'a str, video: Vec<u8>) -> Result<Film, Trouble<'a>>
+    ensures film { IfOk result (λ film. film.bytes.items ≡ video.items) }
+    ensures trouble { IfErr result (IsFilmTrouble name.entry.now (λ fault. refusal video.items ≡ Some fault)) }
+{
+    match scan(alloc, video) {
         Ok(film) => Ok(film),
         Err(ScanRefused::Fault(fault)) => Err(Trouble::Refused(name, Fault::Film(fault))),
         Err(ScanRefused::NoMemory) => Err(Trouble::NoMemory),
     }
 }
 
-/// Loads a film that is to be served: reads it whole, scans it and makes its table. It has at most 2^30 bytes, which is
-/// seen before any byte is read.
+/// The film that a file is.
+fn scan_file<'a>(alloc: Global, name: &'a str, file: Vec<u8>) -> Result<Film, Trouble<'a>>
+    requires { vec_len file ≤ 2 ^ 40 }
+    ensures film { IfOk result (λ film. IsVideo file.items film.bytes.items) }
+    ensures trouble { IfErr result (IsBytesTrouble name.entry.now file.items) }
+{
+    match video_of(alloc, name, file) {
+        Ok(video) => scan_video(alloc, name, video),
+        Err(trouble) => Err(trouble),
+    }
+}
+
+/// Loads a film: reads it whole, takes the video out of a system stream, scans it and makes its table. Where the file has
+/// more bytes than the most, `over` is the refusal, and no byte is read.
+fn load_within<'a, L: Library>(
+    alloc: Global,
+    library: &mut L,
+    name: &'a str,
+    most: u64,
+    over: Fault,
+) -> Result<Stored, Trouble<'a>>
+    requires { most ≤ 2 ^ 40 }
+    ensures library { IsReadOnly (L.files library.old) (L.files library.new) (L.faults library.old) (L.faults library.new) }
+    ensures name { IfOk result (λ stored. string_bytes stored.name ≡ name.entry.now) }
+    ensures film { (held : List File) → L.files library.old ≡ Some held
+        → IfOk result (λ stored. HoldsVideo held name.entry.now stored.film.bytes.items) }
+    ensures trouble { IfErr result (IsReadTrouble (IsNamed name.entry.now) (IsRefusedAbove most over)
+        (L.files library.old) (L.faults library.old) (L.faults library.new)) }
+{
+    let size = match find_file(library, name) {
+        Ok(size) => size,
+        Err(trouble) => return Err(trouble),
+    };
+    if most < size {
+        return Err(Trouble::Refused(name, over));
+    }
+    let file = match read_bytes(alloc, library, name, size) {
+        Ok(file) => file,
+        Err(trouble) => return Err(trouble),
+    };
+    let film = match scan_file(alloc, name, file) {
+        Ok(film) => film,
+        Err(trouble) => return Err(trouble),
+    };
+    match store(alloc, name, film) {
+        Ok(stored) => Ok(stored),
+        Err(NoMemory) => Err(Trouble::NoMemory),
+    }
+}
+
+/// Loads a film that is to be served, an MPEG-1 video stream or a system stream with one. Its file has at most 2^30 bytes.
 pub fn load_film<'a, L: Library>(
     alloc: Global,
     library: &mut L,
@@ -47,27 +151,25 @@ pub fn load_film<'a, L: Library>(
     ensures library { IsReadOnly (L.files library.old) (L.files library.new) (L.faults library.old) (L.faults library.new) }
     ensures name { IfOk result (λ stored. string_bytes stored.name ≡ name.entry.now) }
     ensures film { (held : List File) → L.files library.old ≡ Some held
-        → IfOk result (λ stored. file_named held name.entry.now ≡ Some stored.film.bytes.items) }
+        → IfOk result (λ stored. HoldsVideo held name.entry.now stored.film.bytes.items) }
     ensures trouble { IfErr result (IsReadTrouble (IsNamed name.entry.now) IsHeldRefused
         (L.files library.old) (L.faults library.old) (L.faults library.new)) }
 {
-    let size = match find_file(library, name) {
-        Ok(size) => size,
-        Err(trouble) => return Err(trouble),
-    };
-    if HELD < size {
-        return Err(Trouble::Refused(name, Fault::FilmTooLarge));
-    }
-    let bytes = match read_bytes(alloc, library, name, size) {
-        Ok(bytes) => bytes,
-        Err(trouble) => return Err(trouble),
-    };
-    let film = match scan_bytes(alloc, name, bytes) {
-        Ok(film) => film,
-        Err(trouble) => return Err(trouble),
-    };
-    match store(alloc, name, film) {
-        Ok(stored) => Ok(stored),
-        Err(NoMemory) => Err(Trouble::NoMemory),
-    }
+    load_within(alloc, library, name, HELD, Fault::FilmTooLarge)
+}
+
+/// Loads a film that a script plays, of at most 2^40 bytes.
+pub fn load_script_film<'a, L: Library>(
+    alloc: Global,
+    library: &mut L,
+    name: &'a str,
+) -> Result<Stored, Trouble<'a>>
+    ensures library { IsReadOnly (L.files library.old) (L.files library.new) (L.faults library.old) (L.faults library.new) }
+    ensures name { IfOk result (λ stored. string_bytes stored.name ≡ name.entry.now) }
+    ensures film { (held : List File) → L.files library.old ≡ Some held
+        → IfOk result (λ stored. HoldsVideo held name.entry.now stored.film.bytes.items) }
+    ensures trouble { IfErr result (IsReadTrouble (IsNamed name.entry.now) IsFilmRefused
+        (L.files library.old) (L.faults library.old) (L.faults library.new)) }
+{
+    load_within(alloc, library, name, FILM, Fault::Film(FilmFault::TooLong))
 }

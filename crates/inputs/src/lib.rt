@@ -1,15 +1,18 @@
 //! The inputs that `vodserve` reads from a library: whole files, traces of picture sizes, and films.
 #![tactic(auto)]
 
+mod collectors;
 mod files;
 mod films;
+mod openings;
 mod scans;
+mod streams;
 mod traces;
 
+pub use collectors::{ScannedFilm, SizedFilm, scan_film, size_film};
 pub use files::read_input;
-pub use films::load_film;
-pub use scans::{ScannedFilm, scan_film};
-pub use traces::{TraceRefused, read_trace};
+pub use films::{load_film, load_script_film};
+pub use traces::{TraceRefused, law_tokens, read_trace};
 
 #[cfg(test)]
 mod tests;

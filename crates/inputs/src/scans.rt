@@ -1,84 +1,50 @@
-ghost use Rattle.std.specs.Prelude.{◌≡◌, ◌<◌, ◌≤◌, ◌+◌, ◌^◌, Some, ℕ, List, [], length, IfErr, IfOk, OnOk};
+ghost use Rattle.std.specs.Prelude.{◌≡◌, ◌<◌, ◌≤◌, ◌+◌, ◌^◌, Some, None, ℕ, List, [], length, IfErr, IfOk, OnOk};
 ghost use Rattle.vod_base.specs.Outside.{File};
-ghost use Rattle.mpeg_scan.specs.Calls.{Call};
-ghost use Rattle.mpeg_scan.specs.Films.{units_in};
-ghost use Rattle.mpeg_scan.specs.Scans.{bytes_fed};
-ghost use Rattle.troubles.specs.declared.faults.Fault.{Fault};
+ghost use Rattle.mpeg_scan.specs.Scans.{IsReady, bytes_fed};
 ghost use Rattle.troubles.specs.Causes.{IsReadOnly, IsReadTrouble};
 ghost use Rattle.inputs.specs.Files.{IsNamed};
-ghost use Rattle.inputs.specs.Scans.{HasScanned, HoldsFilm, IsFilmRefused, IsRefusedFrom};
+ghost use Rattle.inputs.specs.Films.{IsFilmTrouble};
+ghost use Rattle.inputs.specs.Scans.{HasEnded, HasHeard, HasScanned, HasScannedAll, HasTaken, IsFilmRefused, IsRefusedAtEnd, WasOpened};
 
-use crate::files::{PIECE, find_file, zeros};
-use mpeg_scan::{FilmFault, Found, ScanRefused, Scanner, Unit};
+use crate::files::{PIECE, find_file, read_at, zeros};
+use crate::openings::find_pack;
+use crate::streams::scan_stream;
+use mpeg_scan::{Ending, FilmFault, Found, ScanRefused, Scanner};
 use std::alloc::Global;
 use troubles::{Fault, Trouble};
-use vod_base::{Library, NoMemory};
+use vod_base::Library;
 
 /// The most bytes of a film.
 const FILM: u64 = 1 << 40;
 
-/// Keeps a film's units.
-#[derive(Drop)]
-struct UnitList {
-    units: Vec<Unit>,
-}
-
-impl Found for UnitList {
-    ghost heard = { λ list calls. list.units.items ≡ units_in calls };
-
-    fn head(&mut self, _from: u64, _to: u64) -> Result<(), NoMemory> {
-        Ok(())
-    }
-
-    fn slice(&mut self, _from: u64, _to: u64) -> Result<(), NoMemory> {
-        Ok(())
-    }
-
-    fn unit(&mut self, unit: Unit) -> Result<(), NoMemory> {
-        match self.units.push(unit) {
-            Ok(()) => Ok(()),
-            Err(_) => Err(NoMemory),
-        }
-    }
-}
-
-/// A film that was scanned and accepted.
-#[derive(Drop)]
-pub struct ScannedFilm {
-    /// How many bytes it has.
-    pub bytes: u64,
-    /// Its picture rate code, from 1 to 8.
-    pub rate: u8,
-    /// Its units, in order.
-    pub units: Vec<Unit>,
-}
-
 /// Reads one piece of the film at `at`, feeds it to the scanner, and answers how many bytes it had: 0 at the end.
-fn feed_piece<'a, L: Library>(
+fn feed_piece<'a, L: Library, F: Found>(
     library: &mut L,
     name: &'a str,
     size: u64,
     at: u64,
     piece: &mut [u8],
     scanner: &mut Scanner,
-    found: &mut UnitList,
+    found: &mut F,
 ) -> Result<u64, Trouble<'a>>
     requires some { 0 < length piece.old }
     requires before { at < size }
     requires short { size ≤ 2 ^ 40 }
-    requires fed { bytes_fed scanner.old ≤ at }
+    requires opened { WasOpened (L.files library.old) name.now size None }
+    requires scanned { HasScanned (F.heard found.old) (L.files library.old) name.now size at scanner.old }
+    requires ready { IsReady (F.ready_at found.old) scanner.old }
     ensures library { IsReadOnly (L.files library.old) (L.files library.new) (L.faults library.old) (L.faults library.new) }
-    ensures fed { IfOk result (λ count. bytes_fed scanner.new ≤ at + count) }
     ensures within { IfOk result (λ count. at + count ≤ size) }
-    ensures told { (held : List File) → L.files library.old ≡ Some held
-        → HasScanned held name.entry.now size at scanner.old found.old.units.items
-        → IfOk result (λ count. HasScanned held name.entry.now size (at + count) scanner.new found.new.units.items × (0 < count)) }
-    ensures trouble { IfErr result (IsReadTrouble (IsNamed name.entry.now) (IsRefusedFrom size at scanner.old found.old.units.items)
+    ensures ready { IsReady (F.ready_at found.new) scanner.new }
+    ensures scanned { IfOk result (λ count.
+        HasScanned (F.heard found.new) (L.files library.old) name.entry.now size (at + count) scanner.new) }
+    ensures more { (held : List File) → L.files library.old ≡ Some held → IfOk result (λ count. 0 < count) }
+    ensures trouble { IfErr result (IsReadTrouble (IsNamed name.entry.now) IsFilmRefused
         (L.files library.old) (L.faults library.old) (L.faults library.new)) }
 {
-    let count = match library.read(name, at, piece) {
-        Ok(count) => count.min((size - at) as usize),
-        Err(_) => return Err(Trouble::StoreFault(name)),
+    let count = match read_at(library, name, size, at, piece) {
+        Ok(count) => count,
+        Err(trouble) => return Err(trouble),
     };
     match scanner.feed(&piece[..count], found) {
         Ok(()) => Ok(count as u64),
@@ -88,22 +54,23 @@ fn feed_piece<'a, L: Library>(
 }
 
 /// Feeds the whole film to the scanner, by reads of a piece, until a read answers 0 or the size is reached.
-fn feed_film<'a, L: Library>(
+fn feed_film<'a, L: Library, F: Found>(
     library: &mut L,
     name: &'a str,
     size: u64,
     piece: &mut [u8],
     scanner: &mut Scanner,
-    found: &mut UnitList,
+    found: &mut F,
 ) -> Result<(), Trouble<'a>>
     requires some { 0 < length piece.old }
     requires short { size ≤ 2 ^ 40 }
-    requires fed { bytes_fed scanner.old ≡ 0 }
+    requires opened { WasOpened (L.files library.old) name.now size None }
+    requires scanned { HasScanned (F.heard found.old) (L.files library.old) name.now size 0 scanner.old }
+    requires ready { IsReady (F.ready_at found.old) scanner.old }
     ensures library { IsReadOnly (L.files library.old) (L.files library.new) (L.faults library.old) (L.faults library.new) }
-    ensures told { (held : List File) → L.files library.old ≡ Some held
-        → HasScanned held name.entry.now size 0 scanner.old found.old.units.items
-        → OnOk result (HasScanned held name.entry.now size size scanner.new found.new.units.items) }
-    ensures trouble { IfErr result (IsReadTrouble (IsNamed name.entry.now) (IsRefusedFrom size 0 scanner.old found.old.units.items)
+    ensures ready { IsReady (F.ready_at found.new) scanner.new }
+    ensures scanned { OnOk result (HasScannedAll (F.heard found.new) (L.files library.old) name.entry.now size scanner.new) }
+    ensures trouble { IfErr result (IsReadTrouble (IsNamed name.entry.now) IsFilmRefused
         (L.files library.old) (L.faults library.old) (L.faults library.new)) }
 {
     let mut at = 0;
@@ -119,15 +86,61 @@ fn feed_film<'a, L: Library>(
     Ok(())
 }
 
-/// Scans a film of the library, by reads of at most 65,536 bytes from its beginning, and keeps only its units.
-pub fn scan_film<'a, L: Library>(
+/// Ends the scan of a video.
+pub(crate) fn end_film<'a, F: Found>(
+    name: &'a str,
+    scanner: Scanner,
+    found: &mut F,
+) -> Result<Ending, Trouble<'a>>
+    requires ready { IsReady (F.ready_at found.old) scanner }
+    ensures ended { (video : List ℕ) → length video ≤ 2 ^ 40 → HasTaken (F.heard found.old) scanner video
+        → IfOk result (λ ending. HasEnded (F.heard found.new) video ending.bytes ending.rate) }
+    ensures trouble { IfErr result (IsFilmTrouble name.entry.now (IsRefusedAtEnd (F.heard found.old) scanner)) }
+{
+    match scanner.finish(found) {
+        Ok(ending) => Ok(ending),
+        Err(ScanRefused::Fault(fault)) => Err(Trouble::Refused(name, Fault::Film(fault))),
+        Err(ScanRefused::NoMemory) => Err(Trouble::NoMemory),
+    }
+}
+
+/// Scans the video that a file is.
+fn scan_plain<'a, L: Library, F: Found>(
+    library: &mut L,
+    name: &'a str,
+    size: u64,
+    piece: &mut [u8],
+    found: &mut F,
+) -> Result<Ending, Trouble<'a>>
+    requires some { 0 < length piece.old }
+    requires short { size ≤ 2 ^ 40 }
+    requires opened { WasOpened (L.files library.old) name.now size None }
+    requires fresh { F.heard found.old [] }
+    ensures library { IsReadOnly (L.files library.old) (L.files library.new) (L.faults library.old) (L.faults library.new) }
+    ensures film { IfOk result (λ ending.
+        HasHeard (F.heard found.new) (L.files library.old) name.entry.now ending.bytes ending.rate) }
+    ensures trouble { IfErr result (IsReadTrouble (IsNamed name.entry.now) IsFilmRefused
+        (L.files library.old) (L.faults library.old) (L.faults library.new)) }
+{
+    let mut scanner = Scanner::new();
+    match feed_film(library, name, size, piece, &mut scanner, found) {
+        Ok(()) => end_film(name, scanner, found),
+        Err(trouble) => Err(trouble),
+    }
+}
+
+/// Scans a film of the library, by reads of at most 65,536 bytes, and keeps nothing of it but what `found` keeps: the video
+/// that the file is, or that of its system stream.
+pub(crate) fn hear_film<'a, L: Library, F: Found>(
     alloc: Global,
     library: &mut L,
     name: &'a str,
-) -> Result<ScannedFilm, Trouble<'a>>
+    found: &mut F,
+) -> Result<Ending, Trouble<'a>>
+    requires fresh { F.heard found.old [] }
     ensures library { IsReadOnly (L.files library.old) (L.files library.new) (L.faults library.old) (L.faults library.new) }
-    ensures film { (held : List File) → L.files library.old ≡ Some held
-        → IfOk result (λ film. HoldsFilm held name.entry.now film.bytes film.rate film.units.items) }
+    ensures film { IfOk result (λ ending.
+        HasHeard (F.heard found.new) (L.files library.old) name.entry.now ending.bytes ending.rate) }
     ensures trouble { IfErr result (IsReadTrouble (IsNamed name.entry.now) IsFilmRefused
         (L.files library.old) (L.faults library.old) (L.faults library.new)) }
 {
@@ -138,25 +151,13 @@ pub fn scan_film<'a, L: Library>(
     if FILM < size {
         return Err(Trouble::Refused(name, Fault::Film(FilmFault::TooLong)));
     }
-    let mut scanner = Scanner::new();
-    let mut found = UnitList {
-        units: Vec::new(alloc),
-    };
     let mut piece = match zeros(alloc, PIECE) {
         Ok(piece) => piece,
         Err(_) => return Err(Trouble::NoMemory),
     };
-    match feed_film(library, name, size, &mut piece, &mut scanner, &mut found) {
-        Ok(()) => {}
-        Err(trouble) => return Err(trouble),
-    }
-    match scanner.finish(&mut found) {
-        Ok(ending) => Ok(ScannedFilm {
-            bytes: ending.bytes,
-            rate: ending.rate,
-            units: found.units,
-        }),
-        Err(ScanRefused::Fault(fault)) => Err(Trouble::Refused(name, Fault::Film(fault))),
-        Err(ScanRefused::NoMemory) => Err(Trouble::NoMemory),
+    match find_pack(library, name, size, &mut piece) {
+        Ok(None) => scan_plain(library, name, size, &mut piece, found),
+        Ok(Some(from)) => scan_stream(library, name, size, from, &mut piece, found),
+        Err(trouble) => Err(trouble),
     }
 }

@@ -1,4 +1,4 @@
-use crate::{load_film, read_input, read_trace, scan_film};
+use crate::{load_film, load_script_film, read_input, read_trace, scan_film, size_film};
 use std::alloc::{AllocError, Global};
 use std::test::Fail;
 use vod_base::MemoryLibrary;
@@ -33,6 +33,29 @@ fn loads_and_scans_a_film(rt: HostRuntime) -> Result<(), Fail> {
         (34, 3, 1)
     );
     assert!(rt; load_film(alloc, &mut held, "b.mpg").is_err());
+    Ok(())
+}
+
+#[test]
+fn loads_and_sizes_a_system_stream(rt: HostRuntime) -> Result<(), Fail> {
+    let alloc = rt.alloc();
+    let mut stream = vec![in alloc; 7u8; 70_000]?;
+    stream.extend_from_slice(&[0, 0, 1, 0xba, 0x21, 0, 1, 0, 1, 0x80, 0, 3])?;
+    stream.extend_from_slice(&[0, 0, 1, 0xe0, 0, 35, 0x0f])?;
+    stream.extend_from_slice(&FILM)?;
+    let mut held = library(alloc, stream.as_slice())?;
+    let Ok(stored) = load_film(alloc, &mut held, "a.mpg") else {
+        return Err(Fail::from(AllocError));
+    };
+    assert_eq!(rt; stored.film.bytes.as_slice(), FILM.as_slice());
+    let Ok(stored) = load_script_film(alloc, &mut held, "a.mpg") else {
+        return Err(Fail::from(AllocError));
+    };
+    assert_eq!(rt; stored.film.units.len(), 1);
+    let Ok(sized) = size_film(alloc, &mut held, "a.mpg") else {
+        return Err(Fail::from(AllocError));
+    };
+    assert_eq!(rt; (sized.rate, sized.sizes.as_slice()), (3, [106].as_slice()));
     Ok(())
 }
 

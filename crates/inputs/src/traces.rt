@@ -1,6 +1,6 @@
-ghost use Rattle.std.specs.Prelude.{◌≡◌, ◌<◌, ◌≤◌, ◌+◌, ◌^◌, ◌∷◌, ℕ, [], Some, not, true, false, length, take, drop, slice_range, MatchOption, IfOk, IfErr};
+ghost use Rattle.std.specs.Prelude.{◌≡◌, ◌<◌, ◌≤◌, ◌+◌, ◌^◌, ◌∷◌, ℕ, List, [], Some, not, true, false, length, take, drop, slice_range, MatchOption, IfOk, IfErr};
 ghost use Rattle.std.specs.List.{list_all};
-ghost use Rattle.inputs.specs.Traces.{is_blank, begins_token, tokens_from, IsTraceText, AddsSize};
+ghost use Rattle.inputs.specs.Traces.{is_blank, begins_token, tokens_from, AreSeparated, IsTraceText, AddsSize, Token as TextToken};
 ghost use Rattle.inputs.specs.TraceRefusals.{IsTraceRefused};
 
 use std::alloc::Global;
@@ -113,3 +113,10 @@ pub fn read_trace(alloc: Global, text: &[u8]) -> Result<Vec<u64>, TraceRefused>
     }
     Ok(sizes)
 }
+
+/// A law: the tokens of a text are the words in it, each with its place: none is empty, none has a blank in it, and blanks
+/// stand between them, in front and at the end. No other list of tokens is so.
+pub fn law_tokens()
+    ensures are { (text : List ℕ) → AreSeparated 0 text (tokens_from 0 text) }
+    ensures only { (text : List ℕ) (tokens : List TextToken) → AreSeparated 0 text tokens → tokens ≡ tokens_from 0 text }
+{}

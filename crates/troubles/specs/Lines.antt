@@ -4,9 +4,11 @@ use Rattle.wire_curve.specs.declared.film.CurveFault.{CurveFault}
 use Rattle.wire_curve.specs.declared.film.CurveFault.TheVariants.{NoPictures, TooManySlots, BufferTooSmall}
 use Rattle.mpeg_scan.specs.declared.faults.FilmFault.{FilmFault}
 use Rattle.mpeg_scan.specs.declared.faults.FilmFault.TheVariants.{Empty, NoSequence, SystemCode, Mpeg2, ShortHeader, BadRate, BadType, PictureWithoutSlices, HeadTooLong, GroupTooLong, TooLong, HeadWithoutPicture}
+use Rattle.sys_demux.specs.declared.faults.SystemFault.{SystemFault}
+use Rattle.sys_demux.specs.declared.faults.SystemFault.TheVariants.{NotPack, BadCode, BadPacket, Truncated}
 use Rattle.troubles.specs.Said.{number_text}
 use Rattle.troubles.specs.declared.faults.Fault.{Fault}
-use Rattle.troubles.specs.declared.faults.Fault.TheVariants.{NotFound, BadTrace, Curves, BadCert, Film, FilmTooLarge}
+use Rattle.troubles.specs.declared.faults.Fault.TheVariants.{NotFound, BadTrace, Curves, BadCert, BadScript, Film, System, FilmTooLarge}
 use Rattle.troubles.specs.declared.faults.Trouble.{Trouble}
 use Rattle.troubles.specs.declared.faults.Trouble.TheVariants.{Usage, Refused, StoreFault, SinkFault, NoMemory, GateFault}
 
@@ -29,13 +31,21 @@ film_fault_text (GroupTooLong place) = codes "GroupTooLong" ++ number_text place
 film_fault_text TooLong = codes "TooLong"
 film_fault_text (HeadWithoutPicture place) = codes "HeadWithoutPicture" ++ number_text place
 
+abbrev pub system_fault_text : SystemFault → List ℕ
+system_fault_text (NotPack place) = codes "NotPack" ++ number_text place
+system_fault_text (BadCode place) = codes "BadCode" ++ number_text place
+system_fault_text (BadPacket place) = codes "BadPacket" ++ number_text place
+system_fault_text (Truncated place) = codes "Truncated" ++ number_text place
+
 -- a refusal's name followed by its numbers
 abbrev pub fault_text : Fault → List ℕ
 fault_text NotFound = codes "NotFound"
 fault_text (BadTrace place) = codes "BadTrace" ++ number_text place
 fault_text (Curves fault) = curve_fault_text fault
 fault_text (BadCert line) = codes "BadCert" ++ number_text line
+fault_text (BadScript line) = codes "BadScript" ++ number_text line
 fault_text (Film fault) = film_fault_text fault
+fault_text (System fault) = system_fault_text fault
 fault_text FilmTooLarge = codes "FilmTooLarge"
 
 abbrev pub trouble_text : Trouble → List ℕ

@@ -1,4 +1,5 @@
 use mpeg_scan::FilmFault;
+use sys_demux::SystemFault;
 use wire_curve::CurveFault;
 
 /// Why an input is refused.
@@ -12,8 +13,12 @@ pub enum Fault {
     Curves(CurveFault),
     /// The first line, from 1, at which the text is no certificate.
     BadCert(u64),
-    /// The film is refused.
+    /// The first line, from 1, at which the text is no script.
+    BadScript(u64),
+    /// The film is refused; its places count from the first byte of its video.
     Film(FilmFault),
+    /// The film is a system stream that is refused; its places count from the file's first byte.
+    System(SystemFault),
     /// The film has more bytes than a server may hold.
     FilmTooLarge,
 }

@@ -1,9 +1,10 @@
 ghost use Rattle.std.specs.Prelude.{◌++◌};
 ghost use Rattle.troubles.specs.Said.{GoesOn, IsSaid, number_text};
-ghost use Rattle.troubles.specs.Lines.{curve_fault_text, film_fault_text, fault_text, trouble_text};
+ghost use Rattle.troubles.specs.Lines.{curve_fault_text, film_fault_text, system_fault_text, fault_text, trouble_text};
 
 use crate::faults::{Fault, Trouble};
 use mpeg_scan::FilmFault;
+use sys_demux::SystemFault;
 use vod_base::Sink;
 use wire_curve::CurveFault;
 
@@ -88,6 +89,19 @@ fn add_film_fault<S: Sink>(sink: &mut S, going: bool, fault: FilmFault) -> bool
     }
 }
 
+/// Writes the name of the system stream's refusal and its place.
+fn add_system_fault<S: Sink>(sink: &mut S, going: bool, fault: SystemFault) -> bool
+    ensures { GoesOn (S.faults sink.old) (S.faults sink.new) (S.written sink.old) (S.written sink.new)
+        going result (system_fault_text fault) }
+{
+    match fault {
+        SystemFault::NotPack(place) => add_named(sink, going, b"NotPack", place),
+        SystemFault::BadCode(place) => add_named(sink, going, b"BadCode", place),
+        SystemFault::BadPacket(place) => add_named(sink, going, b"BadPacket", place),
+        SystemFault::Truncated(place) => add_named(sink, going, b"Truncated", place),
+    }
+}
+
 /// Writes a refusal's name and its numbers.
 fn add_fault<S: Sink>(sink: &mut S, going: bool, fault: Fault) -> bool
     ensures { GoesOn (S.faults sink.old) (S.faults sink.new) (S.written sink.old) (S.written sink.new)
@@ -104,7 +118,9 @@ fn add_fault<S: Sink>(sink: &mut S, going: bool, fault: Fault) -> bool
             let named = add(sink, going, b"BadCert");
             add_number(sink, named, line)
         }
+        Fault::BadScript(line) => add_named(sink, going, b"BadScript", line),
         Fault::Film(fault) => add_film_fault(sink, going, fault),
+        Fault::System(fault) => add_system_fault(sink, going, fault),
         Fault::FilmTooLarge => add(sink, going, b"FilmTooLarge"),
     }
 }

@@ -1,6 +1,8 @@
 use crate::{Fault, Trouble, say, status_of};
+use mpeg_scan::FilmFault;
 use std::alloc::AllocError;
 use std::test::Fail;
+use sys_demux::SystemFault;
 use vod_base::{MemorySink, NoMemory};
 
 #[test]
@@ -12,6 +14,16 @@ fn says_each_trouble(rt: HostRuntime) -> Result<(), Fail> {
             Trouble::Refused("a.mpg", Fault::FilmTooLarge),
             3,
             "vodserve: a.mpg: FilmTooLarge\n",
+        ),
+        (
+            Trouble::Refused("a.mpg", Fault::Film(FilmFault::BadRate(17, 9))),
+            3,
+            "vodserve: a.mpg: BadRate 17 9\n",
+        ),
+        (
+            Trouble::Refused("a.mpg", Fault::System(SystemFault::Truncated(4))),
+            3,
+            "vodserve: a.mpg: Truncated 4\n",
         ),
         (Trouble::StoreFault("t"), 4, "vodserve: t: StoreFault\n"),
         (Trouble::SinkFault, 5, "vodserve: SinkFault\n"),

@@ -1,5 +1,5 @@
 -- What the commands' answers mean, in terms of the definitions that the run cites.
-use Rattle.std.proofs.Common.{◌≡◌, ℕ, List, ◌++◌, Some, None, Result, Ok, Err, Vec, Global, sym, subst, inl, inr}
+use Rattle.std.proofs.Common.{◌≡◌, ℕ, List, ◌++◌, Some, None, Result, Ok, Err, Vec, Global, subst, inl, inr}
 use Rattle.std.specs.Prelude.{IfOk, codes}
 use Rattle.vod_base.specs.Outside.{File, file_named}
 use Rattle.wire_curve.specs.declared.curves.Curves.{Curves}
@@ -9,12 +9,11 @@ use Rattle.cert_check.specs.Best.{IsBestPlan}
 use Rattle.cert_check.specs.Fault.{IsFirstFault}
 use Rattle.cert_check.specs.declared.CertFault.{CertFault}
 use Rattle.mpeg_scan.specs.declared.units.Unit.{Unit as PictureUnit}
-use Rattle.troubles.specs.declared.faults.Fault.{Fault}
-use Rattle.inputs.specs.Files.{IsMissing}
 use Rattle.inputs.specs.Scans.{HoldsFilm}
 use Rattle.vodserve.specs.ScanText.{scan_text}
 use Rattle.command_words.specs.Words.{Viewer}
-use Rattle.vodserve.specs.Carrying.{HasCurves, IsCertRefused, IsChecked, IsScanned, IsViewerRefused}
+use Rattle.vodserve.specs.Carrying.{IsScanned}
+use Rattle.vodserve.specs.Plans.{HasCurves, IsChecked}
 use Rattle.vodserve.specs.Verdict.{cert_fault_text}
 use Rattle.vodserve.specs.declared.done.Done.{Done}
 
@@ -73,13 +72,3 @@ pub film_done : {E : Type 0} (held : List File) (film : List ℕ) (size rate : �
     (done : Done) → r ≡ Ok done.text → IsScanned held film done.text.items
 film_done held film size rate units holds r text done is =
     record { size = size; rate = rate; units = units; holds = holds; printed = text_of (scan_text size rate units) r done.text text is }
-
--- a file that is missing, as the refusal of a trace or of a certificate
-pub trace_missing : (held : List File) (viewer : Viewer) (name : List ℕ) (fault : Fault) → name ≡ viewer.trace → IsMissing held name fault → IsViewerRefused held viewer fault
-trace_missing held viewer name fault is missing =
-    subst (IsViewerRefused held viewer) (sym missing.0) (subst (λ (n : List ℕ). file_named held n ≡ None) is missing.1)
-
-pub cert_missing : (held : List File) (viewer : Viewer) (cert : List ℕ) (curves : Curves) (name : List ℕ) (fault : Fault) → HasCurves held viewer curves →
-    name ≡ cert → IsMissing held name fault → IsCertRefused held viewer cert fault
-cert_missing held viewer cert curves name fault has is missing =
-    subst (IsCertRefused held viewer cert) (sym missing.0) ((curves, has), subst (λ (n : List ℕ). file_named held n ≡ None) is missing.1)

@@ -1,4 +1,5 @@
 pub mod CommandLemmas
+pub mod PictureLemmas
 pub mod OneAnswer
 pub mod ScanTextLemmas
 pub mod RunLemmas

@@ -1,12 +1,13 @@
 -- What was printed of what was done.
-use Rattle.std.proofs.Common.{◌≡◌, ◌∙◌, ◌≤◌, ℕ, List, Option, Some, None, Result, Ok, Err, Vec, Global, inl, inr, sym, ap, subst}
+use Rattle.std.proofs.Common.{◌≡◌, ◌≤◌, ℕ, List, Option, Some, None, Result, Ok, Err, Vec, Global, inl, inr, sym, subst}
 use Rattle.std.specs.Prelude.{IfOk, IfErr}
-use Rattle.command_words.specs.Words.{Made, Order, help, make_of, version}
+use Rattle.command_words.specs.Keys.{Made}
+use Rattle.command_words.specs.Words.{Order, help, make_of, version}
 use Rattle.plan_cert.specs.declared.Segment.{Segment}
 use Rattle.troubles.specs.Causes.{IsReadOnly, IsReadTrouble}
 use Rattle.troubles.specs.declared.faults.Trouble.{Trouble}
 use Rattle.troubles.specs.declared.faults.Trouble.TheVariants.{Usage, Refused, StoreFault, SinkFault, NoMemory, GateFault}
-use Rattle.vod_base.specs.Outside.{File, more}
+use Rattle.vod_base.specs.Outside.{File}
 use Rattle.vodserve.specs.Carrying.{IsDone, IsInputRefused, IsRead, made_text}
 use Rattle.vodserve.specs.Texts.{help_text, version_text}
 use Rattle.vodserve.proofs.CommandLemmas.{text_of}

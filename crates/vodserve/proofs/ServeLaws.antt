@@ -1,12 +1,10 @@
 -- The laws over a server's run.
-use Rattle.std.proofs.Common.{◌≡◌, ◌∙◌, ◌+◌, ◌<◌, ◌⊎◌, ℕ, List, [], ◌∷◌, length, Option, Some, None, inl, inr, sym, ap, subst, refl, arith, zero-add}
+use Rattle.std.proofs.Common.{◌≡◌, ◌∙◌, ◌<◌, ℕ, List, [], ◌∷◌, length, Option, Some, None, inl, inr, sym, subst, refl, arith, zero-add}
 use Rattle.std.specs.Prelude.{All, IfSome, slice_index_or}
-use Rattle.std.specs.List.{Contains}
 use Rattle.vod_base.specs.Outside.{HasRisen}
 use Rattle.vod_base.specs.Gates.{Content, NoMore, Part}
 use Rattle.admission.specs.declared.entries.Entry.{Entry}
 use Rattle.conn.specs.Parts.{Duty, IsServed, Outlet, duty}
-use Rattle.conn.specs.declared.reports.ConnReport.{ConnReport}
 use Rattle.conn.specs.declared.reports.PartReport.{PartReport}
 use Rattle.conn.specs.declared.reports.PartEnd.{PartEnd}
 use Rattle.conn.specs.declared.reports.PartEnd.TheVariants.{AllTaken, GateFault as PartFault}
@@ -15,11 +13,10 @@ use Rattle.command_words.specs.Words.{Serving}
 use Rattle.troubles.specs.Statuses.{status_of}
 use Rattle.troubles.specs.declared.faults.Trouble.{Trouble}
 use Rattle.troubles.specs.declared.faults.Trouble.TheVariants.{Usage, Refused, StoreFault, SinkFault, NoMemory, GateFault}
-use Rattle.vodserve.specs.Laws.{HasNoFault, IsEmptied, IsServable, IsWholeGate, LeavesNoneOut, ServesWhatItMay}
-use Rattle.vodserve.specs.Run.{Ends, HasServed, Serves, World}
+use Rattle.vodserve.specs.Laws.{HasNoFault, IsEmptied, IsServable, LeavesNoneOut, ServesWhatItMay}
+use Rattle.vodserve.specs.Run.{World}
 use Rattle.vodserve.specs.Served.{IsPrinted, IsServeTrouble}
-use Rattle.vodserve.specs.Worked.{AllWorked, HasBack, HasWorked, HaveWorked, IsOpenAs, HasParts, opening_of, settings_of}
-use Rattle.vodserve.specs.declared.run.Ended.{Ended}
+use Rattle.vodserve.specs.Worked.{AllWorked, HasBack, HasWorked, IsOpenAs, HasParts, opening_of, settings_of}
 use Rattle.vodserve.proofs.ServeLemmas.{worker_worked}
 
 -- what keeps from serving, where nothing is refused and nothing failed, is want of memory

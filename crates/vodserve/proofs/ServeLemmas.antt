@@ -1,5 +1,5 @@
 -- The films that words name.
-use Rattle.std.proofs.Common.{◌≡◌, ◌≢◌, ◌∙◌, ◌+◌, ◌<◌, ◌≤◌, ◌&&◌, not, ℕ, Bool, true, false, List, [], ◌∷◌, ◌++◌, length, drop, get_or, Option, Some, None, refl, sym, ap, subst, suc, zero, arith, string_bytes, String, Global, add-one, add-zero, length-append}
+use Rattle.std.proofs.Common.{◌≡◌, ◌≢◌, ◌∙◌, ◌+◌, ◌<◌, ◌≤◌, ◌&&◌, not, ℕ, true, List, [], ◌∷◌, ◌++◌, length, drop, get_or, Option, Some, None, refl, sym, ap, subst, suc, zero, arith, string_bytes, String, Global, add-one, add-zero, length-append}
 use Rattle.std.specs.Prelude.{All, codes, map, nat_le, option_map, slice_index_or}
 use Rattle.std.specs.List.{Contains, list_all, list_any}
 use Rattle.std.specs.Option.{option_to_list}
@@ -21,7 +21,8 @@ use Rattle.conn.specs.declared.reports.PartEnd.{PartEnd}
 use Rattle.conn.specs.declared.reports.PartEnd.TheVariants.{GateFault as PartFault}
 use Rattle.command_words.specs.Settings.{setting_value, texts, values_of}
 use Rattle.command_words.specs.Words.{are_distinct, are_films, are_names}
-use Rattle.vod_base.specs.Outside.{File, HasRisen, file_named}
+use Rattle.vod_base.specs.Outside.{File, HasRisen}
+use Rattle.inputs.specs.Scans.{HoldsVideo}
 use Rattle.vod_base.specs.Gates.{Content, opened}
 use Rattle.vod_base.specs.declared.gates.Opening.{Opening}
 use Rattle.slot_calendar.specs.declared.profiles.CapStep.{CapStep}
@@ -98,8 +99,8 @@ films_are films names is named =
 
 -- a film that the library holds under its name
 pub held_film : (told : Option (List File)) (film : Stored) (name : List ℕ) → string_bytes film.name ≡ name →
-    ((held : List File) → told ≡ Some held → file_named held name ≡ Some film.film.bytes.items) → IsHeld told film
-held_film told film name named is = λ held told_is. subst (λ (n : List ℕ). file_named held n ≡ Some film.film.bytes.items) (sym named) (is held told_is)
+    ((held : List File) → told ≡ Some held → HoldsVideo held name film.film.bytes.items) → IsHeld told film
+held_film told film name named is = λ held told_is. subst (λ (n : List ℕ). HoldsVideo held n film.film.bytes.items) (sym named) (is held told_is)
 
 -- a trouble of reading keeps from serving
 pub read_serves : (serving : Serving) (told : Option (List File)) (faults faults' : ℕ) (gate gate' : Outlet) (t : Trouble) →

@@ -1,5 +1,5 @@
 -- Workers that are made, run and joined.
-use Rattle.std.proofs.Common.{◌≡◌, ◌≢◌, ◌∙◌, ◌+◌, ◌<◌, ◌≤◌, ◌-◌, ◌^◌, ℕ, List, [], ◌∷◌, ◌++◌, length, Option, Some, None, ◌⊎◌, inl, inr, sym, ap, subst, refl, suc, zero, arith, add-zero, zero-add, length-append}
+use Rattle.std.proofs.Common.{◌≡◌, ◌≢◌, ◌∙◌, ◌+◌, ◌<◌, ◌≤◌, ◌-◌, ◌^◌, ℕ, List, [], ◌∷◌, ◌++◌, length, Option, Some, None, inl, inr, sym, ap, subst, refl, suc, zero, arith, add-zero, zero-add, length-append}
 use Rattle.std.specs.Prelude.{IfSome, IsSome, All, map, option_map, slice_index_or, slice_set}
 use Rattle.std.specs.List.{remove}
 use mathlib.Core.List.{IsPrefix}
@@ -26,7 +26,7 @@ use Rattle.conn.specs.declared.reports.PartEnd.{PartEnd}
 use Rattle.conn.specs.declared.reports.PartEnd.TheVariants.{AllTaken, GateFault as PartFault, NoMemory}
 use Rattle.vodserve.specs.Served.{HasFewer}
 use Rattle.vodserve.specs.Worked.{AllWorked, AreLeft, HasBack, HasOne, HasParts, HasWorked, IsOpenAs, IsWorse, all_reports}
-use Rattle.vodserve.specs.Workers.{AreBack, AreJoined, AreOut, AreWorkers, HasFinished, IsFresh, IsWorker, joined_of, report_of}
+use Rattle.vodserve.specs.Workers.{AreBack, AreJoined, AreOut, AreWorkers, HasFinished, IsWorker, joined_of, report_of}
 use Rattle.vodserve.specs.declared.workers.Worker.{Worker}
 
 -- a worker more

@@ -1,3 +1,5 @@
+pub mod Plans
+pub mod Pictures
 pub mod Carrying
 pub mod Run
 pub mod ScanText

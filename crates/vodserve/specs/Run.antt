@@ -2,7 +2,7 @@
 use Rattle.std.specs.Prelude.{◌≡◌, ℕ, ◌≤◌, Bool, List, [], length, Option, Some, None, Result, Ok, Err, ◌⊎◌}
 use Rattle.vod_base.specs.Outside.{File, HasRisen, more, IsFrontMore}
 use Rattle.plan_cert.specs.declared.Segment.{Segment}
-use Rattle.command_words.specs.Words.{Serving, Order, help, version, plan_of, check_of, make_of, scan_of, serve_of}
+use Rattle.command_words.specs.Words.{Serving, Order, help, version, plan_of, check_of, scan_of, make_of, day_of, fair_of, serve_of, watch_of}
 use Rattle.troubles.specs.Said.{IsSaid}
 use Rattle.troubles.specs.Lines.{trouble_text}
 use Rattle.troubles.specs.Statuses.{status_of}
@@ -142,6 +142,9 @@ Does before after seed (plan_of viewer) ended = Prints before after (plan_of vie
 Does before after seed (check_of viewer cert) ended = Prints before after (check_of viewer cert) ended
 Does before after seed (make_of kind number pictures) ended = Prints before after (make_of kind number pictures) ended
 Does before after seed (scan_of film) ended = Prints before after (scan_of film) ended
+Does before after seed (day_of run) ended = IsUsage before after ended
+Does before after seed (fair_of run) ended = IsUsage before after ended
+Does before after seed (watch_of watching) ended = IsUsage before after ended
 Does before after seed (serve_of serving) ended = Serves before after seed serving ended
 
 -- the library is as it was, and what the words ask for was done, if they mean something

@@ -1,10 +1,9 @@
 -- What a server prints and leaves.
-use Rattle.std.specs.Prelude.{◌≡◌, ℕ, ◌+◌, ◌<◌, List, [], ◌∷◌, ◌++◌, length, codes, decimal, ◌⊎◌, Option, Some, None, IfSome}
+use Rattle.std.specs.Prelude.{◌≡◌, ℕ, ◌+◌, ◌<◌, List, [], ◌∷◌, ◌++◌, length, codes, decimal, Option, Some, None, IfSome}
 use Rattle.std.specs.List.{Contains}
 use Rattle.vod_base.specs.Outside.{File, HasRisen, IsFrontMore, more}
 use Rattle.vod_base.specs.Gates.{Content}
 use Rattle.vod_base.specs.declared.gates.Opening.{Opening}
-use Rattle.slot_calendar.specs.declared.profiles.CapStep.{CapStep}
 use Rattle.admission.specs.declared.entries.Entry.{Entry}
 use Rattle.admission.specs.Machine.{booked_in}
 use Rattle.admission.specs.Histories.{IsLegal, state_after}

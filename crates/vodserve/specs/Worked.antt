@@ -1,7 +1,7 @@
 -- What a server serves with, and what its workers did.
 use Rattle.std.specs.Prelude.{◌≡◌, ◌⊎◌, ℕ, ◌+◌, ◌<◌, ⊤, List, [], ◌∷◌, ◌++◌, All, length, slice_index_or, string_bytes, Option, Some, None, IfSome}
 use mathlib.Core.List.{IsPrefix}
-use Rattle.vod_base.specs.Outside.{File, HasRisen, file_named}
+use Rattle.vod_base.specs.Outside.{File, HasRisen}
 use Rattle.vod_base.specs.Gates.{Content}
 use Rattle.vod_base.specs.declared.gates.Opening.{Opening}
 use Rattle.film_frames.specs.declared.stores.Stored.{Stored}
@@ -16,6 +16,7 @@ use Rattle.conn.specs.declared.reports.PartReport.{PartReport}
 use Rattle.conn.specs.declared.reports.PartEnd.{PartEnd}
 use Rattle.conn.specs.declared.reports.PartEnd.TheVariants.{AllTaken, GateFault, NoMemory}
 use Rattle.command_words.specs.Words.{Serving}
+use Rattle.inputs.specs.Scans.{HoldsVideo}
 
 -- how the words open the gate
 abbrev pub opening_of : Serving → Opening
@@ -33,7 +34,7 @@ settings_of serving = record { slot_units = serving.pace.slot; buffer = serving.
 
 -- a film is what the library holds under its name
 abbrev pub IsHeld : Option (List File) → Stored → Type 0
-IsHeld told film = (held : List File) → told ≡ Some held → file_named held (string_bytes film.name) ≡ Some film.film.bytes.items
+IsHeld told film = (held : List File) → told ≡ Some held → HoldsVideo held (string_bytes film.name) film.film.bytes.items
 
 -- the films of these names, in their order, as the library holds them
 pub record AreLoaded (told : Option (List File)) (names : List (List ℕ)) (films : List Stored) : Type 0 where

@@ -48,8 +48,8 @@ fn refusal_text(alloc: Global, fault: &CertFault) -> Result<Vec<u8>, AllocError>
     Ok(text)
 }
 
-/// The verdict on a certificate of a trace.
-pub(crate) fn check_trace<'a, L: Library>(
+/// The verdict on a certificate of a trace or film.
+pub(crate) fn check_viewer<'a, L: Library>(
     alloc: Global,
     library: &mut L,
     viewer: Viewer<'a>,

@@ -1,20 +1,108 @@
-ghost use Rattle.std.specs.Prelude.{◌≡◌, Some, List, IfOk, IfErr};
+ghost use Rattle.std.specs.Prelude.{◌≡◌, ◌≤◌, Some, List, IfOk, IfErr};
 ghost use Rattle.vod_base.specs.Outside.{File};
 ghost use Rattle.wire_curve.specs.Sound.{IsSound};
-ghost use Rattle.command_words.specs.Orders.{viewer_of};
-ghost use Rattle.command_words.specs.Ranges.{IsViewerInRange};
+ghost use Rattle.command_words.specs.Orders.{source_name, source_read, viewer_of};
+ghost use Rattle.command_words.specs.Ranges.{IsSourceInRange, IsViewerInRange};
 ghost use Rattle.troubles.specs.Causes.{IsReadOnly, IsReadTrouble};
 ghost use Rattle.inputs.specs.Files.{IsNamed};
-ghost use Rattle.vodserve.specs.Carrying.{HasCurves, IsTraceTrouble};
+ghost use Rattle.inputs.specs.Scans.{IsFilmRefused};
+ghost use Rattle.vodserve.specs.Plans.{AreOfFilm, AreOfTrace, ArePictures, HasCurves, IsSourceTrouble, IsTraceRefused, IsViewerTrouble};
+ghost use Rattle.vodserve.specs.Pictures.{AreWithinLimits, pictures_of};
 
-use command_words::Viewer;
-use inputs::{TraceRefused, read_input, read_trace};
+use command_words::{Source, Viewer};
+use inputs::{TraceRefused, read_input, read_trace, size_film};
+use mpeg_scan::picture_units;
 use std::alloc::Global;
 use troubles::{Fault, Trouble};
 use vod_base::Library;
 use wire_curve::{CurveRefused, Curves, Timing, film_curves};
 
-/// Reads a trace and makes the curves of its viewer.
+/// The pictures of a trace or film.
+#[derive(Drop)]
+struct Pictures {
+    /// Their sizes on the wire, in bytes.
+    sizes: Vec<u64>,
+    /// The time of one picture.
+    picture: u32,
+    /// The time of one slot, in the same unit.
+    slot: u32,
+}
+
+/// Reads a trace, which has one picture a slot.
+fn trace_pictures<'a, L: Library>(
+    alloc: Global,
+    library: &mut L,
+    name: &'a str,
+) -> Result<Pictures, Trouble<'a>>
+    ensures library { IsReadOnly (L.files library.old) (L.files library.new) (L.faults library.old) (L.faults library.new) }
+    ensures limits { IfOk result (λ pictures. AreWithinLimits (pictures_of pictures)) }
+    ensures pictures { (held : List File) → L.files library.old ≡ Some held
+        → IfOk result (λ pictures. AreOfTrace held name.entry.now (pictures_of pictures)) }
+    ensures trouble { IfErr result (IsReadTrouble (IsNamed name.entry.now) IsTraceRefused
+        (L.files library.old) (L.faults library.old) (L.faults library.new)) }
+{
+    let text = match read_input(alloc, library, name) {
+        Ok(text) => text,
+        Err(trouble) => return Err(trouble),
+    };
+    match read_trace(alloc, &text) {
+        Ok(sizes) => Ok(Pictures {
+            sizes,
+            picture: 1,
+            slot: 1,
+        }),
+        Err(TraceRefused::BadTrace(place)) => Err(Trouble::Refused(name, Fault::BadTrace(place))),
+        Err(TraceRefused::NoMemory) => Err(Trouble::NoMemory),
+    }
+}
+
+/// Scans a film, whose pictures have the wire sizes of its units and the time of its rate.
+fn film_pictures<'a, L: Library>(
+    alloc: Global,
+    library: &mut L,
+    name: &'a str,
+    slot: u32,
+) -> Result<Pictures, Trouble<'a>>
+    requires some_slot { 360 ≤ slot }
+    requires slot_fits { slot ≤ 360000 }
+    ensures library { IsReadOnly (L.files library.old) (L.files library.new) (L.faults library.old) (L.faults library.new) }
+    ensures limits { IfOk result (λ pictures. AreWithinLimits (pictures_of pictures)) }
+    ensures pictures { (held : List File) → L.files library.old ≡ Some held
+        → IfOk result (λ pictures. AreOfFilm held name.entry.now slot (pictures_of pictures)) }
+    ensures trouble { IfErr result (IsReadTrouble (IsNamed name.entry.now) IsFilmRefused
+        (L.files library.old) (L.faults library.old) (L.faults library.new)) }
+{
+    match size_film(alloc, library, name) {
+        Ok(film) => Ok(Pictures {
+            picture: picture_units(film.rate),
+            sizes: film.sizes,
+            slot,
+        }),
+        Err(trouble) => Err(trouble),
+    }
+}
+
+/// The pictures of a trace or film of the library.
+fn source_pictures<'a, L: Library>(
+    alloc: Global,
+    library: &mut L,
+    source: Source<'a>,
+) -> Result<Pictures, Trouble<'a>>
+    requires { IsSourceInRange source }
+    ensures library { IsReadOnly (L.files library.old) (L.files library.new) (L.faults library.old) (L.faults library.new) }
+    ensures limits { IfOk result (λ pictures. AreWithinLimits (pictures_of pictures)) }
+    ensures pictures { (held : List File) → L.files library.old ≡ Some held
+        → IfOk result (λ pictures. ArePictures held (source_read source.entry) (pictures_of pictures)) }
+    ensures trouble { IfErr result (IsReadTrouble (IsNamed (source_name (source_read source.entry)))
+        (IsSourceTrouble (source_read source.entry)) (L.files library.old) (L.faults library.old) (L.faults library.new)) }
+{
+    match source {
+        Source::Trace(name) => trace_pictures(alloc, library, name),
+        Source::Film(name, slot) => film_pictures(alloc, library, name, slot),
+    }
+}
+
+/// Reads a trace or film and makes the curves of its viewer.
 pub(crate) fn viewer_curves<'a, L: Library>(
     alloc: Global,
     library: &mut L,
@@ -24,33 +112,26 @@ pub(crate) fn viewer_curves<'a, L: Library>(
     ensures library { IsReadOnly (L.files library.old) (L.files library.new) (L.faults library.old) (L.faults library.new) }
     ensures sound { IfOk result (λ curves. IsSound curves.from curves.low.items curves.up.items) }
     ensures curves { (held : List File) → L.files library.old ≡ Some held → IfOk result (HasCurves held (viewer_of viewer.entry)) }
-    ensures trouble { IfErr result (IsReadTrouble (IsNamed viewer.entry.trace.now)
-        (IsTraceTrouble (viewer_of viewer.entry))
+    ensures trouble { IfErr result (IsReadTrouble (IsNamed (source_name (viewer_of viewer.entry).source))
+        (IsViewerTrouble (viewer_of viewer.entry))
         (L.files library.old) (L.faults library.old) (L.faults library.new)) }
 {
-    let text = match read_input(alloc, library, viewer.trace) {
-        Ok(text) => text,
+    let pictures = match source_pictures(alloc, library, viewer.source) {
+        Ok(pictures) => pictures,
         Err(trouble) => return Err(trouble),
     };
-    let sizes = match read_trace(alloc, &text) {
-        Ok(sizes) => sizes,
-        Err(TraceRefused::BadTrace(place)) => {
-            return Err(Trouble::Refused(viewer.trace, Fault::BadTrace(place)));
-        }
-        Err(TraceRefused::NoMemory) => return Err(Trouble::NoMemory),
-    };
     let timing = Timing {
-        picture_units: 1,
-        slot_units: 1,
+        picture_units: pictures.picture,
+        slot_units: pictures.slot,
         buffer: viewer.buffer,
         delay: viewer.startup,
         played: 0,
         sent: 0,
     };
-    match film_curves(alloc, &sizes, &timing) {
+    match film_curves(alloc, &pictures.sizes, &timing) {
         Ok(curves) => Ok(curves),
         Err(CurveRefused::Fault(fault)) => Err(Trouble::Refused(
-            viewer.trace,
+            viewer.source.name(),
             Fault::Curves(fault),
         )),
         Err(CurveRefused::NoMemory) => Err(Trouble::NoMemory),

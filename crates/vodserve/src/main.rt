@@ -4,6 +4,8 @@
 mod checks;
 mod curves;
 mod done;
+#[cfg(test)]
+mod film_tests;
 mod makes;
 mod plans;
 mod run;

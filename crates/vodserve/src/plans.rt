@@ -14,8 +14,8 @@ use taut_plan::plan;
 use troubles::Trouble;
 use vod_base::Library;
 
-/// The plan of a trace, and its certificate.
-pub(crate) fn plan_trace<'a, L: Library>(
+/// The plan of a trace or film, and its certificate.
+pub(crate) fn plan_viewer<'a, L: Library>(
     alloc: Global,
     library: &mut L,
     viewer: Viewer<'a>,

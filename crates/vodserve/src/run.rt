@@ -13,10 +13,10 @@ ghost use Rattle.vodserve.specs.Served.{served_text};
 ghost use Rattle.vodserve.specs.Laws.{LeavesNoneOut, ServesWhatItMay};
 ghost use Rattle.vodserve.specs.Run.{Ends, Fails, HasServedNothing, Printed, Ran, Serves, gate_seen, seen, world};
 
-use crate::checks::check_trace;
+use crate::checks::check_viewer;
 use crate::done::{Done, finish};
 use crate::makes::make;
-use crate::plans::plan_trace;
+use crate::plans::plan_viewer;
 use crate::scans::print_scan;
 use crate::served::print_served;
 use crate::serving::{Closed, prepare, run_server};
@@ -203,11 +203,11 @@ where
         Order::Help => print(alloc, out, err, finish(0, help(alloc))),
         Order::Version => print(alloc, out, err, finish(0, version(alloc))),
         Order::Plan(viewer) => {
-            let done = plan_trace(alloc, library, viewer);
+            let done = plan_viewer(alloc, library, viewer);
             print(alloc, out, err, done)
         }
         Order::Check(viewer, cert) => {
-            let done = check_trace(alloc, library, viewer, cert);
+            let done = check_viewer(alloc, library, viewer, cert);
             print(alloc, out, err, done)
         }
         Order::Make(kind, seed, pictures) => {
@@ -222,6 +222,9 @@ where
             let done = print_scan(alloc, library, film);
             print(alloc, out, err, done)
         }
+        Order::Day(_) => end_with(alloc, err, Trouble::Usage),
+        Order::Fair(_) => end_with(alloc, err, Trouble::Usage),
+        Order::Watch(_) => end_with(alloc, err, Trouble::Usage),
         Order::Serve(serving) => serve(rt, alloc, library, out, err, gate, seed, &serving),
     }
 }

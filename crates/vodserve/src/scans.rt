@@ -1,7 +1,10 @@
-ghost use Rattle.std.specs.Prelude.{IfOk, IfErr};
+ghost use Rattle.std.specs.Prelude.{◌≡◌, ℕ, List, IfOk, IfErr};
+ghost use Rattle.vod_base.specs.Outside.{File};
+ghost use Rattle.inputs.specs.Scans.{IsFilmRefused};
+ghost use Rattle.troubles.specs.declared.faults.Fault.{Fault};
 ghost use Rattle.command_words.specs.Words.{scan_of};
 ghost use Rattle.troubles.specs.Causes.{IsReadOnly, IsReadTrouble};
-ghost use Rattle.vodserve.specs.Carrying.{IsDone, IsInputRefused, IsRead};
+ghost use Rattle.vodserve.specs.Carrying.{IsDone, IsInputRefused, IsRead, IsScanned};
 
 use crate::done::{Done, finish};
 use crate::scan_text::scan_text;
@@ -32,3 +35,9 @@ pub(crate) fn print_scan<'a, L: Library>(
         scan_text(alloc, scanned.bytes, scanned.rate, &scanned.units),
     )
 }
+
+/// A law: a film that a library holds has one scan, and isn't refused besides.
+pub fn law_one_scan()
+    ensures once { (held : List File) (film text text' : List ℕ) → IsScanned held film text → IsScanned held film text' → text ≡ text' }
+    ensures not_refused { (held : List File) (film text : List ℕ) (fault : Fault) → IsScanned held film text → IsFilmRefused held film fault → ⊥ }
+{}

@@ -9,9 +9,9 @@ use vod_base::{MemoryGate, MemoryLibrary, MemoryPart, MemorySink, NoMemory};
 #[derive(Drop)]
 pub(crate) struct Outcome {
     pub(crate) status: u8,
-    planned: bool,
+    pub(crate) planned: bool,
     pub(crate) out: Vec<u8>,
-    err: Vec<u8>,
+    pub(crate) err: Vec<u8>,
 }
 
 /// The calls that are to fail.

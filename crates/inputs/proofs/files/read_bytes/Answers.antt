@@ -11,6 +11,7 @@ loop-more-init g c = (
     told = λ held told found. (rw c.new-bytes.ensures.items (first_front held c.args.name.now c.args.size found), refl);
   },
   omega (arith, c.in-Ok.ensures {u = tt}),
+  omega (arith, c.new-bytes.ensures.len),
 )
 
 pub loop-more-preserved : goal.loop-more-preserved
@@ -22,6 +23,7 @@ loop-more-preserved g c = (
         (c.in-Ok-read_piece.ensures {u = tt}).told held (c.loop-more.invariant.0.kept ∙ told) (c.loop-more.invariant.0.told held told found).0;
   },
   c.loop-more.invariant.1,
+  c.read_piece.ensures.within,
 )
 
 pub returns-clause-read : goal.returns-clause-read

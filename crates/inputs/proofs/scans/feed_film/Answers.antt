@@ -1,36 +1,53 @@
-use Rattle.std.proofs.Common.{◌∙◌, arith, List, ℕ, subst, sym}
+use Rattle.std.proofs.Common.{◌∙◌, ◌+◌, Option, List, arith, refl, sym, subst}
 use Rattle.std.proofs.lemmas.Bool.{lt-ltb}
 use Rattle.troubles.proofs.CauseLemmas.{trouble_map}
+use Rattle.vod_base.specs.Outside.{File}
 use Rattle.inputs.specs.Files.{IsNamed}
-use Rattle.inputs.specs.Scans.{HasScanned, IsRefusedFrom}
+use Rattle.inputs.specs.Scans.{HasScanned, IsFilmRefused}
+use Rattle.inputs.proofs.ScanLemmas.{all_scanned}
 use Rattle.inputs.proofs.scans.feed_film.Goals as goal
+use Rattle.inputs.proofs.scans.feed_film.Goals.{else-loop-more-test, then-loop-more-test+else-at-size}
+
+pub loop-more-init : goal.loop-more-init
+loop-more-init g c = (
+  record { kept = refl; count = omega arith; within = omega arith; scanned = c.requires.scanned; more_is = λ held is. refl },
+  c.requires.ready,
+)
+
+pub feed_piece-requires-clause-opened : goal.feed_piece-requires-clause-opened
+feed_piece-requires-clause-opened g c = λ held is. c.requires.opened held (sym c.loop-more.invariant.0.kept ∙ is)
+
+pub feed_piece-requires-clause-scanned : goal.feed_piece-requires-clause-scanned
+feed_piece-requires-clause-scanned g c =
+    subst (λ (t : Option (List File)). HasScanned (g.F.Found.heard c.loop-more.found) t c.args.name.now c.args.size c.loop-more.at c.loop-more.scanner)
+    (sym c.loop-more.invariant.0.kept) c.loop-more.invariant.0.scanned
+
+pub loop-more-preserved : goal.loop-more-preserved
+loop-more-preserved g c = (
+  record {
+    kept = c.feed_piece.ensures.library.kept ∙ c.loop-more.invariant.0.kept;
+    count = omega (arith, c.feed_piece.ensures.library.count, c.loop-more.invariant.0.count);
+    within = (c.in-Ok.ensures {u = tt}).within;
+    scanned = subst (λ (t : Option (List File)). HasScanned (g.F.Found.heard c.feed_piece.new.found) t c.args.name.now c.args.size (c.loop-more.at + c.in-Ok.count) c.feed_piece.new.scanner)
+        c.loop-more.invariant.0.kept ((c.in-Ok.ensures {u = tt}).scanned);
+    more_is = λ held is. lt-ltb 0 c.in-Ok.count ((c.in-Ok.ensures {u = tt}).more held (c.loop-more.invariant.0.kept ∙ is));
+  },
+  c.feed_piece.ensures.ready,
+)
+
+pub returns-clause-scanned : goal.returns-clause-scanned
+returns-clause-scanned g c =
+    all_scanned (g.F.Found.heard c.loop-more.found) (g.L.Library.files c.args.library.now) c.args.name.now c.args.size c.loop-more.at c.loop-more.scanner
+    c.loop-more.invariant.0.scanned c.loop-more.invariant.0.within
+    (λ held is. elim c.loop-more-test.branch [
+      | then-loop-more-test+else-at-size w ↦ omega (arith, w.if-at-size.false)
+      | else-loop-more-test w ↦ absurd (cc (c.loop-more.invariant.0.more_is held is, w.loop-more-test.false))
+    ])
 
 pub returns-in-Err-clause-trouble : goal.returns-in-Err-clause-trouble
 returns-in-Err-clause-trouble g c =
-    trouble_map (IsNamed c.args.name.now) (IsNamed c.args.name.now)
-    (IsRefusedFrom c.args.size c.loop-more.at c.loop-more.scanner c.loop-more.found.units.items)
-    (IsRefusedFrom c.args.size 0 c.args.scanner.now c.args.found.now.units.items)
+    trouble_map (IsNamed c.args.name.now) (IsNamed c.args.name.now) IsFilmRefused IsFilmRefused
     (g.L.Library.files c.loop-more.library) (g.L.Library.files c.args.library.now)
     (g.L.Library.faults c.loop-more.library) (g.L.Library.faults c.feed_piece.new.library) (g.L.Library.faults c.args.library.now) (g.L.Library.faults c.feed_piece.new.library)
-    c.in-Err.trouble
-    (λ name is. is)
-    (λ held name fault told is refused start. refused (subst
-    (λ (n : List ℕ). HasScanned held n c.args.size c.loop-more.at c.loop-more.scanner c.loop-more.found.units.items) (sym is)
-    (c.loop-more.invariant.told held told
-    (subst (λ (n : List ℕ). HasScanned held n c.args.size 0 c.args.scanner.now c.args.found.now.units.items) is start)).0))
-    (λ held told. c.loop-more.invariant.kept ∙ told)
-    (omega (arith, c.loop-more.invariant.count)) (omega arith) ((c.in-Err.ensures {u = tt}).trouble)
-
-pub loop-more-preserved : goal.loop-more-preserved
-loop-more-preserved g c = record {
-  kept = c.feed_piece.ensures.library.kept ∙ c.loop-more.invariant.kept;
-  count = omega (arith, c.feed_piece.ensures.library.count, c.loop-more.invariant.count);
-  within = (c.in-Ok.ensures {u = tt}).within;
-  fed = (c.in-Ok.ensures {u = tt}).fed;
-  told = λ held told start.
-      let so_far : HasScanned held c.args.name.now c.args.size c.loop-more.at c.loop-more.scanner c.loop-more.found.units.items =
-      (c.loop-more.invariant.told held told start).0 in (
-        ((c.in-Ok.ensures {u = tt}).told held (c.loop-more.invariant.kept ∙ told) so_far).0,
-        lt-ltb 0 c.in-Ok.count ((c.in-Ok.ensures {u = tt}).told held (c.loop-more.invariant.kept ∙ told) so_far).1,
-      );
-}
+    c.in-Err.trouble (λ name is. is) (λ held name fault told is refused. refused) (λ held told. c.loop-more.invariant.0.kept ∙ told)
+    (omega (arith, c.loop-more.invariant.0.count)) (omega arith) ((c.in-Err.ensures {u = tt}).trouble)

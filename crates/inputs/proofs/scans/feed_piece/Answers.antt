@@ -1,25 +1,35 @@
-use Rattle.std.proofs.Common.{◌<◌, ◌≤◌, arith, rules, refl}
-use Rattle.inputs.proofs.ScanLemmas.{more_scanned, scanned_some, piece_refused}
+use Rattle.std.proofs.Common.{take, arith, refl}
+use Rattle.std.proofs.lemmas.List.{length-take-le}
+use Rattle.inputs.proofs.ScanLemmas.{more_scanned, piece_refused, scanned_fed}
 use Rattle.inputs.proofs.scans.feed_piece.Goals as goal
 
-pub returns-in-Ok-feed-clause-told : goal.returns-in-Ok-feed-clause-told
-returns-in-Ok-feed-clause-told g c = λ held told so_far.
-    let fewer : c.min-count.result ≤ c.in-Ok.count = search rules in
-    let some : 0 < c.in-Ok.count =
-    scanned_some held c.args.name.now c.args.size c.args.at c.args.scanner.now c.args.found.now.units.items c.read.new.into c.in-Ok.count so_far
-    ((c.in-Ok.ensures {u = tt}).bytes held told) (omega (arith, c.requires.some, c.read.auto.into)) c.requires.before in (
-      more_scanned held c.args.name.now c.args.size c.args.at c.args.scanner.now c.feed.new.self c.args.found.now.units.items c.feed.new.found.units.items
-          c.read.new.into c.in-Ok.count c.min-count.result so_far ((c.in-Ok.ensures {u = tt}).bytes held told) fewer
-          ((c.in-Ok-feed.ensures {u = tt}).kept) ((c.in-Ok-feed.ensures {u = tt}).told),
-      omega (arith, c.min-count.ensures, some, c.requires.before),
+pub feed-requires-clause-short : goal.feed-requires-clause-short
+feed-requires-clause-short g c =
+    omega (
+      arith,
+      scanned_fed (g.F.Found.heard c.args.found.now) (g.L.Library.files c.args.library.now) c.args.name.now c.args.size c.args.at c.args.scanner.now c.requires.scanned,
+      length-take-le c.in-Ok.count c.read_at.new.piece ((c.in-Ok.ensures {u = tt}).within),
+      (c.in-Ok.ensures {u = tt}).fits,
+      c.requires.short,
     )
+
+pub returns-in-Ok-feed-clause-scanned : goal.returns-in-Ok-feed-clause-scanned
+returns-in-Ok-feed-clause-scanned g c =
+    more_scanned (g.F.Found.heard c.args.found.now) (g.F.Found.heard c.feed.new.found) (g.L.Library.files c.args.library.now) c.args.name.now c.args.size c.args.at
+    c.args.scanner.now c.feed.new.self c.read_at.new.piece c.in-Ok.count c.requires.scanned
+    (λ held is. (c.in-Ok.ensures {u = tt}).told held c.requires.scanned.bytes is (c.requires.scanned.front held is) c.requires.scanned.long)
+    ((c.in-Ok.ensures {u = tt}).within) ((c.in-Ok-feed.ensures {u = tt}).kept) ((c.in-Ok-feed.ensures {u = tt}).told)
+
+pub returns-in-Ok-feed-clause-more : goal.returns-in-Ok-feed-clause-more
+returns-in-Ok-feed-clause-more g c = λ held is.
+    (c.in-Ok.ensures {u = tt}).more held c.requires.scanned.bytes is (c.requires.scanned.front held is) c.requires.scanned.long
 
 pub returns-in-Err-Fault-clause-trouble : goal.returns-in-Err-Fault-clause-trouble
 returns-in-Err-Fault-clause-trouble g c = (
   refl,
-  λ held told so_far.
-      let fewer : c.min-count.result ≤ c.in-Ok.count = search rules in
-      piece_refused held c.args.name.now c.args.size c.args.at c.args.scanner.now c.args.found.now.units.items
-      c.read.new.into c.in-Ok.count c.min-count.result c.in-Err-Fault.fault so_far ((c.in-Ok.ensures {u = tt}).bytes held told) fewer c.requires.short
+  λ held is.
+      piece_refused (g.F.Found.heard c.args.found.now) held c.args.name.now c.args.size c.args.scanner.now c.requires.scanned.bytes
+      (take c.in-Ok.count c.read_at.new.piece) c.in-Err-Fault.fault c.requires.scanned.scanned (c.requires.opened held is)
+      ((c.in-Ok.ensures {u = tt}).told held c.requires.scanned.bytes is (c.requires.scanned.front held is) c.requires.scanned.long) c.requires.short
       (c.feed.ensures.fault c.in-Err-Fault.fault (cc)),
 )

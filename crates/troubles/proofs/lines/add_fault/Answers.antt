@@ -32,3 +32,11 @@ returns-in-Film g c = λ faults told text said.
 pub returns-in-FilmTooLarge : goal.returns-in-FilmTooLarge
 returns-in-FilmTooLarge g c = λ faults told text said.
     said_as (ap (λ (f : Fault). text ++ fault_text f) (sym c.in-FilmTooLarge.is)) (c.add-in-FilmTooLarge.ensures faults told text said)
+
+pub returns-in-System : goal.returns-in-System
+returns-in-System g c = λ faults told text said.
+    said_as (ap (λ (f : Fault). text ++ fault_text f) (sym c.in-System.is)) (c.add_system_fault.ensures faults told text said)
+
+pub returns-in-BadScript : goal.returns-in-BadScript
+returns-in-BadScript g c = λ faults told text said.
+    said_as (ap (λ (f : Fault). text ++ fault_text f) (sym c.in-BadScript.is)) (c.add_named.ensures faults told text said)

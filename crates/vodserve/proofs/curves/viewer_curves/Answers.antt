@@ -1,15 +1,49 @@
-use Rattle.std.proofs.Common.{arith}
-use Rattle.command_words.specs.Orders.{viewer_of}
+use Rattle.std.proofs.Common.{List, ℕ, arith, inl, inr, subst, sym}
+use Rattle.wire_curve.specs.FilmCurves.{IsWithinLimits}
+use Rattle.command_words.specs.Orders.{source_name, source_read, viewer_of}
 use Rattle.troubles.proofs.CauseLemmas.{trouble_map}
-use Rattle.inputs.specs.Files.{IsMissing, IsNamed}
-use Rattle.vodserve.specs.Carrying.{IsTraceTrouble}
-use Rattle.vodserve.proofs.CommandLemmas.{trace_missing}
+use Rattle.inputs.specs.Files.{IsNamed}
+use Rattle.vodserve.specs.Pictures.{pictures_of}
+use Rattle.wire_curve.specs.Refusal.{HasFault, IsRefused}
+use Rattle.vodserve.specs.Plans.{IsSourceTrouble, IsViewerTrouble, Pictures, timing_of}
+use Rattle.vodserve.proofs.PictureLemmas.{limits_of}
 use Rattle.vodserve.proofs.curves.viewer_curves.Goals as goal
 
 pub returns-in-Err-clause-trouble : goal.returns-in-Err-clause-trouble
 returns-in-Err-clause-trouble g c =
-    trouble_map (IsNamed c.args.viewer.trace.now) (IsNamed c.args.viewer.trace.now) IsMissing (IsTraceTrouble (viewer_of c.args.viewer))
+    trouble_map (IsNamed (source_name (source_read c.args.viewer.source))) (IsNamed (source_name (source_read c.args.viewer.source)))
+    (IsSourceTrouble (source_read c.args.viewer.source)) (IsViewerTrouble (viewer_of c.args.viewer))
     (g.L.Library.files c.args.library.now) (g.L.Library.files c.args.library.now)
-    (g.L.Library.faults c.args.library.now) (g.L.Library.faults c.read_input.new.library) (g.L.Library.faults c.args.library.now) (g.L.Library.faults c.read_input.new.library)
-    c.in-Err.trouble (λ name is. is) (λ held name fault told is missing. trace_missing held (viewer_of c.args.viewer) name fault is missing) (λ held told. told)
+    (g.L.Library.faults c.args.library.now) (g.L.Library.faults c.source_pictures.new.library) (g.L.Library.faults c.args.library.now) (g.L.Library.faults c.source_pictures.new.library)
+    c.in-Err.trouble (λ name is. is) (λ held name fault told is refused. inl refused) (λ held told. told)
     (omega arith) (omega arith) ((c.in-Err.ensures {u = tt}).trouble)
+
+pub film_curves-requires : goal.film_curves-requires
+film_curves-requires g c =
+    subst (λ (l : List ℕ). IsWithinLimits l (timing_of (viewer_of c.args.viewer) (pictures_of c.in-Ok.pictures))) (sym c.deref.ensures.value)
+    (limits_of (viewer_of c.args.viewer) (pictures_of c.in-Ok.pictures) ((c.in-Ok.ensures {u = tt}).limits) c.requires.some_buffer c.requires.buffer_fits c.requires.startup_fits)
+
+pub returns-in-Ok-film_curves-clause-curves : goal.returns-in-Ok-film_curves-clause-curves
+returns-in-Ok-film_curves-clause-curves g c = λ held told. record {
+  pictures = pictures_of c.in-Ok.pictures;
+  are = (c.in-Ok.ensures {u = tt}).pictures held told;
+  accepted = rw c.deref.ensures.value at (c.in-Ok-film_curves.ensures {u = tt}).accepted;
+  curves_are = rw c.deref.ensures.value at (c.in-Ok-film_curves.ensures {u = tt}).curves;
+  sound = (c.in-Ok-film_curves.ensures {u = tt}).sound;
+}
+
+pub returns-in-Err-Fault-clause-trouble : goal.returns-in-Err-Fault-clause-trouble
+returns-in-Err-Fault-clause-trouble g c = (
+  c.name.ensures,
+  λ held told.
+      let pictures : Pictures = pictures_of c.in-Ok.pictures in
+      let fault : HasFault c.deref.result.now (timing_of (viewer_of c.args.viewer) pictures) c.in-Err-Fault.fault =
+      subst (IsRefused c.deref.result.now (timing_of (viewer_of c.args.viewer) pictures)) c.in-Err-Fault.field-0-is ((c.in-Err-Fault.ensures {u = tt}).refused) in
+      inr (
+        pictures,
+        (
+          (c.in-Ok.ensures {u = tt}).pictures held told,
+          subst (λ (l : List ℕ). HasFault l (timing_of (viewer_of c.args.viewer) pictures) c.in-Err-Fault.fault) c.deref.ensures.value fault,
+        ),
+      ),
+)

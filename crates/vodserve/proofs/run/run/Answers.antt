@@ -1,6 +1,6 @@
-use Rattle.std.proofs.Common.{◌≡◌, ◌∙◌, ◌≤◌, Some, None, Ok, refl, sym, ap, arith}
-use Rattle.command_words.specs.Words.{help, version, plan_of, check_of, make_of, scan_of}
-use Rattle.command_words.specs.Orders.{made_of, order_of, viewer_of}
+use Rattle.std.proofs.Common.{◌∙◌, Some, None, refl, sym, ap, arith}
+use Rattle.command_words.specs.Words.{help, version, plan_of, check_of, make_of, scan_of, day_of, fair_of, watch_of}
+use Rattle.command_words.specs.Orders.{fair_run_of, made_of, order_of, script_run_of, viewer_of, watching_of}
 use Rattle.command_words.specs.declared.orders.Order.{Order as OrderRead}
 use Rattle.vodserve.proofs.RunLemmas.{help_done, made_done, no_memory, printed, ran_as, version_done}
 use Rattle.vodserve.proofs.run.run.Goals as goal
@@ -9,18 +9,18 @@ pub returns-in-Plan : goal.returns-in-Plan
 returns-in-Plan g c = record {
   ran = ran_as _ _ _ _ (plan_of (viewer_of c.in-Plan.viewer)) _
       (sym ((c.in-Some.ensures {u = tt}).order) ∙ ap (λ (o : OrderRead). Some (order_of o)) c.in-Plan.is)
-      c.plan_trace-done.ensures.library c.print-in-Plan.ensures.count (omega arith)
-      (printed _ _ (plan_of (viewer_of c.in-Plan.viewer)) c.plan_trace-done.result c.print-in-Plan.result refl c.print-in-Plan.ensures.nothing
-      c.plan_trace-done.ensures.done c.plan_trace-done.ensures.trouble c.print-in-Plan.ensures.printed);
+      c.plan_viewer-done.ensures.library c.print-in-Plan.ensures.count (omega arith)
+      (printed _ _ (plan_of (viewer_of c.in-Plan.viewer)) c.plan_viewer-done.result c.print-in-Plan.result refl c.print-in-Plan.ensures.nothing
+      c.plan_viewer-done.ensures.done c.plan_viewer-done.ensures.trouble c.print-in-Plan.ensures.printed);
 }
 
 pub returns-in-Check : goal.returns-in-Check
 returns-in-Check g c = record {
   ran = ran_as _ _ _ _ (check_of (viewer_of c.in-Check.viewer) c.in-Check.cert.now) _
       (sym ((c.in-Some.ensures {u = tt}).order) ∙ ap (λ (o : OrderRead). Some (order_of o)) c.in-Check.is)
-      c.check_trace-done.ensures.library c.print-in-Check.ensures.count (omega arith)
-      (printed _ _ (check_of (viewer_of c.in-Check.viewer) c.in-Check.cert.now) c.check_trace-done.result c.print-in-Check.result refl
-      c.print-in-Check.ensures.nothing c.check_trace-done.ensures.done c.check_trace-done.ensures.trouble c.print-in-Check.ensures.printed);
+      c.check_viewer-done.ensures.library c.print-in-Check.ensures.count (omega arith)
+      (printed _ _ (check_of (viewer_of c.in-Check.viewer) c.in-Check.cert.now) c.check_viewer-done.result c.print-in-Check.result refl
+      c.print-in-Check.ensures.nothing c.check_viewer-done.ensures.done c.check_viewer-done.ensures.trouble c.print-in-Check.ensures.printed);
 }
 
 pub returns-in-Make : goal.returns-in-Make
@@ -62,4 +62,25 @@ returns-in-Version g c = record {
       (printed _ _ version c.finish-in-Version.result c.print-in-Version.result refl c.print-in-Version.ensures.nothing
       (version_done None c.version.result c.version.ensures c.finish-in-Version.result c.finish-in-Version.ensures.done)
       (no_memory _ _ _ version c.finish-in-Version.result c.finish-in-Version.ensures.trouble) c.print-in-Version.ensures.printed);
+}
+
+pub returns-in-Day : goal.returns-in-Day
+returns-in-Day g c = record {
+  ran = ran_as _ _ _ _ (day_of (script_run_of c.in-Day.field-0)) _
+      (sym ((c.in-Some.ensures {u = tt}).order) ∙ ap (λ (o : OrderRead). Some (order_of o)) c.in-Day.is)
+      (record { kept = refl; count = omega arith }) (omega arith) (omega arith) (refl, refl, c.end_with-in-Day.ensures.nothing, c.end_with-in-Day.ensures.fails);
+}
+
+pub returns-in-Fair : goal.returns-in-Fair
+returns-in-Fair g c = record {
+  ran = ran_as _ _ _ _ (fair_of (fair_run_of c.in-Fair.field-0)) _
+      (sym ((c.in-Some.ensures {u = tt}).order) ∙ ap (λ (o : OrderRead). Some (order_of o)) c.in-Fair.is)
+      (record { kept = refl; count = omega arith }) (omega arith) (omega arith) (refl, refl, c.end_with-in-Fair.ensures.nothing, c.end_with-in-Fair.ensures.fails);
+}
+
+pub returns-in-Watch : goal.returns-in-Watch
+returns-in-Watch g c = record {
+  ran = ran_as _ _ _ _ (watch_of (watching_of c.in-Watch.field-0)) _
+      (sym ((c.in-Some.ensures {u = tt}).order) ∙ ap (λ (o : OrderRead). Some (order_of o)) c.in-Watch.is)
+      (record { kept = refl; count = omega arith }) (omega arith) (omega arith) (refl, refl, c.end_with-in-Watch.ensures.nothing, c.end_with-in-Watch.ensures.fails);
 }

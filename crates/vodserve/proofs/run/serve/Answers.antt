@@ -1,4 +1,4 @@
-use Rattle.std.proofs.Common.{◌≡◌, ◌∙◌, ℕ, List, length, inr, sym, ap, subst, arith}
+use Rattle.std.proofs.Common.{◌≡◌, ◌∙◌, ℕ, List, length, inr, sym, ap, subst}
 use Rattle.admission.specs.declared.entries.Entry.{Entry}
 use Rattle.conn.specs.Parts.{Outlet}
 use Rattle.conn.specs.declared.reports.ConnReport.{ConnReport}
@@ -7,7 +7,7 @@ use Rattle.command_words.specs.Orders.{serving_of}
 use Rattle.vodserve.specs.Served.{IsJournal, served_text}
 use Rattle.vodserve.specs.Worked.{HaveWorked}
 use Rattle.vodserve.specs.Run.{Ends, Seen, gate_seen, seen}
-use Rattle.vodserve.proofs.ServeLemmas.{fault_risen, have_worked_since, make_serves}
+use Rattle.vodserve.proofs.ServeLemmas.{fault_risen, have_worked_since}
 use Rattle.vodserve.proofs.run.serve.Goals as goal
 
 pub returns-in-Ok-run_server-clause-serves : goal.returns-in-Ok-run_server-clause-serves

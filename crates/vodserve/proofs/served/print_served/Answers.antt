@@ -1,5 +1,5 @@
-use Rattle.std.proofs.Common.{◌≡◌, ◌∙◌, List, ℕ, length, ap, subst, arith}
-use Rattle.vod_base.specs.Outside.{IsFrontMore, more}
+use Rattle.std.proofs.Common.{◌≡◌, ◌∙◌, ℕ, length, ap, subst, arith}
+use Rattle.vod_base.specs.Outside.{IsFrontMore}
 use Rattle.vodserve.specs.Served.{served_text}
 use Rattle.vodserve.proofs.JournalLemmas.{written_front}
 use Rattle.vodserve.proofs.served.print_served.Goals as goal

@@ -1,4 +1,4 @@
-use Rattle.std.proofs.Common.{◌≡◌, ◌++◌, ◌∷◌, [], List, sym, subst}
+use Rattle.std.proofs.Common.{sym, subst}
 use Rattle.std.specs.Prelude.{All, OnOk}
 use Rattle.film_frames.specs.declared.stores.Stored.{Stored}
 use Rattle.vodserve.specs.Worked.{IsHeld}

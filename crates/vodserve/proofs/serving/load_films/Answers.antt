@@ -1,4 +1,4 @@
-use Rattle.std.proofs.Common.{Option, rules, subst, ◌+◌, ◌≡◌, ◌∙◌, ◌≤◌, ◌++◌, List, ℕ, [], ap, arith, sym, length, drop, string_bytes}
+use Rattle.std.proofs.Common.{Option, rules, subst, ◌+◌, ◌∙◌, ◌≤◌, ◌++◌, List, ℕ, ap, arith, sym, length, drop}
 use Rattle.std.specs.Prelude.{All, codes}
 use Rattle.vod_base.specs.Outside.{File}
 use Rattle.vodserve.specs.Worked.{IsHeld}

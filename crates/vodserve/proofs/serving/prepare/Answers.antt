@@ -1,6 +1,6 @@
 use Rattle.conn.specs.Parts.{outlet}
 use Rattle.command_words.specs.Orders.{serving_of}
-use Rattle.vodserve.proofs.ServeLemmas.{lost_fewer, newly_open, read_serves}
+use Rattle.vodserve.proofs.ServeLemmas.{read_serves}
 use Rattle.vodserve.proofs.serving.prepare.Goals as goal
 
 pub returns-in-Err-clause-trouble : goal.returns-in-Err-clause-trouble

@@ -1,4 +1,4 @@
-use Rattle.std.proofs.Common.{◌≡◌, ◌∙◌, ℕ, List, length, subst}
+use Rattle.std.proofs.Common.{◌∙◌, ℕ, List, subst}
 use Rattle.std.specs.Prelude.{All}
 use Rattle.film_frames.specs.declared.stores.Stored.{Stored}
 use Rattle.conn.specs.Parts.{outlet}

@@ -1,5 +1,5 @@
-use Rattle.std.proofs.Common.{◌≡◌, ◌∙◌, ◌+◌, ◌<◌, ◌++◌, ◌∷◌, [], ℕ, List, length, ap, sym, subst, inr, refl, arith, length-append}
-use Rattle.std.specs.Prelude.{All, map}
+use Rattle.std.proofs.Common.{◌≡◌, ◌+◌, ◌<◌, ◌++◌, ◌∷◌, [], ℕ, List, length, ap, sym, subst, inr, refl, arith, length-append}
+use Rattle.std.specs.Prelude.{map}
 use Rattle.std.specs.List.{remove}
 use Rattle.std.proofs.lemmas.List.{map-append}
 use Rattle.std.proofs.lemmas.List.Elements.{All-nil}
@@ -7,9 +7,9 @@ use Rattle.vod_base.specs.Outside.{HasRisen}
 use Rattle.station.specs.Seats.{Sitting}
 use Rattle.conn.specs.declared.reports.PartReport.{PartReport}
 use Rattle.vodserve.specs.Worked.{AreLeft}
-use Rattle.vodserve.specs.Workers.{AreJoined, AreWorkers, IsWorker, report_of}
+use Rattle.vodserve.specs.Workers.{AreWorkers, IsWorker, report_of}
 use Rattle.vodserve.specs.declared.workers.Worker.{Worker}
-use Rattle.vodserve.proofs.WorkerLemmas.{all_done, all_push, first_split, first_worker, join_one, may_rejoin, one_done, rest_workers, risen_on, risen_since, back_still_open}
+use Rattle.vodserve.proofs.WorkerLemmas.{all_push, first_split, first_worker, join_one, one_done, rest_workers, risen_on, risen_since, back_still_open}
 use Rattle.vodserve.proofs.workers.join_workers.Goals as goal
 
 pub loop-workers-init : goal.loop-workers-init

@@ -1,4 +1,4 @@
-use Rattle.std.proofs.Common.{◌≡◌, ◌<◌, ◌≤◌, ◌++◌, ℕ, List, length}
+use Rattle.std.proofs.Common.{◌≡◌, ◌<◌, ◌≤◌, ◌++◌, List, length}
 use Rattle.std.specs.Prelude.{All, map}
 use Rattle.vod_base.specs.Outside.{HasRisen}
 use Rattle.vod_base.specs.declared.gates.Opening.{Opening}

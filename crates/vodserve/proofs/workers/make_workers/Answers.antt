@@ -1,10 +1,10 @@
-use Rattle.std.proofs.Common.{refl, ◌≡◌, ◌∙◌, ◌+◌, ◌++◌, ◌∷◌, [], List, length, ap, sym, subst, arith, length-append}
+use Rattle.std.proofs.Common.{◌≡◌, ◌∙◌, ◌+◌, ◌++◌, ◌∷◌, [], List, length, ap, sym, subst, arith, length-append}
 use Rattle.std.specs.Prelude.{All}
 use Rattle.station.specs.Seats.{Sitting, after_split}
 use Rattle.conn.specs.declared.reports.PartEnd.TheVariants.{AllTaken}
 use Rattle.vodserve.specs.Workers.{AreWorkers, IsFresh, IsWorker}
 use Rattle.vodserve.specs.declared.workers.Worker.{Worker}
-use Rattle.vodserve.proofs.WorkerLemmas.{all_push, fewer_parts, new_untouched, workers_push, told_out_more, split_open, split_still_open, new_number}
+use Rattle.vodserve.proofs.WorkerLemmas.{all_push, new_untouched, workers_push, told_out_more, split_open, split_still_open, new_number}
 use Rattle.vodserve.proofs.workers.make_workers.Goals as goal
 
 pub loop-number-preserved : goal.loop-number-preserved

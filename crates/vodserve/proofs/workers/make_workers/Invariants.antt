@@ -1,4 +1,4 @@
-use Rattle.std.proofs.Common.{◌≡◌, ◌≤◌, ◌+◌, length}
+use Rattle.std.proofs.Common.{◌≡◌, ◌≤◌, length}
 use Rattle.std.specs.Prelude.{All, IfSome}
 use Rattle.vod_base.specs.Gates.{IsOpen}
 use Rattle.vod_base.specs.declared.gates.Opening.{Opening}

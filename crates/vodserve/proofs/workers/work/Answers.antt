@@ -1,4 +1,4 @@
-use Rattle.std.proofs.Common.{◌≡◌, ◌∙◌, ℕ, sym, subst, length}
+use Rattle.std.proofs.Common.{◌∙◌, ℕ, subst, length}
 use Rattle.conn.specs.Parts.{HasServedPart, duty, outlet}
 use Rattle.vodserve.proofs.WorkerLemmas.{risen_some, served_number}
 use Rattle.vodserve.proofs.workers.work.Goals as goal

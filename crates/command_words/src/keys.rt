@@ -1,0 +1,148 @@
+ghost use Rattle.std.specs.Prelude.{◌≡◌, ◌≤◌, ◌^◌, ◌∷◌, [], option_map, IfSome};
+ghost use Rattle.std.specs.Option.{option_copied};
+ghost use Rattle.slot_calendar.specs.Profiles.{IsProfile};
+ghost use Rattle.command_words.specs.Settings.{texts, values_of};
+ghost use Rattle.command_words.specs.Keys.{film_given, cert_given, script_given, buffer_given, startup_given, slot_given, capacity_given, journal_given, port_given, workers_given, connections_given, seed_given, pictures_given, plays_given, one_kind, one_bind};
+ghost use Rattle.command_words.specs.Orders.{made_of};
+
+use crate::capacities::one_capacity;
+use crate::orders::Made;
+use crate::settings::{Given, find_given, number_or, one_name, one_number};
+use crate::steps::Steps;
+
+pub(crate) fn film_given<'a>(words: &'a [String]) -> Option<&'a str>
+    ensures { option_copied result ≡ film_given (texts words.entry.now) }
+{
+    one_name(words, "film")
+}
+
+pub(crate) fn cert_given<'a>(words: &'a [String]) -> Option<&'a str>
+    ensures { option_copied result ≡ cert_given (texts words.entry.now) }
+{
+    one_name(words, "cert")
+}
+
+pub(crate) fn script_given<'a>(words: &'a [String]) -> Option<&'a str>
+    ensures { option_copied result ≡ script_given (texts words.entry.now) }
+{
+    one_name(words, "script")
+}
+
+pub(crate) fn buffer_given(words: &[String]) -> Option<u64>
+    ensures buffer { result ≡ buffer_given (texts words.now) }
+    ensures range { IfSome result (λ buffer. (1 ≤ buffer) × (buffer ≤ 2 ^ 42)) }
+{
+    number_or(words, "buffer", 1_048_576, 1, 1 << 42)
+}
+
+pub(crate) fn startup_given(words: &[String]) -> Option<u64>
+    ensures startup { result ≡ startup_given (texts words.now) }
+    ensures range { IfSome result (λ startup. startup ≤ 10000) }
+{
+    number_or(words, "startup", 25, 0, 10_000)
+}
+
+pub(crate) fn slot_given(words: &[String]) -> Option<u32>
+    ensures slot { result ≡ slot_given (texts words.now) }
+    ensures range { IfSome result (λ slot. (360 ≤ slot) × (slot ≤ 360000)) }
+{
+    let slot = number_or(words, "slot", 14_400, 360, 360_000)?;
+    Some(slot as u32)
+}
+
+pub(crate) fn capacity_given(words: &[String]) -> Option<Steps>
+    ensures capacity { result ≡ capacity_given (texts words.now) }
+    ensures profile { IfSome result IsProfile }
+{
+    one_capacity(words, "capacity")
+}
+
+pub(crate) fn journal_given(words: &[String]) -> Option<u64>
+    ensures journal { result ≡ journal_given (texts words.now) }
+    ensures range { IfSome result (λ journal. (2 ≤ journal) × (journal ≤ 1048576)) }
+{
+    number_or(words, "journal", 65_536, 2, 1_048_576)
+}
+
+pub(crate) fn port_given(words: &[String]) -> Option<u16>
+    ensures port { result ≡ port_given (texts words.now) }
+    ensures range { IfSome result (λ port. (1 ≤ port) × (port ≤ 65535)) }
+{
+    let port = number_or(words, "port", 8554, 1, 65_535)?;
+    Some(port as u16)
+}
+
+pub(crate) fn workers_given(words: &[String]) -> Option<u32>
+    ensures workers { result ≡ workers_given (texts words.now) }
+    ensures range { IfSome result (λ workers. (1 ≤ workers) × (workers ≤ 256)) }
+{
+    let workers = number_or(words, "workers", 32, 1, 256)?;
+    Some(workers as u32)
+}
+
+pub(crate) fn connections_given(words: &[String]) -> Option<u64>
+    ensures { result ≡ connections_given (texts words.now) }
+{
+    number_or(words, "connections", 0, 0, u64::MAX)
+}
+
+pub(crate) fn seed_given(words: &[String]) -> Option<u64>
+    ensures { result ≡ seed_given (texts words.now) }
+{
+    one_number(words, "seed", 0, u64::MAX)
+}
+
+pub(crate) fn pictures_given(words: &[String]) -> Option<u32>
+    ensures pictures { result ≡ pictures_given (texts words.now) }
+    ensures range { IfSome result (λ pictures. (1 ≤ pictures) × (pictures ≤ 100000)) }
+{
+    let pictures = one_number(words, "pictures", 1, 100_000)?;
+    Some(pictures as u32)
+}
+
+pub(crate) fn plays_given(words: &[String]) -> Option<u32>
+    ensures plays { result ≡ plays_given (texts words.now) }
+    ensures range { IfSome result (λ plays. (1 ≤ plays) × (plays ≤ 100000)) }
+{
+    let plays = one_number(words, "plays", 1, 100_000)?;
+    Some(plays as u32)
+}
+
+fn kind_named(text: &str) -> Option<Made>
+    ensures { option_map made_of result ≡ one_kind (text.now ∷ []) }
+{
+    if text == "film" {
+        Some(Made::Film)
+    } else if text == "trace" {
+        Some(Made::Trace)
+    } else if text == "system" {
+        Some(Made::System)
+    } else {
+        None
+    }
+}
+
+pub(crate) fn one_kind(words: &[String], key: &str) -> Option<Made>
+    ensures { option_map made_of result ≡ one_kind (values_of key.now (texts words.now)) }
+{
+    match find_given(words, key) {
+        Given::Once(text) => kind_named(text),
+        _ => None,
+    }
+}
+
+pub(crate) fn one_bind(words: &[String], key: &str) -> Option<bool>
+    ensures { result ≡ one_bind (values_of key.now (texts words.now)) }
+{
+    match find_given(words, key) {
+        Given::Absent => Some(false),
+        Given::Once(text) => if text == "local" {
+            Some(false)
+        } else if text == "all" {
+            Some(true)
+        } else {
+            None
+        },
+        Given::Again => None,
+    }
+}

@@ -1,0 +1,96 @@
+ghost use Rattle.std.specs.Prelude.{◌≡◌, ◌∷◌, [], option_map, codes, IfSome};
+ghost use Rattle.command_words.specs.Settings.{is_absent, texts, values_of};
+ghost use Rattle.command_words.specs.Words.{source_given, source_of, viewer_given, script_run_given, fair_run_given};
+ghost use Rattle.command_words.specs.Orders.{source_read, viewer_of, script_run_of, fair_run_of};
+ghost use Rattle.command_words.specs.Ranges.{IsSourceInRange, IsViewerInRange, IsScriptRunInRange, IsFairRunInRange};
+
+use crate::keys::{
+    buffer_given, capacity_given, film_given, journal_given, plays_given, script_given, seed_given,
+    slot_given, startup_given,
+};
+use crate::orders::{FairRun, ScriptRun, Source, Viewer};
+use crate::settings::{Given, find_given};
+use vod_base::good_name;
+
+/// Whether the words give no value to the key.
+fn is_absent(words: &[String], key: &str) -> bool
+    ensures { result ≡ is_absent (values_of key.now (texts words.now)) }
+{
+    match find_given(words, key) {
+        Given::Absent => true,
+        Given::Once(_) => false,
+        Given::Again => false,
+    }
+}
+
+/// The trace of that name, where neither a film nor a slot's length is given.
+fn trace_alone<'a>(words: &[String], name: &'a str) -> Option<Source<'a>>
+    ensures source { option_map source_read result ≡ source_of (name.entry.now ∷ [])
+        (values_of (codes "film") (texts words.now)) (values_of (codes "slot") (texts words.now)) }
+    ensures range { IfSome result IsSourceInRange }
+{
+    if good_name(name.as_bytes()) && is_absent(words, "film") && is_absent(words, "slot") {
+        Some(Source::Trace(name))
+    } else {
+        None
+    }
+}
+
+fn source_given<'a>(words: &'a [String]) -> Option<Source<'a>>
+    ensures source { option_map source_read result ≡ source_given (texts words.entry.now) }
+    ensures range { IfSome result IsSourceInRange }
+{
+    match find_given(words, "trace") {
+        Given::Absent => {
+            let name = film_given(words)?;
+            let slot = slot_given(words)?;
+            Some(Source::Film(name, slot))
+        }
+        Given::Once(name) => trace_alone(words, name),
+        Given::Again => None,
+    }
+}
+
+pub(crate) fn viewer_given<'a>(words: &'a [String]) -> Option<Viewer<'a>>
+    ensures viewer { option_map viewer_of result ≡ viewer_given (texts words.entry.now) }
+    ensures range { IfSome result IsViewerInRange }
+{
+    let source = source_given(words)?;
+    let buffer = buffer_given(words)?;
+    let startup = startup_given(words)?;
+    Some(Viewer {
+        source,
+        buffer,
+        startup,
+    })
+}
+
+pub(crate) fn script_run_given<'a>(words: &'a [String]) -> Option<ScriptRun<'a>>
+    ensures run { option_map script_run_of result ≡ script_run_given (texts words.entry.now) }
+    ensures range { IfSome result IsScriptRunInRange }
+{
+    let script = script_given(words)?;
+    let capacity = capacity_given(words)?;
+    let journal = journal_given(words)?;
+    let slot = slot_given(words)?;
+    Some(ScriptRun {
+        script,
+        capacity,
+        journal,
+        slot,
+    })
+}
+
+pub(crate) fn fair_run_given(words: &[String]) -> Option<FairRun>
+    ensures run { option_map fair_run_of result ≡ fair_run_given (texts words.now) }
+    ensures range { IfSome result IsFairRunInRange }
+{
+    let seed = seed_given(words)?;
+    let plays = plays_given(words)?;
+    let capacity = capacity_given(words)?;
+    Some(FairRun {
+        seed,
+        plays,
+        capacity,
+    })
+}

@@ -1,0 +1,168 @@
+-- The first start code of bytes, looked for from the front on.
+use Rattle.std.proofs.Common.{◌≡◌, ℕ, ◌+◌, ◌-◌, ◌<◌, ◌≤◌, true, false, cond, eqb, List, [], ◌∷◌, ◌++◌, append_assoc, length, take, drop, Option, Some, None, inl, inr, refl, sym, ap, subst, ◌∙◌, arith, get_or, length-append}
+use Rattle.std.specs.Prelude.{IfSome, option_map}
+use Rattle.std.proofs.lemmas.Bool.{cases_Bool}
+use Rattle.std.proofs.lemmas.List.{length-take-le, take_more, take-append-drop}
+use Rattle.mpeg_scan.specs.declared.codes.Code.{Code}
+use Rattle.mpeg_scan.specs.Codes.{codes_of, is_whole, matched, next_prefix, note, note_latest, read}
+use Rattle.mpeg_scan.proofs.CodeLemmas.{matched-more}
+use Rattle.mpeg_scan.proofs.FilmLemmas.{length-read}
+use Rattle.mpeg_scan.proofs.ReadLemmas.{read-append}
+use Rattle.mpeg_scan.proofs.StepLemmas.{codes-none, codes-plain, codes-code}
+use Rattle.vod_base.specs.Outside.{File, file_named}
+use Rattle.inputs.specs.Files.{IsFront}
+use Rattle.inputs.specs.Scans.{IsOpened}
+use Rattle.inputs.proofs.ReadLemmas.{first_front, front_rest, one_file, whole_front}
+use Rattle.inputs.specs.Openings.{IsOpen, prefix_of}
+use Rattle.inputs.specs.Videos.{pack_in, pack_of}
+use Rattle.inputs.specs.declared.openings.Prefix.{Prefix}
+use Rattle.inputs.specs.declared.openings.Prefix.TheVariants.{Nothing, Zero, Zeros, Whole}
+
+-- before the first byte
+pub open_none : IsOpen Nothing []
+unfolding matched
+open_none = record { none = codes-none; prefix_is = refl }
+
+-- a byte that isn't the kind of a code
+pub open_more : (prefix next : Prefix) (seen : List ℕ) (byte : ℕ) → IsOpen prefix seen → is_whole (prefix_of prefix) ≡ false →
+    prefix_of next ≡ next_prefix (prefix_of prefix) byte → IsOpen next (seen ++ byte ∷ [])
+open_more prefix next seen byte so_far part is =
+    let joined : read [] (seen ++ byte ∷ []) ≡ byte ∷ read [] seen = read-append [] seen (byte ∷ []) in
+    let plain : is_whole (matched (read [] seen)) ≡ false = ap is_whole (sym so_far.prefix_is) ∙ part in
+    record {
+      none = ap codes_of joined ∙ codes-plain byte (read [] seen) plain ∙ ap (λ (l : List Code). note_latest l byte) so_far.none;
+      prefix_is = is ∙ ap (λ p. next_prefix p byte) so_far.prefix_is ∙ sym (matched-more byte (read [] seen)) ∙ ap matched (sym joined);
+    }
+
+-- ---- the first code stays the first one
+
+pack-note : (c : Code) (older : List Code) (x : ℕ) → pack_of (note c x ∷ older) ≡ pack_of (c ∷ older)
+pack-note c [] x = refl
+pack-note c (o ∷ older) x = refl
+
+record HasOlder (r : List ℕ) (pack : Option ℕ) : Type 0 where
+  code : Code
+  older : List Code
+  are : codes_of r ≡ code ∷ older
+  pack_is : pack_of (code ∷ older) ≡ pack
+
+older-more : (r : List ℕ) (x : ℕ) (pack : Option ℕ) → HasOlder r pack → HasOlder (x ∷ r) pack
+older-more r x pack has =
+    let noted : note_latest (codes_of r) x ≡ note has.code x ∷ has.older = ap (λ (l : List Code). note_latest l x) has.are in
+    elim (cases_Bool (is_whole (matched r))) [
+      | inl e ↦ record {
+        code = record { place = length r - 3; kind = x; text = [] };
+        older = note has.code x ∷ has.older;
+        are = codes-code x r e ∙ ap (λ (l : List Code). (record { place = length r - 3; kind = x; text = [] }) ∷ l) noted;
+        pack_is = pack-note has.code has.older x ∙ has.pack_is;
+      }
+      | inr e ↦ record {
+        code = note has.code x;
+        older = has.older;
+        are = codes-plain x r e ∙ noted;
+        pack_is = pack-note has.code has.older x ∙ has.pack_is;
+      }
+    ]
+
+pack-stays : (more r : List ℕ) (pack : Option ℕ) → HasOlder r pack → pack_of (codes_of (read r more)) ≡ pack
+pack-stays [] r pack has = ap pack_of has.are ∙ has.pack_is
+pack-stays (x ∷ more) r pack has = pack-stays more (x ∷ r) pack (older-more r x pack has)
+
+-- a byte that is the kind of the first code
+first_code : (prefix : Prefix) (seen : List ℕ) (byte : ℕ) → IsOpen prefix seen → prefix ≡ Whole →
+    HasOlder (byte ∷ read [] seen) (cond (eqb byte 0xba) (Some (length seen - 3)) None)
+first_code prefix seen byte so_far whole =
+    let is : is_whole (matched (read [] seen)) ≡ true = ap is_whole (sym so_far.prefix_is ∙ ap prefix_of whole) in
+    let long : length (read [] seen) ≡ length seen = length-read seen [] ∙ omega arith in
+    record {
+      code = record { place = length (read [] seen) - 3; kind = byte; text = [] };
+      older = [];
+      are = codes-code byte (read [] seen) is ∙ ap (λ (l : List Code). (record { place = length (read [] seen) - 3; kind = byte; text = [] }) ∷ note_latest l byte) so_far.none;
+      pack_is = ap (λ n. cond (eqb byte 0xba) (Some (n - 3)) None) long;
+    }
+
+-- whatever follows it
+pub first_found : (prefix : Prefix) (seen : List ℕ) (byte : ℕ) (pack : Option ℕ) (more : List ℕ) → IsOpen prefix seen → prefix ≡ Whole →
+    cond (eqb byte 0xba) (Some (length seen - 3)) None ≡ pack → pack_in ((seen ++ byte ∷ []) ++ more) ≡ pack
+first_found prefix seen byte pack more so_far whole is =
+    let joined : read [] ((seen ++ byte ∷ []) ++ more) ≡ read (byte ∷ read [] seen) more =
+    read-append [] (seen ++ byte ∷ []) more ∙ ap (λ (r : List ℕ). read r more) (read-append [] seen (byte ∷ [])) in
+    ap (λ (r : List ℕ). pack_of (codes_of r)) joined
+    ∙ pack-stays more (byte ∷ read [] seen) (cond (eqb byte 0xba) (Some (length seen - 3)) None) (first_code prefix seen byte so_far whole) ∙ is
+
+-- bytes without a start code begin no system stream
+pub open_plain : (prefix : Prefix) (seen : List ℕ) → IsOpen prefix seen → pack_in seen ≡ None
+open_plain prefix seen so_far = ap pack_of so_far.none
+
+-- a byte of a piece, and what follows it
+pub at_byte : (seen piece more : List ℕ) (index : ℕ) → index < length piece →
+    (seen ++ piece) ++ more ≡ ((seen ++ take index piece) ++ get_or piece index 0 ∷ []) ++ (drop (index + 1) piece ++ more)
+at_byte seen piece more index inside =
+    let split : piece ≡ (take index piece ++ get_or piece index 0 ∷ []) ++ drop (index + 1) piece =
+    sym (take-append-drop (index + 1) piece) ∙ ap (λ (l : List ℕ). l ++ drop (index + 1) piece) (take_more piece index 0 inside) in
+    ap (λ (l : List ℕ). (seen ++ l) ++ more) split ∙ search (append_assoc, sym)
+
+-- a file of the library, of which a front was looked through
+pub record HasLooked (held : List File) (name : List ℕ) (size place : ℕ) (prefix : Prefix) : Type 0 where
+  pub bytes : List ℕ
+  pub front : IsFront held name size bytes
+  pub long : length bytes ≡ place
+  pub unfound : IsOpen prefix bytes
+
+pub none_looked : (held : List File) (name : List ℕ) (size : ℕ) → Some size ≡ option_map length (file_named held name) → HasLooked held name size 0 Nothing
+none_looked held name size found = record { bytes = []; front = first_front held name size found; long = refl; unfound = open_none }
+
+pub more_looked : (held : List File) (name : List ℕ) (size place : ℕ) (prefix next : Prefix) (piece : List ℕ) (count : ℕ) → (so_far : HasLooked held name size place prefix) →
+    IsFront held name size (so_far.bytes ++ take count piece) → count ≤ length piece → IsOpen next (so_far.bytes ++ take count piece) → HasLooked held name size (place + count) next
+more_looked held name size place prefix next piece count so_far front within unfound = record {
+  bytes = so_far.bytes ++ take count piece;
+  front = front;
+  long = omega (arith, length-append so_far.bytes (take count piece), so_far.long, length-take-le count piece within);
+  unfound = unfound;
+}
+
+-- the first code was found, or none stands in the whole file
+pub found_opened : (held : List File) (name : List ℕ) (size : ℕ) (bytes : List ℕ) (pack : Option ℕ) → (front : IsFront held name size bytes) →
+    ((more : List ℕ) → pack_in (bytes ++ more) ≡ pack) → IfSome pack (λ place. place ≤ size) → IsOpened held name size pack
+found_opened held name size bytes pack front is within = record {
+  file = front.whole;
+  found = front.found;
+  sized = front.sized;
+  pack = ap pack_in (sym (front_rest held name size bytes front)) ∙ is (drop (length bytes) front.whole);
+  within = within;
+}
+
+pub whole_looked : (held : List File) (name : List ℕ) (size place : ℕ) (prefix : Prefix) → HasLooked held name size place prefix → size ≤ place → IsOpened held name size None
+whole_looked held name size place prefix so_far end =
+    let found : file_named held name ≡ Some so_far.bytes = whole_front held name size so_far.bytes so_far.front (omega (arith, so_far.long, end)) in
+    let same : so_far.bytes ≡ so_far.front.whole = one_file held name so_far.bytes so_far.front.whole found so_far.front.found in
+    record {
+      file = so_far.bytes;
+      found = found;
+      sized = so_far.front.sized ∙ ap length (sym same);
+      pack = open_plain prefix so_far.bytes so_far.unfound;
+      within = tt;
+    }
+
+-- one byte of a piece more
+pub open_step : (prefix next : Prefix) (seen piece : List ℕ) (index : ℕ) → index < length piece → IsOpen prefix (seen ++ take index piece) → is_whole (prefix_of prefix) ≡ false →
+    prefix_of next ≡ next_prefix (prefix_of prefix) (get_or piece index 0) → IsOpen next (seen ++ take (index + 1) piece)
+open_step prefix next seen piece index inside so_far part is =
+    let joined : (seen ++ take index piece) ++ get_or piece index 0 ∷ [] ≡ seen ++ take (index + 1) piece =
+    append_assoc seen (take index piece) (get_or piece index 0 ∷ []) ∙ ap (λ (l : List ℕ). seen ++ l) (sym (take_more piece index 0 inside)) in
+    subst (IsOpen next) joined (open_more prefix next (seen ++ take index piece) (get_or piece index 0) so_far part is)
+
+-- the first code of a piece is found
+pub found_step : (prefix : Prefix) (seen piece : List ℕ) (index at : ℕ) (pack : Option ℕ) → index < length piece → length seen ≡ at → IsOpen prefix (seen ++ take index piece) → prefix ≡ Whole →
+    cond (eqb (get_or piece index 0) 0xba) (Some (at + index - 3)) None ≡ pack → (more : List ℕ) → pack_in ((seen ++ piece) ++ more) ≡ pack
+found_step prefix seen piece index at pack inside long so_far whole is more =
+    let place : length (seen ++ take index piece) ≡ at + index = omega (arith, length-append seen (take index piece), long, length-take-le index piece (omega (arith, inside))) in
+    ap pack_in (at_byte seen piece more index inside)
+    ∙ first_found prefix (seen ++ take index piece) (get_or piece index 0) pack (drop (index + 1) piece ++ more) so_far whole
+    (ap (λ n. cond (eqb (get_or piece index 0) 0xba) (Some (n - 3)) None) place ∙ is)
+
+pub not_whole : (prefix : Prefix) → (prefix ≡ Whole → ⊥) → is_whole (prefix_of prefix) ≡ false
+not_whole Nothing other = refl
+not_whole Zero other = refl
+not_whole Zeros other = refl
+not_whole Whole other = absurd (other refl)

@@ -1,0 +1,247 @@
+-- A system stream that is unwrapped and scanned piece by piece.
+use Rattle.std.proofs.Common.{◌≡◌, ℕ, ◌+◌, ◌-◌, ◌≤◌, ◌^◌, Bool, true, List, [], ◌∷◌, ◌++◌, append_assoc, length, take, drop, replicate, Some, Option, inl, inr, sym, ap, ◌∙◌, arith, subst, length-append}
+use Rattle.std.proofs.lemmas.List.{length-take-le, length-drop, length-replicate, append-nil, take_all, take-append-drop}
+use Rattle.std.proofs.Math.Seq.{drop-append_seam, take-add}
+use Rattle.vod_base.specs.Outside.{File, file_named}
+use Rattle.mpeg_scan.specs.declared.faults.FilmFault.{FilmFault}
+use Rattle.mpeg_scan.specs.declared.scanner.Scanner.{Scanner}
+use Rattle.mpeg_scan.specs.Calls.{Call}
+use Rattle.mpeg_scan.specs.Films.{refusal}
+use Rattle.mpeg_scan.specs.Scans.{Fed, IsReady, bytes_fed}
+use Rattle.sys_demux.specs.Items.{bytes_of}
+use Rattle.sys_demux.specs.States.{WasFed}
+use Rattle.sys_demux.specs.Streams.{IsFault, IsRefused, IsSystem}
+use Rattle.sys_demux.specs.declared.faults.SystemFault.{SystemFault}
+use Rattle.sys_demux.specs.declared.faults.SystemFault.TheVariants.{NotPack, BadCode, BadPacket, Truncated}
+use Rattle.sys_demux.specs.declared.unwrapper.Unwrapper.{Unwrapper}
+use Rattle.sys_demux.proofs.Parts.{length-prefixed}
+use Rattle.troubles.specs.declared.faults.Fault.TheVariants.{Film, System}
+use Rattle.inputs.specs.Files.{IsFront}
+use Rattle.inputs.specs.Scans.{HasEnded, HasHeard, HasRefused, HasStreamed, HasStreamedAll, HasTaken, HasUnwrapped, IsFilmRefused, IsOpened, IsPieceRefused, IsStreamFront, WasOpened}
+use Rattle.inputs.specs.declared.streams.StreamRefused.{StreamRefused}
+use Rattle.inputs.specs.declared.streams.StreamRefused.TheVariants.{Fault as StreamFault, NoMemory as NoRoom}
+use Rattle.inputs.proofs.Tokens.{slice_from}
+use Rattle.inputs.specs.Videos.{IsStreamFaultFrom, IsVideo, IsVideoFrom, moved, pack_in, place_of}
+use Rattle.inputs.proofs.ReadLemmas.{front_rest, one_file}
+use Rattle.inputs.proofs.ScanLemmas.{none_told}
+
+-- ---- the place of a fault lies in the stream
+
+length-zeros : (count : ℕ) (rest : List ℕ) → count ≤ length (replicate count 0 ++ rest)
+length-zeros count rest = omega (arith, length-append (replicate count 0) rest, length-replicate {A = ℕ} count 0)
+
+tail-within : (chosen : Option ℕ) (start : ℕ) (tail : List ℕ) (fault : SystemFault) → IsFault chosen start tail fault → place_of fault ≤ start + length tail
+tail-within chosen start tail (NotPack place) h = omega (arith, h.place_is, ap length h.is, length-prefixed h.zeros (186 ∷ h.mark ∷ h.rest))
+tail-within chosen start tail (BadCode place) (inl h) = omega (arith, h.place_is, ap length h.is, length-zeros h.count (h.byte ∷ h.rest))
+tail-within chosen start tail (BadCode place) (inr h) = omega (arith, h.place_is, ap length h.is, length-prefixed h.zeros (h.kind ∷ h.rest))
+tail-within chosen start tail (BadPacket place) h = omega (arith, h.place_is, ap length h.is, length-prefixed h.zeros (h.kind ∷ h.high ∷ h.low ∷ (h.front ++ h.rest)))
+tail-within chosen start tail (Truncated place) h = omega (arith, h.place_is, h.begun)
+
+pub fault_within : (bytes : List ℕ) (fault : SystemFault) → IsRefused bytes fault → place_of fault ≤ length bytes
+fault_within bytes fault h =
+    omega (arith, tail-within _ (length (bytes_of h.items)) h.tail fault h.fault_is, ap length h.bytes_are, length-append (bytes_of h.items) h.tail)
+
+-- ---- a piece more
+
+pub refused_more : (scanner scanner' : Scanner) (video more : List ℕ) → scanner' ≡ scanner → HasRefused scanner video → HasRefused scanner' (video ++ more)
+refused_more scanner scanner' video more same so_far =
+    subst (λ (s : Scanner). HasRefused s (video ++ more)) (sym same) (record {
+      fault = so_far.fault;
+      answers = so_far.answers;
+      front = so_far.front;
+      rest = so_far.rest ++ more;
+      video_is = ap (λ (l : List ℕ). l ++ more) so_far.video_is ∙ append_assoc so_far.front so_far.rest more;
+      refused = so_far.refused;
+    })
+
+pub part_unwrapped : (Heard Heard' : List Call → Type 0) (unwrapper unwrapper' : Unwrapper) (scanner scanner' : Scanner) (seen part more : List ℕ) →
+    (so_far : HasUnwrapped Heard unwrapper scanner seen) → length more ≤ length part →
+    ((seen video : List ℕ) → WasFed unwrapper seen video → WasFed unwrapper' (seen ++ part) (video ++ more)) →
+    ((video : List ℕ) → HasTaken Heard scanner video → HasTaken Heard' scanner' (video ++ more)) →
+    HasUnwrapped Heard' unwrapper' scanner' (seen ++ part)
+part_unwrapped Heard Heard' unwrapper unwrapper' scanner scanner' seen part more so_far few fed taken = record {
+  video = so_far.video ++ more;
+  fed = fed seen so_far.video so_far.fed;
+  few = omega (arith, so_far.few, few, length-append so_far.video more, length-append seen part);
+  taken = taken so_far.video so_far.taken;
+}
+
+-- a piece of a stream more
+pub front_more : (held : List File) (name : List ℕ) (size from place : ℕ) (seen more : List ℕ) → IsStreamFront size from seen held name → from + length seen ≡ place →
+    ((bytes : List ℕ) → IsFront held name size bytes → length bytes ≡ place → IsFront held name size (bytes ++ more)) → IsStreamFront size from (seen ++ more) held name
+front_more held name size from place seen more before long front = (
+  before.0,
+  (
+    before.1.0,
+    subst (IsFront held name size) (append_assoc before.0 seen more)
+        (front (before.0 ++ seen) before.1.1 (omega (arith, length-append before.0 seen, before.1.0, long))),
+  ),
+)
+
+pub more_streamed : (Heard Heard' : List Call → Type 0) (told : Option (List File)) (name : List ℕ) (size from place : ℕ) (unwrapper unwrapper' : Unwrapper) (scanner scanner' : Scanner) (piece : List ℕ) (count : ℕ) →
+    (so_far : HasStreamed Heard told name size from place unwrapper scanner) →
+    ((held : List File) → told ≡ Some held → (bytes : List ℕ) → IsFront held name size bytes → length bytes ≡ place → IsFront held name size (bytes ++ take count piece)) → count ≤ length piece →
+    HasUnwrapped Heard' unwrapper' scanner' (so_far.seen ++ take count piece) → HasStreamed Heard' told name size from (place + count) unwrapper' scanner'
+more_streamed Heard Heard' told name size from place unwrapper unwrapper' scanner scanner' piece count so_far front within unwrapped = record {
+  seen = so_far.seen ++ take count piece;
+  long = omega (arith, length-append so_far.seen (take count piece), so_far.long, length-take-le count piece within);
+  unwrapped = unwrapped;
+  front = λ held is. front_more held name size from place so_far.seen (take count piece) (so_far.front held is) so_far.long (front held is);
+}
+
+-- what was fed is what was read of the stream
+pub streamed_fed : (Heard : List Call → Type 0) (told : Option (List File)) (name : List ℕ) (size from place : ℕ) (unwrapper : Unwrapper) (scanner : Scanner) →
+    HasStreamed Heard told name size from place unwrapper scanner → from + unwrapper.fed ≡ place
+streamed_fed Heard told name size from place unwrapper scanner so_far = omega (arith, so_far.unwrapped.fed.count, so_far.long)
+
+-- before the first piece
+pub first_streamed : (Heard : List Call → Type 0) (told : Option (List File)) (name : List ℕ) (size from : ℕ) (unwrapper : Unwrapper) (scanner : Scanner) → WasOpened told name size (Some from) →
+    WasFed unwrapper [] [] → Fed scanner [] → Heard [] → HasStreamed Heard told name size from from unwrapper scanner
+first_streamed Heard told name size from unwrapper scanner opened empty fed fresh = record {
+  seen = [];
+  long = omega arith;
+  unwrapped = record { video = []; fed = empty; few = omega arith; taken = inl (none_told Heard scanner fed fresh) };
+  front = λ held is.
+      let file : IsOpened held name size (Some from) = opened held is in
+      let begun : length (take from file.file) ≡ from = length-take-le from file.file (omega (arith, file.sized, file.within)) in
+      let long : length (take from file.file ++ []) ≡ from = ap length (append-nil (take from file.file)) ∙ begun in (
+        take from file.file,
+        (
+          begun,
+          record {
+            whole = file.file;
+            found = file.found;
+            sized = file.sized;
+            front = append-nil (take from file.file) ∙ ap (λ (n : ℕ). take n file.file) (sym long);
+          },
+        ),
+      );
+}
+
+-- ---- refusals of the stream
+
+stream_rest : (before rest whole : List ℕ) (from : ℕ) → before ++ rest ≡ whole → length before ≡ from → drop from whole ≡ rest
+stream_rest before rest whole from is long =
+    ap (drop from) (sym is) ∙ ap (λ (n : ℕ). drop n (before ++ rest)) (sym long) ∙ drop-append_seam before rest
+
+-- the stream of a file, and one of its faults
+stream_fault : (held : List File) (name : List ℕ) (size from : ℕ) (whole stream : List ℕ) (own fault : SystemFault) → IsOpened held name size (Some from) → file_named held name ≡ Some whole →
+    size ≤ 2 ^ 40 → drop from whole ≡ stream → IsRefused stream own →
+    ((bytes : List ℕ) → IsRefused bytes own → from + length bytes ≤ 2 ^ 40 → fault ≡ moved from own) → IsFilmRefused held name (System fault)
+stream_fault held name size from whole stream own fault opened found short is refused moves =
+    let same : whole ≡ opened.file = one_file held name whole opened.file found opened.found in
+    let pack : pack_in whole ≡ Some from = ap pack_in same ∙ opened.pack in
+    let few : length whole ≤ 2 ^ 40 = omega (arith, ap length same, opened.sized, short) in
+    let room : from + length stream ≤ 2 ^ 40 = omega (arith, sym (ap length is), length-drop from whole, ap length same, opened.sized, opened.within, short) in
+    let its : IsStreamFaultFrom (Some from) whole fault = (own, (subst (λ (l : List ℕ). IsRefused l own) (sym is) refused, moves stream refused room)) in
+    inr (whole, (found, inr (few, subst (λ (o : Option ℕ). IsStreamFaultFrom o whole fault) (sym pack) its)))
+
+pub piece_fault : (held : List File) (name : List ℕ) (size from : ℕ) (seen piece : List ℕ) (own fault : SystemFault) → (front : IsStreamFront size from (seen ++ piece) held name) →
+    IsOpened held name size (Some from) → size ≤ 2 ^ 40 → ((more : List ℕ) → IsRefused (seen ++ piece ++ more) own) →
+    ((bytes : List ℕ) → IsRefused bytes own → from + length bytes ≤ 2 ^ 40 → fault ≡ moved from own) → IsFilmRefused held name (System fault)
+piece_fault held name size from seen piece own fault front opened short refused moves =
+    let rest : List ℕ = drop (length (front.0 ++ (seen ++ piece))) front.1.1.whole in
+    let whole : front.0 ++ (seen ++ piece ++ rest) ≡ front.1.1.whole =
+    sym (append_assoc front.0 (seen ++ piece) rest)
+    ∙ front_rest held name size (front.0 ++ (seen ++ piece)) front.1.1 in
+    stream_fault held name size from front.1.1.whole (seen ++ piece ++ rest) own fault opened front.1.1.found short
+    (stream_rest front.0 (seen ++ piece ++ rest) front.1.1.whole from whole front.1.0) (refused rest) moves
+
+-- ---- the whole stream
+
+pub all_streamed : (Heard : List Call → Type 0) (told : Option (List File)) (name : List ℕ) (size from place : ℕ) (unwrapper : Unwrapper) (scanner : Scanner) →
+    HasStreamed Heard told name size from place unwrapper scanner → place ≤ size → ((held : List File) → told ≡ Some held → size ≤ place) →
+    HasStreamedAll Heard told name size from unwrapper scanner
+all_streamed Heard told name size from place unwrapper scanner so_far within end = record {
+  seen = so_far.seen;
+  few = omega (arith, so_far.long, within);
+  unwrapped = so_far.unwrapped;
+  whole = λ held is.
+      let front : IsStreamFront size from so_far.seen held name = so_far.front held is in
+      let whole : front.0 ++ so_far.seen ≡ front.1.1.whole =
+      front.1.1.front ∙ take_all (length (front.0 ++ so_far.seen)) front.1.1.whole (omega (arith, length-append front.0 so_far.seen, front.1.0, so_far.long, end held is, front.1.1.sized)) in
+      (front.1.1.whole, (front.1.1.found, stream_rest front.0 so_far.seen front.1.1.whole from whole front.1.0));
+}
+
+pub end_fault : (Heard : List Call → Type 0) (told : Option (List File)) (held : List File) (name : List ℕ) (size from : ℕ) (unwrapper : Unwrapper) (scanner : Scanner) (own fault : SystemFault) →
+    (so_far : HasStreamedAll Heard told name size from unwrapper scanner) → told ≡ Some held → WasOpened told name size (Some from) → size ≤ 2 ^ 40 → IsRefused so_far.seen own →
+    ((bytes : List ℕ) → IsRefused bytes own → from + length bytes ≤ 2 ^ 40 → fault ≡ moved from own) → IsFilmRefused held name (System fault)
+end_fault Heard told held name size from unwrapper scanner own fault so_far is opened short refused moves =
+    stream_fault held name size from (so_far.whole held is).0 so_far.seen own fault (opened held is) (so_far.whole held is).1.0 short (so_far.whole held is).1.1 refused moves
+
+pub video_short : (Heard : List Call → Type 0) (told : Option (List File)) (name : List ℕ) (size from : ℕ) (unwrapper : Unwrapper) (scanner : Scanner) → size ≤ 2 ^ 40 →
+    (so_far : HasStreamedAll Heard told name size from unwrapper scanner) → length so_far.unwrapped.video ≤ 2 ^ 40
+video_short Heard told name size from unwrapper scanner short so_far = omega (arith, short, so_far.unwrapped.few, so_far.few)
+
+stream_video : (held : List File) (name : List ℕ) (size from : ℕ) (whole stream video : List ℕ) → IsOpened held name size (Some from) → file_named held name ≡ Some whole → drop from whole ≡ stream →
+    IsSystem stream video → IsVideo whole video
+stream_video held name size from whole stream video opened found is system =
+    let pack : pack_in whole ≡ Some from = ap pack_in (one_file held name whole opened.file found opened.found) ∙ opened.pack in
+    subst (λ (o : Option ℕ). IsVideoFrom o whole video) (sym pack) (subst (λ (l : List ℕ). IsSystem l video) (sym is) system)
+
+stream_few : (held : List File) (name : List ℕ) (size : ℕ) (from : Option ℕ) (whole : List ℕ) → IsOpened held name size from → file_named held name ≡ Some whole → size ≤ 2 ^ 40 → length whole ≤ 2 ^ 40
+stream_few held name size from whole opened found short = omega (arith, ap length (one_file held name whole opened.file found opened.found), opened.sized, short)
+
+pub stream_heard : (Heard Heard' : List Call → Type 0) (told : Option (List File)) (name : List ℕ) (size from : ℕ) (unwrapper : Unwrapper) (scanner : Scanner) (bytes rate : ℕ) → size ≤ 2 ^ 40 →
+    WasOpened told name size (Some from) → (so_far : HasStreamedAll Heard told name size from unwrapper scanner) → IsSystem so_far.seen so_far.unwrapped.video →
+    HasEnded Heard' so_far.unwrapped.video bytes rate → HasHeard Heard' told name bytes rate
+stream_heard Heard Heard' told name size from unwrapper scanner bytes rate short opened so_far system ended = record {
+  video = so_far.unwrapped.video;
+  ended = ended;
+  holds = λ held is.
+      let whole : List ℕ = (so_far.whole held is).0 in
+      let found : file_named held name ≡ Some whole = (so_far.whole held is).1.0 in
+      record {
+        file = whole;
+        found = found;
+        short = stream_few held name size (Some from) whole (opened held is) found short;
+        is_video = stream_video held name size from whole so_far.seen so_far.unwrapped.video (opened held is) found (so_far.whole held is).1.1 system;
+        accepted = ended.accepted;
+      };
+}
+
+pub video_refused : (Heard : List Call → Type 0) (told : Option (List File)) (held : List File) (name : List ℕ) (size from : ℕ) (unwrapper : Unwrapper) (scanner : Scanner) (fault : FilmFault) → size ≤ 2 ^ 40 →
+    WasOpened told name size (Some from) → (so_far : HasStreamedAll Heard told name size from unwrapper scanner) → told ≡ Some held → IsSystem so_far.seen so_far.unwrapped.video →
+    refusal so_far.unwrapped.video ≡ Some fault → IsFilmRefused held name (Film fault)
+video_refused Heard told held name size from unwrapper scanner fault short opened so_far is system refused =
+    let whole : List ℕ = (so_far.whole held is).0 in
+    let found : file_named held name ≡ Some whole = (so_far.whole held is).1.0 in
+    inr (
+      whole,
+      (
+        found,
+        inr (
+          stream_few held name size (Some from) whole (opened held is) found short,
+          (so_far.unwrapped.video, (stream_video held name size from whole so_far.seen so_far.unwrapped.video (opened held is) found (so_far.whole held is).1.1 system, refused)),
+        ),
+      ),
+    )
+
+-- the library holds and counts as before; the stream before the place was unwrapped; and where the library tells what it holds,
+-- the reads end with the stream
+pub record HasFedStream (Heard : List Call → Type 0) (Ready : ℕ → Type 0) (files now : Option (List File)) (faults faults' : ℕ) (name : List ℕ) (size from place : ℕ)
+    (unwrapper : Unwrapper) (scanner : Scanner) (more : Bool) : Type 0 where
+  pub kept : now ≡ files
+  pub count : faults ≤ faults'
+  pub within : place ≤ size
+  pub few : bytes_fed scanner ≤ unwrapper.fed
+  pub ready : IsReady Ready scanner
+  pub streamed : HasStreamed Heard files name size from place unwrapper scanner
+  pub more_is : (held : List File) → files ≡ Some held → more ≡ true
+
+-- the parts of a piece, one after another
+pub parts_joined : (seen piece : List ℕ) (at taken : ℕ) → (seen ++ take at piece) ++ take taken (take (length piece - at) (drop at piece)) ≡ seen ++ take (at + taken) piece
+parts_joined seen piece at taken =
+    append_assoc seen (take at piece) (take taken (take (length piece - at) (drop at piece)))
+    ∙ ap (λ (l : List ℕ). seen ++ (take at piece ++ take taken l)) (slice_from piece at)
+    ∙ ap (λ (l : List ℕ). seen ++ l) (sym (take-add at taken piece))
+
+pub rest_joined : (seen piece more : List ℕ) (at : ℕ) → (seen ++ take at piece) ++ take (length piece - at) (drop at piece) ++ more ≡ seen ++ piece ++ more
+rest_joined seen piece more at =
+    ap (λ (l : List ℕ). l ++ more) (append_assoc seen (take at piece) (take (length piece - at) (drop at piece))
+    ∙ ap (λ (l : List ℕ). seen ++ l) (ap (λ (l : List ℕ). take at piece ++ l) (slice_from piece at) ∙ take-append-drop at piece))
+
+-- a refusal in a part of a piece
+pub part_refused : (seen piece : List ℕ) (at : ℕ) (e : StreamRefused) → IsPieceRefused (seen ++ take at piece) (take (length piece - at) (drop at piece)) e → IsPieceRefused seen piece e
+part_refused seen piece at (StreamFault fault) h = λ more. subst (λ (l : List ℕ). IsRefused l fault) (rest_joined seen piece more at) (h more)
+part_refused seen piece at NoRoom h = tt

@@ -1,0 +1,95 @@
+-- The tokens of a text are its words, and no other list of tokens is.
+use Rattle.std.proofs.Common.{◌≡◌, ℕ, ◌+◌, ◌<◌, Bool, true, false, not, ◌&&◌, List, [], ◌∷◌, ◌++◌, length, refl, sym, ap, ◌∙◌, arith, if◌then◌else◌, subst, inl, inr}
+use Rattle.std.proofs.lemmas.Bool.{and_parts, cases_Bool, false≢true}
+use Rattle.std.proofs.lemmas.List.{append-nil}
+use Rattle.std.specs.List.{list_all}
+use Rattle.inputs.specs.Traces.{AreSeparated, IsWord, Token, begins_token, is_blank, joined, tokens_from}
+use Rattle.inputs.proofs.Tokens.{tokens-blanks, word_list}
+
+both : (a b : Bool) → a ≡ true → b ≡ true → (a && b) ≡ true
+both true true p q = refl
+both true false p q = q
+both false b p q = p
+
+not_false : (a : Bool) → a ≡ false → not a ≡ true
+not_false true h = sym h
+not_false false h = refl
+
+-- what is separated so is read so
+pub separated_only : (at : ℕ) (text : List ℕ) (tokens : List Token) → AreSeparated at text tokens → tokens ≡ tokens_from at text
+separated_only at text [] h = sym (ap (tokens_from at) (sym (append-nil text)) ∙ tokens-blanks at text [] h)
+separated_only at text (token ∷ tokens) h =
+    let front : List ℕ = h.0 in
+    let rest : List ℕ = h.1.0 in
+    let reads : tokens_from at text ≡ (record { from = at + length front; bytes = token.bytes }) ∷ tokens_from (at + length front + length token.bytes) rest =
+    ap (tokens_from at) h.1.1.0 ∙ tokens-blanks at front (token.bytes ++ rest) h.1.1.1 ∙ word_list (at + length front) token.bytes rest h.1.1.2.0 h.1.1.2.1 h.1.1.3 in
+    let place : (record { from = token.from; bytes = token.bytes }) ∷ tokens ≡ (record { from = at + length front; bytes = token.bytes }) ∷ tokens =
+    ap (λ (n : ℕ). (record { from = n; bytes = token.bytes }) ∷ tokens) h.1.1.4 in
+    place
+    ∙ ap (λ (ts : List Token). (record { from = at + length front; bytes = token.bytes }) ∷ ts)
+    (separated_only (token.from + length token.bytes) rest tokens h.1.1.5 ∙ ap (λ (n : ℕ). tokens_from (n + length token.bytes) rest) h.1.1.4)
+    ∙ sym reads
+
+-- a blank more in front
+blank_front : (at b : ℕ) (rest : List ℕ) (tokens : List Token) → is_blank b ≡ true → AreSeparated (at + 1) rest tokens → AreSeparated at (b ∷ rest) tokens
+blank_front at b rest [] blank h = both (is_blank b) (list_all is_blank rest) blank h
+blank_front at b rest (token ∷ tokens) blank h = (
+  b ∷ h.0,
+  (
+    h.1.0,
+    (
+      ap (λ (l : List ℕ). b ∷ l) h.1.1.0,
+      both (is_blank b) (list_all is_blank h.0) blank h.1.1.1,
+      h.1.1.2,
+      h.1.1.3,
+      omega (arith, h.1.1.4),
+      h.1.1.5,
+    ),
+  ),
+)
+
+-- the first byte of a word, and the rest of it
+first_word : (at b : ℕ) (rest : List ℕ) (token : Token) (tokens : List Token) (front after : List ℕ) → begins_token rest ≡ true → is_blank b ≡ false →
+    (rest ≡ front ++ (token.bytes ++ after)) × (list_all is_blank front ≡ true) × IsWord token.bytes × (begins_token after ≡ false)
+    × (token.from ≡ at + 1 + length front) × AreSeparated (token.from + length token.bytes) after tokens →
+    AreSeparated at (b ∷ rest) (joined at b true (token ∷ tokens))
+first_word at b rest token tokens [] after begins word h =
+    let next : token.from + length token.bytes ≡ at + length (b ∷ token.bytes) = omega (arith, h.4) in (
+      [],
+      (
+        after,
+        (
+          ap (λ (l : List ℕ). b ∷ l) h.0,
+          refl,
+          (omega arith, both (not (is_blank b)) (list_all (λ x. not (is_blank x)) token.bytes) (not_false (is_blank b) word) h.2.1),
+          h.3,
+          omega arith,
+          subst (λ (n : ℕ). AreSeparated n after tokens) next h.5,
+        ),
+      ),
+    )
+first_word at b rest token tokens (x ∷ front) after begins word h =
+    let blank : is_blank x ≡ true = (and_parts (is_blank x) (list_all is_blank front) h.1).0 in
+    absurd (false≢true (ap not (sym blank) ∙ ap begins_token (sym h.0) ∙ begins))
+
+-- a byte of a word more in front
+word_front : (at b : ℕ) (rest : List ℕ) (tokens : List Token) (begins : Bool) → begins_token rest ≡ begins → is_blank b ≡ false → AreSeparated (at + 1) rest tokens →
+    AreSeparated at (b ∷ rest) (joined at b begins tokens)
+word_front at b rest tokens false begins word h =
+    ([], (rest, (refl, refl, (omega arith, both (not (is_blank b)) true (not_false (is_blank b) word) refl), begins, omega arith, h)))
+word_front at b [] [] true begins word h = absurd (false≢true begins)
+word_front at b (x ∷ rest) [] true begins word h =
+    let blank : is_blank x ≡ true = (and_parts (is_blank x) (list_all is_blank rest) h).0 in
+    absurd (false≢true (ap not (sym blank) ∙ begins))
+word_front at b rest (token ∷ tokens) true begins word h = first_word at b rest token tokens h.0 h.1.0 begins word h.1.1
+
+-- each text is separated so
+pub separated_are : (text : List ℕ) (at : ℕ) → AreSeparated at text (tokens_from at text)
+separated_are [] at = refl
+separated_are (b ∷ rest) at =
+    let next : AreSeparated (at + 1) rest (tokens_from (at + 1) rest) = separated_are rest (at + 1) in
+    let reads : Bool → List Token = λ v. if v then tokens_from (at + 1) rest else joined at b (begins_token rest) (tokens_from (at + 1) rest) in
+    elim (cases_Bool (is_blank b)) [
+      | inl blank ↦ subst (AreSeparated at (b ∷ rest)) (sym (ap reads blank)) (blank_front at b rest (tokens_from (at + 1) rest) blank next)
+      | inr word ↦ subst (AreSeparated at (b ∷ rest)) (sym (ap reads word)) (word_front at b rest (tokens_from (at + 1) rest) (begins_token rest) refl word next)
+    ]

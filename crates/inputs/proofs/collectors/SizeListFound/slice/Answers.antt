@@ -1,0 +1,8 @@
+use Rattle.std.proofs.Common.{refl}
+use Rattle.mpeg_scan.specs.Calls.{slice_call}
+use Rattle.inputs.proofs.SizeLemmas.{sized-more}
+use Rattle.inputs.proofs.collectors.SizeListFound.slice.Goals as goal
+
+pub returns-clause-heard : goal.returns-clause-heard
+returns-clause-heard c = λ calls so_far.
+    sized-more calls (slice_call c.args.from c.args.to) c.args.self.now.unit c.slice.new.self c.args.self.now.sizes.items c.args.self.now.sizes.items so_far c.slice.ensures.slice refl

@@ -1,0 +1,36 @@
+use Rattle.std.proofs.Common.{◌≡◌, ◌∙◌, arith, inl, refl, subst, sym}
+use Rattle.mpeg_scan.specs.declared.films.Film.{Film}
+use Rattle.troubles.proofs.CauseLemmas.{trouble_map}
+use Rattle.inputs.specs.Files.{IsMissing, IsNamed}
+use Rattle.inputs.specs.Videos.{IsRefusedAbove, IsVideo}
+use Rattle.inputs.proofs.LoadLemmas.{bytes_trouble, film_loaded, size_above}
+use Rattle.inputs.proofs.films.load_within.Goals as goal
+
+pub returns-in-Err-clause-trouble : goal.returns-in-Err-clause-trouble
+returns-in-Err-clause-trouble g c =
+    trouble_map (IsNamed c.args.name.now) (IsNamed c.args.name.now) IsMissing (IsRefusedAbove c.args.most c.args.over)
+    (g.L.Library.files c.args.library.now) (g.L.Library.files c.args.library.now)
+    (g.L.Library.faults c.args.library.now) (g.L.Library.faults c.find_file.new.library) (g.L.Library.faults c.args.library.now) (g.L.Library.faults c.find_file.new.library)
+    c.in-Err.trouble (λ name is. is) (λ held name fault told is missing. inl missing) (λ held told. told) (omega arith) (omega arith) ((c.in-Err.ensures {u = tt}).trouble)
+
+pub returns-then-most-size-clause-trouble : goal.returns-then-most-size-clause-trouble
+returns-then-most-size-clause-trouble g c = (
+  refl,
+  λ held told. size_above held c.args.name.now c.in-Ok.size c.args.most c.args.over ((c.in-Ok.ensures {u = tt}).found held told) (omega (arith, c.if-most-size.true)),
+)
+
+pub returns-in-Err-scan_file-clause-trouble : goal.returns-in-Err-scan_file-clause-trouble
+returns-in-Err-scan_file-clause-trouble g c =
+    bytes_trouble c.args.most c.args.over (g.L.Library.files c.args.library.now) (g.L.Library.faults c.args.library.now) (g.L.Library.faults c.read_bytes.new.library)
+    c.args.name.now c.in-Ok-read_bytes.file.items c.in-Err-scan_file.trouble ((c.in-Err-scan_file.ensures {u = tt}).trouble)
+    (λ held is. (c.in-Ok-read_bytes.ensures {u = tt}).read held (c.find_file.ensures.library.kept ∙ is) ((c.in-Ok.ensures {u = tt}).found held is))
+    (omega (arith, (c.in-Ok-read_bytes.ensures {u = tt}).within, c.in-Ok-read_bytes.file.ok, c.if-most-size.false))
+
+pub returns-in-Ok-store-clause-film : goal.returns-in-Ok-store-clause-film
+returns-in-Ok-store-clause-film g c = λ held is.
+    let same : c.in-Ok-store.stored.film ≡ c.in-Ok-scan_file.film = (c.in-Ok-store.ensures {u = tt}).film in
+    film_loaded held c.args.name.now c.in-Ok-read_bytes.file.items c.in-Ok-store.stored.film.bytes.items
+    ((c.in-Ok-read_bytes.ensures {u = tt}).read held (c.find_file.ensures.library.kept ∙ is) ((c.in-Ok.ensures {u = tt}).found held is))
+    (omega (arith, (c.in-Ok-read_bytes.ensures {u = tt}).within, c.in-Ok-read_bytes.file.ok, c.if-most-size.false, c.requires))
+    (subst (λ (f : Film). IsVideo c.in-Ok-read_bytes.file.items f.bytes.items) (sym same) ((c.in-Ok-scan_file.ensures {u = tt}).film))
+    c.in-Ok-store.stored.film.grammar.accepted

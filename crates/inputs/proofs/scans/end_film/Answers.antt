@@ -1,0 +1,24 @@
+use Rattle.std.proofs.Common.{◌≡◌, ◌∙◌, Some, Err, [], inl, inr, refl, ap}
+use Rattle.mpeg_scan.specs.declared.faults.FilmFault.{FilmFault}
+use Rattle.mpeg_scan.specs.declared.faults.ScanRefused.TheVariants.{Fault as FaultAnswer}
+use Rattle.mpeg_scan.specs.Codes.{read}
+use Rattle.inputs.proofs.ScanLemmas.{told_ended, refused_ended}
+use Rattle.inputs.proofs.scans.end_film.Goals as goal
+
+pub returns-in-Ok-clause-ended : goal.returns-in-Ok-clause-ended
+returns-in-Ok-clause-ended g c = λ video short taken. elim taken [
+  | inl so_far ↦ told_ended (g.F.Found.heard c.args.found.now) (g.F.Found.heard c.finish.new.found) c.args.scanner video c.in-Ok.ending.bytes c.in-Ok.ending.rate so_far
+      ((c.in-Ok.ensures {u = tt}).ended) ((c.in-Ok.ensures {u = tt}).told)
+  | inr so_far ↦ (let answered : c.finish.result ≡ Err (FaultAnswer so_far.fault) = (c.finish.ensures.again (FaultAnswer so_far.fault) so_far.answers).0 in absurd (cc))
+]
+
+pub returns-in-Err-Fault-clause-trouble : goal.returns-in-Err-Fault-clause-trouble
+returns-in-Err-Fault-clause-trouble g c = (
+  refl,
+  λ video short taken. elim taken [
+    | inl so_far ↦ c.finish.ensures.fault c.in-Err-Fault.fault (cc) (read [] video) so_far.fed
+    | inr so_far ↦ (let answered : c.finish.result ≡ Err (FaultAnswer so_far.fault) = (c.finish.ensures.again (FaultAnswer so_far.fault) so_far.answers).0 in
+        let same : so_far.fault ≡ c.in-Err-Fault.fault = cc in
+        refused_ended c.args.scanner video short so_far ∙ ap (λ (f : FilmFault). Some f) same)
+  ],
+)

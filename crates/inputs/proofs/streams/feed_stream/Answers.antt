@@ -1,0 +1,46 @@
+use Rattle.std.proofs.Common.{◌∙◌, ◌+◌, Option, List, arith, refl, subst}
+use Rattle.std.proofs.lemmas.Bool.{lt-ltb}
+use Rattle.vod_base.specs.Outside.{File}
+use Rattle.inputs.specs.Scans.{HasStreamed, IsFilmRefused}
+use Rattle.inputs.proofs.ScanLemmas.{trouble_on}
+use Rattle.inputs.proofs.StreamLemmas.{all_streamed}
+use Rattle.inputs.proofs.streams.feed_stream.Goals as goal
+use Rattle.inputs.proofs.streams.feed_stream.Goals.{else-loop-more-test, then-loop-more-test+else-at-size}
+
+pub loop-more-init : goal.loop-more-init
+loop-more-init g c = record {
+  kept = refl;
+  count = omega arith;
+  within = c.requires.within;
+  few = c.requires.few;
+  ready = c.requires.ready;
+  streamed = c.requires.streamed;
+  more_is = λ held is. refl;
+}
+
+pub loop-more-preserved : goal.loop-more-preserved
+loop-more-preserved g c = record {
+  kept = c.feed_stream_piece.ensures.library.kept ∙ c.loop-more.invariant.kept;
+  count = omega (arith, c.feed_stream_piece.ensures.library.count, c.loop-more.invariant.count);
+  within = (c.in-Ok.ensures {u = tt}).within;
+  few = (c.in-Ok.ensures {u = tt}).few;
+  ready = c.feed_stream_piece.ensures.ready;
+  streamed = subst (λ (t : Option (List File)). HasStreamed (g.F.Found.heard c.feed_stream_piece.new.found) t c.args.name.now c.args.size c.args.from (c.loop-more.at + c.in-Ok.count) c.feed_stream_piece.new.unwrapper c.feed_stream_piece.new.scanner)
+      c.loop-more.invariant.kept ((c.in-Ok.ensures {u = tt}).streamed);
+  more_is = λ held is. lt-ltb 0 c.in-Ok.count ((c.in-Ok.ensures {u = tt}).more held (c.loop-more.invariant.kept ∙ is));
+}
+
+pub returns-clause-streamed : goal.returns-clause-streamed
+returns-clause-streamed g c =
+    all_streamed (g.F.Found.heard c.loop-more.found) (g.L.Library.files c.args.library.now) c.args.name.now c.args.size c.args.from c.loop-more.at c.loop-more.unwrapper c.loop-more.scanner
+    c.loop-more.invariant.streamed c.loop-more.invariant.within
+    (λ held is. elim c.loop-more-test.branch [
+      | then-loop-more-test+else-at-size w ↦ omega (arith, w.if-at-size.false)
+      | else-loop-more-test w ↦ absurd (cc (c.loop-more.invariant.more_is held is, w.loop-more-test.false))
+    ])
+
+pub returns-in-Err-clause-trouble : goal.returns-in-Err-clause-trouble
+returns-in-Err-clause-trouble g c =
+    trouble_on c.args.name.now IsFilmRefused (g.L.Library.files c.args.library.now) (g.L.Library.files c.loop-more.library)
+    (g.L.Library.faults c.args.library.now) (g.L.Library.faults c.loop-more.library) (g.L.Library.faults c.feed_stream_piece.new.library)
+    c.in-Err.trouble c.loop-more.invariant.kept c.loop-more.invariant.count ((c.in-Err.ensures {u = tt}).trouble)

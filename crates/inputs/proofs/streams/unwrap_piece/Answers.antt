@@ -1,0 +1,44 @@
+use Rattle.std.proofs.Common.{ℕ, List, ◌++◌, take, length, ap, arith, sym, subst}
+use Rattle.std.proofs.lemmas.List.{append-nil, length-drop, take_all}
+use Rattle.inputs.specs.Scans.{HasUnwrapped}
+use Rattle.inputs.proofs.Tokens.{slice_from}
+use Rattle.inputs.proofs.StreamLemmas.{part_refused, parts_joined}
+use Rattle.inputs.proofs.streams.unwrap_piece.Goals as goal
+
+pub loop-at-init : goal.loop-at-init
+loop-at-init g c = record {
+  within = omega arith;
+  count = omega arith;
+  few = c.requires.few;
+  ready = c.requires.ready;
+  next = λ seen so_far.
+      subst (λ (l : List ℕ). HasUnwrapped (g.F.Found.heard c.args.found.now) c.args.unwrapper.now c.args.scanner.now l) (sym (append-nil seen)) so_far;
+}
+
+pub loop-at-preserved : goal.loop-at-preserved
+loop-at-preserved g c = record {
+  within = omega (
+    arith,
+    (c.in-Ok.ensures {u = tt}).taken.1,
+    ap length (slice_from c.args.piece.now c.loop-at.at),
+    length-drop c.loop-at.at c.args.piece.now,
+    c.loop-at.invariant.within,
+  );
+  count = omega (arith, c.loop-at.invariant.count, (c.in-Ok.ensures {u = tt}).count);
+  few = omega (arith, c.loop-at.invariant.few, (c.in-Ok.ensures {u = tt}).few, (c.in-Ok.ensures {u = tt}).count);
+  ready = c.unwrap_part.ensures.ready;
+  next = λ seen so_far.
+      subst (λ (l : List ℕ). HasUnwrapped (g.F.Found.heard c.unwrap_part.new.found) c.unwrap_part.new.unwrapper c.unwrap_part.new.scanner l)
+      (parts_joined seen c.args.piece.now c.loop-at.at c.in-Ok.taken)
+      ((c.in-Ok.ensures {u = tt}).next (seen ++ take c.loop-at.at c.args.piece.now) (c.loop-at.invariant.next seen so_far));
+}
+
+pub returns-in-Err-clause-refused : goal.returns-in-Err-clause-refused
+returns-in-Err-clause-refused g c = λ seen so_far.
+    part_refused seen c.args.piece.now c.loop-at.at c.in-Err.refused
+    ((c.in-Err.ensures {u = tt}).refused (seen ++ take c.loop-at.at c.args.piece.now) (c.loop-at.invariant.next seen so_far))
+
+pub returns-clause-next : goal.returns-clause-next
+returns-clause-next g c = λ seen so_far.
+    subst (λ (l : List ℕ). HasUnwrapped (g.F.Found.heard c.loop-at.found) c.loop-at.unwrapper c.loop-at.scanner (seen ++ l))
+    (take_all c.loop-at.at c.args.piece.now (omega arith)) (c.loop-at.invariant.next seen so_far)

@@ -1,0 +1,17 @@
+use Rattle.std.proofs.Common.{◌≡◌, ℕ, ◌+◌, ◌-◌, ◌≤◌, List, ◌++◌, length, take}
+use Rattle.mpeg_scan.specs.Scans.{IsReady, bytes_fed}
+use Rattle.inputs.specs.Scans.{HasUnwrapped}
+use Rattle.inputs.proofs.streams.unwrap_piece.Given as goal
+
+abbrev pub invariant-loop-at : goal.invariant-loop-at
+invariant-loop-at g l = record {
+  within : l.at ≤ length l.piece;
+  count : l.unwrapper.fed ≡ l.fn.unwrapper.fed + l.at;
+  few : bytes_fed l.scanner ≤ l.unwrapper.fed;
+  ready : IsReady (g.F.Found.ready_at l.found) l.scanner;
+  next : (seen : List ℕ) → HasUnwrapped (g.F.Found.heard l.fn.found) l.fn.unwrapper l.fn.scanner seen
+      → HasUnwrapped (g.F.Found.heard l.found) l.unwrapper l.scanner (seen ++ take l.at l.piece);
+}
+
+abbrev pub decreases-loop-at : goal.decreases-loop-at
+decreases-loop-at g l = length l.piece - l.at

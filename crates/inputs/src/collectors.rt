@@ -1,0 +1,147 @@
+ghost use Rattle.std.specs.Prelude.{◌≡◌, ◌≤◌, Some, List, IfErr, IfOk};
+ghost use Rattle.vod_base.specs.Outside.{File};
+ghost use Rattle.mpeg_scan.specs.Films.{units_in};
+ghost use Rattle.rtp_pack.specs.Sizes.{bytes_of};
+ghost use Rattle.troubles.specs.Causes.{IsReadOnly, IsReadTrouble};
+ghost use Rattle.inputs.specs.Files.{IsNamed};
+ghost use Rattle.inputs.specs.Scans.{HoldsFilm, HoldsSizes, IsFilmRefused};
+ghost use Rattle.inputs.specs.Sizes.{AreSizesWithin, IsSized};
+
+use crate::scans::hear_film;
+use mpeg_scan::{Found, Unit};
+use rtp_pack::UnitSize;
+use std::alloc::Global;
+use std::mem;
+use troubles::Trouble;
+use vod_base::{Library, NoMemory};
+
+/// The bytes of the report before a group.
+const REPORT: u64 = 52;
+
+/// Keeps a film's units.
+#[derive(Drop)]
+struct UnitList {
+    units: Vec<Unit>,
+}
+
+impl Found for UnitList {
+    ghost heard = { λ list calls. list.units.items ≡ units_in calls };
+
+    fn head(&mut self, _from: u64, _to: u64) -> Result<(), NoMemory> {
+        Ok(())
+    }
+
+    fn slice(&mut self, _from: u64, _to: u64) -> Result<(), NoMemory> {
+        Ok(())
+    }
+
+    fn unit(&mut self, unit: Unit) -> Result<(), NoMemory> {
+        match self.units.push(unit) {
+            Ok(()) => Ok(()),
+            Err(_) => Err(NoMemory),
+        }
+    }
+}
+
+/// Adds up the wire size of a unit as its parts come, and keeps those of the units that have ended.
+#[derive(Drop)]
+struct SizeList {
+    unit: UnitSize,
+    sizes: Vec<u64>,
+}
+
+impl Found for SizeList {
+    ghost heard = { λ list calls. IsSized list.unit list.sizes.items calls };
+
+    ghost ready_at = { λ list place. bytes_of list.unit ≤ place };
+
+    fn head(&mut self, from: u64, to: u64) -> Result<(), NoMemory> {
+        self.unit = UnitSize::begin(to - from);
+        Ok(())
+    }
+
+    fn slice(&mut self, from: u64, to: u64) -> Result<(), NoMemory> {
+        self.unit.slice(to - from);
+        Ok(())
+    }
+
+    fn unit(&mut self, unit: Unit) -> Result<(), NoMemory> {
+        let ended = mem::replace(&mut self.unit, UnitSize::begin(1));
+        let report = if unit.starts_group { REPORT } else { 0 };
+        match self.sizes.push(report + ended.end()) {
+            Ok(()) => Ok(()),
+            Err(_) => Err(NoMemory),
+        }
+    }
+}
+
+/// A film that was scanned and accepted.
+#[derive(Drop)]
+pub struct ScannedFilm {
+    /// How many bytes its video has.
+    pub bytes: u64,
+    /// Its picture rate code, from 1 to 8.
+    pub rate: u8,
+    /// Its units, in order.
+    pub units: Vec<Unit>,
+}
+
+/// The sizes of an accepted film on the wire.
+#[derive(Drop)]
+pub struct SizedFilm {
+    /// Its picture rate code, from 1 to 8.
+    pub rate: u8,
+    /// The bytes of each unit's frames, and of the report before it where it starts a group.
+    pub sizes: Vec<u64>,
+}
+
+/// Scans a film of the library and keeps only its units.
+pub fn scan_film<'a, L: Library>(
+    alloc: Global,
+    library: &mut L,
+    name: &'a str,
+) -> Result<ScannedFilm, Trouble<'a>>
+    ensures library { IsReadOnly (L.files library.old) (L.files library.new) (L.faults library.old) (L.faults library.new) }
+    ensures film { (held : List File) → L.files library.old ≡ Some held
+        → IfOk result (λ film. HoldsFilm held name.entry.now film.bytes film.rate film.units.items) }
+    ensures trouble { IfErr result (IsReadTrouble (IsNamed name.entry.now) IsFilmRefused
+        (L.files library.old) (L.faults library.old) (L.faults library.new)) }
+{
+    let mut found = UnitList {
+        units: Vec::new(alloc),
+    };
+    match hear_film(alloc, library, name, &mut found) {
+        Ok(ending) => Ok(ScannedFilm {
+            bytes: ending.bytes,
+            rate: ending.rate,
+            units: found.units,
+        }),
+        Err(trouble) => Err(trouble),
+    }
+}
+
+/// Scans a film of the library and keeps only the sizes of its units on the wire.
+pub fn size_film<'a, L: Library>(
+    alloc: Global,
+    library: &mut L,
+    name: &'a str,
+) -> Result<SizedFilm, Trouble<'a>>
+    ensures library { IsReadOnly (L.files library.old) (L.files library.new) (L.faults library.old) (L.faults library.new) }
+    ensures film { (held : List File) → L.files library.old ≡ Some held
+        → IfOk result (λ film. HoldsSizes held name.entry.now film.rate film.sizes.items) }
+    ensures limits { IfOk result (λ film. AreSizesWithin film.rate film.sizes.items) }
+    ensures trouble { IfErr result (IsReadTrouble (IsNamed name.entry.now) IsFilmRefused
+        (L.files library.old) (L.faults library.old) (L.faults library.new)) }
+{
+    let mut found = SizeList {
+        unit: UnitSize::begin(1),
+        sizes: Vec::new(alloc),
+    };
+    match hear_film(alloc, library, name, &mut found) {
+        Ok(ending) => Ok(SizedFilm {
+            rate: ending.rate,
+            sizes: found.sizes,
+        }),
+        Err(trouble) => Err(trouble),
+    }
+}

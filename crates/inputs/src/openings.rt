@@ -1,0 +1,122 @@
+ghost use Rattle.std.specs.Prelude.{◌≡◌, ◌<◌, ◌≤◌, ◌+◌, ◌^◌, ◌++◌, Some, ℕ, List, length, option_map, IfErr, IfOk, IfSome};
+ghost use Rattle.vod_base.specs.Outside.{File, file_named};
+ghost use Rattle.mpeg_scan.specs.Codes.{next_prefix};
+ghost use Rattle.troubles.specs.Causes.{IsReadOnly, IsReadTrouble};
+ghost use Rattle.inputs.specs.Files.{IsNamed, IsNever};
+ghost use Rattle.inputs.specs.Openings.{IsOpen, IsOpening, IsWithin, prefix_of};
+ghost use Rattle.inputs.specs.Scans.{IsOpened};
+ghost use Rattle.inputs.specs.Videos.{pack_in};
+
+use crate::files::read_at;
+use troubles::Trouble;
+use vod_base::Library;
+
+/// The kind of a pack's start code (ISO/IEC 11172-1, section 2.4.4.2).
+const PACK: u8 = 0xba;
+
+/// How much of the prefix 00 00 01 of a start code the bytes so far end with.
+#[derive(Clone, Copy)]
+enum Prefix {
+    Nothing,
+    Zero,
+    Zeros,
+    Whole,
+}
+
+impl Prefix {
+    /// The same, once a byte more is read.
+    fn then(self, byte: u8) -> Prefix
+        ensures { prefix_of result ≡ next_prefix (prefix_of self) byte }
+    {
+        match byte {
+            1 => match self {
+                Prefix::Zeros => Prefix::Whole,
+                _ => Prefix::Nothing,
+            },
+            0 => match self {
+                Prefix::Zero | Prefix::Zeros => Prefix::Zeros,
+                Prefix::Nothing | Prefix::Whole => Prefix::Zero,
+            },
+            _ => Prefix::Nothing,
+        }
+    }
+}
+
+/// What the bytes of a file so far show of its first start code.
+#[derive(Clone, Copy)]
+enum Opening {
+    /// There is none among them.
+    Open(Prefix),
+    /// It is that of a pack, at this place.
+    Pack(u64),
+    /// It is another one.
+    Other,
+}
+
+/// Looks for the first start code in the next bytes of a file, which stand at `at`.
+fn open_piece(before: Prefix, at: u64, piece: &[u8]) -> Opening
+    requires { at + length piece.now ≤ 2 ^ 40 }
+    ensures opening { (seen : List ℕ) → length seen ≡ at → IsOpen before seen → IsOpening result (seen ++ piece.now) }
+    ensures within { IsWithin (at + length piece.now) result }
+{
+    let mut prefix = before;
+    for (index, byte) in piece.iter().enumerate() {
+        match prefix {
+            Prefix::Whole if *byte == PACK => {
+                return Opening::Pack((at + index as u64).saturating_sub(3));
+            }
+            Prefix::Whole => return Opening::Other,
+            _ => prefix = prefix.then(*byte),
+        }
+    }
+    Opening::Open(prefix)
+}
+
+/// Where the system stream in a file begins, if its first start code is that of a pack.
+pub(crate) fn pack_in(file: &[u8]) -> Option<u64>
+    requires { length file.now ≤ 2 ^ 40 }
+    ensures place { result ≡ pack_in file.now }
+    ensures within { IfSome result (λ place. place ≤ length file.now) }
+{
+    match open_piece(Prefix::Nothing, 0, file) {
+        Opening::Pack(place) => Some(place),
+        Opening::Other => None,
+        Opening::Open(_) => None,
+    }
+}
+
+/// Where the system stream in a file of that size begins, if its first start code is that of a pack.
+pub(crate) fn find_pack<'a, L: Library>(
+    library: &mut L,
+    name: &'a str,
+    size: u64,
+    piece: &mut [u8],
+) -> Result<Option<u64>, Trouble<'a>>
+    requires some { 0 < length piece.old }
+    requires short { size ≤ 2 ^ 40 }
+    ensures library { IsReadOnly (L.files library.old) (L.files library.new) (L.faults library.old) (L.faults library.new) }
+    ensures opened { (held : List File) → L.files library.old ≡ Some held
+        → Some size ≡ option_map length (file_named held name.entry.now) → IfOk result (IsOpened held name.entry.now size) }
+    ensures within { IfOk result (λ from. IfSome from (λ place. place ≤ size)) }
+    ensures trouble { IfErr result (IsReadTrouble (IsNamed name.entry.now) IsNever
+        (L.files library.old) (L.faults library.old) (L.faults library.new)) }
+{
+    let mut prefix = Prefix::Nothing;
+    let mut at = 0;
+    while at < size {
+        let count = match read_at(library, name, size, at, piece) {
+            Ok(count) => count,
+            Err(trouble) => return Err(trouble),
+        };
+        if count == 0 {
+            return Ok(None);
+        }
+        match open_piece(prefix, at, &piece[..count]) {
+            Opening::Open(next) => prefix = next,
+            Opening::Pack(place) => return Ok(Some(place)),
+            Opening::Other => return Ok(None),
+        }
+        at += count as u64;
+    }
+    Ok(None)
+}

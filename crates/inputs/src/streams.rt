@@ -1,0 +1,236 @@
+ghost use Rattle.std.specs.Prelude.{◌≡◌, ◌<◌, ◌≤◌, ◌+◌, ◌^◌, ◌++◌, Some, ℕ, List, [], length, take, IfErr, IfOk, OnOk};
+ghost use Rattle.vod_base.specs.Outside.{File};
+ghost use Rattle.mpeg_scan.specs.Scans.{IsReady, bytes_fed};
+ghost use Rattle.sys_demux.specs.Streams.{IsRefused};
+ghost use Rattle.troubles.specs.Causes.{IsReadOnly, IsReadTrouble};
+ghost use Rattle.inputs.specs.Files.{IsNamed};
+ghost use Rattle.inputs.specs.Videos.{moved};
+ghost use Rattle.inputs.specs.Scans.{HasHeard, HasStreamed, HasStreamedAll, HasTaken, HasUnwrapped, IsFilmRefused, IsPieceRefused, WasOpened};
+
+use crate::files::read_at;
+use crate::scans::end_film;
+use mpeg_scan::{Ending, Found, ScanRefused, Scanner};
+use sys_demux::{SystemFault, Unwrapper};
+use troubles::{Fault, Trouble};
+use vod_base::{Library, NoMemory};
+
+/// Why bytes of a system stream can't be taken.
+#[derive(Clone, Copy, Debug)]
+pub(crate) enum StreamRefused {
+    /// They are no system stream; the place counts from the stream's first byte.
+    Fault(SystemFault),
+    /// Want of memory.
+    NoMemory,
+}
+
+/// The fault of a stream that begins at a place of the file. A place in a file is below 2^64.
+pub(crate) fn move_fault(place: u64, fault: SystemFault) -> SystemFault
+    ensures { (bytes : List ℕ) → IsRefused bytes fault → place + length bytes ≤ 2 ^ 40 → result ≡ moved place fault }
+{
+    match fault {
+        SystemFault::NotPack(at) => SystemFault::NotPack(place.saturating_add(at)),
+        SystemFault::BadCode(at) => SystemFault::BadCode(place.saturating_add(at)),
+        SystemFault::BadPacket(at) => SystemFault::BadPacket(place.saturating_add(at)),
+        SystemFault::Truncated(at) => SystemFault::Truncated(place.saturating_add(at)),
+    }
+}
+
+/// Feeds video of a stream to the scanner. Where it refuses the film it does so again when the stream has ended, and till
+/// then the stream is read on: its own faults go first.
+fn take_video<F: Found>(scanner: &mut Scanner, video: &[u8], found: &mut F) -> Result<(), NoMemory>
+    requires room { bytes_fed scanner.old + length video.now ≤ 2 ^ 40 }
+    requires ready { IsReady (F.ready_at found.old) scanner.old }
+    ensures taken { (seen : List ℕ) → HasTaken (F.heard found.old) scanner.old seen
+        → OnOk result (HasTaken (F.heard found.new) scanner.new (seen ++ video.now)) }
+    ensures few { bytes_fed scanner.new ≤ bytes_fed scanner.old + length video.now }
+    ensures ready { IsReady (F.ready_at found.new) scanner.new }
+{
+    match scanner.feed(video, found) {
+        Ok(()) => Ok(()),
+        Err(ScanRefused::Fault(_)) => Ok(()),
+        Err(ScanRefused::NoMemory) => Err(NoMemory),
+    }
+}
+
+/// Takes bytes from the front of a piece of a stream, feeds the video among them to the scanner, and answers how many they
+/// were.
+fn unwrap_part<F: Found>(
+    unwrapper: &mut Unwrapper,
+    piece: &[u8],
+    scanner: &mut Scanner,
+    found: &mut F,
+) -> Result<usize, StreamRefused>
+    requires some { 0 < length piece.now }
+    requires room { unwrapper.old.fed + length piece.now ≤ 2 ^ 40 }
+    requires few { bytes_fed scanner.old ≤ unwrapper.old.fed }
+    requires ready { IsReady (F.ready_at found.old) scanner.old }
+    ensures taken { IfOk result (λ taken. (0 < taken) × (taken ≤ length piece.now)) }
+    ensures count { IfOk result (λ taken. unwrapper.new.fed ≡ unwrapper.old.fed + taken) }
+    ensures few { IfOk result (λ taken. bytes_fed scanner.new ≤ unwrapper.old.fed + taken) }
+    ensures ready { IsReady (F.ready_at found.new) scanner.new }
+    ensures next { (seen : List ℕ) → HasUnwrapped (F.heard found.old) unwrapper.old scanner.old seen
+        → IfOk result (λ taken. HasUnwrapped (F.heard found.new) unwrapper.new scanner.new (seen ++ take taken piece.now)) }
+    ensures refused { (seen : List ℕ) → HasUnwrapped (F.heard found.old) unwrapper.old scanner.old seen
+        → IfErr result (IsPieceRefused seen piece.now) }
+{
+    let fed = match unwrapper.feed(piece) {
+        Ok(fed) => fed,
+        Err(fault) => return Err(StreamRefused::Fault(fault)),
+    };
+    match take_video(scanner, fed.video, found) {
+        Ok(()) => Ok(fed.taken),
+        Err(NoMemory) => Err(StreamRefused::NoMemory),
+    }
+}
+
+/// Takes a piece of a stream, and feeds the video in it to the scanner.
+fn unwrap_piece<F: Found>(
+    unwrapper: &mut Unwrapper,
+    piece: &[u8],
+    scanner: &mut Scanner,
+    found: &mut F,
+) -> Result<(), StreamRefused>
+    requires room { unwrapper.old.fed + length piece.now ≤ 2 ^ 40 }
+    requires few { bytes_fed scanner.old ≤ unwrapper.old.fed }
+    requires ready { IsReady (F.ready_at found.old) scanner.old }
+    ensures count { OnOk result (unwrapper.new.fed ≡ unwrapper.old.fed + length piece.now) }
+    ensures few { OnOk result (bytes_fed scanner.new ≤ unwrapper.new.fed) }
+    ensures ready { IsReady (F.ready_at found.new) scanner.new }
+    ensures next { (seen : List ℕ) → HasUnwrapped (F.heard found.old) unwrapper.old scanner.old seen
+        → OnOk result (HasUnwrapped (F.heard found.new) unwrapper.new scanner.new (seen ++ piece.now)) }
+    ensures refused { (seen : List ℕ) → HasUnwrapped (F.heard found.old) unwrapper.old scanner.old seen
+        → IfErr result (IsPieceRefused seen piece.now) }
+{
+    let mut at = 0;
+    while at < piece.len() {
+        match unwrap_part(unwrapper, &piece[at..], scanner, found) {
+            Ok(taken) => at += taken,
+            Err(refused) => return Err(refused),
+        }
+    }
+    Ok(())
+}
+
+/// Reads one piece of the stream that begins at `from`, feeds its video to the scanner, and answers how many bytes it had:
+/// 0 at the end.
+fn feed_stream_piece<'a, L: Library, F: Found>(
+    library: &mut L,
+    name: &'a str,
+    size: u64,
+    from: u64,
+    at: u64,
+    piece: &mut [u8],
+    unwrapper: &mut Unwrapper,
+    scanner: &mut Scanner,
+    found: &mut F,
+) -> Result<u64, Trouble<'a>>
+    requires some { 0 < length piece.old }
+    requires before { at < size }
+    requires short { size ≤ 2 ^ 40 }
+    requires opened { WasOpened (L.files library.old) name.now size (Some from) }
+    requires streamed { HasStreamed (F.heard found.old) (L.files library.old) name.now size from at unwrapper.old scanner.old }
+    requires few { bytes_fed scanner.old ≤ unwrapper.old.fed }
+    requires ready { IsReady (F.ready_at found.old) scanner.old }
+    ensures library { IsReadOnly (L.files library.old) (L.files library.new) (L.faults library.old) (L.faults library.new) }
+    ensures within { IfOk result (λ count. at + count ≤ size) }
+    ensures few { OnOk result (bytes_fed scanner.new ≤ unwrapper.new.fed) }
+    ensures ready { IsReady (F.ready_at found.new) scanner.new }
+    ensures streamed { IfOk result (λ count.
+        HasStreamed (F.heard found.new) (L.files library.old) name.entry.now size from (at + count) unwrapper.new scanner.new) }
+    ensures more { (held : List File) → L.files library.old ≡ Some held → IfOk result (λ count. 0 < count) }
+    ensures trouble { IfErr result (IsReadTrouble (IsNamed name.entry.now) IsFilmRefused
+        (L.files library.old) (L.faults library.old) (L.faults library.new)) }
+{
+    let count = match read_at(library, name, size, at, piece) {
+        Ok(count) => count,
+        Err(trouble) => return Err(trouble),
+    };
+    match unwrap_piece(unwrapper, &piece[..count], scanner, found) {
+        Ok(()) => Ok(count as u64),
+        Err(StreamRefused::Fault(fault)) => Err(Trouble::Refused(
+            name,
+            Fault::System(move_fault(from, fault)),
+        )),
+        Err(StreamRefused::NoMemory) => Err(Trouble::NoMemory),
+    }
+}
+
+/// Reads the stream that begins at `from` to its end, and feeds its video to the scanner.
+fn feed_stream<'a, L: Library, F: Found>(
+    library: &mut L,
+    name: &'a str,
+    size: u64,
+    from: u64,
+    piece: &mut [u8],
+    unwrapper: &mut Unwrapper,
+    scanner: &mut Scanner,
+    found: &mut F,
+) -> Result<(), Trouble<'a>>
+    requires some { 0 < length piece.old }
+    requires short { size ≤ 2 ^ 40 }
+    requires opened { WasOpened (L.files library.old) name.now size (Some from) }
+    requires within { from ≤ size }
+    requires streamed { HasStreamed (F.heard found.old) (L.files library.old) name.now size from from unwrapper.old scanner.old }
+    requires few { bytes_fed scanner.old ≤ unwrapper.old.fed }
+    requires ready { IsReady (F.ready_at found.old) scanner.old }
+    ensures library { IsReadOnly (L.files library.old) (L.files library.new) (L.faults library.old) (L.faults library.new) }
+    ensures ready { IsReady (F.ready_at found.new) scanner.new }
+    ensures streamed { OnOk result (HasStreamedAll (F.heard found.new) (L.files library.old) name.entry.now size from unwrapper.new scanner.new) }
+    ensures trouble { IfErr result (IsReadTrouble (IsNamed name.entry.now) IsFilmRefused
+        (L.files library.old) (L.faults library.old) (L.faults library.new)) }
+{
+    let mut at = from;
+    let mut more = true;
+    while more && at < size {
+        let count = match feed_stream_piece(
+            library, name, size, from, at, piece, unwrapper, scanner, found,
+        ) {
+            Ok(count) => count,
+            Err(trouble) => return Err(trouble),
+        };
+        at += count;
+        more = 0 < count;
+    }
+    Ok(())
+}
+
+/// Scans the video of the system stream that begins at `from`.
+pub(crate) fn scan_stream<'a, L: Library, F: Found>(
+    library: &mut L,
+    name: &'a str,
+    size: u64,
+    from: u64,
+    piece: &mut [u8],
+    found: &mut F,
+) -> Result<Ending, Trouble<'a>>
+    requires some { 0 < length piece.old }
+    requires short { size ≤ 2 ^ 40 }
+    requires opened { WasOpened (L.files library.old) name.now size (Some from) }
+    requires within { from ≤ size }
+    requires fresh { F.heard found.old [] }
+    ensures library { IsReadOnly (L.files library.old) (L.files library.new) (L.faults library.old) (L.faults library.new) }
+    ensures film { IfOk result (λ ending.
+        HasHeard (F.heard found.new) (L.files library.old) name.entry.now ending.bytes ending.rate) }
+    ensures trouble { IfErr result (IsReadTrouble (IsNamed name.entry.now) IsFilmRefused
+        (L.files library.old) (L.faults library.old) (L.faults library.new)) }
+{
+    let mut unwrapper = Unwrapper::new();
+    let mut scanner = Scanner::new();
+    match feed_stream(
+        library,
+        name,
+        size,
+        from,
+        piece,
+        &mut unwrapper,
+        &mut scanner,
+        found,
+    ) {
+        Ok(()) => {}
+        Err(trouble) => return Err(trouble),
+    }
+    match unwrapper.finish() {
+        Ok(()) => end_film(name, scanner, found),
+        Err(fault) => Err(Trouble::Refused(name, Fault::System(move_fault(from, fault)))),
+    }
+}
