@@ -7,3 +7,4 @@ pub mod WorkerLemmas
 pub mod ServeLemmas
 pub mod JournalLemmas
 pub mod ServeLaws
+pub mod DayLemmas

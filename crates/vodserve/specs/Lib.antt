@@ -9,3 +9,4 @@ pub mod Worked
 pub mod Workers
 pub mod Served
 pub mod Laws
+pub mod Days

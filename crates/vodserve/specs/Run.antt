@@ -2,7 +2,10 @@
 use Rattle.std.specs.Prelude.{◌≡◌, ℕ, ◌≤◌, Bool, List, [], length, Option, Some, None, Result, Ok, Err, ◌⊎◌}
 use Rattle.vod_base.specs.Outside.{File, HasRisen, more, IsFrontMore}
 use Rattle.plan_cert.specs.declared.Segment.{Segment}
-use Rattle.command_words.specs.Words.{Serving, Order, help, version, plan_of, check_of, scan_of, make_of, day_of, fair_of, serve_of, watch_of}
+use Rattle.slot_calendar.specs.declared.profiles.CapStep.{CapStep}
+use Rattle.admission.specs.Histories.{IsLegal}
+use Rattle.vodserve.specs.Days.{IsDayInput, IsDayRefused}
+use Rattle.command_words.specs.Words.{FairRun, ScriptRun, Serving, Order, help, version, plan_of, check_of, scan_of, make_of, day_of, fair_of, serve_of, watch_of}
 use Rattle.troubles.specs.Said.{IsSaid}
 use Rattle.troubles.specs.Lines.{trouble_text}
 use Rattle.troubles.specs.Statuses.{status_of}
@@ -134,6 +137,36 @@ abbrev pub IsUsage : World → World → Ended → Type 0
 IsUsage before after ended =
     (after.out ≡ before.out) × (after.gate ≡ before.gate) × HasServedNothing ended × Fails before.err after.err Usage ended
 
+-- a text was written whole, and the status is 0; or a fault left a front of it, and was said
+abbrev pub IsTextWritten : Seen (List ℕ) → Seen (List ℕ) → Seen (List ℕ) → Seen (List ℕ) → List ℕ → Ended → Type 0
+IsTextWritten out out' err err' text ended =
+    ((ended.status ≡ 0) × (ended.plan ≡ None) × (out'.told ≡ more out.told text) × (err' ≡ err))
+    ⊎ (HasRisen out.faults out'.faults × IsFrontMore out.told out'.told text × Fails err err' SinkFault ended)
+
+-- a day that ran: its journal is a legal history over the link's capacity, and what it printed was written
+pub record HasRun (out out' err err' : Seen (List ℕ)) (capacity : List CapStep) (ended : Ended) : Type 0 where
+  pub legal : IsLegal capacity ended.journal.items
+  pub no_reports : ended.reports.items ≡ []
+  pub text : List ℕ
+  pub written : IsTextWritten out out' err err' text ended
+
+-- what kept a day from its run: then nothing was written
+abbrev pub HasNotRun : Seen (List ℕ) → Seen (List ℕ) → Seen (List ℕ) → Seen (List ℕ) → (Trouble → Type 0) → Ended → Type 0
+HasNotRun out out' err err' IsWhy ended =
+    (trouble : Trouble) × (IsWhy trouble × (out' ≡ out) × HasServedNothing ended × Fails err err' trouble ended)
+
+-- a script was run; or an input kept from that, or want of memory
+abbrev pub RunsDay : Seen (List File) → Seen (List File) → Seen (List ℕ) → Seen (List ℕ) → Seen (List ℕ) → Seen (List ℕ) → ScriptRun → Ended → Type 0
+RunsDay store store' out out' err err' run ended =
+    HasNotRun out out' err err'
+    (λ trouble. IsReadTrouble (IsDayInput store.told run.script) (IsDayRefused run.script) store.told store.faults store'.faults trouble) ended
+    ⊎ HasRun out out' err err' run.capacity ended
+
+-- drawn plays were run; or memory was wanting
+abbrev pub RunsFair : Seen (List ℕ) → Seen (List ℕ) → Seen (List ℕ) → Seen (List ℕ) → FairRun → Ended → Type 0
+RunsFair out out' err err' run ended =
+    HasNotRun out out' err err' (λ trouble. trouble ≡ NoMemory) ended ⊎ HasRun out out' err err' run.capacity ended
+
 -- one definition for each command
 abbrev pub Does : World → World → List ℕ → Order → Ended → Type 0
 Does before after seed help ended = Prints before after help ended
@@ -142,8 +175,10 @@ Does before after seed (plan_of viewer) ended = Prints before after (plan_of vie
 Does before after seed (check_of viewer cert) ended = Prints before after (check_of viewer cert) ended
 Does before after seed (make_of kind number pictures) ended = Prints before after (make_of kind number pictures) ended
 Does before after seed (scan_of film) ended = Prints before after (scan_of film) ended
-Does before after seed (day_of run) ended = IsUsage before after ended
-Does before after seed (fair_of run) ended = IsUsage before after ended
+Does before after seed (day_of run) ended =
+    (after.gate ≡ before.gate) × RunsDay before.store after.store before.out after.out before.err after.err run ended
+Does before after seed (fair_of run) ended =
+    (after.gate ≡ before.gate) × (after.store ≡ before.store) × RunsFair before.out after.out before.err after.err run ended
 Does before after seed (watch_of watching) ended = IsUsage before after ended
 Does before after seed (serve_of serving) ended = Serves before after seed serving ended
 

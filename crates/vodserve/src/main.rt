@@ -3,6 +3,10 @@
 
 mod checks;
 mod curves;
+mod day_ends;
+#[cfg(test)]
+mod day_tests;
+mod days;
 mod done;
 #[cfg(test)]
 mod film_tests;

@@ -14,6 +14,7 @@ ghost use Rattle.vodserve.specs.Laws.{LeavesNoneOut, ServesWhatItMay};
 ghost use Rattle.vodserve.specs.Run.{Ends, Fails, HasServedNothing, Printed, Ran, Serves, gate_seen, seen, world};
 
 use crate::checks::check_viewer;
+use crate::day_ends::{day, fair};
 use crate::done::{Done, finish};
 use crate::makes::make;
 use crate::plans::plan_viewer;
@@ -39,14 +40,14 @@ pub struct Ended {
     pub status: u8,
     /// The plan, for `plan` with status 0.
     pub plan: Option<Plan>,
-    /// The journal of a server.
+    /// The journal of a server, and of `day` and `fair`.
     pub journal: Vec<Entry>,
     /// What is left of a server's connections: those of worker 0, then of worker 1, and so on.
     pub reports: Vec<ConnReport>,
 }
 
 /// Ends with a trouble: says its line, whose own faults change nothing.
-fn end_with<E: Sink>(alloc: Global, err: &mut E, trouble: Trouble<'_>) -> Ended
+pub(crate) fn end_with<E: Sink>(alloc: Global, err: &mut E, trouble: Trouble<'_>) -> Ended
     ensures fails { Fails (seen E.faults E.written err.old) (seen E.faults E.written err.new)
         trouble.entry result }
     ensures nothing { HasServedNothing result }
@@ -222,8 +223,8 @@ where
             let done = print_scan(alloc, library, film);
             print(alloc, out, err, done)
         }
-        Order::Day(_) => end_with(alloc, err, Trouble::Usage),
-        Order::Fair(_) => end_with(alloc, err, Trouble::Usage),
+        Order::Day(order) => day(alloc, library, out, err, &order),
+        Order::Fair(order) => fair(alloc, out, err, &order),
         Order::Watch(_) => end_with(alloc, err, Trouble::Usage),
         Order::Serve(serving) => serve(rt, alloc, library, out, err, gate, seed, &serving),
     }

@@ -103,7 +103,7 @@ fn load_films<'a, L: Library>(
 }
 
 /// The capacity of these steps.
-fn profile_of(alloc: Global, steps: &[CapStep]) -> Result<Profile, NoMemory>
+pub(crate) fn profile_of(alloc: Global, steps: &[CapStep]) -> Result<Profile, NoMemory>
     requires { IsProfile steps.now }
     ensures { IfOk result (λ profile. profile ≡ steps.now) }
 {

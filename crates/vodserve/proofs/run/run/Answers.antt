@@ -66,16 +66,16 @@ returns-in-Version g c = record {
 
 pub returns-in-Day : goal.returns-in-Day
 returns-in-Day g c = record {
-  ran = ran_as _ _ _ _ (day_of (script_run_of c.in-Day.field-0)) _
+  ran = ran_as _ _ _ _ (day_of (script_run_of c.in-Day.order)) _
       (sym ((c.in-Some.ensures {u = tt}).order) ∙ ap (λ (o : OrderRead). Some (order_of o)) c.in-Day.is)
-      (record { kept = refl; count = omega arith }) (omega arith) (omega arith) (refl, refl, c.end_with-in-Day.ensures.nothing, c.end_with-in-Day.ensures.fails);
+      c.day.ensures.library c.day.ensures.count (omega arith) (refl, c.day.ensures.runs);
 }
 
 pub returns-in-Fair : goal.returns-in-Fair
 returns-in-Fair g c = record {
-  ran = ran_as _ _ _ _ (fair_of (fair_run_of c.in-Fair.field-0)) _
+  ran = ran_as _ _ _ _ (fair_of (fair_run_of c.in-Fair.order)) _
       (sym ((c.in-Some.ensures {u = tt}).order) ∙ ap (λ (o : OrderRead). Some (order_of o)) c.in-Fair.is)
-      (record { kept = refl; count = omega arith }) (omega arith) (omega arith) (refl, refl, c.end_with-in-Fair.ensures.nothing, c.end_with-in-Fair.ensures.fails);
+      (record { kept = refl; count = omega arith }) c.fair.ensures.count (omega arith) (refl, refl, c.fair.ensures.runs);
 }
 
 pub returns-in-Watch : goal.returns-in-Watch

@@ -1,0 +1,11 @@
+use Rattle.std.proofs.Common.{◌≡◌, length}
+use Rattle.day_run.specs.Sources.{AreSources}
+use Rattle.troubles.specs.Causes.{IsReadOnly}
+use Rattle.vodserve.proofs.days.load_sources.Given as goal
+
+abbrev pub invariant-loop-one : goal.invariant-loop-one
+invariant-loop-one g l = record {
+  count : length l.sources.items ≡ l.one-index;
+  sources : AreSources l.sources.items;
+  library : IsReadOnly (g.L.Library.files l.initial.library) (g.L.Library.files l.library) (g.L.Library.faults l.initial.library) (g.L.Library.faults l.library);
+}

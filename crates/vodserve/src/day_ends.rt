@@ -1,0 +1,90 @@
+//! The commands `day` and `fair`.
+
+ghost use Rattle.std.specs.Prelude.{◌≡◌, ◌≤◌, [], List, ℕ};
+ghost use Rattle.command_words.specs.Orders.{fair_run_of, script_run_of};
+ghost use Rattle.command_words.specs.Ranges.{IsFairRunInRange, IsScriptRunInRange};
+ghost use Rattle.troubles.specs.Causes.{IsReadOnly};
+ghost use Rattle.vodserve.specs.Run.{IsTextWritten, RunsDay, RunsFair, seen};
+
+use crate::days::{load_script, load_sources, run_day, run_fair};
+use crate::run::{Ended, end_with};
+use command_words::{FairRun, ScriptRun};
+use day_run::Day;
+use std::alloc::Global;
+use troubles::Trouble;
+use vod_base::{Library, NoMemory, Sink};
+
+/// Prints what a day printed, and hands its journal out.
+fn end_day<O: Sink, E: Sink>(alloc: Global, out: &mut O, err: &mut E, day: Day) -> Ended
+    ensures journal { result.journal ≡ day.journal }
+    ensures reports { result.reports.items ≡ [] }
+    ensures count { O.faults out.old ≤ O.faults out.new }
+    ensures written { IsTextWritten (seen O.faults O.written out.old) (seen O.faults O.written out.new)
+        (seen E.faults E.written err.old) (seen E.faults E.written err.new) day.text.items result }
+{
+    let Day { text, journal } = day;
+    match out.write_all(&text) {
+        Ok(()) => Ended {
+            status: 0,
+            plan: None,
+            journal,
+            reports: Vec::new(alloc),
+        },
+        Err(_) => {
+            let ended = end_with(alloc, err, Trouble::SinkFault);
+            Ended {
+                status: ended.status,
+                plan: None,
+                journal,
+                reports: Vec::new(alloc),
+            }
+        }
+    }
+}
+
+/// Runs a script: reads it and what it names, runs it and prints what it printed.
+pub(crate) fn day<L: Library, O: Sink, E: Sink>(
+    alloc: Global,
+    library: &mut L,
+    out: &mut O,
+    err: &mut E,
+    run: &ScriptRun<'_>,
+) -> Ended
+    requires { IsScriptRunInRange run.now }
+    ensures library { IsReadOnly (L.files library.old) (L.files library.new) (L.faults library.old) (L.faults library.new) }
+    ensures count { O.faults out.old ≤ O.faults out.new }
+    ensures runs { RunsDay (seen L.faults L.files library.old) (seen L.faults L.files library.new)
+        (seen O.faults O.written out.old) (seen O.faults O.written out.new)
+        (seen E.faults E.written err.old) (seen E.faults E.written err.new) (script_run_of run.now) result }
+{
+    let script = match load_script(alloc, library, run.script) {
+        Ok(script) => script,
+        Err(trouble) => return end_with(alloc, err, trouble),
+    };
+    let sources = match load_sources(alloc, library, &script.named) {
+        Ok(sources) => sources,
+        Err(trouble) => return end_with(alloc, err, trouble),
+    };
+    match run_day(alloc, run, &script, &sources) {
+        Ok(day) => end_day(alloc, out, err, day),
+        Err(NoMemory) => end_with(alloc, err, Trouble::NoMemory),
+    }
+}
+
+/// Runs drawn plays, and prints what they came to.
+pub(crate) fn fair<O: Sink, E: Sink>(
+    alloc: Global,
+    out: &mut O,
+    err: &mut E,
+    run: &FairRun,
+) -> Ended
+    requires { IsFairRunInRange run.now }
+    ensures count { O.faults out.old ≤ O.faults out.new }
+    ensures runs { RunsFair (seen O.faults O.written out.old) (seen O.faults O.written out.new)
+        (seen E.faults E.written err.old) (seen E.faults E.written err.new) (fair_run_of run.now) result }
+{
+    match run_fair(alloc, run) {
+        Ok(day) => end_day(alloc, out, err, day),
+        Err(NoMemory) => end_with(alloc, err, Trouble::NoMemory),
+    }
+}

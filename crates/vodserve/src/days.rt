@@ -1,0 +1,147 @@
+//! What `day` and `fair` read and run.
+
+ghost use Rattle.std.specs.Prelude.{◌≡◌, ◌≤◌, Some, List, ℕ, length, IfOk, IfErr};
+ghost use Rattle.std.specs.List.{Contains};
+ghost use Rattle.vod_base.specs.Outside.{File};
+ghost use Rattle.admission.specs.Histories.{IsLegal};
+ghost use Rattle.command_words.specs.Ranges.{IsFairRunInRange, IsScriptRunInRange};
+ghost use Rattle.day_run.specs.Scripts.{AreLines};
+ghost use Rattle.day_run.specs.Sources.{AreSources, IsSource};
+ghost use Rattle.film_run.specs.Units.{IsTrace};
+ghost use Rattle.troubles.specs.Causes.{IsReadOnly, IsReadTrouble};
+ghost use Rattle.inputs.specs.Files.{IsNamed};
+ghost use Rattle.inputs.specs.Scans.{IsFilmRefused};
+ghost use Rattle.vodserve.specs.Days.{HoldsScript, IsPlayedRefused, IsScriptRefused, names_in};
+ghost use Rattle.vodserve.specs.Plans.{IsTraceRefused};
+
+use crate::serving::profile_of;
+use command_words::{FairRun, ScriptRun};
+use day_run::{Day, Named, Script, ScriptRefused, Source, fair, read_script, run_script};
+use inputs::{TraceRefused, load_script_film, read_input, read_trace};
+use std::alloc::Global;
+use troubles::{Fault, Trouble};
+use vod_base::{Library, NoMemory};
+
+/// The script of that name.
+pub(crate) fn load_script<'a, L: Library>(
+    alloc: Global,
+    library: &mut L,
+    name: &'a str,
+) -> Result<Script, Trouble<'a>>
+    ensures library { IsReadOnly (L.files library.old) (L.files library.new) (L.faults library.old) (L.faults library.new) }
+    ensures lines { IfOk result (λ script. AreLines (length script.named.items) script.lines.items) }
+    ensures held { (held : List File) → L.files library.old ≡ Some held → IfOk result (HoldsScript held name.entry.now) }
+    ensures trouble { IfErr result (IsReadTrouble (IsNamed name.entry.now) IsScriptRefused
+        (L.files library.old) (L.faults library.old) (L.faults library.new)) }
+{
+    let text = match read_input(alloc, library, name) {
+        Ok(text) => text,
+        Err(trouble) => return Err(trouble),
+    };
+    match read_script(alloc, &text) {
+        Ok(script) => Ok(script),
+        Err(ScriptRefused::BadScript { line }) => Err(Trouble::Refused(
+            name,
+            Fault::BadScript(line),
+        )),
+        Err(ScriptRefused::NoMemory) => Err(Trouble::NoMemory),
+    }
+}
+
+/// The sizes of the trace of that name.
+fn load_trace<'a, L: Library>(
+    alloc: Global,
+    library: &mut L,
+    name: &'a str,
+) -> Result<Vec<u64>, Trouble<'a>>
+    ensures library { IsReadOnly (L.files library.old) (L.files library.new) (L.faults library.old) (L.faults library.new) }
+    ensures trace { IfOk result (λ sizes. IsTrace sizes.items) }
+    ensures trouble { IfErr result (IsReadTrouble (IsNamed name.entry.now) IsTraceRefused
+        (L.files library.old) (L.faults library.old) (L.faults library.new)) }
+{
+    let text = match read_input(alloc, library, name) {
+        Ok(text) => text,
+        Err(trouble) => return Err(trouble),
+    };
+    match read_trace(alloc, &text) {
+        Ok(sizes) => Ok(sizes),
+        Err(TraceRefused::BadTrace(place)) => Err(Trouble::Refused(name, Fault::BadTrace(place))),
+        Err(TraceRefused::NoMemory) => Err(Trouble::NoMemory),
+    }
+}
+
+/// A film or trace that a script names.
+fn load_source<'a, L: Library>(
+    alloc: Global,
+    library: &mut L,
+    film: bool,
+    name: &'a str,
+) -> Result<Source, Trouble<'a>>
+    ensures library { IsReadOnly (L.files library.old) (L.files library.new) (L.faults library.old) (L.faults library.new) }
+    ensures source { IfOk result IsSource }
+    ensures trouble { IfErr result (IsReadTrouble (IsNamed name.entry.now) IsPlayedRefused
+        (L.files library.old) (L.faults library.old) (L.faults library.new)) }
+{
+    if film {
+        match load_script_film(alloc, library, name) {
+            Ok(film) => Ok(Source::Film(film)),
+            Err(trouble) => Err(trouble),
+        }
+    } else {
+        match load_trace(alloc, library, name) {
+            Ok(sizes) => Ok(Source::Trace(sizes)),
+            Err(trouble) => Err(trouble),
+        }
+    }
+}
+
+/// The films and traces that a script names, read and judged one by one in the order of its lines.
+pub(crate) fn load_sources<'a, L: Library>(
+    alloc: Global,
+    library: &mut L,
+    named: &'a [Named],
+) -> Result<Vec<Source>, Trouble<'a>>
+    ensures library { IsReadOnly (L.files library.old) (L.files library.new) (L.faults library.old) (L.faults library.new) }
+    ensures count { IfOk result (λ sources. length sources.items ≡ length named.entry.now) }
+    ensures sources { IfOk result (λ sources. AreSources sources.items) }
+    ensures trouble { IfErr result (IsReadTrouble (Contains (names_in named.entry.now)) IsPlayedRefused
+        (L.files library.old) (L.faults library.old) (L.faults library.new)) }
+{
+    let mut sources = Vec::new(alloc);
+    for one in named {
+        let source = match load_source(alloc, library, one.film, one.name.as_str()) {
+            Ok(source) => source,
+            Err(trouble) => return Err(trouble),
+        };
+        match sources.push(source) {
+            Ok(()) => {}
+            Err(_) => return Err(Trouble::NoMemory),
+        }
+    }
+    Ok(sources)
+}
+
+/// Runs a script.
+pub(crate) fn run_day(
+    alloc: Global,
+    run: &ScriptRun<'_>,
+    script: &Script,
+    sources: &[Source],
+) -> Result<Day, NoMemory>
+    requires run { IsScriptRunInRange run.now }
+    requires sources { AreSources sources.now }
+    requires lines { AreLines (length sources.now) script.now.lines.items }
+    ensures { IfOk result (λ day. IsLegal run.now.capacity day.journal.items) }
+{
+    let profile = profile_of(alloc, run.capacity.as_slice())?;
+    run_script(alloc, script, sources, profile, run.journal, run.slot)
+}
+
+/// Runs drawn plays.
+pub(crate) fn run_fair(alloc: Global, run: &FairRun) -> Result<Day, NoMemory>
+    requires { IsFairRunInRange run.now }
+    ensures { IfOk result (λ day. IsLegal run.now.capacity day.journal.items) }
+{
+    let profile = profile_of(alloc, run.capacity.as_slice())?;
+    fair(alloc, run.seed, run.plays, profile)
+}
