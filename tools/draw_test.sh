@@ -1,5 +1,5 @@
 #!/bin/sh
-# Compares the numbers that draw.py draws with what `plan` prints: tools/draw_test.sh [PROGRAM]
+# Compares the numbers that draw.py draws with what `plan` and `day` print: tools/draw_test.sh [PROGRAM]
 #
 # PROGRAM is the built vodserve (default: ../crates/vodserve/out/vodserve). All files are made in a folder that is removed again.
 set -eu
@@ -38,4 +38,46 @@ for t in range(slots):
     assert drawn["must"][t] <= drawn["plan"][t] <= drawn["may"][t]
 PYTHON
     echo "plan $words: the numbers drawn are those of the plan"
+done
+
+printf '1 1 5\n' >small.txt
+cat >script.txt <<'SCRIPT'
+play 0 trace small.txt 7 0
+play 1 trace small.txt 7 0
+slot 1
+offer 1 trace small.txt 7 0 4
+slot 2
+play 1 trace small.txt 7 0
+play 2 trace trace.txt 20000 3
+slot 4
+pause 2
+slot 5
+look 9
+slot 700
+SCRIPT
+for words in "capacity=5" "capacity=20000" "capacity=0:9000,4:7000"; do
+    "$program" day script=script.txt $words >day.txt
+    "$here/draw.py" day script=script.txt $words program="$program" >day.svg
+    python3 - <<'PYTHON'
+from xml.dom import minidom
+drawn = {}
+for element in minidom.parse("day.svg").getElementsByTagName("path"):
+    if element.hasAttribute("data-values"):
+        drawn[element.getAttribute("id")] = [int(n) for n in element.getAttribute("data-values").split()]
+plays = [values for name, values in drawn.items() if name.startswith("play")]
+booked = [sum(values) for values in zip(*plays)]
+lines = [line.split() for line in open("day.txt")]
+assert len(plays) == sum("admitted" in line for line in lines)
+heard = 0
+for line in lines:
+    if line[0] == "slot":
+        slot = int(line[1])
+        assert sum(booked[heard + 1:slot + 1]) == int(line[3].split("=")[1]), line
+        heard = slot
+    if line[0] == "at":
+        slot = int(line[1])
+        assert booked[slot] == int(line[2].split("=")[1]), line
+assert all(b <= c for b, c in zip(booked, drawn["capacity"]))
+PYTHON
+    echo "day $words: the numbers drawn are those of the day"
 done
