@@ -15,13 +15,49 @@ const ONE_AT_A_TIME: &str = "0 seat=0 play slot=0 slots=3 bytes=7 admitted start
 #[test]
 fn runs_scripts(rt: HostRuntime) -> Result<(), Fail> {
     let alloc = rt.alloc();
-    let plays = "play 0 trace T 7 0\nplay 1 trace T 7 0\nslot 1\nslot 2\nplay 1 trace T 7 0\nslot 3\n";
+    let plays =
+        "play 0 trace T 7 0\nplay 1 trace T 7 0\nslot 1\nslot 2\nplay 1 trace T 7 0\nslot 3\n";
     for (line, script, trace, status, out, err) in [
-        ("day script=S capacity=5", plays, "1 1 5", 0, ONE_AT_A_TIME, ""),
-        ("day script=S", "pause 0\nslot 0\n", "", 3, "", "vodserve: S: BadScript 2\n"),
-        ("day script=S", "play 0 trace T 7 0\n", "1 x", 3, "", "vodserve: T: BadTrace 2\n"),
-        ("day script=S", "play 0 trace U 7 0\n", "", 3, "", "vodserve: U: NotFound\n"),
-        ("day script=S", "play 0 film T 7 0\n", "", 3, "", "vodserve: T: Empty\n"),
+        (
+            "day script=S capacity=5",
+            plays,
+            "1 1 5",
+            0,
+            ONE_AT_A_TIME,
+            "",
+        ),
+        (
+            "day script=S",
+            "pause 0\nslot 0\n",
+            "",
+            3,
+            "",
+            "vodserve: S: BadScript 2\n",
+        ),
+        (
+            "day script=S",
+            "play 0 trace T 7 0\n",
+            "1 x",
+            3,
+            "",
+            "vodserve: T: BadTrace 2\n",
+        ),
+        (
+            "day script=S",
+            "play 0 trace U 7 0\n",
+            "",
+            3,
+            "",
+            "vodserve: U: NotFound\n",
+        ),
+        (
+            "day script=S",
+            "play 0 film T 7 0\n",
+            "",
+            3,
+            "",
+            "vodserve: T: Empty\n",
+        ),
         ("day script=R", "", "", 3, "", "vodserve: R: NotFound\n"),
     ] {
         let files = [("S", script), ("T", trace)];
