@@ -455,27 +455,3 @@ fn scans_what_it_makes(rt: HostRuntime) -> Result<(), Fail> {
     );
     Ok(())
 }
-
-#[test]
-fn refuses_a_film_of_too_many_pictures(rt: HostRuntime) -> Result<(), Fail> {
-    let alloc = rt.alloc();
-    let group = hex(alloc, "000001b800080040")?;
-    let picture = hex(alloc, "00000100000ffff8000001011234")?;
-    let mut film = Vec::with_capacity(alloc, 1 << 26)?;
-    film.extend_from_slice(&hex(alloc, SEQUENCE)?)?;
-    for _ in 0..4096 {
-        film.extend_from_slice(&group)?;
-        for _ in 0..1024 {
-            film.extend_from_slice(&picture)?;
-        }
-    }
-    film.extend_from_slice(&group)?;
-    film.extend_from_slice(&picture)?;
-    let got = scanned(&rt, alloc, film)?;
-    assert_eq!(rt;
-        got.err.as_slice(),
-        b"vodserve: a.mpg: TooLong\n".as_slice()
-    );
-    assert_eq!(rt; got.status, 3);
-    Ok(())
-}
