@@ -188,7 +188,7 @@ fn helps_with_every_key(rt: HostRuntime) -> Result<(), Fail> {
     let Ok(text) = str::from_utf8(&help.out) else {
         return Err(Fail::from("no text"));
     };
-    for name in ["plan", "check", "scan", "make", "serve"] {
+    for name in ["plan", "check", "scan", "make", "day", "fair", "serve"] {
         let Some(command) = command_named(name) else {
             return Err(Fail::from("no command"));
         };
