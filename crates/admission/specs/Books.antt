@@ -18,14 +18,17 @@ pub record Journal : Type 0 where
 abbrev pub places_taken : List Entry → ℕ
 places_taken entries = length entries + live entries
 
--- an entry was made: the machine's answer in the state after the entries before it, at the next place, and nothing else was changed
-pub record IsNoted (old : Journal) (maker : ℕ) (command : Command) (noted : Noted) (new : Journal) : Type 0 where
+-- an entry was made: the machine's answer in the state after the entries before it, at the next
+-- place, and nothing else was changed
+pub record IsNoted (old : Journal) (maker : ℕ) (command : Command) (noted : Noted) (new : Journal)
+    : Type 0 where
   pub place_is : noted.place ≡ length old.entries
   pub answer_is : IsAnswer old.steps (state_after old.entries) command noted.answer
   pub journal_is : new ≡ record {
     steps = old.steps;
     limit = old.limit;
-    entries = old.entries ++ record { maker = maker; command = command; answer = noted.answer } ∷ [];
+    entries = old.entries
+        ++ record { maker = maker; command = command; answer = noted.answer } ∷ [];
   }
   pub legal : IsLegal new.steps new.entries
 

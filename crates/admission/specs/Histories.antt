@@ -15,7 +15,8 @@ use Rattle.admission.specs.Machine.{State, beginning, booked_in, open_plays, IsA
 -- the state after entries that follow a state, the first of them at `place`
 abbrev pub state_from : State → ℕ → List Entry → State
 state_from state place [] = state
-state_from state place (e ∷ rest) = state_from (next_state state place e.command e.answer) (place + 1) rest
+state_from state place (e ∷ rest) =
+    state_from (next_state state place e.command e.answer) (place + 1) rest
 
 -- the state after the entries of a history
 abbrev pub state_after : List Entry → State
@@ -33,9 +34,11 @@ live entries = open_plays (state_after entries)
 abbrev pub IsAnswered : List CapStep → State → Entry → Type 0
 IsAnswered steps state e = IsAnswer steps state e.command e.answer
 
--- a legal history: each entry is answered as the machine answers in the state after the entries before it
+-- a legal history: each entry is answered as the machine answers in the state after the entries
+-- before it
 pub record IsLegal (steps : List CapStep) (entries : List Entry) : Type 0 where
-  pub each : (i : ℕ) (none : Entry) → i < length entries → IsAnswered steps (state_after (take i entries)) (slice_index_or entries i none)
+  pub each : (i : ℕ) (none : Entry) → i < length entries →
+      IsAnswered steps (state_after (take i entries)) (slice_index_or entries i none)
 
 -- the play that a command with its answer admits
 abbrev pub play_admitted : Command → Answer → Option Booked
@@ -43,10 +46,12 @@ play_admitted (Play slot segments) (Admitted start) = Some (whole_play start seg
 play_admitted _ _ = None
 
 -- the entry at place `number` admitted a play of this plan, which begins at slot `start`
-pub record IsAdmission (entries : List Entry) (number start : ℕ) (segments : List Segment) : Type 0 where
+pub record IsAdmission (entries : List Entry) (number start : ℕ) (segments : List Segment)
+    : Type 0 where
   pub inside : number < length entries
   pub admitted : (none : Entry) →
-      play_admitted (slice_index_or entries number none).command (slice_index_or entries number none).answer ≡ Some (whole_play start segments)
+      play_admitted (slice_index_or entries number none).command
+      (slice_index_or entries number none).answer ≡ Some (whole_play start segments)
 
 -- a command halts this play
 abbrev pub Halts : ℕ → Command → Type 0
@@ -55,7 +60,8 @@ Halts number _ = ⊥
 
 -- no entry halts this play
 pub record IsUnhalted (entries : List Entry) (number : ℕ) : Type 0 where
-  pub each : (i : ℕ) (none : Entry) → i < length entries → ¬ Halts number (slice_index_or entries i none).command
+  pub each : (i : ℕ) (none : Entry) → i < length entries →
+      ¬ Halts number (slice_index_or entries i none).command
 
 -- the entry at place i halts this play, which keeps its first `keep` bytes
 pub record IsHalt (entries : List Entry) (i number keep : ℕ) : Type 0 where

@@ -4,7 +4,12 @@ use Rattle.admission.specs.Kept.{IsKept}
 use Rattle.admission.specs.declared.book.Book.TheInside.{Inside}
 
 abbrev pub journal_of : Inside → Journal
-journal_of book = record { steps = book.calendar.steps; limit = book.limit; entries = book.entries.items }
+journal_of book = record {
+  steps = book.calendar.steps;
+  limit = book.limit;
+  entries = book.entries.items;
+}
 
 abbrev pub IsBook : Inside → Type 0
-IsBook book = IsKept book.calendar book.entries.items book.limit book.live (vec_capacity book.entries)
+IsBook book = IsKept book.calendar book.entries.items book.limit book.live
+    (vec_capacity book.entries)

@@ -1,4 +1,5 @@
--- How a book is kept: the journal with a calendar that has booked what its plays book, and the number of open plays.
+-- How a book is kept: the journal with a calendar that has booked what its plays book, and the
+-- number of open plays.
 use Rattle.std.specs.Prelude.{ℕ, ◌≡◌, ◌≤◌, List}
 use Rattle.slot_calendar.specs.Calendars.{Entries as Calendar, StandsFor}
 use Rattle.admission.specs.declared.entries.Entry.{Entry}

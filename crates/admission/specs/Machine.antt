@@ -1,4 +1,5 @@
--- The machine that admits plays on a link. Its answers are said as a relation, and each answer gives the next state.
+-- The machine that admits plays on a link. Its answers are said as a relation, and each answer
+-- gives the next state.
 use Rattle.std.specs.Prelude.{ℕ, ◌≡◌, ◌+◌, ◌≤◌, ◌==◌, max, Bool, true, false, IsTrue, IsSomeAnd, List, [], ◌∷◌, ◌++◌, map, count_by, Option, find, if◌then◌else◌}
 use Rattle.plan_cert.specs.declared.Segment.{Segment}
 use Rattle.plan_cert.specs.Slots.{total_bytes}
@@ -11,7 +12,8 @@ use Rattle.admission.specs.declared.entries.Command.TheVariants.{Play, Halt, Loo
 use Rattle.admission.specs.declared.entries.Answer.{Answer}
 use Rattle.admission.specs.declared.entries.Answer.TheVariants.{Admitted, Overflow, Halted, Looked}
 
--- a play that was admitted: its number, what it books, and whether it is open, as it is until it is halted
+-- a play that was admitted: its number, what it books, and whether it is open, as it is until it is
+-- halted
 pub record Held : Type 0 where
   pub number : ℕ
   pub play : Booked
@@ -43,11 +45,13 @@ pub record IsWithin (steps : List CapStep) (state : State) : Type 0 where
 
 -- a play as it is admitted: open, with all its bytes
 abbrev pub admitted_play : ℕ → ℕ → List Segment → Held
-admitted_play number start segments = record { number = number; play = whole_play start segments; is_open = true }
+admitted_play number start segments =
+    record { number = number; play = whole_play start segments; is_open = true }
 
 -- a play once it is halted: closed, with its first `keep` bytes
 abbrev pub halted_play : ℕ → Held → Held
-halted_play keep h = record { number = h.number; play = cut_play h.play.start h.play.segments keep; is_open = false }
+halted_play keep h =
+    record { number = h.number; play = cut_play h.play.start h.play.segments keep; is_open = false }
 
 -- the play of a number
 abbrev pub held_as : ℕ → List Held → Option Held
@@ -56,23 +60,26 @@ held_as number held = find (λ (h : Held). h.number == number) held
 -- the plays, with that of a number halted
 abbrev pub with_halted : ℕ → ℕ → List Held → List Held
 with_halted number keep [] = []
-with_halted number keep (h ∷ rest) = if h.number == number then (halted_play keep h ∷ rest) else (h ∷ with_halted number keep rest)
+with_halted number keep (h ∷ rest) = if h.number == number
+    then (halted_play keep h ∷ rest) else (h ∷ with_halted number keep rest)
 
 -- the play of this number is open, and `keep` bytes are at most those of its plan
 abbrev pub CanHalt : State → ℕ → ℕ → Type 0
 CanHalt state number keep =
-    IsSomeAnd (held_as number state.held) (λ (h : Held). IsTrue h.is_open × (keep ≤ total_bytes h.play.segments))
+    IsSomeAnd (held_as number state.held) (λ (h : Held). IsTrue h.is_open
+    × (keep ≤ total_bytes h.play.segments))
 
 -- where a play begins that is asked for in a slot: in the slot after that one and after now
 abbrev pub start_after : State → ℕ → ℕ
 start_after state slot = max state.now slot + 1
 
--- What is answered to a command in a state. A play is admitted exactly where its plan fits into every slot beside the plays
--- of the state; else the first slot without room is named, with the bytes booked and asked there. A look tells what is booked
--- in a slot that isn't past.
+-- What is answered to a command in a state. A play is admitted exactly where its plan fits into
+-- every slot beside the plays of the state; else the first slot without room is named, with the
+-- bytes booked and asked there. A look tells what is booked in a slot that isn't past.
 abbrev pub IsAnswer : List CapStep → State → Command → Answer → Type 0
 IsAnswer steps state (Play slot segments) (Admitted start) =
-    (start ≡ start_after state slot) × HasRoom 0 (booked_in state) (capacity_at steps) start segments
+    (start ≡ start_after state slot)
+    × HasRoom 0 (booked_in state) (capacity_at steps) start segments
 IsAnswer steps state (Play slot segments) (Overflow over booked asked) =
     IsFirstOverflow 0 (booked_in state) (capacity_at steps) (start_after state slot) segments
     (record { slot = over; booked = booked; asked = asked })
@@ -81,11 +88,15 @@ IsAnswer steps state (Look slot) (Looked now at booked) =
     (now ≡ state.now) × (at ≡ max state.now slot) × (booked ≡ booked_in state at)
 IsAnswer steps state _ _ = ⊥
 
--- The state after the entry at `place`. Whether a play is admitted or not, now comes up to the slot in which it was asked for;
--- an admitted play has the entry's place as its number. A look changes nothing.
+-- The state after the entry at `place`. Whether a play is admitted or not, now comes up to the slot
+-- in which it was asked for; an admitted play has the entry's place as its number. A look changes
+-- nothing.
 abbrev pub next_state : State → ℕ → Command → Answer → State
 next_state state place (Play slot segments) (Admitted start) =
-    record { now = max state.now slot; held = state.held ++ admitted_play place start segments ∷ [] }
+    record {
+      now = max state.now slot;
+      held = state.held ++ admitted_play place start segments ∷ [];
+    }
 next_state state place (Play slot segments) (Overflow over booked asked) =
     record { now = max state.now slot; held = state.held }
 next_state state place (Halt number keep) Halted =
@@ -93,6 +104,7 @@ next_state state place (Halt number keep) Halted =
 next_state state place _ _ = state
 
 -- a step of the machine: a command at a place takes one state to the next with this answer
-pub record IsStep (steps : List CapStep) (state : State) (place : ℕ) (command : Command) (answer : Answer) (next : State) : Type 0 where
+pub record IsStep (steps : List CapStep) (state : State) (place : ℕ) (command : Command)
+    (answer : Answer) (next : State) : Type 0 where
   pub answer_is : IsAnswer steps state command answer
   pub next_is : next ≡ next_state state place command answer

@@ -15,7 +15,8 @@ pub record Placed : Type 0 where
 abbrev pub made_from : ℕ → ℕ → List Entry → List Placed
 made_from place maker [] = []
 made_from place maker (e ∷ rest) =
-    if e.maker == maker then (record { place = place; entry = e } ∷ made_from (place + 1) maker rest)
+    if e.maker == maker
+    then (record { place = place; entry = e } ∷ made_from (place + 1) maker rest)
     else made_from (place + 1) maker rest
 
 -- the entries of a maker in a history, with their places
@@ -30,9 +31,11 @@ pub record AreHaltsOwn (entries : List Entry) : Type 0 where
 -- this entry admitted a play of this number and plan, which begins at slot `start`
 pub record Admits (placed : Placed) (number start : ℕ) (segments : List Segment) : Type 0 where
   pub place_is : placed.place ≡ number
-  pub admitted : play_admitted placed.entry.command placed.entry.answer ≡ Some (whole_play start segments)
+  pub admitted : play_admitted placed.entry.command placed.entry.answer ≡
+      Some (whole_play start segments)
 
--- one of a maker's entries admitted this play, and none of them halts it; `keep` bytes are at most those of its plan
+-- one of a maker's entries admitted this play, and none of them halts it; `keep` bytes are at most
+-- those of its plan
 pub record IsOpenAmong (mine : List Placed) (number keep : ℕ) : Type 0 where
   pub start : ℕ
   pub segments : List Segment

@@ -12,8 +12,9 @@ use std::alloc::Global;
 use std::marker::Model;
 use vod_base::NoMemory;
 
-/// The book of a shared link: it admits plays, halts them and tells what is booked, and notes each of these with its
-/// answer in a journal. It keeps a free place in the journal for the halt of each open play.
+/// The book of a shared link: it admits plays, halts them and tells what is booked, and notes each
+/// of these with its answer in a journal. It keeps a free place in the journal for the halt of each
+/// open play.
 ///
 /// Contracts see the steps of the capacity, the most entries, and the list of the entries.
 #[derive(Debug, Drop)]
@@ -45,8 +46,8 @@ pub const LATEST_SLOT: u64 = 1 << 62;
 impl Book {
     ghost use Rattle.admission.specs.Books.{IsFull, IsNoted, places_taken};
 
-    /// An empty book of a link of this capacity, whose journal has room for `limit` entries, 2 to [`MAX_ENTRIES`]. No
-    /// other call takes memory.
+    /// An empty book of a link of this capacity, whose journal has room for `limit` entries, 2 to
+    /// [`MAX_ENTRIES`]. No other call takes memory.
     ///
     /// # Errors
     ///
@@ -81,14 +82,15 @@ impl Book {
         }
     }
 
-    /// A play of this plan, asked for in a slot: it is admitted from the slot after that one and after now on, if its
-    /// plan fits into every slot, and else answered the first slot without room. Both make an entry, and now comes up to
-    /// the slot. A slot above [`LATEST_SLOT`] is taken as that one.
+    /// A play of this plan, asked for in a slot: it is admitted from the slot after that one and
+    /// after now on, if its plan fits into every slot, and else answered the first slot without
+    /// room. Both make an entry, and now comes up to the slot. A slot above [`LATEST_SLOT`] is
+    /// taken as that one.
     ///
     /// # Errors
     ///
-    /// [`PlayFull`] exactly where the entries, the open plays and 2, for the play's entry and its halt's, are more than the
-    /// limit. It hands the plan back and leaves the book as it was.
+    /// [`PlayFull`] exactly where the entries, the open plays and 2, for the play's entry and its
+    /// halt's, are more than the limit. It hands the plan back and leaves the book as it was.
     pub fn play(&mut self, maker: u32, slot: u64, plan: Plan) -> Result<Noted, PlayFull>
         ensures noted { IfOk result (λ noted.
             IsNoted self.old maker (Command.Play (min slot (2 ^ 62)) plan) noted self.new) }
@@ -116,8 +118,9 @@ impl Book {
         ))
     }
 
-    /// Halts the open play of this number, the place of its entry. It keeps the first `keep` bytes of its plan; what is
-    /// after them is free again in the slots from now on. The entry always finds its place.
+    /// Halts the open play of this number, the place of its entry. It keeps the first `keep` bytes
+    /// of its plan; what is after them is free again in the slots from now on. The entry always
+    /// finds its place.
     pub fn halt(&mut self, maker: u32, number: u64, keep: u64) -> Noted
         requires { CanHalt (state_after self.old.entries) number keep }
         ensures noted { IsNoted self.old maker (Command.Halt number keep) result self.new }
@@ -133,12 +136,13 @@ impl Book {
         )
     }
 
-    /// Tells what is booked in a slot, or in now where that is later. It leaves now. A slot above [`LATEST_SLOT`] is
-    /// taken as that one.
+    /// Tells what is booked in a slot, or in now where that is later. It leaves now. A slot above
+    /// [`LATEST_SLOT`] is taken as that one.
     ///
     /// # Errors
     ///
-    /// [`Full`] exactly where the entries, the open plays and 1 are more than the limit. It leaves the book as it was.
+    /// [`Full`] exactly where the entries, the open plays and 1 are more than the limit. It leaves
+    /// the book as it was.
     pub fn look(&mut self, maker: u32, slot: u64) -> Result<Noted, Full>
         ensures noted { IfOk result (λ noted.
             IsNoted self.old maker (Command.Look (min slot (2 ^ 62))) noted self.new) }

@@ -67,8 +67,8 @@ pub struct Entry {
     pub answer: Answer,
 }
 
-/// The journal has no room for an entry besides those that the open plays will need for their halts. Nothing was
-/// changed.
+/// The journal has no room for an entry besides those that the open plays will need for their
+/// halts. Nothing was changed.
 #[derive(Clone, Copy, Debug, PartialEq, Eq)]
 pub struct Full {
     /// How many entries the journal has.

@@ -20,7 +20,8 @@ pub(crate) fn admit(calendar: &mut Calendar, slot: u64, plan: &Plan) -> Answer
     let now = calendar.now().max(slot);
     calendar.advance(now);
     let start = now + 1;
-    // its segments tell that a plan has at most 1,000,000 slots, so it ends within the calendar's ring
+    // its segments tell that a plan has at most 1,000,000 slots, so it ends within the calendar's
+    // ring
     let _plan = plan.segments();
     match calendar.first_overflow(start, plan) {
         Some(over) => Answer::Overflow {
@@ -45,8 +46,8 @@ pub(crate) fn opened_by(answer: Answer) -> u64
     }
 }
 
-/// Gives back what an open play has after its first `keep` bytes in the slots from now on. Its plan stands in the
-/// entry that admitted it.
+/// Gives back what an open play has after its first `keep` bytes in the slots from now on. Its plan
+/// stands in the entry that admitted it.
 pub(crate) fn give_back(calendar: &mut Calendar, entries: &[Entry], number: u64, keep: u64)
     requires few { length entries.now ≤ 1048576 }
     requires legal { IsLegal calendar.old.steps entries.now }

@@ -16,7 +16,8 @@ pub fn law_prefix()
         IsLegal steps (take n entries) }
 {}
 
-/// The link is never overbooked: after each front of a legal history, no slot is booked above its capacity.
+/// The link is never overbooked: after each front of a legal history, no slot is booked above its
+/// capacity.
 pub fn law_never_overbooked()
     ensures { (steps : List CapStep) (entries : List Entry) (n t : ℕ) → IsLegal steps entries →
         booked_after (take n entries) t ≤ capacity_at steps t }
@@ -31,9 +32,9 @@ pub fn law_open()
         IsStillOpen entries number keep }
 {}
 
-/// The plays of the state after a legal history, told by its entries: a play's number is the place of the entry that
-/// admitted it; the play is open with all its bytes until an entry halts it, and closed with the bytes that it keeps
-/// from then on. A halt stands after its play's entry.
+/// The plays of the state after a legal history, told by its entries: a play's number is the place
+/// of the entry that admitted it; the play is open with all its bytes until an entry halts it, and
+/// closed with the bytes that it keeps from then on. A halt stands after its play's entry.
 pub fn law_plays()
     ensures admitted { (steps : List CapStep) (entries : List Entry) (number : ℕ) (h : Held) →
         IsLegal steps entries → held_as number (state_after entries).held ≡ Some h →
@@ -70,8 +71,8 @@ pub fn law_one_history()
         map (λ (e : Entry). e.command) one ≡ map (λ (e : Entry). e.command) other → one ≡ other }
 {}
 
-/// After a legal history as many plays are open as were admitted and not halted, and now is the latest slot in which
-/// a play was asked for, or 0.
+/// After a legal history as many plays are open as were admitted and not halted, and now is the
+/// latest slot in which a play was asked for, or 0.
 pub fn law_counts()
     ensures live { (steps : List CapStep) (entries : List Entry) → IsLegal steps entries →
         live entries + count_by (λ (e : Entry). is_halt e.command) entries
@@ -80,8 +81,8 @@ pub fn law_counts()
         (state_after entries).now ≡ latest_asked entries }
 {}
 
-/// A play that is open among its maker's own entries can be halted, in a legal history in which each play is halted by
-/// its own maker.
+/// A play that is open among its maker's own entries can be halted, in a legal history in which
+/// each play is halted by its own maker.
 pub fn law_own_play()
     ensures { (steps : List CapStep) (entries : List Entry) (maker number keep : ℕ) →
         IsLegal steps entries → AreHaltsOwn entries →

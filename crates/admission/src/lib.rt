@@ -1,5 +1,5 @@
-//! The book that admits plays on a shared link: a journal of entries, each with the answer that the admission machine
-//! gives in the state after the entries before it.
+//! The book that admits plays on a shared link: a journal of entries, each with the answer that the
+//! admission machine gives in the state after the entries before it.
 #![tactic(auto)]
 
 mod book;

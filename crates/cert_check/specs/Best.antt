@@ -1,4 +1,5 @@
--- What is best about a plan's segments, over the plan's slots and every other list that the same curves allow.
+-- What is best about a plan's segments, over the plan's slots and every other list that the same
+-- curves allow.
 use Rattle.std.specs.Prelude.{ℕ, ◌*◌, ◌≤◌, ◌≡◌, List, All}
 use Rattle.plan_cert.specs.declared.Segment.{Segment}
 use Rattle.plan_cert.specs.Slots.{plan_slots}

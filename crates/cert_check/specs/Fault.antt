@@ -1,5 +1,5 @@
--- What can be wrong with a list of segments that claims to be taut between two curves. The curves begin at `from` and have
--- one number for the end of each slot.
+-- What can be wrong with a list of segments that claims to be taut between two curves. The curves
+-- begin at `from` and have one number for the end of each slot.
 use Rattle.std.specs.Prelude.{ℕ, ◌+◌, ◌-◌, ◌*◌, ◌<◌, ◌≡◌, ◌≢◌, List, length, slice_index}
 use Rattle.slope_frac.specs.Order.{IsBelow, IsLevel}
 use Rattle.plan_cert.specs.declared.Segment.{Segment}
@@ -24,17 +24,20 @@ IsWrongTotal from up segments = from + total_bytes segments ≢ slice_index up (
 -- the exact line at the end of slot t is below the lower curve
 abbrev pub IsBelowLow : ℕ → List ℕ → List Segment → ℕ → Type 0
 IsBelowLow from low segments t =
-    (t < length low) × (line_top from segments (t + 1) < slice_index low t * line_under segments (t + 1))
+    (t < length low) × (line_top from segments (t + 1) <
+    slice_index low t * line_under segments (t + 1))
 
 -- the exact line at the end of slot t is above the upper curve
 abbrev pub IsAboveUp : ℕ → List ℕ → List Segment → ℕ → Type 0
 IsAboveUp from up segments t =
-    (t < length up) × (slice_index up t * line_under segments (t + 1) < line_top from segments (t + 1))
+    (t < length up) × (slice_index up t * line_under segments (t + 1) <
+    line_top from segments (t + 1))
 
 -- segments i and i + 1 have equal slopes
 abbrev pub IsEqualAt : List Segment → ℕ → Type 0
 IsEqualAt segments i =
-    (i + 1 < length segments) × IsLevel (slope_of (segment_at segments i)) (slope_of (segment_at segments (i + 1)))
+    (i + 1 < length segments)
+    × IsLevel (slope_of (segment_at segments i)) (slope_of (segment_at segments (i + 1)))
 
 -- the slope rises after segment i, and the line there isn't on the upper curve
 abbrev pub IsRiseOffUpper : ℕ → List ℕ → List Segment → ℕ → Type 0
@@ -72,7 +75,8 @@ IsThere from low up segments (EqualSlopes i) = IsEqualAt segments i
 IsThere from low up segments (RiseOffUpper i) = IsRiseOffUpper from up segments i
 IsThere from low up segments (FallOffLower i) = IsFallOffLower from low segments i
 
--- the place of a fault's kind in the order in which faults are named, and the fault's number within its kind
+-- the place of a fault's kind in the order in which faults are named, and the fault's number within
+-- its kind
 abbrev pub kind_of : CertFault → ℕ
 kind_of (EmptySegment i) = 0
 kind_of WrongLength = 1
@@ -93,8 +97,12 @@ number_of (EqualSlopes i) = i
 number_of (RiseOffUpper i) = i
 number_of (FallOffLower i) = i
 
--- The first fault: it is there, no fault of an earlier kind is, and none of its own kind with a lesser number.
-pub record IsFirstFault (from : ℕ) (low up : List ℕ) (segments : List Segment) (fault : CertFault) : Type 0 where
+-- The first fault: it is there, no fault of an earlier kind is, and none of its own kind with a
+-- lesser number.
+pub record IsFirstFault (from : ℕ) (low up : List ℕ) (segments : List Segment) (fault : CertFault)
+    : Type 0 where
   pub there : IsThere from low up segments fault
-  pub no_earlier_kind : (other : CertFault) → kind_of other < kind_of fault → ¬ IsThere from low up segments other
-  pub no_lesser_number : (other : CertFault) → kind_of other ≡ kind_of fault → number_of other < number_of fault → ¬ IsThere from low up segments other
+  pub no_earlier_kind : (other : CertFault) → kind_of other < kind_of fault →
+      ¬ IsThere from low up segments other
+  pub no_lesser_number : (other : CertFault) → kind_of other ≡ kind_of fault →
+      number_of other < number_of fault → ¬ IsThere from low up segments other

@@ -1,4 +1,5 @@
--- The exact line of a list of segments, over places: place k is the end of slot k - 1, and place 0 is the start.
+-- The exact line of a list of segments, over places: place k is the end of slot k - 1, and place 0
+-- is the start.
 use Rattle.std.specs.Prelude.{ℕ, ◌+◌, ◌-◌, ◌*◌, List, [], ◌∷◌, take, nat_le, slice_index_or, if◌then◌else◌}
 use Rattle.slope_frac.specs.declared.Slope.{Slope}
 use Rattle.plan_cert.specs.declared.Segment.{Segment}
@@ -11,10 +12,12 @@ slope_of s = record { bytes = s.bytes; slots = s.slots }
 abbrev pub segment_at : List Segment → ℕ → Segment
 segment_at segments i = slice_index_or segments i (record { slots = 0; bytes = 0 })
 
--- The exact height of the line at place k is the fraction line_top / line_under; it begins at height v.
+-- The exact height of the line at place k is the fraction line_top / line_under; it begins at
+-- height v.
 abbrev pub line_top : ℕ → List Segment → ℕ → ℕ
 line_top v [] k = v
-line_top v (s ∷ rest) k = if nat_le k s.slots then v * s.slots + k * s.bytes else line_top (v + s.bytes) rest (k - s.slots)
+line_top v (s ∷ rest) k = if nat_le k s.slots
+    then v * s.slots + k * s.bytes else line_top (v + s.bytes) rest (k - s.slots)
 
 abbrev pub line_under : List Segment → ℕ → ℕ
 line_under [] k = 1

@@ -1,5 +1,5 @@
--- Taut, segment by segment: the same notion as `Fault.IsTaut`, as a recursion over the segments from a place and a height.
--- The curves are functions of the place here, `lo` and `hi`.
+-- Taut, segment by segment: the same notion as `Fault.IsTaut`, as a recursion over the segments
+-- from a place and a height. The curves are functions of the place here, `lo` and `hi`.
 use Rattle.std.specs.Prelude.{ℕ, ◌+◌, ◌*◌, ◌≤◌, ◌≡◌, ◌⊎◌, List, [], ◌∷◌}
 use Rattle.slope_frac.specs.Order.{IsBelow}
 use Rattle.plan_cert.specs.declared.Segment.{Segment}
@@ -11,11 +11,13 @@ pub record StaysBetween (lo hi : ℕ → ℕ) (k v : ℕ) (s : Segment) : Type 0
   pub above : (j : ℕ) → j ≤ s.slots → lo (k + j) * s.slots ≤ v * s.slots + j * s.bytes
   pub below : (j : ℕ) → j ≤ s.slots → v * s.slots + j * s.bytes ≤ hi (k + j) * s.slots
 
--- at place k and height v, after segment s, the line rises on the upper curve or falls on the lower one, or ends
+-- at place k and height v, after segment s, the line rises on the upper curve or falls on the lower
+-- one, or ends
 abbrev pub Bends : (lo hi : ℕ → ℕ) → ℕ → ℕ → Segment → List Segment → Type 0
 Bends lo hi k v s [] = Unit {0}
 Bends lo hi k v s (next ∷ rest) =
-    (IsBelow (slope_of s) (slope_of next) × (v ≡ hi k)) ⊎ (IsBelow (slope_of next) (slope_of s) × (v ≡ lo k))
+    (IsBelow (slope_of s) (slope_of next) × (v ≡ hi k))
+    ⊎ (IsBelow (slope_of next) (slope_of s) × (v ≡ lo k))
 
 -- the segments run taut from place k and height v
 abbrev pub RunsTaut : (lo hi : ℕ → ℕ) → ℕ → ℕ → List Segment → Type 0

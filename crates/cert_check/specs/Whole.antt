@@ -1,4 +1,5 @@
--- What the later steps of the checker rely on: no segment is empty, and the sums are right and small.
+-- What the later steps of the checker rely on: no segment is empty, and the sums are right and
+-- small.
 use Rattle.std.specs.Prelude.{ℕ, ◌≡◌, ◌+◌, ◌-◌, ◌^◌, ◌<◌, ◌≤◌, List, length, take, slice_index, nat_eq, if◌then◌else◌}
 use Rattle.plan_cert.specs.declared.Segment.{Segment}
 use Rattle.plan_cert.specs.Slots.{total_slots, total_bytes}
@@ -29,14 +30,20 @@ pub record StandsAt (from : ℕ) (segments : List Segment) (t : ℕ) (walk : Wal
 abbrev pub next_walk : List Segment → Walk → Walk
 next_walk segments walk =
     if nat_eq walk.passed (segment_at segments walk.index).slots
-    then record { index = walk.index + 1; passed = 1; height = walk.height + (segment_at segments walk.index).bytes }
+    then record {
+      index = walk.index + 1;
+      passed = 1;
+      height = walk.height + (segment_at segments walk.index).bytes;
+    }
     else record { index = walk.index; passed = walk.passed + 1; height = walk.height }
 
 -- where the exact line first leaves the curves: below the lower one goes first
 abbrev pub Leaves : ℕ → List ℕ → List ℕ → List Segment → Outside → Type 0
 Leaves from low up segments (Below t) = IsFirst (IsBelowLow from low segments) t
-Leaves from low up segments (Above t) = ((j : ℕ) → ¬ IsBelowLow from low segments j) × IsFirst (IsAboveUp from up segments) t
-Leaves from low up segments Nowhere = ((j : ℕ) → ¬ IsBelowLow from low segments j) × ((j : ℕ) → ¬ IsAboveUp from up segments j)
+Leaves from low up segments (Above t) = ((j : ℕ) → ¬ IsBelowLow from low segments j)
+    × IsFirst (IsAboveUp from up segments) t
+Leaves from low up segments Nowhere = ((j : ℕ) → ¬ IsBelowLow from low segments j)
+    × ((j : ℕ) → ¬ IsAboveUp from up segments j)
 
 -- the checker's first five steps found nothing
 pub record StaysWithin (from : ℕ) (low up : List ℕ) (segments : List Segment) : Type 0 where

@@ -35,7 +35,8 @@ fn stays_level(before: Segment, after: Segment) -> bool
 
 /// The first segment that has the slope of the next one.
 pub fn first_equal(segments: &[Segment]) -> Option<u64>
-    ensures { MatchOption result ((i : ℕ) → ¬ IsEqualAt segments.now i) (IsFirst (IsEqualAt segments.now)) }
+    ensures { MatchOption result ((i : ℕ) →
+        ¬ IsEqualAt segments.now i) (IsFirst (IsEqualAt segments.now)) }
 {
     for i in 0..segments.len().saturating_sub(1) {
         if stays_level(segments[i], segments[i + 1]) {
@@ -48,7 +49,8 @@ pub fn first_equal(segments: &[Segment]) -> Option<u64>
 /// The first segment after which the slope rises off the upper curve.
 pub fn first_rise_off(curves: &Curves, segments: &[Segment]) -> Option<u64>
     requires { IsWhole curves.now.from curves.now.low.items curves.now.up.items segments.now }
-    ensures { MatchOption result ((i : ℕ) → ¬ IsRiseOffUpper curves.now.from curves.now.up.items segments.now i)
+    ensures { MatchOption result ((i : ℕ) →
+        ¬ IsRiseOffUpper curves.now.from curves.now.up.items segments.now i)
         (IsFirst (IsRiseOffUpper curves.now.from curves.now.up.items segments.now)) }
 {
     let up = curves.up.as_slice();
@@ -68,7 +70,8 @@ pub fn first_rise_off(curves: &Curves, segments: &[Segment]) -> Option<u64>
 /// The first segment after which the slope falls off the lower curve.
 pub fn first_fall_off(curves: &Curves, segments: &[Segment]) -> Option<u64>
     requires { IsWhole curves.now.from curves.now.low.items curves.now.up.items segments.now }
-    ensures { MatchOption result ((i : ℕ) → ¬ IsFallOffLower curves.now.from curves.now.low.items segments.now i)
+    ensures { MatchOption result ((i : ℕ) →
+        ¬ IsFallOffLower curves.now.from curves.now.low.items segments.now i)
         (IsFirst (IsFallOffLower curves.now.from curves.now.low.items segments.now)) }
 {
     let low = curves.low.as_slice();

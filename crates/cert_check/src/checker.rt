@@ -11,14 +11,16 @@ use crate::walk::{Outside, first_outside};
 use plan_cert::Segment;
 use wire_curve::Curves;
 
-/// Whether the segments are the taut line between the curves, or else the first fault. A list that passes is best, as
-/// [`law_best`] says. It takes no memory, and makes one pass over the slots and a few over the segments.
+/// Whether the segments are the taut line between the curves, or else the first fault. A list that
+/// passes is best, as [`law_best`] says. It takes no memory, and makes one pass over the slots and
+/// a few over the segments.
 pub fn check(curves: &Curves, segments: &[Segment]) -> Result<(), CertFault>
     requires { IsSound curves.now.from curves.now.low.items curves.now.up.items }
     ensures verdict { MatchResult result
         (λ _. IsTaut curves.now.from curves.now.low.items curves.now.up.items segments.now)
         (λ fault. IsFirstFault curves.now.from curves.now.low.items curves.now.up.items segments.now fault) }
-    ensures best { OnOk result (IsBestPlan curves.now.from curves.now.low.items curves.now.up.items segments.now) }
+    ensures best { OnOk result
+        (IsBestPlan curves.now.from curves.now.low.items curves.now.up.items segments.now) }
 {
     find_fault(curves, segments)
 }
@@ -47,7 +49,8 @@ fn find_fault(curves: &Curves, segments: &[Segment]) -> Result<(), CertFault>
     check_bends(curves, segments)
 }
 
-/// The three faults of the places where the slope changes, for a line that stays between the curves.
+/// The three faults of the places where the slope changes, for a line that stays between the
+/// curves.
 fn check_bends(curves: &Curves, segments: &[Segment]) -> Result<(), CertFault>
     requires { StaysWithin curves.now.from curves.now.low.items curves.now.up.items segments.now }
     ensures { MatchResult result
@@ -66,8 +69,9 @@ fn check_bends(curves: &Curves, segments: &[Segment]) -> Result<(), CertFault>
     Ok(())
 }
 
-/// The law: a list of segments that passes [`check`] is best. Its slots keep the running sum between the curves; no feasible
-/// list of slots sends less above any rate, nor has a smaller greatest slot; and no other list of segments passes.
+/// The law: a list of segments that passes [`check`] is best. Its slots keep the running sum
+/// between the curves; no feasible list of slots sends less above any rate, nor has a smaller
+/// greatest slot; and no other list of segments passes.
 pub fn law_best(curves: &Curves, segments: &[Segment])
     requires sound { IsSound curves.now.from curves.now.low.items curves.now.up.items }
     requires taut { IsTaut curves.now.from curves.now.low.items curves.now.up.items segments.now }

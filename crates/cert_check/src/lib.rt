@@ -1,8 +1,9 @@
-//! The checker of sending plans: whether a list of segments is the taut line between a client's two curves, and the law that
-//! such a list is the best of all.
+//! The checker of sending plans: whether a list of segments is the taut line between a client's two
+//! curves, and the law that such a list is the best of all.
 //!
-//! After Salehi, Zhang, Kurose and Towsley, "Supporting stored video: reducing rate variability and end-to-end resource
-//! requirements through optimal smoothing", IEEE/ACM Transactions on Networking, 1998.
+//! After Salehi, Zhang, Kurose and Towsley, "Supporting stored video: reducing rate variability and
+//! end-to-end resource requirements through optimal smoothing", IEEE/ACM Transactions on
+//! Networking, 1998.
 #![tactic(auto)]
 
 mod bends;
@@ -14,7 +15,8 @@ pub use checker::{check, law_best};
 use std::error::Error;
 use std::fmt;
 
-/// What is wrong with a list of segments. Faults are tried in this order, and within one kind the least number is named.
+/// What is wrong with a list of segments. Faults are tried in this order, and within one kind the
+/// least number is named.
 #[derive(Clone, Copy, Debug, PartialEq, Eq)]
 pub enum CertFault {
     /// This segment, from 0, has no slots.

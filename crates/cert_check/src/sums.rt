@@ -7,7 +7,8 @@ use plan_cert::Segment;
 
 /// The first segment without slots.
 pub fn first_empty(segments: &[Segment]) -> Option<u64>
-    ensures { MatchOption result ((i : ℕ) → ¬ IsEmptyAt segments.now i) (IsFirst (IsEmptyAt segments.now)) }
+    ensures { MatchOption result ((i : ℕ) →
+        ¬ IsEmptyAt segments.now i) (IsFirst (IsEmptyAt segments.now)) }
 {
     for (i, segment) in segments.iter().enumerate() {
         if segment.slots == 0 {

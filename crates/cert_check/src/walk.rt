@@ -27,7 +27,8 @@ struct Walk {
 /// One slot further.
 fn next(walk: Walk, segments: &[Segment]) -> Walk
     requires inside { walk.index < length segments.now }
-    requires more { walk.passed ≡ (segment_at segments.now walk.index).slots → walk.index + 1 < length segments.now }
+    requires more { walk.passed ≡ (segment_at segments.now walk.index).slots →
+        walk.index + 1 < length segments.now }
     requires within { walk.passed ≤ (segment_at segments.now walk.index).slots }
     requires fits { walk.height + (segment_at segments.now walk.index).bytes < 2 ^ 64 }
     ensures { result ≡ next_walk segments.now walk }

@@ -5,8 +5,8 @@ use Rattle.slot_calendar.specs.Calendars.{Entries, HasRoom, IsFirstOverflow, boo
 use Rattle.slot_calendar.specs.Profiles.{capacity_at}
 use Rattle.early_start.specs.declared.Tried.{Tried}
 
--- what was found: how many slots later than the first one a play may start, the start, and the starts at which it
--- doesn't fit
+-- what was found: how many slots later than the first one a play may start, the start, and the
+-- starts at which it doesn't fit
 pub record Found : Type 0 where
   pub wait : ℕ
   pub start : Option ℕ
@@ -18,24 +18,32 @@ CanStart from booked capacity segments start = HasRoom from booked capacity star
 
 -- it doesn't, and this is the first slot without room
 abbrev pub IsRefusal : ℕ → (ℕ → ℕ) → (ℕ → ℕ) → List Segment → Tried → Type 0
-IsRefusal from booked capacity segments t = IsFirstOverflow from booked capacity t.start segments t.over
+IsRefusal from booked capacity segments t =
+    IsFirstOverflow from booked capacity t.start segments t.over
 
 -- these are the starts from `first` on, in order, and the plan fits at none of them
-pub record AreRefusals (from : ℕ) (booked capacity : ℕ → ℕ) (segments : List Segment) (first : ℕ) (tried : List Tried) : Type 0 where
-  pub starts : (i : ℕ) (none : Tried) → i < length tried → (slice_index_or tried i none).start ≡ first + i
-  pub refused : (i : ℕ) (none : Tried) → i < length tried → IsRefusal from booked capacity segments (slice_index_or tried i none)
+pub record AreRefusals (from : ℕ) (booked capacity : ℕ →
+    ℕ) (segments : List Segment) (first : ℕ) (tried : List Tried) : Type 0 where
+  pub starts : (i : ℕ) (none : Tried) → i < length tried →
+      (slice_index_or tried i none).start ≡ first + i
+  pub refused : (i : ℕ) (none : Tried) → i < length tried →
+      IsRefusal from booked capacity segments (slice_index_or tried i none)
 
--- no start is found where all have been tried; else it is the one after those that were tried, and the plan can start there
+-- no start is found where all have been tried; else it is the one after those that were tried, and
+-- the plan can start there
 abbrev pub IsStart : ℕ → (ℕ → ℕ) → (ℕ → ℕ) → List Segment → ℕ → ℕ → ℕ → Option ℕ → Type 0
 IsStart from booked capacity segments first wait tried None = tried ≡ wait + 1
 IsStart from booked capacity segments first wait tried (Some start) =
     (tried ≤ wait) × (start ≡ first + tried) × CanStart from booked capacity segments start
 
--- What is found for a plan that may start from `first` to `first + wait`, where the slots from `from` on have these booked bytes
--- and capacities: the least start where it fits, and for each earlier one the first slot without room.
-pub record IsOffer (from : ℕ) (booked capacity : ℕ → ℕ) (segments : List Segment) (first : ℕ) (found : Found) : Type 0 where
+-- What is found for a plan that may start from `first` to `first + wait`, where the slots from
+-- `from` on have these booked bytes and capacities: the least start where it fits, and for each
+-- earlier one the first slot without room.
+pub record IsOffer (from : ℕ) (booked capacity : ℕ →
+    ℕ) (segments : List Segment) (first : ℕ) (found : Found) : Type 0 where
   pub refusals : AreRefusals from booked capacity segments first found.tried
-  pub start : IsStart from booked capacity segments first found.wait (length found.tried) found.start
+  pub start : IsStart from booked capacity segments first found.wait
+      (length found.tried) found.start
 
 -- what is found in a calendar
 abbrev pub IsOfferIn : Entries → List Segment → ℕ → Found → Type 0
@@ -45,9 +53,11 @@ IsOfferIn calendar segments first found =
 -- the starts from `first` on, in order, at which it doesn't fit into a calendar
 abbrev pub AreRefusalsIn : Entries → List Segment → ℕ → List Tried → Type 0
 AreRefusalsIn calendar segments first tried =
-    AreRefusals calendar.first (booked_at calendar) (capacity_at calendar.steps) segments first tried
+    AreRefusals calendar.first (booked_at calendar)
+    (capacity_at calendar.steps) segments first tried
 
 -- the start that is found in a calendar
 abbrev pub IsStartIn : Entries → List Segment → ℕ → ℕ → ℕ → Option ℕ → Type 0
 IsStartIn calendar segments first wait tried start =
-    IsStart calendar.first (booked_at calendar) (capacity_at calendar.steps) segments first wait tried start
+    IsStart calendar.first (booked_at calendar)
+    (capacity_at calendar.steps) segments first wait tried start

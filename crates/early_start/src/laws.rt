@@ -17,10 +17,11 @@ pub fn law_one_offer()
         IsOffer from booked capacity segments first other → one.tried ≡ other.tried }
 {}
 
-/// What is found in a calendar is found in all slots, past ones too, among the plays that the calendar stands for,
-/// where they book no slot above its capacity.
+/// What is found in a calendar is found in all slots, past ones too, among the plays that the
+/// calendar stands for, where they book no slot above its capacity.
 pub fn law_offer_of_plays()
-    ensures { (calendar : Entries) (plays : List Play) (segments : List Segment) (first : ℕ) (found : Found) →
+    ensures { (calendar : Entries) (plays : List Play) (segments : List Segment) (first : ℕ)
+        (found : Found) →
         StandsFor calendar plays →
         ((t : ℕ) → booked_by plays t ≤ capacity_at calendar.steps t) →
         calendar.first < first → IsOfferIn calendar segments first found →

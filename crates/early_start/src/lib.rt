@@ -1,5 +1,5 @@
-//! The earliest start of a plan on a shared link: from which slot on, within a wait, the plan fits into the link's
-//! calendar, with the first slot without room for each earlier start.
+//! The earliest start of a plan on a shared link: from which slot on, within a wait, the plan fits
+//! into the link's calendar, with the first slot without room for each earlier start.
 #![tactic(auto)]
 
 ghost use Rattle.std.specs.Prelude.{◌≡◌, ◌+◌, ◌^◌, ◌<◌, ◌≤◌, None, [], IfOk, MatchOption, length, vec_len, vec_capacity};
@@ -75,7 +75,8 @@ fn search(
 }
 
 impl Offers {
-    /// Reserves room for all starts up to `wait` slots later than the first; no other call takes memory.
+    /// Reserves room for all starts up to `wait` slots later than the first; no other call takes
+    /// memory.
     ///
     /// # Errors
     ///
@@ -111,8 +112,8 @@ impl Offers {
         self.start
     }
 
-    /// The starts before it, at which the plan doesn't fit, in order; all of them where there is none. At most
-    /// `wait() + 1` starts.
+    /// The starts before it, at which the plan doesn't fit, in order; all of them where there is
+    /// none. At most `wait() + 1` starts.
     pub fn tried(&self) -> &[Tried]
         ensures value { result.now ≡ self.now.tried }
         ensures few { length result.now ≤ self.now.wait + 1 }
@@ -120,8 +121,8 @@ impl Offers {
         self.tried.as_slice()
     }
 
-    /// Finds the least start from `first` to `first + wait` where the plan fits into every slot of the calendar, in
-    /// place of what was found before. It books nothing and takes no memory.
+    /// Finds the least start from `first` to `first + wait` where the plan fits into every slot of
+    /// the calendar, in place of what was found before. It books nothing and takes no memory.
     pub fn find(&mut self, calendar: &Calendar, plan: &Plan, first: u64)
         requires after { calendar.now.first < first }
         requires small { first ≤ 2 ^ 62 + 1 }

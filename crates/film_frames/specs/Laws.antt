@@ -34,20 +34,23 @@ sequence_of frame = (head_at (drop 4 frame)).sequence
 
 -- sequence numbers count on from a first, modulo 2^16
 abbrev pub DoCountOn : ℕ → List (List ℕ) → Type 0
-DoCountOn sequence frames = (k : ℕ) → k < length frames → sequence_of (get_or frames k []) ≡ (sequence + k) % 2 ^ 16
+DoCountOn sequence frames = (k : ℕ) → k < length frames →
+    sequence_of (get_or frames k []) ≡ (sequence + k) % 2 ^ 16
 
 -- a report has 52 bytes; a frame has 21 to 1,400, and its octets are all but 16 of them
 abbrev pub HasPieceSize : Piece → ℕ → Type 0
 HasPieceSize (Report unit) size = size ≡ 52
-HasPieceSize (Frame unit packet) size = (size ≡ octets_of (Frame unit packet) + 16) × ((21 ≤ size) × (size ≤ 1400))
+HasPieceSize (Frame unit packet) size = (size ≡ octets_of (Frame unit packet) + 16)
+    × ((21 ≤ size) × (size ≤ 1400))
 
 -- each of these pieces has its bytes, of a size that it may have
 pub record HaveSizes (pieces : List Piece) (all : List (List ℕ)) : Type 0 where
   pub count : length all ≡ length pieces
-  pub each : (k : ℕ) (piece : Piece) → slice_get pieces k ≡ Some piece → HasPieceSize piece (length (get_or all k []))
+  pub each : (k : ℕ) (piece : Piece) → slice_get pieces k ≡ Some piece →
+      HasPieceSize piece (length (get_or all k []))
 
--- a whole interleaved block, as it is read from a stream: its length is that of its head of four bytes and of what
--- this says follows (RFC 2326 section 10.12)
+-- a whole interleaved block, as it is read from a stream: its length is that of its head of four
+-- bytes and of what this says follows (RFC 2326 section 10.12)
 abbrev pub IsBlock : List ℕ → Type 0
 IsBlock bytes = StartsBlock bytes × (block_length bytes ≡ length bytes)
 
@@ -64,12 +67,12 @@ AreOnChannels run =
     (k : ℕ) (piece : Piece) → slice_get (pieces_in run) k ≡ Some piece
     → slice_index (get_or (run_pieces run) k []) 1 ≡ channel_of run piece
 
--- a report of a unit that begins at a place: what it counts is what the session sent before the run, and the
--- run's frames
--- that have ended at that place
+-- a report of a unit that begins at a place: what it counts is what the session sent before the
+-- run, and the run's frames that have ended at that place
 abbrev pub counted_report : Run → PictureUnit → ℕ → List ℕ
 counted_report run unit at =
-    let report = unit_report run.identity (picture_time run.rate) unit (frames_before run at) (octets_before run at) in
+    let report = unit_report run.identity (picture_time run.rate) unit (frames_before run at)
+    (octets_before run at) in
     interleaved run.identity.control (report_bytes report)
 
 abbrev pub DoReportsCount : Run → Type 0
@@ -79,13 +82,15 @@ DoReportsCount run =
 
 -- the head of a frame as it is read: that of its packet, with a video header of 32 bits
 abbrev pub head_read : Run → PictureUnit → Packet → ℕ → Head
-head_read run unit packet before = record (packet_head run.identity (picture_time run.rate) unit packet before) {
-  video = video_word unit packet % 2 ^ 32;
-}
+head_read run unit packet before =
+    record (packet_head run.identity (picture_time run.rate) unit packet before) {
+      video = video_word unit packet % 2 ^ 32;
+    }
 
 -- the head of each frame reads back whole: its packet's, with the frames of the run before it
 abbrev pub DoHeadsReadBack : Run → Type 0
 DoHeadsReadBack run =
-    (k : ℕ) (unit : PictureUnit) (packet : Packet) → slice_get (pieces_in run) k ≡ Some (Frame unit packet)
+    (k : ℕ) (unit : PictureUnit) (packet : Packet) →
+    slice_get (pieces_in run) k ≡ Some (Frame unit packet)
     → head_of (drop 4 (get_or (run_pieces run) k []))
     ≡ Ok (head_read run unit packet (frames_in (take k (pieces_in run))))

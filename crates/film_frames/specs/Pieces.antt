@@ -14,7 +14,8 @@ unit_reports unit = if unit.starts_group then Report unit ∷ [] else []
 
 -- the pieces of a unit: its report if it starts a group, and then a frame for each of its packets
 abbrev pub unit_pieces : List ℕ → PictureUnit → List Piece
-unit_pieces slice_starts unit = unit_reports unit ++ map (λ p. Frame unit p) (unit_packets slice_starts unit)
+unit_pieces slice_starts unit =
+    unit_reports unit ++ map (λ p. Frame unit p) (unit_packets slice_starts unit)
 
 -- the pieces of units, one unit after another
 abbrev pub pieces_of : List ℕ → List PictureUnit → List Piece
@@ -35,12 +36,14 @@ unit_of (Frame unit packet) = unit
 abbrev pub OfPiece : List Piece → ℕ → (Piece → Type 0) → Type 0
 OfPiece pieces number Fact = (piece : Piece) → slice_get pieces number ≡ Some piece → Fact piece
 
--- where the bytes of a film that a piece carries begin; a report carries none, and stands before its unit
+-- where the bytes of a film that a piece carries begin; a report carries none, and stands before
+-- its unit
 abbrev pub from_of : Piece → ℕ
 from_of (Report unit) = unit.from
 from_of (Frame unit packet) = packet.from
 
--- the bytes of a piece: 52 of a report; 4 of the interleaved head, 16 of the packet's and the payload of a frame
+-- the bytes of a piece: 52 of a report; 4 of the interleaved head, 16 of the packet's and the
+-- payload of a frame
 abbrev pub wire_of : Piece → ℕ
 wire_of (Report unit) = 52
 wire_of (Frame unit packet) = 20 + (packet.to - packet.from)
@@ -50,7 +53,8 @@ abbrev pub count_of : Piece → ℕ
 count_of (Report unit) = 0
 count_of (Frame unit packet) = 1
 
--- the octets that a sender report counts of a frame: its video header and its payload (RFC 3550 section 6.4.1)
+-- the octets that a sender report counts of a frame: its video header and its payload (RFC 3550
+-- section 6.4.1)
 abbrev pub octets_of : Piece → ℕ
 octets_of (Report unit) = 0
 octets_of (Frame unit packet) = 4 + (packet.to - packet.from)
@@ -65,6 +69,7 @@ frames_in pieces = sum_by count_of pieces
 abbrev pub octets_in : List Piece → ℕ
 octets_in pieces = sum_by octets_of pieces
 
--- the bytes of a unit on the wire: those of its frames, and 52 of the report before it if it starts a group
+-- the bytes of a unit on the wire: those of its frames, and 52 of the report before it if it starts
+-- a group
 abbrev pub wire_size : List ℕ → PictureUnit → ℕ
 wire_size slice_starts unit = (if unit.starts_group then 52 else 0) + unit_size slice_starts unit

@@ -1,5 +1,5 @@
--- A run: units of a film, one after another, that are sent under an identity as reports and frames (RFC 2326 section
--- 10.12, RFC 3550, RFC 2250).
+-- A run: units of a film, one after another, that are sent under an identity as reports and frames
+-- (RFC 2326 section 10.12, RFC 3550, RFC 2250).
 use Rattle.std.specs.Prelude.{ℕ, ◌+◌, ◌-◌, ◌/◌, ◌%◌, ◌<◌, ◌≤◌, if◌then◌else◌, nat_le, List, [], ◌∷◌, ◌++◌, length, take, drop}
 use Rattle.mpeg_scan.specs.declared.units.Unit.{Unit as PictureUnit}
 use Rattle.mpeg_scan.specs.declared.films.Film.{Film}
@@ -47,16 +47,19 @@ payload film packet = take (packet.to - packet.from) (drop packet.from film)
 -- the bytes of a piece that has so many frames and octets of its run before it
 abbrev pub piece_bytes : Run → ℕ → ℕ → Piece → List ℕ
 piece_bytes run frames octets (Report unit) =
-    interleaved run.identity.control (report_bytes (unit_report run.identity (picture_time run.rate) unit frames octets))
+    interleaved run.identity.control
+    (report_bytes (unit_report run.identity (picture_time run.rate) unit frames octets))
 piece_bytes run frames octets (Frame unit packet) =
     interleaved run.identity.channel
-    (head_bytes (packet_head run.identity (picture_time run.rate) unit packet frames) ++ payload run.film packet)
+    (head_bytes (packet_head run.identity (picture_time run.rate) unit packet frames)
+    ++ payload run.film packet)
 
 -- the bytes of each piece, where so many frames and octets of the run come before the first
 abbrev pub blocks_from : Run → ℕ → ℕ → List Piece → List (List ℕ)
 blocks_from run frames octets [] = []
 blocks_from run frames octets (piece ∷ pieces) =
-    piece_bytes run frames octets piece ∷ blocks_from run (frames + count_of piece) (octets + octets_of piece) pieces
+    piece_bytes run frames octets piece ∷ blocks_from run (frames + count_of piece) (octets
+    + octets_of piece) pieces
 
 -- the bytes of each report and each frame of a run, in order
 abbrev pub run_pieces : Run → List (List ℕ)
@@ -65,7 +68,8 @@ run_pieces run = blocks_from run 0 0 (pieces_in run)
 -- how many pieces end at or before a place, which counts from where the first begins
 abbrev pub count_ended : ℕ → List (List ℕ) → ℕ
 count_ended at [] = 0
-count_ended at (piece ∷ pieces) = if nat_le (length piece) at then count_ended (at - length piece) pieces + 1 else 0
+count_ended at (piece ∷ pieces) = if nat_le (length piece) at
+    then count_ended (at - length piece) pieces + 1 else 0
 
 -- the reports and frames of a run that end at or before a place
 abbrev pub sent_by : Run → ℕ → List Piece

@@ -16,7 +16,8 @@ row_piece row unit from size =
     if row.report then Report unit
     else Frame unit (packet unit from (from + (size - 20)) row.begin row.end)
 
--- a frame's packet has 1 to 1,380 bytes of the film, and its flags are those of its place in the unit
+-- a frame's packet has 1 to 1,380 bytes of the film, and its flags are those of its place in the
+-- unit
 pub record IsCut (film : List ℕ) (unit : PictureUnit) (its : Packet) : Type 0 where
   pub some : its.from < its.to
   pub short : its.to ≤ its.from + 1380
@@ -44,7 +45,8 @@ with_report number (Report unit) numbers = numbers ++ number ∷ []
 with_report number (Frame unit packet) numbers = numbers
 
 -- a table of pieces: where each begins, with the end of the last; what it is; and which are reports
-pub record IsTable (units : List PictureUnit) (pieces : List Piece) (table : FrameTable) : Type 0 where
+pub record IsTable (units : List PictureUnit) (pieces : List Piece) (table : FrameTable)
+    : Type 0 where
   pub places_count : length table.places.items ≡ length pieces + 1
   pub rows_count : length table.rows.items ≡ length pieces
   pub place : (k : ℕ) → k ≤ length pieces → get_or table.places.items k 0 ≡ wire_in (take k pieces)
@@ -57,14 +59,17 @@ abbrev pub HasPieces : Film → List Piece → FrameTable → Type 0
 HasPieces film pieces table = IsTable film.units.items pieces table
 
 -- the number of pieces before each unit, up to a number of units
-pub record AreFirsts (slice_starts : List ℕ) (units : List PictureUnit) (number : ℕ) (firsts : List ℕ) : Type 0 where
+pub record AreFirsts (slice_starts : List ℕ) (units : List PictureUnit) (number : ℕ)
+    (firsts : List ℕ) : Type 0 where
   pub count : length firsts ≡ number + 1
-  pub first : (k : ℕ) → k ≤ number → get_or firsts k 0 ≡ length (pieces_of slice_starts (take k units))
+  pub first : (k : ℕ) → k ≤ number →
+      get_or firsts k 0 ≡ length (pieces_of slice_starts (take k units))
 
 -- a table is that of a film
 pub record IsTableOf (film : Film) (table : FrameTable) : Type 0 where
   pub pieces : IsTable film.units.items (film_pieces film) table
-  pub firsts : AreFirsts film.slice_starts.items film.units.items (length film.units.items) table.firsts.items
+  pub firsts : AreFirsts film.slice_starts.items film.units.items
+      (length film.units.items) table.firsts.items
 
 -- a table of some film has a unit of that number
 pub record HasUnit (table : FrameTable) (unit : ℕ) : Type 0 where

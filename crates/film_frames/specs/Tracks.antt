@@ -1,5 +1,5 @@
--- What a track is: the pieces that it is sent by, in order, and the boundaries between them. A piece is the
--- bytes of one frame or one report.
+-- What a track is: the pieces that it is sent by, in order, and the boundaries between them. A
+-- piece is the bytes of one frame or one report.
 use Rattle.std.specs.Prelude.{ℕ, ◌+◌, ◌-◌, ◌<◌, ◌≤◌, ◌≡◌, ◌^◌, List, [], ◌∷◌, length, take, drop, map, flat_map, replicate, get_or}
 
 -- all bytes of pieces, one piece after another

@@ -20,7 +20,8 @@ use std::marker::Model;
 /// The bytes of a frame that its octets don't count: the interleaved head and the RTP header.
 const UNCOUNTED: u64 = 16;
 
-/// A run: units of a film, one after another, that are sent under an identity. Contracts see the run.
+/// A run: units of a film, one after another, that are sent under an identity. Contracts see the
+/// run.
 #[derive(Drop)]
 pub struct Frames<'a> {
     stored: &'a Stored,
@@ -37,7 +38,8 @@ impl<'a> Model for Frames<'a> {
 
     ghost view = { λ f. run_of f.stored.now.film f.first_unit f.end_unit f.identity };
 
-    ghost invariant = { λ f. (f.first_unit < f.end_unit) × (f.end_unit ≤ length f.stored.now.film.units.items) };
+    ghost invariant = { λ f. (f.first_unit < f.end_unit)
+        × (f.end_unit ≤ length f.stored.now.film.units.items) };
 }
 
 impl<'a> Frames<'a> {
@@ -60,14 +62,16 @@ impl<'a> Frames<'a> {
         }
     }
 
-    /// The number of the RTP frames of the run that end at or before `at`, any at. Reports don't count.
+    /// The number of the RTP frames of the run that end at or before `at`, any at. Reports don't
+    /// count.
     pub fn frames_before(&self, at: u64) -> u64
         ensures { result ≡ frames_before self.now at }
     {
         self.frames(self.count_ended(at))
     }
 
-    /// The octets of the RTP frames of the run that end at or before `at`: their video headers and payloads.
+    /// The octets of the RTP frames of the run that end at or before `at`: their video headers and
+    /// payloads.
     pub fn octets_before(&self, at: u64) -> u64
         ensures { result ≡ octets_before self.now at }
     {
@@ -195,8 +199,8 @@ impl Track for Frames<'_> {
         self.place(self.count_ended(at - 1) + 1)
     }
 
-    /// The bytes from `at` on to the end of its report or frame. The payload is lent from the film's bytes, and a
-    /// report has none.
+    /// The bytes from `at` on to the end of its report or frame. The payload is lent from the
+    /// film's bytes, and a report has none.
     fn part(&self, at: u64, head: &mut [u8; 52]) -> Part<'_>
         requires { at < length (framed (run_pieces self.now)) }
         ensures order { result.head_from ≤ result.head_to }
@@ -205,7 +209,9 @@ impl Track for Frames<'_> {
             (slice_range head.new result.head_from result.head_to ++ result.payload.now) }
         ensures whole { IsBoundary (run_pieces self.now)
             (at + (result.head_to - result.head_from) + length result.payload.now) }
-        ensures report { (unit : PictureUnit) → slice_get (pieces_in self.now) (count_ended at (run_pieces self.now)) ≡ Some (Report unit)
+        ensures report { (unit : PictureUnit) →
+            slice_get (pieces_in self.now) (count_ended at (run_pieces self.now)) ≡
+            Some (Report unit)
             → result.payload.now ≡ [] }
     {
         let number = self.count_ended(at);

@@ -16,10 +16,12 @@ pub(crate) fn report_block(control: u8, report: &Report) -> [u8; 52]
     block
 }
 
-/// Writes the heads of a frame with a payload of `length` bytes: the interleaved head and the packet's, 20 bytes.
+/// Writes the heads of a frame with a payload of `length` bytes: the interleaved head and the
+/// packet's, 20 bytes.
 pub(crate) fn put_frame_heads(block: &mut [u8; 52], channel: u8, head: &Head, length: u64)
     requires { length ≤ 1380 }
-    ensures { take 20 block.new ≡ 36 ∷ channel ∷ ((16 + length) / 256) ∷ ((16 + length) % 256) ∷ head_bytes head.now }
+    ensures { take 20 block.new ≡
+        36 ∷ channel ∷ ((16 + length) / 256) ∷ ((16 + length) % 256) ∷ head_bytes head.now }
 {
     block[..4].copy_from_slice(&frame_head(channel, 16 + length as u16));
     block[4..20].copy_from_slice(&write_head(head));

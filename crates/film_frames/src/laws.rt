@@ -8,40 +8,46 @@ ghost use Rattle.film_frames.specs.Tracks.{framed};
 use mpeg_scan::Film;
 use rtp_pack::Identity;
 
-/// The sizes of all units of a film on the wire, and so those of any range of them, add up to at most 2^42.
+/// The sizes of all units of a film on the wire, and so those of any range of them, add up to at
+/// most 2^42.
 pub fn law_wire_sizes(film: &Film)
     ensures range { (from count : ℕ)
         → sum (map (λ u. wire_size film.now.slice_starts.items u) (take count (drop from film.now.units.items))) ≤ 2 ^ 42 }
-    ensures all { sum (map (λ u. wire_size film.now.slice_starts.items u) film.now.units.items) ≤ 2 ^ 42 }
+    ensures all { sum (map (λ u. wire_size film.now.slice_starts.items u) film.now.units.items) ≤
+        2 ^ 42 }
 {
     let _read = film.bytes.len();
 }
 
-/// The film comes back: the payloads of a run's frames, one after another, are the film's bytes from where the run's
-/// first unit begins to where its last one ends.
+/// The film comes back: the payloads of a run's frames, one after another, are the film's bytes
+/// from where the run's first unit begins to where its last one ends.
 pub fn law_film_comes_back(film: &Film, first_unit: usize, end_unit: usize, identity: Identity)
     requires order { first_unit < end_unit }
     requires within { end_unit ≤ length film.now.units.items }
-    ensures { OfUnit film.now.units.items first_unit (λ first. OfUnit film.now.units.items (end_unit - 1) (λ last.
+    ensures { OfUnit film.now.units.items first_unit (λ first.
+        OfUnit film.now.units.items (end_unit - 1) (λ last.
         payloads (run_frames (run_of film.now first_unit end_unit identity))
         ≡ take (last.to - first.from) (drop first.from film.now.bytes.items))) }
 {
     let _read = (film.bytes.len(), first_unit, end_unit, identity);
 }
 
-/// The sequence numbers of a run's frames count on from the identity's, modulo 2^16, and leave none out.
+/// The sequence numbers of a run's frames count on from the identity's, modulo 2^16, and leave none
+/// out.
 pub fn law_counts_on(film: &Film, first_unit: usize, end_unit: usize, identity: Identity)
     requires order { first_unit < end_unit }
     requires within { end_unit ≤ length film.now.units.items }
     ensures frames { length (run_frames (run_of film.now first_unit end_unit identity))
         ≡ frames_in (pieces_in (run_of film.now first_unit end_unit identity)) }
-    ensures numbers { DoCountOn identity.sequence (run_frames (run_of film.now first_unit end_unit identity)) }
+    ensures numbers { DoCountOn identity.sequence
+        (run_frames (run_of film.now first_unit end_unit identity)) }
 {
     let _read = (film.bytes.len(), first_unit, end_unit, identity);
 }
 
-/// Each report counts, modulo 2^32, the packets and octets that the session sent before the run and those of the run's
-/// frames before the report. Reports are on the control channel, and frames on the other.
+/// Each report counts, modulo 2^32, the packets and octets that the session sent before the run and
+/// those of the run's frames before the report. Reports are on the control channel, and frames on
+/// the other.
 pub fn law_reports_count(film: &Film, first_unit: usize, end_unit: usize, identity: Identity)
     ensures counts { DoReportsCount (run_of film.now first_unit end_unit identity) }
     ensures channels { AreOnChannels (run_of film.now first_unit end_unit identity) }
@@ -49,8 +55,8 @@ pub fn law_reports_count(film: &Film, first_unit: usize, end_unit: usize, identi
     let _read = (film.bytes.len(), first_unit, end_unit, identity);
 }
 
-/// Each report of a run has 52 bytes; each frame has 21 to 1,400, of which its octets are all but 16. Each is a whole
-/// interleaved block. All together have the sizes of the run's units.
+/// Each report of a run has 52 bytes; each frame has 21 to 1,400, of which its octets are all but
+/// 16. Each is a whole interleaved block. All together have the sizes of the run's units.
 pub fn law_piece_sizes(film: &Film, first_unit: usize, end_unit: usize, identity: Identity)
     requires order { first_unit < end_unit }
     requires within { end_unit ≤ length film.now.units.items }
@@ -91,12 +97,14 @@ pub fn law_unit_blocks(film: &Film, first_unit: usize, unit: usize, identity: Id
     let _read = (film.bytes.len(), first_unit, unit, identity);
 }
 
-/// The head of each frame of a run reads back whole: its marker, sequence number, timestamp, source and video header.
+/// The head of each frame of a run reads back whole: its marker, sequence number, timestamp, source
+/// and video header.
 pub fn law_heads_read_back()
     ensures { (run : Run) → run.identity.ssrc < 2 ^ 32 → DoHeadsReadBack run }
 {}
 
-/// How many pieces of a run have ended at a place: the last of them ends at or before it, and the next doesn't.
+/// How many pieces of a run have ended at a place: the last of them ends at or before it, and the
+/// next doesn't.
 pub fn law_ended(film: &Film, first_unit: usize, end_unit: usize, identity: Identity, at: u64)
     ensures { HaveEnded (run_pieces (run_of film.now first_unit end_unit identity)) at
         (count_ended at (run_pieces (run_of film.now first_unit end_unit identity))) }

@@ -1,6 +1,6 @@
-//! Tracks: bytes that are sent frame by frame over an RTSP connection (RFC 2326 section 10.12), at any place and
-//! without holding them; the track of a film's units, RTP packets with sender reports between them (RFC 3550, RFC
-//! 2250); and the track of a trace, whose frames are zero bytes.
+//! Tracks: bytes that are sent frame by frame over an RTSP connection (RFC 2326 section 10.12), at
+//! any place and without holding them; the track of a film's units, RTP packets with sender reports
+//! between them (RFC 3550, RFC 2250); and the track of a trace, whose frames are zero bytes.
 #![tactic(auto)]
 
 mod frames;

@@ -33,8 +33,8 @@ impl Stored {
         Ok(Stored { name, film, table })
     }
 
-    /// The bytes of a unit on the wire: its frames, and the report before it if it starts a group. A unit of L bytes
-    /// takes at most 2 * L + 112.
+    /// The bytes of a unit on the wire: its frames, and the report before it if it starts a group.
+    /// A unit of L bytes takes at most 2 * L + 112.
     pub fn wire_size(&self, unit: usize) -> u64
         requires { unit < length self.now.film.units.items }
         ensures size { OfUnit self.now.film.units.items unit

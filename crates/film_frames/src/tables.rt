@@ -83,7 +83,8 @@ impl FrameTable {
         Ok(table)
     }
 
-    /// The bytes of a unit of the film on the wire: its frames, and the report before it if it starts a group.
+    /// The bytes of a unit of the film on the wire: its frames, and the report before it if it
+    /// starts a group.
     ///
     /// A unit of L bytes takes at most 2 * L + 112.
     pub fn wire_size(&self, unit: usize) -> u64
@@ -158,7 +159,8 @@ impl FrameTable {
             (λ u. packets.now ≡ unit_packets film.now.slice_starts.items u) }
         requires table { OfUnit film.now.units.items number
             (λ u. HasPieces film.now (front_pieces film.now number ++ unit_reports u) self.old) }
-        ensures table { OnOk result (HasPieces film.now (front_pieces film.now (number + 1)) self.new) }
+        ensures table { OnOk result (HasPieces film.now (front_pieces film.now (number
+            + 1)) self.new) }
         ensures firsts { OnOk result (self.new.firsts.items ≡ self.old.firsts.items) }
     {
         let unit = film.units[number];
@@ -168,7 +170,8 @@ impl FrameTable {
         Ok(())
     }
 
-    /// Appends the pieces of a unit, after the units before it. Its packets are written into the list.
+    /// Appends the pieces of a unit, after the units before it. Its packets are written into the
+    /// list.
     fn put_unit(
         &mut self,
         packets: &mut Vec<Packet>,
@@ -179,7 +182,8 @@ impl FrameTable {
         requires table { HasPieces film.now (front_pieces film.now number) self.old }
         requires firsts { AreFirsts film.now.slice_starts.items film.now.units.items number
             self.old.firsts.items }
-        ensures table { OnOk result (HasPieces film.now (front_pieces film.now (number + 1)) self.new) }
+        ensures table { OnOk result (HasPieces film.now (front_pieces film.now (number
+            + 1)) self.new) }
         ensures firsts { OnOk result
             (AreFirsts film.now.slice_starts.items film.now.units.items (number + 1) self.new.firsts.items) }
     {

@@ -12,7 +12,8 @@ pub struct Part<'a> {
     pub payload: &'a [u8],
 }
 
-/// Bytes that are sent in pieces, each a frame or a report. Places count from the track's first byte.
+/// Bytes that are sent in pieces, each a frame or a report. Places count from the track's first
+/// byte.
 pub trait Track {
     ghost pieces: { Self → List (List ℕ) };
 

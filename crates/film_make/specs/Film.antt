@@ -14,8 +14,8 @@ in_bits fields = fold (λ bits field. bits * 2 ^ field.1 + field.0) 0 fields
 abbrev pub in_bytes : List (ℕ × ℕ) → List ℕ
 in_bytes fields = drop (8 - sum_by (λ field. field.1) fields / 8) (to_be_bytes w64 (in_bits fields))
 
--- the sequence header (2.4.2.3): 352 by 288, square samples, picture rate 3, which is 25 a second, a
--- variable bit rate, and a buffer of 20; and the group header (2.4.2.4): time 0, closed
+-- the sequence header (2.4.2.3): 352 by 288, square samples, picture rate 3, which is 25 a second,
+-- a variable bit rate, and a buffer of 20; and the group header (2.4.2.4): time 0, closed
 abbrev pub sequence_and_group : List ℕ
 sequence_and_group =
     0 ∷ 0 ∷ 1 ∷ 0xb3 ∷ 0x16 ∷ 0x01 ∷ 0x20 ∷ 0x13 ∷ 0xff ∷ 0xff ∷ 0xe0 ∷ 0xa0
@@ -29,15 +29,15 @@ sequence_end = 0 ∷ 0 ∷ 1 ∷ 0xb7 ∷ []
 unfoldable pub coding_type : ℕ → CodingType
 coding_type j = if j == 0 then Intra else (if j % 2 == 1 then Predicted else Bidirectional)
 
--- its place in the order of showing: I, then each P one later than it stands but the last, and each B
--- one earlier
+-- its place in the order of showing: I, then each P one later than it stands but the last, and each
+-- B one earlier
 unfoldable pub temporal_reference : ℕ → ℕ
 temporal_reference j =
     if j == 0 then 0 else (if j == 11 then 11 else (if j % 2 == 1 then j + 1 else j - 1))
 
 -- the fields of a picture header after its start code (2.4.2.5): temporal_reference,
--- picture_coding_type, vbv_delay, and the full-pel bit and f-code of each kind of vector that the type
--- has; zero bits fill the last byte
+-- picture_coding_type, vbv_delay, and the full-pel bit and f-code of each kind of vector that the
+-- type has; zero bits fill the last byte
 abbrev pub picture_fields : CodingType → ℕ → List (ℕ × ℕ)
 picture_fields Intra tr = (tr, 10) ∷ (1, 3) ∷ (0xffff, 16) ∷ (0, 3) ∷ []
 picture_fields Predicted tr = (tr, 10) ∷ (2, 3) ∷ (0xffff, 16) ∷ (0, 1) ∷ (1, 3) ∷ (0, 7) ∷ []

@@ -8,8 +8,8 @@ abbrev pub pack_header : List ℕ
 pack_header =
     0 ∷ 0 ∷ 1 ∷ 0xba ∷ 0x21 ∷ 0x00 ∷ 0x01 ∷ 0x00 ∷ 0x01 ∷ 0x80 ∷ 0x00 ∷ 0x03 ∷ []
 
--- a pack of one packet (2.4.3.3) of video stream 0 without time stamps: its length counts the byte 0F
--- and the video bytes
+-- a pack of one packet (2.4.3.3) of video stream 0 without time stamps: its length counts the byte
+-- 0F and the video bytes
 abbrev pub pack_of : List ℕ → List ℕ
 pack_of bytes =
     pack_header ++ (0 ∷ 0 ∷ 1 ∷ 0xe0 ∷ to_be_bytes w16 (length bytes + 1)) ++ 0x0f ∷ bytes

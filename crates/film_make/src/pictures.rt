@@ -117,7 +117,8 @@ fn write_picture_header(place: u32, out: &mut Vec<u8>) -> Result<(), AllocError>
 
 // Appends the body of a slice, each byte from 128 to 255.
 fn write_body(draws: &mut Draws, length: u32, out: &mut Vec<u8>) -> Result<(), AllocError>
-    ensures bytes { OnOk result (out.new.items ≡ out.old.items ++ body_of (words_left draws.old) length) }
+    ensures bytes { OnOk result (out.new.items ≡
+        out.old.items ++ body_of (words_left draws.old) length) }
     ensures left { OnOk result (words_left draws.new ≡ after length (words_left draws.old)) }
 {
     for i in 0..length {
@@ -133,7 +134,8 @@ fn write_slice(
     code: u8,
     out: &mut Vec<u8>,
 ) -> Result<(), AllocError>
-    ensures bytes { OnOk result (out.new.items ≡ out.old.items ++ slice_of (words_left draws.old) kind code) }
+    ensures bytes { OnOk result (out.new.items ≡
+        out.old.items ++ slice_of (words_left draws.old) kind code) }
     ensures left { OnOk result (words_left draws.new ≡ after_slice kind (words_left draws.old)) }
 {
     out.extend_from_slice(&[0, 0, 1, code])?;
@@ -143,7 +145,8 @@ fn write_slice(
 
 // Appends the slices of a picture.
 fn write_slices(draws: &mut Draws, kind: CodingType, out: &mut Vec<u8>) -> Result<(), AllocError>
-    ensures bytes { OnOk result (out.new.items ≡ out.old.items ++ slices_of (words_left draws.old) kind 4) }
+    ensures bytes { OnOk result (out.new.items ≡
+        out.old.items ++ slices_of (words_left draws.old) kind 4) }
     ensures left { OnOk result (words_left draws.new ≡ slice_words kind (words_left draws.old) 4) }
 {
     for slice in 0..SLICES {
@@ -154,7 +157,8 @@ fn write_slices(draws: &mut Draws, kind: CodingType, out: &mut Vec<u8>) -> Resul
 
 // Appends the sequence and group headers before the first picture of a group.
 fn begin_group(place: u32, out: &mut Vec<u8>) -> Result<(), AllocError>
-    ensures { OnOk result (out.new.items ≡ out.old.items ++ (if place == 0 then sequence_and_group else [])) }
+    ensures { OnOk result (out.new.items ≡
+        out.old.items ++ (if place == 0 then sequence_and_group else [])) }
 {
     if place == 0 {
         out.extend_from_slice(&SEQUENCE_AND_GROUP)?;
@@ -165,8 +169,10 @@ fn begin_group(place: u32, out: &mut Vec<u8>) -> Result<(), AllocError>
 #[tactic(auto, using(std::proofs::lemmas::List::append_assoc), unfolding(crate::specs::Film::picture_of))]
 /// Appends picture `index` of a film, whose draws are the next ones.
 pub fn write_picture(draws: &mut Draws, index: u32, out: &mut Vec<u8>) -> Result<(), AllocError>
-    ensures bytes { OnOk result (out.new.items ≡ out.old.items ++ picture_of (words_left draws.old) index) }
-    ensures left { OnOk result (words_left draws.new ≡ slice_words (coding_type (index % 12)) (words_left draws.old) 4) }
+    ensures bytes { OnOk result (out.new.items ≡
+        out.old.items ++ picture_of (words_left draws.old) index) }
+    ensures left { OnOk result (words_left draws.new ≡
+        slice_words (coding_type (index % 12)) (words_left draws.old) 4) }
 {
     let place = index % GROUP;
     begin_group(place, out)?;

@@ -33,7 +33,8 @@ fn write_pack(video: &[u8], out: &mut Vec<u8>) -> Result<(), AllocError>
 
 // Appends video in packs, without the end code.
 fn write_packs(video: &[u8], out: &mut Vec<u8>) -> Result<(), AllocError>
-    ensures { OnOk result (out.new.items ≡ out.old.items ++ packs_of video.now ((length video.now + 1999) / 2000)) }
+    ensures { OnOk result (out.new.items ≡
+        out.old.items ++ packs_of video.now ((length video.now + 1999) / 2000)) }
 {
     for piece in 0..video.len().div_ceil(PACKET) {
         let rest = &video[piece * PACKET..];
@@ -52,12 +53,13 @@ fn wrapped(alloc: Global, video: &[u8]) -> Result<Vec<u8>, AllocError>
     Ok(stream)
 }
 
-/// The film of a number as an MPEG-1 system stream (ISO/IEC 11172-1): packets of 2,000 video bytes, or
-/// of what is left, each in a pack of its own.
+/// The film of a number as an MPEG-1 system stream (ISO/IEC 11172-1): packets of 2,000 video bytes,
+/// or of what is left, each in a pack of its own.
 ///
 /// `pictures` is at most 100,000 on the command line, and any number here.
 pub fn make_system(alloc: Global, number: u64, pictures: u32) -> Result<Vec<u8>, NoMemory>
-    ensures { IfOk result (λ stream. stream.items ≡ system_of (film_of (words_of number) pictures)) }
+    ensures { IfOk result (λ stream. stream.items ≡
+        system_of (film_of (words_of number) pictures)) }
 {
     let film = make_film(alloc, number, pictures)?;
     wrapped(alloc, &film).map_err(|_| NoMemory)

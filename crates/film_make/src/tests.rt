@@ -1,6 +1,6 @@
-//! Expected values come from a Python program of its own, which computes ChaCha with eight rounds from
-//! D. J. Bernstein's description, draws its words modulo n, and writes traces, films and system
-//! streams with them; it gives long texts as their length and their Adler-32.
+//! Expected values come from a Python program of its own, which computes ChaCha with eight rounds
+//! from D. J. Bernstein's description, draws its words modulo n, and writes traces, films and
+//! system streams with them; it gives long texts as their length and their Adler-32.
 
 use crate::{Draws, draw_sizes, draw_trace, make_film, make_system, make_trace};
 use std::test::Fail;

@@ -10,7 +10,8 @@ use vod_base::NoMemory;
 
 // The size of picture `index`, by the next word.
 fn next_size(draws: &mut Draws, index: u32) -> u32
-    ensures value { result ≡ (if index % 12 == 0 then 4 else 1) * (200 + words_left draws.old 0 % 1800) }
+    ensures value { result ≡
+        (if index % 12 == 0 then 4 else 1) * (200 + words_left draws.old 0 % 1800) }
     ensures left { words_left draws.new ≡ after 1 (words_left draws.old) }
 {
     let size = 200 + draws.draw(1800);
@@ -56,7 +57,8 @@ pub fn draw_trace(alloc: Global, draws: &mut Draws, pictures: u32) -> Result<Vec
 /// `pictures` is at most 100,000 on the command line, and any number here.
 pub fn make_trace(alloc: Global, number: u64, pictures: u32) -> Result<Vec<u8>, NoMemory>
     ensures trace { IfOk result (λ trace. trace.items ≡ trace_of (words_of number) pictures) }
-    ensures in_range { (k : ℕ) → (200 ≤ trace_size (words_of number) k) × (trace_size (words_of number) k ≤ 7996) }
+    ensures in_range { (k : ℕ) → (200 ≤ trace_size (words_of number) k)
+        × (trace_size (words_of number) k ≤ 7996) }
 {
     let mut draws = Draws::new(number);
     draw_trace(alloc, &mut draws, pictures)

@@ -14,7 +14,8 @@ use Rattle.film_run.specs.Plans.{CanPlay, IsPlanOf, timing_of}
 use Rattle.film_run.specs.Pauses.{IsHalt, IsLeft}
 
 -- a run is sent by a plan of its own
-pub record IsSending (sizes : List ℕ) (playback : Playback) (run : Run) (plan : List Segment) : Type 0 where
+pub record IsSending (sizes : List ℕ) (playback : Playback) (run : Run) (plan : List Segment)
+    : Type 0 where
   pub can_play : CanPlay sizes playback run
   pub plan_is : IsPlanOf sizes playback run plan
 
@@ -33,41 +34,48 @@ pub record IsUnplayed (run : Run) (unit : ℕ) : Type 0 where
   pub from : run.from_unit ≤ unit
   pub before_end : unit < run.end_unit
 
--- Each unplayed picture is in time: by the end of the slot in which it is used it was sent whole, and all before it.
+-- Each unplayed picture is in time: by the end of the slot in which it is used it was sent whole,
+-- and all before it.
 abbrev pub AreInTime : List ℕ → Playback → Run → List Segment → Type 0
 AreInTime sizes playback run plan =
     (unit : ℕ) → IsUnplayed run unit
-    → bytes_between sizes run.first_unit (unit + 1) ≤ run.sent + sum_through plan (used_in playback run unit)
+    → bytes_between sizes run.first_unit (unit + 1) ≤ run.sent
+    + sum_through plan (used_in playback run unit)
 
--- The buffer never overflows: what was sent by the end of a slot, without the pictures before one that is used in that slot or
--- later, fits in it.
+-- The buffer never overflows: what was sent by the end of a slot, without the pictures before one
+-- that is used in that slot or later, fits in it.
 abbrev pub DoesFit : List ℕ → Playback → Run → List Segment → Type 0
 DoesFit sizes playback run plan =
-    (slot unit : ℕ) → slot < total_slots plan → IsUnplayed run unit → slot ≤ used_in playback run unit
+    (slot unit : ℕ) → slot < total_slots plan → IsUnplayed run unit →
+    slot ≤ used_in playback run unit
     → run.sent + sum_through plan slot ≤ bytes_between sizes run.first_unit unit + playback.buffer
 
 -- no other list of segments is the run's plan
 abbrev pub IsOnlyPlan : List ℕ → Playback → Run → List Segment → Type 0
-IsOnlyPlan sizes playback run plan = (other : List Segment) → IsPlanOf sizes playback run other → other ≡ plan
+IsOnlyPlan sizes playback run plan = (other : List Segment) → IsPlanOf sizes playback run other →
+    other ≡ plan
 
 -- a halt leaves one run
 abbrev pub LeavesOne : List ℕ → Playback → Run → List Segment → Type 0
 LeavesOne sizes playback run plan =
     (last : Option ℕ) (keep : ℕ) (left other : Run)
-    → IsLeft sizes playback run plan last keep left → IsLeft sizes playback run plan last keep other → other ≡ left
+    → IsLeft sizes playback run plan last keep left →
+    IsLeft sizes playback run plan last keep other → other ≡ left
 
 -- the client can play what a halt leaves
 abbrev pub LeavesRun : List ℕ → Playback → Run → List Segment → Type 0
 LeavesRun sizes playback run plan =
     (last : Option ℕ) (keep : ℕ) (left : Run)
-    → IsHalt plan last keep → IsLeft sizes playback run plan last keep left → CanPlay sizes playback left
+    → IsHalt plan last keep → IsLeft sizes playback run plan last keep left →
+    CanPlay sizes playback left
 
--- What is left is sent on from the byte after the last: what was kept of the plan and the plan of what is left are together the
--- bytes of the plan.
+-- What is left is sent on from the byte after the last: what was kept of the plan and the plan of
+-- what is left are together the bytes of the plan.
 abbrev pub GoesOn : List ℕ → Playback → Run → List Segment → Type 0
 GoesOn sizes playback run plan =
     (last : Option ℕ) (keep : ℕ) (left : Run) (rest : List Segment)
-    → IsHalt plan last keep → IsLeft sizes playback run plan last keep left → IsPlanOf sizes playback left rest
+    → IsHalt plan last keep → IsLeft sizes playback run plan last keep left →
+    IsPlanOf sizes playback left rest
     → keep + total_bytes rest ≡ total_bytes plan
 
 -- a place that is a boundary of a film's run is one of that run under every identity

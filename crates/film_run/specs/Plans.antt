@@ -1,4 +1,5 @@
--- The plan of a play: the taut one between the two curves of what a run hasn't played (Salehi, Zhang, Kurose and Towsley 1998).
+-- The plan of a play: the taut one between the two curves of what a run hasn't played (Salehi,
+-- Zhang, Kurose and Towsley 1998).
 use Rattle.std.specs.Prelude.{ℕ, ◌^◌, ◌≤◌, List, map}
 use Rattle.std.specs.List.{range_with_len}
 use Rattle.plan_cert.specs.declared.Segment.{Segment}
@@ -22,7 +23,8 @@ pub record IsPlayback (playback : Playback) : Type 0 where
   pub buffer_fits : playback.buffer ≤ 2 ^ 42
   pub delay_fits : playback.delay ≤ 10000
 
--- when the pictures of a run's play are used, counted from its first unplayed unit and the play's first slot
+-- when the pictures of a run's play are used, counted from its first unplayed unit and the play's
+-- first slot
 abbrev pub timing_of : Playback → Run → Timing
 timing_of playback run = record {
   picture_units = playback.picture_units;

@@ -14,7 +14,8 @@ sizes_between sizes from end = take (end - from) (drop from sizes)
 abbrev pub bytes_between : List ℕ → ℕ → ℕ → ℕ
 bytes_between sizes from end = sum (sizes_between sizes from end)
 
--- A run: some of its units are unplayed. What was played are the units before those, and it was sent before.
+-- A run: some of its units are unplayed. What was played are the units before those, and it was
+-- sent before.
 pub record IsRun (sizes : List ℕ) (run : Run) : Type 0 where
   pub order : run.first_unit ≤ run.from_unit
   pub rest : run.from_unit < run.end_unit
@@ -39,7 +40,8 @@ pub record IsNewRun (sizes : List ℕ) (first end : ℕ) (run : Run) : Type 0 wh
 -- what was sent of a film's run ends at the end of a frame or of a report, or nothing was
 abbrev pub EndsAtBoundary : Film → Run → Type 0
 EndsAtBoundary film run =
-    (identity : Identity) → IsBoundary (run_pieces (run_of film run.first_unit run.end_unit identity)) run.sent
+    (identity : Identity) →
+    IsBoundary (run_pieces (run_of film run.first_unit run.end_unit identity)) run.sent
 
 -- a run of a film's units, of which whole frames and reports were sent
 pub record IsFilmRun (film : Film) (run : Run) : Type 0 where

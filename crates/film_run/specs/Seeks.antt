@@ -1,5 +1,5 @@
--- The run that a PLAY's times ask for. A decoder can begin only at a group of pictures, so the range that is played is aligned to
--- groups, as RFC 2326 section 10.5 lets a server do.
+-- The run that a PLAY's times ask for. A decoder can begin only at a group of pictures, so the
+-- range that is played is aligned to groups, as RFC 2326 section 10.5 lets a server do.
 use Rattle.std.specs.Prelude.{ℕ, ◌≡◌, ◌*◌, ◌^◌, ◌<◌, ◌≤◌, ◌⊎◌, true, List, length, Option, Some, None}
 use Rattle.mpeg_scan.specs.declared.units.Unit.{Unit as PictureUnit}
 use Rattle.mpeg_scan.specs.declared.films.Film.{Film}
@@ -9,16 +9,17 @@ use Rattle.film_run.specs.declared.runs.Run.{Run}
 use Rattle.film_run.specs.Units.{film_sizes}
 use Rattle.film_run.specs.Runs.{IsNewRun}
 
--- Unit k of a film begins after k picture times, each so many units of 1/360,000 second. It begins at or before a time in
--- nanoseconds, or before it.
+-- Unit k of a film begins after k picture times, each so many units of 1/360,000 second. It begins
+-- at or before a time in nanoseconds, or before it.
 abbrev pub BeginsBy : ℕ → ℕ → ℕ → Type 0
 BeginsBy picture_units time k = k * picture_units * 1000000000 ≤ time * 360000
 
 abbrev pub BeginsBefore : ℕ → ℕ → ℕ → Type 0
 BeginsBefore picture_units time k = k * picture_units * 1000000000 < time * 360000
 
--- A time in nanoseconds as whole units of 1/360,000 second, where a part of one isn't counted: a place is at or before it, in
--- units, exactly where it is at or before the time. No film ends later than at 2^42.
+-- A time in nanoseconds as whole units of 1/360,000 second, where a part of one isn't counted: a
+-- place is at or before it, in units, exactly where it is at or before the time. No film ends later
+-- than at 2^42.
 pub record IsBefore (time begin : ℕ) : Type 0 where
   pub by_then : (place : ℕ) → place ≤ 2 ^ 42 → place ≤ begin → place * 1000000000 ≤ time * 360000
   pub all : (place : ℕ) → place ≤ 2 ^ 42 → place * 1000000000 ≤ time * 360000 → place ≤ begin
@@ -28,7 +29,8 @@ pub record IsAfter (time end : ℕ) : Type 0 where
   pub from_then : (place : ℕ) → place ≤ 2 ^ 42 → end ≤ place → time * 360000 ≤ place * 1000000000
   pub all : (place : ℕ) → place ≤ 2 ^ 42 → time * 360000 ≤ place * 1000000000 → end ≤ place
 
--- of so many units, which take so long each, this is the first after a unit that begins at a time or later, or the end
+-- of so many units, which take so long each, this is the first after a unit that begins at a time
+-- or later, or the end
 pub record IsPlaceAfter (units after time unit_time place : ℕ) : Type 0 where
   pub later : after < place
   pub within : place ≤ units
@@ -46,12 +48,14 @@ pub record IsGroupBy (units : List PictureUnit) (picture_units time k : ℕ) : T
   pub by_then : BeginsBy picture_units time k
   pub last : (other : ℕ) → StartsGroup units other → BeginsBy picture_units time other → other ≤ k
 
--- the first group after a unit that begins at or after a time, or the film's end, where there is none
+-- the first group after a unit that begins at or after a time, or the film's end, where there is
+-- none
 pub record IsGroupFrom (units : List PictureUnit) (picture_units time after k : ℕ) : Type 0 where
   pub later : after < k
   pub group : StartsGroup units k ⊎ (k ≡ length units)
   pub from_then : k < length units → ¬ BeginsBefore picture_units time k
-  pub first : (other : ℕ) → after < other → StartsGroup units other → ¬ BeginsBefore picture_units time other → k ≤ other
+  pub first : (other : ℕ) → after < other → StartsGroup units other →
+      ¬ BeginsBefore picture_units time other → k ≤ other
 
 -- the unit at which a run ends that begins with a unit: the film's end, or by a time
 abbrev pub IsEnd : List PictureUnit → ℕ → Option ℕ → ℕ → ℕ → Type 0
@@ -63,13 +67,16 @@ abbrev pub IsReversed : ℕ → Option ℕ → Type 0
 IsReversed from None = ⊥
 IsReversed from (Some time) = time ≤ from
 
--- nothing is to be played: the film has ended at the time of the beginning, or the times are in the wrong order
+-- nothing is to be played: the film has ended at the time of the beginning, or the times are in the
+-- wrong order
 abbrev pub HasNothing : Film → ℕ → Option ℕ → Type 0
-HasNothing film from to = BeginsBy (picture_time film.rate) from (length film.units.items) ⊎ IsReversed from to
+HasNothing film from to = BeginsBy (picture_time film.rate) from (length film.units.items)
+    ⊎ IsReversed from to
 
 -- the new run that is asked for
 pub record IsAsked (film : Film) (from : ℕ) (to : Option ℕ) (run : Run) : Type 0 where
   pub some : ¬ HasNothing film from to
   pub begins : IsGroupBy film.units.items (picture_time film.rate) from run.first_unit
   pub ends : IsEnd film.units.items (picture_time film.rate) to run.first_unit run.end_unit
-  pub new : IsNewRun (film_sizes film.slice_starts.items film.units.items) run.first_unit run.end_unit run
+  pub new : IsNewRun
+      (film_sizes film.slice_starts.items film.units.items) run.first_unit run.end_unit run

@@ -13,7 +13,8 @@ use crate::runs::Run;
 use crate::units::Units;
 use plan_cert::Plan;
 
-/// The first slot of a plan through which it has so many bytes. It asks the plan for about twenty slots.
+/// The first slot of a plan through which it has so many bytes. It asks the plan for about twenty
+/// slots.
 fn slot_with(plan: &Plan, bytes: u64) -> u64
     requires some { 0 < total_slots plan.now }
     requires within { bytes ≤ total_bytes plan.now }
@@ -57,14 +58,16 @@ fn due_slot(playback: &Playback, run: &Run, picture: u64) -> u64
     picture * u64::from(playback.picture_units) / u64::from(playback.slot_units) + playback.delay
 }
 
-/// What a halt leaves of a run: its play by `plan` stepped the plan's slot `last` last, or none, isn't done, and keeps `keep`
-/// bytes of its plan, at least those that were due.
+/// What a halt leaves of a run: its play by `plan` stepped the plan's slot `last` last, or none,
+/// isn't done, and keeps `keep` bytes of its plan, at least those that were due.
 ///
-/// The run was sent up to what is kept. It is unplayed from the first picture on that is used in the slot in which the play
-/// stops or after it: the later of the slot last stepped and the first one through which the plan has what is kept. Some of it
-/// is then unplayed, and what was sent and isn't played fits in the client's buffer.
+/// The run was sent up to what is kept. It is unplayed from the first picture on that is used in
+/// the slot in which the play stops or after it: the later of the slot last stepped and the first
+/// one through which the plan has what is kept. Some of it is then unplayed, and what was sent and
+/// isn't played fits in the client's buffer.
 ///
-/// It takes time in the pictures that were played and some twenty times in the plan's segments, and no memory.
+/// It takes time in the pictures that were played and some twenty times in the plan's segments, and
+/// no memory.
 pub fn run_after<U: Units>(
     units: &U,
     playback: &Playback,

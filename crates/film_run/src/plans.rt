@@ -18,8 +18,9 @@ use wire_curve::{CurveRefused, Timing, film_curves};
 
 /// How a client plays: when it uses pictures, and what it can hold.
 ///
-/// Times are in units of 1/360,000 second. The first picture of a play is used `delay` slots after its start, and picture k
-/// after it in the slot `k * picture_units / slot_units + delay`, rounded down.
+/// Times are in units of 1/360,000 second. The first picture of a play is used `delay` slots after
+/// its start, and picture k after it in the slot `k * picture_units / slot_units + delay`, rounded
+/// down.
 #[derive(Clone, Copy, Debug, PartialEq, Eq)]
 pub struct Playback {
     /// The time of one picture, 1 to 360,000 units.
@@ -59,15 +60,17 @@ fn rest_sizes<U: Units>(alloc: Global, units: &U, run: &Run) -> Result<Vec<u64>,
     Ok(sizes)
 }
 
-/// The plan by which a run is sent on: the taut one between the curves of the units that weren't played. It sends all bytes
-/// of the run that weren't sent, and no plan that keeps between the curves sends less above any rate.
+/// The plan by which a run is sent on: the taut one between the curves of the units that weren't
+/// played. It sends all bytes of the run that weren't sent, and no plan that keeps between the
+/// curves sends less above any rate.
 ///
-/// It takes time and memory in the units and slots that are still to be played, whatever stands before them.
+/// It takes time and memory in the units and slots that are still to be played, whatever stands
+/// before them.
 ///
 /// # Errors
 ///
-/// [`CurveRefused`] with the fault exactly where the curves have one, which is never that there are no pictures; or where
-/// memory is wanting.
+/// [`CurveRefused`] with the fault exactly where the curves have one, which is never that there are
+/// no pictures; or where memory is wanting.
 pub fn plan_of<U: Units>(
     alloc: Global,
     units: &U,

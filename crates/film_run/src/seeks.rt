@@ -1,4 +1,5 @@
-//! The run that a PLAY's times ask for, aligned to groups of pictures (RFC 2326 sections 10.5 and 12.29).
+//! The run that a PLAY's times ask for, aligned to groups of pictures (RFC 2326 sections 10.5 and
+//! 12.29).
 
 ghost use Rattle.std.specs.Prelude.{◌≡◌, ◌^◌, ◌<◌, ◌≤◌, ℕ, ◌⊎◌, length, IfSome, MatchBool, MatchOption};
 ghost use Rattle.mpeg_scan.specs.Rates.{picture_time};
@@ -9,7 +10,8 @@ ghost use Rattle.film_run.specs.Seeks.{IsGroupFrom, IsPlaceAfter, IsReversed, St
 use crate::runs::{Run, new_run};
 use mpeg_scan::{Film, Unit, law_film, law_units, picture_units};
 
-/// Nanoseconds in 25 units of 1/360,000 second, and 9 such units: 25,000 * 10^3 ns are 9 * 10^3 units.
+/// Nanoseconds in 25 units of 1/360,000 second, and 9 such units: 25,000 * 10^3 ns are 9 * 10^3
+/// units.
 const NANOSECONDS: u128 = 25_000;
 
 const UNITS: u128 = 9;
@@ -70,8 +72,8 @@ fn group_after(units: &[Unit], place: usize) -> usize
     unit
 }
 
-/// The first unit after `first` that begins at a time or later, or the end. The time and that of a unit are in units of
-/// 1/360,000 second.
+/// The first unit after `first` that begins at a time or later, or the end. The time and that of a
+/// unit are in units of 1/360,000 second.
 fn end_place(units: usize, first: usize, time: u64, unit_time: u64) -> usize
     requires first { first < units }
     requires some { 1 ≤ unit_time }
@@ -91,7 +93,8 @@ fn picture_time(film: &Film) -> u64
     u64::from(picture_units(film.rate))
 }
 
-/// The last group that begins at or before a time in nanoseconds. None exactly where the units have ended then.
+/// The last group that begins at or before a time in nanoseconds. None exactly where the units have
+/// ended then.
 fn group_by(units: &[Unit], unit_time: u64, time: u128) -> Option<usize>
     requires few { length units.now ≤ 4194304 }
     requires some { 1 ≤ unit_time }
@@ -121,7 +124,8 @@ fn group_from(units: &[Unit], unit_time: u64, time: u128, after: usize) -> usize
     group_after(units, place)
 }
 
-/// The unit at which a run ends that begins with a unit, and is to end by a time in nanoseconds or with the units.
+/// The unit at which a run ends that begins with a unit, and is to end by a time in nanoseconds or
+/// with the units.
 fn end_of(units: &[Unit], unit_time: u64, time: Option<u128>, first: usize) -> usize
     requires few { length units.now ≤ 4194304 }
     requires some { 1 ≤ unit_time }
@@ -147,9 +151,9 @@ fn is_reversed(from: u128, to: Option<u128>) -> bool
     }
 }
 
-/// The new run from a time on, up to another or the film's end, in nanoseconds: from the last group that begins at or before
-/// the first time, up to the first later group that begins at or after the second. None exactly where the film has ended at
-/// the first time, or the second isn't after it.
+/// The new run from a time on, up to another or the film's end, in nanoseconds: from the last group
+/// that begins at or before the first time, up to the first later group that begins at or after the
+/// second. None exactly where the film has ended at the first time, or the second isn't after it.
 pub fn run_between(film: &Film, from: u128, to: Option<u128>) -> Option<Run>
     ensures asked { MatchOption result (HasNothing film.now from to) (IsAsked film.now from to) }
     ensures run { IfSome result (IsFilmRun film.now) }

@@ -1,5 +1,5 @@
-//! Film A is a sequence header, a group header, an I picture and one slice; film B is film A, a P picture and one slice.
-//! On the wire their units have 106 and 35 bytes.
+//! Film A is a sequence header, a group header, an I picture and one slice; film B is film A, a P
+//! picture and one slice. On the wire their units have 106 and 35 bytes.
 
 ghost use Rattle.std.specs.Prelude.{IfOk};
 ghost use Rattle.film_run.specs.Plans.{IsPlanOf, IsPlayback};

@@ -10,7 +10,8 @@ use std::marker::Model;
 pub trait Units {
     ghost sizes: { Self → List ℕ };
 
-    /// The number of the units, at most 4,194,304. All together they have at most 2^42 bytes on the wire.
+    /// The number of the units, at most 4,194,304. All together they have at most 2^42 bytes on the
+    /// wire.
     fn count(&self) -> usize
         ensures count { result ≡ length (sizes self.now) }
         ensures few { length (sizes self.now) ≤ 4194304 }

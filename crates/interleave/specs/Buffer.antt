@@ -3,7 +3,8 @@ use Rattle.std.specs.Prelude.{◌≤◌, drop, vec_len, vec_capacity}
 use Rattle.interleave.specs.Known.{IsKnown}
 use Rattle.interleave.specs.declared.demux.Demux.TheInside.{Inside}
 
--- what waits are the bytes from `start` on, at most 131,072 with those before it, all in reserved memory
+-- what waits are the bytes from `start` on, at most 131,072 with those before it, all in reserved
+-- memory
 pub record IsBuffer (d : Inside) : Type 0 where
   pub start : d.start ≤ vec_len d.bytes
   pub most : vec_len d.bytes ≤ 131072

@@ -10,7 +10,8 @@ abbrev pub IsKnown : List ℕ → Known → Type 0
 IsKnown bytes (Searched to) = (to ≤ length bytes) × (to ≤ 16384) × HasNoHead bytes to
 IsKnown bytes (Length total) = IsRequestLength bytes total
 
--- all that the bytes tell is known: no empty line ends among all of them, which are fewer than a head may have, or the request's length
+-- all that the bytes tell is known: no empty line ends among all of them, which are fewer than a
+-- head may have, or the request's length
 abbrev pub IsSettled : List ℕ → Known → Type 0
 IsSettled bytes (Searched to) = (to ≡ length bytes) × (to < 16384) × HasNoHead bytes to
 IsSettled bytes (Length total) = IsRequestLength bytes total

@@ -1,4 +1,5 @@
--- The first piece of a connection's input (RFC 2326 sections 4, 6 and 10.12): bytes CR and LF before a request, an interleaved block, or a request.
+-- The first piece of a connection's input (RFC 2326 sections 4, 6 and 10.12): bytes CR and LF
+-- before a request, an interleaved block, or a request.
 use Rattle.std.specs.Prelude.{◌≡◌, ℕ, ◌+◌, ◌*◌, ◌<◌, ◌≤◌, ◌==◌, ◌⊎◌, true, false, List, length, take, slice_index, Result, Ok, Err}
 use Rattle.interleave.specs.Heads.{is_line_end, HasNoHead, IsHead}
 use Rattle.interleave.specs.Lengths.{IsBodyLength, IsLongBody}
@@ -13,7 +14,8 @@ StartsBlock bytes = (0 < length bytes) × (slice_index bytes 0 ≡ 36)
 
 -- another byte than CR, LF and `$` is in front, which begins a request
 abbrev pub StartsRequest : List ℕ → Type 0
-StartsRequest bytes = (0 < length bytes) × (is_line_end (slice_index bytes 0) ≡ false) × ((slice_index bytes 0 == 36) ≡ false)
+StartsRequest bytes = (0 < length bytes) × (is_line_end (slice_index bytes 0) ≡ false)
+    × ((slice_index bytes 0 == 36) ≡ false)
 
 -- all bytes CR and LF in front are these `n`
 pub record AreLineEnds (bytes : List ℕ) (n : ℕ) : Type 0 where
@@ -21,11 +23,13 @@ pub record AreLineEnds (bytes : List ℕ) (n : ℕ) : Type 0 where
   pub line_ends : (k : ℕ) → k < n → is_line_end (slice_index bytes k) ≡ true
   pub last : n < length bytes → is_line_end (slice_index bytes n) ≡ false
 
--- the length of the block in front: `$`, the channel, the number of the bytes of data in two bytes, and the data
+-- the length of the block in front: `$`, the channel, the number of the bytes of data in two bytes,
+-- and the data
 abbrev pub block_length : List ℕ → ℕ
 block_length bytes = 4 + (slice_index bytes 2 * 256 + slice_index bytes 3)
 
--- the request in front has a whole head of at most 16,384 bytes and a body of at most 65,536, and this length in all
+-- the request in front has a whole head of at most 16,384 bytes and a body of at most 65,536, and
+-- this length in all
 pub record IsRequestLength (bytes : List ℕ) (total : ℕ) : Type 0 where
   pub head : ℕ
   pub body : ℕ
@@ -45,21 +49,26 @@ pub record IsBodyTooLong (bytes : List ℕ) : Type 0 where
 -- the request in front isn't whole: its head isn't, or its length is known and more than what waits
 abbrev pub IsUnfinished : List ℕ → Type 0
 IsUnfinished bytes =
-    (HasNoHead bytes (length bytes) × (length bytes < 16384)) ⊎ ((total : ℕ) × (IsRequestLength bytes total × (length bytes < total)))
+    (HasNoHead bytes (length bytes) × (length bytes < 16384))
+    ⊎ ((total : ℕ) × (IsRequestLength bytes total × (length bytes < total)))
 
 -- what stands in front of the waiting bytes
 abbrev pub IsFirst : List ℕ → Result Step DemuxFault → Type 0
 IsFirst bytes (Ok (Skip n)) = (0 < n) × AreLineEnds bytes n
 IsFirst bytes (Ok (Block channel n)) =
-    StartsBlock bytes × (4 ≤ length bytes) × (channel ≡ slice_index bytes 1) × (n ≡ block_length bytes) × (n ≤ length bytes)
+    StartsBlock bytes × (4 ≤ length bytes) × (channel ≡ slice_index bytes 1)
+    × (n ≡ block_length bytes) × (n ≤ length bytes)
 IsFirst bytes (Ok (Request n)) = StartsRequest bytes × IsRequestLength bytes n × (n ≤ length bytes)
 IsFirst bytes (Ok More) =
     (length bytes ≡ 0)
-    ⊎ ((StartsBlock bytes × (4 ≤ length bytes → length bytes < block_length bytes)) ⊎ (StartsRequest bytes × IsUnfinished bytes))
-IsFirst bytes (Err HeadTooLong) = StartsRequest bytes × (16384 ≤ length bytes) × HasNoHead bytes 16384
+    ⊎ ((StartsBlock bytes × (4 ≤ length bytes → length bytes < block_length bytes))
+    ⊎ (StartsRequest bytes × IsUnfinished bytes))
+IsFirst bytes (Err HeadTooLong) = StartsRequest bytes × (16384 ≤ length bytes)
+    × HasNoHead bytes 16384
 IsFirst bytes (Err BodyTooLong) = StartsRequest bytes × IsBodyTooLong bytes
 
--- the answer is a fault or a whole piece, and no byte that comes later belongs to it: after CR and LF another byte waits
+-- the answer is a fault or a whole piece, and no byte that comes later belongs to it: after CR and
+-- LF another byte waits
 abbrev pub IsWhole : List ℕ → Result Step DemuxFault → Type 0
 IsWhole bytes (Ok (Skip n)) = n < length bytes
 IsWhole bytes (Ok (Block channel n)) = Unit {0}

@@ -1,4 +1,5 @@
--- A connection's input as its pieces in order and a rest: each byte CR or LF that stands before a block or a request, each interleaved block, each request.
+-- A connection's input as its pieces in order and a rest: each byte CR or LF that stands before a
+-- block or a request, each interleaved block, each request.
 use Rattle.std.specs.Prelude.{◌≡◌, ℕ, ◌<◌, ◌≤◌, ◌⊎◌, ◌++◌, true, List, [], ◌∷◌, length, take, drop, map, slice_index, Result, Ok, Err}
 use Rattle.interleave.specs.Heads.{is_line_end}
 use Rattle.interleave.specs.Pieces.{StartsBlock, StartsRequest, IsRequestLength, block_length}
@@ -8,14 +9,18 @@ use Rattle.interleave.specs.declared.pieces.DemuxFault.{DemuxFault}
 
 -- the piece in front has this length and is whole
 pub data IsPieceLength (bytes : List ℕ) (n : ℕ) : Type 0 where
-  LineEnd : n ≡ 1 → 0 < length bytes → is_line_end (slice_index bytes 0) ≡ true → IsPieceLength bytes n
-  WholeBlock : StartsBlock bytes → 4 ≤ length bytes → n ≡ block_length bytes → n ≤ length bytes → IsPieceLength bytes n
-  WholeRequest : StartsRequest bytes → IsRequestLength bytes n → n ≤ length bytes → IsPieceLength bytes n
+  LineEnd : n ≡ 1 → 0 < length bytes → is_line_end (slice_index bytes 0) ≡ true →
+      IsPieceLength bytes n
+  WholeBlock : StartsBlock bytes → 4 ≤ length bytes → n ≡ block_length bytes → n ≤ length bytes →
+      IsPieceLength bytes n
+  WholeRequest : StartsRequest bytes → IsRequestLength bytes n → n ≤ length bytes →
+      IsPieceLength bytes n
 
 -- the bytes are these pieces, one after another, and then the rest
 abbrev pub AreCut : List ℕ → List (List ℕ) → List ℕ → Type 0
 AreCut bytes [] rest = bytes ≡ rest
-AreCut bytes (piece ∷ pieces) rest = (n : ℕ) × (IsPieceLength bytes n × (piece ≡ take n bytes) × AreCut (drop n bytes) pieces rest)
+AreCut bytes (piece ∷ pieces) rest = (n : ℕ)
+    × (IsPieceLength bytes n × (piece ≡ take n bytes) × AreCut (drop n bytes) pieces rest)
 
 -- the bytes are these pieces, and no whole piece is in front of the rest
 abbrev pub IsStream : List ℕ → List (List ℕ) → List ℕ → Type 0

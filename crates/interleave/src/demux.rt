@@ -22,7 +22,8 @@ impl fmt::Display for TooMuchInput {
 
 impl Error for TooMuchInput {}
 
-/// The bytes of a connection that wait, and the first piece of them (RFC 2326 sections 4, 6 and 10.12).
+/// The bytes of a connection that wait, and the first piece of them (RFC 2326 sections 4, 6 and
+/// 10.12).
 ///
 /// Contracts see the list of the waiting bytes.
 #[derive(Debug, Drop)]
@@ -143,8 +144,8 @@ impl Demux {
 
     /// What stands in front of the waiting bytes, which stay.
     ///
-    /// The answer follows from the waiting bytes alone. What was read of a request is remembered, so that
-    /// a call reads on where the last one ended.
+    /// The answer follows from the waiting bytes alone. What was read of a request is remembered,
+    /// so that a call reads on where the last one ended.
     pub fn look(&mut self) -> Result<Step, DemuxFault>
         ensures waiting { self.new ≡ self.old }
         ensures first { IsFirst self.old result }

@@ -6,8 +6,8 @@ ghost use Rattle.interleave.specs.Pieces.{IsFirst, IsLongerSkip, IsWhole};
 
 use crate::pieces::{DemuxFault, Step};
 
-/// Where a whole piece or a fault stands in front of the waiting bytes, it stands there whatever comes later: the
-/// pieces of a stream don't depend on how its bytes were cut.
+/// Where a whole piece or a fault stands in front of the waiting bytes, it stands there whatever
+/// comes later: the pieces of a stream don't depend on how its bytes were cut.
 pub fn law_cutting(waiting: &[u8], later: &[u8], answer: Result<Step, DemuxFault>)
     requires first { IsFirst waiting.now answer }
     requires whole { IsWhole waiting.now answer }
@@ -44,28 +44,33 @@ pub fn law_stream_grows()
         → AreCut heard pieces rest → AreCut (heard ++ later) pieces (rest ++ later) }
 {}
 
-/// Cuts join: the pieces of what was heard first, and those of its rest and what was heard then, are those of all.
+/// Cuts join: the pieces of what was heard first, and those of its rest and what was heard then,
+/// are those of all.
 pub fn law_cuts_join()
     ensures { (heard later : List ℕ) (pieces more : List (List ℕ)) (rest end : List ℕ)
         → AreCut heard pieces rest → AreCut (rest ++ later) more end → AreCut (heard ++ later) (pieces ++ more) end }
 {}
 
-/// Two cuts of one stream agree: the pieces of one are a front of the other's, which cuts the rest of the one further.
+/// Two cuts of one stream agree: the pieces of one are a front of the other's, which cuts the rest
+/// of the one further.
 pub fn law_cuts_agree()
     ensures { (heard : List ℕ) (one other : List (List ℕ)) (rest end : List ℕ)
         → AreCut heard one rest → AreCut heard other end → DoAgree one rest other end }
 {}
 
-/// An answer tells the next pieces of a stream: they are those in front of the rest, and dropping them leaves what
-/// comes after them. Where it tells none, no whole piece is in front of the rest.
+/// An answer tells the next pieces of a stream: they are those in front of the rest, and dropping
+/// them leaves what comes after them. Where it tells none, no whole piece is in front of the rest.
 pub fn law_next_pieces()
-    ensures pieces { (heard rest : List ℕ) (pieces : List (List ℕ)) (answer : Result Step DemuxFault)
+    ensures pieces { (heard rest : List ℕ) (pieces : List (List ℕ))
+        (answer : Result Step DemuxFault)
         → IsFirst rest answer → AreCut heard pieces rest
         → AreCut heard (pieces ++ told_pieces rest answer) (drop (told_length answer) rest) }
-    ensures none { (rest : List ℕ) (answer : Result Step DemuxFault) → IsFirst rest answer → TellsNone rest answer }
+    ensures none { (rest : List ℕ) (answer : Result Step DemuxFault) → IsFirst rest answer →
+        TellsNone rest answer }
 {}
 
-/// All bytes heard are pieces and a rest, in one way alone. So the pieces are the same however the bytes came.
+/// All bytes heard are pieces and a rest, in one way alone. So the pieces are the same however the
+/// bytes came.
 pub fn law_one_stream()
     ensures some { (heard : List ℕ) → HasStream heard }
     ensures one { (heard : List ℕ) (one other : List (List ℕ)) (rest end : List ℕ)

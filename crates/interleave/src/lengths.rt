@@ -11,7 +11,8 @@ const LONGEST_BODY: u64 = 65_536;
 
 /// The length that a value writes, or None where it is above 65,536.
 fn length_of_value(value: &[u8]) -> Option<usize>
-    ensures { MatchOption result (65536 < written_length value.now) (λ n. (n ≤ 65536) × (n ≡ written_length value.now)) }
+    ensures { MatchOption result (65536 < written_length value.now) (λ n. (n ≤ 65536)
+        × (n ≡ written_length value.now)) }
 {
     match read_number(value) {
         Ok(length) if length <= LONGEST_BODY => Some(length as usize),
@@ -34,7 +35,8 @@ fn is_length_line(head: &[u8], at: usize) -> bool
 /// The length that stands at `at`, after the name, or None where it is above 65,536.
 fn length_at(head: &[u8], at: usize) -> Option<usize>
     requires { at ≤ length head.now }
-    ensures { MatchOption result (IsLongAt head.now at) (λ n. (n ≤ 65536) × IsWrittenAt head.now at n) }
+    ensures { MatchOption result (IsLongAt head.now at) (λ n. (n ≤ 65536)
+        × IsWrittenAt head.now at n) }
 {
     match line_end(head, at) {
         Some(line) => length_of_value(trimmed(&head[at..line.text_end])),
@@ -44,7 +46,8 @@ fn length_at(head: &[u8], at: usize) -> Option<usize>
 
 /// The length of the body of a message with this head, or None where it is above 65,536.
 pub(crate) fn body_length(head: &[u8]) -> Option<usize>
-    ensures { MatchOption result (IsLongBody head.now) (λ n. (n ≤ 65536) × IsBodyLength head.now n) }
+    ensures { MatchOption result (IsLongBody head.now) (λ n. (n ≤ 65536)
+        × IsBodyLength head.now n) }
 {
     for at in 0..head.len() {
         if is_length_line(head, at) {

@@ -37,8 +37,8 @@ impl fmt::Display for DemuxFault {
 
 impl Error for DemuxFault {}
 
-/// The head of an interleaved block (RFC 2326 section 10.12): `$`, the channel, and the number of the
-/// bytes that follow, the high byte first.
+/// The head of an interleaved block (RFC 2326 section 10.12): `$`, the channel, and the number of
+/// the bytes that follow, the high byte first.
 pub fn frame_head(channel: u8, length: u16) -> [u8; 4]
     ensures { result ≡ 36 ∷ channel ∷ (length / 256) ∷ (length % 256) ∷ [] }
 {

@@ -34,7 +34,8 @@ fn find_head(bytes: &[u8], from: usize, to: usize) -> Option<usize>
     requires order { from ≤ to }
     requires within { to ≤ length bytes.now }
     requires searched { HasNoHead bytes.now from }
-    ensures { MatchOption result (HasNoHead bytes.now to) (λ head. (head ≤ to) × IsHead bytes.now head) }
+    ensures { MatchOption result (HasNoHead bytes.now to) (λ head. (head ≤ to)
+        × IsHead bytes.now head) }
 {
     for at in from..to {
         if empty_line_ends(bytes, at) {

@@ -5,7 +5,8 @@ use Rattle.film_frames.specs.Tracks.{framed}
 -- the least boundary at or after a place, which counts from where the first piece begins
 abbrev pub boundary_from : List (List ℕ) → ℕ → ℕ
 boundary_from [] at = 0
-boundary_from (piece ∷ pieces) at = if at == 0 then 0 else length piece + boundary_from pieces (at - length piece)
+boundary_from (piece ∷ pieces) at = if at == 0
+    then 0 else length piece + boundary_from pieces (at - length piece)
 
 -- the bytes of pieces from a place up to another
 abbrev pub bytes_between : List (List ℕ) → ℕ → ℕ → List ℕ

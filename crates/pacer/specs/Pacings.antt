@@ -64,7 +64,8 @@ pub record IsPacing (p : Pacing) : Type 0 where
 abbrev pub slots_by : Pacing → ℕ → ℕ
 slots_by p slot = slot + 1 - p.start
 
--- what is due once a slot was stepped: what the plan has through it or what is kept, if that is less; it never falls
+-- what is due once a slot was stepped: what the plan has through it or what is kept, if that is
+-- less; it never falls
 abbrev pub due_by : Pacing → ℕ → ℕ
 due_by p slot = max p.due (min (first_slots p.plan (slots_by p slot)) p.keep)
 

@@ -2,9 +2,10 @@
 use Rattle.std.specs.Prelude.{ℕ, ◌≡◌, ◌≤◌, ◌<◌, List, length, take, Option}
 use Rattle.vod_base.specs.Links.{Doing, told_more, sends}
 
--- Bytes that were to be sent and weren't all: whole sends brought out so many of them, and one more send, which failed, a front
--- of the next ones.
-pub record HasStopped (bytes : List ℕ) (told_old told_new : Option (List Doing)) (whole : ℕ) : Type 0 where
+-- Bytes that were to be sent and weren't all: whole sends brought out so many of them, and one more
+-- send, which failed, a front of the next ones.
+pub record HasStopped (bytes : List ℕ) (told_old told_new : Option (List Doing)) (whole : ℕ)
+    : Type 0 where
   pub before_end : whole < length bytes
   pub out : ℕ
   pub out_least : whole ≤ out

@@ -9,9 +9,10 @@ pub record IsStepped (old new : Pacing) (step : Stepped) : Type 0 where
   pub sent : step.sent ≡ new.sent - old.sent
   pub left : step.left ≡ new.due - new.sent
 
--- A step that failed. What is due is that of the whole step. What was sent are whole sends, none past the step's end; and the
--- front of one more went out.
-pub record HasFailed (stop : Bool) (slot : ℕ) (old new : Pacing) (told_old told_new : Option (List Doing)) : Type 0 where
+-- A step that failed. What is due is that of the whole step. What was sent are whole sends, none
+-- past the step's end; and the front of one more went out.
+pub record HasFailed (stop : Bool) (slot : ℕ) (old new : Pacing)
+    (told_old told_new : Option (List Doing)) : Type 0 where
   pub state : new ≡ record (raised slot old) { sent = new.sent }
   pub least : old.sent ≤ new.sent
   pub before_end : new.sent < step_end stop (raised slot old)

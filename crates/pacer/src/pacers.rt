@@ -45,9 +45,13 @@ impl<T: Track> Model for Pacer<T> {
 
     ghost Value = { Pacing };
 
-    ghost view = { λ p. pacing_of (T.pieces p.track) p.before p.cursor p.start p.keep (slots_through p.last) p.due p.sent };
+    ghost view = { λ p.
+        pacing_of (T.pieces p.track) p.before p.cursor p.start p.keep
+        (slots_through p.last) p.due p.sent };
 
-    ghost invariant = { λ p. IsPacing (pacing_of (T.pieces p.track) p.before p.cursor p.start p.keep (slots_through p.last) p.due p.sent) × (p.total ≡ length (framed (T.pieces p.track))) };
+    ghost invariant = { λ p.
+        IsPacing (pacing_of (T.pieces p.track) p.before p.cursor p.start p.keep
+        (slots_through p.last) p.due p.sent) × (p.total ≡ length (framed (T.pieces p.track))) };
 }
 
 /// The later of two slots of a plan, where the first may be none.
@@ -65,8 +69,8 @@ impl<T: Track> Pacer<T> {
     ghost use Rattle.pacer.specs.Pacings.{plan_bytes, step_end, stepped, stands_at_boundary, is_done};
     ghost use Rattle.pacer.specs.Steps.{IsStepped, HasFailed};
 
-    /// A pacer of a plan that begins in slot `start`. The plan's first byte stands at the boundary `sent_before` of the track,
-    /// its last one at the track's end.
+    /// A pacer of a plan that begins in slot `start`. The plan's first byte stands at the boundary
+    /// `sent_before` of the track, its last one at the track's end.
     pub fn new(track: T, sent_before: u64, plan: Plan, start: u64) -> Pacer<T>
         requires boundary { IsBoundary (T.pieces track) sent_before }
         requires whole { sent_before + total_bytes plan ≡ length (framed (T.pieces track)) }
@@ -125,14 +129,14 @@ impl<T: Track> Pacer<T> {
         }
     }
 
-    /// Steps a slot: what the plan has through it becomes due, or what is kept if that is less, and what is due is sent. Slots
-    /// before the plan's start are due nothing, and missed ones are made up. With `stop` it ends at the first boundary that it
-    /// reaches, also where it begins at one.
+    /// Steps a slot: what the plan has through it becomes due, or what is kept if that is less, and
+    /// what is due is sent. Slots before the plan's start are due nothing, and missed ones are made
+    /// up. With `stop` it ends at the first boundary that it reaches, also where it begins at one.
     ///
     /// # Errors
     ///
-    /// [`LinkFault`] only where the link's count of faults rose. What is due was raised; `sent` counts the bytes of the sends
-    /// that succeeded.
+    /// [`LinkFault`] only where the link's count of faults rose. What is due was raised; `sent`
+    /// counts the bytes of the sends that succeeded.
     pub fn step<K: Link>(
         &mut self,
         slot: u64,
@@ -167,7 +171,8 @@ impl<T: Track> Pacer<T> {
         }
     }
 
-    /// Halts at the first boundary at or after what was sent, and answers it. Nothing past it ever becomes due.
+    /// Halts at the first boundary at or after what was sent, and answers it. Nothing past it ever
+    /// becomes due.
     pub fn ask_halt(&mut self) -> u64
         requires { self.old.due ≡ self.old.sent }
         ensures value { result ≡ next_boundary self.old }
@@ -200,15 +205,18 @@ impl<T: Track> Pacer<T> {
     /// Whether what was sent ends at a boundary.
     pub fn at_boundary(&self) -> bool
         ensures value { result ≡ stands_at_boundary self.now }
-        ensures boundary { IsTrue result ↔ IsBoundary self.now.pieces (self.now.before + self.now.sent) }
+        ensures boundary { IsTrue result ↔
+            IsBoundary self.now.pieces (self.now.before + self.now.sent) }
     {
         self.next_boundary() == self.sent
     }
 
-    /// Whether a slot at or after the start was stepped, and all bytes of the plan were sent, or those up to where it was halted.
+    /// Whether a slot at or after the start was stepped, and all bytes of the plan were sent, or
+    /// those up to where it was halted.
     pub fn done(&self) -> bool
         ensures value { result ≡ is_done self.now }
-        ensures all { IsTrue result → (self.now.sent ≡ self.now.keep) × (self.now.due ≡ self.now.keep) }
+        ensures all { IsTrue result → (self.now.sent ≡ self.now.keep)
+            × (self.now.due ≡ self.now.keep) }
     {
         self.last.is_some() && self.sent == self.keep
     }

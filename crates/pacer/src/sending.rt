@@ -37,8 +37,8 @@ fn send_some<K: Link>(bytes: &[u8], link: &mut K) -> Result<(), LinkFault>
     link.send(bytes)
 }
 
-/// Sends the first `most` bytes of a head and the payload after it, in a send for each of the two that has some of them. It
-/// answers how many they were.
+/// Sends the first `most` bytes of a head and the payload after it, in a send for each of the two
+/// that has some of them. It answers how many they were.
 fn send_part<K: Link>(head: &[u8], payload: &[u8], most: u64, link: &mut K) -> Result<u64, Stopped>
     requires { length head.now ≤ 52 }
     ensures count { K.faults link.old ≤ K.faults link.new }
@@ -61,7 +61,8 @@ fn send_part<K: Link>(head: &[u8], payload: &[u8], most: u64, link: &mut K) -> R
     Ok(head_bytes + payload.len() as u64)
 }
 
-/// Sends the bytes of a track from one place up to another, in at most two sends for each of its parts.
+/// Sends the bytes of a track from one place up to another, in at most two sends for each of its
+/// parts.
 pub(crate) fn send_between<T: Track, K: Link>(
     track: &T,
     from: u64,

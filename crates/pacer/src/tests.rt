@@ -1,5 +1,5 @@
-//! Film B: a sequence header, a group header, an I picture and one slice; a P picture and one slice. Its bytes on the wire are a
-//! report of 52 bytes, a frame of 54 and a frame of 35.
+//! Film B: a sequence header, a group header, an I picture and one slice; a P picture and one
+//! slice. Its bytes on the wire are a report of 52 bytes, a frame of 54 and a frame of 35.
 use super::*;
 use film_frames::{Frames, Stored, Track};
 use mpeg_scan::scan;
@@ -33,7 +33,8 @@ enum Call {
     Halt,
 }
 
-/// What was sent and what is due after a call, whether it stands at a boundary, and whether it is done.
+/// What was sent and what is due after a call, whether it stands at a boundary, and whether it is
+/// done.
 type After = (u64, u64, bool, bool);
 
 /// The bytes that a step sent or where a halt was, and what holds after. None where a send failed.

@@ -1,9 +1,11 @@
--- What a sending plan owes to a client's two curves, and how much it sends above a rate. After Salehi, Zhang, Kurose and
--- Towsley, "Supporting stored video: reducing rate variability and end-to-end resource requirements through optimal smoothing",
--- IEEE/ACM Transactions on Networking, 1998.
+-- What a sending plan owes to a client's two curves, and how much it sends above a rate. After
+-- Salehi, Zhang, Kurose and Towsley, "Supporting stored video: reducing rate variability and
+-- end-to-end resource requirements through optimal smoothing", IEEE/ACM Transactions on Networking,
+-- 1998.
 use Rattle.std.specs.Prelude.{ℕ, ◌+◌, ◌-◌, ◌*◌, ◌<◌, ◌≤◌, ◌≡◌, List, length, take, sum, sum_by, slice_index}
 
--- The bytes x(0), x(1), .. keep the running sum, which begins at `from`, between the two curves at the end of each slot.
+-- The bytes x(0), x(1), .. keep the running sum, which begins at `from`, between the two curves at
+-- the end of each slot.
 pub record IsFeasible (from : ℕ) (low up x : List ℕ) : Type 0 where
   pub same_length : length x ≡ length low
   pub above : (t : ℕ) → t < length low → slice_index low t ≤ from + sum (take (t + 1) x)

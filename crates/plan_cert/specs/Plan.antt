@@ -8,8 +8,10 @@ pub record IsPlan (segments : List Segment) : Type 0 where
   pub few_slots : total_slots segments ≤ 1000000
   pub few_bytes : total_bytes segments ≤ 2 ^ 42
 
--- Slot `slot` is slot `passed` of this segment of the list, and the segments before it have `before` bytes.
-pub record IsPlace (segments : List Segment) (slot : ℕ) (segment : Segment) (passed before : ℕ) : Type 0 where
+-- Slot `slot` is slot `passed` of this segment of the list, and the segments before it have
+-- `before` bytes.
+pub record IsPlace (segments : List Segment) (slot : ℕ) (segment : Segment) (passed before : ℕ)
+    : Type 0 where
   pub index : ℕ
   pub inside : index < length segments
   pub segment_is : segment ≡ slice_index_or segments index segment

@@ -53,11 +53,13 @@ pub record MayEnd (i : ℕ) (line : List ℕ) : Type 0 where
 abbrev pub line_at : Lines → ℕ → List ℕ
 line_at lines i = slice_index_or lines.whole i []
 
--- Line i, from 0, is the first one that breaks the grammar: the text ends before that line does, or the line may neither stand
--- there nor end the certificate.
+-- Line i, from 0, is the first one that breaks the grammar: the text ends before that line does, or
+-- the line may neither stand there nor end the certificate.
 pub record BreaksAt (lines : Lines) (i : ℕ) : Type 0 where
   pub before : (j : ℕ) → j < i → MayStand j (line_at lines j)
-  pub here : (i ≡ length lines.whole) ⊎ ((i < length lines.whole) × (¬ MayStand i (line_at lines i)) × (¬ MayEnd i (line_at lines i)))
+  pub here : (i ≡ length lines.whole)
+      ⊎ ((i < length lines.whole) × (¬ MayStand i (line_at lines i))
+      × (¬ MayEnd i (line_at lines i)))
 
 -- Line i, from 0, is after the end of a whole certificate.
 pub record IsAfterEnd (lines : Lines) (i : ℕ) : Type 0 where
@@ -73,8 +75,8 @@ pub record AreSmall (segments : List Segment) : Type 0 where
   pub few : length segments ≤ 1000000
   pub small : All (λ s. (s.slots ≤ 2 ^ 42) × (s.bytes ≤ 2 ^ 42)) segments
 
--- All lines are well formed, but the sums at the head aren't those of the segments: line i, from 0, is the first of the two
--- that is wrong.
+-- All lines are well formed, but the sums at the head aren't those of the segments: line i, from 0,
+-- is the first of the two that is wrong.
 pub record HasWrongSum (text : List ℕ) (i : ℕ) : Type 0 where
   pub slots : ℕ
   pub bytes : ℕ
@@ -83,7 +85,8 @@ pub record HasWrongSum (text : List ℕ) (i : ℕ) : Type 0 where
   pub small_bytes : bytes ≤ 2 ^ 42
   pub small : AreSmall segments
   pub text_is : text ≡ cert_head slots bytes ++ flat_map segment_line segments ++ codes "end\n"
-  pub wrong : ((i ≡ 1) × (total_slots segments ≢ slots)) ⊎ ((i ≡ 2) × (total_slots segments ≡ slots) × (total_bytes segments ≢ bytes))
+  pub wrong : ((i ≡ 1) × (total_slots segments ≢ slots))
+      ⊎ ((i ≡ 2) × (total_slots segments ≡ slots) × (total_bytes segments ≢ bytes))
 
 -- The text is the certificate of these segments, and these are its two sums.
 pub record IsCertificate (text : List ℕ) (slots bytes : ℕ) (segments : List Segment) : Type 0 where
@@ -97,7 +100,8 @@ pub record IsCertificate (text : List ℕ) (slots bytes : ℕ) (segments : List 
 -- line `line`, from 1, is the bad one
 abbrev pub IsBadLine : List ℕ → ℕ → Type 0
 IsBadLine text line =
-    (i : ℕ) × (line ≡ i + 1) × (BreaksAt (lines_of text) i ⊎ (IsAfterEnd (lines_of text) i ⊎ HasWrongSum text i))
+    (i : ℕ) × (line ≡ i + 1)
+    × (BreaksAt (lines_of text) i ⊎ (IsAfterEnd (lines_of text) i ⊎ HasWrongSum text i))
 
 -- why a text is refused
 abbrev pub IsRefused : List ℕ → CertRead → Type 0

@@ -3,8 +3,8 @@ use Rattle.std.specs.Prelude.{ℕ, ◌+◌, ◌-◌, ◌*◌, ◌/◌, List, map
 use Rattle.std.specs.List.{range_with_len}
 use Rattle.plan_cert.specs.declared.Segment.{Segment}
 
--- the bytes of slot j of a segment: the whole bytes that its straight line has passed at the slot's end, less those that it
--- had passed at the slot's start
+-- the bytes of slot j of a segment: the whole bytes that its straight line has passed at the slot's
+-- end, less those that it had passed at the slot's start
 abbrev pub slot_of : Segment → ℕ → ℕ
 slot_of s j = (j + 1) * s.bytes / s.slots - j * s.bytes / s.slots
 

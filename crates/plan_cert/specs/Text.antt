@@ -13,9 +13,11 @@ segment_line s = segment_words s ++ codes "\n"
 
 -- the three lines at the head: what the text is, and what the segments sum up to
 abbrev pub cert_head : ℕ → ℕ → List ℕ
-cert_head slots bytes = codes "smooth 1\nslots " ++ decimal slots ++ codes "\nbytes " ++ decimal bytes ++ codes "\n"
+cert_head slots bytes =
+    codes "smooth 1\nslots " ++ decimal slots ++ codes "\nbytes " ++ decimal bytes ++ codes "\n"
 
 -- the whole text, the one spelling of a list of segments
 abbrev pub cert_text : List Segment → List ℕ
 cert_text segments =
-    cert_head (total_slots segments) (total_bytes segments) ++ flat_map segment_line segments ++ codes "end\n"
+    cert_head (total_slots segments) (total_bytes segments) ++ flat_map segment_line segments
+    ++ codes "end\n"

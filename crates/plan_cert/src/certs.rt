@@ -6,8 +6,9 @@ use itoa::Buffer;
 use std::alloc::{AllocError, Global};
 use vod_base::NoMemory;
 
-/// The certificate of a plan: a line `smooth 1`, `slots` and `bytes` with the sums, one line `segment SLOTS BYTES` for each
-/// segment, and a line `end`. Each line ends with LF, and numbers are decimal.
+/// The certificate of a plan: a line `smooth 1`, `slots` and `bytes` with the sums, one line
+/// `segment SLOTS BYTES` for each segment, and a line `end`. Each line ends with LF, and numbers
+/// are decimal.
 pub fn write_cert(alloc: Global, plan: &Plan) -> Result<Vec<u8>, NoMemory>
     ensures { IfOk result (λ text. text.items ≡ cert_text plan.now) }
 {

@@ -7,9 +7,10 @@ use std::marker::Model;
 
 /// A plan that is asked for one slot after the other.
 ///
-/// It looks for a slot from the segment of the slot that it was asked for last. So calls whose slots never fall pass over
-/// each segment once in all: a million of them, over a plan of 100,000 segments, take 1,100,000 steps. A slot before the
-/// last one is looked for from the plan's beginning. No call takes memory.
+/// It looks for a slot from the segment of the slot that it was asked for last. So calls whose
+/// slots never fall pass over each segment once in all: a million of them, over a plan of 100,000
+/// segments, take 1,100,000 steps. A slot before the last one is looked for from the plan's
+/// beginning. No call takes memory.
 #[derive(Debug, Drop)]
 pub struct PlanCursor {
     plan: Plan,
@@ -53,7 +54,8 @@ impl PlanCursor {
         self.plan
     }
 
-    /// The bytes that the plan sends through this slot, from its first one on; past its end all of its bytes.
+    /// The bytes that the plan sends through this slot, from its first one on; past its end all of
+    /// its bytes.
     pub fn sum_at(&mut self, slot: u64) -> u64
         ensures value { result ≡ sum_through self.old slot }
         ensures plan { self.new ≡ self.old }

@@ -3,8 +3,8 @@ ghost use Rattle.plan_cert.specs.declared.Segment.{Segment};
 ghost use Rattle.plan_cert.specs.Slots.{slot_of, plan_slots, total_slots, total_bytes, sum_through};
 ghost use Rattle.plan_cert.specs.Plan.{IsPlan};
 
-/// A plan's slots are those of its segments and add up to its bytes. A slot of a segment sends the segment's bytes over its
-/// slots, rounded down or up.
+/// A plan's slots are those of its segments and add up to its bytes. A slot of a segment sends the
+/// segment's bytes over its slots, rounded down or up.
 pub fn law_slots()
     ensures count { (segments : List Segment) →
         length (plan_slots segments) ≡ total_slots segments }
@@ -17,8 +17,8 @@ pub fn law_slots()
         (slot_of s j ≡ s.bytes / s.slots) ⊎ (slot_of s j ≡ (s.bytes + (s.slots - 1)) / s.slots) }
 {}
 
-/// The running sum of a plan's slots grows in each slot by that slot's bytes, never falls, and is the plan's bytes from its
-/// last slot on.
+/// The running sum of a plan's slots grows in each slot by that slot's bytes, never falls, and is
+/// the plan's bytes from its last slot on.
 pub fn law_running_sum()
     ensures first { (segments : List Segment) →
         sum_through segments 0 ≡ slice_index (plan_slots segments) 0 }

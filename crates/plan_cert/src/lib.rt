@@ -1,4 +1,5 @@
-//! Plans of straight segments, the bytes that they send in each slot, and the text of their certificates.
+//! Plans of straight segments, the bytes that they send in each slot, and the text of their
+//! certificates.
 #![tactic(auto)]
 
 mod certs;

@@ -7,11 +7,12 @@ use crate::segments::{Passed, bytes_of, slot_after, slots_of, sum_after};
 use std::marker::Model;
 use vod_base::NoMemory;
 
-/// A list of segments that a server can follow: none is empty, and together they have at most 1,000,000 slots and
-/// at most 2^42 bytes. Its slots are those of its segments, one after the other.
+/// A list of segments that a server can follow: none is empty, and together they have at most
+/// 1,000,000 slots and at most 2^42 bytes. Its slots are those of its segments, one after the
+/// other.
 ///
-/// [`Plan::sum_at`] and [`Plan::slot_bytes`] pass over the segments at each call. Who asks slot after slot uses a
-/// [`crate::PlanCursor`].
+/// [`Plan::sum_at`] and [`Plan::slot_bytes`] pass over the segments at each call. Who asks slot
+/// after slot uses a [`crate::PlanCursor`].
 #[derive(Debug, Drop)]
 pub struct Plan {
     segments: Vec<Segment>,
@@ -38,7 +39,8 @@ pub const MAX_SLOTS: u64 = 1_000_000;
 pub const MAX_BYTES: u64 = 1 << 42;
 
 impl Plan {
-    /// Whether these segments make a plan: none is empty, and they have at most [`MAX_SLOTS`] slots and [`MAX_BYTES`] bytes.
+    /// Whether these segments make a plan: none is empty, and they have at most [`MAX_SLOTS`] slots
+    /// and [`MAX_BYTES`] bytes.
     pub fn is_allowed(segments: &[Segment]) -> bool
         ensures { IsTrue result ↔ IsPlan segments.now }
     {
@@ -93,15 +95,16 @@ impl Plan {
         self.bytes
     }
 
-    /// The bytes that it sends through this slot, from its first one on; past its end all of its bytes.
-    /// One pass over the segments, and none over slots.
+    /// The bytes that it sends through this slot, from its first one on; past its end all of its
+    /// bytes. One pass over the segments, and none over slots.
     pub fn sum_at(&self, slot: u64) -> u64
         ensures { result ≡ sum_through self.now slot }
     {
         sum_after(self.segments.as_slice(), &mut Passed::none(), slot)
     }
 
-    /// The bytes that it sends in this slot; 0 past its end. One pass over the segments, and none over slots.
+    /// The bytes that it sends in this slot; 0 past its end. One pass over the segments, and none
+    /// over slots.
     pub fn slot_bytes(&self, slot: u64) -> u64
         ensures { result ≡ slice_index (plan_slots self.now) slot }
     {

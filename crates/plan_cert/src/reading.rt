@@ -23,8 +23,9 @@ pub struct CertText {
 /// Why a text isn't read as a certificate.
 #[derive(Clone, Copy, Debug, PartialEq, Eq)]
 pub enum CertRead {
-    /// This line, from 1, is the first that breaks the grammar, or the one after the last where the text ends early; or, where
-    /// all lines are well formed, the first of the lines `slots` and `bytes` that doesn't agree with the segments.
+    /// This line, from 1, is the first that breaks the grammar, or the one after the last where the
+    /// text ends early; or, where all lines are well formed, the first of the lines `slots` and
+    /// `bytes` that doesn't agree with the segments.
     BadCert { line: u64 },
     /// Want of memory.
     NoMemory,
@@ -228,10 +229,12 @@ fn has_bytes(segments: &[Segment], bytes: u64) -> bool
     left == 0
 }
 
-/// Reads a certificate: the text that [`crate::write_cert`] gives of a plan, and of any segments with numbers up to 2^42, at
-/// most 1,000,000 of them. Such a text is read as its own segments, or there is no memory; any other is refused.
+/// Reads a certificate: the text that [`crate::write_cert`] gives of a plan, and of any segments
+/// with numbers up to 2^42, at most 1,000,000 of them. Such a text is read as its own segments, or
+/// there is no memory; any other is refused.
 pub fn read_cert(alloc: Global, text: &[u8]) -> Result<CertText, CertRead>
-    ensures read { IfOk result (λ cert. IsCertificate text.now cert.slots cert.bytes cert.segments.items) }
+    ensures read { IfOk result (λ cert.
+        IsCertificate text.now cert.slots cert.bytes cert.segments.items) }
     ensures refused { IfErr result (IsRefused text.now) }
     ensures certificates { (slots bytes : ℕ) (segments : List Segment) →
         IsCertificate text.now slots bytes segments →
@@ -243,7 +246,8 @@ pub fn read_cert(alloc: Global, text: &[u8]) -> Result<CertText, CertRead>
 
 /// Reads the head and the body, and compares the sums.
 fn read_lines(alloc: Global, text: &[u8]) -> Result<CertText, CertRead>
-    ensures read { IfOk result (λ cert. IsCertificate text.now cert.slots cert.bytes cert.segments.items) }
+    ensures read { IfOk result (λ cert.
+        IsCertificate text.now cert.slots cert.bytes cert.segments.items) }
     ensures refused { IfErr result (IsRefused text.now) }
 {
     let head = match read_head(text) {

@@ -50,8 +50,8 @@ impl Passed {
     }
 }
 
-/// The place of a slot. It is looked for after the segments that were passed, or from the first segment on where they end
-/// after the slot. The segments before it are then passed.
+/// The place of a slot. It is looked for after the segments that were passed, or from the first
+/// segment on where they end after the slot. The segments before it are then passed.
 pub(crate) fn place_after(segments: &[Segment], passed: &mut Passed, slot: u64) -> Option<Place>
     requires plan { IsPlan segments.now }
     requires passed { ArePassed segments.now passed.old.segments passed.old.slots passed.old.bytes }

@@ -1,20 +1,22 @@
--- How a unit, a picture with its headers, is cut into the payloads of RTP packets of at most 1,380 bytes. RFC
--- 2250 section 3.1 wants that headers begin a packet and that a slice begins one too, or follows headers or
--- whole slices. Of the ways that it leaves this is one:
+-- How a unit, a picture with its headers, is cut into the payloads of RTP packets of at most 1,380
+-- bytes. RFC 2250 section 3.1 wants that headers begin a packet and that a slice begins one too, or
+-- follows headers or whole slices. Of the ways that it leaves this is one:
 -- * the first piece begins with the whole head;
--- * a slice of at most 1,380 bytes is never cut: it goes into the piece that is being filled where all of it
+-- * a slice of at most 1,380 bytes is never cut: it goes into the piece that is being filled where
+-- all of it
 --   fits, and else begins the next;
--- * a longer slice begins in the piece that has nothing but the head, where that leaves room, and else begins
+-- * a longer slice begins in the piece that has nothing but the head, where that leaves room, and
+-- else begins
 --   the next; it fills each piece to 1,380 bytes, and no slice goes behind its last fragment;
--- * a piece ends only where this says so, or with the unit.
--- A unit's cut points are the places where its pieces end, the last of them the unit's end.
+-- * a piece ends only where this says so, or with the unit. A unit's cut points are the places
+-- where its pieces end, the last of them the unit's end.
 use Rattle.std.specs.Prelude.{ℕ, zero, suc, ◌+◌, ◌-◌, ◌*◌, ◌/◌, ◌<◌, ◌≤◌, ◌≡◌, ◌⊎◌, Bool, true, false, nat_le, nat_lt, if◌then◌else◌, List, [], ◌∷◌, ◌++◌}
 use Rattle.rtp_pack.specs.declared.filling.Filling.{Filling}
 use Rattle.rtp_pack.specs.declared.filling.Holds.{Holds}
 use Rattle.rtp_pack.specs.declared.filling.Holds.TheVariants.{HeadAlone, Slices, LastFragment}
 
--- a slice of at most 1,380 bytes goes into the piece that has the bytes `from` to `at` where all of it fits,
--- and never behind a longer slice's last fragment
+-- a slice of at most 1,380 bytes goes into the piece that has the bytes `from` to `at` where all of
+-- it fits, and never behind a longer slice's last fragment
 abbrev pub goes_in_whole : ℕ → ℕ → Holds → ℕ → Bool
 goes_in_whole from at HeadAlone length = nat_le (at + length) (from + 1380)
 goes_in_whole from at Slices length = nat_le (at + length) (from + 1380)
@@ -28,7 +30,8 @@ goes_in_cut from at LastFragment = false
 
 abbrev pub goes_in : Filling → ℕ → Bool
 goes_in f length =
-    if nat_le length 1380 then goes_in_whole f.from f.at f.holds length else goes_in_cut f.from f.at f.holds
+    if nat_le length 1380
+    then goes_in_whole f.from f.at f.holds length else goes_in_cut f.from f.at f.holds
 
 -- what the piece with the end of a slice of `length` bytes holds
 abbrev pub held : ℕ → Holds
@@ -43,8 +46,9 @@ abbrev pub full_ends : ℕ → ℕ → List ℕ
 full_ends start zero = []
 full_ends start (suc count) = (start + 1380) ∷ full_ends (start + 1380) count
 
--- a slice that ends at `end`, in a piece from `start` on: where it doesn't end in that piece it fills it, and
--- each further one, to 1,380 bytes; the rest of the unit goes on from the piece in which it ends
+-- a slice that ends at `end`, in a piece from `start` on: where it doesn't end in that piece it
+-- fills it, and each further one, to 1,380 bytes; the rest of the unit goes on from the piece in
+-- which it ends
 pub record Fills (GoesOn : ℕ → List ℕ → Type 0) (start end : ℕ) (cuts : List ℕ) : Type 0 where
   pub full : ℕ
   pub rest : List ℕ
@@ -53,18 +57,20 @@ pub record Fills (GoesOn : ℕ → List ℕ → Type 0) (start end : ℕ) (cuts 
   pub filled : cuts ≡ full_ends start full ++ rest
   pub goes_on : GoesOn (start + 1380 * full) rest
 
--- a slice that goes into the piece makes no cut before it; any other makes a cut where it begins, and begins
--- the next piece
+-- a slice that goes into the piece makes no cut before it; any other makes a cut where it begins,
+-- and begins the next piece
 abbrev pub Begins : (ℕ → List ℕ → Type 0) → Bool → ℕ → ℕ → List ℕ → Type 0
 Begins Goes goes from at cuts =
-    ((goes ≡ true) × Goes from cuts) ⊎ ((goes ≡ false) × ((rest : List ℕ) × ((cuts ≡ at ∷ rest) × Goes at rest)))
+    ((goes ≡ true) × Goes from cuts)
+    ⊎ ((goes ≡ false) × ((rest : List ℕ) × ((cuts ≡ at ∷ rest) × Goes at rest)))
 
 -- the cut points behind a piece that is being filled, where slices of these lengths follow
 abbrev pub Cuts : Filling → List ℕ → List ℕ → Type 0
 Cuts f [] cuts = cuts ≡ f.at ∷ []
 Cuts f (length ∷ slices) cuts =
     let end = f.at + length in
-    Begins (λ start left. Fills (λ last rest. Cuts (filled f length last) slices rest) start end left)
+    Begins (λ start left.
+    Fills (λ last rest. Cuts (filled f length last) slices rest) start end left)
     (goes_in f length) f.from f.at cuts
 
 -- the first piece of a unit begins with its whole head

@@ -1,4 +1,5 @@
--- The heads of a packet of MPEG-1 video: the RTP header (RFC 3550 section 5.1) and the video header (RFC 2250 section 3.4).
+-- The heads of a packet of MPEG-1 video: the RTP header (RFC 3550 section 5.1) and the video header
+-- (RFC 2250 section 3.4).
 use Rattle.std.specs.Prelude.{ℕ, ◌+◌, ◌*◌, ◌/◌, ◌%◌, ◌^◌, ◌==◌, Bool, not, nat_le, nat_lt, if◌then◌else◌, List, ◌∷◌, ◌++◌, drop, length, slice_index, Result, Ok, Err}
 use Rattle.byteorder.specs.Endian.{big_bytes, big_number}
 use Rattle.mpeg_scan.specs.declared.units.Kind.{Kind}
@@ -13,8 +14,8 @@ use Rattle.rtp_pack.specs.declared.reports.Identity.{Identity}
 abbrev pub bit : Bool → ℕ
 bit set = if set then 1 else 0
 
--- the 16 bytes of a head: version 2 without padding, extension or sources; the marker and payload type 32;
--- sequence number, timestamp and source; the video header
+-- the 16 bytes of a head: version 2 without padding, extension or sources; the marker and payload
+-- type 32; sequence number, timestamp and source; the video header
 abbrev pub head_bytes : Head → List ℕ
 head_bytes head =
     0x80 ∷ (bit head.marker * 128 + 32) ∷ big_bytes 2 head.sequence
@@ -45,8 +46,8 @@ coding_type P = 2
 coding_type B = 3
 coding_type D = 4
 
--- the video header of a packet as a number: five zero bits and T 0; TR, 10 bits; AN and N 0; S, B and E; P, 3
--- bits; then FBV, BFC, FFV and FFC, 8 bits
+-- the video header of a packet as a number: five zero bits and T 0; TR, 10 bits; AN and N 0; S, B
+-- and E; P, 3 bits; then FBV, BFC, FFV and FFC, 8 bits
 abbrev pub video_word : PictureUnit → Packet → ℕ
 video_word unit packet =
     unit.temporal % 2 ^ 10 * 2 ^ 16
@@ -56,10 +57,11 @@ video_word unit packet =
     + coding_type unit.kind * 2 ^ 8
     + unit.vectors
 
--- the timestamp of a unit on a clock of 90,000 Hz, where a picture takes so many 1/360,000 seconds; it wraps
--- at 32 bits
+-- the timestamp of a unit on a clock of 90,000 Hz, where a picture takes so many 1/360,000 seconds;
+-- it wraps at 32 bits
 abbrev pub unit_timestamp : Identity → ℕ → PictureUnit → ℕ
-unit_timestamp identity picture_time unit = (identity.timestamp + unit.presentation * picture_time / 4) % 2 ^ 32
+unit_timestamp identity picture_time unit =
+    (identity.timestamp + unit.presentation * picture_time / 4) % 2 ^ 32
 
 -- the head of a packet with so many packets before it; the sequence number wraps at 16 bits
 abbrev pub packet_head : Identity → ℕ → PictureUnit → Packet → ℕ → Head

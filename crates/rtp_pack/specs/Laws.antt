@@ -3,7 +3,8 @@ use Rattle.std.specs.Prelude.{ℕ, ◌+◌, ◌<◌, ◌≤◌, ◌≡◌, ◌�
 use Rattle.rtp_pack.specs.declared.payloads.Packet.{Packet}
 use Rattle.rtp_pack.specs.Packets.{among}
 
--- pieces of 1 to 1,380 bytes cover the bytes from a place to another in order, without gap or overlap
+-- pieces of 1 to 1,380 bytes cover the bytes from a place to another in order, without gap or
+-- overlap
 abbrev pub ArePieces : ℕ → List ℕ → ℕ → Type 0
 ArePieces from [] to = from ≡ to
 ArePieces from (cut ∷ cuts) to = (from < cut) × ((cut ≤ from + 1380) × ArePieces cut cuts to)

@@ -32,7 +32,8 @@ packet unit from to begin end = record {
   sequence_header = unit.has_sequence && (from == unit.from);
 }
 
--- so many full pieces of a slice; the first of them begins with its code, or with the head and its code
+-- so many full pieces of a slice; the first of them begins with its code, or with the head and its
+-- code
 abbrev pub full_packets : PictureUnit → Bool → ℕ → ℕ → List Packet
 full_packets unit begin start zero = []
 full_packets unit begin start (suc count) =
@@ -60,7 +61,8 @@ before_slice goes unit f = if goes then [] else closed unit f ∷ []
 abbrev pub slice_packets : PictureUnit → Filling → ℕ → List Packet
 slice_packets unit f length =
     let start = start_of (goes_in f length) f in
-    before_slice (goes_in f length) unit f ++ full_packets unit true start (full_before start (f.at + length))
+    before_slice (goes_in f length) unit f
+    ++ full_packets unit true start (full_before start (f.at + length))
 
 -- the packets from the piece that is being filled on, where slices of these lengths follow
 abbrev pub packets_from : PictureUnit → Filling → List ℕ → List Packet
@@ -70,17 +72,21 @@ packets_from unit f (length ∷ slices) =
 
 -- the packets of a unit, by the places of its film's slices
 abbrev pub unit_packets : List ℕ → PictureUnit → List Packet
-unit_packets slice_starts unit = packets_from unit (first_piece unit.from unit.head_end) (unit_lengths slice_starts unit)
+unit_packets slice_starts unit =
+    packets_from unit (first_piece unit.from unit.head_end) (unit_lengths slice_starts unit)
 
--- the bytes of packets in their frames: an interleaved head of 4 bytes, the packet's of 16, and the payload
+-- the bytes of packets in their frames: an interleaved head of 4 bytes, the packet's of 16, and the
+-- payload
 abbrev pub frames_size : List Packet → ℕ
 frames_size [] = 0
 frames_size (p ∷ packets) = 20 + (p.to - p.from) + frames_size packets
 
--- payloads of 1 to 1,380 bytes cover the bytes from a place to another in order, without gap or overlap
+-- payloads of 1 to 1,380 bytes cover the bytes from a place to another in order, without gap or
+-- overlap
 abbrev pub DoCover : ℕ → List Packet → ℕ → Type 0
 DoCover from [] to = from ≡ to
-DoCover from (p ∷ packets) to = (p.from ≡ from) × ((from < p.to) × ((p.to ≤ from + 1380) × DoCover p.to packets to))
+DoCover from (p ∷ packets) to = (p.from ≡ from)
+    × ((from < p.to) × ((p.to ≤ from + 1380) × DoCover p.to packets to))
 
 -- ---- what they are
 
@@ -94,20 +100,23 @@ abbrev pub ends_to : ℕ → List ℕ → List ℕ
 ends_to to [] = []
 ends_to to (start ∷ starts) = next_place to starts ∷ ends_to to starts
 
--- the packet of a piece of a unit (RFC 2250 section 3.4): B where it begins with a slice, or with the head
--- and a slice behind it; E where its last byte is a slice's last byte; S where it begins with a sequence
--- header; the marker where it ends with the unit
+-- the packet of a piece of a unit (RFC 2250 section 3.4): B where it begins with a slice, or with
+-- the head and a slice behind it; E where its last byte is a slice's last byte; S where it begins
+-- with a sequence header; the marker where it ends with the unit
 abbrev pub piece_packet : PictureUnit → List ℕ → ℕ → ℕ → Packet
 piece_packet unit starts from to =
-    packet unit from to (among from starts || (from == unit.from && nat_lt unit.head_end to)) (among to (ends_to unit.to starts))
+    packet unit from to (among from starts
+    || (from == unit.from && nat_lt unit.head_end to)) (among to (ends_to unit.to starts))
 
 -- the packets of the pieces from a place on that end at these cut points
 abbrev pub piece_packets : PictureUnit → List ℕ → ℕ → List ℕ → List Packet
 piece_packets unit starts from [] = []
-piece_packets unit starts from (cut ∷ cuts) = piece_packet unit starts from cut ∷ piece_packets unit starts cut cuts
+piece_packets unit starts from (cut ∷ cuts) =
+    piece_packet unit starts from cut ∷ piece_packets unit starts cut cuts
 
 -- these are the packets of a unit: the pieces of a cutting of it, in order
-pub record ArePackets (slice_starts : List ℕ) (unit : PictureUnit) (packets : List Packet) : Type 0 where
+pub record ArePackets (slice_starts : List ℕ) (unit : PictureUnit) (packets : List Packet)
+    : Type 0 where
   pub cuts : List ℕ
   pub cutting : IsCutting unit.from unit.head_end (unit_lengths slice_starts unit) cuts
   pub pieces : packets ≡ piece_packets unit (unit_starts slice_starts unit) unit.from cuts

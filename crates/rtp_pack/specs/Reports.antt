@@ -16,8 +16,8 @@ sender_bytes report =
     ++ big_bytes 4 report.packets
     ++ big_bytes 4 report.octets
 
--- a source description of one source, packet type 202 of 4 more words: the item CNAME of 8 bytes, then the end
--- and a byte that fills the word
+-- a source description of one source, packet type 202 of 4 more words: the item CNAME of 8 bytes,
+-- then the end and a byte that fills the word
 abbrev pub description_bytes : Report → List ℕ
 description_bytes report =
     0x81 ∷ 0xCA ∷ big_bytes 2 4 ++ big_bytes 4 report.ssrc ++ 1 ∷ 8 ∷ codes "vodserve" ++ 0 ∷ 0 ∷ []
@@ -25,13 +25,15 @@ description_bytes report =
 abbrev pub report_bytes : Report → List ℕ
 report_bytes report = sender_bytes report ++ description_bytes report
 
--- the media time of a unit in seconds, 32 bits before the point and 32 behind it, where a picture takes so many
--- 1/360,000 seconds
+-- the media time of a unit in seconds, 32 bits before the point and 32 behind it, where a picture
+-- takes so many 1/360,000 seconds
 abbrev pub unit_time : ℕ → PictureUnit → ℕ
 unit_time picture_time unit =
-    let ticks = unit.presentation * picture_time in ticks / 360000 % 2 ^ 32 * 2 ^ 32 + ticks % 360000 * 2 ^ 32 / 360000
+    let ticks = unit.presentation * picture_time in ticks / 360000 % 2 ^ 32 * 2 ^ 32
+    + ticks % 360000 * 2 ^ 32 / 360000
 
--- the report before a unit that has so many packets and octets of its run before it; the counts wrap at 32 bits
+-- the report before a unit that has so many packets and octets of its run before it; the counts
+-- wrap at 32 bits
 abbrev pub unit_report : Identity → ℕ → PictureUnit → ℕ → ℕ → Report
 unit_report identity picture_time unit packets octets = record {
   ssrc = identity.ssrc;

@@ -1,4 +1,5 @@
--- The size of a unit's frames, counted slice by slice. Places are counted from the unit's first byte.
+-- The size of a unit's frames, counted slice by slice. Places are counted from the unit's first
+-- byte.
 use Rattle.std.specs.Prelude.{ℕ, ◌+◌, ◌-◌, ◌*◌, ◌^◌, ◌<◌, ◌≤◌, ◌≡◌, if◌then◌else◌, List, [], ◌∷◌, ◌++◌}
 use Rattle.rtp_pack.specs.declared.filling.Filling.{Filling}
 use Rattle.rtp_pack.specs.declared.filling.Holds.TheVariants.{LastFragment}
@@ -20,7 +21,8 @@ begun head = record { pieces = 0; filling = first_piece 0 head }
 -- how many pieces end before or in the next slice, of `length` bytes
 abbrev pub slice_pieces : Filling → ℕ → ℕ
 slice_pieces f length =
-    (if goes_in f length then 0 else 1) + full_before (start_of (goes_in f length) f) (f.at + length)
+    (if goes_in f length then 0 else 1)
+    + full_before (start_of (goes_in f length) f) (f.at + length)
 
 -- the same unit with one more slice
 abbrev pub with_slice : Measure → ℕ → Measure
@@ -41,34 +43,39 @@ measured head slices = with_slices (begun head) slices
 -- the unit has one more slice, of `length` bytes, than it had
 abbrev pub HasSlice : ℕ → Measure → Measure → Type 0
 HasSlice length old new =
-    (head : ℕ) (slices : List ℕ) → old ≡ measured head slices → new ≡ measured head (slices ++ length ∷ [])
+    (head : ℕ) (slices : List ℕ) → old ≡ measured head slices →
+    new ≡ measured head (slices ++ length ∷ [])
 
 -- the bytes of a unit so far
 abbrev pub bytes_of : Measure → ℕ
 bytes_of m = m.filling.at
 
--- the bytes of the frames of a unit that ends here: 20 bytes of heads each, and all bytes of the unit
+-- the bytes of the frames of a unit that ends here: 20 bytes of heads each, and all bytes of the
+-- unit
 abbrev pub frames_of : Measure → ℕ
 frames_of m = bytes_of m + 20 * (m.pieces + 1)
 
 -- the bytes of the frames of a film's unit, by the places of the film's slices
 abbrev pub unit_size : List ℕ → PictureUnit → ℕ
-unit_size slice_starts unit = frames_of (measured (unit.head_end - unit.from) (unit_lengths slice_starts unit))
+unit_size slice_starts unit =
+    frames_of (measured (unit.head_end - unit.from) (unit_lengths slice_starts unit))
 
--- the frames of pieces from a place on that end at these cut points: 20 bytes of heads each, and the piece
+-- the frames of pieces from a place on that end at these cut points: 20 bytes of heads each, and
+-- the piece
 abbrev pub cuts_size : ℕ → List ℕ → ℕ
 cuts_size from [] = 0
 cuts_size from (cut ∷ cuts) = 20 + (cut - from) + cuts_size cut cuts
 
--- the bytes of the frames of a unit, however a list of cut points meets the rules and wherever it begins
+-- the bytes of the frames of a unit, however a list of cut points meets the rules and wherever it
+-- begins
 abbrev pub IsSize : Measure → ℕ → Type 0
 IsSize m size =
     (head : ℕ) (slices : List ℕ) (from : ℕ) (cuts : List ℕ) → m ≡ measured head slices
     → IsCutting from (from + head) slices cuts → size ≡ cuts_size from cuts
 
--- what is kept: each piece that ended has a byte at least; and the heads of those that ended take at most 40
--- bytes more than these pieces, at most 20 more than the unit so far, and no more than that where the piece in
--- hand ends with a slice's last fragment
+-- what is kept: each piece that ended has a byte at least; and the heads of those that ended take
+-- at most 40 bytes more than these pieces, at most 20 more than the unit so far, and no more than
+-- that where the piece in hand ends with a slice's last fragment
 pub record IsMeasure (m : Measure) : Type 0 where
   pub most : m.filling.at ≤ 2 ^ 40
   pub some : m.filling.from < m.filling.at

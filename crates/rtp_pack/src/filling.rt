@@ -26,7 +26,8 @@ pub(crate) struct Filling {
 /// The most bytes of a unit in one packet.
 pub(crate) const PAYLOAD: u64 = 1380;
 
-/// Whether a slice of `length` bytes begins in the piece that is being filled, or else begins the next.
+/// Whether a slice of `length` bytes begins in the piece that is being filled, or else begins the
+/// next.
 pub(crate) fn goes_in(filling: Filling, length: u64) -> bool
     requires { filling.from ≤ filling.at }
     ensures { result ≡ goes_in filling length }

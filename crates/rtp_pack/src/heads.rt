@@ -8,7 +8,8 @@ use mpeg_scan::{Kind, Unit};
 use std::error::Error;
 use std::fmt;
 
-/// What the RTP header and the video header of a packet say (RFC 3550 section 5.1, RFC 2250 section 3.4).
+/// What the RTP header and the video header of a packet say (RFC 3550 section 5.1, RFC 2250 section
+/// 3.4).
 #[derive(Clone, Copy, Debug, PartialEq, Eq)]
 pub struct Head {
     /// The packet is the last of its unit.
@@ -134,7 +135,8 @@ pub(crate) fn wrapped_sum(start: u32, more: u128) -> u32
 
 /// The timestamp of a unit's packets and report on a clock of 90,000 Hz, modulo 2^32.
 ///
-/// `picture_time` is the time of a picture in 1/360,000 second, as `mpeg_scan::picture_units` tells it.
+/// `picture_time` is the time of a picture in 1/360,000 second, as `mpeg_scan::picture_units` tells
+/// it.
 pub fn media_timestamp(identity: &Identity, picture_time: u32, unit: &Unit) -> u32
     ensures { result ≡ unit_timestamp identity.now picture_time unit.now }
 {

@@ -9,7 +9,8 @@ use crate::heads::Head;
 use crate::payloads::Packet;
 use mpeg_scan::{Film, Unit};
 
-/// The rules for cutting leave one list: two lists of cut points that meet them for one unit are equal.
+/// The rules for cutting leave one list: two lists of cut points that meet them for one unit are
+/// equal.
 pub fn law_one_cutting(from: u64, head_end: u64, slices: &[u64], one: &[u64], other: &[u64])
     requires one { IsCutting from head_end slices.now one.now }
     requires other { IsCutting from head_end slices.now other.now }
@@ -18,8 +19,9 @@ pub fn law_one_cutting(from: u64, head_end: u64, slices: &[u64], one: &[u64], ot
     let _read = (from, head_end, slices.len(), one.len(), other.len());
 }
 
-/// What the rules for cutting come to. The pieces have 1 to 1,380 bytes and cover the unit in order. The
-/// head is never cut, nor is a slice of at most 1,380 bytes. A longer slice ends with its last piece.
+/// What the rules for cutting come to. The pieces have 1 to 1,380 bytes and cover the unit in
+/// order. The head is never cut, nor is a slice of at most 1,380 bytes. A longer slice ends with
+/// its last piece.
 pub fn law_cutting(from: u64, head_end: u64, slices: &[u64], cuts: &[u64])
     requires head { from < head_end }
     requires short { head_end ≤ from + 1380 }
@@ -32,7 +34,8 @@ pub fn law_cutting(from: u64, head_end: u64, slices: &[u64], cuts: &[u64])
     let _read = (from, head_end, slices.len(), cuts.len());
 }
 
-/// The last packet of a unit has the marker, and no other (RFC 2250 section 3.3). `packets` gives what this asks for.
+/// The last packet of a unit has the marker, and no other (RFC 2250 section 3.3). `packets` gives
+/// what this asks for.
 pub fn law_last_marked(unit: &Unit, slice_starts: &[u64], packets: &[Packet])
     requires rules { ArePackets slice_starts.now unit.now packets.now }
     requires cover { DoCover unit.now.from packets.now unit.now.to }
@@ -41,8 +44,8 @@ pub fn law_last_marked(unit: &Unit, slice_starts: &[u64], packets: &[Packet])
     let _read = (unit.to, slice_starts.len(), packets.len());
 }
 
-/// The units of a film lie in its bytes. Each has a head of 1 to 1,380 bytes and at least one slice, and its
-/// slices, of at least 4 bytes each, lie one behind another to its end.
+/// The units of a film lie in its bytes. Each has a head of 1 to 1,380 bytes and at least one
+/// slice, and its slices, of at least 4 bytes each, lie one behind another to its end.
 pub fn law_unit_laid(film: &Film, unit: usize)
     ensures within { OfUnit film.now.units.items unit (λ u. u.to ≤ length film.now.bytes.items) }
     ensures laid { OfUnit film.now.units.items unit (λ u. IsLaid film.now.slice_starts.items u) }
@@ -57,14 +60,18 @@ pub fn law_head_read_back(head: Head, payload: &[u8])
     let _read = (head, payload.len());
 }
 
-/// The rules of cutting as conditions on the list of cut points: exactly one list meets them, and it is the packer's.
+/// The rules of cutting as conditions on the list of cut points: exactly one list meets them, and
+/// it is the packer's.
 pub fn law_rules()
-    ensures some { (from head_end : ℕ) (slices : List ℕ) → from < head_end → head_end ≤ from + 1380 → HaveBytes slices
+    ensures some { (from head_end : ℕ) (slices : List ℕ) → from < head_end →
+        head_end ≤ from + 1380 → HaveBytes slices
         → (cuts : List ℕ) × MeetsRules from head_end slices cuts }
     ensures one { (from head_end : ℕ) (slices one other : List ℕ)
         → MeetsRules from head_end slices one → MeetsRules from head_end slices other → one ≡ other }
-    ensures meets { (from head_end : ℕ) (slices cuts : List ℕ) → from < head_end → head_end ≤ from + 1380 → HaveBytes slices
+    ensures meets { (from head_end : ℕ) (slices cuts : List ℕ) → from < head_end →
+        head_end ≤ from + 1380 → HaveBytes slices
         → IsCutting from head_end slices cuts → MeetsRules from head_end slices cuts }
-    ensures cutting { (from head_end : ℕ) (slices cuts : List ℕ) → from < head_end → head_end ≤ from + 1380 → HaveBytes slices
+    ensures cutting { (from head_end : ℕ) (slices cuts : List ℕ) → from < head_end →
+        head_end ≤ from + 1380 → HaveBytes slices
         → MeetsRules from head_end slices cuts → IsCutting from head_end slices cuts }
 {}

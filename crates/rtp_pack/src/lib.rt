@@ -1,5 +1,6 @@
 //! The RTP packets of MPEG-1 video (RFC 3550, RFC 2250): how a picture with its headers is cut into
-//! packets, the heads of the packets, the RTCP sender reports, and the size of all that on the wire.
+//! packets, the heads of the packets, the RTCP sender reports, and the size of all that on the
+//! wire.
 #![tactic(auto)]
 
 mod filling;

@@ -41,13 +41,14 @@ fn close(packets: &mut Vec<Packet>, unit: &Unit, filling: Filling) -> Result<(),
     put(packets, packet(unit, filling.from, filling.at, begin, end))
 }
 
-/// Appends the full pieces from `start` on of a slice that ends at `end`, and answers where the piece
-/// with its end begins.
+/// Appends the full pieces from `start` on of a slice that ends at `end`, and answers where the
+/// piece with its end begins.
 fn put_full(packets: &mut Vec<Packet>, unit: &Unit, start: u64, end: u64) -> Result<u64, NoMemory>
     requires { start < end }
     ensures start { IfOk result (λ last. last ≡ last_start start end) }
     ensures before { IfOk result (λ last. last < end) }
-    ensures packets { OnOk result (packets.new.items ≡ packets.old.items ++ full_packets unit.now true start (full_before start end)) }
+    ensures packets { OnOk result (packets.new.items ≡
+        packets.old.items ++ full_packets unit.now true start (full_before start end)) }
 {
     let mut last = start;
     let mut begin = true;
@@ -59,8 +60,8 @@ fn put_full(packets: &mut Vec<Packet>, unit: &Unit, start: u64, end: u64) -> Res
     Ok(last)
 }
 
-/// Appends the packets that end before or in the slice to `end`, and answers the piece that is being
-/// filled then.
+/// Appends the packets that end before or in the slice to `end`, and answers the piece that is
+/// being filled then.
 fn put_slice(
     packets: &mut Vec<Packet>,
     unit: &Unit,
@@ -71,7 +72,8 @@ fn put_slice(
     requires some { filling.at < end }
     ensures filling { IfOk result (λ next. next ≡ next_filling filling (end - filling.at)) }
     ensures order { IfOk result (λ next. next.from ≤ next.at) }
-    ensures packets { OnOk result (packets.new.items ≡ packets.old.items ++ slice_packets unit.now filling (end - filling.at)) }
+    ensures packets { OnOk result (packets.new.items ≡
+        packets.old.items ++ slice_packets unit.now filling (end - filling.at)) }
 {
     let length = end - filling.at;
     let mut start = filling.from;
@@ -108,7 +110,8 @@ pub(crate) fn pack(
     ensures list { OnOk result (packets.new.items ≡ unit_packets slice_starts.now unit.now) }
     ensures rules { OnOk result (ArePackets slice_starts.now unit.now packets.new.items) }
     ensures cover { OnOk result (DoCover unit.now.from packets.new.items unit.now.to) }
-    ensures size { OnOk result (frames_size packets.new.items ≡ unit_size slice_starts.now unit.now) }
+    ensures size { OnOk result (frames_size packets.new.items ≡
+        unit_size slice_starts.now unit.now) }
     ensures bound { OnOk result
         (frames_size packets.new.items + 52 ≤ 2 * (unit.now.to - unit.now.from) + 112) }
 {

@@ -7,7 +7,8 @@ use mpeg_scan::Film;
 use std::alloc::Global;
 use vod_base::NoMemory;
 
-/// A packet of a unit: a piece of the film's bytes, with what its heads say of it (RFC 2250 section 3).
+/// A packet of a unit: a piece of the film's bytes, with what its heads say of it (RFC 2250 section
+/// 3).
 #[derive(Clone, Copy, Debug, PartialEq, Eq)]
 pub struct Packet {
     /// The place of its first byte in the film.
@@ -27,19 +28,24 @@ pub struct Packet {
 /// The packets of a unit of the film, in order.
 pub fn packets(alloc: Global, film: &Film, unit: usize) -> Result<Vec<Packet>, NoMemory>
     requires { unit < length film.now.units.items }
-    ensures list { OfUnit film.now.units.items unit (λ u. IfOk result (λ p. p.items ≡ unit_packets film.now.slice_starts.items u)) }
-    ensures rules { OfUnit film.now.units.items unit (λ u. IfOk result (λ p. ArePackets film.now.slice_starts.items u p.items)) }
-    ensures cover { OfUnit film.now.units.items unit (λ u. IfOk result (λ p. DoCover u.from p.items u.to)) }
-    ensures size { OfUnit film.now.units.items unit (λ u. IfOk result (λ p. frames_size p.items ≡ unit_size film.now.slice_starts.items u)) }
-    ensures bound { OfUnit film.now.units.items unit (λ u. IfOk result (λ p. frames_size p.items + 52 ≤ 2 * (u.to - u.from) + 112)) }
+    ensures list { OfUnit film.now.units.items unit (λ u.
+        IfOk result (λ p. p.items ≡ unit_packets film.now.slice_starts.items u)) }
+    ensures rules { OfUnit film.now.units.items unit (λ u.
+        IfOk result (λ p. ArePackets film.now.slice_starts.items u p.items)) }
+    ensures cover { OfUnit film.now.units.items unit (λ u.
+        IfOk result (λ p. DoCover u.from p.items u.to)) }
+    ensures size { OfUnit film.now.units.items unit (λ u.
+        IfOk result (λ p. frames_size p.items ≡ unit_size film.now.slice_starts.items u)) }
+    ensures bound { OfUnit film.now.units.items unit (λ u.
+        IfOk result (λ p. frames_size p.items + 52 ≤ 2 * (u.to - u.from) + 112)) }
 {
     let mut packets = Vec::new(alloc);
     pack(&mut packets, &film.units[unit], &film.slice_starts)?;
     Ok(packets)
 }
 
-/// The packets of a unit of the film, in order, in place of those that the list has. It takes memory
-/// only where they are more than the list had room for.
+/// The packets of a unit of the film, in order, in place of those that the list has. It takes
+/// memory only where they are more than the list had room for.
 pub fn refill_packets(packets: &mut Vec<Packet>, film: &Film, unit: usize) -> Result<(), NoMemory>
     requires { unit < length film.now.units.items }
     ensures { OfUnit film.now.units.items unit

@@ -4,8 +4,8 @@ ghost use Rattle.rtp_pack.specs.Sizes.{HasSlice, IsSize, begun, bytes_of, frames
 use crate::filling::{Filling, Holds, PAYLOAD, full_before, goes_in, held};
 use std::marker::Model;
 
-/// The size of a unit's frames, counted while the lengths of its head and slices come in. It takes no
-/// memory.
+/// The size of a unit's frames, counted while the lengths of its head and slices come in. It takes
+/// no memory.
 ///
 /// Contracts see how many pieces ended so far, and the one that is being filled.
 #[derive(Debug, Drop)]
@@ -68,7 +68,8 @@ impl UnitSize {
         };
     }
 
-    /// The bytes of the unit's frames, each with its interleaved head of 4 bytes and its packet's of 16.
+    /// The bytes of the unit's frames, each with its interleaved head of 4 bytes and its packet's
+    /// of 16.
     pub fn end(self) -> u64
         ensures size { result ≡ frames_of self }
         ensures bound { result + 52 ≤ 2 * bytes_of self + 112 }

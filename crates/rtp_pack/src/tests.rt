@@ -1,5 +1,6 @@
-//! Expected values are worked out by hand from RFC 2250, RFC 3550 and ISO/IEC 11172-2; film A is a sequence
-//! header, a group header, an I picture and one slice, and film B is film A, a P picture and one slice.
+//! Expected values are worked out by hand from RFC 2250, RFC 3550 and ISO/IEC 11172-2; film A is a
+//! sequence header, a group header, an I picture and one slice, and film B is film A, a P picture
+//! and one slice.
 
 ghost use Rattle.std.specs.Prelude.{◌≤◌, ◌^◌};
 
@@ -53,7 +54,8 @@ fn film_b(alloc: Global) -> Result<Film, Fail> {
     scanned(alloc, bytes)
 }
 
-/// A film of one unit: the headers of film A, filled up to `head` bytes, and slices of these lengths.
+/// A film of one unit: the headers of film A, filled up to `head` bytes, and slices of these
+/// lengths.
 fn film_of(alloc: Global, head: usize, slices: &[usize]) -> Result<Film, Fail> {
     let mut bytes = Vec::from_slice(alloc, &HEAD)?;
     for _ in HEAD.len()..head {
@@ -68,7 +70,8 @@ fn film_of(alloc: Global, head: usize, slices: &[usize]) -> Result<Film, Fail> {
     scanned(alloc, bytes)
 }
 
-/// A packet, by its place and the letters of what is set: M marker, B begin, E end, S sequence header.
+/// A packet, by its place and the letters of what is set: M marker, B begin, E end, S sequence
+/// header.
 fn piece(from: u64, to: u64, set: &str) -> Packet {
     Packet {
         from,

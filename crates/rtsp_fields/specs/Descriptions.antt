@@ -3,7 +3,8 @@ use Rattle.std.specs.Prelude.{ℕ, ◌/◌, ◌%◌, List, ◌++◌, codes, deci
 
 -- milliseconds as seconds, a point and three digits
 abbrev pub seconds_text : ℕ → List ℕ
-seconds_text ms = decimal (ms / 1000) ++ codes "." ++ decimal (ms / 100 % 10) ++ decimal (ms / 10 % 10) ++ decimal (ms % 10)
+seconds_text ms = decimal (ms / 1000) ++ codes "." ++ decimal (ms / 100 % 10)
+    ++ decimal (ms / 10 % 10) ++ decimal (ms % 10)
 
 -- the whole text, each line ended by CR LF
 abbrev pub description_text : List ℕ → ℕ → List ℕ

@@ -12,7 +12,8 @@ pub record IsDigits (most : ℕ) (text : List ℕ) (number : ℕ) : Type 0 where
   pub short : length text ≤ most
   pub value : number ≡ digits_value 10 text
 
--- hours, minutes and seconds with `:` between them: 1 to 5 digits, then twice one or two digits up to 59
+-- hours, minutes and seconds with `:` between them: 1 to 5 digits, then twice one or two digits up
+-- to 59
 pub record IsClock (text : List ℕ) (seconds : ℕ) : Type 0 where
   pub first : ℕ
   pub second : ℕ
@@ -45,5 +46,6 @@ pub record IsTime (text : List ℕ) (nanoseconds : ℕ) : Type 0 where
   pub seconds : ℕ
   pub fraction : ℕ
   pub whole : AreSeconds (take point text) seconds
-  pub part : ((point ≡ length text) × (fraction ≡ 0)) ⊎ ((point < length text) × IsFraction (slice_range text (point + 1) (length text)) fraction)
+  pub part : ((point ≡ length text) × (fraction ≡ 0))
+      ⊎ ((point < length text) × IsFraction (slice_range text (point + 1) (length text)) fraction)
   pub nanoseconds_are : nanoseconds ≡ seconds * 1000000000 + fraction

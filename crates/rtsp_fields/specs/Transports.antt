@@ -1,5 +1,6 @@
--- The Transport header (RFC 2326 section 12.39) as far as delivery on the RTSP connection itself goes (section 10.12):
--- alternatives separated by commas, each of them parts separated by `;`, with blanks around them or not.
+-- The Transport header (RFC 2326 section 12.39) as far as delivery on the RTSP connection itself
+-- goes (section 10.12): alternatives separated by commas, each of them parts separated by `;`, with
+-- blanks around them or not.
 use Rattle.std.specs.Prelude.{◌≡◌, ◌≢◌, ℕ, ◌+◌, ◌<◌, ◌⊎◌, List, length, take, codes, slice_range}
 use Rattle.vod_base.specs.Blanks.{trimmed}
 use Rattle.rtsp_fields.specs.Pieces.{IsEnd, IsPiece, NoneBefore, NoPiece, Begins, lower}
@@ -32,7 +33,8 @@ word part = lower (trimmed part)
 abbrev pub IsOther : List ℕ → Type 0
 IsOther part =
     (word part ≡ codes "multicast")
-    ⊎ (Begins (codes "mode=") (word part) × (word part ≢ codes "mode=play") × (word part ≢ codes "mode=\"play\""))
+    ⊎ (Begins (codes "mode=") (word part) × (word part ≢ codes "mode=play")
+    × (word part ≢ codes "mode=\"play\""))
 
 -- a part that names channels
 abbrev pub NamesChannels : List ℕ → Type 0

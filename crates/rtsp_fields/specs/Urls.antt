@@ -5,8 +5,8 @@ use Rattle.vod_base.specs.Names.{is_good_name}
 use Rattle.rtsp_text.specs.Grammar.{is_url_byte}
 use Rattle.rtsp_fields.specs.Pieces.{IsEnd, Begins, lower}
 
--- `rtsp://` in any case, an authority of one or more bytes without `/`, and nothing or a path that begins with `/`, all of them
--- printable bytes other than the space; the authority ends at `path`
+-- `rtsp://` in any case, an authority of one or more bytes without `/`, and nothing or a path that
+-- begins with `/`, all of them printable bytes other than the space; the authority ends at `path`
 pub record IsAbsoluteUrl (url : List ℕ) (path : ℕ) : Type 0 where
   pub bytes : list_all is_url_byte url ≡ true
   pub scheme : Begins (codes "rtsp://") (lower url)
@@ -35,4 +35,6 @@ pub record IsRead (url authority : List ℕ) (name : Option (List ℕ)) : Type 0
   pub path : ℕ
   pub is_url : IsAbsoluteUrl url path
   pub authority_is : authority ≡ slice_range url 7 path
-  pub name_is : MatchOption name ((any : List ℕ) → ¬ NamesFilm (slice_range url path (length url)) any) (NamesFilm (slice_range url path (length url)))
+  pub name_is : MatchOption name ((any : List ℕ) →
+      ¬ NamesFilm (slice_range url path (length url)) any)
+      (NamesFilm (slice_range url path (length url)))

@@ -28,7 +28,8 @@ pub fn law_one_transport(value: &[u8], one: Channels, other: Channels)
     let _read = (value.len(), one, other);
 }
 
-/// The URLs that a request line may have (RFC 2326 section 6.1), but for `*`, are those that [`crate::read_url`] reads.
+/// The URLs that a request line may have (RFC 2326 section 6.1), but for `*`, are those that
+/// [`crate::read_url`] reads.
 pub fn law_asked_url(url: &[u8])
     ensures { (IsUrl url.now × (url.now ≢ codes "*")) ↔ ((path : ℕ) × IsAbsoluteUrl url.now path) }
 {
@@ -53,7 +54,8 @@ pub fn law_one_name(path: &[u8], one: &[u8], other: &[u8])
     let _read = (path.len(), one.len(), other.len());
 }
 
-/// The path of a film is `/`, its good name, and nothing, `/`, or `/video` with `/` after it or not.
+/// The path of a film is `/`, its good name, and nothing, `/`, or `/video` with `/` after it or
+/// not.
 pub fn law_film_path(name: &[u8], tail: &[u8])
     requires good { is_good_name name.now ≡ true }
     requires tail { IsTail tail.now }
@@ -62,7 +64,8 @@ pub fn law_film_path(name: &[u8], tail: &[u8])
     let _read = (name.len(), tail.len());
 }
 
-/// Milliseconds below 10^12, written as seconds with three digits, are read back as that time, in nanoseconds.
+/// Milliseconds below 10^12, written as seconds with three digits, are read back as that time, in
+/// nanoseconds.
 pub fn law_seconds_read(ms: u64)
     requires { ms < 10 ^ 12 }
     ensures { IsTime (seconds_text ms) (ms * 1000000) }

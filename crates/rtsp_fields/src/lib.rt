@@ -1,5 +1,5 @@
-//! The fields of RTSP 1.0 requests (RFC 2326) that a server of stored video reads: URLs, Transport, Range, Session and numbers;
-//! and the description of a film (RFC 4566).
+//! The fields of RTSP 1.0 requests (RFC 2326) that a server of stored video reads: URLs, Transport,
+//! Range, Session and numbers; and the description of a film (RFC 4566).
 #![tactic(auto)]
 
 mod descriptions;

@@ -1,7 +1,8 @@
 ghost use Rattle.std.specs.Prelude.{◌≡◌, ◌≤◌, ◌↔◌, IsTrue, length};
 ghost use Rattle.rtsp_fields.specs.Pieces.{IsEnd, Begins, lower};
 
-/// Where the piece that begins at `from` ends: at the first separator from there on, or at the text's end.
+/// Where the piece that begins at `from` ends: at the first separator from there on, or at the
+/// text's end.
 pub(crate) fn piece_end(text: &[u8], from: usize, separator: u8) -> usize
     requires { from ≤ length text.now }
     ensures { IsEnd separator text.now from result }

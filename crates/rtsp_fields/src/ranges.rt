@@ -25,7 +25,8 @@ pub struct Span {
 }
 
 fn read_origin(text: &[u8]) -> Option<Origin>
-    ensures { MatchOption result ((origin : Origin) → ¬ IsOrigin text.now origin) (IsOrigin text.now) }
+    ensures { MatchOption result ((origin : Origin) →
+        ¬ IsOrigin text.now origin) (IsOrigin text.now) }
 {
     if text == b"now".as_slice() {
         return Some(Origin::Now);
@@ -37,7 +38,8 @@ fn read_origin(text: &[u8]) -> Option<Origin>
 }
 
 fn read_limit(text: &[u8]) -> Option<Option<u128>>
-    ensures { MatchOption result ((limit : Option ℕ) → ¬ IsLimit text.now limit) (IsLimit text.now) }
+    ensures { MatchOption result ((limit : Option ℕ) →
+        ¬ IsLimit text.now limit) (IsLimit text.now) }
 {
     if text.is_empty() {
         return Some(None);
@@ -48,11 +50,13 @@ fn read_limit(text: &[u8]) -> Option<Option<u128>>
     }
 }
 
-/// Reads the value of a Range header in normal play time (RFC 2326 sections 3.6 and 12.29): `npt=FROM-` or `npt=FROM-TO`.
+/// Reads the value of a Range header in normal play time (RFC 2326 sections 3.6 and 12.29):
+/// `npt=FROM-` or `npt=FROM-TO`.
 ///
-/// `npt` is in any case. FROM is `now`, in lower case, or a time, TO a time. A time is 1 to 9 digits, or 1 to 5 digits for hours
-/// and twice one or two digits up to 59 for minutes and seconds, with `:` between them; a point and any digits may follow, of
-/// which nine count. None exactly where the value is of no such form. Whether TO is after FROM isn't judged here.
+/// `npt` is in any case. FROM is `now`, in lower case, or a time, TO a time. A time is 1 to 9
+/// digits, or 1 to 5 digits for hours and twice one or two digits up to 59 for minutes and seconds,
+/// with `:` between them; a point and any digits may follow, of which nine count. None exactly
+/// where the value is of no such form. Whether TO is after FROM isn't judged here.
 pub fn read_range(value: &[u8]) -> Option<Span>
     ensures { MatchOption result ((span : Span) → ¬ IsSpan value.now span) (IsSpan value.now) }
 {

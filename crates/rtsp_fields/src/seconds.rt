@@ -46,8 +46,8 @@ pub(crate) fn put_seconds(into: &mut [u8], at: usize, ms: u64) -> usize
     put_digit(into, thousandths, (ms % 10) as u8)
 }
 
-/// Milliseconds as seconds, a point and three digits, as the times of a Range (RFC 2326 section 3.6): at most 24 bytes,
-/// which stand in `into`.
+/// Milliseconds as seconds, a point and three digits, as the times of a Range (RFC 2326 section
+/// 3.6): at most 24 bytes, which stand in `into`.
 pub fn seconds_text(ms: u64, into: &mut [u8; 24]) -> &[u8]
     ensures text { result.now ≡ seconds_text ms }
     ensures short { length result.now ≤ 24 }

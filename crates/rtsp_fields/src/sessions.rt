@@ -7,8 +7,8 @@ ghost use Rattle.rtsp_fields.specs.Sessions.{IsSession};
 use crate::pieces::piece_end;
 use vod_base::trimmed;
 
-/// Whether the value of a Session header (RFC 2326 section 12.37) names this session: its part before the first `;`, without the
-/// blanks around it, is the id in any case.
+/// Whether the value of a Session header (RFC 2326 section 12.37) names this session: its part
+/// before the first `;`, without the blanks around it, is the id in any case.
 pub fn session_matches(value: &[u8], id: &[u8; 16]) -> bool
     ensures { IsTrue result ↔ IsSession value.now id.now }
 {

@@ -9,7 +9,8 @@ use vod_base::read_number;
 /// The number that one to `most` digits write.
 fn read_digits(text: &[u8], most: usize) -> Option<u64>
     requires { most ≤ 9 }
-    ensures { MatchOption result ((n : ℕ) → ¬ IsDigits most text.now n) (λ n. IsDigits most text.now n × (n < 10 ^ 9)) }
+    ensures { MatchOption result ((n : ℕ) →
+        ¬ IsDigits most text.now n) (λ n. IsDigits most text.now n × (n < 10 ^ 9)) }
 {
     if text.len() > most {
         return None;
@@ -22,7 +23,8 @@ fn read_digits(text: &[u8], most: usize) -> Option<u64>
 
 /// Hours, minutes and seconds, as seconds.
 fn read_clock(text: &[u8]) -> Option<u64>
-    ensures { MatchOption result ((n : ℕ) → ¬ IsClock text.now n) (λ n. IsClock text.now n × (n < 10 ^ 13)) }
+    ensures { MatchOption result ((n : ℕ) → ¬ IsClock text.now n) (λ n. IsClock text.now n
+        × (n < 10 ^ 13)) }
 {
     let first = piece_end(text, 0, b':');
     if first == text.len() {
@@ -43,7 +45,8 @@ fn read_clock(text: &[u8]) -> Option<u64>
 
 /// Whole seconds, written as such or as hours, minutes and seconds.
 fn read_seconds(text: &[u8]) -> Option<u64>
-    ensures { MatchOption result ((n : ℕ) → ¬ AreSeconds text.now n) (λ n. AreSeconds text.now n × (n < 10 ^ 13)) }
+    ensures { MatchOption result ((n : ℕ) → ¬ AreSeconds text.now n) (λ n. AreSeconds text.now n
+        × (n < 10 ^ 13)) }
 {
     match read_digits(text, 9) {
         Some(seconds) => Some(seconds),
@@ -59,7 +62,8 @@ fn are_digits(text: &[u8]) -> bool
 
 /// The fraction of a second that the digits after a point write, in nanoseconds.
 fn read_fraction(text: &[u8]) -> Option<u64>
-    ensures { MatchOption result ((n : ℕ) → ¬ IsFraction text.now n) (λ n. IsFraction text.now n × (n < 10 ^ 9)) }
+    ensures { MatchOption result ((n : ℕ) → ¬ IsFraction text.now n) (λ n. IsFraction text.now n
+        × (n < 10 ^ 9)) }
 {
     if !are_digits(text) {
         return None;

@@ -18,7 +18,8 @@ pub struct Channels {
 
 /// Two different channels with `-` between them.
 fn read_pair(text: &[u8]) -> Option<Channels>
-    ensures { MatchOption result ((channels : Channels) → ¬ IsPair text.now channels) (IsPair text.now) }
+    ensures { MatchOption result ((channels : Channels) →
+        ¬ IsPair text.now channels) (IsPair text.now) }
 {
     let dash = piece_end(text, 0, b'-');
     if dash == text.len() {
@@ -37,7 +38,8 @@ fn read_pair(text: &[u8]) -> Option<Channels>
 
 /// One channel, which means itself and the next.
 fn read_single(text: &[u8]) -> Option<Channels>
-    ensures { MatchOption result ((channels : Channels) → ¬ IsSingle text.now channels) (IsSingle text.now) }
+    ensures { MatchOption result ((channels : Channels) →
+        ¬ IsSingle text.now channels) (IsSingle text.now) }
 {
     let media = number_within(text, 0, 254)?;
     Some(Channels {
@@ -48,7 +50,8 @@ fn read_single(text: &[u8]) -> Option<Channels>
 
 /// The channels that stand after `interleaved=`.
 fn read_channels(text: &[u8]) -> Option<Channels>
-    ensures { MatchOption result ((channels : Channels) → ¬ AreChannels text.now channels) (AreChannels text.now) }
+    ensures { MatchOption result ((channels : Channels) →
+        ¬ AreChannels text.now channels) (AreChannels text.now) }
 {
     match read_pair(text) {
         Some(channels) => Some(channels),
@@ -86,7 +89,8 @@ fn is_plain(text: &[u8]) -> bool
 /// The channels that an alternative names, or 0 and 1.
 #[tactic(auto, using(crate::proofs::Places::steps, crate::proofs::Parts::name_within))]
 fn channels_of(text: &[u8]) -> Option<Channels>
-    ensures { MatchOption result ((channels : Channels) → ¬ HasChannels text.now channels) (HasChannels text.now) }
+    ensures { MatchOption result ((channels : Channels) →
+        ¬ HasChannels text.now channels) (HasChannels text.now) }
 {
     let mut from = 0;
     while from <= text.len() {
@@ -105,7 +109,8 @@ fn channels_of(text: &[u8]) -> Option<Channels>
 
 /// The channels of an alternative, where it can be taken.
 fn read_alternative(text: &[u8]) -> Option<Channels>
-    ensures { MatchOption result ((channels : Channels) → ¬ IsTaken text.now channels) (IsTaken text.now) }
+    ensures { MatchOption result ((channels : Channels) →
+        ¬ IsTaken text.now channels) (IsTaken text.now) }
 {
     let end = piece_end(text, 0, b';');
     if !trimmed(&text[..end]).eq_ignore_ascii_case(b"RTP/AVP/TCP") {
@@ -117,16 +122,18 @@ fn read_alternative(text: &[u8]) -> Option<Channels>
     channels_of(text)
 }
 
-/// Reads the value of a Transport header (RFC 2326 section 12.39): the channels of the first alternative that asks for unicast
-/// delivery on the connection itself (section 10.12).
+/// Reads the value of a Transport header (RFC 2326 section 12.39): the channels of the first
+/// alternative that asks for unicast delivery on the connection itself (section 10.12).
 ///
-/// An alternative, between commas, can be taken where its first part, between `;`, is `RTP/AVP/TCP`, no part is `multicast` or
-/// a `mode` other than `play`, and its first part that begins `interleaved=`, if any, is two different channels, or one
-/// channel up to 254, which means itself and the next. Without one the channels are 0 and 1. Letters are in any case, and blanks
+/// An alternative, between commas, can be taken where its first part, between `;`, is
+/// `RTP/AVP/TCP`, no part is `multicast` or a `mode` other than `play`, and its first part that
+/// begins `interleaved=`, if any, is two different channels, or one channel up to 254, which means
+/// itself and the next. Without one the channels are 0 and 1. Letters are in any case, and blanks
 /// may stand around each part. None exactly where no alternative can be taken.
 #[tactic(auto, using(crate::proofs::Places::steps))]
 pub fn read_transport(value: &[u8]) -> Option<Channels>
-    ensures { MatchOption result ((channels : Channels) → ¬ IsTransport value.now channels) (IsTransport value.now) }
+    ensures { MatchOption result ((channels : Channels) →
+        ¬ IsTransport value.now channels) (IsTransport value.now) }
 {
     let mut from = 0;
     while from <= value.len() {

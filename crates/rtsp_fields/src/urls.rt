@@ -12,8 +12,8 @@ use vod_base::good_name;
 pub struct Url<'a> {
     /// The authority, as `host:port`: one or more bytes without `/`.
     pub authority: &'a [u8],
-    /// The film that the path names, by `/NAME` or its stream `/NAME/video`, with a `/` after it or not; None where the path
-    /// names none.
+    /// The film that the path names, by `/NAME` or its stream `/NAME/video`, with a `/` after it or
+    /// not; None where the path names none.
     pub name: Option<&'a [u8]>,
 }
 
@@ -36,7 +36,8 @@ fn is_tail(tail: &[u8]) -> bool
 
 /// The film that a path names.
 fn film_name(path: &[u8]) -> Option<&[u8]>
-    ensures { MatchOption result ((name : List ℕ) → ¬ NamesFilm path.now name) (λ name. NamesFilm path.now name.now) }
+    ensures { MatchOption result ((name : List ℕ) →
+        ¬ NamesFilm path.now name) (λ name. NamesFilm path.now name.now) }
 {
     if path.is_empty() || path[0] != b'/' {
         return None;
@@ -50,18 +51,20 @@ fn film_name(path: &[u8]) -> Option<&[u8]>
     }
 }
 
-/// Reads an RTSP URL: `rtsp://` in any case, an authority, and nothing or a path that begins with `/`, all of them printable
-/// bytes other than the space.
+/// Reads an RTSP URL: `rtsp://` in any case, an authority, and nothing or a path that begins with
+/// `/`, all of them printable bytes other than the space.
 ///
-/// None exactly where the URL isn't of this form; `*` isn't. Percent signs aren't decoded. The authority and the name have no
-/// LF; the authority has at most as many bytes as the URL, and the name is a good name, of at most 64 bytes.
+/// None exactly where the URL isn't of this form; `*` isn't. Percent signs aren't decoded. The
+/// authority and the name have no LF; the authority has at most as many bytes as the URL, and the
+/// name is a good name, of at most 64 bytes.
 pub fn read_url(url: &[u8]) -> Option<Url<'_>>
     ensures read { MatchOption result ((path : ℕ) → ¬ IsAbsoluteUrl url.now path)
         (λ read. IsRead url.now read.authority.now (option_copied read.name)) }
     ensures authority { IfSome result (λ read. length read.authority.now ≤ length url.now) }
     ensures authority_line { IfSome result (λ read. is_one_line read.authority.now ≡ true) }
     ensures name { IfSome result (λ read. IfSome read.name (λ name. is_good_name name.now ≡ true)) }
-    ensures name_line { IfSome result (λ read. IfSome read.name (λ name. is_one_line name.now ≡ true)) }
+    ensures name_line { IfSome result (λ read.
+        IfSome read.name (λ name. is_one_line name.now ≡ true)) }
 {
     if !rtsp_text::has_url_bytes(url) || !starts_with(url, b"rtsp://") {
         return None;

@@ -5,7 +5,8 @@ use vod_base::read_number;
 
 /// The number from `least` to `most` that the text writes, in decimal digits.
 pub(crate) fn number_within(text: &[u8], least: u64, most: u64) -> Option<u64>
-    ensures { MatchOption result ((n : ℕ) → ¬ IsWithin least most text.now n) (IsWithin least most text.now) }
+    ensures { MatchOption result ((n : ℕ) →
+        ¬ IsWithin least most text.now n) (IsWithin least most text.now) }
 {
     match read_number(text) {
         Ok(number) if least <= number && number <= most => Some(number),
@@ -17,16 +18,19 @@ pub(crate) fn number_within(text: &[u8], least: u64, most: u64) -> Option<u64>
 ///
 /// None exactly where the value isn't such a number in decimal digits.
 pub fn read_buffer(value: &[u8]) -> Option<u64>
-    ensures { MatchOption result ((n : ℕ) → ¬ IsWithin 1 (2 ^ 42) value.now n) (IsWithin 1 (2 ^ 42) value.now) }
+    ensures { MatchOption result ((n : ℕ) →
+        ¬ IsWithin 1 (2 ^ 42) value.now n) (IsWithin 1 (2 ^ 42) value.now) }
 {
     number_within(value, 1, 1 << 42)
 }
 
-/// The value of `x-Startup`: the slots that pass before the first picture is used, from 0 to 10,000.
+/// The value of `x-Startup`: the slots that pass before the first picture is used, from 0 to
+/// 10,000.
 ///
 /// None exactly where the value isn't such a number in decimal digits.
 pub fn read_startup(value: &[u8]) -> Option<u64>
-    ensures { MatchOption result ((n : ℕ) → ¬ IsWithin 0 10000 value.now n) (IsWithin 0 10000 value.now) }
+    ensures { MatchOption result ((n : ℕ) →
+        ¬ IsWithin 0 10000 value.now n) (IsWithin 0 10000 value.now) }
 {
     number_within(value, 0, 10_000)
 }
@@ -35,7 +39,8 @@ pub fn read_startup(value: &[u8]) -> Option<u64>
 ///
 /// None exactly where the value isn't such a number in decimal digits.
 pub fn read_wait(value: &[u8]) -> Option<u64>
-    ensures { MatchOption result ((n : ℕ) → ¬ IsWithin 0 255 value.now n) (IsWithin 0 255 value.now) }
+    ensures { MatchOption result ((n : ℕ) →
+        ¬ IsWithin 0 255 value.now n) (IsWithin 0 255 value.now) }
 {
     number_within(value, 0, 255)
 }

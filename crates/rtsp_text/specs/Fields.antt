@@ -1,4 +1,5 @@
--- The header fields of a head (RFC 2326 section 12): names in any case, and the first line of a name counts.
+-- The header fields of a head (RFC 2326 section 12): names in any case, and the first line of a
+-- name counts.
 use Rattle.std.specs.Prelude.{◌≡◌, ℕ, ◌<◌, ◌&&◌, ◌==◌, Bool, if◌then◌else◌, List, [], length, map, slice_index_or, Option, Some, None, option_and_then, codes, slice_get}
 use Rattle.std.specs.List.{list_any, filter_map, before_first, after_first}
 use Rattle.std.specs.Char.{to_ascii_lowercase}
@@ -10,11 +11,15 @@ use Rattle.rtsp_text.specs.Lines.{header_lines}
 
 -- whether a line has a colon, and before its first one this name, in any case
 abbrev pub has_name : List ℕ → List ℕ → Bool
-has_name name line = list_any (λ byte. byte == 58) line && str_eq_ignore_ascii_case (before_first (λ byte. byte == 58) line) name
+has_name name line =
+    list_any (λ byte. byte == 58) line
+    && str_eq_ignore_ascii_case (before_first (λ byte. byte == 58) line) name
 
--- the value of a line of that name: what stands after its first colon, without the spaces and tabs around it
+-- the value of a line of that name: what stands after its first colon, without the spaces and tabs
+-- around it
 unfoldable pub value_in : List ℕ → List ℕ → Option (List ℕ)
-value_in name line = if has_name name line then Some (trimmed (after_first (λ byte. byte == 58) line)) else None
+value_in name line = if has_name name line
+    then Some (trimmed (after_first (λ byte. byte == 58) line)) else None
 
 -- the value of the first line of that name
 unfoldable pub first_value : List ℕ → List (List ℕ) → Option (List ℕ)
@@ -36,8 +41,8 @@ sequence_number head = option_and_then number_of (header_value head (codes "CSeq
 abbrev pub first_sequence : List ℕ → Option ℕ
 first_sequence head = first_number (codes "CSeq") (header_lines head)
 
--- a line is a field of that name, in any case, and has this value: the name stands before its first colon, and the value is the
--- rest without the spaces and tabs around it
+-- a line is a field of that name, in any case, and has this value: the name stands before its first
+-- colon, and the value is the rest without the spaces and tabs around it
 pub record IsField (name line value : List ℕ) : Type 0 where
   pub front : List ℕ
   pub after : List ℕ
@@ -50,21 +55,26 @@ pub record IsFirstField (name : List ℕ) (lines : List (List ℕ)) (value : Lis
   pub index : ℕ
   pub inside : index < length lines
   pub field : IsField name (slice_index_or lines index []) value
-  pub before : (k : ℕ) (other : List ℕ) → k < index → ¬ IsField name (slice_index_or lines k []) other
+  pub before : (k : ℕ) (other : List ℕ) → k < index →
+      ¬ IsField name (slice_index_or lines k []) other
 
 -- none of these lines is a field of that name
 abbrev pub HasNoField : List ℕ → List (List ℕ) → Type 0
-HasNoField name lines = (k : ℕ) (other : List ℕ) → k < length lines → ¬ IsField name (slice_index_or lines k []) other
+HasNoField name lines = (k : ℕ) (other : List ℕ) → k < length lines →
+    ¬ IsField name (slice_index_or lines k []) other
 
--- the first of these lines that is a field of that name and has a number as its value has this number
+-- the first of these lines that is a field of that name and has a number as its value has this
+-- number
 pub record IsFirstNumber (name : List ℕ) (lines : List (List ℕ)) (number : ℕ) : Type 0 where
   pub index : ℕ
   pub value : List ℕ
   pub inside : index < length lines
   pub field : IsField name (slice_index_or lines index []) value
   pub number_is : number_of value ≡ Some number
-  pub before : (k : ℕ) (other : List ℕ) → k < index → IsField name (slice_index_or lines k []) other → number_of other ≡ None
+  pub before : (k : ℕ) (other : List ℕ) → k < index →
+      IsField name (slice_index_or lines k []) other → number_of other ≡ None
 
 -- none of these lines is a field of that name that has a number as its value
 abbrev pub HasNoNumber : List ℕ → List (List ℕ) → Type 0
-HasNoNumber name lines = (k : ℕ) (other : List ℕ) → k < length lines → IsField name (slice_index_or lines k []) other → number_of other ≡ None
+HasNoNumber name lines = (k : ℕ) (other : List ℕ) → k < length lines →
+    IsField name (slice_index_or lines k []) other → number_of other ≡ None

@@ -1,4 +1,5 @@
--- The text of a reply (RFC 2326 section 7): a status line, CSeq, fields, an empty line and a body. Lines end with CR LF.
+-- The text of a reply (RFC 2326 section 7): a status line, CSeq, fields, an empty line and a body.
+-- Lines end with CR LF.
 use Rattle.std.specs.Prelude.{◌≡◌, ℕ, ◌++◌, ◌==◌, ◌||◌, Bool, true, if◌then◌else◌, List, [], ◌∷◌, Option, Some, None, codes, decimal, flat_map}
 use Rattle.std.specs.Str.{str_eq_ignore_ascii_case}
 use Rattle.vod_base.specs.Blanks.{trimmed}
@@ -10,8 +11,10 @@ use Rattle.rtsp_text.specs.StatusLines.{IsReply}
 -- the codes that a reply may have
 abbrev pub is_code : ℕ → Bool
 is_code code =
-    (code == 200) || (code == 400) || (code == 404) || (code == 451) || (code == 453) || (code == 454) || (code == 455)
-    || (code == 457) || (code == 461) || (code == 500) || (code == 501) || (code == 503) || (code == 505) || (code == 551)
+    (code == 200) || (code == 400) || (code == 404) || (code == 451) || (code == 453)
+    || (code == 454) || (code == 455)
+    || (code == 457) || (code == 461) || (code == 500) || (code == 501) || (code == 503)
+    || (code == 505) || (code == 551)
 
 -- the reason of each code (RFC 2326 section 7.1.1 recommends such phrases)
 abbrev pub reason : ℕ → List ℕ
@@ -43,7 +46,8 @@ field_line field = field.name ++ codes ": " ++ field.value ++ codes "\r\n"
 -- the line of the sequence number, where there is one
 unfoldable pub sequence_line : Option ℕ → List ℕ
 sequence_line None = []
-sequence_line (Some sequence) = field_line (record { name = codes "CSeq"; value = decimal sequence })
+sequence_line (Some sequence) =
+    field_line (record { name = codes "CSeq"; value = decimal sequence })
 
 -- the status line
 unfoldable pub status_line : ℕ → List ℕ
@@ -51,7 +55,8 @@ status_line code = codes "RTSP/1.0 " ++ decimal code ++ codes " " ++ reason code
 
 -- a reply up to its last field
 unfoldable pub reply_front : ℕ → Option ℕ → List Field → List ℕ
-reply_front code sequence fields = status_line code ++ sequence_line sequence ++ flat_map field_line fields
+reply_front code sequence fields =
+    status_line code ++ sequence_line sequence ++ flat_map field_line fields
 
 -- a whole reply
 unfoldable pub reply_text : ℕ → Option ℕ → List Field → List ℕ → List ℕ
@@ -60,9 +65,11 @@ reply_text code sequence fields body = reply_front code sequence fields ++ codes
 -- all fields of a reply: the sequence number's, where there is one, and the others
 abbrev pub all_fields : Option ℕ → List Field → List Field
 all_fields None fields = fields
-all_fields (Some sequence) fields = record { name = codes "CSeq"; value = decimal sequence } ∷ fields
+all_fields (Some sequence) fields =
+    record { name = codes "CSeq"; value = decimal sequence } ∷ fields
 
--- a field that is read as it was written: its name is a word, and its value has no LF and no blanks around it
+-- a field that is read as it was written: its name is a word, and its value has no LF and no blanks
+-- around it
 pub record IsPlain (field : Field) : Type 0 where
   pub name_is : is_token field.name ≡ true
   pub one_line : is_one_line field.value ≡ true
@@ -74,7 +81,12 @@ value_named name [] = None
 value_named name (field ∷ fields) =
     if str_eq_ignore_ascii_case field.name name then Some field.value else value_named name fields
 
--- a message is read as this reply: its code and reason, its head up to the empty line, its body, and for each name the first value
-pub record IsReadBack (message : List ℕ) (code : ℕ) (sequence : Option ℕ) (fields : List Field) (body : List ℕ) : Type 0 where
-  pub reply : IsReply message code (reason code) (reply_front code sequence fields ++ codes "\r\n") body
-  pub values : (name : List ℕ) → header_value (reply_front code sequence fields ++ codes "\r\n") name ≡ value_named name (all_fields sequence fields)
+-- a message is read as this reply: its code and reason, its head up to the empty line, its body,
+-- and for each name the first value
+pub record IsReadBack (message : List ℕ) (code : ℕ) (sequence : Option ℕ) (fields : List Field)
+    (body : List ℕ) : Type 0 where
+  pub reply : IsReply message code (reason code) (reply_front code sequence fields
+      ++ codes "\r\n") body
+  pub values : (name : List ℕ) →
+      header_value (reply_front code sequence fields ++ codes "\r\n") name ≡
+      value_named name (all_fields sequence fields)

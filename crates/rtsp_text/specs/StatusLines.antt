@@ -19,7 +19,8 @@ pub record IsStatusLine (text : List ℕ) (code : ℕ) (reason : List ℕ) : Typ
   pub some : 0 < length reason
   pub no_space : slice_index reason 0 ≢ 32
 
--- a message is a reply of RTSP 1.0 with these parts; its body is the rest after its head, and has the length that the head gives
+-- a message is a reply of RTSP 1.0 with these parts; its body is the rest after its head, and has
+-- the length that the head gives
 pub record IsReply (message : List ℕ) (code : ℕ) (reason head body : List ℕ) : Type 0 where
   pub split : IsSplit message head body
   pub line : IsStatusLine (first_line message) code reason

@@ -6,7 +6,8 @@ ghost use Rattle.rtsp_text.specs.Grammar.{is_token_byte, is_token, is_url_byte, 
 
 /// The part before the first byte `c`, and the part after that byte.
 pub(crate) fn cut(text: &[u8], c: u8) -> Option<(&[u8], &[u8])>
-    ensures { MatchOption result (list_all (λ byte. not (byte == c)) text.now ≡ true) (λ parts. IsCut c text.now parts.0.now parts.1.now) }
+    ensures { MatchOption result (list_all (λ byte. not (byte == c)) text.now ≡
+        true) (λ parts. IsCut c text.now parts.0.now parts.1.now) }
 {
     for at in 0..text.len() {
         if text[at] == c {
@@ -78,12 +79,14 @@ const SCHEME: &[u8; 7] = b"rtsp://";
 
 /// Whether the text is `rtsp://` in any case.
 fn is_scheme(text: &[u8]) -> bool
-    ensures { IsTrue result ↔ (map to_ascii_lowercase text.now ≡ map to_ascii_lowercase (codes "rtsp://")) }
+    ensures { IsTrue result ↔
+        (map to_ascii_lowercase text.now ≡ map to_ascii_lowercase (codes "rtsp://")) }
 {
     text.eq_ignore_ascii_case(SCHEME)
 }
 
-/// Whether the text is `rtsp://` in any case, an authority, and no path or one that begins with `/`.
+/// Whether the text is `rtsp://` in any case, an authority, and no path or one that begins with
+/// `/`.
 fn is_rtsp_url(url: &[u8]) -> bool
     ensures { IsTrue result ↔ IsRtspUrl url.now }
 {
@@ -109,7 +112,8 @@ fn is_url(url: &[u8]) -> bool
 
 /// What stands after a word.
 fn after<'a>(text: &'a [u8], word: &[u8]) -> Option<&'a [u8]>
-    ensures { MatchOption result ((rest : List ℕ) → text.now ≢ word.now ++ rest) (λ rest. text.now ≡ word.now ++ rest.now) }
+    ensures { MatchOption result ((rest : List ℕ) →
+        text.now ≢ word.now ++ rest) (λ rest. text.now ≡ word.now ++ rest.now) }
 {
     text.strip_prefix(word)
 }
@@ -144,7 +148,8 @@ pub(crate) struct RequestLine<'a> {
 
 /// Reads a request line of any version.
 pub(crate) fn request_line(text: &[u8]) -> Option<RequestLine<'_>>
-    ensures { MatchOption result ((method url version : List ℕ) → ¬ IsRequestLine text.now method url version)
+    ensures { MatchOption result ((method url version : List ℕ) →
+        ¬ IsRequestLine text.now method url version)
         (λ line. IsRequestLine text.now line.method.now line.url.now line.version.now) }
 {
     let Some((method, rest)) = cut(text, b' ') else {

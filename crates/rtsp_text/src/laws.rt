@@ -4,8 +4,8 @@ ghost use Rattle.rtsp_text.specs.Replies.{is_code, Field, reply_text, all_fields
 
 use interleave::Step;
 
-/// The bytes of a request that [`interleave::Demux::look`] tells are a whole request by themselves, as
-/// [`crate::read_request`] takes it.
+/// The bytes of a request that [`interleave::Demux::look`] tells are a whole request by themselves,
+/// as [`crate::read_request`] takes it.
 pub fn law_whole_request(waiting: &[u8], count: usize)
     requires { IsFirst waiting.now (Ok (Step.Request count)) }
     ensures { IsRequestLength (take count waiting.now) (length (take count waiting.now)) }
@@ -13,9 +13,10 @@ pub fn law_whole_request(waiting: &[u8], count: usize)
     let _read = (waiting.len(), count, Step::Request(count));
 }
 
-/// What [`crate::Reply`] wrote is read back by [`crate::read_reply`] and [`crate::header_of`]: its code and reason, its body and,
-/// for each name, the value of the first field of that name, CSeq among them; where each field's name is a word of letters,
-/// digits, `_` and `-`, and its value has no LF and no blanks around it.
+/// What [`crate::Reply`] wrote is read back by [`crate::read_reply`] and [`crate::header_of`]: its
+/// code and reason, its body and, for each name, the value of the first field of that name, CSeq
+/// among them; where each field's name is a word of letters, digits, `_` and `-`, and its value has
+/// no LF and no blanks around it.
 pub fn law_reply_read(message: &[u8])
     requires { IsRequestLength message.now (length message.now) }
     ensures { (code : ℕ) (sequence : Option ℕ) (fields : List Field) (body : List ℕ) →

@@ -4,9 +4,11 @@ ghost use Rattle.rtsp_text.specs.Lines.{first_line, lines_before_empty, header_l
 
 use vod_base::line_end;
 
-/// The text of the first line, and what stands after that line's end. The last line may have no end.
+/// The text of the first line, and what stands after that line's end. The last line may have no
+/// end.
 fn next_line(bytes: &[u8]) -> Option<(&[u8], &[u8])>
-    ensures { MatchOption result (bytes.now ≡ []) (λ parts. IsNextLine bytes.now parts.0.now parts.1.now) }
+    ensures { MatchOption result (bytes.now ≡
+        []) (λ parts. IsNextLine bytes.now parts.0.now parts.1.now) }
 {
     if bytes.is_empty() {
         return None;
@@ -40,7 +42,8 @@ pub(crate) fn after_first_line(head: &[u8]) -> &[u8]
 
 /// The text of the first line, where that isn't empty, and what stands after that line's end.
 pub(crate) fn next_header_line(bytes: &[u8]) -> Option<(&[u8], &[u8])>
-    ensures { MatchOption result (lines_before_empty bytes.now ≡ []) (λ parts. IsNextHeaderLine bytes.now parts.0.now parts.1.now) }
+    ensures { MatchOption result (lines_before_empty bytes.now ≡
+        []) (λ parts. IsNextHeaderLine bytes.now parts.0.now parts.1.now) }
 {
     match next_line(bytes) {
         Some((line, rest)) if !line.is_empty() => Some((line, rest)),

@@ -107,8 +107,10 @@ impl Reply {
     /// Appends a field's line.
     fn put_field(&mut self, name: &[u8], value: &[u8])
         requires { length self.old + (length name.now + length value.now + 4) ≤ 65536 }
-        ensures text { self.new ≡ self.old ++ field_line (record { name = name.now; value = value.now }) }
-        ensures long { length self.new ≡ length self.old + (length name.now + length value.now + 4) }
+        ensures text { self.new ≡
+            self.old ++ field_line (record { name = name.now; value = value.now }) }
+        ensures long { length self.new ≡
+            length self.old + (length name.now + length value.now + 4) }
     {
         self.put(name);
         self.put(b": ");
@@ -116,8 +118,8 @@ impl Reply {
         self.put(b"\r\n");
     }
 
-    /// Appends the status line `RTSP/1.0 CODE REASON` and, where there is a sequence number, the line `CSeq: N`: at most
-    /// 75 bytes.
+    /// Appends the status line `RTSP/1.0 CODE REASON` and, where there is a sequence number, the
+    /// line `CSeq: N`: at most 75 bytes.
     pub fn start(&mut self, code: u16, sequence: Option<u64>)
         requires code { IsTrue (is_code code) }
         requires fits { length self.old + 75 ≤ 65536 }
@@ -135,9 +137,12 @@ impl Reply {
     pub fn field(&mut self, name: &[u8], value: &[u8])
         requires one_line { is_one_line value.now ≡ true }
         requires fits { length self.old + (length name.now + length value.now + 4) ≤ 65536 }
-        ensures text { self.new ≡ self.old ++ field_line (record { name = name.now; value = value.now }) }
-        ensures long { length self.new ≡ length self.old + (length name.now + length value.now + 4) }
-        ensures front { (code : ℕ) (sequence : Option ℕ) (fields : List Field) → self.old ≡ reply_front code sequence fields →
+        ensures text { self.new ≡
+            self.old ++ field_line (record { name = name.now; value = value.now }) }
+        ensures long { length self.new ≡
+            length self.old + (length name.now + length value.now + 4) }
+        ensures front { (code : ℕ) (sequence : Option ℕ) (fields : List Field) →
+            self.old ≡ reply_front code sequence fields →
             self.new ≡ reply_front code sequence (fields ++ record { name = name.now; value = value.now } ∷ []) }
     {
         self.put_field(name, value);
@@ -147,22 +152,26 @@ impl Reply {
     fn put_parts(&mut self, parts: &[&[u8]])
         requires { length self.old + sum_by (λ part. length part.now) parts.now ≤ 65536 }
         ensures text { self.new ≡ self.old ++ flat_map (λ part. part.now) parts.now }
-        ensures long { length self.new ≡ length self.old + sum_by (λ part. length part.now) parts.now }
+        ensures long { length self.new ≡
+            length self.old + sum_by (λ part. length part.now) parts.now }
     {
         for part in parts {
             self.put(part);
         }
     }
 
-    /// Appends the line `NAME: VALUE`, where the value is these parts, one after another. No part has an LF.
+    /// Appends the line `NAME: VALUE`, where the value is these parts, one after another. No part
+    /// has an LF.
     pub fn field_of(&mut self, name: &[u8], parts: &[&[u8]])
         requires one_line { list_all (λ part. is_one_line part.now) parts.now ≡ true }
-        requires fits { length self.old + (length name.now + sum_by (λ part. length part.now) parts.now + 4) ≤ 65536 }
+        requires fits { length self.old
+            + (length name.now + sum_by (λ part. length part.now) parts.now + 4) ≤ 65536 }
         ensures text { let value = flat_map (λ part. part.now) parts.now in
             self.new ≡ self.old ++ field_line (record { name = name.now; value = value }) }
         ensures long { let value_length = sum_by (λ part. length part.now) parts.now in
             length self.new ≡ length self.old + (length name.now + value_length + 4) }
-        ensures front { (code : ℕ) (sequence : Option ℕ) (fields : List Field) → self.old ≡ reply_front code sequence fields →
+        ensures front { (code : ℕ) (sequence : Option ℕ) (fields : List Field) →
+            self.old ≡ reply_front code sequence fields →
             let value = flat_map (λ part. part.now) parts.now in
             self.new ≡ reply_front code sequence (fields ++ record { name = name.now; value = value } ∷ []) }
     {
@@ -175,9 +184,11 @@ impl Reply {
     /// Appends the line `NAME: VALUE`, the value in decimal, of at most 20 digits.
     pub fn number_field(&mut self, name: &[u8], value: u64)
         requires { length self.old + (length name.now + 24) ≤ 65536 }
-        ensures text { self.new ≡ self.old ++ field_line (record { name = name.now; value = decimal value }) }
+        ensures text { self.new ≡
+            self.old ++ field_line (record { name = name.now; value = decimal value }) }
         ensures short { length self.new ≤ length self.old + (length name.now + 24) }
-        ensures front { (code : ℕ) (sequence : Option ℕ) (fields : List Field) → self.old ≡ reply_front code sequence fields →
+        ensures front { (code : ℕ) (sequence : Option ℕ) (fields : List Field) →
+            self.old ≡ reply_front code sequence fields →
             self.new ≡ reply_front code sequence (fields ++ record { name = name.now; value = decimal value } ∷ []) }
     {
         self.put_field(name, Buffer::new().format(value).as_bytes());
@@ -188,7 +199,8 @@ impl Reply {
         requires { length self.old + (2 + length body.now) ≤ 65536 }
         ensures text { self.new ≡ self.old ++ (codes "\r\n" ++ body.now) }
         ensures long { length self.new ≡ length self.old + (2 + length body.now) }
-        ensures whole { (code : ℕ) (sequence : Option ℕ) (fields : List Field) → self.old ≡ reply_front code sequence fields →
+        ensures whole { (code : ℕ) (sequence : Option ℕ) (fields : List Field) →
+            self.old ≡ reply_front code sequence fields →
             self.new ≡ reply_text code sequence fields body.now }
     {
         self.put(b"\r\n"); // the empty line

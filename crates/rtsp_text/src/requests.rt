@@ -27,7 +27,8 @@ pub struct Request<'a> {
     pub body: &'a [u8],
 }
 
-/// Why a message is no request of RTSP 1.0. Where several causes hold, the first of this list is answered.
+/// Why a message is no request of RTSP 1.0. Where several causes hold, the first of this list is
+/// answered.
 #[derive(Clone, Copy, Debug, PartialEq, Eq)]
 pub enum RequestFault {
     /// The first line is no request line.
@@ -59,13 +60,15 @@ impl fmt::Display for RequestFault {
 
 impl Error for RequestFault {}
 
-/// The value of a head's first header line of that name, in any case, without the spaces and tabs around it; of a request's
-/// head or of a reply's.
+/// The value of a head's first header line of that name, in any case, without the spaces and tabs
+/// around it; of a request's head or of a reply's.
 ///
-/// None exactly where the head has no line of that name. The value has no LF and at most as many bytes as the head.
+/// None exactly where the head has no line of that name. The value has no LF and at most as many
+/// bytes as the head.
 pub fn header_of<'a>(head: &'a [u8], name: &[u8]) -> Option<&'a [u8]>
     ensures value { option_map (λ value. value.now) result ≡ header_value head.now name.now }
-    ensures first { IfSome result (λ value. IsFirstField name.now (header_lines head.now) value.now) }
+    ensures first { IfSome result (λ value.
+        IsFirstField name.now (header_lines head.now) value.now) }
     ensures none { IfNone result (HasNoField name.now (header_lines head.now)) }
     ensures short { IfSome result (λ value. length value.now ≤ length head.now) }
     ensures one_line { IfSome result (λ value. is_one_line value.now ≡ true) }
@@ -73,10 +76,13 @@ pub fn header_of<'a>(head: &'a [u8], name: &[u8]) -> Option<&'a [u8]>
     fields::header_value(head, name)
 }
 
-/// The value of a request's first header line of that name, as [`header_of`] finds it in the request's head.
+/// The value of a request's first header line of that name, as [`header_of`] finds it in the
+/// request's head.
 pub fn header<'a>(request: &Request<'a>, name: &[u8]) -> Option<&'a [u8]>
-    ensures value { option_map (λ value. value.now) result ≡ header_value request.now.head.now name.now }
-    ensures first { IfSome result (λ value. IsFirstField name.now (header_lines request.now.head.now) value.now) }
+    ensures value { option_map (λ value. value.now) result ≡
+        header_value request.now.head.now name.now }
+    ensures first { IfSome result (λ value.
+        IsFirstField name.now (header_lines request.now.head.now) value.now) }
     ensures none { IfNone result (HasNoField name.now (header_lines request.now.head.now)) }
     ensures short { IfSome result (λ value. length value.now ≤ length request.now.head.now) }
     ensures one_line { IfSome result (λ value. is_one_line value.now ≡ true) }
@@ -84,7 +90,8 @@ pub fn header<'a>(request: &Request<'a>, name: &[u8]) -> Option<&'a [u8]>
     header_of(request.head, name)
 }
 
-/// The number of a message's first CSeq that is a number, also where the message is no request of RTSP 1.0.
+/// The number of a message's first CSeq that is a number, also where the message is no request of
+/// RTSP 1.0.
 pub fn sequence_of(message: &[u8]) -> Option<u64>
     ensures value { result ≡ first_sequence message.now }
     ensures first { IfSome result (IsFirstNumber (codes "CSeq") (header_lines message.now)) }
@@ -95,7 +102,8 @@ pub fn sequence_of(message: &[u8]) -> Option<u64>
 
 /// The number, from 1, of the first header line that isn't a name, `:` and a value.
 fn first_bad(message: &[u8]) -> Option<u64>
-    ensures { MatchOption result (All IsHeaderLine (header_lines message.now)) (IsFirstBad (header_lines message.now)) }
+    ensures { MatchOption result (All IsHeaderLine (header_lines message.now))
+        (IsFirstBad (header_lines message.now)) }
 {
     let mut rest = after_first_line(message);
     let mut count = 0u64;
@@ -119,15 +127,19 @@ fn has_length(message: &[u8]) -> bool
     }
 }
 
-/// Reads a whole request, head and body, as [`interleave::Demux`] cuts it from a connection's bytes.
+/// Reads a whole request, head and body, as [`interleave::Demux`] cuts it from a connection's
+/// bytes.
 ///
-/// Ok exactly where the message is a request of RTSP 1.0, with its parts; each fault exactly where its cause holds and none
-/// before it in [`RequestFault`]. The head has at most 16,384 bytes, the body at most 65,536.
+/// Ok exactly where the message is a request of RTSP 1.0, with its parts; each fault exactly where
+/// its cause holds and none before it in [`RequestFault`]. The head has at most 16,384 bytes, the
+/// body at most 65,536.
 pub fn read_request(message: &[u8]) -> Result<Request<'_>, RequestFault>
     requires { IsRequestLength message.now (length message.now) }
-    ensures read { IfOk result (λ r. IsRequest message.now r.method.now r.url.now r.sequence r.head.now r.body.now) }
+    ensures read { IfOk result (λ r.
+        IsRequest message.now r.method.now r.url.now r.sequence r.head.now r.body.now) }
     ensures refused { IfErr result (IsFault message.now) }
-    ensures requests { (method url : List ℕ) (sequence : ℕ) (head body : List ℕ) → IsRequest message.now method url sequence head body →
+    ensures requests { (method url : List ℕ) (sequence : ℕ) (head body : List ℕ) →
+        IsRequest message.now method url sequence head body →
         IsOkAnd result (λ r. (r.method.now ≡ method) × (r.url.now ≡ url) × (r.sequence ≡ sequence) × (r.head.now ≡ head) × (r.body.now ≡ body)) }
     ensures faults { (fault : RequestFault) → IsFault message.now fault → result ≡ Err fault }
     ensures head { IfOk result (λ r. length r.head.now ≤ 16384) }
@@ -140,7 +152,8 @@ pub fn read_request(message: &[u8]) -> Result<Request<'_>, RequestFault>
 /// Reads a whole request.
 fn read_parts(message: &[u8]) -> Result<Request<'_>, RequestFault>
     requires { IsRequestLength message.now (length message.now) }
-    ensures read { IfOk result (λ r. IsRequest message.now r.method.now r.url.now r.sequence r.head.now r.body.now) }
+    ensures read { IfOk result (λ r.
+        IsRequest message.now r.method.now r.url.now r.sequence r.head.now r.body.now) }
     ensures refused { IfErr result (IsFault message.now) }
 {
     let Some(line) = request_line(first_line(message)) else {

@@ -394,7 +394,8 @@ fn writes_refusals(rt: HostRuntime) -> Result<(), Fail> {
     Ok(())
 }
 
-/// The answer to a request that requires an option. It repeats the option, and fits whatever that is.
+/// The answer to a request that requires an option. It repeats the option, and fits whatever that
+/// is.
 fn refuse_option(reply: &mut Reply, message: &[u8])
     requires { IsRequestLength message.now (length message.now) }
 {

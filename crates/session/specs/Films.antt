@@ -44,9 +44,11 @@ identity_of source setup counts = record {
 
 -- a run as it is sent
 abbrev pub sending_of : Film → Source → Setup → Counts → Run → Sending
-sending_of film source setup counts run = run_of film run.first_unit run.end_unit (identity_of source setup counts)
+sending_of film source setup counts run =
+    run_of film run.first_unit run.end_unit (identity_of source setup counts)
 
--- what was sent in all, where so many bytes of a run were sent; both numbers count modulo 2^32 (RFC 3550 section 6.4.1)
+-- what was sent in all, where so many bytes of a run were sent; both numbers count modulo 2^32 (RFC
+-- 3550 section 6.4.1)
 abbrev pub counts_after : Counts → Sending → ℕ → Counts
 counts_after counts sending bytes = record {
   frames = (counts.frames + frames_before sending bytes) % 2 ^ 32;

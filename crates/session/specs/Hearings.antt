@@ -35,10 +35,15 @@ use Rattle.film_frames.specs.declared.stores.Stored.{Stored}
 use Rattle.session.specs.Sendings.{admitted_in, halted_in, halted_notes, kept_of, next_of}
 use Rattle.session.specs.Standings.{Standing, answered, sequence_of}
 
--- a session of a new connection, with the connection's words: two for the session's id, the SSRC, the sequence number of the
--- first frame in 16 bits, and the timestamp of the film's beginning (RFC 3550 section 5.1)
+-- a session of a new connection, with the connection's words: two for the session's id, the SSRC,
+-- the sequence number of the first frame in 16 bits, and the timestamp of the film's beginning (RFC
+-- 3550 section 5.1)
 abbrev pub source_of : List ℕ → Source
-source_of words = record { ssrc = slice_index words 2; sequence = slice_index words 3 % 65536; timestamp = slice_index words 4 }
+source_of words = record {
+  ssrc = slice_index words 2;
+  sequence = slice_index words 3 % 65536;
+  timestamp = slice_index words 4;
+}
 
 abbrev pub new_standing : List Stored → Settings → List ℕ → Standing
 new_standing films settings words = record {
@@ -63,18 +68,21 @@ new_standing films settings words = record {
 }
 
 -- a message that is no request
-pub record HearsFault (old : Standing) (message : List ℕ) (ask : Ask) (new : Standing) : Type 0 where
+pub record HearsFault (old : Standing) (message : List ℕ) (ask : Ask) (new : Standing)
+    : Type 0 where
   pub fault : RequestFault
   pub is_fault : IsFault message fault
   pub refused : IsRefused old (first_sequence message) (fault_refusal fault) [] ask new
 
 -- a request
-pub record HearsWhole (old : Standing) (message : List ℕ) (ask : Ask) (new : Standing) : Type 0 where
+pub record HearsWhole (old : Standing) (message : List ℕ) (ask : Ask) (new : Standing)
+    : Type 0 where
   pub request : Request
   pub is_request : IsRequest message request.method.now request.url.now request.sequence request.head.now request.body.now
   pub hears : HearsRequest old request ask new
 
--- what a message asks of the station, and the session after it; once the link has failed nothing more is begun
+-- what a message asks of the station, and the session after it; once the link has failed nothing
+-- more is begun
 abbrev pub HearsOn : Bool → Standing → List ℕ → Ask → Standing → Type 0
 HearsOn false old message ask new = HearsFault old message ask new ⊎ HearsWhole old message ask new
 HearsOn true old message ask new = IsRefused old (first_sequence message) Memory [] ask new
@@ -92,12 +100,14 @@ counts_of (Offer sequence) counts = counts
 
 -- a reply's front, ended by the slots from the heard one to the play's start
 abbrev pub started_text : List ℕ → ℕ → List ℕ
-started_text front slots = front ++ field_line (field (codes "x-Start") (decimal slots)) ++ codes "\r\n"
+started_text front slots =
+    front ++ field_line (field (codes "x-Start") (decimal slots)) ++ codes "\r\n"
 
 -- the session once the play was admitted that it asked for
 abbrev pub after_admission : Standing → ℕ → ℕ → Standing
 after_admission old place start =
-    record (answered old (Entry place (Admitted start)) (started_text old.text (start - old.heard))) {
+    record (answered old (Entry place (Admitted start))
+    (started_text old.text (start - old.heard))) {
       state = admitted_in old.state old.awaited place start;
       counts = counts_of old.awaited old.counts;
     }
@@ -105,30 +115,36 @@ after_admission old place start =
 -- once the link had no room for it
 abbrev pub after_overflow : Standing → ℕ → ℕ → ℕ → ℕ → Standing
 after_overflow old place slot booked asked =
-    answered old (Entry place (Overflow slot booked asked)) (overflow_text (sequence_of old.awaited) slot booked asked)
+    answered old (Entry place (Overflow slot booked asked))
+    (overflow_text (sequence_of old.awaited) slot booked asked)
 
 -- once the journal had no room for the play or the look
 abbrev pub after_full : Standing → ℕ → ℕ → Standing
-after_full old entries live = answered old (Full entries live) (full_text (sequence_of old.awaited) entries live)
+after_full old entries live =
+    answered old (Full entries live) (full_text (sequence_of old.awaited) entries live)
 
 -- what was sent in all, once a play is done that kept so many bytes
 abbrev pub counts_done : Standing → Setup → Played → ℕ → Option Stored → Counts
 counts_done old setup play keep None = old.counts
 counts_done old setup play keep (Some stored) =
-    counts_after old.counts (sending_of stored.film old.source setup old.counts play.run) (play.run.sent + keep)
+    counts_after old.counts (sending_of stored.film old.source setup old.counts play.run)
+    (play.run.sent + keep)
 
 abbrev pub counts_next : Standing → Setup → Played → ℕ → Next → Counts
-counts_next old setup play keep Done = counts_done old setup play keep (slice_get old.films setup.film)
+counts_next old setup play keep Done =
+    counts_done old setup play keep (slice_get old.films setup.film)
 counts_next old setup play keep (Paused run) = old.counts
 counts_next old setup play keep Torn = old.counts
 
 abbrev pub halted_counts : Standing → State → Counts
 halted_counts old Init = old.counts
 halted_counts old (Ready setup paused) = old.counts
-halted_counts old (Playing setup play) = counts_next old setup play (kept_of old.awaited play.pacer.due) (next_of old.awaited)
+halted_counts old (Playing setup play) =
+    counts_next old setup play (kept_of old.awaited play.pacer.due) (next_of old.awaited)
 halted_counts old (Stopping setup stop) = old.counts
 
--- a PAUSE and a TEARDOWN are answered once the rest up to a boundary was sent; a play that is done has no reply
+-- a PAUSE and a TEARDOWN are answered once the rest up to a boundary was sent; a play that is done
+-- has no reply
 abbrev pub is_answered : Next → Bool
 is_answered Done = false
 is_answered (Paused run) = true
@@ -157,7 +173,8 @@ Halts old place new = new ≡ after_halt old place
 -- once the station had looked
 abbrev pub after_look : Standing → ℕ → ℕ → ℕ → ℕ → Standing
 after_look old place now at booked =
-    answered old (Entry place (Looked now at booked)) (parameters_text (sequence_of old.awaited) (look_body now at booked))
+    answered old (Entry place (Looked now at booked))
+    (parameters_text (sequence_of old.awaited) (look_body now at booked))
 
 -- once the station had made an offer
 abbrev pub after_offer : Standing → OfferNote → Standing

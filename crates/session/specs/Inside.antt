@@ -49,7 +49,8 @@ standing_of session = record {
   offers = session.log.offers;
 }
 
--- the receipts and the notes that the open booking, and the answer that is awaited, will still bring
+-- the receipts and the notes that the open booking, and the answer that is awaited, will still
+-- bring
 abbrev pub open_receipts : State → ℕ
 open_receipts Init = 0
 open_receipts (Ready setup paused) = 0
@@ -78,31 +79,39 @@ awaited_offers (Look sequence) = 0
 awaited_offers (Offer sequence) = 1
 
 -- a play is sent as such a run
-pub record IsPlaying (stored : Stored) (source : Source) (settings : Settings) (setup : Setup) (counts : Counts) (play : Played) : Type 0 where
+pub record IsPlaying (stored : Stored) (source : Source) (settings : Settings) (setup : Setup)
+    (counts : Counts) (play : Played) : Type 0 where
   pub playable : IsPlayable stored source settings setup counts play.run play.plan
   pub pieces : play.pacer.pieces ≡ run_pieces (sending_of stored.film source setup counts play.run)
 
 abbrev pub IsStateKept : List Stored → Source → Settings → Counts → State → Type 0
 IsStateKept films source settings counts Init = ⊤
-IsStateKept films source settings counts (Ready setup paused) = IsSetup (length films) setup × IsPausedIn films source counts setup paused
+IsStateKept films source settings counts (Ready setup paused) = IsSetup (length films) setup
+    × IsPausedIn films source counts setup paused
 IsStateKept films source settings counts (Playing setup play) =
-    IsSetup (length films) setup × IsPlay play × OfFilm films setup.film (λ stored. IsPlaying stored source settings setup counts play)
+    IsSetup (length films) setup × IsPlay play
+    × OfFilm films setup.film (λ stored. IsPlaying stored source settings setup counts play)
 IsStateKept films source settings counts (Stopping setup stop) =
-    IsSetup (length films) setup × IsPacing stop.pacer × IsPausedIn films source counts setup stop.paused
+    IsSetup (length films) setup × IsPacing stop.pacer
+    × IsPausedIn films source counts setup stop.paused
 
 -- a play is asked for in Ready: the frames of a run, and its plan
-pub record IsPreparedAs (stored : Stored) (source : Source) (settings : Settings) (setup : Setup) (prepared : Prepared) : Type 0 where
+pub record IsPreparedAs (stored : Stored) (source : Source) (settings : Settings) (setup : Setup)
+    (prepared : Prepared) : Type 0 where
   pub playable : IsPlayable stored source settings setup prepared.counts prepared.run prepared.plan
-  pub frames_are : prepared.frames ≡ sending_of stored.film source setup prepared.counts prepared.run
+  pub frames_are : prepared.frames ≡
+      sending_of stored.film source setup prepared.counts prepared.run
 
 abbrev pub IsPreparedIn : List Stored → Source → Settings → State → Prepared → Type 0
 IsPreparedIn films source settings Init prepared = ⊥
 IsPreparedIn films source settings (Ready setup paused) prepared =
-    IsPrepared prepared × OfFilm films setup.film (λ stored. IsPreparedAs stored source settings setup prepared)
+    IsPrepared prepared
+    × OfFilm films setup.film (λ stored. IsPreparedAs stored source settings setup prepared)
 IsPreparedIn films source settings (Playing setup play) prepared = ⊥
 IsPreparedIn films source settings (Stopping setup stop) prepared = ⊥
 
--- in a play in which no halt was asked all that is due was sent, and some of it isn't due yet, unless the link failed
+-- in a play in which no halt was asked all that is due was sent, and some of it isn't due yet,
+-- unless the link failed
 pub record IsUnhalted (play : Played) : Type 0 where
   pub even : play.pacer.due ≡ play.pacer.sent
   pub whole : play.pacer.keep ≡ total_bytes play.plan
@@ -118,7 +127,8 @@ IsGoing lost (Stopping setup stop) = ⊤
 abbrev pub IsLeftIn : List Stored → Source → Counts → State → Run → Type 0
 IsLeftIn films source counts Init run = ⊥
 IsLeftIn films source counts (Ready setup paused) run = ⊥
-IsLeftIn films source counts (Playing setup play) run = OfFilm films setup.film (λ stored. IsRunOf stored source setup counts run)
+IsLeftIn films source counts (Playing setup play) run =
+    OfFilm films setup.film (λ stored. IsRunOf stored source setup counts run)
 IsLeftIn films source counts (Stopping setup stop) run = ⊥
 
 abbrev pub IsNextIn : List Stored → Source → Counts → State → Next → Type 0
@@ -126,10 +136,13 @@ IsNextIn films source counts state Done = ⊤
 IsNextIn films source counts state (Paused run) = IsLeftIn films source counts state run
 IsNextIn films source counts state Torn = ⊤
 
-abbrev pub IsAwaitedKept : List Stored → Source → Settings → Counts → Bool → State → Awaited → Type 0
+abbrev pub IsAwaitedKept : List Stored → Source → Settings → Counts → Bool → State → Awaited →
+    Type 0
 IsAwaitedKept films source settings counts lost state Nothing = IsGoing lost state
-IsAwaitedKept films source settings counts lost state (Play prepared) = IsPreparedIn films source settings state prepared
-IsAwaitedKept films source settings counts lost state (Halt keep next) = IsHaltIn state keep × IsNextIn films source counts state next
+IsAwaitedKept films source settings counts lost state (Play prepared) =
+    IsPreparedIn films source settings state prepared
+IsAwaitedKept films source settings counts lost state (Halt keep next) = IsHaltIn state keep
+    × IsNextIn films source counts state next
 IsAwaitedKept films source settings counts lost state (Look sequence) = IsGoing lost state
 IsAwaitedKept films source settings counts lost state (Offer sequence) = IsGoing lost state
 
@@ -147,8 +160,10 @@ pub record IsKept (session : Inside) : Type 0 where
   pub state : IsStateKept session.films.now session.source session.settings session.counts session.state
   pub awaited : IsAwaitedKept session.films.now session.source session.settings session.counts session.lost session.state session.awaited
   pub stop : IsStopAnswered session.state session.waits
-  pub receipt_room : session.looks_left + (open_receipts session.state + awaited_receipts session.awaited) ≤ session.log.receipt_room
-  pub play_room : open_receipts session.state + awaited_plays session.awaited ≤ session.log.play_room
+  pub receipt_room : session.looks_left
+      + (open_receipts session.state + awaited_receipts session.awaited) ≤ session.log.receipt_room
+  pub play_room : open_receipts session.state
+      + awaited_plays session.awaited ≤ session.log.play_room
   pub offer_room : awaited_offers session.awaited ≤ session.log.offer_room
   pub looks : session.looks_left ≤ 1024
   pub torn : session.tearing ≡ true → session.waits ≡ false → session.torn ≡ true

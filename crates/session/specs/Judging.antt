@@ -35,7 +35,8 @@ first_of (Some value) other = Some value
 
 -- the options that a request requires
 abbrev pub required_of : List ℕ → Option (List ℕ)
-required_of head = first_of (header_value head (codes "Require")) (header_value head (codes "Proxy-Require"))
+required_of head = first_of (header_value head (codes "Require"))
+    (header_value head (codes "Proxy-Require"))
 
 -- the session that is named, where one is, is the one that exists
 abbrev pub IsOwnSession : Bool → List ℕ → Option (List ℕ) → Type 0 → Type 0
@@ -117,34 +118,43 @@ pub record IsSpoken (request : Request) (method : Method) : Type 0 where
   pub free : required_of request.head.now ≡ None
 
 -- its session fits too: it is judged by its film
-pub record IsOwnTalk (id : List ℕ) (place : Place) (request : Request) (method : Method) : Type 0 where
+pub record IsOwnTalk (id : List ℕ) (place : Place) (request : Request) (method : Method)
+    : Type 0 where
   pub spoken : IsSpoken request method
-  pub session : FitsSession method (is_some place.film) id (header_value request.head.now (codes "Session"))
+  pub session : FitsSession method (is_some place.film) id
+      (header_value request.head.now (codes "Session"))
 
 -- its URL names a film that it can be asked of
-pub record IsOnFilm (films : List Stored) (place : Place) (url : List ℕ) (method : Method) (authority : List ℕ) (film : ℕ) : Type 0 where
+pub record IsOnFilm (films : List Stored) (place : Place) (url : List ℕ) (method : Method)
+    (authority : List ℕ) (film : ℕ) : Type 0 where
   pub named : Names films url authority film
   pub own : FitsFilm method place film
 
 abbrev pub HasFilm : List Stored → Place → List ℕ → Method → Type 0
-HasFilm films place url method = (authority : List ℕ) × ((film : ℕ) × IsOnFilm films place url method authority film)
+HasFilm films place url method = (authority : List ℕ)
+    × ((film : ℕ) × IsOnFilm films place url method authority film)
 
 -- a task is asked of the film that the URL names
 abbrev pub IsTaskOf : List Stored → Place → List ℕ → Task → Type 0
 IsTaskOf films place url ToOptions = ⊤
-IsTaskOf films place url (ToDescribe asked) = IsOnFilm films place url Describe asked.authority.now asked.film
-IsTaskOf films place url (ToSetup film) = (authority : List ℕ) × IsOnFilm films place url Setup authority film
-IsTaskOf films place url (ToPlay asked) = IsOnFilm films place url Play asked.authority.now asked.film
+IsTaskOf films place url (ToDescribe asked) =
+    IsOnFilm films place url Describe asked.authority.now asked.film
+IsTaskOf films place url (ToSetup film) = (authority : List ℕ)
+    × IsOnFilm films place url Setup authority film
+IsTaskOf films place url (ToPlay asked) =
+    IsOnFilm films place url Play asked.authority.now asked.film
 IsTaskOf films place url ToPause = HasFilm films place url Pause
 IsTaskOf films place url ToTeardown = HasFilm films place url Teardown
 IsTaskOf films place url ToGetParameter = HasFilm films place url GetParameter
 
 -- the state fits, as far as the method and a Range go
 abbrev pub IsTimely : Place → Request → Method → Type 0
-IsTimely place request method = FitsState method place (is_some (header_value request.head.now (codes "Range")))
+IsTimely place request method =
+    FitsState method place (is_some (header_value request.head.now (codes "Range")))
 
 -- a request that is taken up
-pub record IsTaken (films : List Stored) (id : List ℕ) (place : Place) (request : Request) (task : Task) : Type 0 where
+pub record IsTaken (films : List Stored) (id : List ℕ) (place : Place) (request : Request)
+    (task : Task) : Type 0 where
   pub talk : IsOwnTalk id place request (method_of task)
   pub film : IsTaskOf films place request.url.now task
   pub state : IsTimely place request (method_of task)
@@ -161,15 +171,18 @@ pub record RequiresOption (request : Request) : Type 0 where
 pub record IsOtherSession (id : List ℕ) (place : Place) (request : Request) : Type 0 where
   pub method : Method
   pub spoken : IsSpoken request method
-  pub session : ¬ FitsSession method (is_some place.film) id (header_value request.head.now (codes "Session"))
+  pub session : ¬ FitsSession method (is_some place.film) id
+      (header_value request.head.now (codes "Session"))
 
-pub record IsOtherFilm (films : List Stored) (id : List ℕ) (place : Place) (request : Request) : Type 0 where
+pub record IsOtherFilm (films : List Stored) (id : List ℕ) (place : Place) (request : Request)
+    : Type 0 where
   pub method : Method
   pub talk : IsOwnTalk id place request method
   pub asked : method ≢ Options
   pub none : ¬ HasFilm films place request.url.now method
 
-pub record IsUntimely (films : List Stored) (id : List ℕ) (place : Place) (request : Request) : Type 0 where
+pub record IsUntimely (films : List Stored) (id : List ℕ) (place : Place) (request : Request)
+    : Type 0 where
   pub method : Method
   pub talk : IsOwnTalk id place request method
   pub film : HasFilm films place request.url.now method
@@ -208,4 +221,5 @@ abbrev pub IsTopic : List ℕ → Topic → Type 0
 IsTopic body Nothing = body ≡ []
 IsTopic body Booked = IsWord (codes "x-Booked") body
 IsTopic body Offer = IsWord (codes "x-Offer") body
-IsTopic body Other = (body ≢ []) × (¬ IsWord (codes "x-Booked") body) × (¬ IsWord (codes "x-Offer") body)
+IsTopic body Other = (body ≢ []) × (¬ IsWord (codes "x-Booked") body)
+    × (¬ IsWord (codes "x-Offer") body)

@@ -10,7 +10,8 @@ use Rattle.session.specs.declared.states.State.{State}
 use Rattle.session.specs.declared.states.State.TheVariants.{Init, Ready, Playing, Stopping}
 use Rattle.session.specs.Standings.{Standing, replied}
 
--- the states of RFC 2326's server (appendix A.2); a play that was halted is over, also while its rest is sent
+-- the states of RFC 2326's server (appendix A.2); a play that was halted is over, also while its
+-- rest is sent
 pub data Stage : Type 0 where
   InitStage : Stage
   ReadyStage : Stage
@@ -54,8 +55,8 @@ pub record PlaysOn (old new : Standing) : Type 0 where
   pub state : new.state ≡ old.state
   pub heard : new.heard ≡ old.heard
 
--- a run's identity goes on from what was sent before: the next frame's sequence number modulo 2^16, and the packets and octets
--- that its reports count modulo 2^32 (RFC 3550 sections 5.1 and 6.4.1)
+-- a run's identity goes on from what was sent before: the next frame's sequence number modulo 2^16,
+-- and the packets and octets that its reports count modulo 2^32 (RFC 3550 sections 5.1 and 6.4.1)
 pub record GoesOn (before after : Identity) (frames bytes : ℕ) : Type 0 where
   pub number : after.sequence ≡ (before.sequence + frames) % 2 ^ 16
   pub packets : after.packets ≡ (before.packets + frames) % 2 ^ 32

@@ -41,28 +41,37 @@ abbrev pub IsReplied : Standing → List ℕ → Ask → Standing → Type 0
 IsReplied old text ask new = (ask ≡ Reply) × (new ≡ replied old text)
 
 abbrev pub IsRefused : Standing → Option ℕ → Refusal → List ℕ → Ask → Standing → Type 0
-IsRefused old sequence refusal option ask new = IsReplied old (refusal_text sequence refusal option) ask new
+IsRefused old sequence refusal option ask new =
+    IsReplied old (refusal_text sequence refusal option) ask new
 
 -- DESCRIBE
-pub record Describes (old : Standing) (sequence film : ℕ) (authority : List ℕ) (ask : Ask) (new : Standing) : Type 0 where
+pub record Describes (old : Standing) (sequence film : ℕ) (authority : List ℕ) (ask : Ask)
+    (new : Standing) : Type 0 where
   pub stored : Stored
   pub at : IsFilmAt old.films film stored
-  pub reply : IsReplied old (describe_text sequence authority (string_bytes stored.name) (length_ms stored.film)) ask new
+  pub reply : IsReplied old
+      (describe_text sequence authority (string_bytes stored.name) (length_ms stored.film)) ask new
 
 -- SETUP: the session is Ready, and no run is paused
 abbrev pub IsSetUp : Standing → ℕ → Result Setup Refusal → Ask → Standing → Type 0
 IsSetUp old sequence (Ok setup) ask new =
     (ask ≡ Reply)
-    × (new ≡ record (replied old (setup_text sequence setup.media setup.control old.source.ssrc old.id)) { state = Ready setup None })
+    × (new ≡ record (replied old
+    (setup_text sequence setup.media setup.control old.source.ssrc old.id)) {
+      state =
+          Ready setup None;
+    })
 IsSetUp old sequence (Err refusal) ask new = IsRefused old (Some sequence) refusal [] ask new
 
-pub record SetsUp (old : Standing) (request : Request) (film : ℕ) (ask : Ask) (new : Standing) : Type 0 where
+pub record SetsUp (old : Standing) (request : Request) (film : ℕ) (ask : Ask) (new : Standing)
+    : Type 0 where
   pub read : Result Setup Refusal
   pub is_read : IsSetupRead old.settings request.head.now film read
   pub done : IsSetUp old request.sequence read ask new
 
 -- a play is halted at the first boundary that it can reach; the reply waits for that
-pub record AsksHalt (old : Standing) (sequence : ℕ) (setup : Setup) (play : Played) (next : Next) (ask : Ask) (new : Standing) : Type 0 where
+pub record AsksHalt (old : Standing) (sequence : ℕ) (setup : Setup) (play : Played) (next : Next)
+    (ask : Ask) (new : Standing) : Type 0 where
   pub keep : ℕ
   pub keep_is : keep ≡ next_boundary play.pacer
   pub command : ask ≡ AskHalt keep
@@ -74,7 +83,8 @@ pub record AsksHalt (old : Standing) (sequence : ℕ) (setup : Setup) (play : Pl
 
 -- TEARDOWN
 abbrev pub Ends : Standing → ℕ → Ask → Standing → Type 0
-Ends old sequence ask new = (ask ≡ Reply) × (new ≡ record (replied old (session_text sequence old.id)) { tearing = true })
+Ends old sequence ask new = (ask ≡ Reply)
+    × (new ≡ record (replied old (session_text sequence old.id)) { tearing = true })
 
 abbrev pub TearsDown : State → Standing → ℕ → Ask → Standing → Type 0
 TearsDown Init old sequence ask new = Ends old sequence ask new
@@ -114,11 +124,14 @@ first_number old stored setup planned =
 -- its reply, up to its start: from the run's first unplayed picture to its end
 abbrev pub play_front : Standing → Stored → Setup → Planned → ℕ → List ℕ → List ℕ
 play_front old stored setup planned sequence authority = reply_front 200 (Some sequence)
-    (play_fields old.id (ms_at stored.film planned.run.from_unit) (ms_at stored.film planned.run.end_unit) authority
-    (string_bytes stored.name) (first_number old stored setup planned) (timestamp_at stored.film old.source planned.run.from_unit))
+    (play_fields old.id (ms_at stored.film planned.run.from_unit)
+    (ms_at stored.film planned.run.end_unit) authority
+    (string_bytes stored.name) (first_number old stored setup planned)
+    (timestamp_at stored.film old.source planned.run.from_unit))
 
 -- PLAY
-pub record AsksPlay (old : Standing) (sequence : ℕ) (authority : List ℕ) (setup : Setup) (planned : Planned) (ask : Ask)
+pub record AsksPlay (old : Standing) (sequence : ℕ) (authority : List ℕ) (setup : Setup)
+    (planned : Planned) (ask : Ask)
     (new : Standing) : Type 0 where
   pub stored : Stored
   pub at : IsFilmAt old.films setup.film stored
@@ -129,32 +142,43 @@ pub record AsksPlay (old : Standing) (sequence : ℕ) (authority : List ℕ) (se
   }
 
 -- where memory is wanting for what the play leaves for the report, the request is refused
-abbrev pub AsksPlayOr : Standing → ℕ → List ℕ → Setup → Result Planned Refusal → Ask → Standing → Type 0
+abbrev pub AsksPlayOr : Standing → ℕ → List ℕ → Setup → Result Planned Refusal → Ask → Standing →
+    Type 0
 AsksPlayOr old sequence authority setup (Ok planned) ask new =
-    AsksPlay old sequence authority setup planned ask new ⊎ IsRefused old (Some sequence) Memory [] ask new
-AsksPlayOr old sequence authority setup (Err refusal) ask new = IsRefused old (Some sequence) refusal [] ask new
+    AsksPlay old sequence authority setup planned ask new
+    ⊎ IsRefused old (Some sequence) Memory [] ask new
+AsksPlayOr old sequence authority setup (Err refusal) ask new =
+    IsRefused old (Some sequence) refusal [] ask new
 
-pub record PlaysReady (old : Standing) (request : Request) (authority : List ℕ) (setup : Setup) (paused : Option Run) (ask : Ask)
+pub record PlaysReady (old : Standing) (request : Request) (authority : List ℕ) (setup : Setup)
+    (paused : Option Run) (ask : Ask)
     (new : Standing) : Type 0 where
   pub planned : Result Planned Refusal
-  pub is_planned : IsPlanned old setup paused (header_value request.head.now (codes "Range")) planned
+  pub is_planned : IsPlanned old setup paused
+      (header_value request.head.now (codes "Range")) planned
   pub asks : AsksPlayOr old request.sequence authority setup planned ask new
 
 -- a PLAY in Playing changes nothing
 abbrev pub Plays : State → Standing → Request → List ℕ → Ask → Standing → Type 0
 Plays Init old request authority ask new = ⊥
-Plays (Ready setup paused) old request authority ask new = PlaysReady old request authority setup paused ask new
-Plays (Playing setup play) old request authority ask new = IsReplied old (session_text request.sequence old.id) ask new
-Plays (Stopping setup stop) old request authority ask new = IsReplied old (session_text request.sequence old.id) ask new
+Plays (Ready setup paused) old request authority ask new =
+    PlaysReady old request authority setup paused ask new
+Plays (Playing setup play) old request authority ask new =
+    IsReplied old (session_text request.sequence old.id) ask new
+Plays (Stopping setup stop) old request authority ask new =
+    IsReplied old (session_text request.sequence old.id) ask new
 
 -- PAUSE: what is kept of the play, and what that leaves of its run
-pub record PausesPlay (old : Standing) (sequence : ℕ) (setup : Setup) (play : Played) (ask : Ask) (new : Standing) : Type 0 where
+pub record PausesPlay (old : Standing) (sequence : ℕ) (setup : Setup) (play : Played) (ask : Ask)
+    (new : Standing) : Type 0 where
   pub stored : Stored
   pub at : IsFilmAt old.films setup.film stored
   pub last : Option ℕ
   pub last_is : slots_through last ≡ play.pacer.passed
   pub left : Run
-  pub left_is : IsLeft (stored_sizes stored) (playback_of stored.film old.settings setup) play.run play.plan last (next_boundary play.pacer) left
+  pub left_is : IsLeft (stored_sizes stored)
+      (playback_of stored.film old.settings setup) play.run play.plan last
+      (next_boundary play.pacer) left
   pub asks : AsksHalt old sequence setup play (Paused left) ask new
 
 abbrev pub Pauses : State → Standing → ℕ → Ask → Standing → Type 0
@@ -163,7 +187,8 @@ Pauses (Ready setup paused) old sequence ask new = ⊥
 Pauses (Playing setup play) old sequence ask new = PausesPlay old sequence setup play ask new
 Pauses (Stopping setup stop) old sequence ask new = ⊥
 
--- GET_PARAMETER for an offer: the plan of a PLAY without Range, and the slots that may be waited for its start
+-- GET_PARAMETER for an offer: the plan of a PLAY without Range, and the slots that may be waited
+-- for its start
 abbrev pub IsWaitOf : Option (List ℕ) → ℕ → Type 0
 IsWaitOf None wait = ⊥
 IsWaitOf (Some value) wait = IsWithin 0 255 value wait
@@ -171,7 +196,8 @@ IsWaitOf (Some value) wait = IsWithin 0 255 value wait
 abbrev pub HasWait : List ℕ → ℕ → Type 0
 HasWait head wait = IsWaitOf (header_value head (codes "x-Wait")) wait
 
-pub record AsksOffer (old : Standing) (sequence wait : ℕ) (planned : Planned) (ask : Ask) (new : Standing) : Type 0 where
+pub record AsksOffer (old : Standing) (sequence wait : ℕ) (planned : Planned) (ask : Ask)
+    (new : Standing) : Type 0 where
   pub offers : Found
   pub wait_is : offers.wait ≡ wait
   pub start_is : offers.start ≡ None
@@ -182,27 +208,34 @@ pub record AsksOffer (old : Standing) (sequence wait : ℕ) (planned : Planned) 
 abbrev pub AsksOfferOr : Standing → ℕ → ℕ → Result Planned Refusal → Ask → Standing → Type 0
 AsksOfferOr old sequence wait (Ok planned) ask new =
     AsksOffer old sequence wait planned ask new ⊎ IsRefused old (Some sequence) Memory [] ask new
-AsksOfferOr old sequence wait (Err refusal) ask new = IsRefused old (Some sequence) refusal [] ask new
+AsksOfferOr old sequence wait (Err refusal) ask new =
+    IsRefused old (Some sequence) refusal [] ask new
 
-pub record OffersReady (old : Standing) (sequence wait : ℕ) (setup : Setup) (paused : Option Run) (ask : Ask) (new : Standing) : Type 0 where
+pub record OffersReady (old : Standing) (sequence wait : ℕ) (setup : Setup) (paused : Option Run)
+    (ask : Ask) (new : Standing) : Type 0 where
   pub planned : Result Planned Refusal
   pub is_planned : IsPlanned old setup paused None planned
   pub asks : AsksOfferOr old sequence wait planned ask new
 
-pub record OffersIn (old : Standing) (request : Request) (setup : Setup) (paused : Option Run) (ask : Ask) (new : Standing) : Type 0 where
+pub record OffersIn (old : Standing) (request : Request) (setup : Setup) (paused : Option Run)
+    (ask : Ask) (new : Standing) : Type 0 where
   pub wait : ℕ
   pub has_wait : HasWait request.head.now wait
   pub offers : OffersReady old request.sequence wait setup paused ask new
 
-pub record LacksWait (old : Standing) (request : Request) (ask : Ask) (new : Standing) : Type 0 where
+pub record LacksWait (old : Standing) (request : Request) (ask : Ask) (new : Standing)
+    : Type 0 where
   pub none : (wait : ℕ) → ¬ HasWait request.head.now wait
   pub refused : IsRefused old (Some request.sequence) Parameter [] ask new
 
 abbrev pub GetsOffer : State → Standing → Request → Ask → Standing → Type 0
 GetsOffer Init old request ask new = IsRefused old (Some request.sequence) NoSession [] ask new
-GetsOffer (Ready setup paused) old request ask new = LacksWait old request ask new ⊎ OffersIn old request setup paused ask new
-GetsOffer (Playing setup play) old request ask new = IsRefused old (Some request.sequence) NotNow [] ask new
-GetsOffer (Stopping setup stop) old request ask new = IsRefused old (Some request.sequence) NotNow [] ask new
+GetsOffer (Ready setup paused) old request ask new = LacksWait old request ask new
+    ⊎ OffersIn old request setup paused ask new
+GetsOffer (Playing setup play) old request ask new =
+    IsRefused old (Some request.sequence) NotNow [] ask new
+GetsOffer (Stopping setup stop) old request ask new =
+    IsRefused old (Some request.sequence) NotNow [] ask new
 
 -- GET_PARAMETER by its body
 abbrev pub Gets : Standing → Request → Topic → Ask → Standing → Type 0
@@ -211,7 +244,8 @@ Gets old request Booked ask new = Looks old request.sequence ask new
 Gets old request OfferTopic ask new = GetsOffer old.state old request ask new
 Gets old request Unknown ask new = IsRefused old (Some request.sequence) Parameter [] ask new
 
-pub record GetsParameter (old : Standing) (request : Request) (ask : Ask) (new : Standing) : Type 0 where
+pub record GetsParameter (old : Standing) (request : Request) (ask : Ask) (new : Standing)
+    : Type 0 where
   pub topic : Topic
   pub is_topic : IsTopic request.body.now topic
   pub gets : Gets old request topic ask new
@@ -219,15 +253,19 @@ pub record GetsParameter (old : Standing) (request : Request) (ask : Ask) (new :
 -- a request that is taken up, or refused as all methods are
 abbrev pub Takes : Standing → Request → Result Task Refusal → Ask → Standing → Type 0
 Takes old request (Ok ToOptions) ask new = IsReplied old (public_text request.sequence) ask new
-Takes old request (Ok (ToDescribe asked)) ask new = Describes old request.sequence asked.film asked.authority.now ask new
+Takes old request (Ok (ToDescribe asked)) ask new =
+    Describes old request.sequence asked.film asked.authority.now ask new
 Takes old request (Ok (ToSetup film)) ask new = SetsUp old request film ask new
-Takes old request (Ok (ToPlay asked)) ask new = Plays old.state old request asked.authority.now ask new
+Takes old request (Ok (ToPlay asked)) ask new =
+    Plays old.state old request asked.authority.now ask new
 Takes old request (Ok ToPause) ask new = Pauses old.state old request.sequence ask new
 Takes old request (Ok ToTeardown) ask new = TearsDown old.state old request.sequence ask new
 Takes old request (Ok ToGetParameter) ask new = GetsParameter old request ask new
-Takes old request (Err refusal) ask new = IsRefused old (Some request.sequence) refusal (option_of request.head.now) ask new
+Takes old request (Err refusal) ask new =
+    IsRefused old (Some request.sequence) refusal (option_of request.head.now) ask new
 
-pub record HearsRequest (old : Standing) (request : Request) (ask : Ask) (new : Standing) : Type 0 where
+pub record HearsRequest (old : Standing) (request : Request) (ask : Ask) (new : Standing)
+    : Type 0 where
   pub judgement : Result Task Refusal
   pub judged : IsJudged old.films old.id (place_of old.state) request judgement
   pub takes : Takes old request judgement ask new

@@ -20,10 +20,13 @@ use Rattle.session.specs.Standings.{Standing}
 -- a paused run can be sent on
 abbrev pub IsPausedIn : List Stored → Source → Counts → Setup → Option Run → Type 0
 IsPausedIn films source counts setup None = ⊤
-IsPausedIn films source counts setup (Some run) = OfFilm films setup.film (λ stored. IsRunOf stored source setup counts run)
+IsPausedIn films source counts setup (Some run) =
+    OfFilm films setup.film (λ stored. IsRunOf stored source setup counts run)
 
--- the run that a Range asks for, or a PLAY without one, and its plan: the taut one (Salehi, Zhang, Kurose and Towsley 1998)
-pub record IsPlannedRun (old : Standing) (stored : Stored) (setup : Setup) (paused : Option Run) (range : Option (List ℕ))
+-- the run that a Range asks for, or a PLAY without one, and its plan: the taut one (Salehi, Zhang,
+-- Kurose and Towsley 1998)
+pub record IsPlannedRun (old : Standing) (stored : Stored) (setup : Setup) (paused : Option Run)
+    (range : Option (List ℕ))
     (planned : Planned) : Type 0 where
   pub at : IsFilmAt old.films setup.film stored
   pub wanted : Wanted
@@ -31,25 +34,32 @@ pub record IsPlannedRun (old : Standing) (stored : Stored) (setup : Setup) (paus
   pub run_is : planned.run ≡ run_of wanted
   pub counts_is : planned.counts ≡ counts_for stored.film old.source setup old.counts paused wanted
   pub goes_on : IsRunOf stored old.source setup planned.counts planned.run
-  pub plan_is : IsPlanOf (stored_sizes stored) (playback_of stored.film old.settings setup) planned.run planned.plan
+  pub plan_is : IsPlanOf (stored_sizes stored)
+      (playback_of stored.film old.settings setup) planned.run planned.plan
 
 -- the Range has no meaning for the film
-pub record HasNoRun (old : Standing) (setup : Setup) (paused : Option Run) (range : Option (List ℕ)) (refusal : Refusal) : Type 0 where
+pub record HasNoRun (old : Standing) (setup : Setup) (paused : Option Run) (range : Option (List ℕ))
+    (refusal : Refusal) : Type 0 where
   pub stored : Stored
   pub at : IsFilmAt old.films setup.film stored
   pub none : IsNoRange stored.film paused range
   pub refusal_is : refusal ≡ Range
 
 -- the run has no plan
-pub record HasNoPlan (old : Standing) (setup : Setup) (paused : Option Run) (range : Option (List ℕ)) (refusal : Refusal) : Type 0 where
+pub record HasNoPlan (old : Standing) (setup : Setup) (paused : Option Run)
+    (range : Option (List ℕ)) (refusal : Refusal) : Type 0 where
   pub stored : Stored
   pub at : IsFilmAt old.films setup.film stored
   pub wanted : Wanted
   pub asked : IsAskedRun stored.film paused range wanted
   pub refused : CurveRefused
-  pub no_curves : HaveNoCurves (rest_sizes (stored_sizes stored) (run_of wanted)) (timing_of (playback_of stored.film old.settings setup) (run_of wanted)) refused
+  pub no_curves : HaveNoCurves (rest_sizes (stored_sizes stored) (run_of wanted))
+      (timing_of (playback_of stored.film old.settings setup) (run_of wanted)) refused
   pub refusal_is : refusal ≡ curve_refusal refused
 
-abbrev pub IsPlanned : Standing → Setup → Option Run → Option (List ℕ) → Result Planned Refusal → Type 0
-IsPlanned old setup paused range (Ok planned) = (stored : Stored) × IsPlannedRun old stored setup paused range planned
-IsPlanned old setup paused range (Err refusal) = HasNoRun old setup paused range refusal ⊎ HasNoPlan old setup paused range refusal
+abbrev pub IsPlanned : Standing → Setup → Option Run → Option (List ℕ) → Result Planned Refusal →
+    Type 0
+IsPlanned old setup paused range (Ok planned) = (stored : Stored)
+    × IsPlannedRun old stored setup paused range planned
+IsPlanned old setup paused range (Err refusal) = HasNoRun old setup paused range refusal
+    ⊎ HasNoPlan old setup paused range refusal

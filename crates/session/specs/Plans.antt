@@ -19,7 +19,8 @@ pub record IsPlay (play : Played) : Type 0 where
   pub before : play.pacer.before ≡ play.run.sent
   pub plan : play.pacer.plan ≡ play.plan
 
--- a play that is asked for: what was sent of its run ends at a boundary, and its plan sends the rest
+-- a play that is asked for: what was sent of its run ends at a boundary, and its plan sends the
+-- rest
 pub record IsPrepared (prepared : Prepared) : Type 0 where
   pub going : IsGoingOn (run_pieces prepared.frames) prepared.run.sent prepared.plan
   pub paced : prepared.paced ≡ prepared.plan

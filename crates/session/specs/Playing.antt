@@ -44,7 +44,8 @@ abbrev pub IsResumed : Run → Wanted → Type 0
 IsResumed paused (Resumed run) = run ≡ paused
 IsResumed paused (New run) = ⊥
 
--- from now on a paused run is resumed, whatever its end; where none is paused, now is the film's beginning
+-- from now on a paused run is resumed, whatever its end; where none is paused, now is the film's
+-- beginning
 abbrev pub IsWanted : Film → Option Run → Origin → Option ℕ → Wanted → Type 0
 IsWanted film None Now to wanted = IsNewRun film 0 to wanted
 IsWanted film (Some paused) Now to wanted = IsResumed paused wanted
@@ -58,13 +59,15 @@ WantsNothing film None (At time) to = HasNothing film time to
 WantsNothing film (Some paused) (At time) to = HasNothing film time to
 
 -- what a Range asks for, and a Range that has no meaning for the film
-pub record IsAskedRun (film : Film) (paused : Option Run) (range : Option (List ℕ)) (wanted : Wanted) : Type 0 where
+pub record IsAskedRun (film : Film) (paused : Option Run) (range : Option (List ℕ))
+    (wanted : Wanted) : Type 0 where
   pub span : Span
   pub is_span : IsSpanOf range span
   pub is_wanted : IsWanted film paused span.from span.to wanted
 
 abbrev pub IsNoRange : Film → Option Run → Option (List ℕ) → Type 0
-IsNoRange film paused range = (span : Span) → IsSpanOf range span → WantsNothing film paused span.from span.to
+IsNoRange film paused range = (span : Span) → IsSpanOf range span →
+    WantsNothing film paused span.from span.to
 
 abbrev pub run_of : Wanted → Run
 run_of (Resumed run) = run
@@ -73,7 +76,8 @@ run_of (New run) = run
 -- what was sent before a new run: all that was, with what was sent of the run that was paused
 abbrev pub counts_before : Film → Source → Setup → Counts → Option Run → Counts
 counts_before film source setup counts None = counts
-counts_before film source setup counts (Some paused) = counts_after counts (sending_of film source setup counts paused) paused.sent
+counts_before film source setup counts (Some paused) =
+    counts_after counts (sending_of film source setup counts paused) paused.sent
 
 abbrev pub counts_for : Film → Source → Setup → Counts → Option Run → Wanted → Counts
 counts_for film source setup counts paused (Resumed run) = counts
@@ -88,19 +92,22 @@ playback_of film settings setup = record {
   delay = setup.delay;
 }
 
--- a run of a film that can be sent on: what was sent of it ends at the end of a frame or of a report, and what of that isn't
--- played fits in the client's buffer
-pub record IsRunOf (stored : Stored) (source : Source) (setup : Setup) (counts : Counts) (run : Run) : Type 0 where
+-- a run of a film that can be sent on: what was sent of it ends at the end of a frame or of a
+-- report, and what of that isn't played fits in the client's buffer
+pub record IsRunOf (stored : Stored) (source : Source) (setup : Setup) (counts : Counts) (run : Run)
+    : Type 0 where
   pub run_is : IsRun (stored_sizes stored) run
   pub fits : Fits setup.buffer run
   pub boundary : IsBoundary (run_pieces (sending_of stored.film source setup counts run)) run.sent
 
 -- a run that can be sent on, with its plan
-pub record IsPlayable (stored : Stored) (source : Source) (settings : Settings) (setup : Setup) (counts : Counts) (run : Run)
+pub record IsPlayable (stored : Stored) (source : Source) (settings : Settings) (setup : Setup)
+    (counts : Counts) (run : Run)
     (plan : List Segment) : Type 0 where
   pub run_of : IsRunOf stored source setup counts run
   pub plan_is : IsPlanOf (stored_sizes stored) (playback_of stored.film settings setup) run plan
-  pub bytes : run.sent + total_bytes plan ≡ bytes_between (stored_sizes stored) run.first_unit run.end_unit
+  pub bytes : run.sent + total_bytes plan ≡
+      bytes_between (stored_sizes stored) run.first_unit run.end_unit
 
 -- why a run has no plan
 abbrev pub curve_refusal : CurveRefused → Refusal

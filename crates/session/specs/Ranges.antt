@@ -20,7 +20,8 @@ names_of films = map (λ film. string_bytes film.name) films
 pub record AreFilms (films : List Stored) : Type 0 where
   pub few : length films ≤ 64
   pub good : All (λ film. is_good_name (string_bytes film.name) ≡ true) films
-  pub differ : (i j : ℕ) → i < j → j < length films → slice_index_or (names_of films) i [] ≢ slice_index_or (names_of films) j []
+  pub differ : (i j : ℕ) → i < j → j < length films →
+      slice_index_or (names_of films) i [] ≢ slice_index_or (names_of films) j []
 
 -- what SETUP settled is in its ranges, and the film is one of so many
 pub record IsSetup (films : ℕ) (setup : Setup) : Type 0 where

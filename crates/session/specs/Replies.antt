@@ -46,16 +46,20 @@ refusal_fields Range option = []
 refusal_fields Memory option = []
 
 abbrev pub refusal_text : Option ℕ → Refusal → List ℕ → List ℕ
-refusal_text sequence refusal option = reply_text (code_of refusal) sequence (refusal_fields refusal option) []
+refusal_text sequence refusal option =
+    reply_text (code_of refusal) sequence (refusal_fields refusal option) []
 
 abbrev pub public_text : ℕ → List ℕ
 public_text sequence = reply_text 200 (Some sequence)
-    (field (codes "Public") (codes "OPTIONS, DESCRIBE, SETUP, PLAY, PAUSE, TEARDOWN, GET_PARAMETER") ∷ []) []
+    (field (codes "Public")
+    (codes "OPTIONS, DESCRIBE, SETUP, PLAY, PAUSE, TEARDOWN, GET_PARAMETER") ∷ []) []
 
--- the description of a film that takes so many milliseconds, under the authority of the request's URL
+-- the description of a film that takes so many milliseconds, under the authority of the request's
+-- URL
 abbrev pub describe_text : ℕ → List ℕ → List ℕ → ℕ → List ℕ
 describe_text sequence authority name end_ms = reply_text 200 (Some sequence)
-    (field (codes "Content-Base") (joined (codes "rtsp://" ∷ authority ∷ codes "/" ∷ name ∷ codes "/" ∷ []))
+    (field (codes "Content-Base")
+    (joined (codes "rtsp://" ∷ authority ∷ codes "/" ∷ name ∷ codes "/" ∷ []))
     ∷ field (codes "Content-Type") (codes "application/sdp")
     ∷ field (codes "Content-Length") (decimal (length (description_text name end_ms))) ∷ [])
     (description_text name end_ms)
@@ -68,7 +72,8 @@ transport_value media control ssrc = joined
 
 abbrev pub setup_text : ℕ → ℕ → ℕ → ℕ → List ℕ → List ℕ
 setup_text sequence media control ssrc id = reply_text 200 (Some sequence)
-    (field (codes "Transport") (transport_value media control ssrc) ∷ field (codes "Session") id ∷ []) []
+    (field (codes "Transport") (transport_value media control ssrc) ∷ field
+    (codes "Session") id ∷ []) []
 
 abbrev pub session_text : ℕ → List ℕ → List ℕ
 session_text sequence id = reply_text 200 (Some sequence) (field (codes "Session") id ∷ []) []
@@ -76,22 +81,26 @@ session_text sequence id = reply_text 200 (Some sequence) (field (codes "Session
 abbrev pub plain_text : ℕ → List ℕ
 plain_text sequence = reply_text 200 (Some sequence) [] []
 
--- what a play's reply says of its run: from and to which time in milliseconds, and from which frame, of which timestamp
+-- what a play's reply says of its run: from and to which time in milliseconds, and from which
+-- frame, of which timestamp
 abbrev pub play_fields : List ℕ → ℕ → ℕ → List ℕ → List ℕ → ℕ → ℕ → List Field
 play_fields id first_ms end_ms authority name number time =
     field (codes "Session") id
-    ∷ field (codes "Range") (joined (codes "npt=" ∷ seconds_text first_ms ∷ codes "-" ∷ seconds_text end_ms ∷ []))
+    ∷ field (codes "Range")
+    (joined (codes "npt=" ∷ seconds_text first_ms ∷ codes "-" ∷ seconds_text end_ms ∷ []))
     ∷ field (codes "RTP-Info") (joined (codes "url=rtsp://" ∷ authority ∷ codes "/" ∷ name ∷ codes "/video;seq=" ∷ decimal number
     ∷ codes ";rtptime=" ∷ decimal time ∷ []))
     ∷ []
 
 -- a play's reply: it begins so many slots after the heard one
 abbrev pub play_text : ℕ → List Field → ℕ → List ℕ
-play_text sequence fields slots = reply_text 200 (Some sequence) (fields ++ field (codes "x-Start") (decimal slots) ∷ []) []
+play_text sequence fields slots =
+    reply_text 200 (Some sequence) (fields ++ field (codes "x-Start") (decimal slots) ∷ []) []
 
 abbrev pub overflow_text : ℕ → ℕ → ℕ → ℕ → List ℕ
 overflow_text sequence slot booked asked = reply_text 453 (Some sequence)
-    (field (codes "x-Slot") (decimal slot) ∷ field (codes "x-Booked") (decimal booked) ∷ field (codes "x-Asked") (decimal asked) ∷ []) []
+    (field (codes "x-Slot") (decimal slot) ∷ field (codes "x-Booked") (decimal booked) ∷ field
+    (codes "x-Asked") (decimal asked) ∷ []) []
 
 abbrev pub full_text : ℕ → ℕ → ℕ → List ℕ
 full_text sequence entries live = reply_text 503 (Some sequence)
@@ -99,7 +108,8 @@ full_text sequence entries live = reply_text 503 (Some sequence)
 
 abbrev pub parameters_text : ℕ → List ℕ → List ℕ
 parameters_text sequence body = reply_text 200 (Some sequence)
-    (field (codes "Content-Type") (codes "text/parameters") ∷ field (codes "Content-Length") (decimal (length body)) ∷ []) body
+    (field (codes "Content-Type") (codes "text/parameters") ∷ field (codes "Content-Length")
+    (decimal (length body)) ∷ []) body
 
 -- the lines of a look's body
 abbrev pub look_body : ℕ → ℕ → ℕ → List ℕ

@@ -40,8 +40,10 @@ IsTold false old text new = new ≡ old
 abbrev pub stepped_in : Bool → ℕ → State → State
 stepped_in stop slot Init = Init
 stepped_in stop slot (Ready setup paused) = Ready setup paused
-stepped_in stop slot (Playing setup play) = Playing setup (record play { pacer = stepped stop slot play.pacer })
-stepped_in stop slot (Stopping setup halted) = Stopping setup (record halted { pacer = stepped stop slot halted.pacer })
+stepped_in stop slot (Playing setup play) =
+    Playing setup (record play { pacer = stepped stop slot play.pacer })
+stepped_in stop slot (Stopping setup halted) =
+    Stopping setup (record halted { pacer = stepped stop slot halted.pacer })
 
 abbrev pub is_sending : State → Bool
 is_sending Init = false
@@ -52,8 +54,10 @@ is_sending (Stopping setup stop) = true
 abbrev pub step_bytes : Bool → ℕ → State → List ℕ
 step_bytes stop slot Init = []
 step_bytes stop slot (Ready setup paused) = []
-step_bytes stop slot (Playing setup play) = plan_bytes play.pacer play.pacer.sent (step_end stop (raised slot play.pacer))
-step_bytes stop slot (Stopping setup halted) = plan_bytes halted.pacer halted.pacer.sent (step_end stop (raised slot halted.pacer))
+step_bytes stop slot (Playing setup play) =
+    plan_bytes play.pacer play.pacer.sent (step_end stop (raised slot play.pacer))
+step_bytes stop slot (Stopping setup halted) =
+    plan_bytes halted.pacer halted.pacer.sent (step_end stop (raised slot halted.pacer))
 
 -- the state once a play is admitted: its pacer has sent nothing
 abbrev pub admitted_in : State → Awaited → ℕ → ℕ → State
@@ -108,8 +112,10 @@ next_of (Offer sequence) = Done
 -- the state after a halt
 abbrev pub state_after : Setup → Played → Next → State
 state_after setup play Done = Ready setup None
-state_after setup play (Paused run) = Stopping setup (record { paused = Some run; start = play.start; pacer = play.pacer })
-state_after setup play Torn = Stopping setup (record { paused = None; start = play.start; pacer = play.pacer })
+state_after setup play (Paused run) =
+    Stopping setup (record { paused = Some run; start = play.start; pacer = play.pacer })
+state_after setup play Torn =
+    Stopping setup (record { paused = None; start = play.start; pacer = play.pacer })
 
 abbrev pub halted_in : State → Awaited → State
 halted_in Init awaited = Init
@@ -123,16 +129,19 @@ halted_notes (Ready setup paused) awaited = []
 halted_notes (Playing setup play) awaited = note_of setup play (kept_of awaited play.pacer.due) ∷ []
 halted_notes (Stopping setup stop) awaited = []
 
--- what a slot brings to a play or its rest: first up to a boundary, if a reply waits, and once that was sent the rest
+-- what a slot brings to a play or its rest: first up to a boundary, if a reply waits, and once that
+-- was sent the rest
 abbrev pub due_state : Bool → State → ℕ → State
 due_state waits state slot =
-    if waits then (if is_between (stepped_in true slot state) then stepped_in false slot (stepped_in true slot state) else stepped_in true slot state)
+    if waits then (if is_between (stepped_in true slot state)
+    then stepped_in false slot (stepped_in true slot state) else stepped_in true slot state)
     else stepped_in false slot state
 
 abbrev pub due_bytes : Bool → State → List ℕ → ℕ → List ℕ
 due_bytes waits state text slot =
     if waits then step_bytes true slot state
-    ++ (if is_between (stepped_in true slot state) then text ++ step_bytes false slot (stepped_in true slot state) else [])
+    ++ (if is_between (stepped_in true slot state)
+    then text ++ step_bytes false slot (stepped_in true slot state) else [])
     else step_bytes false slot state
 
 -- the slot in which the play begins that is being sent
@@ -184,7 +193,8 @@ sent_due old slot = record old {
 
 abbrev pub sent_slot : Standing → ℕ → Standing
 sent_slot old slot =
-    if old.waits && is_between (stepped_in true slot old.state) then sent_reply (sent_due old slot) else sent_due old slot
+    if old.waits && is_between (stepped_in true slot old.state)
+    then sent_reply (sent_due old slot) else sent_due old slot
 
 -- a slot is taken up: it is later than the last, and none above 2^62
 abbrev pub is_taken : Standing → ℕ → Bool
@@ -193,10 +203,14 @@ is_taken old slot = nat_lt old.heard slot && nat_le slot (2 ^ 62)
 -- the session after a slot
 abbrev pub slotted : Standing → ℕ → Standing
 slotted old slot =
-    if is_taken old slot then (if is_sending old.state then finished (sent_slot old slot) else record old { heard = slot }) else old
+    if is_taken old slot
+    then (if is_sending old.state
+    then finished (sent_slot old slot) else record old { heard = slot }) else old
 
--- a send failed in a slot: a front of what is due was sent, and of the open booking as much is due as without the fault
-pub record HasFailed (old : Standing) (slot : ℕ) (told_old told_new : Option (List Doing)) (new : Standing) : Type 0 where
+-- a send failed in a slot: a front of what is due was sent, and of the open booking as much is due
+-- as without the fault
+pub record HasFailed (old : Standing) (slot : ℕ) (told_old told_new : Option (List Doing))
+    (new : Standing) : Type 0 where
   pub taken : is_taken old slot ≡ true
   pub sending : is_sending old.state ≡ true
   pub front : IsFrontTold told_old told_new (due_bytes old.waits old.state old.text slot)

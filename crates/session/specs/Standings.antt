@@ -47,7 +47,8 @@ pub record Standing : Type 0 where
   pub plays : List PlayNote
   pub offers : List OfferNote
 
--- what the station was asked and hasn't answered: nothing, a play of a plan, a halt that keeps so many bytes, a look, or an offer
+-- what the station was asked and hasn't answered: nothing, a play of a plan, a halt that keeps so
+-- many bytes, a look, or an offer
 pub data Awaits : Type 0 where
   NoAnswer : Awaits
   PlayAnswer : List Segment → Awaits
@@ -74,7 +75,8 @@ pub record Open : Type 0 where
 abbrev pub open_in : State → Option Open
 open_in Init = None
 open_in (Ready setup paused) = None
-open_in (Playing setup play) = Some (record { plan = play.plan; start = play.start; due = play.pacer.due })
+open_in (Playing setup play) =
+    Some (record { plan = play.plan; start = play.start; due = play.pacer.due })
 open_in (Stopping setup stop) = None
 
 abbrev pub open_of : Standing → Option Open
@@ -97,8 +99,10 @@ IsDue (Some booking) due = due ≡ booking.due
 -- what a session asks for after a request
 abbrev pub AsksFor : Ask → Standing → Type 0
 AsksFor Reply new = (awaits new ≡ NoAnswer) × (new.waits ≡ true)
-AsksFor (AskPlay plan) new = (awaits new ≡ PlayAnswer plan) × (new.waits ≡ false) × (open_of new ≡ None)
-AsksFor (AskHalt keep) new = (awaits new ≡ HaltAnswer keep) × (new.waits ≡ false) × CanKeep (open_of new) keep
+AsksFor (AskPlay plan) new = (awaits new ≡ PlayAnswer plan) × (new.waits ≡ false)
+    × (open_of new ≡ None)
+AsksFor (AskHalt keep) new = (awaits new ≡ HaltAnswer keep) × (new.waits ≡ false)
+    × CanKeep (open_of new) keep
 AsksFor (AskLook slot) new = (awaits new ≡ LookAnswer) × (new.waits ≡ false) × (slot ≡ new.heard)
 AsksFor (AskOffer plan offers) new = (awaits new ≡ OfferAnswer) × (new.waits ≡ false)
 
@@ -109,7 +113,8 @@ taken_up heard slot = if nat_lt heard slot && nat_le slot (2 ^ 62) then slot els
 -- what a slot brought
 abbrev pub BringsIn : Slotted → Awaited → State → Type 0
 BringsIn Going awaited state = awaits_of awaited ≡ NoAnswer
-BringsIn (Finished bytes) awaited state = (awaits_of awaited ≡ HaltAnswer bytes) × CanKeep (open_in state) bytes
+BringsIn (Finished bytes) awaited state = (awaits_of awaited ≡ HaltAnswer bytes)
+    × CanKeep (open_in state) bytes
 
 abbrev pub Brings : Slotted → Standing → Type 0
 Brings slotted new = BringsIn slotted new.awaited new.state
@@ -118,7 +123,8 @@ Brings slotted new = BringsIn slotted new.awaited new.state
 abbrev pub IsSameBooking : Option Open → Option Open → Type 0
 IsSameBooking None new = new ≡ None
 IsSameBooking (Some old) None = ⊥
-IsSameBooking (Some old) (Some new) = (new.plan ≡ old.plan) × (new.start ≡ old.start) × (old.due ≤ new.due)
+IsSameBooking (Some old) (Some new) = (new.plan ≡ old.plan) × (new.start ≡ old.start)
+    × (old.due ≤ new.due)
 
 -- the answer that is called for is one to a play, to a halt, to a look, or to an offer
 abbrev pub IsPlay : Awaits → Type 0

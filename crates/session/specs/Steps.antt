@@ -29,14 +29,16 @@ IsCarried (Ready setup paused) (Stopping s p) = ⊥
 IsCarried (Playing setup play) Init = ⊥
 IsCarried (Playing setup play) (Ready s p) = ⊥
 IsCarried (Playing setup play) (Playing s p) =
-    (s ≡ setup) × (p.run ≡ play.run) × (p.place ≡ play.place) × (p.start ≡ play.start) × (p.plan ≡ play.plan)
+    (s ≡ setup) × (p.run ≡ play.run) × (p.place ≡ play.place) × (p.start ≡ play.start)
+    × (p.plan ≡ play.plan)
     × IsSamePacing play.pacer p.pacer
 IsCarried (Playing setup play) (Stopping s p) = ⊥
 IsCarried (Stopping setup stop) Init = ⊥
 IsCarried (Stopping setup stop) (Ready s p) = ⊥
 IsCarried (Stopping setup stop) (Playing s p) = ⊥
 IsCarried (Stopping setup stop) (Stopping s p) =
-    (s ≡ setup) × (p.paused ≡ stop.paused) × (p.start ≡ stop.start) × IsSamePacing stop.pacer p.pacer
+    (s ≡ setup) × (p.paused ≡ stop.paused) × (p.start ≡ stop.start)
+    × IsSamePacing stop.pacer p.pacer
 
 -- all that is due was sent
 abbrev pub IsEven : State → Type 0

@@ -30,9 +30,11 @@ impl<'a> Session<'a> {
         requires asked { IsPlay (awaits self.old) }
         requires start { self.old.heard < start }
         ensures exact { self.new ≡ after_admission self.old place start }
-        ensures text { (fields : List Field) → self.old.text ≡ reply_front 200 (Some (sequence_of self.old.awaited)) fields
+        ensures text { (fields : List Field) →
+            self.old.text ≡ reply_front 200 (Some (sequence_of self.old.awaited)) fields
             → self.new.text ≡ play_text (sequence_of self.old.awaited) fields (start - self.old.heard) }
-        ensures handed { IsHandedIn self.old (Receipt.Entry place (Answer.Admitted start)) self.new }
+        ensures handed { IsHandedIn self.old
+            (Receipt.Entry place (Answer.Admitted start)) self.new }
         ensures replies { self.new.waits ≡ true }
         ensures open { open_of self.new ≡ booking_of (awaits self.old) start }
         ensures play { IsPlayIn self.new.state }
@@ -72,12 +74,13 @@ impl<'a> Session<'a> {
         self.waits = true;
     }
 
-    /// The link has no room for the play that was asked for: the first slot without room, what is booked in it and what
-    /// the plan asks for there.
+    /// The link has no room for the play that was asked for: the first slot without room, what is
+    /// booked in it and what the plan asks for there.
     pub fn overflowed(&mut self, place: u64, slot: u64, booked: u64, asked: u64)
         requires asked { IsPlay (awaits self.old) }
         ensures exact { self.new ≡ after_overflow self.old place slot booked asked }
-        ensures handed { IsHandedIn self.old (Receipt.Entry place (Answer.Overflow slot booked asked)) self.new }
+        ensures handed { IsHandedIn self.old
+            (Receipt.Entry place (Answer.Overflow slot booked asked)) self.new }
         ensures replies { self.new.waits ≡ true }
         ensures open { open_of self.new ≡ None }
         ensures notes { AreNotesKept self.old self.new }
@@ -97,7 +100,8 @@ impl<'a> Session<'a> {
         self.waits = true;
     }
 
-    /// The journal had no room for the play or the look that was asked for: its entries and the open plays.
+    /// The journal had no room for the play or the look that was asked for: its entries and the
+    /// open plays.
     pub fn full(&mut self, entries: u64, live: u64)
         requires asked { IsPlayOrLook (awaits self.old) }
         ensures exact { self.new ≡ after_full self.old entries live }
@@ -116,13 +120,14 @@ impl<'a> Session<'a> {
         self.waits = true;
     }
 
-    /// The booking was halted: the one for which that was asked, or the open one as the connection ends, which keeps what
-    /// is due.
+    /// The booking was halted: the one for which that was asked, or the open one as the connection
+    /// ends, which keeps what is due.
     pub fn halted(&mut self, place: u64)
         requires asked { IsHalt (awaits self.old) (open_of self.old) }
         ensures halts { Halts self.old place self.new }
         ensures state { self.new.state ≡ halted_in self.old.state self.old.awaited }
-        ensures plays { self.new.plays ≡ self.old.plays ++ halted_notes self.old.state self.old.awaited }
+        ensures plays { self.new.plays ≡
+            self.old.plays ++ halted_notes self.old.state self.old.awaited }
         ensures text { self.new.text ≡ self.old.text }
         ensures late { self.new.late ≡ self.old.late }
         ensures looks { self.new.looks_left ≡ self.old.looks_left }
@@ -182,11 +187,13 @@ impl<'a> Session<'a> {
         }
     }
 
-    /// What the station saw: the slot up to which its book has come, the slot that was looked at and what is booked in it.
+    /// What the station saw: the slot up to which its book has come, the slot that was looked at
+    /// and what is booked in it.
     pub fn looked(&mut self, place: u64, now: u64, at: u64, booked: u64)
         requires asked { IsLook (awaits self.old) }
         ensures exact { self.new ≡ after_look self.old place now at booked }
-        ensures handed { IsHandedIn self.old (Receipt.Entry place (Answer.Looked now at booked)) self.new }
+        ensures handed { IsHandedIn self.old
+            (Receipt.Entry place (Answer.Looked now at booked)) self.new }
         ensures replies { self.new.waits ≡ true }
         ensures open { open_of self.new ≡ open_of self.old }
         ensures notes { AreNotesKept self.old self.new }
@@ -203,11 +210,17 @@ impl<'a> Session<'a> {
         self.waits = true;
     }
 
-    /// What the station offers: how many entries the journal had, the first slot that was tried, and the plan and the
-    /// offers that were handed out.
+    /// What the station offers: how many entries the journal had, the first slot that was tried,
+    /// and the plan and the offers that were handed out.
     pub fn offered(&mut self, seen: u64, first: u64, plan: Plan, offers: Offers)
         requires asked { IsOffer (awaits self.old) }
-        ensures exact { self.new ≡ after_offer self.old (record { seen = seen; first = first; plan = plan; offers = offers }) }
+        ensures exact { self.new ≡
+            after_offer self.old (record {
+              seen = seen;
+              first = first;
+              plan = plan;
+              offers = offers;
+            }) }
         ensures rest { IsAtRest self.new }
         ensures replies { self.new.waits ≡ true }
         ensures open { open_of self.new ≡ open_of self.old }
@@ -269,7 +282,8 @@ fn note_of(setup: &Setup, run: &Run, place: u64, start: u64, plan: Plan, keep: u
     }
 }
 
-/// What a halt keeps, and what it leads to: what was asked for, or what is due as the connection ends.
+/// What a halt keeps, and what it leads to: what was asked for, or what is due as the connection
+/// ends.
 fn kept_and_next(asked: &Awaited<'_>, due: u64) -> (u64, Next)
     ensures keep { result.0 ≡ kept_of asked.now due }
     ensures next { result.1 ≡ next_of asked.now }

@@ -58,7 +58,8 @@ fn put_over_line(body: &mut Text, tried: &Tried)
     body.put(b"\r\n");
 }
 
-/// From which slot on a play would fit, and the first slot without room for each start that was tried in vain.
+/// From which slot on a play would fit, and the first slot without room for each start that was
+/// tried in vain.
 pub(crate) fn put_offer(body: &mut Text, offers: &Offers)
     ensures text { body.new ≡ offer_body offers.now.start offers.now.tried }
     ensures short { length body.new ≤ 24576 }

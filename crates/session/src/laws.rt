@@ -19,35 +19,41 @@ ghost use Rattle.session.specs.Standings.{Standing};
 
 /// A reply other than 200 leaves all of the session but the reply (RFC 2326 section 7.1.1).
 pub fn law_refusal_leaves()
-    ensures { (old new : Standing) (message : List ℕ) → Hears old message Ask.Reply new → LeavesOr old new }
+    ensures { (old new : Standing) (message : List ℕ) → Hears old message Ask.Reply new →
+        LeavesOr old new }
 {}
 
 /// A request in Playing that asks for no halt leaves the play.
 pub fn law_play_goes_on()
-    ensures { (old new : Standing) (message : List ℕ) (ask : Ask) (setup : Setup) (play : Played) → Hears old message ask new
+    ensures { (old new : Standing) (message : List ℕ) (ask : Ask) (setup : Setup) (play : Played) →
+        Hears old message ask new
         → old.state ≡ Playing setup play → IsNoHalt ask → PlaysOn old new }
 {}
 
-/// What is sent after so many bytes of a run goes on from it: the next frame's sequence number modulo 2^16, and the packets
-/// and octets that reports count modulo 2^32 (RFC 3550 sections 5.1 and 6.4.1).
+/// What is sent after so many bytes of a run goes on from it: the next frame's sequence number
+/// modulo 2^16, and the packets and octets that reports count modulo 2^32 (RFC 3550 sections 5.1
+/// and 6.4.1).
 pub fn law_numbers_go_on()
     ensures { (source : Source) (setup : Setup) (counts : Counts) (sending : Sending) (bytes : ℕ)
         → GoesOn (identity_of source setup counts) (identity_of source setup (counts_after counts sending bytes))
         (frames_before sending bytes) (octets_before sending bytes) }
 {}
 
-/// A PLAY without a Range sends a paused run on, from the byte after the last that was sent (RFC 2326 section 10.5).
+/// A PLAY without a Range sends a paused run on, from the byte after the last that was sent (RFC
+/// 2326 section 10.5).
 pub fn law_resume_goes_on()
     ensures { (old : Standing) (stored : Stored) (setup : Setup) (paused : Run) (planned : Planned)
         → IsPlannedRun old stored setup (Some paused) None planned → Resumes old paused planned }
 {}
 
-/// The state moves only as RFC 2326 appendix A.2 has it: a request moves Init to Ready, an admission Ready to Playing, and a halt
-/// Playing to Ready.
+/// The state moves only as RFC 2326 appendix A.2 has it: a request moves Init to Ready, an
+/// admission Ready to Playing, and a halt Playing to Ready.
 pub fn law_states()
-    ensures request { (old new : Standing) (message : List ℕ) (ask : Ask) → Hears old message ask new
+    ensures request { (old new : Standing) (message : List ℕ) (ask : Ask) →
+        Hears old message ask new
         → StaysOr InitStage ReadyStage old new }
     ensures admission { (old : Standing) (place start : ℕ)
         → StaysOr ReadyStage PlayingStage old (after_admission old place start) }
-    ensures halt { (old : Standing) (place : ℕ) → StaysOr PlayingStage ReadyStage old (after_halt old place) }
+    ensures halt { (old : Standing) (place : ℕ) →
+        StaysOr PlayingStage ReadyStage old (after_halt old place) }
 {}

@@ -6,8 +6,8 @@ use std::alloc::Global;
 use std::marker::Model;
 use vod_base::NoMemory;
 
-/// Receipts and notes, with the room that is reserved for more. Contracts see the three lists and how many more each has
-/// room for.
+/// Receipts and notes, with the room that is reserved for more. Contracts see the three lists and
+/// how many more each has room for.
 #[derive(Debug, Drop)]
 pub(crate) struct Log {
     pub(crate) receipts: Vec<Receipt>,
@@ -60,7 +60,8 @@ impl Log {
         ensures room { OnOk result (count ≤ self.new.receipt_room) }
         ensures more { self.old.receipt_room ≤ self.new.receipt_room }
         ensures enough { count ≤ self.old.receipt_room → IsOk result }
-        ensures others { (self.new.play_room ≡ self.old.play_room) × (self.new.offer_room ≡ self.old.offer_room) }
+        ensures others { (self.new.play_room ≡ self.old.play_room)
+            × (self.new.offer_room ≡ self.old.offer_room) }
     {
         match self.receipts.reserve(count) {
             Ok(()) => Ok(()),
@@ -73,7 +74,8 @@ impl Log {
         ensures lists { IsSameLists self.old self.new }
         ensures room { OnOk result (1 ≤ self.new.play_room) }
         ensures more { self.old.play_room ≤ self.new.play_room }
-        ensures others { (self.new.receipt_room ≡ self.old.receipt_room) × (self.new.offer_room ≡ self.old.offer_room) }
+        ensures others { (self.new.receipt_room ≡ self.old.receipt_room)
+            × (self.new.offer_room ≡ self.old.offer_room) }
     {
         match self.plays.reserve(1) {
             Ok(()) => Ok(()),
@@ -81,13 +83,15 @@ impl Log {
         }
     }
 
-    /// Makes room for the receipts of so many looks, and for the two receipts and the note of a play.
+    /// Makes room for the receipts of so many looks, and for the two receipts and the note of a
+    /// play.
     pub(crate) fn reserve_for_play(&mut self, looks: usize) -> Result<(), NoMemory>
         requires { looks ≤ 1024 }
         ensures lists { IsSameLists self.old self.new }
         ensures room { OnOk result (looks + 2 ≤ self.new.receipt_room) }
         ensures plays { OnOk result (1 ≤ self.new.play_room) }
-        ensures more { (self.old.receipt_room ≤ self.new.receipt_room) × (self.old.play_room ≤ self.new.play_room) }
+        ensures more { (self.old.receipt_room ≤ self.new.receipt_room)
+            × (self.old.play_room ≤ self.new.play_room) }
         ensures others { self.new.offer_room ≡ self.old.offer_room }
     {
         self.reserve_receipts(looks + 2)?;
@@ -99,7 +103,8 @@ impl Log {
         ensures lists { IsSameLists self.old self.new }
         ensures room { OnOk result (1 ≤ self.new.offer_room) }
         ensures more { self.old.offer_room ≤ self.new.offer_room }
-        ensures others { (self.new.receipt_room ≡ self.old.receipt_room) × (self.new.play_room ≡ self.old.play_room) }
+        ensures others { (self.new.receipt_room ≡ self.old.receipt_room)
+            × (self.new.play_room ≡ self.old.play_room) }
     {
         match self.offers.reserve(1) {
             Ok(()) => Ok(()),

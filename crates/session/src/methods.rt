@@ -16,7 +16,8 @@ pub(crate) enum Method {
 
 /// The method of a request, where it is spoken.
 pub(crate) fn read_method(text: &[u8]) -> Option<Method>
-    ensures { MatchOption result ((method : Method) → text.now ≢ name_of method) (λ method. text.now ≡ name_of method) }
+    ensures { MatchOption result ((method : Method) →
+        text.now ≢ name_of method) (λ method. text.now ≡ name_of method) }
 {
     if text == b"OPTIONS".as_slice() {
         Some(Method::Options)

@@ -72,8 +72,8 @@ pub struct Notes {
     pub receipts: Vec<Receipt>,
     /// The plays that were admitted, in order.
     pub plays: Vec<PlayNote>,
-    /// The slots that were not heard while a play was sent: for each step those between the last heard slot, or the
-    /// slot before the play's start where that is later, and the heard one.
+    /// The slots that were not heard while a play was sent: for each step those between the last
+    /// heard slot, or the slot before the play's start where that is later, and the heard one.
     pub late: u64,
     /// The offers, in order.
     pub offers: Vec<OfferNote>,

@@ -76,7 +76,8 @@ fn counts_before(
     }
 }
 
-/// The run that a play sends, and what was sent before it: a paused run is sent on, and a new one follows on all that was sent.
+/// The run that a play sends, and what was sent before it: a paused run is sent on, and a new one
+/// follows on all that was sent.
 fn run_and_counts(
     stored: &Stored,
     source: Source,
@@ -107,7 +108,8 @@ impl<'a> Session<'a> {
     ) -> Result<Planned, Refusal>
         requires setup { IsSetup (length self.now.films) setup.now }
         requires paused { IsPausedIn self.now.films self.now.source self.now.counts setup.now paused }
-        ensures exact { IsPlanned self.now setup.now paused (option_map (λ value. value.now) range.entry) result }
+        ensures exact { IsPlanned self.now setup.now paused (option_map (λ value.
+            value.now) range.entry) result }
         ensures playable { IfOk result (λ planned. OfFilm self.now.films setup.now.film (λ stored.
             IsPlayable stored self.now.source self.now.settings setup.now planned.counts planned.run planned.plan)) }
     {

@@ -108,7 +108,8 @@ pub(crate) fn option_of<'m>(request: &Request<'m>) -> &'m [u8]
 
 /// Whether the session that a request names, or names not, goes with its method.
 fn has_session(method: Method, exists: bool, id: &[u8; 16], named: Option<&[u8]>) -> bool
-    ensures fits { IsTrue result ↔ FitsSession method exists id.now (option_map (λ value. value.now) named.entry) }
+    ensures fits { IsTrue result ↔
+        FitsSession method exists id.now (option_map (λ value. value.now) named.entry) }
     ensures needs { IsTrue result → NeedsSession method exists }
 {
     let matches = match named {
@@ -124,7 +125,8 @@ fn has_session(method: Method, exists: bool, id: &[u8; 16], named: Option<&[u8]>
 
 /// The number of the film of that name.
 fn find(films: &[Stored], name: &[u8]) -> Option<usize>
-    ensures found { MatchOption result ((film : ℕ) → ¬ IsFilmNamed films.now name.now film) (IsFilmNamed films.now name.now) }
+    ensures found { MatchOption result ((film : ℕ) →
+        ¬ IsFilmNamed films.now name.now film) (IsFilmNamed films.now name.now) }
     ensures within { IfSome result (λ film. film < length films.now) }
 {
     for (number, film) in films.iter().enumerate() {
@@ -138,9 +140,11 @@ fn find(films: &[Stored], name: &[u8]) -> Option<usize>
 /// The film that a URL names.
 fn asked_film<'m>(films: &[Stored], url: &'m [u8]) -> Option<Asked<'m>>
     requires { AreFilms films.now }
-    ensures asked { MatchOption result ((authority : List ℕ) (film : ℕ) → ¬ Names films.now url.now authority film)
+    ensures asked { MatchOption result ((authority : List ℕ) (film : ℕ) →
+        ¬ Names films.now url.now authority film)
         (λ asked. Names films.now url.now asked.authority.now asked.film) }
-    ensures one { IfSome result (λ asked. (authority : List ℕ) (film : ℕ) → Names films.now url.now authority film → film ≡ asked.film) }
+    ensures one { IfSome result (λ asked. (authority : List ℕ) (film : ℕ) →
+        Names films.now url.now authority film → film ≡ asked.film) }
     ensures within { IfSome result (λ asked. asked.film < length films.now) }
     ensures authority { IfSome result (λ asked. length asked.authority.now ≤ length url.now) }
     ensures authority_line { IfSome result (λ asked. is_one_line asked.authority.now ≡ true) }
@@ -154,7 +158,8 @@ fn asked_film<'m>(films: &[Stored], url: &'m [u8]) -> Option<Asked<'m>>
     })
 }
 
-/// Whether a method may be asked of that film: it is the session's, or there is none, or it is to be described.
+/// Whether a method may be asked of that film: it is the session's, or there is none, or it is to
+/// be described.
 fn is_own(method: Method, place: Place, film: usize) -> bool
     ensures { IsTrue result ↔ FitsFilm method place film }
 {
@@ -197,8 +202,8 @@ fn task_of(films: usize, place: Place, method: Method, asked: Asked<'_>) -> Task
     }
 }
 
-/// Judges a well formed request by the refusals that all methods share, in their order: the method isn't spoken, an option is
-/// required, the session, the film, the state.
+/// Judges a well formed request by the refusals that all methods share, in their order: the method
+/// isn't spoken, an option is required, the session, the film, the state.
 pub(crate) fn judge<'m>(
     films: &[Stored],
     id: &[u8; 16],

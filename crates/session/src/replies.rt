@@ -216,7 +216,8 @@ pub(crate) fn info_of<'m>(
     ensures name { result.name.now ≡ string_bytes stored.now.name }
     ensures number { let sent = counts_after prepared.now.counts prepared.now.frames prepared.now.run.sent in
         result.sequence ≡ (identity_of source setup.now sent).sequence }
-    ensures time { result.timestamp ≡ timestamp_at stored.now.film source prepared.now.run.from_unit }
+    ensures time { result.timestamp ≡
+        timestamp_at stored.now.film source prepared.now.run.from_unit }
 {
     let run = prepared.run;
     let sent = counts_after(prepared.counts, &prepared.frames, run.sent);
@@ -237,7 +238,8 @@ pub(crate) fn put_play(reply: &mut Reply, sequence: u64, id: &[u8; 16], info: &I
     requires authority_line { is_one_line info.now.authority.now ≡ true }
     requires name { length info.now.name.now ≤ 64 }
     requires name_line { is_one_line info.now.name.now ≡ true }
-    ensures text { reply.new ≡ reply_front 200 (Some sequence) (play_fields id.now info.now.first_ms info.now.end_ms
+    ensures text { reply.new ≡
+        reply_front 200 (Some sequence) (play_fields id.now info.now.first_ms info.now.end_ms
         info.now.authority.now info.now.name.now info.now.sequence info.now.timestamp) }
     ensures short { length reply.new ≤ 20000 }
 {
@@ -274,7 +276,8 @@ pub(crate) fn put_play(reply: &mut Reply, sequence: u64, id: &[u8; 16], info: &I
 pub(crate) fn put_start(reply: &mut Reply, slots: u64)
     requires { length reply.old ≤ 20000 }
     ensures text { reply.new ≡ started_text reply.old slots }
-    ensures whole { (sequence : ℕ) (fields : List Field) → reply.old ≡ reply_front 200 (Some sequence) fields
+    ensures whole { (sequence : ℕ) (fields : List Field) →
+        reply.old ≡ reply_front 200 (Some sequence) fields
         → reply.new ≡ play_text sequence fields slots }
 {
     reply.number_field(b"x-Start", slots);

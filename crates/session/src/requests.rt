@@ -38,7 +38,8 @@ use vod_base::NoMemory;
 impl<'a> Session<'a> {
     /// Hears a whole request: answers it, or asks for what its answer needs.
     ///
-    /// All memory that the request needs is taken here, before anything is changed: want of it is answered 500.
+    /// All memory that the request needs is taken here, before anything is changed: want of it is
+    /// answered 500.
     pub fn hear(&mut self, message: &[u8]) -> Ask
         requires rest { IsAtRest self.old }
         requires replied { self.old.waits ≡ false }
@@ -204,7 +205,8 @@ impl<'a> Session<'a> {
         requires authority_line { is_one_line authority.now ≡ true }
         requires run { OfFilm self.old.films setup.now.film (λ stored.
             IsPlayable stored self.old.source self.old.settings setup.now planned.counts planned.run planned.plan) }
-        ensures exact { AsksPlayOr self.old sequence authority.now setup.now (Ok planned) result self.new }
+        ensures exact { AsksPlayOr self.old sequence authority.now setup.now
+            (Ok planned) result self.new }
         ensures asks { AsksFor result self.new }
         ensures same { IsSameBusiness self.old self.new }
     {
@@ -371,7 +373,8 @@ impl<'a> Session<'a> {
 
 /// How many slots may be waited for an offer's start.
 fn wait_of(request: &Request<'_>) -> Option<u64>
-    ensures read { MatchOption result ((wait : ℕ) → ¬ HasWait request.now.head.now wait) (HasWait request.now.head.now) }
+    ensures read { MatchOption result ((wait : ℕ) →
+        ¬ HasWait request.now.head.now wait) (HasWait request.now.head.now) }
     ensures most { IfSome result (λ wait. wait ≤ 255) }
 {
     match header(request, b"x-Wait") {

@@ -15,7 +15,8 @@ use std::alloc::Global;
 use std::marker::Model;
 use vod_base::NoMemory;
 
-/// One RTSP session of a connection (RFC 2326): what it asked of the station, and the play that it sends.
+/// One RTSP session of a connection (RFC 2326): what it asked of the station, and the play that it
+/// sends.
 ///
 /// Contracts see a record of named fields, and speak of it by the words of its specification.
 #[derive(Drop)]
@@ -59,8 +60,9 @@ impl<'a> Model for Session<'a> {
 }
 
 impl<'a> Session<'a> {
-    /// A session of a new connection, in Init. The words are the connection's own random numbers: two for the session's id,
-    /// the SSRC, the sequence number of the first frame in 16 bits, and the timestamp of the film's beginning.
+    /// A session of a new connection, in Init. The words are the connection's own random numbers:
+    /// two for the session's id, the SSRC, the sequence number of the first frame in 16 bits, and
+    /// the timestamp of the film's beginning.
     ///
     /// # Errors
     ///

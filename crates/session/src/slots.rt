@@ -38,7 +38,8 @@ fn start_of(state: &State<'_>) -> Option<u64>
     }
 }
 
-/// Sends what is due in a slot, with a stop up to the end of the piece in hand alone. It tells how many bytes are left.
+/// Sends what is due in a slot, with a stop up to the end of the piece in hand alone. It tells how
+/// many bytes are left.
 #[tactic(auto, using(crate::proofs::Fronts::failed_front, crate::proofs::Fronts::failed_due))]
 fn step<K: Link>(
     state: &mut State<'_>,
@@ -49,7 +50,8 @@ fn step<K: Link>(
     requires { IsPacingIn state.old }
     ensures count { K.faults link.old ≤ K.faults link.new }
     ensures fault { OnErr result (HasRisen (K.faults link.old) (K.faults link.new)) }
-    ensures front { OnErr result (IsFrontTold (K.told link.old) (K.told link.new) (step_bytes stop slot state.old)) }
+    ensures front { OnErr result
+        (IsFrontTold (K.told link.old) (K.told link.new) (step_bytes stop slot state.old)) }
     ensures due { OnErr result (open_in state.new ≡ open_in (stepped_in stop slot state.old)) }
     ensures carried { IsCarried state.old state.new }
     ensures left { IfOk result (IsLeft state.new) }
@@ -83,8 +85,8 @@ fn is_between(state: &State<'_>) -> bool
     }
 }
 
-/// Sends what is due in a slot, and the reply, if one waits, at the first boundary that is reached. It tells whether the reply
-/// was sent.
+/// Sends what is due in a slot, and the reply, if one waits, at the first boundary that is reached.
+/// It tells whether the reply was sent.
 #[tactic(auto, using(crate::proofs::Fronts::front_left, crate::proofs::Fronts::front_right, crate::proofs::Fronts::raised_twice, crate::proofs::Fronts::due_between))]
 fn send_due<K: Link>(
     state: &mut State<'_>,
@@ -103,7 +105,8 @@ fn send_due<K: Link>(
     ensures carried { IsCarried state.old state.new }
     ensures even { OnOk result (IsEven state.new) }
     ensures exact { OnOk result (state.new ≡ due_state waits state.old slot) }
-    ensures sent { IfOk result (λ sent. sent ≡ (waits && is_between (stepped_in true slot state.old))) }
+    ensures sent { IfOk result (λ sent. sent ≡
+        (waits && is_between (stepped_in true slot state.old))) }
     ensures told { OnOk result
         (K.told link.new ≡ told_more (K.told link.old) (sends (due_bytes waits state.old reply.now slot))) }
     ensures waited { IfOk result (λ sent. sent ≡ true → waits ≡ true) }
@@ -188,8 +191,8 @@ fn finish<'a>(state: &State<'a>, awaited: &mut Awaited<'a>) -> Slotted
 }
 
 impl<'a> Session<'a> {
-    /// Takes up a slot, if it is a later one than the last and none above 2^62, and sends what is due in it. A waiting reply
-    /// goes out at the first boundary that is reached.
+    /// Takes up a slot, if it is a later one than the last and none above 2^62, and sends what is
+    /// due in it. A waiting reply goes out at the first boundary that is reached.
     ///
     /// # Errors
     ///
@@ -197,7 +200,8 @@ impl<'a> Session<'a> {
     pub fn slot<K: Link>(&mut self, t: u64, link: &mut K) -> Result<Slotted, LinkFault>
         requires rest { IsAtRest self.old }
         ensures exact { OnOk result (self.new ≡ slotted self.old t) }
-        ensures told { OnOk result (IsTold (is_taken self.old t && is_sending self.old.state) (K.told link.old)
+        ensures told { OnOk result (IsTold (is_taken self.old t
+            && is_sending self.old.state) (K.told link.old)
             (due_bytes self.old.waits self.old.state self.old.text t) (K.told link.new)) }
         ensures heard { self.new.heard ≡ taken_up self.old.heard t }
         ensures brings { IfOk result (λ slotted. Brings slotted self.new) }
@@ -208,7 +212,8 @@ impl<'a> Session<'a> {
         ensures plays { self.new.plays ≡ self.old.plays }
         ensures offers { self.new.offers ≡ self.old.offers }
         ensures count { K.faults link.old ≤ K.faults link.new }
-        ensures failed { OnErr result (HasFailed self.old t (K.told link.old) (K.told link.new) self.new) }
+        ensures failed { OnErr result
+            (HasFailed self.old t (K.told link.old) (K.told link.new) self.new) }
         ensures fault { OnErr result (HasRisen (K.faults link.old) (K.faults link.new)) }
     {
         if t <= self.heard || t > LATEST_SLOT {
@@ -232,18 +237,22 @@ impl<'a> Session<'a> {
         Ok(finish(&self.state, &mut self.awaited))
     }
 
-    /// Sends the waiting reply in one send where no frame and no report is cut; else it does nothing.
+    /// Sends the waiting reply in one send where no frame and no report is cut; else it does
+    /// nothing.
     ///
     /// # Errors
     ///
     /// [`LinkFault`] only where the link's count rose.
     pub fn reply<K: Link>(&mut self, link: &mut K) -> Result<(), LinkFault>
         requires rest { IsAtRest self.old }
-        ensures exact { OnOk result (self.new ≡ (if can_reply self.old then sent_reply self.old else self.old)) }
-        ensures told { OnOk result (IsTold (can_reply self.old) (K.told link.old) self.old.text (K.told link.new)) }
+        ensures exact { OnOk result (self.new ≡
+            (if can_reply self.old then sent_reply self.old else self.old)) }
+        ensures told { OnOk result
+            (IsTold (can_reply self.old) (K.told link.old) self.old.text (K.told link.new)) }
         ensures failed { OnErr result (self.new ≡ record self.old { lost = true }) }
         ensures can { OnErr result (can_reply self.old ≡ true) }
-        ensures front { OnErr result (IsFrontTold (K.told link.old) (K.told link.new) self.old.text) }
+        ensures front { OnErr result
+            (IsFrontTold (K.told link.old) (K.told link.new) self.old.text) }
         ensures rest { IsAtRest self.new }
         ensures kept { OnOk result (self.new.lost ≡ self.old.lost) }
         ensures heard { self.new.heard ≡ self.old.heard }

@@ -30,8 +30,8 @@ pub(crate) struct Counts {
     pub(crate) octets: u32,
 }
 
-/// What a connection's random words give its stream: the SSRC, and what the first frame's sequence number and the film's
-/// beginning have as sequence number and timestamp (RFC 3550 section 5.1).
+/// What a connection's random words give its stream: the SSRC, and what the first frame's sequence
+/// number and the film's beginning have as sequence number and timestamp (RFC 3550 section 5.1).
 #[derive(Clone, Copy, Debug, PartialEq, Eq)]
 pub(crate) struct Source {
     pub(crate) ssrc: u32,
@@ -65,8 +65,8 @@ pub(crate) struct Stop<'a> {
     pub(crate) pacer: Pacer<Frames<'a>>,
 }
 
-/// A session's state. Init has no session; a Ready one may have a run that was paused; a Stopping one will be Ready as soon
-/// as its reply is sent.
+/// A session's state. Init has no session; a Ready one may have a run that was paused; a Stopping
+/// one will be Ready as soon as its reply is sent.
 #[derive(Drop)]
 pub(crate) enum State<'a> {
     Init,

@@ -8,7 +8,8 @@ use vod_base::NoMemory;
 /// The most bytes of a text.
 const ROOM: usize = 24_576;
 
-/// The text of a reply's body, in a buffer of 24,576 bytes that `new` takes. Contracts see the text so far.
+/// The text of a reply's body, in a buffer of 24,576 bytes that `new` takes. Contracts see the text
+/// so far.
 #[derive(Debug, Drop)]
 pub(crate) struct Text {
     bytes: Vec<u8>,

@@ -35,7 +35,8 @@ fn span_of(range: Option<&[u8]>) -> Option<Span>
 
 /// A new run between two times in nanoseconds.
 fn new_run(film: &Film, from: u128, to: Option<u128>) -> Option<Wanted>
-    ensures { MatchOption result (HasNothing film.now from to) (λ wanted. IsNewRun film.now from to wanted) }
+    ensures { MatchOption result (HasNothing film.now from to) (λ wanted.
+        IsNewRun film.now from to wanted) }
 {
     match run_between(film, from, to) {
         Some(run) => Some(Wanted::New(run)),
@@ -45,7 +46,8 @@ fn new_run(film: &Film, from: u128, to: Option<u128>) -> Option<Wanted>
 
 /// The run that a span asks for: the paused run from now on, else a new one.
 fn run_in(film: &Film, paused: Option<Run>, span: Span) -> Option<Wanted>
-    ensures { MatchOption result (WantsNothing film.now paused span.from span.to) (IsWanted film.now paused span.from span.to) }
+    ensures { MatchOption result (WantsNothing film.now paused span.from span.to)
+        (IsWanted film.now paused span.from span.to) }
 {
     match span.from {
         Origin::At(from) => new_run(film, from, span.to),
@@ -56,7 +58,8 @@ fn run_in(film: &Film, paused: Option<Run>, span: Span) -> Option<Wanted>
     }
 }
 
-/// The run that a Range asks for, or a PLAY without one. None where the Range has no meaning for the film.
+/// The run that a Range asks for, or a PLAY without one. None where the Range has no meaning for
+/// the film.
 pub(crate) fn wanted_run(film: &Film, paused: Option<Run>, range: Option<&[u8]>) -> Option<Wanted>
     ensures { MatchOption result
         (IsNoRange film.now paused (option_map (λ value. value.now) range.entry))

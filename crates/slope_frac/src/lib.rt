@@ -1,7 +1,7 @@
 //! Slopes of a sending plan: a number of bytes over a number of slots, compared exactly.
 //!
-//! A plan is a broken line, and every question about it is a question about slopes. No slope is ever rounded:
-//! two of them are compared by their cross products, in 128 bits.
+//! A plan is a broken line, and every question about it is a question about slopes. No slope is
+//! ever rounded: two of them are compared by their cross products, in 128 bits.
 #![tactic(auto)]
 
 ghost use Rattle.std.specs.Prelude.{◌≡◌, ◌<◌, ◌≤◌, ◌⊎◌, ◌↔◌};
@@ -10,7 +10,8 @@ ghost use Rattle.slope_frac.specs.Order.{IsBelow, IsLevel};
 
 use std::cmp::Ordering;
 
-/// The slope of a line that rises by `bytes` over `slots` slots. A slope that stands in a line has at least one slot.
+/// The slope of a line that rises by `bytes` over `slots` slots. A slope that stands in a line has
+/// at least one slot.
 #[derive(Clone, Copy, Debug)]
 pub struct Slope {
     /// How far the line rises, in bytes.
@@ -61,7 +62,8 @@ pub fn law_level(a: Slope, b: Slope, c: Slope)
 mod tests {
     use super::*;
 
-    // Whole bytes would call the first three rows level; 64 bits would not hold the products of the sixth.
+    // Whole bytes would call the first three rows level; 64 bits would not hold the products of the
+    // sixth.
     #[test]
     fn compares_by_cross_products(rt: HostRuntime) {
         let rows = [

@@ -7,7 +7,8 @@ use Rattle.slot_calendar.specs.Profiles.{IsProfile, capacity_at}
 use Rattle.slot_calendar.specs.Plays.{Play, asked_at, booked_by}
 use Rattle.slot_calendar.specs.Totals.{total_at}
 
--- a calendar: the first slot that it knows, which is `now`, the steps of its capacity, and the booked bytes of the slots from there on
+-- a calendar: the first slot that it knows, which is `now`, the steps of its capacity, and the
+-- booked bytes of the slots from there on
 pub record Entries : Type 0 where
   pub first : ℕ
   pub steps : List CapStep
@@ -36,11 +37,13 @@ abbrev pub Fits : (ℕ → ℕ) → (ℕ → ℕ) → ℕ → List Segment → �
 Fits booked capacity start segments u = booked u + asked_at segments start u ≤ capacity u
 
 -- it fits into each slot from `from` on
-pub record HasRoom (from : ℕ) (booked capacity : ℕ → ℕ) (start : ℕ) (segments : List Segment) : Type 0 where
+pub record HasRoom (from : ℕ) (booked capacity : ℕ →
+    ℕ) (start : ℕ) (segments : List Segment) : Type 0 where
   pub each : (u : ℕ) → from ≤ u → Fits booked capacity start segments u
 
 -- the least slot from `from` on into which it doesn't fit, with the bytes booked and asked there
-pub record IsFirstOverflow (from : ℕ) (booked capacity : ℕ → ℕ) (start : ℕ) (segments : List Segment) (over : Overflow) : Type 0 where
+pub record IsFirstOverflow (from : ℕ) (booked capacity : ℕ →
+    ℕ) (start : ℕ) (segments : List Segment) (over : Overflow) : Type 0 where
   pub begun : from ≤ over.slot
   pub overflows : Overflows booked capacity start segments over.slot
   pub least : (u : ℕ) → from ≤ u → u < over.slot → Fits booked capacity start segments u
@@ -55,7 +58,8 @@ IsRoomIn calendar start segments =
 -- the first slot of a calendar into which it doesn't fit
 abbrev pub IsFirstOverflowIn : Entries → ℕ → List Segment → Overflow → Type 0
 IsFirstOverflowIn calendar start segments over =
-    IsFirstOverflow calendar.first (booked_at calendar) (capacity_at calendar.steps) start segments over
+    IsFirstOverflow calendar.first (booked_at calendar)
+    (capacity_at calendar.steps) start segments over
 
 -- it fits into each slot from `from` on that is before `until`
 abbrev pub FitsIn : ℕ → ℕ → (ℕ → ℕ) → (ℕ → ℕ) → ℕ → List Segment → Type 0
@@ -63,6 +67,7 @@ FitsIn from until booked capacity start segments =
     (u : ℕ) → from ≤ u → u < until → Fits booked capacity start segments u
 
 -- the first overflow before slot `until`
-pub record IsOverflowIn (from until : ℕ) (booked capacity : ℕ → ℕ) (start : ℕ) (segments : List Segment) (over : Overflow) : Type 0 where
+pub record IsOverflowIn (from until : ℕ) (booked capacity : ℕ →
+    ℕ) (start : ℕ) (segments : List Segment) (over : Overflow) : Type 0 where
   pub inside : over.slot < until
   pub first : IsFirstOverflow from booked capacity start segments over

@@ -4,7 +4,8 @@ use Rattle.slot_calendar.specs.Calendars.{Entries, IsCalendar}
 use Rattle.slot_calendar.specs.declared.calendar.Calendar.TheInside.{Inside}
 
 abbrev pub entries_of : Inside → Entries
-entries_of calendar = record { first = calendar.ring.first; steps = calendar.profile; totals = calendar.ring.totals }
+entries_of calendar =
+    record { first = calendar.ring.first; steps = calendar.profile; totals = calendar.ring.totals }
 
 pub record IsCalendarInside (calendar : Inside) : Type 0 where
   pub settled : calendar.ring.stale ≡ None

@@ -1,9 +1,11 @@
--- What plays book on a link. A play is a plan that begins at a slot and is cut after its first `keep` bytes.
+-- What plays book on a link. A play is a plan that begins at a slot and is cut after its first
+-- `keep` bytes.
 use Rattle.std.specs.Prelude.{ℕ, ◌+◌, ◌-◌, min, List, take, sum, sum_by}
 use Rattle.plan_cert.specs.declared.Segment.{Segment}
 use Rattle.plan_cert.specs.Slots.{plan_slots, total_bytes}
 
--- the bytes that a plan which begins at slot `start` has sent before slot t: none up to its start, all of them from its end on
+-- the bytes that a plan which begins at slot `start` has sent before slot t: none up to its start,
+-- all of them from its end on
 abbrev pub sent_before : List Segment → ℕ → ℕ → ℕ
 sent_before segments start t = sum (take (t - start) (plan_slots segments))
 
@@ -13,7 +15,8 @@ asked_at segments start t = sent_before segments start (t + 1) - sent_before seg
 
 -- the bytes that it sends in slot t after its first `keep` bytes
 abbrev pub cut_at : List Segment → ℕ → ℕ → ℕ → ℕ
-cut_at segments start keep t = (sent_before segments start (t + 1) - keep) - (sent_before segments start t - keep)
+cut_at segments start keep t =
+    (sent_before segments start (t + 1) - keep) - (sent_before segments start t - keep)
 
 pub record Play : Type 0 where
   pub start : ℕ
@@ -22,7 +25,8 @@ pub record Play : Type 0 where
 
 -- a play that keeps all its bytes
 abbrev pub whole_play : ℕ → List Segment → Play
-whole_play start segments = record { start = start; segments = segments; keep = total_bytes segments }
+whole_play start segments =
+    record { start = start; segments = segments; keep = total_bytes segments }
 
 -- a play that was cut
 abbrev pub cut_play : ℕ → List Segment → ℕ → Play
@@ -31,7 +35,8 @@ cut_play start segments keep = record { start = start; segments = segments; keep
 -- the bytes that a play books in slot t
 abbrev pub share_at : ℕ → Play → ℕ
 share_at t play =
-    min (sent_before play.segments play.start (t + 1)) play.keep - min (sent_before play.segments play.start t) play.keep
+    min (sent_before play.segments play.start (t
+    + 1)) play.keep - min (sent_before play.segments play.start t) play.keep
 
 -- the bytes that all plays of a list book in slot t
 abbrev pub booked_by : List Play → ℕ → ℕ

@@ -13,7 +13,8 @@ step_at steps i = slice_index_or steps i no_step
 
 -- each step begins after the one before it
 abbrev pub AreAscending : List CapStep → Type 0
-AreAscending steps = (i : ℕ) → i + 1 < length steps → (step_at steps i).from < (step_at steps (i + 1)).from
+AreAscending steps = (i : ℕ) → i + 1 < length steps →
+    (step_at steps i).from < (step_at steps (i + 1)).from
 
 -- no step is above 2^42 bytes a slot
 abbrev pub AreSmall : List CapStep → Type 0

@@ -1,4 +1,5 @@
--- How the totals are kept: 1,048,576 slots at their number modulo 1,048,576, in 1,024 blocks of 1,024 places each.
+-- How the totals are kept: 1,048,576 slots at their number modulo 1,048,576, in 1,024 blocks of
+-- 1,024 places each.
 use Rattle.std.specs.Prelude.{ℕ, ◌≡◌, ◌≢◌, ◌/◌, ◌%◌, ◌<◌, ◌≤◌, ◌++◌, List, Option, Some, length, take, drop, slice_index}
 use Rattle.slot_calendar.specs.Totals.{total_at}
 use Rattle.slot_calendar.specs.declared.ring.Ring.TheInside.{Inside}
@@ -7,7 +8,8 @@ use Rattle.slot_calendar.specs.declared.ring.Ring.TheInside.{Inside}
 abbrev pub rotation : ℕ → List ℕ → List ℕ
 rotation from places = drop from places ++ take from places
 
--- a ring: the totals of the slots from `first` on, and the block that was lowered and not read again, if any
+-- a ring: the totals of the slots from `first` on, and the block that was lowered and not read
+-- again, if any
 pub record Slots : Type 0 where
   pub first : ℕ
   pub totals : List ℕ
@@ -24,7 +26,8 @@ pub record IsReached (places : List ℕ) (b top : ℕ) : Type 0 where
   pub of_block : place / 1024 ≡ b
   pub holds : slice_index places place ≡ top
 
--- each block has its greatest total, but for the stale one, which has a number that is at least as great
+-- each block has its greatest total, but for the stale one, which has a number that is at least as
+-- great
 pub record IsTopped (places tops : List ℕ) (stale : Option ℕ) : Type 0 where
   pub places_are : length places ≡ 1048576
   pub tops_are : length tops ≡ 1024
@@ -33,7 +36,12 @@ pub record IsTopped (places tops : List ℕ) (stale : Option ℕ) : Type 0 where
   pub stale_in : (b : ℕ) → stale ≡ Some b → b < 1024
 
 abbrev pub slots_of_ring : Inside → Slots
-slots_of_ring ring = record { first = ring.first; totals = rotation (ring.first % 1048576) ring.places.items; stale = ring.stale }
+slots_of_ring ring =
+    record {
+      first = ring.first;
+      totals = rotation (ring.first % 1048576) ring.places.items;
+      stale = ring.stale;
+    }
 
 abbrev pub IsRing : Inside → Type 0
 IsRing ring = IsTopped ring.places.items ring.tops.items ring.stale

@@ -75,7 +75,8 @@ fn give_back(ring: &mut Ring, slot: u64, by: u64)
     }
 }
 
-/// Takes away what a segment that begins at slot `from` has after its first `keep` bytes, in the slots of the ring.
+/// Takes away what a segment that begins at slot `from` has after its first `keep` bytes, in the
+/// slots of the ring.
 fn release_segment(ring: &mut Ring, from: u64, segment: Segment, keep: u64)
     requires plan { IsPlan (segment ∷ []) }
     requires small { from ≤ 2 ^ 63 }
@@ -93,8 +94,8 @@ fn release_segment(ring: &mut Ring, from: u64, segment: Segment, keep: u64)
     }
 }
 
-/// Takes away what segments, one after the other from slot `start` on, have after their first `keep` bytes, in the
-/// slots of the ring.
+/// Takes away what segments, one after the other from slot `start` on, have after their first
+/// `keep` bytes, in the slots of the ring.
 pub(crate) fn release_segments(ring: &mut Ring, start: u64, segments: &[Segment], keep: u64)
     requires plan { IsPlan segments.now }
     requires small { start ≤ 2 ^ 62 + 2 ^ 20 }
@@ -113,7 +114,8 @@ pub(crate) fn release_segments(ring: &mut Ring, start: u64, segments: &[Segment]
     }
 }
 
-/// Reads the slots `first` to `end` of a segment that begins at slot `from`, where the capacity is the same.
+/// Reads the slots `first` to `end` of a segment that begins at slot `from`, where the capacity is
+/// the same.
 fn overflow_among(
     ring: &Ring,
     from: u64,
@@ -151,8 +153,8 @@ fn overflow_among(
     None
 }
 
-/// The first overflow of a segment that begins at slot `from`: stretch by stretch, each within one block and one step
-/// of the profile.
+/// The first overflow of a segment that begins at slot `from`: stretch by stretch, each within one
+/// block and one step of the profile.
 pub(crate) fn overflow_in(
     ring: &Ring,
     profile: &Profile,

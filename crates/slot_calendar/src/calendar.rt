@@ -83,15 +83,16 @@ impl Calendar {
         self.ring.total(slot)
     }
 
-    /// The first slot where the bytes booked and those that this plan asks for, if it begins at `start`, are together
-    /// above the capacity; None where it fits into every slot.
+    /// The first slot where the bytes booked and those that this plan asks for, if it begins at
+    /// `start`, are together above the capacity; None where it fits into every slot.
     ///
-    /// It passes over the segments once, and over the blocks of 1,024 slots that have room for the greatest slot of a
-    /// segment without reading them.
+    /// It passes over the segments once, and over the blocks of 1,024 slots that have room for the
+    /// greatest slot of a segment without reading them.
     pub fn first_overflow(&self, start: u64, plan: &Plan) -> Option<Overflow>
         requires after { self.now.first < start }
         requires small { start ≤ 2 ^ 62 + 256 }
-        ensures { MatchOption result (IsRoomIn self.now start plan.now) (IsFirstOverflowIn self.now start plan.now) }
+        ensures { MatchOption result (IsRoomIn self.now start plan.now)
+            (IsFirstOverflowIn self.now start plan.now) }
     {
         let segments = plan.segments();
         let mut from = start;
@@ -119,8 +120,8 @@ impl Calendar {
         book_segments(&mut self.ring, start, plan.segments());
     }
 
-    /// Gives back what a plan that was booked at `start` has after its first `keep` bytes in the slots from now on.
-    /// One pass over the plan's slots.
+    /// Gives back what a plan that was booked at `start` has after its first `keep` bytes in the
+    /// slots from now on. One pass over the plan's slots.
     pub fn release(&mut self, start: u64, plan: &Plan, keep: u64)
         requires keep { keep ≤ total_bytes plan.now }
         requires booked { (t : ℕ) → self.old.first ≤ t →

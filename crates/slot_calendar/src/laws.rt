@@ -7,8 +7,9 @@ ghost use Rattle.slot_calendar.specs.Profiles.{capacity_at};
 ghost use Rattle.slot_calendar.specs.Plays.{Play, sent_before, asked_at, cut_at, whole_play, booked_by};
 ghost use Rattle.slot_calendar.specs.Calendars.{Entries, IsCalendar, IsFirstOverflow, StandsFor, booked_at};
 
-/// What a plan that begins at `start` has sent before a slot and sends in it, in the words of the plan: nothing before
-/// its start, its running sum through the slot before, all its bytes from its end on.
+/// What a plan that begins at `start` has sent before a slot and sends in it, in the words of the
+/// plan: nothing before its start, its running sum through the slot before, all its bytes from its
+/// end on.
 pub fn law_sending()
     ensures before { (segments : List Segment) (start t : ℕ) → t ≤ start →
         sent_before segments start t ≡ 0 }

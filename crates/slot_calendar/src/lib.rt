@@ -1,5 +1,5 @@
-//! The calendar of a shared link: how many bytes are booked in each slot of a ring of 1,048,576, and the first slot
-//! where a plan would pass the link's capacity, which may change over the slots.
+//! The calendar of a shared link: how many bytes are booked in each slot of a ring of 1,048,576,
+//! and the first slot where a plan would pass the link's capacity, which may change over the slots.
 #![tactic(auto)]
 
 mod booking;

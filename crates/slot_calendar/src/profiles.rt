@@ -20,8 +20,8 @@ pub const MAX_STEPS: usize = 64;
 /// The greatest capacity in bytes a slot.
 pub const MAX_CAPACITY: u64 = 1 << 42;
 
-/// The capacity of a link over its slots: 1 to 64 steps, the first from slot 0, strictly ascending, each of at most
-/// 2^42 bytes a slot.
+/// The capacity of a link over its slots: 1 to 64 steps, the first from slot 0, strictly ascending,
+/// each of at most 2^42 bytes a slot.
 ///
 /// Contracts see the list of the steps.
 #[derive(Debug, Drop)]
@@ -49,8 +49,8 @@ pub(crate) struct Span {
 }
 
 impl Profile {
-    /// Whether these steps make a profile: 1 to [`MAX_STEPS`] of them, the first from slot 0, strictly ascending, each
-    /// of at most [`MAX_CAPACITY`] bytes.
+    /// Whether these steps make a profile: 1 to [`MAX_STEPS`] of them, the first from slot 0,
+    /// strictly ascending, each of at most [`MAX_CAPACITY`] bytes.
     pub fn is_allowed(steps: &[CapStep]) -> bool
         ensures { IsTrue result ↔ IsProfile steps.now }
     {
@@ -131,7 +131,8 @@ fn are_small(steps: &[CapStep]) -> bool
     true
 }
 
-/// The capacity of a slot, and up to where it stays: the next step's first slot, or the greatest number.
+/// The capacity of a slot, and up to where it stays: the next step's first slot, or the greatest
+/// number.
 fn span_at(steps: &[CapStep], slot: u64) -> Span
     requires { IsProfile steps.now }
     ensures here { IsCapacity steps.now slot result.bytes }

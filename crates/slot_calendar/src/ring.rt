@@ -14,9 +14,11 @@ pub(crate) const BLOCK: u64 = 1024;
 /// The blocks of a ring.
 const BLOCKS: usize = 1024;
 
-/// The totals of the slots from `now` on, each slot at its number modulo [`RING_SLOTS`], with the greatest total of each block.
+/// The totals of the slots from `now` on, each slot at its number modulo [`RING_SLOTS`], with the
+/// greatest total of each block.
 ///
-/// Contracts see `now`, the list of the totals from it on, and the block that was lowered and not read again.
+/// Contracts see `now`, the list of the totals from it on, and the block that was lowered and not
+/// read again.
 #[derive(Debug, Drop)]
 pub(crate) struct Ring {
     first: u64,

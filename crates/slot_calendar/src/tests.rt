@@ -32,7 +32,8 @@ fn steps_of(alloc: Global, pairs: &[(u64, u64)]) -> Result<Vec<CapStep>, AllocEr
     Ok(steps)
 }
 
-// Whether each slot from now on has as much booked as the plan has there after its first `keep` bytes.
+// Whether each slot from now on has as much booked as the plan has there after its first `keep`
+// bytes.
 fn may_release(calendar: &Calendar, start: u64, plan: &Plan, keep: u64) -> bool
     requires small { start ≤ 2 ^ 63 }
     requires few { total_slots plan.now ≤ 1000000 }
@@ -54,7 +55,8 @@ fn may_release(calendar: &Calendar, start: u64, plan: &Plan, keep: u64) -> bool
 // What a calendar is asked, and what it answers.
 #[derive(Clone, Copy)]
 enum Row<'a> {
-    // a plan from a slot on: it is booked, or has this first slot without room, with the bytes booked and asked there
+    // a plan from a slot on: it is booked, or has this first slot without room, with the bytes
+    // booked and asked there
     Play(u64, &'a [(u64, u64)], Option<(u64, u64, u64)>),
     // a plan that was booked from a slot on keeps its first bytes
     Cut(u64, &'a [(u64, u64)], u64),
@@ -209,8 +211,8 @@ fn comes_round(rt: HostRuntime) -> Result<(), Fail> {
     run(&rt, rt.alloc(), &[(0, 4)], &rows)
 }
 
-// A plan of 5 bytes a slot over 1,000,000 slots, asked 2,000 times beside one whose last slot alone has no room: only
-// where blocks are passed over does this end in time.
+// A plan of 5 bytes a slot over 1,000,000 slots, asked 2,000 times beside one whose last slot alone
+// has no room: only where blocks are passed over does this end in time.
 #[test]
 fn passes_blocks(rt: HostRuntime) -> Result<(), Fail> {
     let alloc = rt.alloc();

@@ -13,17 +13,25 @@ use Rattle.station.specs.declared.answers.PlayRefused.TheVariants.{JournalFull, 
 use Rattle.station.specs.Ledgers.{play_of}
 use Rattle.station.specs.Seats.{Sitting}
 
--- The seat's call made this entry: it stands at `place`, the last of what the seat has seen, and is answered as the machine answers in
--- the state after the entries before it. The journal had room for `more` entries beside those for the halts of its open plays.
-pub record Made (old new : Sitting) (more : ℕ) (command : Command) (place : ℕ) (answer : Answer) : Type 0 where
+-- The seat's call made this entry: it stands at `place`, the last of what the seat has seen, and is
+-- answered as the machine answers in the state after the entries before it. The journal had room
+-- for `more` entries beside those for the halts of its open plays.
+pub record Made (old new : Sitting) (more : ℕ) (command : Command) (place : ℕ) (answer : Answer)
+    : Type 0 where
   pub before : List Entry
   pub place_is : place ≡ length before
-  pub seen : new.seen ≡ before ++ record { maker = old.number; command = command; answer = answer } ∷ []
+  pub seen : new.seen ≡
+      before ++ record { maker = old.number; command = command; answer = answer } ∷ []
   pub answer_is : IsAnswer old.steps (state_after before) command answer
-  pub mine : new.mine ≡ old.mine ++ record { place = place; entry = record { maker = old.number; command = command; answer = answer } } ∷ []
+  pub mine : new.mine ≡
+      old.mine ++ record {
+        place = place;
+        entry = record { maker = old.number; command = command; answer = answer };
+      } ∷ []
   pub room : places_taken before + more ≤ old.limit
 
--- The journal had no room for `more` entries beside those for the halts of its open plays; these are its two numbers.
+-- The journal had no room for `more` entries beside those for the halts of its open plays; these
+-- are its two numbers.
 pub record IsFull (old new : Sitting) (more entries live_plays : ℕ) : Type 0 where
   pub mine : new.mine ≡ old.mine
   pub entries_are : entries ≡ length new.seen
@@ -32,5 +40,7 @@ pub record IsFull (old new : Sitting) (more entries live_plays : ℕ) : Type 0 w
 
 -- why a play is refused
 abbrev pub IsRefused : Sitting → Sitting → ℕ → List Segment → PlayRefused → Type 0
-IsRefused old new heard asked (JournalFull plan entries live) = (plan ≡ asked) × IsFull old new 2 entries live
-IsRefused old new heard asked (PlayOverflow place slot booked bytes) = Made old new 2 (play_of heard asked) place (Overflow slot booked bytes)
+IsRefused old new heard asked (JournalFull plan entries live) = (plan ≡ asked)
+    × IsFull old new 2 entries live
+IsRefused old new heard asked (PlayOverflow place slot booked bytes) =
+    Made old new 2 (play_of heard asked) place (Overflow slot booked bytes)

@@ -24,12 +24,15 @@ play_of heard plan = Play (min heard (2 ^ 62)) plan
 abbrev pub look_at : ℕ → Command
 look_at slot = Look (min slot (2 ^ 62))
 
--- an entry was made, while the journal had room for `more` entries beside those for the halts of its open plays
-pub record IsEntered (old new : Journal) (maker more : ℕ) (command : Command) (place : ℕ) (answer : Answer) : Type 0 where
+-- an entry was made, while the journal had room for `more` entries beside those for the halts of
+-- its open plays
+pub record IsEntered (old new : Journal) (maker more : ℕ) (command : Command) (place : ℕ)
+    (answer : Answer) : Type 0 where
   pub noted : IsNoted old maker command (record { place = place; answer = answer }) new
   pub room : places_taken old.entries + more ≤ old.limit
 
--- no entry was made, since the journal had no room for `more` entries beside those; these are its two numbers
+-- no entry was made, since the journal had no room for `more` entries beside those; these are its
+-- two numbers
 pub record IsFullFor (old new : Journal) (more entries live_plays : ℕ) : Type 0 where
   pub left : new ≡ old
   pub entries_are : entries ≡ length old.entries
@@ -38,12 +41,15 @@ pub record IsFullFor (old new : Journal) (more entries live_plays : ℕ) : Type 
 
 -- why a play is refused
 abbrev pub IsPlayRefused : Journal → Journal → ℕ → ℕ → List Segment → PlayRefused → Type 0
-IsPlayRefused old new maker heard asked (JournalFull plan entries live) = (plan ≡ asked) × IsFullFor old new 2 entries live
+IsPlayRefused old new maker heard asked (JournalFull plan entries live) = (plan ≡ asked)
+    × IsFullFor old new 2 entries live
 IsPlayRefused old new maker heard asked (PlayOverflow place slot booked bytes) =
     IsEntered old new maker 2 (play_of heard asked) place (Overflow slot booked bytes)
 
--- an offer in the state after these entries: the earliest start within its wait, from the slot after the heard one and after now on
-pub record IsOffered (steps : List CapStep) (entries : List Entry) (heard : ℕ) (plan : List Segment) (told : Offered) (found : Found) : Type 0 where
+-- an offer in the state after these entries: the earliest start within its wait, from the slot
+-- after the heard one and after now on
+pub record IsOffered (steps : List CapStep) (entries : List Entry) (heard : ℕ) (plan : List Segment)
+    (told : Offered) (found : Found) : Type 0 where
   pub seen_is : told.seen ≡ length entries
   pub first_is : told.first ≡ start_after (state_after entries) (min heard (2 ^ 62))
   pub offer : IsOffer 0 (booked_after entries) (capacity_at steps) plan told.first found

@@ -15,8 +15,9 @@ pub record Hall : Type 0 where
   pub steps : List CapStep
   pub limit : ℕ
 
--- a seat: its station with the terms, its number, the journal as far as it has seen it, its own entries with their places, how many
--- seats were split from it, and what those that were joined to it had made
+-- a seat: its station with the terms, its number, the journal as far as it has seen it, its own
+-- entries with their places, how many seats were split from it, and what those that were joined to
+-- it had made
 pub record Sitting : Type 0 where
   pub id : TableId
   pub steps : List CapStep
@@ -27,8 +28,8 @@ pub record Sitting : Type 0 where
   pub splits : ℕ
   pub joined : List Joined
 
--- what holds of each seat: it has seen a legal history in which each play is halted by its own maker, and its own entries are those of
--- its number
+-- what holds of each seat: it has seen a legal history in which each play is halted by its own
+-- maker, and its own entries are those of its number
 pub record IsSeat (seat : Sitting) : Type 0 where
   pub legal : IsLegal seat.steps seat.seen
   pub halts : AreHaltsOwn seat.seen
@@ -85,15 +86,16 @@ after_join seat other = record seat {
 pub record AllJoined (seat : Sitting) : Type 0 where
   pub each : (number : ℕ) → 0 < number → number ≤ seat.splits → IsJoined seat.joined number
 
--- The entries once all seats are back in the first one: they begin with what that one has seen, are legal, and each is of the first seat
--- or of one that was joined, as they know it.
+-- The entries once all seats are back in the first one: they begin with what that one has seen, are
+-- legal, and each is of the first seat or of one that was joined, as they know it.
 pub record IsWhole (seat : Sitting) (entries : List Entry) : Type 0 where
   pub seen : IsPrefix seat.seen entries
   pub legal : IsLegal seat.steps entries
   pub halts : AreHaltsOwn entries
   pub mine : seat.mine ≡ made_by seat.number entries
   pub joined : (i : ℕ) (none : Joined) → i < length seat.joined →
-      (slice_index_or seat.joined i none).mine ≡ made_by (slice_index_or seat.joined i none).number entries
+      (slice_index_or seat.joined i none).mine ≡
+      made_by (slice_index_or seat.joined i none).number entries
   pub others : (maker : ℕ) → seat.splits < maker → made_by maker entries ≡ []
 
 -- what stays of a seat, whatever it asks

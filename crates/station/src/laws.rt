@@ -8,7 +8,8 @@ ghost use Rattle.admission.specs.Makers.{IsOpenAmong, Placed, made_by};
 ghost use Rattle.station.specs.Answers.{Made};
 ghost use Rattle.station.specs.Seats.{Sitting};
 
-/// What was seen of a journal stays: each entry at its place, the state after each front, and what each maker had made, in order.
+/// What was seen of a journal stays: each entry at its place, the state after each front, and what
+/// each maker had made, in order.
 pub fn law_longer_journal()
     ensures entries { (seen journal : List Entry) → IsPrefix seen journal →
         (i : ℕ) (none : Entry) → i < length seen →
@@ -21,7 +22,8 @@ pub fn law_longer_journal()
         IsPrefix old journal }
 {}
 
-/// The entry that a seat's call made is the last of what the seat has seen, and has the answer that was given.
+/// The entry that a seat's call made is the last of what the seat has seen, and has the answer that
+/// was given.
 pub fn law_last_entry()
     ensures entry { (old new : Sitting) (more : ℕ) (command : Command) (place : ℕ)
         (answer : Answer) → Made old new more command place answer → (none : Entry) →

@@ -5,9 +5,9 @@ use turnstile::Pass;
 
 /// The right of one caller to ask at the station. Its number is the maker of its entries.
 ///
-/// Contracts see its station, the steps of the capacity, the most entries, its number, the journal as far as it has seen
-/// it, its own entries with their places, how many seats were split from it, and what those that were joined to it had
-/// made.
+/// Contracts see its station, the steps of the capacity, the most entries, its number, the journal
+/// as far as it has seen it, its own entries with their places, how many seats were split from it,
+/// and what those that were joined to it had made.
 #[derive(Drop)]
 pub struct Seat {
     pub(crate) pass: Pass,

@@ -42,8 +42,8 @@ impl Model for Station {
 }
 
 impl Station {
-    /// A station of a link of this capacity, whose journal has room for `limit` entries, 2 to 1,048,576; and its first
-    /// seat. No other call takes memory.
+    /// A station of a link of this capacity, whose journal has room for `limit` entries, 2 to
+    /// 1,048,576; and its first seat. No other call takes memory.
     ///
     /// # Errors
     ///
@@ -64,8 +64,9 @@ impl Station {
     ///
     /// # Errors
     ///
-    /// [`PlayRefused::JournalFull`] exactly where the entries, the open plays and 2 are more than the limit: it makes no
-    /// entry. [`PlayRefused::Overflow`] exactly where a slot has no room for the plan; it is the answer of an entry.
+    /// [`PlayRefused::JournalFull`] exactly where the entries, the open plays and 2 are more than
+    /// the limit: it makes no entry. [`PlayRefused::Overflow`] exactly where a slot has no room for
+    /// the plan; it is the answer of an entry.
     pub fn play<R: Wait>(
         &self,
         rt: &R,
@@ -91,8 +92,8 @@ impl Station {
         told
     }
 
-    /// Halts the play of a booking: it keeps the first `keep` bytes of its plan. Answers the place of the entry, which
-    /// always finds one.
+    /// Halts the play of a booking: it keeps the first `keep` bytes of its plan. Answers the place
+    /// of the entry, which always finds one.
     pub fn halt<R: Wait>(&self, rt: &R, seat: &mut Seat, booking: Booking, keep: u64) -> u64
         requires seat { seat.old.id ≡ self.now.id }
         requires open { IsOpenAmong seat.old.mine booking.number keep }
@@ -114,7 +115,8 @@ impl Station {
     ///
     /// # Errors
     ///
-    /// [`Full`] exactly where the entries, the open plays and 1 are more than the limit: it makes no entry.
+    /// [`Full`] exactly where the entries, the open plays and 1 are more than the limit: it makes
+    /// no entry.
     pub fn look<R: Wait>(&self, rt: &R, seat: &mut Seat, slot: u64) -> Result<Looked, Full>
         requires seat { seat.old.id ≡ self.now.id }
         ensures same { IsSameSeat seat.old seat.new }
@@ -132,7 +134,8 @@ impl Station {
         told
     }
 
-    /// Finds the earliest start of a plan within a wait, asked for in a heard slot. It makes no entry, and books nothing.
+    /// Finds the earliest start of a plan within a wait, asked for in a heard slot. It makes no
+    /// entry, and books nothing.
     pub fn offer<R: Wait>(
         &self,
         rt: &R,
@@ -168,7 +171,8 @@ impl Station {
         Seat { pass }
     }
 
-    /// Takes in what another seat has seen and made. Seats of one station have its capacity and its limit.
+    /// Takes in what another seat has seen and made. Seats of one station have its capacity and its
+    /// limit.
     pub fn join(&self, seat: &mut Seat, other: Seat)
         requires seat { seat.old.id ≡ self.now.id }
         requires other { other.id ≡ self.now.id }

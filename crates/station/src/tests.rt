@@ -73,7 +73,8 @@ fn ask<R: Wait + Abort>(
     1
 }
 
-// 100 plays, each with its halt, and with a look and an offer where `asks`. Says how many entries they made.
+// 100 plays, each with its halt, and with a look and an offer where `asks`. Says how many entries
+// they made.
 fn rounds<R: Wait + Abort>(
     rt: &R,
     alloc: Global,
@@ -146,7 +147,8 @@ fn two<R: Threads + Wait + Abort + Sync>(rt: &R, alloc: Global, station: Station
     assert!(rt; a.saturating_add(b) > 200);
 }
 
-// Four threads that play, halt, look and offer; their seats are joined in another order than they were split.
+// Four threads that play, halt, look and offer; their seats are joined in another order than they
+// were split.
 fn four<R: Threads + Wait + Abort + Sync>(rt: &R, alloc: Global, station: Station, mut seat: Seat)
     requires first { seat ≡ first_seat station }
 {

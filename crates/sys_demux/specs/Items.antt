@@ -1,8 +1,10 @@
--- The items of an MPEG-1 system stream (ISO/IEC 11172-1, section 2.4.3): packs and packets, each with any number of bytes 00 in front.
+-- The items of an MPEG-1 system stream (ISO/IEC 11172-1, section 2.4.3): packs and packets, each
+-- with any number of bytes 00 in front.
 use Rattle.std.specs.Prelude.{◌≡◌, ℕ, ◌+◌, ◌*◌, ◌/◌, ◌≤◌, ◌==◌, ◌&&◌, Bool, true, false, if◌then◌else◌, nat_le, List, [], ◌∷◌, ◌++◌, length, slice_index, replicate, flat_map, Option, Some, None, IsSome, unwrap_or}
 use Rattle.sys_demux.specs.Contents.{video_in}
 
--- a pack has 8 bytes after its prefix and kind; a packet its kind, a length in two bytes, and its content
+-- a pack has 8 bytes after its prefix and kind; a packet its kind, a length in two bytes, and its
+-- content
 pub data Item : Type 0 where
   Pack : (zeros : ℕ) (rest : List ℕ) → Item
   Packet : (zeros kind high low : ℕ) (content : List ℕ) → Item
@@ -49,7 +51,8 @@ pub record IsPack (rest : List ℕ) : Type 0 where
   pub eight : length rest ≡ 8
   pub mark : slice_index rest 0 / 16 ≡ 2
 
--- a packet of kind BB to FF, whose content has the length that it says, and where it is of the chosen kind, a header and video
+-- a packet of kind BB to FF, whose content has the length that it says, and where it is of the
+-- chosen kind, a header and video
 pub record IsPacket (chosen : Option ℕ) (kind high low : ℕ) (content : List ℕ) : Type 0 where
   pub kind_is : 187 ≤ kind
   pub length_is : length content ≡ high * 256 + low

@@ -19,7 +19,8 @@ video_from Stamp rest = from_stamp rest
 video_from (Rest count) rest = after_bytes count rest
 
 -- an item with these bytes and this video
-pub record IsDone (chosen : Option ℕ) (zeros : ℕ) (next : Option ℕ) (bytes video : List ℕ) : Type 0 where
+pub record IsDone (chosen : Option ℕ) (zeros : ℕ) (next : Option ℕ) (bytes video : List ℕ)
+    : Type 0 where
   pub item : Item
   pub is_item : IsItem chosen item
   pub bytes_are : item_bytes item ≡ bytes
@@ -28,7 +29,8 @@ pub record IsDone (chosen : Option ℕ) (zeros : ℕ) (next : Option ℕ) (bytes
   pub video_is : item_video chosen item ≡ video
 
 -- bytes 00, of which up to two count
-pub record IsAtZeros (chosen : Option ℕ) (zeros : ℕ) (now : Option ℕ) (part kept : List ℕ) : Type 0 where
+pub record IsAtZeros (chosen : Option ℕ) (zeros : ℕ) (now : Option ℕ) (part kept : List ℕ)
+    : Type 0 where
   pub count : ℕ
   pub are : part ≡ replicate count 0
   pub zeros_are : zeros ≡ min count 2
@@ -36,7 +38,8 @@ pub record IsAtZeros (chosen : Option ℕ) (zeros : ℕ) (now : Option ℕ) (par
   pub none : kept ≡ []
 
 -- bytes 00, a prefix and these bytes, of an item at this place
-pub record IsAtPrefix (start place : ℕ) (rest : List ℕ) (now wanted : Option ℕ) (part kept : List ℕ) : Type 0 where
+pub record IsAtPrefix (start place : ℕ) (rest : List ℕ) (now wanted : Option ℕ) (part kept : List ℕ)
+    : Type 0 where
   pub zeros : ℕ
   pub are : part ≡ prefixed zeros rest
   pub place_is : place ≡ start + zeros
@@ -44,7 +47,8 @@ pub record IsAtPrefix (start place : ℕ) (rest : List ℕ) (now wanted : Option
   pub none : kept ≡ []
 
 -- inside the header of a packet of the chosen kind, with so many bytes of its content left
-pub record IsAtHeader (chosen : Option ℕ) (start place : ℕ) (now : Option ℕ) (part kept : List ℕ) (header : Header) (left : ℕ) : Type 0 where
+pub record IsAtHeader (chosen : Option ℕ) (start place : ℕ) (now : Option ℕ) (part kept : List ℕ)
+    (header : Header) (left : ℕ) : Type 0 where
   pub zeros : ℕ
   pub kind : ℕ
   pub high : ℕ
@@ -54,17 +58,20 @@ pub record IsAtHeader (chosen : Option ℕ) (start place : ℕ) (now : Option �
   pub kind_is : 187 ≤ kind
   pub chosen_is : is_chosen (choose chosen kind) kind ≡ true
   pub length_is : length front + left ≡ high * 256 + low
-  pub video_is : (rest : List ℕ) → length rest ≡ left → video_in (front ++ rest) ≡ video_from header rest
+  pub video_is : (rest : List ℕ) → length rest ≡ left →
+      video_in (front ++ rest) ≡ video_from header rest
   pub place_is : place ≡ start + zeros
   pub now_is : now ≡ choose chosen kind
   pub none : kept ≡ []
 
 -- inside an item that any bytes of this number end, all of them video or none
-pub record IsAtRest (chosen : Option ℕ) (start place : ℕ) (now : Option ℕ) (part kept : List ℕ) (left : ℕ) (video : List ℕ → List ℕ) : Type 0 where
+pub record IsAtRest (chosen : Option ℕ) (start place : ℕ) (now : Option ℕ) (part kept : List ℕ)
+    (left : ℕ) (video : List ℕ → List ℕ) : Type 0 where
   pub zeros : ℕ
   pub begun : zeros + 3 ≤ length part
   pub some : 0 < left
-  pub ends : (rest : List ℕ) → length rest ≡ left → IsDone chosen zeros now (part ++ rest) (kept ++ video rest)
+  pub ends : (rest : List ℕ) → length rest ≡ left →
+      IsDone chosen zeros now (part ++ rest) (kept ++ video rest)
   pub place_is : place ≡ start + zeros
 
 -- the end's code was read
@@ -85,14 +92,21 @@ IsShown (Truncated place) = ⊥
 abbrev pub IsPart : Option ℕ → ℕ → ℕ → Option ℕ → List ℕ → List ℕ → Place → Type 0
 IsPart chosen start place now part kept (Zeros zeros) = IsAtZeros chosen zeros now part kept
 IsPart chosen start place now part kept Kind = IsAtPrefix start place [] now chosen part kept
-IsPart chosen start place now part kept Mark = IsAtPrefix start place (186 ∷ []) now chosen part kept
-IsPart chosen start place now part kept (High kind) = IsAtPrefix start place (kind ∷ []) now (choose chosen kind) part kept × (187 ≤ kind)
-IsPart chosen start place now part kept (Low kind high) = IsAtPrefix start place (kind ∷ high ∷ []) now (choose chosen kind) part kept × (187 ≤ kind)
-IsPart chosen start place now part kept (InHeader header left) = IsAtHeader chosen start place now part kept header left
-IsPart chosen start place now part kept (Pass left) = IsAtRest chosen start place now part kept left (λ rest. [])
-IsPart chosen start place now part kept (Video left) = IsAtRest chosen start place now part kept left (λ rest. rest)
+IsPart chosen start place now part kept Mark =
+    IsAtPrefix start place (186 ∷ []) now chosen part kept
+IsPart chosen start place now part kept (High kind) =
+    IsAtPrefix start place (kind ∷ []) now (choose chosen kind) part kept × (187 ≤ kind)
+IsPart chosen start place now part kept (Low kind high) =
+    IsAtPrefix start place (kind ∷ high ∷ []) now (choose chosen kind) part kept × (187 ≤ kind)
+IsPart chosen start place now part kept (InHeader header left) =
+    IsAtHeader chosen start place now part kept header left
+IsPart chosen start place now part kept (Pass left) =
+    IsAtRest chosen start place now part kept left (λ rest. [])
+IsPart chosen start place now part kept (Video left) =
+    IsAtRest chosen start place now part kept left (λ rest. rest)
 IsPart chosen start place now part kept End = IsAtEnd part kept
-IsPart chosen start place now part kept (Failed fault) = IsFault chosen start part fault × (kept ≡ []) × IsShown fault
+IsPart chosen start place now part kept (Failed fault) = IsFault chosen start part fault
+    × (kept ≡ []) × IsShown fault
 
 -- the same, or an item ends there
 abbrev pub LeadsTo : Option ℕ → ℕ → ℕ → Option ℕ → List ℕ → List ℕ → Place → Type 0
@@ -101,7 +115,8 @@ LeadsTo chosen start place now part kept state =
     ⊎ ((zeros : ℕ) × (IsDone chosen zeros now part kept × (state ≡ Zeros 0)))
 
 -- the state to which these bytes lead, and the video in them so far
-pub record IsReached (state : Place) (place : ℕ) (now : Option ℕ) (seen video : List ℕ) : Type 0 where
+pub record IsReached (state : Place) (place : ℕ) (now : Option ℕ) (seen video : List ℕ)
+    : Type 0 where
   pub items : List Item
   pub part : List ℕ
   pub kept : List ℕ

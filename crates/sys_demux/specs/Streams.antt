@@ -48,8 +48,8 @@ pub record IsBadKind (start : ℕ) (tail : List ℕ) (place : ℕ) : Type 0 wher
   pub low : kind < 185
   pub place_is : place ≡ start + zeros
 
--- a packet of the chosen kind, of whose content so many bytes stand that no content of its length that begins so has a header; the
--- place is that of its prefix
+-- a packet of the chosen kind, of whose content so many bytes stand that no content of its length
+-- that begins so has a header; the place is that of its prefix
 pub record IsBadPacket (chosen : Option ℕ) (start : ℕ) (tail : List ℕ) (place : ℕ) : Type 0 where
   pub zeros : ℕ
   pub kind : ℕ
@@ -61,10 +61,12 @@ pub record IsBadPacket (chosen : Option ℕ) (start : ℕ) (tail : List ℕ) (pl
   pub kind_is : 187 ≤ kind
   pub chosen_is : is_chosen (choose chosen kind) kind ≡ true
   pub within : length front ≤ high * 256 + low
-  pub none : (more : List ℕ) → length front + length more ≡ high * 256 + low → video_in (front ++ more) ≡ None
+  pub none : (more : List ℕ) → length front + length more ≡ high * 256 + low →
+      video_in (front ++ more) ≡ None
   pub place_is : place ≡ start + zeros
 
--- a front of an item, from its prefix on, that lacks a byte or more; the place is that of the prefix
+-- a front of an item, from its prefix on, that lacks a byte or more; the place is that of the
+-- prefix
 pub record IsCut (chosen : Option ℕ) (start : ℕ) (tail : List ℕ) (place : ℕ) : Type 0 where
   pub item : Item
   pub lacking : List ℕ

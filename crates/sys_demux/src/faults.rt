@@ -6,10 +6,11 @@ use std::fmt;
 pub enum SystemFault {
     /// The high four bits of a pack header's fifth byte aren't 2; the place of its prefix 00 00 01.
     NotPack(u64),
-    /// Where an item must stand, a byte that can't belong to bytes 00 and a prefix, at this place; or a kind below B9, with the
-    /// place of its prefix.
+    /// Where an item must stand, a byte that can't belong to bytes 00 and a prefix, at this place;
+    /// or a kind below B9, with the place of its prefix.
     BadCode(u64),
-    /// A packet of the chosen kind ends before its header does, or its header has none of the forms; the place of its prefix.
+    /// A packet of the chosen kind ends before its header does, or its header has none of the
+    /// forms; the place of its prefix.
     BadPacket(u64),
     /// The stream ends inside an item; the place of its prefix.
     Truncated(u64),

@@ -49,7 +49,8 @@ impl Unwrapper {
         requires place { IsByByte self.old.place }
         requires room { self.old.fed < 2 ^ 40 }
         ensures fed { self.new.fed ≡ self.old.fed + 1 }
-        ensures next { (seen video : List ℕ) → WasFed self.old seen video → WasFed self.new (seen ++ byte ∷ []) video }
+        ensures next { (seen video : List ℕ) → WasFed self.old seen video →
+            WasFed self.new (seen ++ byte ∷ []) video }
     {
         let (at, mut item, mut chosen) = (self.fed, self.item, self.chosen);
         let place = match self.place {
@@ -92,15 +93,17 @@ impl Unwrapper {
         };
     }
 
-    /// Takes bytes from the front of a piece of the stream, at least one, and lends the video among them.
+    /// Takes bytes from the front of a piece of the stream, at least one, and lends the video among
+    /// them.
     ///
-    /// A fault comes as soon as the bytes show it, whatever follows them, and again in each later call. `Truncated` never comes.
-    /// At most 2^40 bytes may be fed in all.
+    /// A fault comes as soon as the bytes show it, whatever follows them, and again in each later
+    /// call. `Truncated` never comes. At most 2^40 bytes may be fed in all.
     pub fn feed<'p>(&mut self, piece: &'p [u8]) -> Result<Fed<'p>, SystemFault>
         requires some { 0 < length piece.now }
         requires room { self.old.fed + length piece.now ≤ 2 ^ 40 }
         ensures taken { IfOk result (λ fed. (0 < fed.taken) × (fed.taken ≤ length piece.now)) }
-        ensures video { IfOk result (λ fed. (fed.video.now ≡ []) ⊎ (fed.video.now ≡ take fed.taken piece.now)) }
+        ensures video { IfOk result (λ fed. (fed.video.now ≡ [])
+            ⊎ (fed.video.now ≡ take fed.taken piece.now)) }
         ensures count { IfOk result (λ fed. self.new.fed ≡ self.old.fed + fed.taken) }
         ensures next { (seen video : List ℕ) → WasFed self.old seen video →
             IfOk result (λ fed. WasFed self.new (seen ++ take fed.taken piece.now) (video ++ fed.video.now)) }
@@ -108,7 +111,8 @@ impl Unwrapper {
             IfErr result (λ fault. (more : List ℕ) → IsRefused (seen ++ piece.now ++ more) fault) }
         ensures shown { (seen video : List ℕ) → WasFed self.old seen video → IfErr result IsShown }
         ensures kept { IfErr result (λ fault. fault_of self.new ≡ Some fault) }
-        ensures again { (fault : SystemFault) → fault_of self.old ≡ Some fault → result ≡ Err fault }
+        ensures again { (fault : SystemFault) → fault_of self.old ≡ Some fault →
+            result ≡ Err fault }
     {
         match self.place {
             Place::Failed(fault) => Err(fault),
@@ -148,13 +152,15 @@ impl Unwrapper {
         }
     }
 
-    /// Whether the bytes fed are a whole system stream, whose video is what was lent; or why they are none.
+    /// Whether the bytes fed are a whole system stream, whose video is what was lent; or why they
+    /// are none.
     ///
     /// Another fault than `Truncated` comes only where [`Unwrapper::feed`] answered it.
     pub fn finish(&self) -> Result<(), SystemFault>
         ensures end { (seen video : List ℕ) → WasFed self.now seen video →
             MatchResult result (λ _. IsSystem seen video) (λ fault. IsRefused seen fault) }
-        ensures again { (fault : SystemFault) → fault_of self.now ≡ Some fault → result ≡ Err fault }
+        ensures again { (fault : SystemFault) → fault_of self.now ≡ Some fault →
+            result ≡ Err fault }
         ensures only { IfErr result (λ fault. IsShown fault → fault_of self.now ≡ Some fault) }
     {
         match end_fault(self.place, self.item) {

@@ -3,7 +3,8 @@ ghost use Rattle.sys_demux.specs.Contents.{from_stamp, from_size, after_bytes};
 ghost use Rattle.sys_demux.specs.Sound.{least_rest};
 ghost use Rattle.sys_demux.specs.States.{video_from};
 
-/// Where in the header of a packet's content the next byte stands (ISO/IEC 11172-1, section 2.4.3.3).
+/// Where in the header of a packet's content the next byte stands (ISO/IEC 11172-1, section
+/// 2.4.3.3).
 #[derive(Clone, Copy, Debug)]
 pub(crate) enum Header {
     /// After this many bytes FF of stuffing, at most 16.
@@ -32,9 +33,11 @@ fn stamp_rest(byte: u8) -> Option<u8>
     }
 }
 
-/// Where the header goes on after the first byte of the time stamp, with `left` bytes of the content after it.
+/// Where the header goes on after the first byte of the time stamp, with `left` bytes of the
+/// content after it.
 fn after_stamp(byte: u8, left: u16) -> Option<Header>
-    ensures { MatchOption result ((rest : List ℕ) → length rest ≡ left → from_stamp (byte ∷ rest) ≡ None)
+    ensures { MatchOption result ((rest : List ℕ) → length rest ≡ left →
+        from_stamp (byte ∷ rest) ≡ None)
         (λ next. (least_rest next ≤ left)
         × ((rest : List ℕ) → length rest ≡ left → from_stamp (byte ∷ rest) ≡ video_from next rest)) }
 {
@@ -44,9 +47,11 @@ fn after_stamp(byte: u8, left: u16) -> Option<Header>
     }
 }
 
-/// Where the header goes on after a byte that is no stuffing, with `left` bytes of the content after it.
+/// Where the header goes on after a byte that is no stuffing, with `left` bytes of the content
+/// after it.
 fn after_size(byte: u8, left: u16) -> Option<Header>
-    ensures { MatchOption result ((rest : List ℕ) → length rest ≡ left → from_size (byte ∷ rest) ≡ None)
+    ensures { MatchOption result ((rest : List ℕ) → length rest ≡ left →
+        from_size (byte ∷ rest) ≡ None)
         (λ next. (least_rest next ≤ left)
         × ((rest : List ℕ) → length rest ≡ left → from_size (byte ∷ rest) ≡ video_from next rest)) }
 {
@@ -59,9 +64,11 @@ fn after_size(byte: u8, left: u16) -> Option<Header>
     Some(Header::Second)
 }
 
-/// Where the header goes on after this byte of stuffing, or after the one that ends it, with `left` bytes of the content after it.
+/// Where the header goes on after this byte of stuffing, or after the one that ends it, with `left`
+/// bytes of the content after it.
 fn after_stuffing(count: u8, byte: u8, left: u16) -> Option<Header>
-    ensures { MatchOption result ((rest : List ℕ) → length rest ≡ left → video_from (Header.Stuffing count) (byte ∷ rest) ≡ None)
+    ensures { MatchOption result ((rest : List ℕ) → length rest ≡ left →
+        video_from (Header.Stuffing count) (byte ∷ rest) ≡ None)
         (λ next. (least_rest next ≤ left)
         × ((rest : List ℕ) → length rest ≡ left → video_from (Header.Stuffing count) (byte ∷ rest) ≡ video_from next rest)) }
 {
@@ -74,12 +81,13 @@ fn after_stuffing(count: u8, byte: u8, left: u16) -> Option<Header>
     Some(Header::Stuffing(count + 1))
 }
 
-/// Where the header goes on after a byte, with `left` bytes of the content after it; None where no content of this length that
-/// begins so has a header.
+/// Where the header goes on after a byte, with `left` bytes of the content after it; None where no
+/// content of this length that begins so has a header.
 pub(crate) fn header_next(header: Header, byte: u8, left: u16) -> Option<Header>
     requires some { 0 < least_rest header }
     requires enough { least_rest header ≤ left + 1 }
-    ensures { MatchOption result ((rest : List ℕ) → length rest ≡ left → video_from header (byte ∷ rest) ≡ None)
+    ensures { MatchOption result ((rest : List ℕ) → length rest ≡ left →
+        video_from header (byte ∷ rest) ≡ None)
         (λ next. (least_rest next ≤ left)
         × ((rest : List ℕ) → length rest ≡ left → video_from header (byte ∷ rest) ≡ video_from next rest)) }
 {

@@ -34,7 +34,8 @@ pub(crate) enum Place {
 /// The place after a byte where an item must stand; `at` is the byte's own place.
 pub(crate) fn zeros_next(zeros: u8, byte: u8, at: u64) -> Place
     ensures sound { IsTrue (is_sound result) }
-    ensures next { (chosen now : Option ℕ) (start : ℕ) (part kept : List ℕ) → IsAtZeros chosen zeros now part kept →
+    ensures next { (chosen now : Option ℕ) (start : ℕ) (part kept : List ℕ) →
+        IsAtZeros chosen zeros now part kept →
         at ≡ start + length part → IsPart chosen start (at - 2) now (part ++ byte ∷ []) kept result }
 {
     match byte {
@@ -47,7 +48,8 @@ pub(crate) fn zeros_next(zeros: u8, byte: u8, at: u64) -> Place
 /// The place after the kind of the item at `item`.
 pub(crate) fn kind_next(kind: u8, item: u64) -> Place
     ensures sound { IsTrue (is_sound result) }
-    ensures next { (chosen now : Option ℕ) (start : ℕ) (part kept : List ℕ) → IsAtPrefix start item [] now chosen part kept →
+    ensures next { (chosen now : Option ℕ) (start : ℕ) (part kept : List ℕ) →
+        IsAtPrefix start item [] now chosen part kept →
         IsPart chosen start item (choose now kind) (part ++ kind ∷ []) kept result }
 {
     if kind == 0xb9 {
@@ -64,7 +66,8 @@ pub(crate) fn kind_next(kind: u8, item: u64) -> Place
 /// The place after the fifth byte of the pack header at `item`.
 pub(crate) fn mark_next(mark: u8, item: u64) -> Place
     ensures sound { IsTrue (is_sound result) }
-    ensures next { (chosen now : Option ℕ) (start : ℕ) (part kept : List ℕ) → IsAtPrefix start item (186 ∷ []) now chosen part kept →
+    ensures next { (chosen now : Option ℕ) (start : ℕ) (part kept : List ℕ) →
+        IsAtPrefix start item (186 ∷ []) now chosen part kept →
         IsPart chosen start item now (part ++ mark ∷ []) kept result }
 {
     if mark / 16 == 2 {
@@ -135,7 +138,8 @@ fn header_goes_on(next: Header, left: u16) -> Place
     }
 }
 
-/// The place after a byte of the header of the packet at `item`, with `left` bytes of the packet after it.
+/// The place after a byte of the header of the packet at `item`, with `left` bytes of the packet
+/// after it.
 pub(crate) fn header_place(header: Header, byte: u8, left: u16, item: u64) -> Place
     requires some { 0 < least_rest header }
     requires enough { least_rest header ≤ left + 1 }

@@ -15,14 +15,16 @@ const PACK: &[u8] = b"\0\0\x01\xba\x21\0\x01\0\x01\x80\0\x03";
 /// The code of the end.
 const END: &[u8] = b"\0\0\x01\xb9";
 
-/// The video of a stream that is fed in pieces of this size, and how it ends: what the bytes are, for every size.
+/// The video of a stream that is fed in pieces of this size, and how it ends: what the bytes are,
+/// for every size.
 fn unwrapped(
     alloc: Global,
     bytes: &[u8],
     size: usize,
 ) -> Result<(Vec<u8>, Result<(), SystemFault>), Fail>
     requires { length bytes.now ≤ 2 ^ 40 }
-    ensures { IfOk result (λ r. MatchResult r.1 (λ _. IsSystem bytes.now r.0.items) (λ fault. IsRefused bytes.now fault)) }
+    ensures { IfOk result (λ r.
+        MatchResult r.1 (λ _. IsSystem bytes.now r.0.items) (λ fault. IsRefused bytes.now fault)) }
 {
     let mut unwrapper = Unwrapper::new();
     let mut video = Vec::new(alloc);

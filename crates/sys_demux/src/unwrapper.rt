@@ -3,7 +3,8 @@ ghost use Rattle.sys_demux.specs.Sound.{is_sound};
 
 use crate::places::Place;
 
-/// Takes the video bytes out of an MPEG-1 system stream (ISO/IEC 11172-1), piece by piece. It takes no memory.
+/// Takes the video bytes out of an MPEG-1 system stream (ISO/IEC 11172-1), piece by piece. It takes
+/// no memory.
 #[derive(Debug, Drop)]
 pub struct Unwrapper {
     pub(crate) place: Place,

@@ -1,5 +1,6 @@
--- The taut chain from a point along one curve: seen from each of its points the next one is the furthest out of all that
--- follow. It is the upper hull of the lower curve, or the lower hull of the upper curve, from that point on.
+-- The taut chain from a point along one curve: seen from each of its points the next one is the
+-- furthest out of all that follow. It is the upper hull of the lower curve, or the lower hull of
+-- the upper curve, from that point on.
 use Rattle.std.specs.Prelude.{◌≡◌, ℕ, ◌<◌, ◌≤◌, List, [], ◌∷◌, ◌++◌, ◌⊎◌}
 use Rattle.taut_plan.specs.declared.points.Point.{Point}
 use Rattle.taut_plan.specs.declared.points.Side.{Side}
@@ -8,7 +9,8 @@ use Rattle.taut_plan.specs.Slopes.{IsWithin, IsInside}
 abbrev pub on_curve : (ℕ → ℕ) → ℕ → Point
 on_curve curve j = record { place = j; height = curve j }
 
--- Seen from o, the point p of the curve is furthest out up to place `last`: all before it stand within, all beyond it inside.
+-- Seen from o, the point p of the curve is furthest out up to place `last`: all before it stand
+-- within, all beyond it inside.
 pub record IsFurthest (side : Side) (curve : ℕ → ℕ) (last : ℕ) (o p : Point) : Type 0 where
   pub later : o.place < p.place
   pub near : p.place ≤ last
@@ -19,7 +21,8 @@ pub record IsFurthest (side : Side) (curve : ℕ → ℕ) (last : ℕ) (o p : Po
 -- the chain from o to place `last`
 abbrev pub IsChain : Side → (ℕ → ℕ) → ℕ → Point → List Point → Type 0
 IsChain side curve last o [] = o.place ≡ last
-IsChain side curve last o (p ∷ rest) = IsFurthest side curve last o p × IsChain side curve last p rest
+IsChain side curve last o (p ∷ rest) = IsFurthest side curve last o p
+    × IsChain side curve last p rest
 
 -- the point beyond which the chain goes on
 abbrev pub last_point : Point → List Point → Point
@@ -32,7 +35,8 @@ pub record IsLastEdge (o : Point) (chain : List Point) (first second : Point) : 
   pub is : chain ≡ front ++ second ∷ []
   pub begins : first ≡ last_point o front
 
--- the chain's last point no longer stands out: seen from the one before it, it is within the new point
+-- the chain's last point no longer stands out: seen from the one before it, it is within the new
+-- point
 pub record IsPassed (side : Side) (o : Point) (chain : List Point) (point : Point) : Type 0 where
   pub first : Point
   pub second : Point
@@ -52,4 +56,5 @@ IsReady side o chain point = (chain ≡ []) ⊎ IsHeld side o chain point
 -- the last edge leads on, and the new point is beyond it
 abbrev pub EdgesAscend : Point → List Point → Point → Type 0
 EdgesAscend o chain point =
-    (first second : Point) → IsLastEdge o chain first second → (first.place ≤ second.place) × (second.place ≤ point.place)
+    (first second : Point) → IsLastEdge o chain first second → (first.place ≤ second.place)
+    × (second.place ≤ point.place)

@@ -1,5 +1,6 @@
--- The funnel: from the last corner the chains along both curves, as far as they were read. A new point of one curve can
--- stand out so far that the chain along the other curve has to give way, corner by corner.
+-- The funnel: from the last corner the chains along both curves, as far as they were read. A new
+-- point of one curve can stand out so far that the chain along the other curve has to give way,
+-- corner by corner.
 use Rattle.std.specs.Prelude.{◌≡◌, ℕ, ◌+◌, ◌<◌, ◌≤◌, List, [], ◌∷◌}
 use Rattle.taut_plan.specs.declared.points.Point.{Point}
 use Rattle.taut_plan.specs.declared.points.Side.{Side}
@@ -12,8 +13,8 @@ abbrev pub curve_on : (ℕ → ℕ) → (ℕ → ℕ) → Side → ℕ → ℕ
 curve_on lo hi Lower = lo
 curve_on lo hi Upper = hi
 
--- Two curves over the places up to n that a plan may run between: they begin and end at one height each, the lower one is
--- nowhere above the upper one, and the upper one never falls.
+-- Two curves over the places up to n that a plan may run between: they begin and end at one height
+-- each, the lower one is nowhere above the upper one, and the upper one never falls.
 pub record IsBand (lo hi : ℕ → ℕ) (from n : ℕ) : Type 0 where
   pub some : 0 < n
   pub low_starts : lo 0 ≡ from
@@ -22,13 +23,14 @@ pub record IsBand (lo hi : ℕ → ℕ) (from n : ℕ) : Type 0 where
   pub high_rises : (i j : ℕ) → i ≤ j → j ≤ n → hi i ≤ hi j
   pub meet : lo n ≡ hi n
 
--- seen from o, each place of the one curve from o to before t stands within each place of the other curve from o up to s
+-- seen from o, each place of the one curve from o to before t stands within each place of the other
+-- curve from o up to s
 pub record KeepsApart (side : Side) (curve other : ℕ → ℕ) (t s : ℕ) (o : Point) : Type 0 where
   pub apart : (i j : ℕ) → o.place < i → i < t → o.place < j → j ≤ s
       → IsWithin side o (on_curve curve i) (on_curve other j)
 
--- While the point of place t gives the other chain its corners: the one chain has that point, and the other one ends at s,
--- which is t or t - 1.
+-- While the point of place t gives the other chain its corners: the one chain has that point, and
+-- the other one ends at s, which is t or t - 1.
 pub record IsCrossing (side : Side) (curve other : ℕ → ℕ) (t s : ℕ) (o : Point)
     (own_chain other_chain : List Point) : Type 0 where
   pub newest : t ≤ s + 1
@@ -39,7 +41,8 @@ pub record IsCrossing (side : Side) (curve other : ℕ → ℕ) (t s : ℕ) (o :
   pub apart : KeepsApart side curve other t s o
 
 -- the front of the other chain, where the point stands outside of it
-pub record IsCrossed (side : Side) (o : Point) (chain : List Point) (point corner : Point) : Type 0 where
+pub record IsCrossed (side : Side) (o : Point) (chain : List Point) (point corner : Point)
+    : Type 0 where
   pub rest : List Point
   pub is : chain ≡ corner ∷ rest
   pub crossed : IsInside side o corner point

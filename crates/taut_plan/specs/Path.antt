@@ -1,19 +1,21 @@
--- The part of the taut line that is known: its segments up to the last corner, and what may follow there.
+-- The part of the taut line that is known: its segments up to the last corner, and what may follow
+-- there.
 use Rattle.std.specs.Prelude.{◌≡◌, ℕ, ◌+◌, ◌-◌, ◌*◌, ◌≤◌, List, [], ◌∷◌, ◌++◌}
 use Rattle.plan_cert.specs.declared.Segment.{Segment}
 use Rattle.plan_cert.specs.Slots.{total_slots, total_bytes}
 use Rattle.cert_check.specs.Taut.{RunsTaut}
 use Rattle.taut_plan.specs.declared.points.Point.{Point}
 
--- The ray of a segment from place k and height v comes to stand on or below the lower curve, and isn't above the upper one
--- until then: no flatter line can keep between the curves from there.
+-- The ray of a segment from place k and height v comes to stand on or below the lower curve, and
+-- isn't above the upper one until then: no flatter line can keep between the curves from there.
 pub record MeetsLower (lo hi : ℕ → ℕ) (k v : ℕ) (s : Segment) : Type 0 where
   pub far : ℕ
   pub later : 1 ≤ far
   pub touches : v * s.slots + far * s.bytes ≤ lo (k + far) * s.slots
   pub free : (i : ℕ) → i ≤ far → v * s.slots + i * s.bytes ≤ hi (k + i) * s.slots
 
--- It comes to stand on or above the upper curve, and isn't below the lower one until then: no steeper line can.
+-- It comes to stand on or above the upper curve, and isn't below the lower one until then: no
+-- steeper line can.
 pub record MeetsUpper (lo hi : ℕ → ℕ) (k v : ℕ) (s : Segment) : Type 0 where
   pub far : ℕ
   pub later : 1 ≤ far
@@ -32,10 +34,12 @@ pub record GoesOn (lo hi : ℕ → ℕ) (from k v : ℕ) (segments : List Segmen
 
 -- the segment from one point to another
 abbrev pub segment_to : Point → Point → Segment
-segment_to first last = record { slots = last.place - first.place; bytes = last.height - first.height }
+segment_to first last =
+    record { slots = last.place - first.place; bytes = last.height - first.height }
 
 -- the segments lead from place 0 and height `from` to the corner, which is between the curves
-pub record IsPath (lo hi : ℕ → ℕ) (from : ℕ) (corner : Point) (segments : List Segment) : Type 0 where
+pub record IsPath (lo hi : ℕ →
+    ℕ) (from : ℕ) (corner : Point) (segments : List Segment) : Type 0 where
   pub slots : total_slots segments ≡ corner.place
   pub bytes : from + total_bytes segments ≡ corner.height
   pub above : lo corner.place ≤ corner.height

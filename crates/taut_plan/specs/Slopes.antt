@@ -4,15 +4,16 @@ use Rattle.taut_plan.specs.declared.points.Point.{Point}
 use Rattle.taut_plan.specs.declared.points.Side.{Side}
 use Rattle.taut_plan.specs.declared.points.Side.TheVariants.{Lower, Upper}
 
--- from height v, a rise to height y over i slots is at most as steep as one to height h over p slots: (y - v) / i ≤ (h - v) / p
+-- from height v, a rise to height y over i slots is at most as steep as one to height h over p
+-- slots: (y - v) / i ≤ (h - v) / p
 abbrev pub slope_le : ℕ → ℕ → ℕ → ℕ → ℕ → Type 0
 slope_le v i y p h = p * y + i * v ≤ p * v + i * h
 
 abbrev pub slope_lt : ℕ → ℕ → ℕ → ℕ → ℕ → Type 0
 slope_lt v i y p h = p * y + i * v < p * v + i * h
 
--- seen from point o, point a stands at most as far out as point b: on the lower curve the steeper point stands further
--- out, and on the upper curve the flatter one
+-- seen from point o, point a stands at most as far out as point b: on the lower curve the steeper
+-- point stands further out, and on the upper curve the flatter one
 abbrev pub IsWithin : Side → Point → Point → Point → Type 0
 IsWithin Lower o a b = slope_le o.height (a.place - o.place) a.height (b.place - o.place) b.height
 IsWithin Upper o a b = slope_le o.height (b.place - o.place) b.height (a.place - o.place) a.height

@@ -48,7 +48,8 @@ pub(crate) fn join(
     requires up { slot < length curves.now.up.items }
     requires chain { IsChain side (side_of curves.now side) slot apex chain.old.items }
     ensures point { IfOk result (λ point. point ≡ on_curve (side_of curves.now side) (slot + 1)) }
-    ensures chain { OnOk result (IsChain side (side_of curves.now side) (slot + 1) apex chain.new.items) }
+    ensures chain { OnOk result (IsChain side (side_of curves.now side) (slot
+        + 1) apex chain.new.items) }
 {
     let point = point_at(curves, side, slot);
     while is_passed(side, apex, chain, point) {

@@ -1,4 +1,5 @@
-//! The planner: the taut line between two curves, which is the plan whose sending rate varies least.
+//! The planner: the taut line between two curves, which is the plan whose sending rate varies
+//! least.
 #![tactic(auto)]
 
 mod chains;

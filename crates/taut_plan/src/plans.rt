@@ -33,7 +33,8 @@ fn crossed(side: Side, apex: Point, others: &VecDeque<Point>, point: Point) -> O
     }
 }
 
-/// Takes in the next slot's end on one side, and bends along the other chain while the new point stands outside of it.
+/// Takes in the next slot's end on one side, and bends along the other chain while the new point
+/// stands outside of it.
 fn extend(
     curves: &Curves,
     side: Side,
@@ -50,7 +51,8 @@ fn extend(
         slot (others_known side slot) path.old.apex own.old.items others.old.items }
     ensures path { OnOk result (IsPath (lower_of curves.now) (upper_of curves.now) curves.now.from
         path.new.apex path.new.segments.items) }
-    ensures funnel { OnOk result (IsFunnel side (side_of curves.now side) (side_of curves.now (other_side side))
+    ensures funnel { OnOk result
+        (IsFunnel side (side_of curves.now side) (side_of curves.now (other_side side))
         (slot + 1) (others_known side slot) path.new.apex own.new.items others.new.items) }
     ensures beyond { OnOk result (path.new.apex.place ≤ slot) }
 {
@@ -65,7 +67,8 @@ fn extend(
 /// The segments of the taut line.
 fn taut_segments(alloc: Global, curves: &Curves) -> Result<Vec<Segment>, AllocError>
     requires { IsSound curves.now.from curves.now.low.items curves.now.up.items }
-    ensures { IfOk result (λ segments. IsWhole (lower_of curves.now) (upper_of curves.now) curves.now.from
+    ensures { IfOk result (λ segments.
+        IsWhole (lower_of curves.now) (upper_of curves.now) curves.now.from
         (length curves.now.low.items) segments.items) }
 {
     let slots = curves.low.len();
@@ -86,16 +89,19 @@ fn taut_segments(alloc: Global, curves: &Curves) -> Result<Vec<Segment>, AllocEr
     Ok(path.segments)
 }
 
-/// The plan between sound curves: the one list of segments that `check` finds no fault in. Memory may be wanting.
+/// The plan between sound curves: the one list of segments that `check` finds no fault in. Memory
+/// may be wanting.
 ///
-/// It reads the curves once. Each slot joins and leaves each of the two chains at most once, so the work is linear in the
-/// slots, whatever the curves; the memory is that of the two chains and the segments.
+/// It reads the curves once. Each slot joins and leaves each of the two chains at most once, so the
+/// work is linear in the slots, whatever the curves; the memory is that of the two chains and the
+/// segments.
 pub fn plan(alloc: Global, curves: &Curves) -> Result<Plan, NoMemory>
     requires { IsSound curves.now.from curves.now.low.items curves.now.up.items }
     ensures taut { IfOk result (λ plan.
         IsTaut curves.now.from curves.now.low.items curves.now.up.items plan) }
 
-    // It is feasible, no feasible plan sends less above any rate, and no other list of segments is taut.
+    // It is feasible, no feasible plan sends less above any rate, and no other list of segments is
+    // taut.
     ensures best { IfOk result (λ plan.
         IsBestPlan curves.now.from curves.now.low.items curves.now.up.items plan) }
 {

@@ -7,7 +7,8 @@ ghost use Rattle.taut_plan.specs.Sides.{side_of};
 
 use wire_curve::Curves;
 
-/// A point in the plane of slots and bytes. Place k is the end of slot k - 1, and place 0 the start.
+/// A point in the plane of slots and bytes. Place k is the end of slot k - 1, and place 0 the
+/// start.
 #[derive(Clone, Copy, Debug)]
 pub(crate) struct Point {
     pub(crate) place: u64,
@@ -49,8 +50,8 @@ pub(crate) fn point_at(curves: &Curves, side: Side, slot: usize) -> Point
     }
 }
 
-/// Whether, seen from the first point, the middle one stands strictly inside the last one: below the line to it on the
-/// lower side, and above the line to it on the upper side.
+/// Whether, seen from the first point, the middle one stands strictly inside the last one: below
+/// the line to it on the lower side, and above the line to it on the upper side.
 pub(crate) fn is_inside(side: Side, first: Point, middle: Point, last: Point) -> bool
     requires begins { first.place ≤ middle.place }
     requires ends { middle.place ≤ last.place }
@@ -62,7 +63,8 @@ pub(crate) fn is_inside(side: Side, first: Point, middle: Point, last: Point) ->
     }
 }
 
-/// Whether the middle point stands strictly above the straight line from the first point to the last.
+/// Whether the middle point stands strictly above the straight line from the first point to the
+/// last.
 fn is_above(first: Point, middle: Point, last: Point) -> bool
     requires begins { first.place ≤ middle.place }
     requires ends { middle.place ≤ last.place }
@@ -74,7 +76,8 @@ fn is_above(first: Point, middle: Point, last: Point) -> bool
     line < point
 }
 
-/// Whether the middle point stands strictly below the straight line from the first point to the last.
+/// Whether the middle point stands strictly below the straight line from the first point to the
+/// last.
 fn is_below(first: Point, middle: Point, last: Point) -> bool
     requires begins { first.place ≤ middle.place }
     requires ends { middle.place ≤ last.place }
@@ -86,8 +89,8 @@ fn is_below(first: Point, middle: Point, last: Point) -> bool
     point < line
 }
 
-/// The heights at the middle place of the straight line from the first point to the last, and of the middle point, both
-/// times the places from the first to the last.
+/// The heights at the middle place of the straight line from the first point to the last, and of
+/// the middle point, both times the places from the first to the last.
 fn weights(first: Point, middle: Point, last: Point) -> (u128, u128)
     requires begins { first.place ≤ middle.place }
     requires ends { middle.place ≤ last.place }

@@ -150,8 +150,8 @@ fn generated_curves_have_the_plain_plan(rt: HostRuntime) -> Result<(), AllocErro
     Ok(())
 }
 
-// Each slot stays in the lower chain to the end, so a planner that looks through the chain again at each slot would take
-// some 10^10 steps.
+// Each slot stays in the lower chain to the end, so a planner that looks through the chain again at
+// each slot would take some 10^10 steps.
 #[test]
 fn falling_sizes_have_a_segment_each(rt: HostRuntime) -> Result<(), AllocError> {
     let mut sizes = Vec::new(rt.alloc());

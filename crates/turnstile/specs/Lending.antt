@@ -9,5 +9,6 @@ abbrev pub turn_with : {B : Type 0} → Turning B → B → Turning B
 turn_with turn value = record turn { value = value }
 
 -- the turn ends with the last value behind r
-abbrev pub LendsValue : (B : RattleType) → (kept : Ghosts B.Denot) → MutBor (Turning B.Denot) → MutBor B.Denot → Fml
+abbrev pub LendsValue : (B : RattleType) → (kept : Ghosts B.Denot) → MutBor (Turning B.Denot) →
+    MutBor B.Denot → Fml
 LendsValue B kept turn r = Lends (the_row B kept) B turn r (turn_with turn.now)

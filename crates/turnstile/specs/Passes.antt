@@ -13,8 +13,9 @@ pub record Gate : Type 0 where
   pub id : TableId
   pub terms : Terms
 
--- a pass: the turnstile that made it, whether it has the turn, its number, what stays of the kept value, the list as it has seen
--- it, its own entries in it, how many passes were split from it, and what those that were joined to it had made
+-- a pass: the turnstile that made it, whether it has the turn, its number, what stays of the kept
+-- value, the list as it has seen it, its own entries in it, how many passes were split from it, and
+-- what those that were joined to it had made
 pub record Standing : Type 0 where
   pub id : TableId
   pub has_turn : Bool
@@ -77,18 +78,20 @@ pub record AllJoined (standing : Standing) : Type 0 where
 
 -- the list is as it was seen, or has one more entry, of this maker
 abbrev pub MayLeave : List Entry → ℕ → List Entry → Type 0
-MayLeave seen maker list = (list ≡ seen) ⊎ ((e : Entry) × (list ≡ seen ++ e ∷ []) × (e.maker ≡ maker))
+MayLeave seen maker list = (list ≡ seen)
+    ⊎ ((e : Entry) × (list ≡ seen ++ e ∷ []) × (e.maker ≡ maker))
 
 -- a turn: the pass as it was when it took it, and the value
 pub record Turning (B : Type 0) : Type 0 where
   pub pass : Standing
   pub value : B
 
--- The list once all passes are back in the first one: it begins with what that one has seen, and each entry in it is of the
--- first pass or of one that was joined, as they know it.
+-- The list once all passes are back in the first one: it begins with what that one has seen, and
+-- each entry in it is of the first pass or of one that was joined, as they know it.
 pub record IsWhole (pass : Standing) (list : List Entry) : Type 0 where
   pub seen : IsPrefix pass.seen list
   pub mine : pass.mine ≡ made_by pass.number list
   pub joined : (i : ℕ) (none : Joined) → i < length pass.joined →
-      (slice_index_or pass.joined i none).mine ≡ made_by (slice_index_or pass.joined i none).number list
+      (slice_index_or pass.joined i none).mine ≡
+      made_by (slice_index_or pass.joined i none).number list
   pub others : (maker : ℕ) → pass.splits < maker → made_by maker list ≡ []

@@ -91,7 +91,8 @@ pub record Knows (v : View) : Type 0 where
   pub terms : v.told_terms ≡ v.terms
 
 module _ {B : Type 0} (entries : B → List Entry) (terms_of : B → Terms) where
-  -- the pass has the turn of its ticket, and the slot with the value, which begins with all that it had seen
+  -- the pass has the turn of its ticket, and the slot with the value, which begins with all that it
+  -- had seen
   pub record Took (t : ℕ) (me next : Me (Option B) View) : Type 0 where
     pub value : B
     pub view : next.0 ≡ record me.0 { stage = Holds t; seen = entries value }
@@ -112,7 +113,8 @@ module _ {B : Type 0} (entries : B → List Entry) where
 
 module _ {B : Type 0} where
   abbrev pub Drew : Me (Option B) View → ℕ → Me (Option B) View → Type 0
-  Drew me n next = (t : ℕ) × (n ≡ t % 2 ^ 64) × (next.0 ≡ record me.0 { stage = Waits t }) × (next.1 ≡ [])
+  Drew me n next = (t : ℕ) × (n ≡ t % 2 ^ 64) × (next.0 ≡ record me.0 { stage = Waits t })
+      × (next.1 ≡ [])
 
   abbrev pub Left : Me (Option B) View → ℕ → Me (Option B) View → Type 0
   Left me n next = (next.0 ≡ record me.0 { stage = Idle }) × (next.1 ≡ [])
@@ -138,7 +140,13 @@ module _ {B : Type 0} where
 module _ {B : Type 0} (entries : B → List Entry) where
   -- the pass once the word counts the entries of the value in its slot
   abbrev pub noted : Me (Option B) View → Me (Option B) View
-  noted me = (record me.0 { seen = listed entries me.1; mine = made_by me.0.number (listed entries me.1) }, me.1)
+  noted me = (
+    record me.0 {
+      seen = listed entries me.1;
+      mine = made_by me.0.number (listed entries me.1);
+    },
+    me.1,
+  )
 
   abbrev pub Raised : Me (Option B) View → ℕ → Me (Option B) View → Type 0
   Raised me n next = (next.0 ≡ (noted me).0) × (next.1 ≡ me.1)
@@ -146,4 +154,5 @@ module _ {B : Type 0} (entries : B → List Entry) where
 module _ {B : Type 0} (entries : B → List Entry) (terms_of : B → Terms) where
   abbrev pub Looked : Me (Option B) View → ℕ → Me (Option B) View → Type 0
   Looked me n next =
-      (t : ℕ) → me.0.stage ≡ Waits t → (n ≡ t % 2 ^ 64 → Took entries terms_of t me next) × (n ≢ t % 2 ^ 64 → next ≡ me)
+      (t : ℕ) → me.0.stage ≡ Waits t → (n ≡ t % 2 ^ 64 → Took entries terms_of t me next)
+      × (n ≢ t % 2 ^ 64 → next ≡ me)

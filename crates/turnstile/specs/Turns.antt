@@ -1,4 +1,5 @@
--- The rule of the turn: what holds at each moment of the shared words, of the value and of what each pass knows.
+-- The rule of the turn: what holds at each moment of the shared words, of the value and of what
+-- each pass knows.
 use Rattle.std.specs.Prelude.{◌≡◌, ◌≢◌, ◌⊎◌, ℕ, ◌+◌, ◌%◌, ◌^◌, ◌<◌, ◌≤◌, false, List, [], ◌∷◌, length, Option, Some, if◌then◌else◌}
 use mathlib.Core.Option.{some, none}
 use mathlib.Core.List.{IsPrefix}
@@ -53,7 +54,8 @@ pub record IsPast (log : List Entry) (count number : ℕ) (j : Joined) : Type 0 
   pub other : j.number ≢ number
 
 -- what holds of a pass that isn't spent
-pub record Fits (terms : Terms) (log : List Entry) (count served drawn : ℕ) (v : View) : Type 0 where
+pub record Fits (terms : Terms) (log : List Entry) (count served drawn : ℕ) (v : View)
+    : Type 0 where
   pub terms_are : v.terms ≡ terms
   pub seen : IsPrefix v.seen log
   pub told : IsPrefix v.told v.seen

@@ -5,8 +5,8 @@ use std::array;
 /// How many bells a turnstile has.
 const BELLS: u64 = 64;
 
-/// The bells of a turnstile. Tickets that are equal modulo [`BELLS`] share one, so a turn that is handed on wakes the pass
-/// whose ticket is next, and no other one while at most 64 wait.
+/// The bells of a turnstile. Tickets that are equal modulo [`BELLS`] share one, so a turn that is
+/// handed on wakes the pass whose ticket is next, and no other one while at most 64 wait.
 #[derive(Drop)]
 pub(crate) struct Bells {
     bells: [EventCount; BELLS as usize],

@@ -1,4 +1,5 @@
-//! A turn by ticket: one caller at a time has the value that all share, in the order in which they drew their tickets.
+//! A turn by ticket: one caller at a time has the value that all share, in the order in which they
+//! drew their tickets.
 #![tactic(auto)]
 
 mod bells;

@@ -56,7 +56,8 @@ pub(crate) fn draw<B: Kept>(top: &Top<B>, place: &mut Place<B>) -> u64
     top.fetch_add::<Draws>(place, TICKETS, 1)
 }
 
-/// Looks whose turn it is: where it is that of this pass's ticket, the pass has the turn and the slot.
+/// Looks whose turn it is: where it is that of this pass's ticket, the pass has the turn and the
+/// slot.
 pub(crate) fn look<B: Kept>(top: &Top<B>, place: &mut Place<B>, ticket: u64) -> u64
     requires seat { IsSeated top.now.table_id place.old }
     requires waits { IsWaiting place.old.me ticket }

@@ -49,7 +49,8 @@ impl<B: Kept> Turn<B> {
         }
     }
 
-    /// Puts the value back, counts the entry that its list has more, gives the turn to the next ticket and rings its bell.
+    /// Puts the value back, counts the entry that its list has more, gives the turn to the next
+    /// ticket and rings its bell.
     pub(crate) fn end(self, top: &Top<B>, bells: &Bells) -> Place<B>
         requires sized { IsSized top.now.table_id }
         requires here { self.pass.id ≡ top.now.table_id }

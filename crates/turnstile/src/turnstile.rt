@@ -18,8 +18,8 @@ use std::snapshot::Snapshot;
 use std::sync::Wait;
 use vod_base::NoMemory;
 
-/// A value that one pass at a time has. Passes take turns in the order in which they drew their tickets, and sleep while
-/// they wait.
+/// A value that one pass at a time has. Passes take turns in the order in which they drew their
+/// tickets, and sleep while they wait.
 ///
 /// Contracts see which turnstile it is, and what stays of the value.
 #[derive(Drop)]
@@ -89,8 +89,8 @@ impl<B: Kept> Turnstile<B> {
         take(rt, &self.table.shared, &self.bells, place)
     }
 
-    /// Gives the value back, and the turn to the next ticket, whose pass it wakes. The list is as it was at `enter`, or has
-    /// one more entry, of this pass.
+    /// Gives the value back, and the turn to the next ticket, whose pass it wakes. The list is as
+    /// it was at `enter`, or has one more entry, of this pass.
     pub fn leave(&self, pass: &mut Pass, turn: Turn<B>)
         requires own { turn.pass.id ≡ self.now.id }
         requires away { pass.old.has_turn ≡ true }

@@ -4,7 +4,8 @@ use slot_calendar::CapStep;
 use std::collections::LinkedList;
 use std::marker::Model;
 
-/// What stays of a kept value: the steps of the link's capacity and the most entries. No value of it is made.
+/// What stays of a kept value: the steps of the link's capacity and the most entries. No value of
+/// it is made.
 pub struct Terms {
     pub steps: LinkedList<CapStep>,
     pub limit: u64,

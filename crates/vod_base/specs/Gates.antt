@@ -1,4 +1,5 @@
--- What a gate tells: how it was opened, its parts, and of each part the connections that it gave and that came back.
+-- What a gate tells: how it was opened, its parts, and of each part the connections that it gave
+-- and that came back.
 use Rattle.std.specs.Prelude.{◌≡◌, ℕ, ◌+◌, ◌<◌, List, [], ◌∷◌, ◌++◌, length, slice_index_or, slice_set, Option, Some, None, IsSome}
 use Rattle.vod_base.specs.Links.{Doing}
 use Rattle.vod_base.specs.declared.gates.Opening.{Opening}
@@ -8,21 +9,24 @@ pub record Returned : Type 0 where
   pub faults : ℕ
   pub told : Option (List Doing)
 
--- what the last `take` answered: there was none yet, it gave a connection, there were no more, or it failed
+-- what the last `take` answered: there was none yet, it gave a connection, there were no more, or
+-- it failed
 pub data LastTake : Type 0 where
   NoneYet : LastTake
   Gave : LastTake
   NoMore : LastTake
   Failed : LastTake
 
--- one part: which split made it, from 0, how many connections it gave, those that came back, in order, and the last `take`
+-- one part: which split made it, from 0, how many connections it gave, those that came back, in
+-- order, and the last `take`
 pub record Part : Type 0 where
   pub number : ℕ
   pub given : ℕ
   pub back : List Returned
   pub last : LastTake
 
--- a gate: how it was opened, if it is open; for each split since then the part, once it came back; and itself as a part
+-- a gate: how it was opened, if it is open; for each split since then the part, once it came back;
+-- and itself as a part
 pub record Content : Type 0 where
   pub opening : Option Opening
   pub parts : List (Option Part)

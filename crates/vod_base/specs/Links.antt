@@ -1,4 +1,5 @@
--- What a connection does, as contracts see it: events that are heard, and bytes that are sent, in one order.
+-- What a connection does, as contracts see it: events that are heard, and bytes that are sent, in
+-- one order.
 use Rattle.std.specs.Prelude.{◌≡◌, ℕ, ◌≤◌, ⊤, List, ◌++◌, length, take, map, Option, Some, None}
 use Rattle.vod_base.specs.declared.links.Heard.{Heard}
 use Rattle.vod_base.specs.declared.links.Heard.TheVariants.{Bytes, Slot, End}
@@ -33,4 +34,5 @@ told_more (Some told) doings = Some (told ++ doings)
 
 -- what was told, with a front of these bytes sent after it
 abbrev pub IsFrontTold : Option (List Doing) → Option (List Doing) → List ℕ → Type 0
-IsFrontTold old new bytes = (n : ℕ) × ((n ≤ length bytes) × (new ≡ told_more old (sends (take n bytes))))
+IsFrontTold old new bytes = (n : ℕ)
+    × ((n ≤ length bytes) × (new ≡ told_more old (sends (take n bytes))))

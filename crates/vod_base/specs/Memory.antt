@@ -1,4 +1,5 @@
--- The objects in memory as contracts see them. A call that is to fail is named by its number, from 1, over all calls of the object.
+-- The objects in memory as contracts see them. A call that is to fail is named by its number, from
+-- 1, over all calls of the object.
 use Rattle.std.specs.Prelude.{ℕ, ◌+◌, ◌-◌, ◌^◌, Bool, ◌==◌, if◌then◌else◌, List, nat_lt}
 use Rattle.std.specs.List.{list_any}
 use Rattle.vod_base.specs.Outside.{File}
@@ -24,9 +25,14 @@ library_fails s = fails s.failing (one_more s.calls)
 
 -- the state after one call
 abbrev pub library_called : LibraryState → LibraryState
-library_called s = record s { calls = one_more s.calls; faults = if library_fails s then one_more s.faults else s.faults }
+library_called s = record s {
+  calls = one_more s.calls;
+  faults = if library_fails s
+      then one_more s.faults else s.faults;
+}
 
--- a sink in memory: its bytes, the most that it keeps, the failing calls, and how many calls and faults there were
+-- a sink in memory: its bytes, the most that it keeps, the failing calls, and how many calls and
+-- faults there were
 pub record SinkState : Type 0 where
   pub bytes : List ℕ
   pub room : ℕ

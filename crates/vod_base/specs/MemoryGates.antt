@@ -19,9 +19,15 @@ last_of Fault = Failed
 
 -- a share as the part that it stands for
 abbrev pub part_of : Share → Part
-part_of share = record { number = share.number; given = share.given; back = map returned (drop share.waiting share.links.items); last = last_of share.last }
+part_of share = record {
+  number = share.number;
+  given = share.given;
+  back = map returned (drop share.waiting share.links.items);
+  last = last_of share.last;
+}
 
--- what is told, how many links are still to give, whether it is a part, the failing calls, and the counts
+-- what is told, how many links are still to give, whether it is a part, the failing calls, and the
+-- counts
 pub record GateState : Type 0 where
   pub content : Content
   pub waiting : ℕ

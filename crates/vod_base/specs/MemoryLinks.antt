@@ -7,7 +7,8 @@ use Rattle.vod_base.specs.declared.memory_links.Event.TheVariants.{Bytes, Slot, 
 use Rattle.vod_base.specs.declared.memory_links.Noted.{Noted}
 use Rattle.vod_base.specs.declared.memory_links.Noted.TheVariants.{Came, Began, Ended, Gone}
 
--- what was done, how many events were handed out, the most of them and of the bytes, the failing calls, and the counts
+-- what was done, how many events were handed out, the most of them and of the bytes, the failing
+-- calls, and the counts
 pub record LinkState : Type 0 where
   pub told : List Doing
   pub events : ℕ
@@ -34,11 +35,13 @@ bytes_of End = []
 
 -- a note as the doing that it stands for
 abbrev pub doing_noted : List Event → Noted → Doing
-doing_noted events (Came event from to) = HeardBytes (slice_range (bytes_of (slice_index_or events event End)) from to)
+doing_noted events (Came event from to) =
+    HeardBytes (slice_range (bytes_of (slice_index_or events event End)) from to)
 doing_noted events (Began slot) = HeardSlot slot
 doing_noted events Ended = HeardEnd
 doing_noted events (Gone byte) = Sent byte
 
--- whether the next call of `next` fails: its number is named, or all events were handed out that there is room for
+-- whether the next call of `next` fails: its number is named, or all events were handed out that
+-- there is room for
 abbrev pub next_fails : LinkState → Bool
 next_fails s = fails s.failing_nexts (one_more s.nexts) || nat_le s.room s.events

@@ -9,4 +9,5 @@ is_name_byte b = is_ascii_alphanumeric b || (b == 46) || (b == 95) || (b == 45)
 
 -- 1 to 64 such bytes, the first not '.'
 abbrev pub is_good_name : List ℕ → Bool
-is_good_name name = nat_lt 0 (length name) && nat_le (length name) 64 && not (slice_index name 0 == 46) && list_all is_name_byte name
+is_good_name name = nat_lt 0 (length name) && nat_le (length name) 64
+    && not (slice_index name 0 == 46) && list_all is_name_byte name

@@ -2,7 +2,8 @@
 use Rattle.std.specs.Prelude.{◌≡◌, ℕ, ◌-◌, ◌<◌, ◌≤◌, ◌^◌, if◌then◌else◌, List, [], ◌∷◌, ◌++◌, length, take, drop, Option, Some, None, unwrap_or}
 use Rattle.std.specs.Str.{bytes_eq}
 
--- A fault count rose. A count that stands at the end of 64 bits, where a counter stays, counts as risen.
+-- A fault count rose. A count that stands at the end of 64 bits, where a counter stays, counts as
+-- risen.
 abbrev pub HasRisen : ℕ → ℕ → Type 0
 HasRisen old new = new < 2 ^ 64 - 1 → old < new
 
@@ -14,13 +15,15 @@ pub record File : Type 0 where
 -- the bytes of the first file of that name
 abbrev pub file_named : List File → List ℕ → Option (List ℕ)
 file_named [] name = None
-file_named (file ∷ files) name = if bytes_eq file.name name then Some file.bytes else file_named files name
+file_named (file ∷ files) name = if bytes_eq file.name name
+    then Some file.bytes else file_named files name
 
 -- the same, where a missing file has no bytes
 abbrev pub bytes_named : List File → List ℕ → List ℕ
 bytes_named files name = unwrap_or (file_named files name) []
 
--- A read of `bytes` at `at` put n bytes in front of `into`: 0 only where `into` is empty or nothing stands there.
+-- A read of `bytes` at `at` put n bytes in front of `into`: 0 only where `into` is empty or nothing
+-- stands there.
 pub record IsRead (bytes : List ℕ) (at n : ℕ) (into : List ℕ) : Type 0 where
   pub within : n ≤ length into
   pub there : n ≤ length bytes - at

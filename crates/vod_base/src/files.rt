@@ -17,7 +17,8 @@ pub trait Library {
         ensures kept { files self.new ≡ files self.old }
         ensures count { faults self.old ≤ faults self.new }
         ensures fault { OnErr result (HasRisen (faults self.old) (faults self.new)) }
-        ensures found { (held : List File) → files self.old ≡ Some held → IfOk result (λ size. size ≡ option_map length (file_named held name.now)) };
+        ensures found { (held : List File) → files self.old ≡ Some held →
+            IfOk result (λ size. size ≡ option_map length (file_named held name.now)) };
 
     /// Reads bytes of the file at `at` into the front of `into`, and answers how many.
     ///
@@ -27,5 +28,6 @@ pub trait Library {
         ensures count { faults self.old ≤ faults self.new }
         ensures fault { OnErr result (HasRisen (faults self.old) (faults self.new)) }
         ensures within { IfOk result (λ n. n ≤ length into.new) }
-        ensures bytes { (held : List File) → files self.old ≡ Some held → IfOk result (λ n. IsRead (bytes_named held name.now) at n into.new) };
+        ensures bytes { (held : List File) → files self.old ≡ Some held →
+            IfOk result (λ n. IsRead (bytes_named held name.now) at n into.new) };
 }

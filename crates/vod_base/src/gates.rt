@@ -37,7 +37,8 @@ pub trait Gate: Sized {
     fn open(&mut self, how: &Opening) -> Result<(), GateFault>
         ensures count { faults self.old ≤ faults self.new }
         ensures fault { OnErr result (HasRisen (faults self.old) (faults self.new)) }
-        ensures open { OnOk result (told self.new ≡ option_map (opened (Some how.now)) (told self.old)) }
+        ensures open { OnOk result (told self.new ≡
+            option_map (opened (Some how.now)) (told self.old)) }
         ensures lost { OnErr result (told self.new ≡ option_map (opened None) (told self.old)) };
 
     /// Makes a part, which gives connections of its own.
@@ -50,7 +51,8 @@ pub trait Gate: Sized {
         ensures count { faults self.old ≤ faults self.new }
         ensures fault { OnErr result (HasRisen (faults self.old) (faults self.new)) }
         ensures split { OnOk result (told self.new ≡ option_map split_off (told self.old)) }
-        ensures part { IfOk result (λ part. (told part ≡ option_map new_part (told self.old)) × (faults part ≡ 0)) }
+        ensures part { IfOk result (λ part. (told part ≡ option_map new_part (told self.old))
+            × (faults part ≡ 0)) }
         ensures lost { OnErr result (told self.new ≡ told self.old) };
 
     /// Waits for the next connection, or answers None where there are no more. A connection that it
@@ -62,20 +64,30 @@ pub trait Gate: Sized {
     fn take(&mut self) -> Result<Option<Self::Conn>, GateFault>
         ensures count { faults self.old ≤ faults self.new }
         ensures fault { OnErr result (HasRisen (faults self.old) (faults self.new)) }
-        ensures gave { IfOk result (λ taken. IfSome taken (λ conn. told self.new ≡ option_map gave (told self.old))) }
-        ensures fresh { IfOk result (λ taken. IfSome taken (λ conn. (Self.Conn.faults conn ≡ 0) × IfSome (Self.Conn.told conn) (λ doings. doings ≡ []))) }
-        ensures none { IfOk result (λ taken. taken ≡ None → told self.new ≡ option_map (gave_none NoMore) (told self.old)) }
-        ensures lost { OnErr result (told self.new ≡ option_map (gave_none Failed) (told self.old)) };
+        ensures gave { IfOk result (λ taken.
+            IfSome taken (λ conn. told self.new ≡ option_map gave (told self.old))) }
+        ensures fresh { IfOk result (λ taken.
+            IfSome taken (λ conn. (Self.Conn.faults conn ≡ 0)
+            × IfSome (Self.Conn.told conn) (λ doings. doings ≡ []))) }
+        ensures none { IfOk result (λ taken. taken ≡ None →
+            told self.new ≡ option_map (gave_none NoMore) (told self.old)) }
+        ensures lost { OnErr result (told self.new ≡
+            option_map (gave_none Failed) (told self.old)) };
 
     /// Takes back a connection that `take` gave.
     fn give_back(&mut self, conn: Self::Conn)
         requires out { IfSome (told self.old) HasOut }
         ensures count { faults self.old ≤ faults self.new }
-        ensures back { told self.new ≡ option_map (got_back (record { faults = Self.Conn.faults conn; told = Self.Conn.told conn })) (told self.old) };
+        ensures back { told self.new ≡
+            option_map (got_back (record {
+              faults = Self.Conn.faults conn;
+              told = Self.Conn.told conn;
+            })) (told self.old) };
 
     /// Takes back a part that was split from this gate since it was opened last.
     fn rejoin(&mut self, part: Self)
-        requires out { IfSome (told self.old) (λ c. IfSome (told part) (λ p. IsOut p.own.number c)) }
+        requires out { IfSome (told self.old) (λ c.
+            IfSome (told part) (λ p. IsOut p.own.number c)) }
         ensures count { faults self.old ≤ faults self.new }
         ensures risen { 0 < faults part → HasRisen (faults self.old) (faults self.new) }
         ensures joined { told self.new ≡ told_rejoined (told part) (told self.old) };

@@ -10,7 +10,8 @@ pub struct Line {
     pub next: usize,
 }
 
-/// Finds the end of the line that begins at `at`. A line ends with LF or CR LF; a lone CR ends none.
+/// Finds the end of the line that begins at `at`. A line ends with LF or CR LF; a lone CR ends
+/// none.
 ///
 /// None exactly where no LF stands at or after `at`.
 pub fn line_end(bytes: &[u8], at: usize) -> Option<Line>

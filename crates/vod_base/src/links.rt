@@ -34,7 +34,8 @@ pub trait Link {
         ensures count { faults self.old ≤ faults self.new }
         ensures fault { OnErr result (HasRisen (faults self.old) (faults self.new)) }
         ensures within { IfOk result (λ heard. IsWithin heard (length into.new)) }
-        ensures heard { IfOk result (λ heard. told self.new ≡ told_more (told self.old) (doing_of heard into.new ∷ [])) }
+        ensures heard { IfOk result (λ heard. told self.new ≡
+            told_more (told self.old) (doing_of heard into.new ∷ [])) }
         ensures lost { OnErr result (told self.new ≡ told self.old) };
 
     /// Sends all bytes; after a fault, a front part of them was sent.

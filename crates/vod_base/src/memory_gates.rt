@@ -47,21 +47,44 @@ impl Model for MemoryGate {
 
     ghost Value = { GateState };
 
-    ghost view = { λ g. record { content = record { opening = g.opening; parts = map (option_map part_of) g.parts.items; own = part_of g.own }; waiting = g.own.waiting; is_part = g.is_part; failing = g.failing.items; calls = g.calls; faults = g.faults } };
+    ghost view = { λ g.
+        record {
+          content = record {
+            opening = g.opening;
+            parts = map (option_map part_of) g.parts.items;
+            own = part_of g.own;
+          };
+          waiting = g.own.waiting;
+          is_part = g.is_part;
+          failing = g.failing.items;
+          calls = g.calls;
+          faults = g.faults;
+        } };
 
-    ghost invariant = { λ g. (g.is_part ≡ false → 256 ≤ vec_capacity g.parts) × (g.is_part ≡ true → g.opening ≡ None) × (g.own.waiting ≤ vec_len g.own.links) × (vec_len g.own.links ≤ g.own.waiting + g.own.given) × (g.own.waiting + g.own.given ≤ vec_capacity g.own.links) };
+    ghost invariant = { λ g. (g.is_part ≡ false → 256 ≤ vec_capacity g.parts)
+        × (g.is_part ≡ true → g.opening ≡ None) × (g.own.waiting ≤ vec_len g.own.links)
+        × (vec_len g.own.links ≤ g.own.waiting + g.own.given)
+        × (g.own.waiting + g.own.given ≤ vec_capacity g.own.links) };
 }
 
 impl MemoryGate {
     /// Makes a gate, which isn't open, from what each of its parts is to give, in the order of the
-    /// splits. A part past the last of them gives no link. `failing` has the numbers, from 1, of the
-    /// calls of `open` and `split` that are to fail. Room for 256 parts is reserved here.
+    /// splits. A part past the last of them gives no link. `failing` has the numbers, from 1, of
+    /// the calls of `open` and `split` that are to fail. Room for 256 parts is reserved here.
     pub fn new(
         alloc: Global,
         parts: Vec<MemoryPart>,
         failing: Vec<u64>,
     ) -> Result<MemoryGate, NoMemory>
-        ensures { IfOk result (λ gate. gate ≡ record { content = record { opening = None; parts = []; own = fresh_part 0 }; waiting = 0; is_part = false; failing = failing.items; calls = 0; faults = 0 }) }
+        ensures { IfOk result (λ gate. gate ≡
+            record {
+              content = record { opening = None; parts = []; own = fresh_part 0 };
+              waiting = 0;
+              is_part = false;
+              failing = failing.items;
+              calls = 0;
+              faults = 0;
+            }) }
     {
         let room = Vec::with_capacity(alloc, MOST_PARTS)?;
         Ok(MemoryGate {
@@ -90,7 +113,8 @@ impl MemoryGate {
     /// Counts a call, and tells whether it fails.
     fn call(&mut self) -> bool
         ensures fails { result ≡ gate_fails self.old }
-        ensures called { self.new ≡ (if result then gate_failed self.old else gate_called self.old) }
+        ensures called { self.new ≡
+            (if result then gate_failed self.old else gate_called self.old) }
     {
         self.calls = self.calls.saturating_add(1);
         let number = self.calls;
@@ -140,8 +164,10 @@ impl Gate for MemoryGate {
 
     fn open(&mut self, how: &Opening) -> Result<(), GateFault>
         ensures fails { is_err result ≡ (self.old.is_part || gate_fails self.old) }
-        ensures open { OnOk result (self.new ≡ record (gate_called self.old) { content = opened (Some how.now) self.old.content }) }
-        ensures lost { OnErr result (self.new ≡ record (gate_failed self.old) { content = opened None self.old.content }) }
+        ensures open { OnOk result (self.new ≡
+            record (gate_called self.old) { content = opened (Some how.now) self.old.content }) }
+        ensures lost { OnErr result (self.new ≡
+            record (gate_failed self.old) { content = opened None self.old.content }) }
     {
         self.opening = None;
         self.parts.clear();
@@ -160,8 +186,10 @@ impl Gate for MemoryGate {
     fn split(&mut self) -> Result<MemoryGate, GateFault>
         requires may { MaySplit self.old.content }
         ensures fails { is_err result ≡ gate_fails self.old }
-        ensures split { OnOk result (self.new ≡ record (gate_called self.old) { content = split_off self.old.content }) }
-        ensures part { IfOk result (λ part. (part.content ≡ new_part self.old.content) × (part.calls ≡ 0) × (part.faults ≡ 0)) }
+        ensures split { OnOk result (self.new ≡
+            record (gate_called self.old) { content = split_off self.old.content }) }
+        ensures part { IfOk result (λ part. (part.content ≡ new_part self.old.content)
+            × (part.calls ≡ 0) × (part.faults ≡ 0)) }
         ensures lost { OnErr result (self.new ≡ gate_failed self.old) }
     {
         if self.call() {
@@ -196,11 +224,20 @@ impl Gate for MemoryGate {
     #[tactic(auto, using(crate::proofs::Giving::back_stays))]
     fn take(&mut self) -> Result<Option<MemoryLink>, GateFault>
         ensures fails { is_err result ≡ gate_fails self.old }
-        ensures gave { IfOk result (λ taken. IfSome taken (λ link. self.new ≡ record (gate_called self.old) { content = gave self.old.content; waiting = self.old.waiting - 1 })) }
-        ensures fresh { IfOk result (λ taken. IfSome taken (λ link. (link.told ≡ []) × (link.faults ≡ 0))) }
-        ensures none { IfOk result (λ taken. taken ≡ None → self.new ≡ record (gate_called self.old) { content = gave_none NoMore self.old.content }) }
+        ensures gave { IfOk result (λ taken.
+            IfSome taken (λ link. self.new ≡
+            record (gate_called self.old) {
+              content = gave self.old.content;
+              waiting = self.old.waiting - 1;
+            })) }
+        ensures fresh { IfOk result (λ taken.
+            IfSome taken (λ link. (link.told ≡ []) × (link.faults ≡ 0))) }
+        ensures none { IfOk result (λ taken. taken ≡ None →
+            self.new ≡ record
+            (gate_called self.old) { content = gave_none NoMore self.old.content }) }
         ensures last { IfOk result (λ taken. IsNone taken ↔ (self.old.waiting ≡ 0)) }
-        ensures lost { OnErr result (self.new ≡ record (gate_failed self.old) { content = gave_none Failed self.old.content }) }
+        ensures lost { OnErr result (self.new ≡
+            record (gate_failed self.old) { content = gave_none Failed self.old.content }) }
     {
         if self.call() {
             self.own.last = Last::Fault;
@@ -220,7 +257,8 @@ impl Gate for MemoryGate {
 
     fn give_back(&mut self, conn: MemoryLink)
         requires out { HasOut self.old.content }
-        ensures { self.new ≡ record self.old { content = got_back (returned conn) self.old.content } }
+        ensures { self.new ≡
+            record self.old { content = got_back (returned conn) self.old.content } }
     {
         match self.own.links.push(conn) {
             Ok(()) => {}
@@ -230,7 +268,12 @@ impl Gate for MemoryGate {
 
     fn rejoin(&mut self, part: MemoryGate)
         requires out { IsOut part.content.own.number self.old.content }
-        ensures { self.new ≡ record self.old { faults = if nat_lt 0 part.faults then one_more self.old.faults else self.old.faults; content = rejoined part.content.own self.old.content } }
+        ensures { self.new ≡
+            record self.old {
+              faults = if nat_lt 0 part.faults
+                  then one_more self.old.faults else self.old.faults;
+              content = rejoined part.content.own self.old.content;
+            } }
     {
         let MemoryGate { own, faults, .. } = part;
         self.faults = count_with(self.faults, faults);

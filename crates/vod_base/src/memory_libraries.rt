@@ -21,14 +21,27 @@ impl Model for MemoryLibrary {
 
     ghost Value = { LibraryState };
 
-    ghost view = { λ l. record { files = map (λ f. record { name = string_bytes f.0; bytes = f.1.items }) l.files.items; failing = l.failing.items; calls = l.calls; faults = l.faults } };
+    ghost view = { λ l.
+        record {
+          files = map (λ f.
+              record { name = string_bytes f.0; bytes = f.1.items }) l.files.items;
+          failing = l.failing.items;
+          calls = l.calls;
+          faults = l.faults;
+        } };
 }
 
 impl MemoryLibrary {
     /// Makes a library of these files, of which the first of a name counts. `failing` has the
     /// numbers, from 1, of the calls that are to fail.
     pub fn new(files: Vec<(String, Vec<u8>)>, failing: Vec<u64>) -> MemoryLibrary
-        ensures { result ≡ record { files = map (λ f. record { name = string_bytes f.0; bytes = f.1.items }) files.items; failing = failing.items; calls = 0; faults = 0 } }
+        ensures { result ≡ record {
+          files = map (λ f.
+              record { name = string_bytes f.0; bytes = f.1.items }) files.items;
+          failing = failing.items;
+          calls = 0;
+          faults = 0;
+        } }
     {
         MemoryLibrary {
             files,
@@ -76,7 +89,8 @@ impl Library for MemoryLibrary {
         ensures kept { self.new.files ≡ self.old.files }
         ensures called { self.new ≡ library_called self.old }
         ensures fails { is_err result ≡ library_fails self.old }
-        ensures found { IfOk result (λ size. size ≡ option_map length (file_named self.old.files name.now)) }
+        ensures found { IfOk result (λ size. size ≡
+            option_map length (file_named self.old.files name.now)) }
     {
         if self.call() {
             return Err(StoreFault);
@@ -87,7 +101,8 @@ impl Library for MemoryLibrary {
     fn read(&mut self, name: &str, at: u64, into: &mut [u8]) -> Result<usize, StoreFault>
         ensures called { self.new ≡ library_called self.old }
         ensures fails { is_err result ≡ library_fails self.old }
-        ensures bytes { IfOk result (λ n. IsRead (bytes_named self.old.files name.now) at n into.new) }
+        ensures bytes { IfOk result (λ n.
+            IsRead (bytes_named self.old.files name.now) at n into.new) }
     {
         if self.call() {
             return Err(StoreFault);

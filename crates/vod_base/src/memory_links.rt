@@ -13,7 +13,8 @@ use std::marker::Model;
 /// An event that a link in memory is to hand out.
 #[derive(Debug, Drop)]
 pub enum Event {
-    /// Bytes come. Those that are longer than a call can take come in several calls; no bytes are no event.
+    /// Bytes come. Those that are longer than a call can take come in several calls; no bytes are
+    /// no event.
     Bytes(Vec<u8>),
     /// The slot of that number begins.
     Slot(u64),
@@ -21,7 +22,8 @@ pub enum Event {
     End,
 }
 
-/// What a link noted: bytes of the event at a place came, a slot began, the peer ended, or a byte was sent.
+/// What a link noted: bytes of the event at a place came, a slot began, the peer ended, or a byte
+/// was sent.
 #[derive(Clone, Copy, Debug)]
 pub(crate) enum Noted {
     Came(usize, usize, usize),
@@ -62,15 +64,29 @@ impl Model for MemoryLink {
 
     ghost Value = { LinkState };
 
-    ghost view = { λ l. record { told = map (doing_noted l.events.items) l.notes.items; events = l.handed_out; room = l.room; failing_sends = l.failing_sends.items; failing_nexts = l.failing_nexts.items; sends = l.sends; nexts = l.nexts; faults = l.faults } };
+    ghost view = { λ l.
+        record {
+          told = map (doing_noted l.events.items) l.notes.items;
+          events = l.handed_out;
+          room = l.room;
+          failing_sends = l.failing_sends.items;
+          failing_nexts = l.failing_nexts.items;
+          sends = l.sends;
+          nexts = l.nexts;
+          faults = l.faults;
+        } };
 
-    ghost invariant = { λ l. (sent_of (map (doing_noted l.events.items) l.notes.items) ≡ l.sent.items) × (vec_len l.sent ≤ l.room) × (l.room ≤ vec_capacity l.sent) × (l.handed_out ≤ l.room) × (vec_len l.notes ≡ vec_len l.sent + l.handed_out) × (l.room + l.room ≤ vec_capacity l.notes) };
+    ghost invariant = { λ l.
+        (sent_of (map (doing_noted l.events.items) l.notes.items) ≡ l.sent.items)
+        × (vec_len l.sent ≤ l.room) × (l.room ≤ vec_capacity l.sent) × (l.handed_out ≤ l.room)
+        × (vec_len l.notes ≡ vec_len l.sent + l.handed_out)
+        × (l.room + l.room ≤ vec_capacity l.notes) };
 }
 
 impl MemoryLink {
     /// Makes a link that hands out these events, up to `room` of them, and keeps up to `room` sent
-    /// bytes. All room is reserved here. `failing_sends` and `failing_nexts` have the numbers of the
-    /// calls that are to fail.
+    /// bytes. All room is reserved here. `failing_sends` and `failing_nexts` have the numbers of
+    /// the calls that are to fail.
     pub fn new(
         alloc: Global,
         events: Vec<Event>,
@@ -78,7 +94,17 @@ impl MemoryLink {
         failing_sends: Vec<u64>,
         failing_nexts: Vec<u64>,
     ) -> Result<MemoryLink, NoMemory>
-        ensures { IfOk result (λ link. link ≡ record { told = []; events = 0; room = room; failing_sends = failing_sends.items; failing_nexts = failing_nexts.items; sends = 0; nexts = 0; faults = 0 }) }
+        ensures { IfOk result (λ link. link ≡
+            record {
+              told = [];
+              events = 0;
+              room = room;
+              failing_sends = failing_sends.items;
+              failing_nexts = failing_nexts.items;
+              sends = 0;
+              nexts = 0;
+              faults = 0;
+            }) }
     {
         let Some(both) = room.checked_mul(2) else {
             return Err(NoMemory);
@@ -140,8 +166,17 @@ impl Link for MemoryLink {
         requires some { 0 < length into.now }
         ensures fails { is_err result ≡ next_fails self.old }
         ensures within { IfOk result (λ heard. IsWithin heard (length into.new)) }
-        ensures heard { IfOk result (λ heard. self.new ≡ record self.old { nexts = one_more self.old.nexts; events = self.old.events + 1; told = self.old.told ++ doing_of heard into.new ∷ [] }) }
-        ensures lost { OnErr result (self.new ≡ record self.old { nexts = one_more self.old.nexts; faults = one_more self.old.faults }) }
+        ensures heard { IfOk result (λ heard. self.new ≡
+            record self.old {
+              nexts = one_more self.old.nexts;
+              events = self.old.events + 1;
+              told = self.old.told ++ doing_of heard into.new ∷ [];
+            }) }
+        ensures lost { OnErr result (self.new ≡
+            record self.old {
+              nexts = one_more self.old.nexts;
+              faults = one_more self.old.faults;
+            }) }
     {
         self.nexts = self.nexts.saturating_add(1);
         let number = self.nexts;
@@ -159,9 +194,19 @@ impl Link for MemoryLink {
     }
 
     fn send(&mut self, bytes: &[u8]) -> Result<(), LinkFault>
-        ensures fails { is_err result ≡ (fails self.old.failing_sends (one_more self.old.sends) || nat_lt self.old.room (length (sent_of self.old.told) + length bytes.now)) }
-        ensures whole { OnOk result (self.new ≡ record self.old { sends = one_more self.old.sends; told = self.old.told ++ sends bytes.now }) }
-        ensures lost { OnErr result (self.new ≡ record self.old { sends = one_more self.old.sends; faults = one_more self.old.faults }) }
+        ensures fails { is_err result ≡
+            (fails self.old.failing_sends (one_more self.old.sends)
+            || nat_lt self.old.room (length (sent_of self.old.told) + length bytes.now)) }
+        ensures whole { OnOk result (self.new ≡
+            record self.old {
+              sends = one_more self.old.sends;
+              told = self.old.told ++ sends bytes.now;
+            }) }
+        ensures lost { OnErr result (self.new ≡
+            record self.old {
+              sends = one_more self.old.sends;
+              faults = one_more self.old.faults;
+            }) }
     {
         self.sends = self.sends.saturating_add(1);
         let number = self.sends;

@@ -23,7 +23,14 @@ impl Model for MemorySink {
 
     ghost Value = { SinkState };
 
-    ghost view = { λ s. record { bytes = s.kept.items; room = s.room; failing = s.failing.items; calls = s.calls; faults = s.faults } };
+    ghost view = { λ s.
+        record {
+          bytes = s.kept.items;
+          room = s.room;
+          failing = s.failing.items;
+          calls = s.calls;
+          faults = s.faults;
+        } };
 
     ghost invariant = { λ s. (vec_len s.kept ≤ s.room) × (s.room ≤ vec_capacity s.kept) };
 }
@@ -32,7 +39,8 @@ impl MemorySink {
     /// Makes a sink that keeps up to `room` bytes, all reserved here. `failing` has the numbers,
     /// from 1, of the calls that are to fail.
     pub fn new(alloc: Global, room: usize, failing: Vec<u64>) -> Result<MemorySink, NoMemory>
-        ensures { IfOk result (λ sink. sink ≡ record { bytes = []; room = room; failing = failing.items; calls = 0; faults = 0 }) }
+        ensures { IfOk result (λ sink. sink ≡
+            record { bytes = []; room = room; failing = failing.items; calls = 0; faults = 0 }) }
     {
         match Vec::with_capacity(alloc, room) {
             Ok(kept) => Ok(MemorySink {
@@ -62,8 +70,19 @@ impl Sink for MemorySink {
     ghost written = { λ s. Some s.bytes };
 
     fn write_all(&mut self, bytes: &[u8]) -> Result<(), SinkFault>
-        ensures fails { is_err result ≡ (fails self.old.failing (one_more self.old.calls) || nat_lt self.old.room (length self.old.bytes + length bytes.now)) }
-        ensures state { self.new ≡ (if is_err result then record self.old { calls = one_more self.old.calls; faults = one_more self.old.faults } else record self.old { calls = one_more self.old.calls; bytes = self.old.bytes ++ bytes.now }) }
+        ensures fails { is_err result ≡
+            (fails self.old.failing (one_more self.old.calls)
+            || nat_lt self.old.room (length self.old.bytes + length bytes.now)) }
+        ensures state { self.new ≡
+            (if is_err result
+            then record self.old {
+              calls = one_more self.old.calls;
+              faults = one_more self.old.faults;
+            }
+            else record self.old {
+              calls = one_more self.old.calls;
+              bytes = self.old.bytes ++ bytes.now;
+            }) }
     {
         self.calls = self.calls.saturating_add(1);
         let number = self.calls;

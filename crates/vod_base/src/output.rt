@@ -14,5 +14,6 @@ pub trait Sink {
         ensures count { faults self.old ≤ faults self.new }
         ensures fault { OnErr result (HasRisen (faults self.old) (faults self.new)) }
         ensures whole { OnOk result (written self.new ≡ more (written self.old) bytes.now) }
-        ensures front { OnErr result (IsFrontMore (written self.old) (written self.new) bytes.now) };
+        ensures front { OnErr result
+            (IsFrontMore (written self.old) (written self.new) bytes.now) };
 }

@@ -1,5 +1,6 @@
--- What a client's player has used by the end of each slot, and the two curves that follow (Salehi, Zhang, Kurose
--- and Towsley 1998): the bytes sent must have reached what is used, and the rest must fit in the client's buffer.
+-- What a client's player has used by the end of each slot, and the two curves that follow (Salehi,
+-- Zhang, Kurose and Towsley 1998): the bytes sent must have reached what is used, and the rest must
+-- fit in the client's buffer.
 use Rattle.std.specs.Prelude.{◌≡◌, ℕ, ◌+◌, ◌-◌, ◌*◌, ◌/◌, ◌^◌, ◌<◌, ◌≤◌, List, length, sum, sum_by, slice_index, nat_lt, ◌==◌, if◌then◌else◌, max, min}
 use Rattle.std.specs.List.{range_with_len}
 use Rattle.wire_curve.specs.declared.film.Timing.{Timing}
@@ -9,15 +10,18 @@ use Rattle.wire_curve.specs.declared.curves.Curves.{Curves}
 abbrev pub due : Timing → ℕ → ℕ
 due timing k = k * timing.picture_units / timing.slot_units + timing.delay
 
--- the bytes used before slot t, that is by the end of slot t - 1: those played earlier, and each picture that is due by then
+-- the bytes used before slot t, that is by the end of slot t - 1: those played earlier, and each
+-- picture that is due by then
 abbrev pub used_before : List ℕ → Timing → ℕ → ℕ
 used_before sizes timing t =
-    timing.played + sum_by (λ k. if nat_lt (due timing k) t then slice_index sizes k else 0) (range_with_len 0 (length sizes))
+    timing.played + sum_by (λ k. if nat_lt (due timing k) t
+    then slice_index sizes k else 0) (range_with_len 0 (length sizes))
 
 -- the bytes used in slot t: the pictures that are due in it
 abbrev pub used_in : List ℕ → Timing → ℕ → ℕ
 used_in sizes timing t =
-    sum_by (λ k. if due timing k == t then slice_index sizes k else 0) (range_with_len 0 (length sizes))
+    sum_by (λ k. if due timing k == t
+    then slice_index sizes k else 0) (range_with_len 0 (length sizes))
 
 abbrev pub total_of : List ℕ → Timing → ℕ
 total_of sizes timing = timing.played + sum sizes
@@ -30,7 +34,8 @@ slot_count sizes timing = due timing (length sizes - 1) + 1
 abbrev pub low_at : List ℕ → Timing → ℕ → ℕ
 low_at sizes timing t = max timing.sent (used_before sizes timing (t + 1))
 
--- what may have been sent by the end of slot t: the buffer is full, where nothing of slot t is used yet
+-- what may have been sent by the end of slot t: the buffer is full, where nothing of slot t is used
+-- yet
 abbrev pub up_at : List ℕ → Timing → ℕ → ℕ
 up_at sizes timing t = min (total_of sizes timing) (used_before sizes timing t + timing.buffer)
 
@@ -54,5 +59,7 @@ pub record AreFilmCurves (sizes : List ℕ) (timing : Timing) (curves : Curves) 
   pub from_is : curves.from ≡ timing.sent
   pub low_slots : length curves.low.items ≡ slot_count sizes timing
   pub up_slots : length curves.up.items ≡ slot_count sizes timing
-  pub low_is : (t : ℕ) → t < slot_count sizes timing → slice_index curves.low.items t ≡ low_at sizes timing t
-  pub up_is : (t : ℕ) → t < slot_count sizes timing → slice_index curves.up.items t ≡ up_at sizes timing t
+  pub low_is : (t : ℕ) → t < slot_count sizes timing →
+      slice_index curves.low.items t ≡ low_at sizes timing t
+  pub up_is : (t : ℕ) → t < slot_count sizes timing →
+      slice_index curves.up.items t ≡ up_at sizes timing t

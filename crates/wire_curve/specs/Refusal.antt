@@ -13,8 +13,8 @@ pub record IsAccepted (sizes : List ℕ) (timing : Timing) : Type 0 where
   pub few_slots : slot_count sizes timing ≤ 1000000
   pub buffer_holds : (t : ℕ) → t < slot_count sizes timing → used_in sizes timing t ≤ timing.buffer
 
--- `slot` is the first one that uses more than the buffer holds, and `used` what it uses; `least` is the greatest use of
--- any slot, and so the least buffer that would do
+-- `slot` is the first one that uses more than the buffer holds, and `used` what it uses; `least` is
+-- the greatest use of any slot, and so the least buffer that would do
 pub record IsOverfull (sizes : List ℕ) (timing : Timing) (slot used least : ℕ) : Type 0 where
   pub in_range : slot < slot_count sizes timing
   pub used_is : used ≡ used_in sizes timing slot
@@ -29,7 +29,8 @@ HasFault sizes timing NoPictures = length sizes ≡ 0
 HasFault sizes timing (TooManySlots slots) =
     (0 < length sizes) × (slots ≡ slot_count sizes timing) × (1000000 < slots)
 HasFault sizes timing (BufferTooSmall slot used least) =
-    (0 < length sizes) × (slot_count sizes timing ≤ 1000000) × IsOverfull sizes timing slot used least
+    (0 < length sizes) × (slot_count sizes timing ≤ 1000000)
+    × IsOverfull sizes timing slot used least
 
 -- want of memory is the one answer that nothing decides
 abbrev pub IsRefused : List ℕ → Timing → CurveRefused → Type 0

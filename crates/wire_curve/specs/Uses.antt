@@ -23,15 +23,19 @@ pub record IsFirstAbove (uses : List ℕ) (buffer slot used least : ℕ) : Type 
 abbrev pub IsFaultOfUses : List ℕ → ℕ → CurveFault → Type 0
 IsFaultOfUses uses buffer NoPictures = ⊥
 IsFaultOfUses uses buffer (TooManySlots slots) = ⊥
-IsFaultOfUses uses buffer (BufferTooSmall slot used least) = IsFirstAbove uses buffer slot used least
+IsFaultOfUses uses buffer (BufferTooSmall slot used least) =
+    IsFirstAbove uses buffer slot used least
 
 -- the bytes used before slot t, by the uses of the slots
 abbrev pub used_by : Timing → List ℕ → ℕ → ℕ
 used_by timing uses t = timing.played + sum (take t uses)
 
-pub record AreCurvesOfUses (timing : Timing) (uses : List ℕ) (total : ℕ) (curves : Curves) : Type 0 where
+pub record AreCurvesOfUses (timing : Timing) (uses : List ℕ) (total : ℕ) (curves : Curves)
+    : Type 0 where
   pub from_is : curves.from ≡ timing.sent
   pub low_slots : length curves.low.items ≡ length uses
   pub up_slots : length curves.up.items ≡ length uses
-  pub low_is : (t : ℕ) → t < length uses → slice_index curves.low.items t ≡ max timing.sent (used_by timing uses (t + 1))
-  pub up_is : (t : ℕ) → t < length uses → slice_index curves.up.items t ≡ min total (used_by timing uses t + timing.buffer)
+  pub low_is : (t : ℕ) → t < length uses →
+      slice_index curves.low.items t ≡ max timing.sent (used_by timing uses (t + 1))
+  pub up_is : (t : ℕ) → t < length uses →
+      slice_index curves.up.items t ≡ min total (used_by timing uses t + timing.buffer)

@@ -2,8 +2,8 @@
 
 /// Two curves over the slots of a plan, by the bytes sent in all at the end of each slot.
 ///
-/// `film_curves` gives sound ones: 1 to 1,000,000 slots, neither curve ever falls, the lower one is nowhere above the
-/// upper one, and they meet at the last slot.
+/// `film_curves` gives sound ones: 1 to 1,000,000 slots, neither curve ever falls, the lower one is
+/// nowhere above the upper one, and they meet at the last slot.
 #[derive(Debug, Drop)]
 pub struct Curves {
     /// The bytes that were sent before slot 0.

@@ -16,8 +16,8 @@ const MOST_SLOTS: u64 = 1_000_000;
 
 /// When pictures are used and what the client can hold.
 ///
-/// Times are in units of 1/360,000 second. Picture k is used in the slot `k * picture_units / slot_units + delay`, rounded
-/// down.
+/// Times are in units of 1/360,000 second. Picture k is used in the slot `k * picture_units /
+/// slot_units + delay`, rounded down.
 #[derive(Clone, Copy, Debug)]
 pub struct Timing {
     /// The time of one picture, 1 to 360,000 units.
@@ -41,8 +41,8 @@ pub enum CurveFault {
     NoPictures,
     /// The last picture is used after slot 999,999.
     TooManySlots { slots: u64 },
-    /// Slot `slot` is the first that uses more than the buffer holds: `used` bytes. The greatest use of any slot is
-    /// `least`, so a buffer of that many bytes would do.
+    /// Slot `slot` is the first that uses more than the buffer holds: `used` bytes. The greatest
+    /// use of any slot is `least`, so a buffer of that many bytes would do.
     BufferTooSmall { slot: u64, used: u64, least: u64 },
 }
 
@@ -93,7 +93,8 @@ impl From<AllocError> for CurveRefused {
     }
 }
 
-/// The curves of pictures of these sizes. They are sound, and refused exactly where a fault holds; memory may be wanting.
+/// The curves of pictures of these sizes. They are sound, and refused exactly where a fault holds;
+/// memory may be wanting.
 ///
 /// It reads the sizes once and takes time linear in the pictures and the slots.
 pub fn film_curves(alloc: Global, sizes: &[u64], timing: &Timing) -> Result<Curves, CurveRefused>

@@ -107,7 +107,8 @@ fn films_have_these_curves(rt: HostRuntime) -> Result<(), CurveRefused> {
 
 #[test]
 fn refused_films_name_their_fault(rt: HostRuntime) {
-    // One picture a 330,000 units, and slots of one unit: the fourth is used in slot 990,000 + delay.
+    // One picture a 330,000 units, and slots of one unit: the fourth is used in slot 990,000 +
+    // delay.
     let long = |delay| Timing {
         picture_units: 330_000,
         slot_units: 1,
