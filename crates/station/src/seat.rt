@@ -1,4 +1,5 @@
 ghost use Rattle.std.specs.Prelude.{◌≡◌};
+ghost use Rattle.station.specs.Seats.{IsSeat};
 
 use std::marker::Model;
 use turnstile::Pass;
@@ -31,5 +32,13 @@ impl Seat {
         ensures { result ≡ self.now.number }
     {
         self.pass.number()
+    }
+
+    /// What holds of every seat: it has seen a legal history over its capacity in which each play is
+    /// halted by its own maker, and its own entries are those of its number in it.
+    pub fn holds(&self)
+        ensures kept { IsSeat self.now }
+    {
+        let _number = self.pass.number();
     }
 }
