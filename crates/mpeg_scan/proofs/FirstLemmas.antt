@@ -13,7 +13,7 @@ use Rattle.mpeg_scan.specs.Tiles.{first_of}
 use Rattle.mpeg_scan.specs.Places.{HasCode}
 use Rattle.mpeg_scan.specs.Layout.{AreChained, BeginsSequence}
 use Rattle.mpeg_scan.proofs.StepLemmas.{accepted-older, otherwise-first, otherwise-second}
-use Rattle.mpeg_scan.proofs.TileLemmas.{accepted-whole, ended-none, first-is, slice-apart, told-cons, told-nil}
+use Rattle.mpeg_scan.proofs.TileLemmas.{Spaced, accepted-whole, all-below, ended-none, first-is, slice-apart, told-cons, told-nil}
 use Rattle.mpeg_scan.proofs.BoundLemmas.{codes-rate, older-judged, sequence-judged, some-cond-none}
 use Rattle.mpeg_scan.proofs.FilmLemmas.{length-read, units_in-append}
 use Rattle.mpeg_scan.proofs.PlaceLemmas.{at-bytes, codes-stand}
@@ -131,17 +131,25 @@ unfolding first_in
 first_in-place c [] = refl
 first_in-place c (d ∷ past) = first_in-place d past
 
-first_in-has : (c : Code) (past : List Code) → HasCode (first_in c past).place (first_in c past).kind (c ∷ past)
+pub first_in-has : (c : Code) (past : List Code) → HasCode (first_in c past).place (first_in c past).kind (c ∷ past)
 unfolding first_in
 first_in-has c [] = inl (refl, refl)
 first_in-has c (d ∷ past) = inr (first_in-has d past)
 
-first_in-kind : (c : Code) (past : List Code) → first_fault (c ∷ past) ≡ None → (first_in c past).kind ≡ 0xb3
+pub first-least : (c : Code) (past : List Code) (place kind : ℕ) → Spaced (c ∷ past) → HasCode place kind (c ∷ past) → (first_in c past).place ≤ place
+unfolding first_in
+first-least c [] place kind spaced (inl new) = omega (arith, new.0)
+first-least c [] place kind spaced (inr old) = absurd old
+first-least c (d ∷ past) place kind spaced (inl new) =
+    omega (arith, new.0, first-least d past d.place d.kind spaced.1 (inl (refl, refl)), all-below (d ∷ past) c.place spaced.1 spaced.0 d.place d.kind (inl (refl, refl)))
+first-least c (d ∷ past) place kind spaced (inr old) = first-least d past place kind spaced.1 old
+
+pub first_in-kind : (c : Code) (past : List Code) → first_fault (c ∷ past) ≡ None → (first_in c past).kind ≡ 0xb3
 unfolding first_in
 first_in-kind c [] accepted = first-is c accepted
 first_in-kind c (d ∷ past) accepted = first_in-kind d past (accepted-older c (d ∷ past) accepted)
 
-first_in-rate : (c : Code) (past : List Code) (end : ℕ) → first_fault (c ∷ past) ≡ None → latest_fault (c ∷ past) end ≡ None → rate_of (c ∷ past) ≡ rate_code (first_in c past)
+pub first_in-rate : (c : Code) (past : List Code) (end : ℕ) → first_fault (c ∷ past) ≡ None → latest_fault (c ∷ past) end ≡ None → rate_of (c ∷ past) ≡ rate_code (first_in c past)
 unfolding first_in
 first_in-rate c [] end accepted judged = ap (λ b. cond b (rate_code c) 0) (eq-eqb c.kind 0xb3 (first-is c accepted))
 first_in-rate c (d ∷ past) end accepted judged =
@@ -158,12 +166,12 @@ long-header rate c end is e =
     omega (arith, ltb-false (end - c.place) 12 judged.0)
 
 -- the first code's text, and the bytes that its header has at least
-record FirstText (r : List ℕ) (c : Code) : Type 0 where
-  stop : ℕ
-  is : TextIs r stop c
-  long : c.place + 12 ≤ stop
+pub record FirstText (r : List ℕ) (c : Code) : Type 0 where
+  pub stop : ℕ
+  pub is : TextIs r stop c
+  pub long : c.place + 12 ≤ stop
 
-first_in-text : (r : List ℕ) (c : Code) (past : List Code) (end stop : ℕ) → first_fault (c ∷ past) ≡ None → latest_fault (c ∷ past) end ≡ None → end ≤ stop → TextsAre r stop (c ∷ past) → FirstText r (first_in c past)
+pub first_in-text : (r : List ℕ) (c : Code) (past : List Code) (end stop : ℕ) → first_fault (c ∷ past) ≡ None → latest_fault (c ∷ past) end ≡ None → end ≤ stop → TextsAre r stop (c ∷ past) → FirstText r (first_in c past)
 unfolding first_in
 first_in-text r c [] end stop accepted judged far texts =
     record { stop = stop; is = texts.0; long = omega (arith, long-header 0 c end (first-is c accepted) judged) }

@@ -14,4 +14,8 @@ pub mod RoomLemmas
 pub mod OpenLemmas
 pub mod StandardLemmas
 pub mod SliceLemmas
+pub mod DecideLemmas
+pub mod BeforeLemmas
+pub mod HeaderLemmas
 pub mod RefusalLemmas
+pub mod RefusedLemmas

@@ -1,266 +1,239 @@
--- What a refusal says of the start codes: a code of the kind that it speaks of stands at the place that it names.
-use Rattle.std.proofs.Common.{ℕ, Bool, true, false, cond, eqb, ltb, leb, not, ◌&&◌, ◌||◌, ◌+◌, ◌-◌, ◌^◌, ◌<◌, ◌≡◌, ◌⊎◌, List, [], ◌∷◌, Option, Some, None, length, sym, ◌∙◌, ap, refl, subst, inl, inr, arith}
+-- Each refusal comes exactly where the standard's words say.
+use Rattle.std.proofs.Common.{ℕ, zero, suc, Bool, true, false, cond, eqb, ltb, leb, not, ◌&&◌, ◌||◌, ◌+◌, ◌-◌, ◌^◌, ◌<◌, ◌≤◌, ◌≡◌, ◌↔◌, ◌⊎◌, List, [], ◌∷◌, Option, Some, None, length, get_or, sym, ◌∙◌, ap, refl, subst, inl, inr, arith}
 use Rattle.std.specs.Prelude.{option_map}
-use Rattle.std.proofs.lemmas.Bool.{eqb-true, eq-eqb, leb-true, ltb-true, false≢true}
+use Rattle.std.proofs.lemmas.Bool.{cases_lt, eqb-true, eq-eqb, leb-true, le-leb, ltb-true, ltb-false, lt-ltb, le-ltb, and_parts, and_from, and_cases, not_from_false, false≢true, true≢false}
 use Rattle.mpeg_scan.specs.declared.codes.Code.{Code}
 use Rattle.mpeg_scan.specs.declared.faults.FilmFault.{FilmFault}
-use Rattle.mpeg_scan.specs.declared.faults.FilmFault.TheVariants.{Empty, NoSequence, SystemCode, Mpeg2, ShortHeader, BadRate, BadType, PictureWithoutSlices, HeadTooLong, GroupTooLong, TooLong, HeadWithoutPicture}
+use Rattle.mpeg_scan.specs.declared.faults.FilmFault.TheVariants.{Empty, NoSequence, SystemCode, Mpeg2, PictureWithoutSlices, HeadTooLong, GroupTooLong, TooLong, HeadWithoutPicture}
 use Rattle.mpeg_scan.specs.declared.tallies.Header.{Header}
-use Rattle.mpeg_scan.specs.Codes.{read, codes_of}
-use Rattle.mpeg_scan.specs.Words.{before_group_of, begins_unit, header_of, is_head, is_none_yet, is_slice, picture_of, pictures_of, rate_code, rate_of, slices_of, tally_of, type_of, unit_of}
-use Rattle.mpeg_scan.specs.Faults.{code_fault, count_fault, end_fault, fault_at, first_fault, first_slice_fault, head_fault, header_fault, kind_fault, last_fault, latest_fault, left_without_slices, open_fault, otherwise, picture_fault, rate_fault, refusal_of, second_fault}
+use Rattle.mpeg_scan.specs.Codes.{read, codes_of, matched}
+use Rattle.mpeg_scan.specs.Words.{before_group_of, is_head, is_none_yet, is_slice, picture_of, pictures_of, slices_of, tally_of, unit_of}
+use Rattle.mpeg_scan.specs.Faults.{code_fault, count_fault, end_fault, fault_at, first_fault, first_slice_fault, head_fault, kind_fault, last_fault, latest_fault, left_without_slices, open_fault, otherwise, refusal_of, second_fault}
 use Rattle.mpeg_scan.specs.Films.{refusal}
 use Rattle.mpeg_scan.specs.Places.{HasCode, StandsAt}
-use Rattle.mpeg_scan.specs.Refusals.{AnyKind, IsCutShort, NoFirstSequence, Tells}
-use Rattle.mpeg_scan.specs.Standard.{StandsThere}
+use Rattle.mpeg_scan.specs.Refusals.{AnyKind, CodeRefusal, CountRefusal, EndRefusal, FirstRefusal, HasPictures, HeaderRefusal, IsEmptyFilm, IsExtension, IsGroup, IsItsPicture, IsLargeFilm, IsLongFilm, IsLongGroup, IsLongHead, IsOpenHead, IsPicture, IsRefusedFor, IsSystemCode, KindRefusal, LacksCodes, LacksPicture, LacksSequence, LacksSlices, Otherwise, SecondRefusal, SliceRefusal}
+use Rattle.mpeg_scan.specs.Standard.{AreCodes, IsFirstCode, IsHeadKind, IsSliceKind, NoneIn, StandsThere}
 use Rattle.mpeg_scan.proofs.FilmLemmas.{length-read}
+use Rattle.mpeg_scan.proofs.StepLemmas.{accepted-older}
+use Rattle.mpeg_scan.proofs.PlaceLemmas.{at-bytes, codes-stand}
+use Rattle.mpeg_scan.proofs.TextLemmas.{TextsAre, codes-texts}
 use Rattle.mpeg_scan.proofs.TileLemmas.{Spaced, placed-codes}
-use Rattle.mpeg_scan.proofs.PlaceLemmas.{codes-stand}
-use Rattle.mpeg_scan.proofs.StandardLemmas.{all-below}
+use Rattle.mpeg_scan.proofs.DecideLemmas.{Decides, both, both-cond, decide, decide-if, decide-with, neither, no-more, none-of, none-some, only-first, only-second, some-is}
+use Rattle.mpeg_scan.proofs.BeforeLemmas.{Ends, Knows, PictureThere, codes-from, codes-since, group-tests, head-kind, here, earlier, is_group, is_nothing, is_picture, kind-head, kind-slice, most-since, no-head, no-slice, not-open, older, one-head, one-picture, open-head, picture-tests, picture-there, since, since-all, since-group, slice-kind, slice-there, where-is, has-new, new-below}
+use Rattle.mpeg_scan.proofs.HeaderLemmas.{Same, latest-decides}
 
--- a fact of a refusal, where there is one
-abbrev Holds : (FilmFault → Type 0) → Option FilmFault → Type 0
-Holds P None = Unit {0}
-Holds P (Some f) = P f
+-- a code of a kind stands at a place, and the codes before it are these
+pub record AtCode (Has : ℕ → ℕ → Type 0) (past : List Code) (at kind : ℕ) : Type 0 where
+  pub knows : Knows Has past at
+  pub spaced : Spaced past
+  pub code : Has at kind
+  pub one : (other : ℕ) → Has at other → other ≡ kind
 
-holds-otherwise : (P : FilmFault → Type 0) (a b : Option FilmFault) → Holds P a → (a ≡ None → Holds P b) → Holds P (otherwise a b)
-holds-otherwise P None b one other = other refl
-holds-otherwise P (Some f) b one other = one
+-- ---- its kind
 
-holds-cond : (P : FilmFault → Type 0) (b : Bool) (f g : Option FilmFault) → (b ≡ true → Holds P f) → (b ≡ false → Holds P g) → Holds P (cond b f g)
-holds-cond P true f g one other = one refl
-holds-cond P false f g one other = other refl
+no-codes : (past : List Code) (a : Bool) → (not (not (is_none_yet past)) && a) ≡ true → past ≡ []
+no-codes [] a e = refl
+no-codes (d ∷ past) a e = absurd (false≢true e)
 
-holds-map : (P Q : FilmFault → Type 0) (o : Option FilmFault) → ((f : FilmFault) → P f → Q f) → Holds P o → Holds Q o
-holds-map P Q None each holds = tt
-holds-map P Q (Some f) each holds = each f holds
+first-of-none : (Has : ℕ → ℕ → Type 0) (past : List Code) (at : ℕ) → Knows Has past at → past ≡ [] → IsFirstCode Has at
+first-of-none Has past at k none place kind has = elim (cases_lt place at) [
+  | inl before ↦ absurd (subst (λ (l : List Code). HasCode place kind l) none (k.back place kind has before))
+  | inr after ↦ after
+]
 
-abbrev Has : List Code → ℕ → ℕ → Type 0
-Has past place kind = HasCode place kind past
+none-of-first : (Has : ℕ → ℕ → Type 0) (past : List Code) (at : ℕ) → Knows Has past at → IsFirstCode Has at → is_none_yet past ≡ true
+none-of-first Has [] at k first = refl
+none-of-first Has (d ∷ past) at k first = absurd (omega (arith, first d.place d.kind (has-new Has d past at k), new-below Has d past at k))
 
-abbrev TellsOf : List Code → ℕ → FilmFault → Type 0
-TellsOf past n f = Tells (Has past) n f
+twice : (b : Bool) → b ≡ true → not (not b) ≡ true
+twice true e = refl
+twice false e = absurd (false≢true e)
 
--- ---- headers
+not-false : (b : Bool) → not b ≡ true → b ≡ false
+not-false true e = absurd (false≢true e)
+not-false false e = refl
 
-short-by : (a t b : Bool) (end place : ℕ) → (a || (t && b)) ≡ true → (a ≡ true → end < place + 9) → (b ≡ true → end < place + 9) → end < place + 9
-short-by true t b end place e one other = one refl
-short-by false true b end place e one other = other e
-short-by false false b end place e one other = absurd (false≢true e)
+unequal : (m n : ℕ) → eqb m n ≡ false → m ≡ n → ⊥
+unequal m n e is = true≢false (sym (eq-eqb m n is) ∙ e)
 
--- the next code stands at `end`, or it is the film's
-abbrev Cut : (ℕ → ℕ → Type 0) → ℕ → ℕ → Type 0
-Cut Stands n end = (k : ℕ) → end < k → ((other : ℕ) × (StandsThere Stands other AnyKind × (other < k))) ⊎ (n < k)
+apart-by : (b : Bool) (m n : ℕ) → eqb m n ≡ b → (m ≡ n → ⊥) → b ≡ false
+apart-by true m n e other = absurd (other (eqb-true m n e))
+apart-by false m n e other = refl
 
-rate-tells : (P : FilmFault → Type 0) (rate : ℕ) (c : Code) → P (BadRate c.place (rate_code c)) → Holds P (rate_fault rate c)
-rate-tells P rate c bad =
-    holds-cond P (eqb (rate_code c) 0 || (ltb 8 (rate_code c) || (ltb 0 rate && not (eqb (rate_code c) rate)))) (Some (BadRate c.place (rate_code c))) None (λ _. bad) (λ _. tt)
+apart : (m n : ℕ) → (m ≡ n → ⊥) → eqb m n ≡ false
+apart m n other = apart-by (eqb m n) m n refl other
 
-picture-tells : (P : FilmFault → Type 0) (c : Code) (end : ℕ) → (end < c.place + 9 → P (ShortHeader c.place)) → P (BadType c.place) → Holds P (picture_fault c end)
-picture-tells P c end short bad =
-    let eight = ltb (end - c.place) 8 in
-    let nine = ltb (end - c.place) 9 in
-    let two = eqb (type_of c) 2 || eqb (type_of c) 3 in
-    let good = leb 1 (type_of c) && leb (type_of c) 4 in
-    holds-cond P (eight || (two && nine)) (Some (ShortHeader c.place)) (cond good None (Some (BadType c.place)))
-    (λ e. short (short-by eight two nine end c.place e (λ x. omega (arith, ltb-true (end - c.place) 8 x)) (λ x. omega (arith, ltb-true (end - c.place) 9 x))))
-    (λ _. holds-cond P good None (Some (BadType c.place)) (λ _. tt) (λ _. bad))
+kind-decides : (Has : ℕ → ℕ → Type 0) (past : List Code) (at kind : ℕ) → AtCode Has past at kind → Decides (KindRefusal Has at) (kind_fault (tally_of past) at kind)
+kind-decides Has past at kind c =
+    let System = IsSystemCode Has at in
+    let Extension = IsExtension Has at in
+    let Lacks = LacksSequence Has at in
+    let first = not (not (is_none_yet past)) in
+    let three = eqb kind 0xb3 in
+    let rest = cond (first && not three) (Some NoSequence) None in
+    both-cond System (Otherwise Extension Lacks) (leb 0xb9 kind) (SystemCode at) (cond (eqb kind 0xb5) (Some (Mpeg2 at)) rest)
+    (λ e. ((kind, (c.code, leb-true 0xb9 kind e)), refl))
+    (λ g p. (le-leb 0xb9 kind (subst (λ k. 0xb9 ≤ k) (c.one p.0.0 p.0.1.0) p.0.1.1), p.1))
+    (λ _. both-cond Extension Lacks (eqb kind 0xb5) (Mpeg2 at) rest
+    (λ e. (subst (λ k. Has at k) (eqb-true kind 0xb5 e) c.code, refl))
+    (λ g p. (eq-eqb kind 0xb5 (sym (c.one 0xb5 p.0)), p.1))
+    (λ _. decide Lacks (first && not three) NoSequence
+    (λ e. ((first-of-none Has past at c.knows (no-codes past (not three) e), λ has. unequal kind 0xb3 (not-false three (and_parts first (not three) e).1) (sym (c.one 0xb3 has))), refl))
+    (λ g p. (and_from first (not three) (twice (is_none_yet past) (none-of-first Has past at c.knows p.0.0)) (not_from_false three (apart kind 0xb3 (λ is. p.0.1 (subst (λ k. Has at k) is c.code)))), p.1))))
 
-header-tells : (past : List Code) (n rate : ℕ) (c : Code) (end : ℕ) → HasCode c.place c.kind past → Cut (Has past) n end → Holds (TellsOf past n) (header_fault rate c end)
-header-tells past n rate c end has cut =
-    let P : FilmFault → Type 0 = TellsOf past n in
-    let at : (k : ℕ) → c.kind ≡ k → HasCode c.place k past = λ k is. subst (λ m. HasCode c.place m past) is has in
-    let long12 = cond (ltb (end - c.place) 12) (Some (ShortHeader c.place)) (rate_fault rate c) in
-    let long8 = cond (ltb (end - c.place) 8) (Some (ShortHeader c.place)) None in
-    holds-cond P (eqb c.kind 0xb3) long12 (cond (eqb c.kind 0xb8) long8 (cond (eqb c.kind 0) (picture_fault c end) None))
-    (λ e. holds-cond P (ltb (end - c.place) 12) (Some (ShortHeader c.place)) (rate_fault rate c)
-    (λ s. (0xb3, ((at 0xb3 (eqb-true c.kind 0xb3 e), inr (inl refl)), cut (c.place + 12) (omega (arith, ltb-true (end - c.place) 12 s)))))
-    (λ _. rate-tells P rate c (at 0xb3 (eqb-true c.kind 0xb3 e))))
-    (λ _. holds-cond P (eqb c.kind 0xb8) long8 (cond (eqb c.kind 0) (picture_fault c end) None)
-    (λ e. holds-cond P (ltb (end - c.place) 8) (Some (ShortHeader c.place)) None
-    (λ s. (0xb8, ((at 0xb8 (eqb-true c.kind 0xb8 e), inr (inr refl)), cut (c.place + 8) (omega (arith, ltb-true (end - c.place) 8 s)))))
-    (λ _. tt))
-    (λ _. holds-cond P (eqb c.kind 0) (picture_fault c end) None
-    (λ e. picture-tells P c end (λ s. (0, ((at 0 (eqb-true c.kind 0 e), inl refl), cut (c.place + 9) s))) (at 0 (eqb-true c.kind 0 e)))
-    (λ _. tt)))
+-- ---- a head's picture
 
-latest-tells : (past all : List Code) (n end : ℕ) → ((place kind : ℕ) → HasCode place kind past → HasCode place kind all) → Cut (Has all) n end → Holds (TellsOf all n) (latest_fault past end)
-latest-tells [] all n end within cut = tt
-latest-tells (c ∷ past) all n end within cut = header-tells all n (rate_of past) c end (within c.place c.kind (inl (refl, refl))) cut
+positive : (n : ℕ) → eqb n 0 ≡ false → 0 < n
+positive zero e = absurd (true≢false e)
+positive (suc n) e = omega arith
 
--- ---- the picture and the place of the latest unit
+-- the latest unit has no slice
+slices-left : (Has : ℕ → ℕ → Type 0) (past : List Code) (at unit : ℕ) → Knows Has past at → Spaced past → eqb (slices_of past) 0 ≡ false → IsOpenHead Has unit at → ⊥
+slices-left Has past at unit k spaced some o =
+    not-open Has unit at (slice-there Has past at k spaced (positive (slices_of past) some)) o
 
-picture-by : (a b : Bool) (c : Code) (past : List Code) (o : Option Header) (h : Header) → eqb c.kind 0 ≡ a → ((k : Header) → o ≡ Some k → HasCode k.place 0 past)
-    → cond a (Some (header_of c)) (cond b None o) ≡ Some h → HasCode h.place 0 (c ∷ past)
-picture-by true b c past o h is older e =
-    let same : header_of c ≡ h = cc in
-    subst (λ (v : Header). HasCode v.place 0 (c ∷ past)) same (inl (refl, eqb-true c.kind 0 is))
-picture-by false true c past o h is older e = absurd (cc)
-picture-by false false c past o h is older e = inr (older h e)
+-- the picture of an open head decides
+pub picture-slices : (Has : ℕ → ℕ → Type 0) (at unit : ℕ) (o : Option Header) → IsOpenHead Has unit at → PictureThere Has unit at o → Decides (LacksSlices Has at) (option_map left_without_slices o)
+picture-slices Has at unit None head none = none-of (LacksSlices Has at)
+    (λ f p. none p.place 0 p.picture.code (subst (λ u. u ≤ p.place) (one-head Has p.unit unit at p.open_head head) p.picture.after) p.picture.before refl)
+picture-slices Has at unit (Some h) head picture = λ f. (
+  λ e. record { unit = unit; place = h.place; open_head = head; picture = picture; is = sym (some-is (PictureWithoutSlices h.place) f e) },
+  λ p. let same = one-head Has p.unit unit at p.open_head head in
+      let its = one-picture Has unit p.place h.place at (subst (λ u. IsItsPicture Has u p.place at) same p.picture) picture in
+      ap (λ (v : ℕ). Some (PictureWithoutSlices v)) (sym its) ∙ ap Some (sym p.is),
+)
 
-picture-there : (past : List Code) (h : Header) → picture_of past ≡ Some h → HasCode h.place 0 past
-picture-there [] h e = absurd (cc)
-picture-there (c ∷ past) h e = picture-by (eqb c.kind 0) (begins_unit c past) c past (picture_of past) h refl (picture-there past) e
+begins-by : (Has : ℕ → ℕ → Type 0) (at unit : ℕ) → Knows Has [] at → unit < at → (StandsThere Has unit AnyKind × IsFirstCode Has unit) ⊎ (StandsThere Has unit IsHeadKind × ((slice : ℕ) × ((StandsThere Has slice IsSliceKind × (slice < unit)) × NoneIn Has slice unit IsHeadKind))) → ⊥
+begins-by Has at unit k before (inl first) = k.back unit first.0.0 first.0.1.0 before
+begins-by Has at unit k before (inr it) = k.back unit it.0.0 it.0.1.0 before
 
-unit-by : (b : Bool) (c : Code) (past : List Code) (place : ℕ) → StandsThere (Has past) place AnyKind → StandsThere (Has (c ∷ past)) (cond b c.place place) AnyKind
-unit-by true c past place older = (c.kind, (inl (refl, refl), tt))
-unit-by false c past place older = (older.0, (inr older.1.0, tt))
+pub begins-after : (Has : ℕ → ℕ → Type 0) (at unit : ℕ) → Knows Has [] at → IsOpenHead Has unit at → ⊥
+begins-after Has at unit k o = begins-by Has at unit k o.before o.begins
 
-unit-there : (c : Code) (past : List Code) → StandsThere (Has (c ∷ past)) (unit_of (c ∷ past)) AnyKind
-unit-there c [] = (c.kind, (inl (refl, refl), tt))
-unit-there c (d ∷ past) = unit-by (begins_unit c (d ∷ past)) c (d ∷ past) (unit_of (d ∷ past)) (unit-there d past)
+slices-decide : (Has : ℕ → ℕ → Type 0) (past : List Code) (at : ℕ) → Knows Has past at → Spaced past → slices_of past ≡ 0 → Decides (LacksSlices Has at) (option_map left_without_slices (picture_of past))
+slices-decide Has [] at k spaced none = none-of (LacksSlices Has at) (λ f p. begins-after Has at p.unit k p.open_head)
+slices-decide Has (d ∷ past) at k spaced none =
+    picture-slices Has at (unit_of (d ∷ past)) (picture_of (d ∷ past)) (open-head Has d past at k spaced none) (picture-there Has d past at k spaced)
+
+second-decides : (Has : ℕ → ℕ → Type 0) (past : List Code) (at kind : ℕ) → AtCode Has past at kind → Decides (SecondRefusal Has at) (second_fault (tally_of past) kind)
+second-decides Has past at kind c =
+    decide-if (SecondRefusal Has at) (is_head kind && eqb (slices_of past) 0) (option_map left_without_slices (picture_of past))
+    (λ e. let parts = and_parts (is_head kind) (eqb (slices_of past) 0) e in
+    decide-with (StandsThere Has at IsHeadKind) (LacksSlices Has at) (option_map left_without_slices (picture_of past)) (kind, (c.code, head-kind kind parts.0))
+    (slices-decide Has past at c.knows c.spaced (eqb-true (slices_of past) 0 parts.1)))
+    (λ e f p. elim (and_cases (is_head kind) (eqb (slices_of past) 0) e) [
+      | inl other ↦ no-head kind other (subst IsHeadKind (c.one p.0.0 p.0.1.0) p.0.1.1)
+      | inr some ↦ slices-left Has past at p.1.unit c.knows c.spaced some p.1.open_head
+    ])
+
+-- ---- a unit's first slice
+
+head-decides : (Has : ℕ → ℕ → Type 0) (t_unit at : ℕ) (past : List Code) (o : Option Header) → unit_of past ≡ t_unit → IsOpenHead Has t_unit at → PictureThere Has t_unit at o
+    → Decides (Otherwise (LacksPicture Has at) (IsLongHead Has at)) (head_fault (tally_of past) at o)
+head-decides Has unit at past None is head none =
+    subst (λ u. Decides (Otherwise (LacksPicture Has at) (IsLongHead Has at)) (Some (HeadWithoutPicture u))) (sym is)
+    (λ f. (
+      λ e. inl (record { unit = unit; open_head = head; none = none; is = sym (some-is (HeadWithoutPicture unit) f e) }),
+      λ either. elim either [
+        | inl p ↦ ap (λ u. Some (HeadWithoutPicture u)) (one-head Has unit p.unit at head p.open_head) ∙ ap Some (sym p.is)
+        | inr q ↦ absurd (q.0 (HeadWithoutPicture unit) (record { unit = unit; open_head = head; none = none; is = refl }))
+      ],
+    ))
+head-decides Has unit at past (Some h) is head picture =
+    subst (λ u. Decides (Otherwise (LacksPicture Has at) (IsLongHead Has at)) (cond (ltb 1380 (at - u)) (Some (HeadTooLong u)) None)) (sym is)
+    (only-second (LacksPicture Has at) (IsLongHead Has at) (cond (ltb 1380 (at - unit)) (Some (HeadTooLong unit)) None)
+    (λ f p. p.none h.place 0 picture.code (subst (λ u. u ≤ h.place) (one-head Has unit p.unit at head p.open_head) picture.after) picture.before refl)
+    (decide (IsLongHead Has at) (ltb 1380 (at - unit)) (HeadTooLong unit)
+    (λ e. record { unit = unit; open_head = head; long = omega (arith, ltb-true 1380 (at - unit) e); is = refl })
+    (λ g p. let same = one-head Has p.unit unit at p.open_head head in
+    (lt-ltb 1380 (at - unit) (omega (arith, same, p.long)), p.is ∙ ap HeadTooLong same))))
+
+lacks-none : (Has : ℕ → ℕ → Type 0) (at : ℕ) → ((unit : ℕ) → IsOpenHead Has unit at → ⊥) → (f : FilmFault) → Otherwise (LacksPicture Has at) (IsLongHead Has at) f → ⊥
+lacks-none Has at never = neither (LacksPicture Has at) (IsLongHead Has at) (λ f p. never p.unit p.open_head) (λ f p. never p.unit p.open_head)
+
+not-both : (Has : ℕ → ℕ → Type 0) (at kind : ℕ) → AtCode Has [] at kind → kind_fault (tally_of []) at kind ≡ None → is_slice kind ≡ true → IsFirstCode Has at → ⊥
+not-both Has at kind c none slice first =
+    let is = slice-kind kind slice in
+    no-more (KindRefusal Has at) (kind_fault (tally_of []) at kind) (kind-decides Has [] at kind c) none NoSequence
+    (inr (
+      (λ g p. let other = c.one p.0.0 p.0.1.0 in omega (arith, is.1, other, p.0.1.1)),
+      inr (
+        (λ g p. let other = c.one 0xb5 p.0 in omega (arith, is.1, other)),
+        ((first, λ has. (let other = c.one 0xb3 has in omega (arith, is.1, other))), refl),
+      ),
+    ))
+
+three-first : (Has : ℕ → ℕ → Type 0) (at kind : ℕ) → AtCode Has [] at kind → kind_fault (tally_of []) at kind ≡ None → is_slice kind ≡ true → ⊥
+three-first Has at kind c none slice =
+    let first : IsFirstCode Has at = first-of-none Has [] at c.knows refl in
+    not-both Has at kind c none slice first
+
+slice-decides : (Has : ℕ → ℕ → Type 0) (past : List Code) (at kind : ℕ) → AtCode Has past at kind → kind_fault (tally_of past) at kind ≡ None → Decides (SliceRefusal Has at) (first_slice_fault (tally_of past) at kind)
+slice-decides Has [] at kind c none =
+    decide-if (SliceRefusal Has at) (is_slice kind && eqb 0 0) (head_fault (tally_of []) at None)
+    (λ e. absurd (three-first Has at kind c none (and_parts (is_slice kind) (eqb 0 0) e).0))
+    (λ e f p. lacks-none Has at (λ unit o. begins-after Has at unit c.knows o) f p.1)
+slice-decides Has (d ∷ past) at kind c none =
+    let all : List Code = d ∷ past in
+    let o = picture_of all in
+    decide-if (SliceRefusal Has at) (is_slice kind && eqb (slices_of all) 0) (head_fault (tally_of all) at o)
+    (λ e. let parts = and_parts (is_slice kind) (eqb (slices_of all) 0) e in
+    decide-with (StandsThere Has at IsSliceKind) (Otherwise (LacksPicture Has at) (IsLongHead Has at)) (head_fault (tally_of all) at o) (kind, (c.code, slice-kind kind parts.0))
+    (head-decides Has (unit_of all) at all o refl (open-head Has d past at c.knows c.spaced (eqb-true (slices_of all) 0 parts.1)) (picture-there Has d past at c.knows c.spaced)))
+    (λ e f p. elim (and_cases (is_slice kind) (eqb (slices_of all) 0) e) [
+      | inl other ↦ no-slice kind other (subst IsSliceKind (c.one p.0.0 p.0.1.0) p.0.1.1)
+      | inr some ↦ lacks-none Has at (λ unit o. slices-left Has all at unit c.knows c.spaced some o) f p.1
+    ])
+
+-- ---- the number of pictures
+
+group-test : (Has : ℕ → ℕ → Type 0) (past : List Code) (at : ℕ) → Knows Has past at → Spaced past → leb 1024 (pictures_of past - before_group_of past) ≡ true → IsLongGroup Has at (GroupTooLong at)
+group-test Has past at k spaced e =
+    let it = codes-since Has IsPicture is_picture is_group past at group-tests k spaced in record {
+      from = it.from;
+      pictures = (it.places, (it.are, omega (arith, it.long, since-group past, leb-true 1024 (pictures_of past - before_group_of past) e)));
+      none = λ place kind has after before is. it.none place kind has after before (eq-eqb kind 0xb8 is);
+      is = refl;
+    }
+
+test-group : (Has : ℕ → ℕ → Type 0) (past : List Code) (at : ℕ) (f : FilmFault) → Knows Has past at → Spaced past → IsLongGroup Has at f → leb 1024 (pictures_of past - before_group_of past) ≡ true
+test-group Has past at f k spaced p =
+    let most = most-since Has IsPicture is_picture is_group past p.from at p.pictures.0 group-tests k spaced p.pictures.1.0 (λ place kind has after before is. p.none place kind has after before (eqb-true kind 0xb8 is)) in
+    le-leb 1024 (pictures_of past - before_group_of past) (omega (arith, most, since-group past, p.pictures.1.1))
+
+film-test : (Has : ℕ → ℕ → Type 0) (past : List Code) (at : ℕ) → Knows Has past at → Spaced past → leb 4194304 (pictures_of past) ≡ true → HasPictures Has 0 at 4194304
+film-test Has past at k spaced e =
+    let it = codes-since Has IsPicture is_picture is_nothing past at picture-tests k spaced in
+    (it.places, (codes-from Has IsPicture it.from 0 at it.places (λ place has far before. omega arith) it.are, omega (arith, it.long, since-all past, leb-true 4194304 (pictures_of past) e)))
+
+test-film : (Has : ℕ → ℕ → Type 0) (past : List Code) (at : ℕ) → Knows Has past at → Spaced past → HasPictures Has 0 at 4194304 → leb 4194304 (pictures_of past) ≡ true
+test-film Has past at k spaced p =
+    let most = most-since Has IsPicture is_picture is_nothing past 0 at p.0 picture-tests k spaced p.1.0 (λ place kind has after before is. false≢true is) in
+    le-leb 4194304 (pictures_of past) (omega (arith, most, since-all past, p.1.1))
+
+count-decides : (Has : ℕ → ℕ → Type 0) (past : List Code) (at kind : ℕ) → AtCode Has past at kind → Decides (CountRefusal Has at) (count_fault (tally_of past) at kind)
+count-decides Has past at kind c =
+    let many = leb 4194304 (pictures_of past) in
+    let full = leb 1024 (pictures_of past - before_group_of past) in
+    let o = cond full (Some (GroupTooLong at)) (cond many (Some TooLong) None) in
+    decide-if (CountRefusal Has at) (eqb kind 0) o
+    (λ e. decide-with (Has at 0) (Otherwise (IsLongGroup Has at) (IsLongFilm Has at)) o (subst (λ k. Has at k) (eqb-true kind 0 e) c.code)
+    (both-cond (IsLongGroup Has at) (IsLongFilm Has at) full (GroupTooLong at) (cond many (Some TooLong) None)
+    (λ t. group-test Has past at c.knows c.spaced t)
+    (λ g p. (test-group Has past at g c.knows c.spaced p, p.is))
+    (λ _. decide (IsLongFilm Has at) many TooLong (λ t. (film-test Has past at c.knows c.spaced t, refl)) (λ g p. (test-film Has past at c.knows c.spaced p.0, p.1)))))
+    (λ e f p. unequal kind 0 e (sym (c.one 0 p.0)))
 
 -- ---- a code
 
-no-sequence : (c : Code) (past : List Code) → (not (not (is_none_yet past)) && not (eqb c.kind 0xb3)) ≡ true → NoFirstSequence (Has (c ∷ past))
-no-sequence c [] e place (inl new) first =
-    let same : eqb c.kind 0xb3 ≡ true = eq-eqb c.kind 0xb3 new.1 in
-    absurd (let e' : not true ≡ true = ap (λ b. not b) (sym same) ∙ e in false≢true e')
-no-sequence c [] e place (inr old) first = absurd old
-no-sequence c (d ∷ past) e place has first = absurd (false≢true e)
-
-kind-tells : (c : Code) (past : List Code) (n : ℕ) → Holds (TellsOf (c ∷ past) n) (kind_fault (tally_of past) c.place c.kind)
-kind-tells c past n =
-    let P : FilmFault → Type 0 = TellsOf (c ∷ past) n in
-    let none = not (not (is_none_yet past)) && not (eqb c.kind 0xb3) in
-    let last = cond none (Some NoSequence) None in
-    holds-cond P (leb 0xb9 c.kind) (Some (SystemCode c.place)) (cond (eqb c.kind 0xb5) (Some (Mpeg2 c.place)) last) (λ e. (c.kind, (inl (refl, refl), leb-true 0xb9 c.kind e)))
-    (λ _. holds-cond P (eqb c.kind 0xb5) (Some (Mpeg2 c.place)) last (λ e. inl (refl, eqb-true c.kind 0xb5 e))
-    (λ _. holds-cond P none (Some NoSequence) None (λ e. no-sequence c past e) (λ _. tt)))
-
-left-tells : (P : FilmFault → Type 0) (o : Option Header) → ((h : Header) → o ≡ Some h → P (PictureWithoutSlices h.place)) → Holds P (option_map left_without_slices o)
-left-tells P None each = tt
-left-tells P (Some h) each = each h refl
-
-second-tells : (c : Code) (past : List Code) (n : ℕ) → Holds (TellsOf (c ∷ past) n) (second_fault (tally_of past) c.kind)
-second-tells c past n =
-    let P : FilmFault → Type 0 = TellsOf (c ∷ past) n in
-    holds-cond P (is_head c.kind && eqb (slices_of past) 0) (option_map left_without_slices (picture_of past)) None (λ _. left-tells P (picture_of past) (λ h e. inr (picture-there past h e))) (λ _. tt)
-
-first-three : (a b q : Bool) (place : ℕ) → cond a (Some (SystemCode place)) (cond b (Some (Mpeg2 place)) (cond (not q) (Some NoSequence) None)) ≡ None → q ≡ true
-first-three true b q place e = absurd (cc)
-first-three false true q place e = absurd (cc)
-first-three false false true place e = refl
-first-three false false false place e = absurd (cc)
-
-head-tells : (P : FilmFault → Type 0) (past : List Code) (place : ℕ) (o : Option Header) → P (HeadWithoutPicture (unit_of past)) → P (HeadTooLong (unit_of past)) → Holds P (head_fault (tally_of past) place o)
-head-tells P past place None one other = one
-head-tells P past place (Some h) one other = holds-cond P (ltb 1380 (place - unit_of past)) (Some (HeadTooLong (unit_of past))) None (λ _. other) (λ _. tt)
-
-first_slice-tells : (c : Code) (past : List Code) (n : ℕ) → kind_fault (tally_of past) c.place c.kind ≡ None → Holds (TellsOf (c ∷ past) n) (first_slice_fault (tally_of past) c.place c.kind)
-first_slice-tells c [] n none =
-    let is = eqb-true c.kind 0xb3 (first-three (leb 0xb9 c.kind) (eqb c.kind 0xb5) (eqb c.kind 0xb3) c.place none) in
-    subst (λ m. Holds (TellsOf (c ∷ []) n) (first_slice_fault (tally_of []) c.place m)) (sym is) tt
-first_slice-tells c (d ∷ past) n none =
-    let P : FilmFault → Type 0 = TellsOf (c ∷ (d ∷ past)) n in
-    let there = unit-there d past in
-    let stands : StandsThere (Has (c ∷ (d ∷ past))) (unit_of (d ∷ past)) AnyKind = (there.0, (inr there.1.0, tt)) in
-    holds-cond P (is_slice c.kind && eqb (slices_of (d ∷ past)) 0) (head_fault (tally_of (d ∷ past)) c.place (picture_of (d ∷ past))) None (λ _. head-tells P (d ∷ past) c.place (picture_of (d ∷ past)) stands stands) (λ _. tt)
-
-count-tells : (c : Code) (past : List Code) (n : ℕ) → Holds (TellsOf (c ∷ past) n) (count_fault (tally_of past) c.place c.kind)
-count-tells c past n =
-    let P : FilmFault → Type 0 = TellsOf (c ∷ past) n in
-    let many = cond (leb 4194304 (pictures_of past)) (Some TooLong) None in
-    let full = leb 1024 (pictures_of past - before_group_of past) in
-    holds-cond P (eqb c.kind 0) (cond full (Some (GroupTooLong c.place)) many) None
-    (λ e. holds-cond P full (Some (GroupTooLong c.place)) many (λ _. inl (refl, eqb-true c.kind 0 e)) (λ _. holds-cond P (leb 4194304 (pictures_of past)) (Some TooLong) None (λ _. tt) (λ _. tt)))
-    (λ _. tt)
-
-fault-tells : (c : Code) (past : List Code) (n : ℕ) → Holds (TellsOf (c ∷ past) n) (fault_at past c.place c.kind)
+pub code-decides : (Has : ℕ → ℕ → Type 0) (bytes r : List ℕ) (past : List Code) (at kind : ℕ) → Same bytes r → AtCode Has past at kind → TextsAre r (at + 4) past → first_fault past ≡ None → Decides (CodeRefusal Has bytes at) (fault_at past at kind)
 unfolding fault_at
-fault-tells c past n =
-    let P : FilmFault → Type 0 = TellsOf (c ∷ past) n in
+code-decides Has bytes r past at kind same c texts accepted =
     let t = tally_of past in
-    holds-otherwise P (latest_fault past c.place) (code_fault t c.place c.kind)
-    (latest-tells past (c ∷ past) n c.place (λ place kind has. inr has) (λ k h. inl (c.place, ((c.kind, (inl (refl, refl), tt)), h))))
-    (λ _. holds-otherwise P (kind_fault t c.place c.kind) (otherwise (second_fault t c.kind) (otherwise (first_slice_fault t c.place c.kind) (count_fault t c.place c.kind))) (kind-tells c past n)
-    (λ none. holds-otherwise P (second_fault t c.kind) (otherwise (first_slice_fault t c.place c.kind) (count_fault t c.place c.kind)) (second-tells c past n)
-    (λ _. holds-otherwise P (first_slice_fault t c.place c.kind) (count_fault t c.place c.kind) (first_slice-tells c past n none) (λ _. count-tells c past n))))
-
--- ---- it stays so as codes come
-
-no-first-grows : (c d : Code) (past : List Code) → Spaced (c ∷ (d ∷ past)) → NoFirstSequence (Has (d ∷ past)) → NoFirstSequence (Has (c ∷ (d ∷ past)))
-no-first-grows c d past spaced none place (inl new) first =
-    absurd (omega (arith, new.0, first d.place d.kind (inr (inl (refl, refl))), all-below (d ∷ past) c.place spaced.1 spaced.0 d.place d.kind (inl (refl, refl))))
-no-first-grows c d past spaced none place (inr old) first = none place old (λ p k has. first p k (inr has))
-
-cut-grows : (c : Code) (past : List Code) (n place kind : ℕ) → IsCutShort (Has past) n place kind → IsCutShort (Has (c ∷ past)) n place kind
-cut-grows c past n place kind (inl it) = inl (it.0, ((it.1.0.0, (inr it.1.0.1.0, tt)), it.1.1))
-cut-grows c past n place kind (inr end) = inr end
-
-tells-grow : (c d : Code) (past : List Code) (n : ℕ) → Spaced (c ∷ (d ∷ past)) → (f : FilmFault) → TellsOf (d ∷ past) n f → TellsOf (c ∷ (d ∷ past)) n f
-tells-grow c d past n spaced Empty told = told
-tells-grow c d past n spaced NoSequence told = no-first-grows c d past spaced told
-tells-grow c d past n spaced (SystemCode place) told = (told.0, (inr told.1.0, told.1.1))
-tells-grow c d past n spaced (Mpeg2 place) told = inr told
-tells-grow c d past n spaced (ShortHeader place) told = (told.0, ((inr told.1.0.0, told.1.0.1), cut-grows c (d ∷ past) n place told.0 told.1.1))
-tells-grow c d past n spaced (BadRate place code) told = inr told
-tells-grow c d past n spaced (BadType place) told = inr told
-tells-grow c d past n spaced (PictureWithoutSlices place) told = inr told
-tells-grow c d past n spaced (HeadTooLong place) told = (told.0, (inr told.1.0, tt))
-tells-grow c d past n spaced (GroupTooLong place) told = inr told
-tells-grow c d past n spaced TooLong told = tt
-tells-grow c d past n spaced (HeadWithoutPicture place) told = (told.0, (inr told.1.0, tt))
-
-first-tells : (past : List Code) (n : ℕ) → Spaced past → Holds (TellsOf past n) (first_fault past)
-unfolding first_fault
-first-tells [] n spaced = tt
-first-tells (c ∷ []) n spaced = fault-tells c [] n
-first-tells (c ∷ (d ∷ past)) n spaced =
-    holds-otherwise (TellsOf (c ∷ (d ∷ past)) n) (first_fault (d ∷ past)) (fault_at (d ∷ past) c.place c.kind)
-    (holds-map (TellsOf (d ∷ past) n) (TellsOf (c ∷ (d ∷ past)) n) (first_fault (d ∷ past)) (tells-grow c d past n spaced) (first-tells (d ∷ past) n spaced.1))
-    (λ _. fault-tells c (d ∷ past) n)
-
--- ---- the end
-
-open-tells : (c : Code) (past : List Code) (n : ℕ) (o : Option Header) → ((h : Header) → o ≡ Some h → HasCode h.place 0 (c ∷ past)) → TellsOf (c ∷ past) n (open_fault (tally_of (c ∷ past)) o)
-open-tells c past n None each = unit-there c past
-open-tells c past n (Some h) each = each h refl
-
-last-tells : (past : List Code) (n : ℕ) → Holds (TellsOf past n) (last_fault (tally_of past))
-last-tells [] n = λ place has first. absurd has
-last-tells (c ∷ past) n =
-    holds-cond (TellsOf (c ∷ past) n) (ltb 0 (slices_of (c ∷ past))) None (Some (open_fault (tally_of (c ∷ past)) (picture_of (c ∷ past)))) (λ _. tt) (λ _. open-tells c past n (picture_of (c ∷ past)) (picture-there (c ∷ past)))
-
-end-tells : (past : List Code) (n : ℕ) → Holds (TellsOf past n) (end_fault past n)
-unfolding end_fault
-end-tells past n =
-    holds-otherwise (TellsOf past n) (latest_fault past n) (last_fault (tally_of past)) (latest-tells past past n n (λ place kind has. has) (λ k h. inr h)) (λ _. last-tells past n)
-
-whole-tells : (r : List ℕ) → Holds (TellsOf (codes_of r) (length r)) (refusal_of r)
-unfolding refusal_of
-whole-tells r =
-    let past = codes_of r in
-    let P : FilmFault → Type 0 = TellsOf past (length r) in
-    let judged = otherwise (first_fault past) (end_fault past (length r)) in
-    holds-cond P (eqb (length r) 0) (Some Empty) (cond (ltb (2 ^ 40) (length r)) (Some TooLong) judged) (λ e. eqb-true (length r) 0 e)
-    (λ _. holds-cond P (ltb (2 ^ 40) (length r)) (Some TooLong) judged (λ _. tt)
-    (λ _. holds-otherwise P (first_fault past) (end_fault past (length r)) (first-tells past (length r) (placed-codes r).spaced) (λ _. end-tells past (length r))))
-
--- ---- from codes to bytes
-
-cut-same : (A B : ℕ → ℕ → Type 0) (n place kind : ℕ) → ((p k : ℕ) → A p k → B p k) → IsCutShort A n place kind → IsCutShort B n place kind
-cut-same A B n place kind to (inl it) = inl (it.0, ((it.1.0.0, (to it.0 it.1.0.0 it.1.0.1.0, tt)), it.1.1))
-cut-same A B n place kind to (inr end) = inr end
-
-tells-same : (A B : ℕ → ℕ → Type 0) (n : ℕ) → ((p k : ℕ) → A p k → B p k) → ((p k : ℕ) → B p k → A p k) → (f : FilmFault) → Tells A n f → Tells B n f
-tells-same A B n to from Empty told = told
-tells-same A B n to from NoSequence told = λ place has first. told place (from place 0xb3 has) (λ p k a. first p k (to p k a))
-tells-same A B n to from (SystemCode place) told = (told.0, (to place told.0 told.1.0, told.1.1))
-tells-same A B n to from (Mpeg2 place) told = to place 0xb5 told
-tells-same A B n to from (ShortHeader place) told = (told.0, ((to place told.0 told.1.0.0, told.1.0.1), cut-same A B n place told.0 to told.1.1))
-tells-same A B n to from (BadRate place code) told = to place 0xb3 told
-tells-same A B n to from (BadType place) told = to place 0 told
-tells-same A B n to from (PictureWithoutSlices place) told = to place 0 told
-tells-same A B n to from (HeadTooLong place) told = (told.0, (to place told.0 told.1.0, tt))
-tells-same A B n to from (GroupTooLong place) told = to place 0 told
-tells-same A B n to from TooLong told = tt
-tells-same A B n to from (HeadWithoutPicture place) told = (told.0, (to place told.0 told.1.0, tt))
-
-pub refusal-tells : (bytes : List ℕ) (f : FilmFault) → refusal bytes ≡ Some f → Tells (StandsAt bytes) (length bytes) f
-refusal-tells bytes f is =
-    let r = read [] bytes in
-    let both = codes-stand bytes in
-    let count : length r ≡ length bytes = length-read bytes [] ∙ omega arith in
-    let told : TellsOf (codes_of r) (length r) f = subst (λ o. Holds (TellsOf (codes_of r) (length r)) o) is (whole-tells r) in
-    subst (λ n. Tells (StandsAt bytes) n f) count (tells-same (Has (codes_of r)) (StandsAt bytes) (length r) (λ p k a. (both p k).0 a) (λ p k b. (both p k).1 b) f told)
+    both (HeaderRefusal Has bytes at) (Otherwise (KindRefusal Has at) (Otherwise (SecondRefusal Has at) (Otherwise (SliceRefusal Has at) (CountRefusal Has at)))) (latest_fault past at) (code_fault t at kind)
+    (latest-decides Has bytes r past at (at + 4) same c.knows c.spaced texts (omega arith) accepted)
+    (λ _. both (KindRefusal Has at) (Otherwise (SecondRefusal Has at) (Otherwise (SliceRefusal Has at) (CountRefusal Has at))) (kind_fault t at kind) (otherwise (second_fault t kind) (otherwise (first_slice_fault t at kind) (count_fault t at kind)))
+    (kind-decides Has past at kind c)
+    (λ none. both (SecondRefusal Has at) (Otherwise (SliceRefusal Has at) (CountRefusal Has at)) (second_fault t kind) (otherwise (first_slice_fault t at kind) (count_fault t at kind))
+    (second-decides Has past at kind c)
+    (λ _. both (SliceRefusal Has at) (CountRefusal Has at) (first_slice_fault t at kind) (count_fault t at kind) (slice-decides Has past at kind c none) (λ _. count-decides Has past at kind c))))

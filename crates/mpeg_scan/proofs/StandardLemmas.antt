@@ -9,15 +9,15 @@ use Rattle.mpeg_scan.specs.declared.tallies.Header.{Header}
 use Rattle.mpeg_scan.specs.declared.units.Kind.{Kind}
 use Rattle.mpeg_scan.specs.declared.units.Unit.{Unit as PictureUnit}
 use Rattle.mpeg_scan.specs.Codes.{read, codes_of}
-use Rattle.mpeg_scan.specs.Words.{backward_of, forward_of, has_sequence, head_end_of, header_of, is_head, is_slice, picture_of, slices_of, starts_group, tally_of, temporal_of, type_of, unit_of, rate_of, vectors_of}
+use Rattle.mpeg_scan.specs.Words.{all_slices_of, backward_of, forward_of, has_sequence, head_end_of, header_of, is_head, is_slice, picture_of, slices_of, starts_group, tally_of, temporal_of, type_of, unit_of, rate_of, vectors_of}
 use Rattle.mpeg_scan.specs.Faults.{end_fault, first_fault, header_fault, last_fault, latest_fault, picture_fault, rate_fault}
 use Rattle.mpeg_scan.specs.Calls.{Call, head_call, slice_call, unit_call, calls_at, kind_of, no_header, told, all_told, unit_at, unit_end}
 use Rattle.mpeg_scan.specs.Counts.{Count, counts_after, group_of, no_count}
 use Rattle.mpeg_scan.specs.Films.{IsFilm, units_in}
 use Rattle.mpeg_scan.specs.Places.{HasCode, StandsAt}
-use Rattle.mpeg_scan.specs.Standard.{AreFalling, ArePresented, HasFields, HasPicture, IsFirstCode, IsHeadKind, IsSliceKind, IsUnitOf, NoneIn, StandsIn, UnitIs, type_number, vector_fields}
+use Rattle.mpeg_scan.specs.Standard.{AreFalling, ArePresented, Counts, HasFields, HasPicture, IsFirstCode, IsHeadKind, IsSliceKind, IsUnitOf, NoneIn, StandsIn, StandsThere, UnitIs, type_number, vector_fields}
 use Rattle.mpeg_scan.proofs.StepLemmas.{accepted-older, code-accepted, otherwise-first, otherwise-second}
-use Rattle.mpeg_scan.proofs.TileLemmas.{After, Spaced, accepted-whole, ended-none, first-is, first_slice-accepted, placed-codes, room-after, slice-apart, told-cons, told-nil}
+use Rattle.mpeg_scan.proofs.TileLemmas.{After, Spaced, accepted-whole, all-below, ended-none, first-is, first_slice-accepted, placed-codes, room-after, slice-apart, told-cons, told-nil}
 use Rattle.mpeg_scan.proofs.CountLemmas.{empty-count, film-numbered, first-some, second-accepted, second-none}
 use Rattle.mpeg_scan.proofs.BoundLemmas.{older-judged, some-cond-none}
 use Rattle.mpeg_scan.proofs.FilmLemmas.{length-read, units_in-append}
@@ -25,18 +25,7 @@ use Rattle.mpeg_scan.proofs.PlaceLemmas.{at as at_byte, at-bytes, codes-stand}
 use Rattle.mpeg_scan.proofs.TextLemmas.{TextIs, TextsAre, codes-texts, text-byte}
 use Rattle.mpeg_scan.proofs.OpenLemmas.{Below, Firsts, Member, Open, Pictured, first-code, kinds-of, member-has, step-open}
 use Rattle.mpeg_scan.specs.Codes.{matched}
-
--- ---- the places of codes rise
-
-three : (b : Bool) → 3 ≤ cond b 3 4
-three true = omega arith
-three false = omega arith
-
-pub all-below : (past : List Code) (at : ℕ) → Spaced past → After at past → (place kind : ℕ) → HasCode place kind past → place < at
-all-below [] at spaced after place kind has = absurd has
-all-below (d ∷ past) at spaced after place kind (inl new) = omega (arith, three (eqb d.kind 0), after, new.0)
-all-below (d ∷ past) at spaced after place kind (inr old) =
-    omega (arith, three (eqb d.kind 0), after, all-below past d.place spaced.1 spaced.0 place kind old)
+use Rattle.mpeg_scan.proofs.BeforeLemmas.{Knows, all-slices, counts-same, few-slices, own-slices}
 
 -- ---- the latest unit, code by code
 
@@ -122,13 +111,16 @@ group-open past unit n o open_ (inr it) = open_.grp_set it.place it.code it.afte
 
 close-by : (past : List Code) (unit : PictureUnit) (n : ℕ) (o : Option Header) → Open past unit.from unit.head_end n o unit.has_sequence unit.starts_group → 0 < n
     → unit.temporal ≡ (unwrap_or o no_header).temporal → unit.kind ≡ kind_of (unwrap_or o no_header).coding → unit.vectors ≡ (unwrap_or o no_header).vectors
-    → ((place kind : ℕ) → HasCode place kind past → place < unit.to) → Closed past unit
-close-by past unit n None open_ some temporal kind vectors below = absurd (false≢true (open_.some some))
-close-by past unit n (Some h) open_ some temporal kind vectors below = record {
+    → ((place kind : ℕ) → HasCode place kind past → place < unit.to) → Counts (Has past) IsSliceKind unit.head_end unit.to unit.slices → Counts (Has past) IsSliceKind 0 unit.to (unit.first_slice + unit.slices) → Closed past unit
+close-by past unit n None open_ some temporal kind vectors below own all = absurd (false≢true (open_.some some))
+close-by past unit n (Some h) open_ some temporal kind vectors below own all = record {
   unit_is = record {
     begins = open_.begins;
     head = open_.head some;
     head_ends = open_.head_ends some;
+    rest = below unit.head_end (open_.head_ends some).0 (open_.head_ends some).1.0;
+    own = own;
+    all = all;
     slices = λ place k has after before is. open_.sliced some place k has after is;
     picture = close-picture past unit n h some temporal kind vectors open_.picture_is;
     sequence = (
@@ -144,8 +136,24 @@ close-by past unit n (Some h) open_ some temporal kind vectors below = record {
   rest_some = below unit.head_end (open_.head_ends some).0 (open_.head_ends some).1.0;
 }
 
-close : (past : List Code) (to : ℕ) → OpenOf past → 0 < slices_of past → ((place kind : ℕ) → HasCode place kind past → place < to) → Closed past (unit_at (tally_of past) to)
-close past to open_ some below = close-by past (unit_at (tally_of past) to) (slices_of past) (picture_of past) open_ some refl refl refl below
+-- the slices after the latest head are those from its first slice on
+own-first : (past : List Code) (to from place : ℕ) → OpenOf past → 0 < slices_of past → ((place kind : ℕ) → HasCode place kind past → place < to) → NoneIn (Has past) from to IsHeadKind → StandsThere (Has past) place IsSliceKind → from ≤ place → head_end_of past ≤ place
+own-first past to from place open_ some below none slice far = elim (cases_lt place (head_end_of past)) [
+  | inl less ↦ elim (cases_lt (unit_of past) from) [
+    | inl after ↦ absurd (open_.head some place slice.0 slice.1.0 (omega (arith, after, far)) less slice.1.1)
+    | inr before ↦ absurd (let head = open_.begins in none (unit_of past) head.0 head.1.0 before (below (unit_of past) head.0 head.1.0) head.1.1)
+  ]
+  | inr more ↦ more
+]
+
+close : (past : List Code) (to : ℕ) → OpenOf past → Spaced past → 0 < slices_of past → ((place kind : ℕ) → HasCode place kind past → place < to) → Closed past (unit_at (tally_of past) to)
+close past to open_ spaced some below =
+    let k : Knows (Has past) past to = record { there = λ place kind has. has; below = below; back = λ place kind has before. has } in
+    let count : all_slices_of past ≡ all_slices_of past - slices_of past + slices_of past = omega (arith, few-slices past) in
+    close-by past (unit_at (tally_of past) to) (slices_of past) (picture_of past) open_ some refl refl refl below
+    (own-slices (Has past) past (head_end_of past) to k spaced (λ place kind has after before is. open_.sliced some place kind has after is)
+    (λ from none place slice far before. own-first past to from place open_ some below none slice far))
+    (subst (λ n. Counts (Has past) IsSliceKind 0 to n) count (all-slices (Has past) past to k spaced))
 
 -- ---- it stays so as codes come
 
@@ -179,6 +187,14 @@ group-shrinks : (c : Code) (past : List Code) (from to : ℕ) → to ≤ c.place
 group-shrinks c past from to far (inl firsts) = inl (λ place kind has. firsts place kind (inr has))
 group-shrinks c past from to far (inr it) = inr (stands-shrinks c past from to 0xb8 far it)
 
+counts-back : (c : Code) (past : List Code) (to place kind : ℕ) → to ≤ c.place → place < to → HasCode place kind (c ∷ past) → HasCode place kind past
+counts-back c past to place kind far before (inl new) = absurd (omega (arith, new.0, far, before))
+counts-back c past to place kind far before (inr old) = old
+
+counts-grow : (c : Code) (past : List Code) (from to count : ℕ) → to ≤ c.place → Counts (Has past) IsSliceKind from to count → Counts (Has (c ∷ past)) IsSliceKind from to count
+counts-grow c past from to count far =
+    counts-same (Has past) (Has (c ∷ past)) IsSliceKind from to count (λ place kind before has. inr has) (λ place kind before has. counts-back c past to place kind far before has)
+
 closed-grows : (c : Code) (past : List Code) (unit : PictureUnit) → unit.to ≤ c.place → Closed past unit → Closed (c ∷ past) unit
 closed-grows c past unit far closed =
     let u = closed.unit_is in
@@ -190,6 +206,9 @@ closed-grows c past unit far closed =
         begins = (u.begins.0, (inr u.begins.1.0, u.begins.1.1));
         head = none-grows c past unit.from unit.head_end IsSliceKind head_far u.head;
         head_ends = (u.head_ends.0, (inr u.head_ends.1.0, u.head_ends.1.1));
+        rest = u.rest;
+        own = counts-grow c past unit.head_end unit.to unit.slices far u.own;
+        all = counts-grow c past 0 unit.to (unit.first_slice + unit.slices) far u.all;
         slices = none-grows c past unit.head_end unit.to IsHeadKind far u.slices;
         picture = record {
           place = p.place;
@@ -240,14 +259,14 @@ closed-call false true true e c past unit a b x y apart closed = (closed refl re
 closed-call false true false e c past unit a b x y apart closed = tt
 closed-call false false q e c past unit a b x y apart closed = tt
 
-closed-step : (c d : Code) (past : List Code) → OpenOf (d ∷ past) → Below c (d ∷ past) → AllClosed (c ∷ (d ∷ past)) c.place (units_in (calls_at (tally_of (d ∷ past)) c.place c.kind))
+closed-step : (c d : Code) (past : List Code) → OpenOf (d ∷ past) → Spaced (d ∷ past) → Below c (d ∷ past) → AllClosed (c ∷ (d ∷ past)) c.place (units_in (calls_at (tally_of (d ∷ past)) c.place c.kind))
 unfolding calls_at
-closed-step c d past open_ below =
+closed-step c d past open_ spaced below =
     let older : List Code = d ∷ past in
     let t = tally_of older in
     let unit = unit_at t c.place in
     closed-call (is_slice c.kind) (is_head c.kind) (ltb 0 (slices_of older)) (eqb (slices_of older) 0) c older unit t.unit c.place t.slice c.place (slice-apart c.kind)
-    (λ head some. (closed-grows c older unit (omega arith) (close older c.place open_ (ltb-true 0 (slices_of older) some) below), omega arith))
+    (λ head some. (closed-grows c older unit (omega arith) (close older c.place open_ spaced (ltb-true 0 (slices_of older) some) below), omega arith))
 
 closed-first : (c : Code) → c.kind ≡ 0xb3 → AllClosed (c ∷ []) c.place (units_in (calls_at (tally_of []) c.place c.kind))
 unfolding calls_at
@@ -264,7 +283,7 @@ told-closed c (d ∷ past) accepted spaced =
     let before = told-closed d past (accepted-older c older accepted) spaced.1 in
     subst (λ (l : List PictureUnit). AllClosed (c ∷ older) c.place l) (sym (ap units_in (told-cons c older) ∙ units_in-append (told older) calls))
     (all-append (c ∷ older) c.place (units_in (told older)) (units_in calls) (all-grow c older d.place (units_in (told older)) (omega (arith, below d.place d.kind (inl (refl, refl)))) before)
-    (closed-step c d past (open-codes d past (accepted-older c older accepted) spaced.1) below))
+    (closed-step c d past (open-codes d past (accepted-older c older accepted) spaced.1) spaced.1 below))
 
 whole-closed : (past : List Code) (n : ℕ) → first_fault past ≡ None → end_fault past n ≡ None → Spaced past → After n past → AllClosed past n (units_in (told past ++ unit_end (tally_of past) n))
 unfolding end_fault
@@ -273,7 +292,7 @@ whole-closed (c ∷ past) n accepted ended spaced after =
     let all : List Code = c ∷ past in
     let some = ended-none (tally_of all) (otherwise-second (latest_fault all n) (last_fault (tally_of all)) ended) in
     let below = all-below all n spaced after in
-    let last : AllClosed all n (units_in (unit_end (tally_of all) n)) = ((close all n (open-codes c past accepted spaced) some below, omega arith), tt) in
+    let last : AllClosed all n (units_in (unit_end (tally_of all) n)) = ((close all n (open-codes c past accepted spaced) spaced some below, omega arith), tt) in
     subst (λ (l : List PictureUnit). AllClosed all n l) (sym (units_in-append (told all) (unit_end (tally_of all) n)))
     (all-append all n (units_in (told all)) (units_in (unit_end (tally_of all) n)) (all-later all c.place n (units_in (told all)) (omega (arith, below c.place c.kind (inl (refl, refl)))) (told-closed c past accepted spaced)) last)
 
@@ -417,6 +436,9 @@ unit-bytes bytes past unit both texts closed =
       begins = (u.begins.0, ((both unit.from u.begins.0).0 u.begins.1.0, u.begins.1.1));
       head = none-bytes bytes past unit.from unit.head_end IsSliceKind both u.head;
       head_ends = (u.head_ends.0, ((both unit.head_end u.head_ends.0).0 u.head_ends.1.0, u.head_ends.1.1));
+      rest = u.rest;
+      own = counts-same (Has past) (StandsAt bytes) IsSliceKind unit.head_end unit.to unit.slices (λ place kind before has. (both place kind).0 has) (λ place kind before has. (both place kind).1 has) u.own;
+      all = counts-same (Has past) (StandsAt bytes) IsSliceKind 0 unit.to (unit.first_slice + unit.slices) (λ place kind before has. (both place kind).0 has) (λ place kind before has. (both place kind).1 has) u.all;
       slices = none-bytes bytes past unit.head_end unit.to IsHeadKind both u.slices;
       picture = record {
         place = p.place;

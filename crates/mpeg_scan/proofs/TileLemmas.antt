@@ -12,6 +12,7 @@ use Rattle.mpeg_scan.specs.Codes.{matched, next_prefix, after_one, after_zero, i
 use Rattle.mpeg_scan.specs.Words.{is_head, is_slice, begins_unit, tally_of, slices_of, unit_of, head_end_of, slice_of}
 use Rattle.mpeg_scan.specs.Faults.{otherwise, latest_fault, kind_fault, second_fault, first_slice_fault, count_fault, code_fault, head_fault, open_fault, last_fault, first_fault, end_fault, refusal_of}
 use Rattle.mpeg_scan.specs.Calls.{Call, head_call, slice_call, unit_call, unit_at, unit_end, calls_at, told, all_told}
+use Rattle.mpeg_scan.specs.Places.{HasCode}
 use Rattle.mpeg_scan.specs.Tiles.{Part, between, within, next_part, parts_after, first_of, Tiles}
 use Rattle.mpeg_scan.proofs.CodeLemmas.{matched-more}
 use Rattle.mpeg_scan.proofs.StepLemmas.{codes-none, codes-plain, codes-code, accepted-older, code-accepted, otherwise-first, otherwise-second}
@@ -32,6 +33,13 @@ Spaced (c ∷ past) = After c.place past × Spaced past
 three : (b : Bool) → 3 ≤ cond b 3 4
 three true = omega arith
 three false = omega arith
+
+-- their places rise
+pub all-below : (past : List Code) (at : ℕ) → Spaced past → After at past → (place kind : ℕ) → HasCode place kind past → place < at
+all-below [] at spaced after place kind has = absurd has
+all-below (d ∷ past) at spaced after place kind (inl new) = omega (arith, three (eqb d.kind 0), after, new.0)
+all-below (d ∷ past) at spaced after place kind (inr old) =
+    omega (arith, three (eqb d.kind 0), after, all-below past d.place spaced.1 spaced.0 place kind old)
 
 either-before : (b : Bool) (m n at : ℕ) → m + 3 ≤ at → n + 3 ≤ at → cond b m n + 3 ≤ at
 either-before true m n at h i = h

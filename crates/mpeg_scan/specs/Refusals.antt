@@ -1,38 +1,209 @@
--- What a refusal says of a film's start codes (ISO/IEC 11172-2, 2.4.2): a code of the kind that it speaks of stands at the
--- place that it names. A word of it takes `Has`: that a code of a kind stands at a place; and where the film ends.
-use Rattle.std.specs.Prelude.{ℕ, ◌+◌, ◌==◌, ◌<◌, ◌≤◌, ◌≡◌, ◌⊎◌, if◌then◌else◌}
+-- The refusals of a film in the words of ISO/IEC 11172-2, over the start codes that stand in its bytes, and these bytes.
+-- Each start code is judged in its turn, and the film's end last: a refusal speaks of the codes before a place `at`, where
+-- the code stands that is judged, or the film ends. A word takes `Has`: that a code of a kind stands at a place.
+use Rattle.std.specs.Prelude.{ℕ, ◌+◌, ◌%◌, ◌^◌, ◌==◌, ◌<◌, ◌≤◌, ◌≡◌, ◌⊎◌, ◌||◌, List, [], ◌∷◌, length, if◌then◌else◌}
+use Rattle.std.specs.Prelude.{slice_index}
 use Rattle.mpeg_scan.specs.declared.faults.FilmFault.{FilmFault}
-use Rattle.mpeg_scan.specs.declared.faults.FilmFault.TheVariants.{Empty, NoSequence, SystemCode, Mpeg2, ShortHeader, BadRate, BadType, PictureWithoutSlices, HeadTooLong, GroupTooLong, TooLong, HeadWithoutPicture}
-use Rattle.mpeg_scan.specs.Standard.{IsFirstCode, IsHeadKind, StandsThere}
+use Rattle.mpeg_scan.specs.declared.faults.FilmFault.TheVariants.{Empty, NoSequence, SystemCode, Mpeg2, ShortHeader, BadRate}
+use Rattle.mpeg_scan.specs.declared.faults.FilmFault.TheVariants.{BadType, PictureWithoutSlices, HeadTooLong, GroupTooLong}
+use Rattle.mpeg_scan.specs.declared.faults.FilmFault.TheVariants.{TooLong, HeadWithoutPicture}
+use Rattle.mpeg_scan.specs.Places.{StandsAt}
+use Rattle.mpeg_scan.specs.Standard.{AreCodes, IsFirstCode, IsHeadKind, IsSliceKind, NoneIn, StandsThere, picture_coding_type}
 
--- a code of any kind stands at a place
+-- ---- the order of refusals
+
+-- a refusal of P; or where P refuses nothing, one of Q
+abbrev pub Otherwise : (FilmFault → Type 0) → (FilmFault → Type 0) → FilmFault → Type 0
+Otherwise P Q f = P f ⊎ (((g : FilmFault) → P g → ⊥) × Q f)
+
+-- ---- codes before a place
+
 abbrev pub AnyKind : ℕ → Type 0
 AnyKind kind = Unit {0}
 
--- the most bytes that a header of this kind must have, with its code: a sequence header 12, a group header 8, a picture
--- header 9
-abbrev pub header_bytes : ℕ → ℕ
-header_bytes kind = if kind == 0xb3 then 12 else (if kind == 0xb8 then 8 else 9)
+abbrev pub IsPicture : ℕ → Type 0
+IsPicture kind = kind ≡ 0
 
--- a code stands in the header of this kind at a place, or the film ends there
-abbrev pub IsCutShort : (ℕ → ℕ → Type 0) → ℕ → ℕ → ℕ → Type 0
-IsCutShort Has end place kind =
-    ((other : ℕ) × (StandsThere Has other AnyKind × (other < place + header_bytes kind))) ⊎ (end < place + header_bytes kind)
+abbrev pub IsSequence : ℕ → Type 0
+IsSequence kind = kind ≡ 0xb3
+
+abbrev pub IsGroup : ℕ → Type 0
+IsGroup kind = kind ≡ 0xb8
+
+-- the last code before a place
+pub record IsLatest (Has : ℕ → ℕ → Type 0) (place kind at : ℕ) : Type 0 where
+  pub code : Has place kind
+  pub before : place < at
+  pub last : NoneIn Has (place + 1) at AnyKind
+
+-- a unit begins at the first code, and at each code of a head that is the first of these after a slice code
+abbrev pub BeginsUnit : (ℕ → ℕ → Type 0) → ℕ → Type 0
+BeginsUnit Has place =
+    (StandsThere Has place AnyKind × IsFirstCode Has place)
+    ⊎ (StandsThere Has place IsHeadKind
+    × ((slice : ℕ) × ((StandsThere Has slice IsSliceKind × (slice < place)) × NoneIn Has slice place IsHeadKind)))
+
+-- the unit that begins at this place has no slice yet
+pub record IsOpenHead (Has : ℕ → ℕ → Type 0) (unit at : ℕ) : Type 0 where
+  pub begins : BeginsUnit Has unit
+  pub before : unit < at
+  pub no_slice : NoneIn Has unit at IsSliceKind
+
+-- the picture in the head of the unit that begins at a place
+pub record IsItsPicture (Has : ℕ → ℕ → Type 0) (unit place at : ℕ) : Type 0 where
+  pub code : Has place 0
+  pub after : unit ≤ place
+  pub before : place < at
+  pub last : NoneIn Has (place + 1) at IsPicture
+
+-- at least so many pictures stand from a place on before another
+abbrev pub HasPictures : (ℕ → ℕ → Type 0) → ℕ → ℕ → ℕ → Type 0
+HasPictures Has from at count =
+    (places : List ℕ) × (AreCodes Has IsPicture from at places × (count ≤ length places))
+
+-- ---- 1. the header of the code before (2.4.2.3 to 2.4.2.5)
+
+-- picture_rate: the low four bits of the eighth byte of a sequence header
+abbrev pub picture_rate : List ℕ → ℕ → ℕ
+picture_rate bytes place = slice_index bytes (place + 7) % 16
+
+-- the bytes of a header with its code: those of a P or B picture have one more
+abbrev pub header_bytes : List ℕ → ℕ → ℕ → ℕ
+header_bytes bytes place kind =
+    if kind == 0xb3 then 12
+    else (if kind == 0xb8 then 8
+    else (if picture_coding_type bytes place == 2 || picture_coding_type bytes place == 3 then 9 else 8))
+
+pub record IsShortHeader (Has : ℕ → ℕ → Type 0) (bytes : List ℕ) (at : ℕ) (f : FilmFault) : Type 0 where
+  pub place : ℕ
+  pub kind : ℕ
+  pub latest : IsLatest Has place kind at
+  pub head : IsHeadKind kind
+  pub short : at < place + header_bytes bytes place kind
+  pub is : f ≡ ShortHeader place
+
+-- another rate than that of the film's first sequence header
+pub record IsOtherRate (Has : ℕ → ℕ → Type 0) (bytes : List ℕ) (place : ℕ) : Type 0 where
+  pub first : ℕ
+  pub code : Has first 0xb3
+  pub none : NoneIn Has 0 first IsSequence
+  pub before : first < place
+  pub other : picture_rate bytes place ≡ picture_rate bytes first → ⊥
+
+pub record IsBadRate (Has : ℕ → ℕ → Type 0) (bytes : List ℕ) (at : ℕ) (f : FilmFault) : Type 0 where
+  pub place : ℕ
+  pub latest : IsLatest Has place 0xb3 at
+  pub bad : (picture_rate bytes place ≡ 0) ⊎ ((8 < picture_rate bytes place) ⊎ IsOtherRate Has bytes place)
+  pub is : f ≡ BadRate place (picture_rate bytes place)
+
+pub record IsBadType (Has : ℕ → ℕ → Type 0) (bytes : List ℕ) (at : ℕ) (f : FilmFault) : Type 0 where
+  pub place : ℕ
+  pub latest : IsLatest Has place 0 at
+  pub bad : (picture_coding_type bytes place ≡ 0) ⊎ (4 < picture_coding_type bytes place)
+  pub is : f ≡ BadType place
+
+abbrev pub HeaderRefusal : (ℕ → ℕ → Type 0) → List ℕ → ℕ → FilmFault → Type 0
+HeaderRefusal Has bytes at =
+    Otherwise (IsShortHeader Has bytes at) (Otherwise (IsBadRate Has bytes at) (IsBadType Has bytes at))
+
+-- ---- 2. the code's kind
+
+abbrev pub IsSystemCode : (ℕ → ℕ → Type 0) → ℕ → FilmFault → Type 0
+IsSystemCode Has at f = StandsThere Has at (λ kind. 0xb9 ≤ kind) × (f ≡ SystemCode at)
+
+-- an extension
+abbrev pub IsExtension : (ℕ → ℕ → Type 0) → ℕ → FilmFault → Type 0
+IsExtension Has at f = Has at 0xb5 × (f ≡ Mpeg2 at)
 
 -- the first code isn't that of a sequence header
-abbrev pub NoFirstSequence : (ℕ → ℕ → Type 0) → Type 0
-NoFirstSequence Has = (place : ℕ) → Has place 0xb3 → IsFirstCode Has place → ⊥
+abbrev pub LacksSequence : (ℕ → ℕ → Type 0) → ℕ → FilmFault → Type 0
+LacksSequence Has at f = (IsFirstCode Has at × (Has at 0xb3 → ⊥)) × (f ≡ NoSequence)
 
-abbrev pub Tells : (ℕ → ℕ → Type 0) → ℕ → FilmFault → Type 0
-Tells Has end Empty = end ≡ 0
-Tells Has end NoSequence = NoFirstSequence Has
-Tells Has end (SystemCode place) = StandsThere Has place (λ kind. 0xb9 ≤ kind)
-Tells Has end (Mpeg2 place) = Has place 0xb5
-Tells Has end (ShortHeader place) = (kind : ℕ) × ((Has place kind × IsHeadKind kind) × IsCutShort Has end place kind)
-Tells Has end (BadRate place code) = Has place 0xb3
-Tells Has end (BadType place) = Has place 0
-Tells Has end (PictureWithoutSlices place) = Has place 0
-Tells Has end (HeadTooLong place) = StandsThere Has place AnyKind
-Tells Has end (GroupTooLong place) = Has place 0
-Tells Has end TooLong = Unit {0}
-Tells Has end (HeadWithoutPicture place) = StandsThere Has place AnyKind
+abbrev pub KindRefusal : (ℕ → ℕ → Type 0) → ℕ → FilmFault → Type 0
+KindRefusal Has at = Otherwise (IsSystemCode Has at) (Otherwise (IsExtension Has at) (LacksSequence Has at))
+
+-- ---- 3. a head's second picture, or another of its codes after the picture
+
+-- a head has a picture and no slice
+pub record LacksSlices (Has : ℕ → ℕ → Type 0) (at : ℕ) (f : FilmFault) : Type 0 where
+  pub unit : ℕ
+  pub place : ℕ
+  pub open_head : IsOpenHead Has unit at
+  pub picture : IsItsPicture Has unit place at
+  pub is : f ≡ PictureWithoutSlices place
+
+abbrev pub SecondRefusal : (ℕ → ℕ → Type 0) → ℕ → FilmFault → Type 0
+SecondRefusal Has at f = StandsThere Has at IsHeadKind × LacksSlices Has at f
+
+-- ---- 4. a unit's first slice
+
+-- a head has no picture
+pub record LacksPicture (Has : ℕ → ℕ → Type 0) (at : ℕ) (f : FilmFault) : Type 0 where
+  pub unit : ℕ
+  pub open_head : IsOpenHead Has unit at
+  pub none : NoneIn Has unit at IsPicture
+  pub is : f ≡ HeadWithoutPicture unit
+
+-- a head has over 1,380 bytes
+pub record IsLongHead (Has : ℕ → ℕ → Type 0) (at : ℕ) (f : FilmFault) : Type 0 where
+  pub unit : ℕ
+  pub open_head : IsOpenHead Has unit at
+  pub long : unit + 1380 < at
+  pub is : f ≡ HeadTooLong unit
+
+abbrev pub SliceRefusal : (ℕ → ℕ → Type 0) → ℕ → FilmFault → Type 0
+SliceRefusal Has at f = StandsThere Has at IsSliceKind × Otherwise (LacksPicture Has at) (IsLongHead Has at) f
+
+-- ---- 5. the number of pictures
+
+-- 1,024 pictures stand before, and no group header after the first of them
+pub record IsLongGroup (Has : ℕ → ℕ → Type 0) (at : ℕ) (f : FilmFault) : Type 0 where
+  pub from : ℕ
+  pub pictures : HasPictures Has from at 1024
+  pub none : NoneIn Has from at IsGroup
+  pub is : f ≡ GroupTooLong at
+
+-- 4,194,304 pictures stand before
+abbrev pub IsLongFilm : (ℕ → ℕ → Type 0) → ℕ → FilmFault → Type 0
+IsLongFilm Has at f = HasPictures Has 0 at 4194304 × (f ≡ TooLong)
+
+abbrev pub CountRefusal : (ℕ → ℕ → Type 0) → ℕ → FilmFault → Type 0
+CountRefusal Has at f = Has at 0 × Otherwise (IsLongGroup Has at) (IsLongFilm Has at) f
+
+-- ---- a code, the film's end, and the film
+
+-- the first of these five at the code that stands at a place
+abbrev pub CodeRefusal : (ℕ → ℕ → Type 0) → List ℕ → ℕ → FilmFault → Type 0
+CodeRefusal Has bytes at =
+    Otherwise (HeaderRefusal Has bytes at) (Otherwise (KindRefusal Has at)
+    (Otherwise (SecondRefusal Has at) (Otherwise (SliceRefusal Has at) (CountRefusal Has at))))
+
+-- no code stands anywhere
+abbrev pub LacksCodes : (ℕ → ℕ → Type 0) → FilmFault → Type 0
+LacksCodes Has f = ((place kind : ℕ) → Has place kind → ⊥) × (f ≡ NoSequence)
+
+-- at the film's end: the last header, and a last unit without slices
+abbrev pub EndRefusal : (ℕ → ℕ → Type 0) → List ℕ → ℕ → FilmFault → Type 0
+EndRefusal Has bytes end =
+    Otherwise (HeaderRefusal Has bytes end)
+    (Otherwise (LacksCodes Has) (Otherwise (LacksSlices Has end) (LacksPicture Has end)))
+
+-- a code is refused, and none before it
+pub record FirstRefusal (Has : ℕ → ℕ → Type 0) (bytes : List ℕ) (f : FilmFault) : Type 0 where
+  pub at : ℕ
+  pub code : StandsThere Has at AnyKind
+  pub refused : CodeRefusal Has bytes at f
+  pub first : (other : ℕ) → StandsThere Has other AnyKind → other < at
+      → (g : FilmFault) → CodeRefusal Has bytes other g → ⊥
+
+abbrev pub IsEmptyFilm : List ℕ → FilmFault → Type 0
+IsEmptyFilm bytes f = (length bytes ≡ 0) × (f ≡ Empty)
+
+abbrev pub IsLargeFilm : List ℕ → FilmFault → Type 0
+IsLargeFilm bytes f = (2 ^ 40 < length bytes) × (f ≡ TooLong)
+
+-- the refusal of a film: that of its size, else that of its first code which is refused, else that of its end
+abbrev pub IsRefusedFor : List ℕ → FilmFault → Type 0
+IsRefusedFor bytes =
+    Otherwise (IsEmptyFilm bytes) (Otherwise (IsLargeFilm bytes)
+    (Otherwise (FirstRefusal (StandsAt bytes) bytes) (EndRefusal (StandsAt bytes) bytes (length bytes))))

@@ -1,6 +1,6 @@
 -- The units of a film in the words of ISO/IEC 11172-2, over the start codes that stand in its bytes and nothing else. A
 -- word of it takes `Has`: that a code of a kind stands at a place.
-use Rattle.std.specs.Prelude.{ℕ, ◌+◌, ◌*◌, ◌/◌, ◌%◌, ◌<◌, ◌≤◌, ◌≡◌, ◌⊎◌, ◌↔◌, true, if◌then◌else◌, List, [], ◌∷◌, ◌++◌, slice_index}
+use Rattle.std.specs.Prelude.{ℕ, ◌+◌, ◌*◌, ◌/◌, ◌%◌, ◌<◌, ◌≤◌, ◌≡◌, ◌⊎◌, ◌↔◌, true, if◌then◌else◌, List, [], ◌∷◌, ◌++◌, length, slice_index}
 use Rattle.mpeg_scan.specs.declared.codes.Code.{Code}
 use Rattle.mpeg_scan.specs.declared.units.Kind.{Kind}
 use Rattle.mpeg_scan.specs.declared.units.Kind.TheVariants.{I, P, B, D}
@@ -35,6 +35,19 @@ IsFirstCode Has from = (place kind : ℕ) → Has place kind → from ≤ place
 -- a code of such a kind stands at a place
 abbrev pub StandsThere : (ℕ → ℕ → Type 0) → ℕ → (ℕ → Type 0) → Type 0
 StandsThere Has place OfKind = (kind : ℕ) × (Has place kind × OfKind kind)
+
+-- codes of such a kind from a place on before another, each before the one in front of it in the list
+abbrev pub AreCodes : (ℕ → ℕ → Type 0) → (ℕ → Type 0) → ℕ → ℕ → List ℕ → Type 0
+AreCodes Has OfKind from to [] = Unit {0}
+AreCodes Has OfKind from to (place ∷ places) =
+    (StandsThere Has place OfKind × ((from ≤ place) × (place < to))) × AreCodes Has OfKind from place places
+
+-- so many codes of such a kind stand there
+pub record Counts (Has : ℕ → ℕ → Type 0) (OfKind : ℕ → Type 0) (from to count : ℕ) : Type 0 where
+  pub places : List ℕ
+  pub are : AreCodes Has OfKind from to places
+  pub long : length places ≡ count
+  pub most : (others : List ℕ) → AreCodes Has OfKind from to others → length others ≤ count
 
 -- ---- the fields of a picture header whose code stands at a place (2.4.2.5): temporal_reference 10 bits,
 -- picture_coding_type 3, vbv_delay 16, full_pel_forward_vector 1, forward_f_code 3, full_pel_backward_vector 1,
@@ -83,11 +96,15 @@ pub record HasPicture (Has : ℕ → ℕ → Type 0) (Fields : ℕ → PictureUn
   pub last : NoneIn Has (place + 1) unit.head_end IsHeadKind
   pub fields : Fields place unit
 
--- a unit goes from a code of a head to its first slice code, and from there to the next code of a head or the end
+-- a unit goes from a code of a head to its first slice code, and from there to the next code of a head or the end; so
+-- many slice codes stand in it, and so many before its end: those of the units before, and its own
 pub record UnitIs (Has : ℕ → ℕ → Type 0) (Fields : ℕ → PictureUnit → Type 0) (unit : PictureUnit) : Type 0 where
   pub begins : StandsThere Has unit.from IsHeadKind
   pub head : NoneIn Has unit.from unit.head_end IsSliceKind
   pub head_ends : StandsThere Has unit.head_end IsSliceKind
+  pub rest : unit.head_end < unit.to
+  pub own : Counts Has IsSliceKind unit.head_end unit.to unit.slices
+  pub all : Counts Has IsSliceKind 0 unit.to (unit.first_slice + unit.slices)
   pub slices : NoneIn Has unit.head_end unit.to IsHeadKind
   pub picture : HasPicture Has Fields unit
   pub sequence : (unit.has_sequence ≡ true) ↔ StandsIn Has unit.from unit.head_end 0xb3

@@ -1,4 +1,4 @@
-ghost use Rattle.std.specs.Prelude.{◌≡◌, ◌↔◌, ℕ, ◌+◌, ◌^◌, ◌<◌, ◌≤◌, ◌++◌, [], List, Some, length, true};
+ghost use Rattle.std.specs.Prelude.{◌≡◌, ◌↔◌, ℕ, ◌+◌, ◌^◌, ◌<◌, ◌≤◌, ◌++◌, [], List, None, Some, length, true};
 ghost use Rattle.mpeg_scan.specs.Codes.{codes_of, read};
 ghost use Rattle.mpeg_scan.specs.Counts.{AreNumbered};
 ghost use Rattle.mpeg_scan.specs.Faults.{first_fault};
@@ -8,7 +8,7 @@ ghost use Rattle.mpeg_scan.specs.Layout.{AreInFilm, BeginsSequence, IsLaid, OfUn
 ghost use Rattle.mpeg_scan.specs.Places.{StandsAt};
 ghost use Rattle.mpeg_scan.specs.Standard.{AreFalling, ArePresented, IsAmong, IsSliceKind, IsUnitOf};
 ghost use Rattle.mpeg_scan.specs.Standard.{StandsThere, slice_places};
-ghost use Rattle.mpeg_scan.specs.Refusals.{Tells};
+ghost use Rattle.mpeg_scan.specs.Refusals.{IsRefusedFor};
 ghost use Rattle.mpeg_scan.specs.Tiles.{Tiles};
 ghost use Rattle.mpeg_scan.specs.Words.{pictures_of};
 
@@ -77,10 +77,10 @@ pub fn law_slices(film: &Film)
     let _read = film.bytes.len();
 }
 
-/// What each refusal of a film says of its bytes: a start code of the kind that it speaks of stands at the place that it
-/// names; a header that is too short has the next code, or the film's end, inside it; and where there is no sequence
-/// header in front, the first code isn't one.
+/// Each refusal comes exactly where its condition holds, in the words of ISO/IEC 11172-2 over the start codes that stand in
+/// the film's bytes and over the bits of its headers: that of the film's size, else the first in the order of the codes,
+/// and of the conditions at one code, else that of the film's end. A film is accepted exactly where none holds.
 pub fn law_refusals()
-    ensures { (bytes : List ℕ) (f : FilmFault) → refusal bytes ≡ Some f
-        → Tells (StandsAt bytes) (length bytes) f }
+    ensures refused { (bytes : List ℕ) (f : FilmFault) → (refusal bytes ≡ Some f) ↔ IsRefusedFor bytes f }
+    ensures accepted { (bytes : List ℕ) → (refusal bytes ≡ None) ↔ ((f : FilmFault) → IsRefusedFor bytes f → ⊥) }
 {}

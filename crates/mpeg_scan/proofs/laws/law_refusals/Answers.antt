@@ -1,5 +1,5 @@
-use Rattle.mpeg_scan.proofs.RefusalLemmas.{refusal-tells}
+use Rattle.mpeg_scan.proofs.RefusedLemmas.{film-refused, film-accepted}
 use Rattle.mpeg_scan.proofs.laws.law_refusals.Goals as goal
 
 pub returns : goal.returns
-returns c = λ bytes f is. refusal-tells bytes f is
+returns c = record { refused = λ bytes f. film-refused bytes f; accepted = λ bytes. film-accepted bytes }
