@@ -5,8 +5,8 @@ use Rattle.mpeg_scan.specs.declared.codes.Code.{Code}
 use Rattle.mpeg_scan.specs.declared.tallies.Header.{Header}
 use Rattle.mpeg_scan.specs.Words.{all_slices_of, before_group_of, begins_unit, header_of, is_head, is_none_yet, is_slice, picture_of, pictures_of, slices_of, unit_of}
 use Rattle.mpeg_scan.specs.Places.{HasCode}
-use Rattle.mpeg_scan.specs.Refusals.{AnyKind, BeginsUnit, IsItsPicture, IsLatest, IsOpenHead, IsPicture}
-use Rattle.mpeg_scan.specs.Standard.{AreCodes, Counts, IsFirstCode, IsHeadKind, IsSliceKind, NoneIn, StandsThere}
+use Rattle.mpeg_scan.specs.Refusals.{BeginsUnit, IsItsPicture, IsLatest, IsOpenHead, IsPicture}
+use Rattle.mpeg_scan.specs.Standard.{AnyKind, AreCodes, Counts, IsFirstCode, IsHeadKind, IsSliceKind, NoneIn, StandsThere}
 use Rattle.mpeg_scan.proofs.TileLemmas.{Spaced, all-below, slice-apart}
 
 -- these are the codes that stand before a place

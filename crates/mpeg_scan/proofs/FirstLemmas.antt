@@ -10,10 +10,11 @@ use Rattle.mpeg_scan.specs.Faults.{end_fault, first_fault, header_fault, last_fa
 use Rattle.mpeg_scan.specs.Calls.{Call, head_call, slice_call, unit_call, calls_at, told, unit_at, unit_end}
 use Rattle.mpeg_scan.specs.Films.{IsFilm, units_in}
 use Rattle.mpeg_scan.specs.Tiles.{first_of}
-use Rattle.mpeg_scan.specs.Places.{HasCode}
+use Rattle.mpeg_scan.specs.Places.{HasCode, StandsAt}
+use Rattle.mpeg_scan.specs.Standard.{AnyKind, IsFirstCode, StandsThere}
 use Rattle.mpeg_scan.specs.Layout.{AreChained, BeginsSequence}
 use Rattle.mpeg_scan.proofs.StepLemmas.{accepted-older, otherwise-first, otherwise-second}
-use Rattle.mpeg_scan.proofs.TileLemmas.{Spaced, accepted-whole, all-below, ended-none, first-is, slice-apart, told-cons, told-nil}
+use Rattle.mpeg_scan.proofs.TileLemmas.{Spaced, accepted-whole, all-below, ended-none, first-is, placed-codes, slice-apart, told-cons, told-nil}
 use Rattle.mpeg_scan.proofs.BoundLemmas.{codes-rate, older-judged, sequence-judged, some-cond-none}
 use Rattle.mpeg_scan.proofs.FilmLemmas.{length-read, units_in-append}
 use Rattle.mpeg_scan.proofs.PlaceLemmas.{at-bytes, codes-stand}
@@ -164,6 +165,24 @@ long-header rate c end is e =
     let test : eqb c.kind 0xb3 ≡ true = eq-eqb c.kind 0xb3 is in
     let judged = some-cond-none (ltb (end - c.place) 12) (ShortHeader c.place) (rate_fault rate c) (sequence-judged (eqb c.kind 0xb3) (cond (ltb (end - c.place) 12) (Some (ShortHeader c.place)) (rate_fault rate c)) (cond (eqb c.kind 0xb8) (cond (ltb (end - c.place) 8) (Some (ShortHeader c.place)) None) (cond (eqb c.kind 0) (picture_fault c end) None)) test e) in
     omega (arith, ltb-false (end - c.place) 12 judged.0)
+
+first-there : (bytes : List ℕ) (past : List Code) → codes_of (read [] bytes) ≡ past → Spaced past → end_fault past (length (read [] bytes)) ≡ None
+    → StandsThere (StandsAt bytes) (first_of past) AnyKind × IsFirstCode (StandsAt bytes) (first_of past)
+unfolding end_fault
+first-there bytes [] codes spaced ended = absurd (omega (arith, ended-none (tally_of []) ended))
+first-there bytes (c ∷ past) codes spaced ended =
+    let f = first_in c past in
+    subst (λ p. StandsThere (StandsAt bytes) p AnyKind × IsFirstCode (StandsAt bytes) p) (sym (first_in-place c past)) (
+      (f.kind, ((codes-stand bytes f.place f.kind).0 (subst (λ (l : List Code). HasCode f.place f.kind l) (sym codes) (first_in-has c past)), tt)),
+      λ place kind has. first-least c past place kind spaced (subst (λ (l : List Code). HasCode place kind l) codes ((codes-stand bytes place kind).1 has)),
+    )
+
+-- the first unit begins at the first code
+pub film-first : (bytes : List ℕ) (rate : ℕ) (units : List PictureUnit) (starts : List ℕ) → IsFilm bytes rate units starts
+    → StandsThere (StandsAt bytes) (first_of (codes_of (read [] bytes))) AnyKind × IsFirstCode (StandsAt bytes) (first_of (codes_of (read [] bytes)))
+film-first bytes rate units starts film =
+    let r = read [] bytes in
+    first-there bytes (codes_of r) refl (placed-codes r).spaced (otherwise-second (first_fault (codes_of r)) (end_fault (codes_of r) (length r)) (accepted-whole r film.accepted))
 
 -- the first code's text, and the bytes that its header has at least
 pub record FirstText (r : List ℕ) (c : Code) : Type 0 where

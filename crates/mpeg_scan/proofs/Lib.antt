@@ -14,6 +14,7 @@ pub mod RoomLemmas
 pub mod OpenLemmas
 pub mod StandardLemmas
 pub mod SliceLemmas
+pub mod OnlyLemmas
 pub mod DecideLemmas
 pub mod BeforeLemmas
 pub mod HeaderLemmas

@@ -11,8 +11,8 @@ use Rattle.mpeg_scan.specs.Words.{before_group_of, is_head, is_none_yet, is_slic
 use Rattle.mpeg_scan.specs.Faults.{code_fault, count_fault, end_fault, fault_at, first_fault, first_slice_fault, head_fault, kind_fault, last_fault, latest_fault, left_without_slices, open_fault, otherwise, refusal_of, second_fault}
 use Rattle.mpeg_scan.specs.Films.{refusal}
 use Rattle.mpeg_scan.specs.Places.{HasCode, StandsAt}
-use Rattle.mpeg_scan.specs.Refusals.{AnyKind, CodeRefusal, CountRefusal, EndRefusal, FirstRefusal, HasPictures, HeaderRefusal, IsEmptyFilm, IsExtension, IsGroup, IsItsPicture, IsLargeFilm, IsLongFilm, IsLongGroup, IsLongHead, IsOpenHead, IsPicture, IsRefusedFor, IsSystemCode, KindRefusal, LacksCodes, LacksPicture, LacksSequence, LacksSlices, Otherwise, SecondRefusal, SliceRefusal}
-use Rattle.mpeg_scan.specs.Standard.{AreCodes, IsFirstCode, IsHeadKind, IsSliceKind, NoneIn, StandsThere}
+use Rattle.mpeg_scan.specs.Refusals.{CodeRefusal, CountRefusal, EndRefusal, FirstRefusal, HasPictures, HeaderRefusal, IsEmptyFilm, IsExtension, IsGroup, IsItsPicture, IsLargeFilm, IsLongFilm, IsLongGroup, IsLongHead, IsOpenHead, IsPicture, IsRefusedFor, IsSystemCode, KindRefusal, LacksCodes, LacksPicture, LacksSequence, LacksSlices, Otherwise, SecondRefusal, SliceRefusal}
+use Rattle.mpeg_scan.specs.Standard.{AnyKind, AreCodes, IsFirstCode, IsHeadKind, IsSliceKind, NoneIn, StandsThere}
 use Rattle.mpeg_scan.proofs.FilmLemmas.{length-read}
 use Rattle.mpeg_scan.proofs.StepLemmas.{accepted-older}
 use Rattle.mpeg_scan.proofs.PlaceLemmas.{at-bytes, codes-stand}

@@ -10,8 +10,8 @@ use Rattle.mpeg_scan.specs.Words.{picture_of, slices_of, tally_of, unit_of}
 use Rattle.mpeg_scan.specs.Faults.{end_fault, fault_at, first_fault, last_fault, latest_fault, left_without_slices, open_fault, otherwise, refusal_of}
 use Rattle.mpeg_scan.specs.Films.{refusal}
 use Rattle.mpeg_scan.specs.Places.{StandsAt}
-use Rattle.mpeg_scan.specs.Refusals.{AnyKind, CodeRefusal, EndRefusal, FirstRefusal, HeaderRefusal, IsEmptyFilm, IsLargeFilm, IsOpenHead, IsRefusedFor, LacksCodes, LacksPicture, LacksSlices, Otherwise}
-use Rattle.mpeg_scan.specs.Standard.{StandsThere}
+use Rattle.mpeg_scan.specs.Refusals.{CodeRefusal, EndRefusal, FirstRefusal, HeaderRefusal, IsEmptyFilm, IsLargeFilm, IsOpenHead, IsRefusedFor, LacksCodes, LacksPicture, LacksSlices, Otherwise}
+use Rattle.mpeg_scan.specs.Standard.{AnyKind, StandsThere}
 use Rattle.mpeg_scan.proofs.FilmLemmas.{length-read}
 use Rattle.mpeg_scan.proofs.StepLemmas.{accepted-older, otherwise-second}
 use Rattle.mpeg_scan.proofs.PlaceLemmas.{at-bytes, codes-stand}

@@ -18,7 +18,8 @@ back r i = slice_index_or r i 256
 unfoldable pub matched : List ℕ → Prefix
 matched r =
     if back r 0 == 1 && (back r 1 == 0 && back r 2 == 0) then Whole
-    else (if back r 0 == 0 && back r 1 == 0 then Zeros else (if back r 0 == 0 then Zero else Nothing))
+    else (if back r 0 == 0 && back r 1 == 0
+    then Zeros else (if back r 0 == 0 then Zero else Nothing))
 
 -- the same once a byte 1, or a byte 0, or any byte is read
 abbrev pub after_one : Prefix → Prefix
@@ -56,5 +57,6 @@ note_latest (c ∷ past) x = note c x ∷ past
 unfoldable pub codes_of : List ℕ → List Code
 codes_of [] = []
 codes_of (x ∷ r) =
-    if is_whole (matched r) then record { place = length r - 3; kind = x; text = [] } ∷ note_latest (codes_of r) x
+    if is_whole (matched r)
+    then record { place = length r - 3; kind = x; text = [] } ∷ note_latest (codes_of r) x
     else note_latest (codes_of r) x

@@ -13,13 +13,19 @@ pub record Count : Type 0 where
 abbrev pub group_of : Count → PictureUnit → ℕ
 group_of k unit = if unit.starts_group then k.units else k.before_group
 
--- the count after one more is told of, if that one agrees: a unit's slices are the latest ones, and its
--- presentation number is the number of units before its group plus its temporal_reference
+-- the count after one more is told of, if that one agrees: a unit's slices are the latest ones, and
+-- its presentation number is the number of units before its group plus its temporal_reference
 abbrev pub next_count : Count → Call → Option Count
 next_count k (head_call from to) = Some k
 next_count k (slice_call from to) = Some (record k { slices = k.slices + 1 })
 next_count k (unit_call unit) =
-    if unit.first_slice + unit.slices == k.slices && unit.presentation == group_of k unit + unit.temporal then Some (record { units = k.units + 1; slices = k.slices; before_group = group_of k unit })
+    if unit.first_slice + unit.slices == k.slices
+    && unit.presentation == group_of k unit + unit.temporal
+    then Some (record {
+      units = k.units + 1;
+      slices = k.slices;
+      before_group = group_of k unit;
+    })
     else None
 
 -- the count after all these, if each agrees

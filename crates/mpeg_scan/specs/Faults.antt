@@ -1,4 +1,5 @@
--- The twelve refusals of a film, in their order: each start code is judged in turn, and the end last.
+-- The twelve refusals of a film, in their order: each start code is judged in turn, and the end
+-- last.
 use Rattle.std.specs.Prelude.{ℕ, ◌-◌, ◌^◌, ◌==◌, ◌&&◌, ◌||◌, not, List, [], ◌∷◌, Option, Some, None, if◌then◌else◌, length, nat_lt, nat_le, option_map}
 use Rattle.mpeg_scan.specs.declared.codes.Code.{Code}
 use Rattle.mpeg_scan.specs.declared.faults.FilmFault.{FilmFault}
@@ -16,20 +17,24 @@ otherwise (Some f) g = Some f
 -- a sequence header's rate code is 1 to 8, and that of the first one, if there was one
 abbrev pub rate_fault : ℕ → Code → Option FilmFault
 rate_fault rate c =
-    if rate_code c == 0 || (nat_lt 8 (rate_code c) || (nat_lt 0 rate && not (rate_code c == rate))) then Some (BadRate c.place (rate_code c))
+    if rate_code c == 0 || (nat_lt 8 (rate_code c) || (nat_lt 0 rate && not (rate_code c == rate)))
+    then Some (BadRate c.place (rate_code c))
     else None
 
 -- a picture header has 8 bytes, or 9 for types 2 and 3, and its type is 1 to 4
 abbrev pub picture_fault : Code → ℕ → Option FilmFault
 picture_fault c end =
-    if nat_lt (end - c.place) 8 || ((type_of c == 2 || type_of c == 3) && nat_lt (end - c.place) 9) then Some (ShortHeader c.place)
+    if nat_lt (end - c.place) 8 || ((type_of c == 2 || type_of c == 3) && nat_lt (end - c.place) 9)
+    then Some (ShortHeader c.place)
     else (if nat_le 1 (type_of c) && nat_le (type_of c) 4 then None else Some (BadType c.place))
 
 -- the header of the code c, where the next code, or the film's end, stands at `end`
 abbrev pub header_fault : ℕ → Code → ℕ → Option FilmFault
 header_fault rate c end =
-    if c.kind == 0xb3 then (if nat_lt (end - c.place) 12 then Some (ShortHeader c.place) else rate_fault rate c)
-    else (if c.kind == 0xb8 then (if nat_lt (end - c.place) 8 then Some (ShortHeader c.place) else None)
+    if c.kind == 0xb3 then (if nat_lt (end - c.place) 12
+    then Some (ShortHeader c.place) else rate_fault rate c)
+    else (if c.kind == 0xb8
+    then (if nat_lt (end - c.place) 8 then Some (ShortHeader c.place) else None)
     else (if c.kind == 0 then picture_fault c end else None))
 
 -- the header of the latest code
@@ -55,7 +60,8 @@ second_fault t kind =
 -- a unit's first slice: the head before it has a picture, and at most 1,380 bytes
 abbrev pub head_fault : Tally → ℕ → Option Header → Option FilmFault
 head_fault t place None = Some (HeadWithoutPicture t.unit)
-head_fault t place (Some p) = if nat_lt 1380 (place - t.unit) then Some (HeadTooLong t.unit) else None
+head_fault t place (Some p) = if nat_lt 1380 (place - t.unit)
+    then Some (HeadTooLong t.unit) else None
 
 abbrev pub first_slice_fault : Tally → ℕ → ℕ → Option FilmFault
 first_slice_fault t place kind =
@@ -71,11 +77,14 @@ count_fault t place kind =
 -- these four at a code after the codes of a tally
 abbrev pub code_fault : Tally → ℕ → ℕ → Option FilmFault
 code_fault t place kind =
-    otherwise (kind_fault t place kind) (otherwise (second_fault t kind) (otherwise (first_slice_fault t place kind) (count_fault t place kind)))
+    otherwise (kind_fault t place kind)
+    (otherwise (second_fault t kind)
+    (otherwise (first_slice_fault t place kind) (count_fault t place kind)))
 
 -- the refusal at a code after those in past
 unfoldable pub fault_at : List Code → ℕ → ℕ → Option FilmFault
-fault_at past place kind = otherwise (latest_fault past place) (code_fault (tally_of past) place kind)
+fault_at past place kind =
+    otherwise (latest_fault past place) (code_fault (tally_of past) place kind)
 
 -- the first refusal at a code
 unfoldable pub first_fault : List Code → Option FilmFault

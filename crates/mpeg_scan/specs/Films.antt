@@ -30,7 +30,8 @@ abbrev pub told_of : List ℕ → List Call
 told_of bytes = all_told (read [] bytes)
 
 -- a film with its rate, its units and the places of its slices
-pub record IsFilm (bytes : List ℕ) (its_rate : ℕ) (its_units : List PictureUnit) (its_slices : List ℕ) : Type 0 where
+pub record IsFilm (bytes : List ℕ) (its_rate : ℕ) (its_units : List PictureUnit)
+    (its_slices : List ℕ) : Type 0 where
   pub accepted : refusal bytes ≡ None
   pub rate : its_rate ≡ rate_of (codes_of (read [] bytes))
   pub units : its_units ≡ units_in (told_of bytes)

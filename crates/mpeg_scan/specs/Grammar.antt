@@ -1,6 +1,6 @@
--- The order of a film's start codes (ISO/IEC 11172-2, 2.4.2): a sequence header comes first; a unit is a
--- head and slices; in a head stand any sequence and group headers, then exactly one picture, and after it
--- no such header; a slice comes after its picture alone.
+-- The order of a film's start codes (ISO/IEC 11172-2, 2.4.2): a sequence header comes first; a unit
+-- is a head and slices; in a head stand any sequence and group headers, then exactly one picture,
+-- and after it no such header; a slice comes after its picture alone.
 use Rattle.std.specs.Prelude.{ℕ, ◌≡◌, ◌==◌, List, [], ◌∷◌, Option, Some, None, if◌then◌else◌}
 use Rattle.mpeg_scan.specs.declared.codes.Code.{Code}
 use Rattle.mpeg_scan.specs.Codes.{codes_of}
@@ -20,7 +20,8 @@ next_phase in_head kind =
 next_phase after_picture kind =
     if is_head kind then None else (if is_slice kind then Some in_slices else Some after_picture)
 next_phase in_slices kind =
-    if kind == 0 then Some after_picture else (if is_head kind then Some in_head else Some in_slices)
+    if kind == 0 then Some after_picture
+    else (if is_head kind then Some in_head else Some in_slices)
 
 abbrev pub then_phase : Option Phase → ℕ → Option Phase
 then_phase None kind = None

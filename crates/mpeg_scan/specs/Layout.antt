@@ -16,7 +16,8 @@ next_place to (start ∷ starts) = start
 abbrev pub unit_starts : List ℕ → PictureUnit → List ℕ
 unit_starts slice_starts unit = take unit.slices (drop unit.first_slice slice_starts)
 
--- slices of at least 4 bytes each begin at these places, the first at `at`, and the last ends at `to`
+-- slices of at least 4 bytes each begin at these places, the first at `at`, and the last ends at
+-- `to`
 abbrev pub AreInOrder : ℕ → List ℕ → ℕ → Type 0
 AreInOrder at [] to = at ≡ to
 AreInOrder at (start ∷ starts) to =
@@ -33,7 +34,8 @@ pub record IsLaid (slice_starts : List ℕ) (unit : PictureUnit) : Type 0 where
 -- each unit is laid out so, and ends at a place or before it
 abbrev pub AreLaid : ℕ → List ℕ → List PictureUnit → Type 0
 AreLaid end starts [] = Unit {0}
-AreLaid end starts (unit ∷ units) = ((unit.to ≤ end) × IsLaid starts unit) × AreLaid end starts units
+AreLaid end starts (unit ∷ units) = ((unit.to ≤ end) × IsLaid starts unit)
+    × AreLaid end starts units
 
 -- units lie one after another, the first from a place on, and the last ends at another
 abbrev pub AreChained : ℕ → List PictureUnit → ℕ → Type 0
@@ -44,8 +46,8 @@ AreChained from (unit ∷ units) to = (unit.from ≡ from) × AreChained unit.to
 abbrev pub AreInFilm : List ℕ → List PictureUnit → Type 0
 AreInFilm bytes units = (from : ℕ) × AreChained from units (length bytes)
 
--- a sequence header of 12 bytes begins at a place, and the low four bits of its eighth byte are this
--- picture rate code (ISO/IEC 11172-2, 2.4.2.3)
+-- a sequence header of 12 bytes begins at a place, and the low four bits of its eighth byte are
+-- this picture rate code (ISO/IEC 11172-2, 2.4.2.3)
 pub record BeginsSequence (bytes : List ℕ) (rate place : ℕ) : Type 0 where
   pub code : StandsAt bytes place 0xb3
   pub fits : place + 12 ≤ length bytes

@@ -1,6 +1,7 @@
--- The refusals of a film in the words of ISO/IEC 11172-2, over the start codes that stand in its bytes, and these bytes.
--- Each start code is judged in its turn, and the film's end last: a refusal speaks of the codes before a place `at`, where
--- the code stands that is judged, or the film ends. A word takes `Has`: that a code of a kind stands at a place.
+-- The refusals of a film in the words of ISO/IEC 11172-2, over the start codes that stand in its
+-- bytes, and these bytes. Each start code is judged in its turn, and the film's end last: a refusal
+-- speaks of the codes before a place `at`, where the code stands that is judged, or the film ends.
+-- A word takes `Has`: that a code of a kind stands at a place.
 use Rattle.std.specs.Prelude.{ℕ, ◌+◌, ◌%◌, ◌^◌, ◌==◌, ◌<◌, ◌≤◌, ◌≡◌, ◌⊎◌, ◌||◌, List, [], ◌∷◌, length, if◌then◌else◌}
 use Rattle.std.specs.Prelude.{slice_index}
 use Rattle.mpeg_scan.specs.declared.faults.FilmFault.{FilmFault}
@@ -8,7 +9,7 @@ use Rattle.mpeg_scan.specs.declared.faults.FilmFault.TheVariants.{Empty, NoSeque
 use Rattle.mpeg_scan.specs.declared.faults.FilmFault.TheVariants.{BadType, PictureWithoutSlices, HeadTooLong, GroupTooLong}
 use Rattle.mpeg_scan.specs.declared.faults.FilmFault.TheVariants.{TooLong, HeadWithoutPicture}
 use Rattle.mpeg_scan.specs.Places.{StandsAt}
-use Rattle.mpeg_scan.specs.Standard.{AreCodes, IsFirstCode, IsHeadKind, IsSliceKind, NoneIn, StandsThere, picture_coding_type}
+use Rattle.mpeg_scan.specs.Standard.{AnyKind, AreCodes, IsFirstCode, IsHeadKind, IsSliceKind, NoneIn, StandsThere, picture_coding_type}
 
 -- ---- the order of refusals
 
@@ -17,9 +18,6 @@ abbrev pub Otherwise : (FilmFault → Type 0) → (FilmFault → Type 0) → Fil
 Otherwise P Q f = P f ⊎ (((g : FilmFault) → P g → ⊥) × Q f)
 
 -- ---- codes before a place
-
-abbrev pub AnyKind : ℕ → Type 0
-AnyKind kind = Unit {0}
 
 abbrev pub IsPicture : ℕ → Type 0
 IsPicture kind = kind ≡ 0
@@ -36,12 +34,14 @@ pub record IsLatest (Has : ℕ → ℕ → Type 0) (place kind at : ℕ) : Type 
   pub before : place < at
   pub last : NoneIn Has (place + 1) at AnyKind
 
--- a unit begins at the first code, and at each code of a head that is the first of these after a slice code
+-- a unit begins at the first code, and at each code of a head that is the first of these after a
+-- slice code
 abbrev pub BeginsUnit : (ℕ → ℕ → Type 0) → ℕ → Type 0
 BeginsUnit Has place =
     (StandsThere Has place AnyKind × IsFirstCode Has place)
     ⊎ (StandsThere Has place IsHeadKind
-    × ((slice : ℕ) × ((StandsThere Has slice IsSliceKind × (slice < place)) × NoneIn Has slice place IsHeadKind)))
+    × ((slice : ℕ) × ((StandsThere Has slice IsSliceKind × (slice < place))
+    × NoneIn Has slice place IsHeadKind)))
 
 -- the unit that begins at this place has no slice yet
 pub record IsOpenHead (Has : ℕ → ℕ → Type 0) (unit at : ℕ) : Type 0 where
@@ -72,9 +72,11 @@ abbrev pub header_bytes : List ℕ → ℕ → ℕ → ℕ
 header_bytes bytes place kind =
     if kind == 0xb3 then 12
     else (if kind == 0xb8 then 8
-    else (if picture_coding_type bytes place == 2 || picture_coding_type bytes place == 3 then 9 else 8))
+    else (if picture_coding_type bytes place == 2 || picture_coding_type bytes place == 3
+    then 9 else 8))
 
-pub record IsShortHeader (Has : ℕ → ℕ → Type 0) (bytes : List ℕ) (at : ℕ) (f : FilmFault) : Type 0 where
+pub record IsShortHeader (Has : ℕ → ℕ →
+    Type 0) (bytes : List ℕ) (at : ℕ) (f : FilmFault) : Type 0 where
   pub place : ℕ
   pub kind : ℕ
   pub latest : IsLatest Has place kind at
@@ -93,7 +95,8 @@ pub record IsOtherRate (Has : ℕ → ℕ → Type 0) (bytes : List ℕ) (place 
 pub record IsBadRate (Has : ℕ → ℕ → Type 0) (bytes : List ℕ) (at : ℕ) (f : FilmFault) : Type 0 where
   pub place : ℕ
   pub latest : IsLatest Has place 0xb3 at
-  pub bad : (picture_rate bytes place ≡ 0) ⊎ ((8 < picture_rate bytes place) ⊎ IsOtherRate Has bytes place)
+  pub bad : (picture_rate bytes place ≡ 0)
+      ⊎ ((8 < picture_rate bytes place) ⊎ IsOtherRate Has bytes place)
   pub is : f ≡ BadRate place (picture_rate bytes place)
 
 pub record IsBadType (Has : ℕ → ℕ → Type 0) (bytes : List ℕ) (at : ℕ) (f : FilmFault) : Type 0 where
@@ -104,7 +107,8 @@ pub record IsBadType (Has : ℕ → ℕ → Type 0) (bytes : List ℕ) (at : ℕ
 
 abbrev pub HeaderRefusal : (ℕ → ℕ → Type 0) → List ℕ → ℕ → FilmFault → Type 0
 HeaderRefusal Has bytes at =
-    Otherwise (IsShortHeader Has bytes at) (Otherwise (IsBadRate Has bytes at) (IsBadType Has bytes at))
+    Otherwise (IsShortHeader Has bytes at)
+    (Otherwise (IsBadRate Has bytes at) (IsBadType Has bytes at))
 
 -- ---- 2. the code's kind
 
@@ -120,7 +124,8 @@ abbrev pub LacksSequence : (ℕ → ℕ → Type 0) → ℕ → FilmFault → Ty
 LacksSequence Has at f = (IsFirstCode Has at × (Has at 0xb3 → ⊥)) × (f ≡ NoSequence)
 
 abbrev pub KindRefusal : (ℕ → ℕ → Type 0) → ℕ → FilmFault → Type 0
-KindRefusal Has at = Otherwise (IsSystemCode Has at) (Otherwise (IsExtension Has at) (LacksSequence Has at))
+KindRefusal Has at =
+    Otherwise (IsSystemCode Has at) (Otherwise (IsExtension Has at) (LacksSequence Has at))
 
 -- ---- 3. a head's second picture, or another of its codes after the picture
 
@@ -152,7 +157,8 @@ pub record IsLongHead (Has : ℕ → ℕ → Type 0) (at : ℕ) (f : FilmFault) 
   pub is : f ≡ HeadTooLong unit
 
 abbrev pub SliceRefusal : (ℕ → ℕ → Type 0) → ℕ → FilmFault → Type 0
-SliceRefusal Has at f = StandsThere Has at IsSliceKind × Otherwise (LacksPicture Has at) (IsLongHead Has at) f
+SliceRefusal Has at f = StandsThere Has at IsSliceKind
+    × Otherwise (LacksPicture Has at) (IsLongHead Has at) f
 
 -- ---- 5. the number of pictures
 
@@ -202,8 +208,10 @@ IsEmptyFilm bytes f = (length bytes ≡ 0) × (f ≡ Empty)
 abbrev pub IsLargeFilm : List ℕ → FilmFault → Type 0
 IsLargeFilm bytes f = (2 ^ 40 < length bytes) × (f ≡ TooLong)
 
--- the refusal of a film: that of its size, else that of its first code which is refused, else that of its end
+-- the refusal of a film: that of its size, else that of its first code which is refused, else that
+-- of its end
 abbrev pub IsRefusedFor : List ℕ → FilmFault → Type 0
 IsRefusedFor bytes =
     Otherwise (IsEmptyFilm bytes) (Otherwise (IsLargeFilm bytes)
-    (Otherwise (FirstRefusal (StandsAt bytes) bytes) (EndRefusal (StandsAt bytes) bytes (length bytes))))
+    (Otherwise (FirstRefusal (StandsAt bytes) bytes)
+    (EndRefusal (StandsAt bytes) bytes (length bytes))))

@@ -1,5 +1,5 @@
--- What a scanner knows of places: its latest unit and slice began well before the next code, so that the parts of which it
--- tells have the lengths that the grammar gives.
+-- What a scanner knows of places: its latest unit and slice began well before the next code, so
+-- that the parts of which it tells have the lengths that the grammar gives.
 use Rattle.std.specs.Prelude.{ℕ, ◌+◌, ◌<◌, ◌≤◌, ◌≡◌, true, if◌then◌else◌, Option}
 use Rattle.mpeg_scan.specs.declared.codes.Code.{Code}
 use Rattle.mpeg_scan.specs.declared.codes.Prefix.{Prefix}
@@ -20,13 +20,18 @@ pub record HasRoom (t : Tally) (place : ℕ) : Type 0 where
   pub unit : t.begun ≡ true → t.unit + 3 ≤ place
   pub slice : 0 < t.slices → t.slice + 4 ≤ place
 
--- the same of a tally without the latest code, before the next prefix, of which a part may have been read
-pub record HasRoomAhead (fed : ℕ) (prefix : Prefix) (latest : Option Code) (tally : Tally) : Type 0 where
+-- the same of a tally without the latest code, before the next prefix, of which a part may have
+-- been read
+pub record HasRoomAhead (fed : ℕ) (prefix : Prefix) (latest : Option Code) (tally : Tally)
+    : Type 0 where
   pub read : prefix_length prefix ≤ fed
-  pub unit : (tally_with latest tally).begun ≡ true → (tally_with latest tally).unit + 3 + prefix_length prefix ≤ fed
-  pub slice : 0 < (tally_with latest tally).slices → (tally_with latest tally).slice + 4 + prefix_length prefix ≤ fed
+  pub unit : (tally_with latest tally).begun ≡ true →
+      (tally_with latest tally).unit + 3 + prefix_length prefix ≤ fed
+  pub slice : 0 < (tally_with latest tally).slices →
+      (tally_with latest tally).slice + 4 + prefix_length prefix ≤ fed
 
--- where a unit has slices, it is known of the place of the latest that the next slice may begin there
+-- where a unit has slices, it is known of the place of the latest that the next slice may begin
+-- there
 abbrev pub AwaitsSlice : (ℕ → Type 0) → Tally → Type 0
 AwaitsSlice Ready t = 0 < t.slices → Ready t.slice
 

@@ -54,13 +54,15 @@ open_slices s = (tally_with s.progress.latest s.progress.tally).slices
 abbrev pub open_slice : Scanner → ℕ
 open_slice s = (tally_with s.progress.latest s.progress.tally).slice
 
--- where it has refused nothing and its latest unit has slices, it is known that the next slice may begin where the
--- latest does
+-- where it has refused nothing and its latest unit has slices, it is known that the next slice may
+-- begin where the latest does
 abbrev pub IsReady : (ℕ → Type 0) → Scanner → Type 0
 IsReady Ready s = s.refused ≡ None → 0 < open_slices s → Ready (open_slice s)
 
--- a code of a piece is refused at its last byte, and all that ends before it was told, after these calls
-pub record IsRefusedInPiece (Heard : List Call → Type 0) (r piece : List ℕ) (calls : List Call) (f : FilmFault) : Type 0 where
+-- a code of a piece is refused at its last byte, and all that ends before it was told, after these
+-- calls
+pub record IsRefusedInPiece (Heard : List Call →
+    Type 0) (r piece : List ℕ) (calls : List Call) (f : FilmFault) : Type 0 where
   pub count : ℕ
   pub within : count < length piece
   pub accepted : first_fault (codes_of (read r (take count piece))) ≡ None

@@ -1,10 +1,11 @@
--- The units of a film in the words of ISO/IEC 11172-2, over the start codes that stand in its bytes and nothing else. A
--- word of it takes `Has`: that a code of a kind stands at a place.
+-- The units of a film in the words of ISO/IEC 11172-2, over the start codes that stand in its bytes
+-- and nothing else. A word of it takes `Has`: that a code of a kind stands at a place.
 use Rattle.std.specs.Prelude.{ℕ, ◌+◌, ◌*◌, ◌/◌, ◌%◌, ◌<◌, ◌≤◌, ◌≡◌, ◌⊎◌, ◌↔◌, true, if◌then◌else◌, List, [], ◌∷◌, ◌++◌, length, slice_index}
 use Rattle.mpeg_scan.specs.declared.codes.Code.{Code}
 use Rattle.mpeg_scan.specs.declared.units.Kind.{Kind}
 use Rattle.mpeg_scan.specs.declared.units.Kind.TheVariants.{I, P, B, D}
 use Rattle.mpeg_scan.specs.declared.units.Unit.{Unit as PictureUnit}
+use Rattle.mpeg_scan.specs.Layout.{AreChained, OfUnit}
 use Rattle.mpeg_scan.specs.Places.{HasCode, StandsAt}
 use Rattle.mpeg_scan.specs.Words.{is_slice}
 
@@ -17,6 +18,9 @@ IsHeadKind kind = (kind ≡ 0) ⊎ ((kind ≡ 0xb3) ⊎ (kind ≡ 0xb8))
 abbrev pub IsSliceKind : ℕ → Type 0
 IsSliceKind kind = (1 ≤ kind) × (kind ≤ 0xaf)
 
+abbrev pub AnyKind : ℕ → Type 0
+AnyKind kind = Unit {0}
+
 -- a code of this kind stands from one place on before another
 pub record StandsIn (Has : ℕ → ℕ → Type 0) (from to kind : ℕ) : Type 0 where
   pub place : ℕ
@@ -26,7 +30,8 @@ pub record StandsIn (Has : ℕ → ℕ → Type 0) (from to kind : ℕ) : Type 0
 
 -- no code of such a kind stands there
 abbrev pub NoneIn : (ℕ → ℕ → Type 0) → ℕ → ℕ → (ℕ → Type 0) → Type 0
-NoneIn Has from to OfKind = (place kind : ℕ) → Has place kind → from ≤ place → place < to → OfKind kind → ⊥
+NoneIn Has from to OfKind = (place kind : ℕ) → Has place kind → from ≤ place → place < to →
+    OfKind kind → ⊥
 
 -- no code at all stands before a place
 abbrev pub IsFirstCode : (ℕ → ℕ → Type 0) → ℕ → Type 0
@@ -36,11 +41,13 @@ IsFirstCode Has from = (place kind : ℕ) → Has place kind → from ≤ place
 abbrev pub StandsThere : (ℕ → ℕ → Type 0) → ℕ → (ℕ → Type 0) → Type 0
 StandsThere Has place OfKind = (kind : ℕ) × (Has place kind × OfKind kind)
 
--- codes of such a kind from a place on before another, each before the one in front of it in the list
+-- codes of such a kind from a place on before another, each before the one in front of it in the
+-- list
 abbrev pub AreCodes : (ℕ → ℕ → Type 0) → (ℕ → Type 0) → ℕ → ℕ → List ℕ → Type 0
 AreCodes Has OfKind from to [] = Unit {0}
 AreCodes Has OfKind from to (place ∷ places) =
-    (StandsThere Has place OfKind × ((from ≤ place) × (place < to))) × AreCodes Has OfKind from place places
+    (StandsThere Has place OfKind × ((from ≤ place) × (place < to)))
+    × AreCodes Has OfKind from place places
 
 -- so many codes of such a kind stand there
 pub record Counts (Has : ℕ → ℕ → Type 0) (OfKind : ℕ → Type 0) (from to count : ℕ) : Type 0 where
@@ -49,18 +56,20 @@ pub record Counts (Has : ℕ → ℕ → Type 0) (OfKind : ℕ → Type 0) (from
   pub long : length places ≡ count
   pub most : (others : List ℕ) → AreCodes Has OfKind from to others → length others ≤ count
 
--- ---- the fields of a picture header whose code stands at a place (2.4.2.5): temporal_reference 10 bits,
--- picture_coding_type 3, vbv_delay 16, full_pel_forward_vector 1, forward_f_code 3, full_pel_backward_vector 1,
--- backward_f_code 3, from the fifth byte on
+-- ---- the fields of a picture header whose code stands at a place (2.4.2.5): temporal_reference 10
+-- bits, picture_coding_type 3, vbv_delay 16, full_pel_forward_vector 1, forward_f_code 3,
+-- full_pel_backward_vector 1, backward_f_code 3, from the fifth byte on
 abbrev pub temporal_reference : List ℕ → ℕ → ℕ
-temporal_reference bytes place = slice_index bytes (place + 4) * 4 + slice_index bytes (place + 5) / 64
+temporal_reference bytes place =
+    slice_index bytes (place + 4) * 4 + slice_index bytes (place + 5) / 64
 
 abbrev pub picture_coding_type : List ℕ → ℕ → ℕ
 picture_coding_type bytes place = slice_index bytes (place + 5) / 8 % 8
 
 -- full_pel_forward_vector and forward_f_code, 4 bits
 abbrev pub forward_vector : List ℕ → ℕ → ℕ
-forward_vector bytes place = slice_index bytes (place + 7) % 8 * 2 + slice_index bytes (place + 8) / 128
+forward_vector bytes place =
+    slice_index bytes (place + 7) % 8 * 2 + slice_index bytes (place + 8) / 128
 
 -- full_pel_backward_vector and backward_f_code, 4 bits
 abbrev pub backward_vector : List ℕ → ℕ → ℕ
@@ -87,7 +96,8 @@ pub record HasFields (bytes : List ℕ) (place : ℕ) (unit : PictureUnit) : Typ
 -- ---- a unit
 
 -- the one picture of a unit's head: no other header comes after it
-pub record HasPicture (Has : ℕ → ℕ → Type 0) (Fields : ℕ → PictureUnit → Type 0) (unit : PictureUnit) : Type 0 where
+pub record HasPicture (Has : ℕ → ℕ → Type 0) (Fields : ℕ → PictureUnit →
+    Type 0) (unit : PictureUnit) : Type 0 where
   pub place : ℕ
   pub code : Has place 0
   pub after : unit.from ≤ place
@@ -96,9 +106,11 @@ pub record HasPicture (Has : ℕ → ℕ → Type 0) (Fields : ℕ → PictureUn
   pub last : NoneIn Has (place + 1) unit.head_end IsHeadKind
   pub fields : Fields place unit
 
--- a unit goes from a code of a head to its first slice code, and from there to the next code of a head or the end; so
--- many slice codes stand in it, and so many before its end: those of the units before, and its own
-pub record UnitIs (Has : ℕ → ℕ → Type 0) (Fields : ℕ → PictureUnit → Type 0) (unit : PictureUnit) : Type 0 where
+-- a unit goes from a code of a head to its first slice code, and from there to the next code of a
+-- head or the end; so many slice codes stand in it, and so many before its end: those of the units
+-- before, and its own
+pub record UnitIs (Has : ℕ → ℕ → Type 0) (Fields : ℕ → PictureUnit →
+    Type 0) (unit : PictureUnit) : Type 0 where
   pub begins : StandsThere Has unit.from IsHeadKind
   pub head : NoneIn Has unit.from unit.head_end IsSliceKind
   pub head_ends : StandsThere Has unit.head_end IsSliceKind
@@ -108,7 +120,8 @@ pub record UnitIs (Has : ℕ → ℕ → Type 0) (Fields : ℕ → PictureUnit �
   pub slices : NoneIn Has unit.head_end unit.to IsHeadKind
   pub picture : HasPicture Has Fields unit
   pub sequence : (unit.has_sequence ≡ true) ↔ StandsIn Has unit.from unit.head_end 0xb3
-  pub group : (unit.starts_group ≡ true) ↔ (IsFirstCode Has unit.from ⊎ StandsIn Has unit.from unit.head_end 0xb8)
+  pub group : (unit.starts_group ≡ true) ↔
+      (IsFirstCode Has unit.from ⊎ StandsIn Has unit.from unit.head_end 0xb8)
 
 -- a unit of these bytes
 abbrev pub IsUnitOf : List ℕ → PictureUnit → Type 0
@@ -116,23 +129,37 @@ IsUnitOf bytes unit = UnitIs (StandsAt bytes) (HasFields bytes) unit
 
 -- ---- units in their order
 
--- the presentation number of each of these units is the number of units before its group, and its temporal_reference more,
--- where so many units come before these, and so many before the latest group
+-- the presentation number of each of these units is the number of units before its group, and its
+-- temporal_reference more, where so many units come before these, and so many before the latest
+-- group
 abbrev pub ArePresented : ℕ → ℕ → List PictureUnit → Type 0
 ArePresented number group [] = Unit {0}
 ArePresented number group (unit ∷ units) =
     (unit.presentation ≡ (if unit.starts_group then number else group) + unit.temporal)
     × ArePresented (number + 1) (if unit.starts_group then number else group) units
 
+-- the units of a film: the first begins at the first code, they lie one after another to the film's
+-- end, and each is one of these bytes
+pub record AreUnitsOf (bytes : List ℕ) (units : List PictureUnit) : Type 0 where
+  pub from : ℕ
+  pub code : StandsThere (StandsAt bytes) from AnyKind
+  pub first : IsFirstCode (StandsAt bytes) from
+  pub chained : AreChained from units (length bytes)
+  pub each : (k : ℕ) → OfUnit units k (λ u. IsUnitOf bytes u)
+  pub presented : ArePresented 0 0 units
+
 -- codes that are given the latest first stand in falling order, each place once
 abbrev pub AreFalling : List Code → Type 0
 AreFalling [] = Unit {0}
-AreFalling (c ∷ past) = ((place kind : ℕ) → HasCode place kind past → place < c.place) × AreFalling past
+AreFalling (c ∷ past) = ((place kind : ℕ) → HasCode place kind past → place < c.place)
+    × AreFalling past
 
--- the places of the slices among these codes, which are given the latest first; the places are given in their order
+-- the places of the slices among these codes, which are given the latest first; the places are
+-- given in their order
 abbrev pub slice_places : List Code → List ℕ
 slice_places [] = []
-slice_places (c ∷ past) = if is_slice c.kind then slice_places past ++ c.place ∷ [] else slice_places past
+slice_places (c ∷ past) = if is_slice c.kind
+    then slice_places past ++ c.place ∷ [] else slice_places past
 
 -- a place is among these
 abbrev pub IsAmong : ℕ → List ℕ → Type 0

@@ -56,7 +56,8 @@ next_starts_group t c =
     if c.kind == 0xb8 || not t.begun then true
     else (if next_begins t c.kind then false else t.starts_group)
 
--- the tally after a code, where one picture, slice of the unit and slice of the film more make these
+-- the tally after a code, where one picture, slice of the unit and slice of the film more make
+-- these
 abbrev pub next_by : ℕ → ℕ → ℕ → Tally → Code → Tally
 next_by pictures slices all_slices t c = record {
   begun = true;
@@ -89,7 +90,8 @@ latest_header_fault (Some c) rate end = header_fault rate c end
 -- the refusal at a code, from what the scanner keeps
 unfoldable pub judged : Option Code → Tally → ℕ → ℕ → Option FilmFault
 judged latest t place kind =
-    otherwise (latest_header_fault latest t.rate place) (code_fault (tally_with latest t) place kind)
+    otherwise (latest_header_fault latest t.rate place)
+    (code_fault (tally_with latest t) place kind)
 
 -- the refusal at the film's end, from what the scanner keeps
 unfoldable pub ended : Option Code → Tally → ℕ → Option FilmFault

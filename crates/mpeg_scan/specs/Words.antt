@@ -1,6 +1,6 @@
--- What the start codes of a film say of its latest unit and of the units before it. The codes are given
--- the latest first. A code of kind 00, B3 or B8 belongs to a head (ISO/IEC 11172-2, 2.4.2): a unit begins
--- at the first code, and at each such code that is the first after a slice.
+-- What the start codes of a film say of its latest unit and of the units before it. The codes are
+-- given the latest first. A code of kind 00, B3 or B8 belongs to a head (ISO/IEC 11172-2, 2.4.2): a
+-- unit begins at the first code, and at each such code that is the first after a slice.
 use Rattle.std.specs.Prelude.{ℕ, ◌+◌, ◌*◌, ◌/◌, ◌%◌, ◌==◌, ◌&&◌, ◌||◌, Bool, true, false, not, List, [], ◌∷◌, Option, Some, None, if◌then◌else◌, nat_lt, nat_le, slice_index}
 use Rattle.mpeg_scan.specs.declared.codes.Code.{Code}
 use Rattle.mpeg_scan.specs.declared.tallies.Header.{Header}
@@ -96,8 +96,8 @@ forward_of c = slice_index c.text 3 % 8 * 2 + slice_index c.text 4 / 128
 abbrev pub backward_of : Code → ℕ
 backward_of c = slice_index c.text 4 / 8 % 16
 
--- the four fields of its vectors as a byte: the backward ones in the high half, and 0 for those that
--- its type lacks
+-- the four fields of its vectors as a byte: the backward ones in the high half, and 0 for those
+-- that its type lacks
 abbrev pub vectors_of : Code → ℕ
 vectors_of c =
     if type_of c == 3 then backward_of c * 16 + forward_of c
@@ -115,7 +115,8 @@ header_of c = record {
 abbrev pub picture_of : List Code → Option Header
 picture_of [] = None
 picture_of (c ∷ past) =
-    if c.kind == 0 then Some (header_of c) else (if begins_unit c past then None else picture_of past)
+    if c.kind == 0 then Some (header_of c)
+    else (if begins_unit c past then None else picture_of past)
 
 -- all of these together
 abbrev pub tally_of : List Code → Tally

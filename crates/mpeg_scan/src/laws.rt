@@ -1,4 +1,5 @@
 ghost use Rattle.std.specs.Prelude.{◌≡◌, ◌↔◌, ℕ, ◌+◌, ◌^◌, ◌<◌, ◌≤◌, ◌++◌, [], List, None, Some, length, true};
+ghost use Rattle.mpeg_scan.specs.declared.units.Unit.{Unit as PictureUnit};
 ghost use Rattle.mpeg_scan.specs.Codes.{codes_of, read};
 ghost use Rattle.mpeg_scan.specs.Counts.{AreNumbered};
 ghost use Rattle.mpeg_scan.specs.Faults.{first_fault};
@@ -6,7 +7,7 @@ ghost use Rattle.mpeg_scan.specs.Films.{refusal, told_of};
 ghost use Rattle.mpeg_scan.specs.Grammar.{IsGrammatical};
 ghost use Rattle.mpeg_scan.specs.Layout.{AreInFilm, BeginsSequence, IsLaid, OfUnit};
 ghost use Rattle.mpeg_scan.specs.Places.{StandsAt};
-ghost use Rattle.mpeg_scan.specs.Standard.{AreFalling, ArePresented, IsAmong, IsSliceKind, IsUnitOf};
+ghost use Rattle.mpeg_scan.specs.Standard.{AreFalling, ArePresented, AreUnitsOf, IsAmong, IsSliceKind, IsUnitOf};
 ghost use Rattle.mpeg_scan.specs.Standard.{StandsThere, slice_places};
 ghost use Rattle.mpeg_scan.specs.Refusals.{IsRefusedFor};
 ghost use Rattle.mpeg_scan.specs.Tiles.{Tiles};
@@ -15,15 +16,16 @@ ghost use Rattle.mpeg_scan.specs.Words.{pictures_of};
 use crate::faults::FilmFault;
 use crate::films::Film;
 
-/// What holds of every film: its rate code is one of the eight of ISO/IEC 11172-2, 2.4.3.2; it has at most
-/// 2^40 bytes and 4,194,304 units, one for each of its pictures; its start codes stand in their order, and
-/// its units are numbered as they come and lie one behind another to its end.
+/// What holds of every film: its rate code is one of the eight of ISO/IEC 11172-2, 2.4.3.2; it has
+/// at most 2^40 bytes and 4,194,304 units, one for each of its pictures; its start codes stand in
+/// their order, and its units are numbered as they come and lie one behind another to its end.
 pub fn law_film(film: &Film)
     ensures slowest { 1 ≤ film.now.rate }
     ensures fastest { film.now.rate ≤ 8 }
     ensures bytes { length film.now.bytes.items ≤ 2 ^ 40 }
     ensures units { length film.now.units.items ≤ 4194304 }
-    ensures pictures { length film.now.units.items ≡ pictures_of (codes_of (read [] film.now.bytes.items)) }
+    ensures pictures { length film.now.units.items ≡
+        pictures_of (codes_of (read [] film.now.bytes.items)) }
     ensures grammatical { IsGrammatical (read [] film.now.bytes.items) }
     ensures numbered { AreNumbered (told_of film.now.bytes.items) }
     ensures tiled { Tiles (read [] film.now.bytes.items) (told_of film.now.bytes.items) }
@@ -31,56 +33,73 @@ pub fn law_film(film: &Film)
     let _read = film.bytes.len();
 }
 
-/// The units of a film: there is at least one, and the first starts a group and begins with the sequence header of the
-/// film's rate. They lie one after another to the film's end, and have their slices in order.
+/// The units of a film: there is at least one, and the first starts a group and begins with the
+/// sequence header of the film's rate. They lie one after another to the film's end, and have their
+/// slices in order.
 pub fn law_units(film: &Film)
     ensures some { 0 < length film.now.units.items }
     ensures group { OfUnit film.now.units.items 0 (λ u. u.starts_group ≡ true) }
-    ensures begins { OfUnit film.now.units.items 0 (λ u. BeginsSequence film.now.bytes.items film.now.rate u.from) }
+    ensures begins { OfUnit film.now.units.items 0 (λ u.
+        BeginsSequence film.now.bytes.items film.now.rate u.from) }
     ensures chained { AreInFilm film.now.bytes.items film.now.units.items }
-    ensures within { (k : ℕ) → OfUnit film.now.units.items k (λ u. u.to ≤ length film.now.bytes.items) }
-    ensures laid { (k : ℕ) → OfUnit film.now.units.items k (λ u. IsLaid film.now.slice_starts.items u) }
+    ensures within { (k : ℕ) →
+        OfUnit film.now.units.items k (λ u. u.to ≤ length film.now.bytes.items) }
+    ensures laid { (k : ℕ) →
+        OfUnit film.now.units.items k (λ u. IsLaid film.now.slice_starts.items u) }
 {
     let _read = film.bytes.len();
 }
 
-/// What is refused stays refused: a refusal at a start code of the bytes so far is that of the film, whatever comes
-/// later; and so is that of bytes which are too many.
+/// What is refused stays refused: a refusal at a start code of the bytes so far is that of the
+/// film, whatever comes later; and so is that of bytes which are too many.
 pub fn law_refused_early()
     ensures code { (front rest : List ℕ) (f : FilmFault) → length (front ++ rest) ≤ 2 ^ 40
         → first_fault (codes_of (read [] front)) ≡ Some f → refusal (front ++ rest) ≡ Some f }
-    ensures long { (bytes : List ℕ) → 2 ^ 40 < length bytes → refusal bytes ≡ Some FilmFault.TooLong }
+    ensures long { (bytes : List ℕ) → 2 ^ 40 < length bytes →
+        refusal bytes ≡ Some FilmFault.TooLong }
 {}
 
-/// Each unit in the words of ISO/IEC 11172-2, over the start codes that stand in the film's bytes: where it begins and
-/// ends, that one picture stands in its head, that its fields are the bits of that picture's header, which other headers
-/// stand in the head, and its presentation number.
+/// Each unit in the words of ISO/IEC 11172-2, over the start codes that stand in the film's bytes:
+/// where it begins and ends, that one picture stands in its head, that its fields are the bits of
+/// that picture's header, which other headers stand in the head, and its presentation number.
 pub fn law_standard_units(film: &Film)
     ensures units { (k : ℕ) → OfUnit film.now.units.items k (λ u. IsUnitOf film.now.bytes.items u) }
     ensures presented { ArePresented 0 0 film.now.units.items }
+    ensures all { AreUnitsOf film.now.bytes.items film.now.units.items }
 {
     let _read = film.bytes.len();
 }
+
+/// A film's units are the only ones: two lists of units that are as ISO/IEC 11172-2 says of the
+/// same bytes are equal.
+pub fn law_one_list_of_units()
+    ensures { (bytes : List ℕ) (units others : List PictureUnit)
+        → AreUnitsOf bytes units → AreUnitsOf bytes others → units ≡ others }
+{}
 
 /// The start codes of bytes are listed in their order, each once.
 pub fn law_codes_in_order()
     ensures { (bytes : List ℕ) → AreFalling (codes_of (read [] bytes)) }
 {}
 
-/// The places of a film's slices are those of the slice codes that stand in its bytes, in their order: a slice begins
-/// exactly where a slice code stands.
+/// The places of a film's slices are those of the slice codes that stand in its bytes, in their
+/// order: a slice begins exactly where a slice code stands.
 pub fn law_slices(film: &Film)
-    ensures places { film.now.slice_starts.items ≡ slice_places (codes_of (read [] film.now.bytes.items)) }
+    ensures places { film.now.slice_starts.items ≡
+        slice_places (codes_of (read [] film.now.bytes.items)) }
     ensures codes { (place : ℕ) → IsAmong place film.now.slice_starts.items
         ↔ StandsThere (StandsAt film.now.bytes.items) place IsSliceKind }
 {
     let _read = film.bytes.len();
 }
 
-/// Each refusal comes exactly where its condition holds, in the words of ISO/IEC 11172-2 over the start codes that stand in
-/// the film's bytes and over the bits of its headers: that of the film's size, else the first in the order of the codes,
-/// and of the conditions at one code, else that of the film's end. A film is accepted exactly where none holds.
+/// Each refusal comes exactly where its condition holds, in the words of ISO/IEC 11172-2 over the
+/// start codes that stand in the film's bytes and over the bits of its headers: that of the film's
+/// size, else the first in the order of the codes, and of the conditions at one code, else that of
+/// the film's end. A film is accepted exactly where none holds.
 pub fn law_refusals()
-    ensures refused { (bytes : List ℕ) (f : FilmFault) → (refusal bytes ≡ Some f) ↔ IsRefusedFor bytes f }
-    ensures accepted { (bytes : List ℕ) → (refusal bytes ≡ None) ↔ ((f : FilmFault) → IsRefusedFor bytes f → ⊥) }
+    ensures refused { (bytes : List ℕ) (f : FilmFault) →
+        (refusal bytes ≡ Some f) ↔ IsRefusedFor bytes f }
+    ensures accepted { (bytes : List ℕ) →
+        (refusal bytes ≡ None) ↔ ((f : FilmFault) → IsRefusedFor bytes f → ⊥) }
 {}

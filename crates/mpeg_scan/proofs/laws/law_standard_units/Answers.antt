@@ -1,4 +1,5 @@
 use Rattle.mpeg_scan.proofs.StandardLemmas.{film-presented, film-standard}
+use Rattle.mpeg_scan.proofs.OnlyLemmas.{film-units_of}
 use Rattle.mpeg_scan.proofs.laws.law_standard_units.Goals as goal
 
 pub returns : goal.returns
@@ -6,4 +7,5 @@ returns c =
     let film = c.args.film.now in record {
       units = λ k u is. film-standard film.bytes.items film.rate film.units.items film.slice_starts.items film.grammar k u is;
       presented = film-presented film.bytes.items film.rate film.units.items film.slice_starts.items film.grammar;
+      all = film-units_of film.bytes.items film.rate film.units.items film.slice_starts.items film.grammar;
     }
