@@ -22,8 +22,8 @@ IsRefusal from booked capacity segments t =
     IsFirstOverflow from booked capacity t.start segments t.over
 
 -- these are the starts from `first` on, in order, and the plan fits at none of them
-pub record AreRefusals (from : ℕ) (booked capacity : ℕ →
-    ℕ) (segments : List Segment) (first : ℕ) (tried : List Tried) : Type 0 where
+pub record AreRefusals (from : ℕ) (booked capacity : ℕ → ℕ) (segments : List Segment) (first : ℕ)
+    (tried : List Tried) : Type 0 where
   pub starts : (i : ℕ) (none : Tried) → i < length tried →
       (slice_index_or tried i none).start ≡ first + i
   pub refused : (i : ℕ) (none : Tried) → i < length tried →
@@ -39,8 +39,8 @@ IsStart from booked capacity segments first wait tried (Some start) =
 -- What is found for a plan that may start from `first` to `first + wait`, where the slots from
 -- `from` on have these booked bytes and capacities: the least start where it fits, and for each
 -- earlier one the first slot without room.
-pub record IsOffer (from : ℕ) (booked capacity : ℕ →
-    ℕ) (segments : List Segment) (first : ℕ) (found : Found) : Type 0 where
+pub record IsOffer (from : ℕ) (booked capacity : ℕ → ℕ) (segments : List Segment) (first : ℕ)
+    (found : Found) : Type 0 where
   pub refusals : AreRefusals from booked capacity segments first found.tried
   pub start : IsStart from booked capacity segments first found.wait
       (length found.tried) found.start

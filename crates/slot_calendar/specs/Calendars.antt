@@ -37,13 +37,13 @@ abbrev pub Fits : (ℕ → ℕ) → (ℕ → ℕ) → ℕ → List Segment → �
 Fits booked capacity start segments u = booked u + asked_at segments start u ≤ capacity u
 
 -- it fits into each slot from `from` on
-pub record HasRoom (from : ℕ) (booked capacity : ℕ →
-    ℕ) (start : ℕ) (segments : List Segment) : Type 0 where
+pub record HasRoom (from : ℕ) (booked capacity : ℕ → ℕ) (start : ℕ) (segments : List Segment)
+    : Type 0 where
   pub each : (u : ℕ) → from ≤ u → Fits booked capacity start segments u
 
 -- the least slot from `from` on into which it doesn't fit, with the bytes booked and asked there
-pub record IsFirstOverflow (from : ℕ) (booked capacity : ℕ →
-    ℕ) (start : ℕ) (segments : List Segment) (over : Overflow) : Type 0 where
+pub record IsFirstOverflow (from : ℕ) (booked capacity : ℕ → ℕ) (start : ℕ)
+    (segments : List Segment) (over : Overflow) : Type 0 where
   pub begun : from ≤ over.slot
   pub overflows : Overflows booked capacity start segments over.slot
   pub least : (u : ℕ) → from ≤ u → u < over.slot → Fits booked capacity start segments u
@@ -67,7 +67,7 @@ FitsIn from until booked capacity start segments =
     (u : ℕ) → from ≤ u → u < until → Fits booked capacity start segments u
 
 -- the first overflow before slot `until`
-pub record IsOverflowIn (from until : ℕ) (booked capacity : ℕ →
-    ℕ) (start : ℕ) (segments : List Segment) (over : Overflow) : Type 0 where
+pub record IsOverflowIn (from until : ℕ) (booked capacity : ℕ → ℕ) (start : ℕ)
+    (segments : List Segment) (over : Overflow) : Type 0 where
   pub inside : over.slot < until
   pub first : IsFirstOverflow from booked capacity start segments over

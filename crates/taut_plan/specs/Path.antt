@@ -38,8 +38,8 @@ segment_to first last =
     record { slots = last.place - first.place; bytes = last.height - first.height }
 
 -- the segments lead from place 0 and height `from` to the corner, which is between the curves
-pub record IsPath (lo hi : ℕ →
-    ℕ) (from : ℕ) (corner : Point) (segments : List Segment) : Type 0 where
+pub record IsPath (lo hi : ℕ → ℕ) (from : ℕ) (corner : Point) (segments : List Segment)
+    : Type 0 where
   pub slots : total_slots segments ≡ corner.place
   pub bytes : from + total_bytes segments ≡ corner.height
   pub above : lo corner.place ≤ corner.height
