@@ -1,13 +1,12 @@
 -- The refusals of a header, of the bits of its bytes.
-use Rattle.std.proofs.Common.{ℕ, suc, zero, Bool, true, false, cond, eqb, ltb, leb, not, ◌&&◌, ◌||◌, ◌+◌, ◌-◌, ◌/◌, ◌%◌, ◌<◌, ◌≤◌, ◌≡◌, ◌⊎◌, List, [], ◌∷◌, Option, Some, None, length, get_or, sym, ◌∙◌, ap, refl, subst, inl, inr, arith}
+use Rattle.std.proofs.Common.{ℕ, Bool, true, false, cond, eqb, ltb, leb, not, ◌&&◌, ◌||◌, ◌+◌, ◌-◌, ◌/◌, ◌%◌, ◌<◌, ◌≤◌, ◌≡◌, ◌⊎◌, List, [], ◌∷◌, Option, Some, None, length, get_or, sym, ◌∙◌, ap, refl, subst, inl, inr, arith}
 use Rattle.std.proofs.lemmas.Bool.{cases_lt, eqb-true, eq-eqb, ne_eqb, ltb-true, ltb-false, lt-ltb, le-ltb, leb-true, le-leb, and_parts, and_from, or_left, or_right, or_parts, not_from_false, false≢true, true≢false}
 use Rattle.mpeg_scan.specs.declared.codes.Code.{Code}
 use Rattle.mpeg_scan.specs.declared.faults.FilmFault.{FilmFault}
 use Rattle.mpeg_scan.specs.declared.faults.FilmFault.TheVariants.{BadRate, BadType, ShortHeader}
 use Rattle.mpeg_scan.specs.Words.{rate_code, rate_of, type_of}
 use Rattle.mpeg_scan.specs.Faults.{first_fault, header_fault, latest_fault, picture_fault, rate_fault}
-use Rattle.mpeg_scan.specs.Places.{HasCode}
-use Rattle.mpeg_scan.specs.Refusals.{HeaderRefusal, IsBadRate, IsBadType, IsLatest, IsOtherRate, IsSequence, IsShortHeader, Otherwise, header_bytes, picture_rate}
+use Rattle.mpeg_scan.specs.Refusals.{HeaderRefusal, IsBadRate, IsBadType, IsLatest, IsOtherRate, IsSequence, IsShortHeader, Otherwise, has_vectors, header_bytes, picture_rate}
 use Rattle.mpeg_scan.specs.Standard.{IsHeadKind, NoneIn, picture_coding_type}
 use Rattle.mpeg_scan.proofs.BoundLemmas.{codes-rate, older-judged}
 use Rattle.mpeg_scan.proofs.FirstLemmas.{first_in, first_in-has, first_in-kind, first_in-rate, first_in-text, first-least}
@@ -20,17 +19,21 @@ use Rattle.mpeg_scan.proofs.BeforeLemmas.{Knows, latest-is, latest-new, older}
 
 -- the text of a code is the bytes after it, as far as a place
 abbrev pub Fits : List ℕ → ℕ → Code → Type 0
-Fits bytes to c = (k : ℕ) → k < 5 → c.place + 4 + k < to → get_or c.text k 0 ≡ get_or bytes (c.place + 4 + k) 0
+Fits bytes to c = (k : ℕ) → k < 5 → c.place + 4 + k < to →
+    get_or c.text k 0 ≡ get_or bytes (c.place + 4 + k) 0
 
-rate-fits : (bytes : List ℕ) (to : ℕ) (c : Code) → Fits bytes to c → c.place + 8 ≤ to → rate_code c ≡ picture_rate bytes c.place
+rate-fits : (bytes : List ℕ) (to : ℕ) (c : Code) → Fits bytes to c → c.place + 8 ≤ to →
+    rate_code c ≡ picture_rate bytes c.place
 rate-fits bytes to c fits far =
     let here : c.place + 4 + 3 ≡ c.place + 7 = omega arith in
     ap (λ b. b % 16) (fits 3 (omega arith) (omega (arith, far)) ∙ ap (λ i. get_or bytes i 0) here)
 
-type-fits : (bytes : List ℕ) (to : ℕ) (c : Code) → Fits bytes to c → c.place + 8 ≤ to → type_of c ≡ picture_coding_type bytes c.place
+type-fits : (bytes : List ℕ) (to : ℕ) (c : Code) → Fits bytes to c → c.place + 8 ≤ to →
+    type_of c ≡ picture_coding_type bytes c.place
 type-fits bytes to c fits far =
     let here : c.place + 4 + 1 ≡ c.place + 5 = omega arith in
-    ap (λ b. b / 8 % 8) (fits 1 (omega arith) (omega (arith, far)) ∙ ap (λ i. get_or bytes i 0) here)
+    ap (λ b. b / 8 % 8) (fits 1 (omega arith) (omega (arith, far)) ∙ ap (λ i.
+    get_or bytes i 0) here)
 
 -- ---- the film's first rate
 
@@ -47,7 +50,8 @@ pub data RateIs (Has : ℕ → ℕ → Type 0) (bytes : List ℕ) (place rate : 
   no_rate : rate ≡ 0 → NoneIn Has 0 place IsSequence → RateIs Has bytes place rate
   its_rate : FirstRate Has bytes place rate → RateIs Has bytes place rate
 
-first-sequence : (Has : ℕ → ℕ → Type 0) (p q : ℕ) → Has p 0xb3 → NoneIn Has 0 p IsSequence → Has q 0xb3 → NoneIn Has 0 q IsSequence → p ≡ q
+first-sequence : (Has : ℕ → ℕ → Type 0) (p q : ℕ) → Has p 0xb3 → NoneIn Has 0 p IsSequence →
+    Has q 0xb3 → NoneIn Has 0 q IsSequence → p ≡ q
 first-sequence Has p q one none other never = elim (cases_lt p q) [
   | inl less ↦ absurd (never p 0xb3 one (omega arith) less refl)
   | inr more ↦ elim (cases_lt q p) [
@@ -58,22 +62,28 @@ first-sequence Has p q one none other never = elim (cases_lt p q) [
 
 -- ---- a rate
 
-rate-parts : (a b l e : Bool) → (a || (b || (l && not e))) ≡ true → (a ≡ true) ⊎ ((b ≡ true) ⊎ ((l ≡ true) × (e ≡ false)))
+rate-parts : (a b l e : Bool) → (a || (b || (l && not e))) ≡ true → (a ≡ true)
+    ⊎ ((b ≡ true) ⊎ ((l ≡ true) × (e ≡ false)))
 rate-parts true b l e is = inl refl
 rate-parts false true l e is = inr (inl refl)
 rate-parts false false true true is = absurd (false≢true is)
 rate-parts false false true false is = inr (inr (refl, refl))
 rate-parts false false false e is = absurd (false≢true is)
 
-rate-whole : (a b l e : Bool) → (a ≡ true) ⊎ ((b ≡ true) ⊎ ((l ≡ true) × (e ≡ false))) → (a || (b || (l && not e))) ≡ true
+rate-whole : (a b l e : Bool) → (a ≡ true)
+    ⊎ ((b ≡ true) ⊎ ((l ≡ true) × (e ≡ false))) → (a || (b || (l && not e))) ≡ true
 rate-whole a b l e (inl is) = or_left a (b || (l && not e)) is
 rate-whole a b l e (inr (inl is)) = or_right a (b || (l && not e)) (or_left b (l && not e) is)
-rate-whole a b l e (inr (inr is)) = or_right a (b || (l && not e)) (or_right b (l && not e) (and_from l (not e) is.0 (not_from_false e is.1)))
+rate-whole a b l e (inr (inr is)) =
+    or_right a (b
+    || (l && not e)) (or_right b (l && not e) (and_from l (not e) is.0 (not_from_false e is.1)))
 
 not-equal : (m n : ℕ) → eqb m n ≡ false → m ≡ n → ⊥
 not-equal m n e is = true≢false (sym (eq-eqb m n is) ∙ e)
 
-other-rate : (Has : ℕ → ℕ → Type 0) (bytes : List ℕ) (place rate : ℕ) → RateIs Has bytes place rate → 0 < rate → (picture_rate bytes place ≡ rate → ⊥) → IsOtherRate Has bytes place
+other-rate : (Has : ℕ → ℕ → Type 0) (bytes : List ℕ) (place rate : ℕ) →
+    RateIs Has bytes place rate → 0 < rate → (picture_rate bytes place ≡ rate → ⊥) →
+    IsOtherRate Has bytes place
 other-rate Has bytes place rate (no_rate none never) some other = absurd (omega (arith, none, some))
 other-rate Has bytes place rate (its_rate r) some other = record {
   first = r.first;
@@ -83,29 +93,39 @@ other-rate Has bytes place rate (its_rate r) some other = record {
   other = λ e. other (e ∙ sym r.is);
 }
 
-rate-other : (Has : ℕ → ℕ → Type 0) (bytes : List ℕ) (place rate : ℕ) → RateIs Has bytes place rate → IsOtherRate Has bytes place → (0 < rate) × (picture_rate bytes place ≡ rate → ⊥)
-rate-other Has bytes place rate (no_rate none never) o = absurd (never o.first 0xb3 o.code (omega arith) o.before refl)
+rate-other : (Has : ℕ → ℕ → Type 0) (bytes : List ℕ) (place rate : ℕ) →
+    RateIs Has bytes place rate → IsOtherRate Has bytes place → (0 < rate)
+    × (picture_rate bytes place ≡ rate → ⊥)
+rate-other Has bytes place rate (no_rate none never) o =
+    absurd (never o.first 0xb3 o.code (omega arith) o.before refl)
 rate-other Has bytes place rate (its_rate r) o =
     let same = first-sequence Has r.first o.first r.code r.none o.code o.none in
     (omega (arith, r.some), λ e. o.other (e ∙ r.is ∙ ap (picture_rate bytes) same))
 
-bad-rate : (Has : ℕ → ℕ → Type 0) (bytes : List ℕ) (place rate its : ℕ) → its ≡ picture_rate bytes place → RateIs Has bytes place rate → (its ≡ 0) ⊎ ((8 < its) ⊎ ((0 < rate) × (its ≡ rate → ⊥)))
-    → (picture_rate bytes place ≡ 0) ⊎ ((8 < picture_rate bytes place) ⊎ IsOtherRate Has bytes place)
+bad-rate : (Has : ℕ → ℕ → Type 0) (bytes : List ℕ) (place rate its : ℕ) →
+    its ≡ picture_rate bytes place → RateIs Has bytes place rate → (its ≡ 0)
+    ⊎ ((8 < its) ⊎ ((0 < rate) × (its ≡ rate → ⊥)))
+    → (picture_rate bytes place ≡ 0)
+    ⊎ ((8 < picture_rate bytes place) ⊎ IsOtherRate Has bytes place)
 bad-rate Has bytes place rate its is known (inl none) = inl (sym is ∙ none)
 bad-rate Has bytes place rate its is known (inr (inl many)) = inr (inl (subst (λ n. 8 < n) is many))
 bad-rate Has bytes place rate its is known (inr (inr other)) =
     inr (inr (other-rate Has bytes place rate known other.0 (λ e. other.1 (is ∙ e))))
 
-rate-bad : (Has : ℕ → ℕ → Type 0) (bytes : List ℕ) (place rate its : ℕ) → its ≡ picture_rate bytes place → RateIs Has bytes place rate
-    → (picture_rate bytes place ≡ 0) ⊎ ((8 < picture_rate bytes place) ⊎ IsOtherRate Has bytes place)
+rate-bad : (Has : ℕ → ℕ → Type 0) (bytes : List ℕ) (place rate its : ℕ) →
+    its ≡ picture_rate bytes place → RateIs Has bytes place rate
+    → (picture_rate bytes place ≡ 0)
+    ⊎ ((8 < picture_rate bytes place) ⊎ IsOtherRate Has bytes place)
     → (eqb its 0 ≡ true) ⊎ ((ltb 8 its ≡ true) ⊎ ((ltb 0 rate ≡ true) × (eqb its rate ≡ false)))
 rate-bad Has bytes place rate its is known (inl none) = inl (eq-eqb its 0 (is ∙ none))
-rate-bad Has bytes place rate its is known (inr (inl many)) = inr (inl (lt-ltb 8 its (subst (λ n. 8 < n) (sym is) many)))
+rate-bad Has bytes place rate its is known (inr (inl many)) =
+    inr (inl (lt-ltb 8 its (subst (λ n. 8 < n) (sym is) many)))
 rate-bad Has bytes place rate its is known (inr (inr o)) =
     let other = rate-other Has bytes place rate known o in
     inr (inr (lt-ltb 0 rate other.0, ne_eqb its rate (λ e. other.1 (sym is ∙ e))))
 
-rate-tests : (its rate : ℕ) → (eqb its 0 ≡ true) ⊎ ((ltb 8 its ≡ true) ⊎ ((ltb 0 rate ≡ true) × (eqb its rate ≡ false)))
+rate-tests : (its rate : ℕ) → (eqb its 0 ≡ true)
+    ⊎ ((ltb 8 its ≡ true) ⊎ ((ltb 0 rate ≡ true) × (eqb its rate ≡ false)))
     → (its ≡ 0) ⊎ ((8 < its) ⊎ ((0 < rate) × (its ≡ rate → ⊥)))
 rate-tests its rate (inl e) = inl (eqb-true its 0 e)
 rate-tests its rate (inr (inl e)) = inr (inl (ltb-true 8 its e))
@@ -114,26 +134,44 @@ rate-tests its rate (inr (inr e)) = inr (inr (ltb-true 0 rate e.0, not-equal its
 -- ---- a header
 
 -- the header of the code c, with the next code, or the film's end, at a place
-pub record Header (Has : ℕ → ℕ → Type 0) (bytes : List ℕ) (c : Code) (past : List Code) (at rate : ℕ) : Type 0 where
+pub record Header (Has : ℕ → ℕ →
+    Type 0) (bytes : List ℕ) (c : Code) (past : List Code) (at rate : ℕ) : Type 0 where
   pub knows : Knows Has (c ∷ past) at
   pub spaced : Spaced (c ∷ past)
   pub fits : Fits bytes at c
   pub rate_is : RateIs Has bytes c.place rate
 
-kind-is : (Has : ℕ → ℕ → Type 0) (bytes : List ℕ) (c : Code) (past : List Code) (at rate place kind : ℕ) → Header Has bytes c past at rate → IsLatest Has place kind at → (c.place ≡ place) × (c.kind ≡ kind)
-kind-is Has bytes c past at rate place kind h l = latest-is Has c past at place kind h.knows h.spaced l
+kind-is : (Has : ℕ → ℕ →
+    Type 0) (bytes : List ℕ) (c : Code) (past : List Code) (at rate place kind : ℕ) →
+    Header Has bytes c past at rate → IsLatest Has place kind at → (c.place ≡ place)
+    × (c.kind ≡ kind)
+kind-is Has bytes c past at rate place kind h l =
+    latest-is Has c past at place kind h.knows h.spaced l
 
-latest-kind : (Has : ℕ → ℕ → Type 0) (bytes : List ℕ) (c : Code) (past : List Code) (at rate kind : ℕ) → Header Has bytes c past at rate → c.kind ≡ kind → IsLatest Has c.place kind at
-latest-kind Has bytes c past at rate kind h is = subst (λ k. IsLatest Has c.place k at) is (latest-new Has c past at h.knows h.spaced)
+latest-kind : (Has : ℕ → ℕ →
+    Type 0) (bytes : List ℕ) (c : Code) (past : List Code) (at rate kind : ℕ) →
+    Header Has bytes c past at rate → c.kind ≡ kind → IsLatest Has c.place kind at
+latest-kind Has bytes c past at rate kind h is =
+    subst (λ k. IsLatest Has c.place k at) is (latest-new Has c past at h.knows h.spaced)
 
-no-rate : (Has : ℕ → ℕ → Type 0) (bytes : List ℕ) (c : Code) (past : List Code) (at rate : ℕ) → Header Has bytes c past at rate → (c.kind ≡ 0xb3 → ⊥) → (f : FilmFault) → IsBadRate Has bytes at f → ⊥
-no-rate Has bytes c past at rate h other f p = other (kind-is Has bytes c past at rate p.place 0xb3 h p.latest).1
+no-rate : (Has : ℕ → ℕ → Type 0) (bytes : List ℕ) (c : Code) (past : List Code) (at rate : ℕ) →
+    Header Has bytes c past at rate → (c.kind ≡ 0xb3 → ⊥) → (f : FilmFault) →
+    IsBadRate Has bytes at f → ⊥
+no-rate Has bytes c past at rate h other f p =
+    other (kind-is Has bytes c past at rate p.place 0xb3 h p.latest).1
 
-no-type : (Has : ℕ → ℕ → Type 0) (bytes : List ℕ) (c : Code) (past : List Code) (at rate : ℕ) → Header Has bytes c past at rate → (c.kind ≡ 0 → ⊥) → (f : FilmFault) → IsBadType Has bytes at f → ⊥
-no-type Has bytes c past at rate h other f p = other (kind-is Has bytes c past at rate p.place 0 h p.latest).1
+no-type : (Has : ℕ → ℕ → Type 0) (bytes : List ℕ) (c : Code) (past : List Code) (at rate : ℕ) →
+    Header Has bytes c past at rate → (c.kind ≡ 0 → ⊥) → (f : FilmFault) →
+    IsBadType Has bytes at f → ⊥
+no-type Has bytes c past at rate h other f p =
+    other (kind-is Has bytes c past at rate p.place 0 h p.latest).1
 
 -- the fewest bytes of a header
-short-new : (Has : ℕ → ℕ → Type 0) (bytes : List ℕ) (c : Code) (past : List Code) (at rate kind : ℕ) → Header Has bytes c past at rate → c.kind ≡ kind → IsHeadKind kind → at < c.place + header_bytes bytes c.place kind → IsShortHeader Has bytes at (ShortHeader c.place)
+short-new : (Has : ℕ → ℕ →
+    Type 0) (bytes : List ℕ) (c : Code) (past : List Code) (at rate kind : ℕ) →
+    Header Has bytes c past at rate → c.kind ≡ kind → IsHeadKind kind →
+    at < c.place + header_bytes bytes c.place kind →
+    IsShortHeader Has bytes at (ShortHeader c.place)
 short-new Has bytes c past at rate kind h is head short = record {
   place = c.place;
   kind = kind;
@@ -147,72 +185,113 @@ record ShortHere (bytes : List ℕ) (c : Code) (at : ℕ) (f : FilmFault) : Type
   short : at < c.place + header_bytes bytes c.place c.kind
   is : f ≡ ShortHeader c.place
 
-short-here : (Has : ℕ → ℕ → Type 0) (bytes : List ℕ) (c : Code) (past : List Code) (at rate : ℕ) → Header Has bytes c past at rate → (f : FilmFault) → IsShortHeader Has bytes at f → ShortHere bytes c at f
+short-here : (Has : ℕ → ℕ → Type 0) (bytes : List ℕ) (c : Code) (past : List Code) (at rate : ℕ) →
+    Header Has bytes c past at rate → (f : FilmFault) → IsShortHeader Has bytes at f →
+    ShortHere bytes c at f
 short-here Has bytes c past at rate h f p =
     let same = kind-is Has bytes c past at rate p.place p.kind h p.latest in record {
-      short = subst (λ k. at < c.place + header_bytes bytes c.place k) (sym same.1) (subst (λ v. at < v + header_bytes bytes v p.kind) (sym same.0) p.short);
+      short = subst (λ k.
+          at < c.place
+          + header_bytes bytes c.place k) (sym same.1) (subst (λ v.
+          at < v + header_bytes bytes v p.kind) (sym same.0) p.short);
       is = p.is ∙ ap ShortHeader (sym same.0);
     }
 
-short-at : (bytes : List ℕ) (c : Code) (at kind : ℕ) (f : FilmFault) → c.kind ≡ kind → ShortHere bytes c at f → at < c.place + header_bytes bytes c.place kind
-short-at bytes c at kind f is s = subst (λ k. at < c.place + header_bytes bytes c.place k) is s.short
+short-at : (bytes : List ℕ) (c : Code) (at kind : ℕ) (f : FilmFault) → c.kind ≡ kind →
+    ShortHere bytes c at f → at < c.place + header_bytes bytes c.place kind
+short-at bytes c at kind f is s =
+    subst (λ k. at < c.place + header_bytes bytes c.place k) is s.short
 
 abbrev Refused : (ℕ → ℕ → Type 0) → List ℕ → ℕ → Option FilmFault → Type 0
 Refused Has bytes at o = Decides (HeaderRefusal Has bytes at) o
 
-sequence-decides : (Has : ℕ → ℕ → Type 0) (bytes : List ℕ) (c : Code) (past : List Code) (at rate : ℕ) → Header Has bytes c past at rate → c.kind ≡ 0xb3
-    → Refused Has bytes at (cond (ltb (at - c.place) 12) (Some (ShortHeader c.place)) (rate_fault rate c))
+sequence-decides : (Has : ℕ → ℕ →
+    Type 0) (bytes : List ℕ) (c : Code) (past : List Code) (at rate : ℕ) →
+    Header Has bytes c past at rate → c.kind ≡ 0xb3
+    → Refused Has bytes at
+    (cond (ltb (at - c.place) 12) (Some (ShortHeader c.place)) (rate_fault rate c))
 sequence-decides Has bytes c past at rate h is =
     let short = short-here Has bytes c past at rate h in
-    both-cond (IsShortHeader Has bytes at) (Otherwise (IsBadRate Has bytes at) (IsBadType Has bytes at)) (ltb (at - c.place) 12) (ShortHeader c.place) (rate_fault rate c)
-    (λ e. short-new Has bytes c past at rate 0xb3 h is (inr (inl refl)) (omega (arith, ltb-true (at - c.place) 12 e)))
-    (λ g p. (lt-ltb (at - c.place) 12 (omega (arith, short-at bytes c at 0xb3 g is (short g p))), (short g p).is))
+    both-cond (IsShortHeader Has bytes at)
+    (Otherwise (IsBadRate Has bytes at) (IsBadType Has bytes at)) (ltb (at - c.place) 12)
+    (ShortHeader c.place) (rate_fault rate c)
+    (λ e. short-new Has bytes c past at rate 0xb3 h is (inr (inl refl))
+    (omega (arith, ltb-true (at - c.place) 12 e)))
+    (λ g p. (
+      lt-ltb (at - c.place) 12 (omega (arith, short-at bytes c at 0xb3 g is (short g p))),
+      (short g p).is,
+    ))
     (λ e. let far : c.place + 12 ≤ at = omega (arith, ltb-false (at - c.place) 12 e) in
     let its = rate-fits bytes at c h.fits (omega (arith, far)) in
     only-first (IsBadRate Has bytes at) (IsBadType Has bytes at) (rate_fault rate c)
-    (decide (IsBadRate Has bytes at) (eqb (rate_code c) 0 || (ltb 8 (rate_code c) || (ltb 0 rate && not (eqb (rate_code c) rate)))) (BadRate c.place (rate_code c))
+    (decide (IsBadRate Has bytes at) (eqb (rate_code c) 0
+    || (ltb 8 (rate_code c)
+    || (ltb 0 rate && not (eqb (rate_code c) rate)))) (BadRate c.place (rate_code c))
     (λ t. record {
       place = c.place;
       latest = latest-kind Has bytes c past at rate 0xb3 h is;
-      bad = bad-rate Has bytes c.place rate (rate_code c) its h.rate_is (rate-tests (rate_code c) rate (rate-parts (eqb (rate_code c) 0) (ltb 8 (rate_code c)) (ltb 0 rate) (eqb (rate_code c) rate) t));
+      bad = bad-rate Has bytes c.place rate (rate_code c) its h.rate_is
+          (rate-tests (rate_code c) rate
+          (rate-parts (eqb (rate_code c) 0) (ltb 8 (rate_code c)) (ltb 0 rate)
+          (eqb (rate_code c) rate) t));
       is = ap (BadRate c.place) its;
     })
     (λ g p. let same = kind-is Has bytes c past at rate p.place 0xb3 h p.latest in (
-      rate-whole (eqb (rate_code c) 0) (ltb 8 (rate_code c)) (ltb 0 rate) (eqb (rate_code c) rate) (rate-bad Has bytes c.place rate (rate_code c) its h.rate_is
-          (subst (λ v. (picture_rate bytes v ≡ 0) ⊎ ((8 < picture_rate bytes v) ⊎ IsOtherRate Has bytes v)) (sym same.0) p.bad)),
-      p.is ∙ ap (λ v. BadRate v (picture_rate bytes v)) (sym same.0) ∙ ap (BadRate c.place) (sym its),
+      rate-whole (eqb (rate_code c) 0) (ltb 8 (rate_code c)) (ltb 0 rate) (eqb (rate_code c) rate)
+          (rate-bad Has bytes c.place rate (rate_code c) its h.rate_is
+          (subst (λ v. (picture_rate bytes v ≡ 0)
+          ⊎ ((8 < picture_rate bytes v) ⊎ IsOtherRate Has bytes v)) (sym same.0) p.bad)),
+      p.is ∙ ap (λ v. BadRate v (picture_rate bytes v)) (sym same.0) ∙ ap (BadRate c.place)
+          (sym its),
     )))
     (no-type Has bytes c past at rate h (λ e. absurd (omega (arith, e, is)))))
 
-group-decides : (Has : ℕ → ℕ → Type 0) (bytes : List ℕ) (c : Code) (past : List Code) (at rate : ℕ) → Header Has bytes c past at rate → c.kind ≡ 0xb8
+group-decides : (Has : ℕ → ℕ →
+    Type 0) (bytes : List ℕ) (c : Code) (past : List Code) (at rate : ℕ) →
+    Header Has bytes c past at rate → c.kind ≡ 0xb8
     → Refused Has bytes at (cond (ltb (at - c.place) 8) (Some (ShortHeader c.place)) None)
 group-decides Has bytes c past at rate h is =
     let short = short-here Has bytes c past at rate h in
-    both-cond (IsShortHeader Has bytes at) (Otherwise (IsBadRate Has bytes at) (IsBadType Has bytes at)) (ltb (at - c.place) 8) (ShortHeader c.place) None
-    (λ e. short-new Has bytes c past at rate 0xb8 h is (inr (inr refl)) (omega (arith, ltb-true (at - c.place) 8 e)))
-    (λ g p. (lt-ltb (at - c.place) 8 (omega (arith, short-at bytes c at 0xb8 g is (short g p))), (short g p).is))
-    (λ _. none-of (Otherwise (IsBadRate Has bytes at) (IsBadType Has bytes at)) (neither (IsBadRate Has bytes at) (IsBadType Has bytes at)
-    (no-rate Has bytes c past at rate h (λ e. absurd (omega (arith, e, is)))) (no-type Has bytes c past at rate h (λ e. absurd (omega (arith, e, is))))))
+    both-cond (IsShortHeader Has bytes at)
+    (Otherwise (IsBadRate Has bytes at) (IsBadType Has bytes at)) (ltb (at - c.place) 8)
+    (ShortHeader c.place) None
+    (λ e. short-new Has bytes c past at rate 0xb8 h is (inr (inr refl))
+    (omega (arith, ltb-true (at - c.place) 8 e)))
+    (λ g p. (
+      lt-ltb (at - c.place) 8 (omega (arith, short-at bytes c at 0xb8 g is (short g p))),
+      (short g p).is,
+    ))
+    (λ _. none-of (Otherwise (IsBadRate Has bytes at) (IsBadType Has bytes at))
+    (neither (IsBadRate Has bytes at) (IsBadType Has bytes at)
+    (no-rate Has bytes c past at rate h (λ e.
+    absurd (omega (arith, e, is)))) (no-type Has bytes c past at rate h (λ e.
+    absurd (omega (arith, e, is))))))
 
 type-good : (t : ℕ) → (leb 1 t && leb t 4) ≡ false → (t ≡ 0) ⊎ (4 < t)
 type-good t e = elim (cases_lt 4 t) [
   | inl many ↦ inr many
   | inr few ↦ elim (cases_lt 0 t) [
-    | inl some ↦ absurd (true≢false (sym (and_from (leb 1 t) (leb t 4) (le-leb 1 t (omega (arith, some))) (le-leb t 4 (omega (arith, few)))) ∙ e))
+    | inl some ↦ absurd
+        (true≢false (sym
+        (and_from (leb 1 t) (leb t 4) (le-leb 1 t (omega (arith, some)))
+        (le-leb t 4 (omega (arith, few)))) ∙ e))
     | inr none ↦ inl (omega (arith, none))
   ]
 ]
 
 type-bad : (b : Bool) (t : ℕ) → (leb 1 t && leb t 4) ≡ b → (t ≡ 0) ⊎ (4 < t) → b ≡ false
 type-bad false t e bad = refl
-type-bad true t e (inl none) = absurd (omega (arith, none, leb-true 1 t (and_parts (leb 1 t) (leb t 4) e).0))
-type-bad true t e (inr many) = absurd (omega (arith, many, leb-true t 4 (and_parts (leb 1 t) (leb t 4) e).1))
+type-bad true t e (inl none) =
+    absurd (omega (arith, none, leb-true 1 t (and_parts (leb 1 t) (leb t 4) e).0))
+type-bad true t e (inr many) =
+    absurd (omega (arith, many, leb-true t 4 (and_parts (leb 1 t) (leb t 4) e).1))
 
 not-parts : (b : Bool) → not b ≡ true → b ≡ false
 not-parts true e = absurd (false≢true e)
 not-parts false e = refl
 
-no-kind : (kind : ℕ) → eqb kind 0xb3 ≡ false → eqb kind 0xb8 ≡ false → eqb kind 0 ≡ false → IsHeadKind kind → ⊥
+no-kind : (kind : ℕ) → eqb kind 0xb3 ≡ false → eqb kind 0xb8 ≡ false → eqb kind 0 ≡ false →
+    IsHeadKind kind → ⊥
 no-kind kind a b z (inl e) = true≢false (sym (eq-eqb kind 0 e) ∙ z)
 no-kind kind a b z (inr (inl e)) = true≢false (sym (eq-eqb kind 0xb3 e) ∙ a)
 no-kind kind a b z (inr (inr e)) = true≢false (sym (eq-eqb kind 0xb8 e) ∙ b)
@@ -226,19 +305,24 @@ some-low : (b : Bool) → 8 ≤ cond b 9 8
 some-low true = omega arith
 some-low false = omega arith
 
-fewer : (two its : Bool) (d : ℕ) → (8 ≤ d → two ≡ its) → (ltb d 8 || (two && ltb d 9)) ≡ true → d < cond its 9 8
+fewer : (two its : Bool) (d : ℕ) → (8 ≤ d → two ≡ its) → (ltb d 8 || (two && ltb d 9)) ≡ true →
+    d < cond its 9 8
 fewer two its d same e = elim (cases_lt d 8) [
   | inl less ↦ omega (arith, less, some-low its)
   | inr more ↦
-      (let parts = and_parts two (ltb d 9) (ap (λ b. b || (two && ltb d 9)) (sym (le-ltb d 8 more)) ∙ e) in
+      (let parts = and_parts two (ltb d 9) (ap (λ b.
+      b || (two && ltb d 9)) (sym (le-ltb d 8 more)) ∙ e) in
       subst (λ b. d < cond b 9 8) (sym parts.0 ∙ same more) (ltb-true d 9 parts.1))
 ]
 
-few-by : (its two : Bool) (d : ℕ) → two ≡ its → 8 ≤ d → d < cond its 9 8 → (ltb d 8 || (two && ltb d 9)) ≡ true
-few-by true two d same more few = or_right (ltb d 8) (two && ltb d 9) (and_from two (ltb d 9) same (lt-ltb d 9 few))
+few-by : (its two : Bool) (d : ℕ) → two ≡ its → 8 ≤ d → d < cond its 9 8 →
+    (ltb d 8 || (two && ltb d 9)) ≡ true
+few-by true two d same more few =
+    or_right (ltb d 8) (two && ltb d 9) (and_from two (ltb d 9) same (lt-ltb d 9 few))
 few-by false two d same more few = absurd (omega (arith, more, few))
 
-few : (two its : Bool) (d : ℕ) → (8 ≤ d → two ≡ its) → d < cond its 9 8 → (ltb d 8 || (two && ltb d 9)) ≡ true
+few : (two its : Bool) (d : ℕ) → (8 ≤ d → two ≡ its) → d < cond its 9 8 →
+    (ltb d 8 || (two && ltb d 9)) ≡ true
 few two its d same is = elim (cases_lt d 8) [
   | inl less ↦ or_left (ltb d 8) (two && ltb d 9) (lt-ltb d 8 less)
   | inr more ↦ few-by its two d (same more) more is
@@ -252,10 +336,9 @@ less-room : (b : Bool) (place at : ℕ) → at < place + cond b 9 8 → at - pla
 less-room true place at e = omega (arith, e)
 less-room false place at e = omega (arith, e)
 
-abbrev is_long_type : ℕ → Bool
-is_long_type t = eqb t 2 || eqb t 3
-
-picture-decides : (Has : ℕ → ℕ → Type 0) (bytes : List ℕ) (c : Code) (past : List Code) (at rate : ℕ) → Header Has bytes c past at rate → c.kind ≡ 0 → Refused Has bytes at (picture_fault c at)
+picture-decides : (Has : ℕ → ℕ →
+    Type 0) (bytes : List ℕ) (c : Code) (past : List Code) (at rate : ℕ) →
+    Header Has bytes c past at rate → c.kind ≡ 0 → Refused Has bytes at (picture_fault c at)
 picture-decides Has bytes c past at rate h is =
     let short = short-here Has bytes c past at rate h in
     let d = at - c.place in
@@ -265,13 +348,20 @@ picture-decides Has bytes c past at rate h is =
     let Kind = IsBadType Has bytes at in
     let never = no-rate Has bytes c past at rate h (λ e. absurd (omega (arith, e, is))) in
     let same = λ (more : 8 ≤ at - c.place). type-fits bytes at c h.fits (omega (arith, more)) in
-    let twice = λ (more : 8 ≤ at - c.place). ap is_long_type (same more) in
-    let test = ltb d 8 || (is_long_type t && ltb d 9) in
+    let twice = λ (more : 8 ≤ at - c.place). ap has_vectors (same more) in
+    let test = ltb d 8 || (has_vectors t && ltb d 9) in
     let good = leb 1 t && leb t 4 in
-    both-cond (IsShortHeader Has bytes at) (Otherwise Rate Kind) test (ShortHeader c.place) (cond good None (Some (BadType c.place)))
-    (λ e. short-new Has bytes c past at rate 0 h is (inl refl) (room (is_long_type its) c.place at (fewer (is_long_type t) (is_long_type its) d twice e)))
-    (λ g p. (few (is_long_type t) (is_long_type its) d twice (less-room (is_long_type its) c.place at (short-at bytes c at 0 g is (short g p))), (short g p).is))
-    (λ e. let far : 8 ≤ at - c.place = ltb-false d 8 (or_parts (ltb d 8) (is_long_type t && ltb d 9) e).0 in
+    both-cond (IsShortHeader Has bytes at) (Otherwise Rate Kind) test (ShortHeader c.place)
+    (cond good None (Some (BadType c.place)))
+    (λ e. short-new Has bytes c past at rate 0 h is (inl refl)
+    (room (has_vectors its) c.place at (fewer (has_vectors t) (has_vectors its) d twice e)))
+    (λ g p. (
+      few (has_vectors t) (has_vectors its) d twice
+          (less-room (has_vectors its) c.place at (short-at bytes c at 0 g is (short g p))),
+      (short g p).is,
+    ))
+    (λ e. let far : 8 ≤ at - c.place = ltb-false d 8 (or_parts (ltb d 8) (has_vectors t
+    && ltb d 9) e).0 in
     only-second Rate Kind (cond good None (Some (BadType c.place))) never
     (subst (λ (o : Option FilmFault). Decides Kind o) (flip good (BadType c.place))
     (decide Kind (not good) (BadType c.place)
@@ -282,28 +372,50 @@ picture-decides Has bytes c past at rate h is =
       is = refl;
     })
     (λ g p. let here = kind-is Has bytes c past at rate p.place 0 h p.latest in (
-      not_from_false good (type-bad good t refl (subst (λ v. (v ≡ 0) ⊎ (4 < v)) (sym (same far)) (subst (λ v. (picture_coding_type bytes v ≡ 0) ⊎ (4 < picture_coding_type bytes v)) (sym here.0) p.bad))),
+      not_from_false good (type-bad good t refl (subst (λ v. (v ≡ 0)
+          ⊎ (4 < v)) (sym (same far)) (subst (λ v. (picture_coding_type bytes v ≡ 0)
+          ⊎ (4 < picture_coding_type bytes v)) (sym here.0) p.bad))),
       p.is ∙ ap BadType (sym here.0),
     )))))
 
 -- ---- any header
 
-other-decides : (Has : ℕ → ℕ → Type 0) (bytes : List ℕ) (c : Code) (past : List Code) (at rate : ℕ) → Header Has bytes c past at rate → (IsHeadKind c.kind → ⊥) → (f : FilmFault) → HeaderRefusal Has bytes at f → ⊥
+other-decides : (Has : ℕ → ℕ →
+    Type 0) (bytes : List ℕ) (c : Code) (past : List Code) (at rate : ℕ) →
+    Header Has bytes c past at rate → (IsHeadKind c.kind → ⊥) → (f : FilmFault) →
+    HeaderRefusal Has bytes at f → ⊥
 other-decides Has bytes c past at rate h other =
-    neither (IsShortHeader Has bytes at) (Otherwise (IsBadRate Has bytes at) (IsBadType Has bytes at))
-    (λ f p. other (subst IsHeadKind (sym (kind-is Has bytes c past at rate p.place p.kind h p.latest).1) p.head))
-    (neither (IsBadRate Has bytes at) (IsBadType Has bytes at) (no-rate Has bytes c past at rate h (λ e. other (inr (inl e)))) (no-type Has bytes c past at rate h (λ e. other (inl e))))
+    neither (IsShortHeader Has bytes at)
+    (Otherwise (IsBadRate Has bytes at) (IsBadType Has bytes at))
+    (λ f p. other (subst IsHeadKind
+    (sym (kind-is Has bytes c past at rate p.place p.kind h p.latest).1) p.head))
+    (neither (IsBadRate Has bytes at) (IsBadType Has bytes at)
+    (no-rate Has bytes c past at rate h (λ e.
+    other (inr (inl e)))) (no-type Has bytes c past at rate h (λ e. other (inl e))))
 
-kinds-decide : (three eight zero_is : Bool) (Has : ℕ → ℕ → Type 0) (bytes : List ℕ) (c : Code) (past : List Code) (at rate : ℕ) → eqb c.kind 0xb3 ≡ three → eqb c.kind 0xb8 ≡ eight → eqb c.kind 0 ≡ zero_is → Header Has bytes c past at rate
-    → Refused Has bytes at (cond three (cond (ltb (at - c.place) 12) (Some (ShortHeader c.place)) (rate_fault rate c)) (cond eight (cond (ltb (at - c.place) 8) (Some (ShortHeader c.place)) None) (cond zero_is (picture_fault c at) None)))
-kinds-decide true eight zero_is Has bytes c past at rate a b z h = sequence-decides Has bytes c past at rate h (eqb-true c.kind 0xb3 a)
-kinds-decide false true zero_is Has bytes c past at rate a b z h = group-decides Has bytes c past at rate h (eqb-true c.kind 0xb8 b)
-kinds-decide false false true Has bytes c past at rate a b z h = picture-decides Has bytes c past at rate h (eqb-true c.kind 0 z)
+kinds-decide : (three eight zero_is : Bool) (Has : ℕ → ℕ →
+    Type 0) (bytes : List ℕ) (c : Code) (past : List Code) (at rate : ℕ) → eqb c.kind 0xb3 ≡ three →
+    eqb c.kind 0xb8 ≡ eight → eqb c.kind 0 ≡ zero_is → Header Has bytes c past at rate
+    → Refused Has bytes at
+    (cond three (cond (ltb (at - c.place) 12) (Some (ShortHeader c.place)) (rate_fault rate c))
+    (cond eight (cond (ltb (at - c.place) 8) (Some (ShortHeader c.place)) None)
+    (cond zero_is (picture_fault c at) None)))
+kinds-decide true eight zero_is Has bytes c past at rate a b z h =
+    sequence-decides Has bytes c past at rate h (eqb-true c.kind 0xb3 a)
+kinds-decide false true zero_is Has bytes c past at rate a b z h =
+    group-decides Has bytes c past at rate h (eqb-true c.kind 0xb8 b)
+kinds-decide false false true Has bytes c past at rate a b z h =
+    picture-decides Has bytes c past at rate h (eqb-true c.kind 0 z)
 kinds-decide false false false Has bytes c past at rate a b z h =
-    none-of (HeaderRefusal Has bytes at) (other-decides Has bytes c past at rate h (no-kind c.kind a b z))
+    none-of (HeaderRefusal Has bytes at)
+    (other-decides Has bytes c past at rate h (no-kind c.kind a b z))
 
-pub header-decides : (Has : ℕ → ℕ → Type 0) (bytes : List ℕ) (c : Code) (past : List Code) (at rate : ℕ) → Header Has bytes c past at rate → Refused Has bytes at (header_fault rate c at)
-header-decides Has bytes c past at rate h = kinds-decide (eqb c.kind 0xb3) (eqb c.kind 0xb8) (eqb c.kind 0) Has bytes c past at rate refl refl refl h
+pub header-decides : (Has : ℕ → ℕ →
+    Type 0) (bytes : List ℕ) (c : Code) (past : List Code) (at rate : ℕ) →
+    Header Has bytes c past at rate → Refused Has bytes at (header_fault rate c at)
+header-decides Has bytes c past at rate h =
+    kinds-decide (eqb c.kind 0xb3) (eqb c.kind 0xb8)
+    (eqb c.kind 0) Has bytes c past at rate refl refl refl h
 
 -- ---- the header before a place
 
@@ -312,10 +424,14 @@ pub record Same (bytes r : List ℕ) : Type 0 where
   pub byte : (i : ℕ) → at_byte r i ≡ get_or bytes i 256
   pub long : length r ≡ length bytes
 
-text-fits : (bytes r : List ℕ) (stop to : ℕ) (c : Code) → Same bytes r → TextIs r stop c → to ≤ stop → Fits bytes to c
-text-fits bytes r stop to c same text far k small below = text-byte bytes r stop c k same.byte small (omega (arith, below, far)) text same.long
+text-fits : (bytes r : List ℕ) (stop to : ℕ) (c : Code) → Same bytes r → TextIs r stop c →
+    to ≤ stop → Fits bytes to c
+text-fits bytes r stop to c same text far k small below =
+    text-byte bytes r stop c k same.byte small (omega (arith, below, far)) text same.long
 
-rate-known : (Has : ℕ → ℕ → Type 0) (bytes r : List ℕ) (past : List Code) (at : ℕ) → Same bytes r → Knows Has past at → Spaced past → TextsAre r (at + 4) past → first_fault past ≡ None → latest_fault past at ≡ None → RateIs Has bytes at (rate_of past)
+rate-known : (Has : ℕ → ℕ → Type 0) (bytes r : List ℕ) (past : List Code) (at : ℕ) → Same bytes r →
+    Knows Has past at → Spaced past → TextsAre r (at + 4) past → first_fault past ≡ None →
+    latest_fault past at ≡ None → RateIs Has bytes at (rate_of past)
 rate-known Has bytes r [] at same k spaced texts accepted judged =
     no_rate refl (λ place kind has after before is. absurd (k.back place kind has before))
 rate-known Has bytes r (c ∷ past) at same k spaced texts accepted judged =
@@ -325,22 +441,39 @@ rate-known Has bytes r (c ∷ past) at same k spaced texts accepted judged =
     let rate = codes-rate c past at accepted judged in
     its_rate (record {
       first = first.place;
-      code = subst (λ m. Has first.place m) (first_in-kind c past accepted) (k.there first.place first.kind has);
-      none = λ place kind code after before is. omega (arith, before, first-least c past place kind spaced (k.back place kind code (omega (arith, before, k.below first.place first.kind has))));
+      code = subst (λ m.
+          Has first.place m) (first_in-kind c past accepted) (k.there first.place first.kind has);
+      none = λ place kind code after before is.
+          omega (
+            arith,
+            before,
+            first-least c past place kind spaced
+                (k.back place kind code (omega (arith, before, k.below first.place first.kind has))),
+          );
       before = k.below first.place first.kind has;
-      is = first_in-rate c past at accepted judged ∙ rate-fits bytes text.stop first (text-fits bytes r text.stop text.stop first same text.is (omega arith)) (omega (arith, text.long));
+      is = first_in-rate c past at accepted judged ∙ rate-fits bytes text.stop first
+          (text-fits bytes r text.stop text.stop first same text.is (omega arith))
+          (omega (arith, text.long));
       some = rate.0;
     })
 
-pub latest-decides : (Has : ℕ → ℕ → Type 0) (bytes r : List ℕ) (past : List Code) (at stop : ℕ) → Same bytes r → Knows Has past at → Spaced past → TextsAre r stop past → at ≤ stop → first_fault past ≡ None → Decides (HeaderRefusal Has bytes at) (latest_fault past at)
+pub latest-decides : (Has : ℕ → ℕ → Type 0) (bytes r : List ℕ) (past : List Code) (at stop : ℕ) →
+    Same bytes r → Knows Has past at → Spaced past → TextsAre r stop past → at ≤ stop →
+    first_fault past ≡ None → Decides (HeaderRefusal Has bytes at) (latest_fault past at)
 latest-decides Has bytes r [] at stop same k spaced texts far accepted =
-    none-of (HeaderRefusal Has bytes at) (neither (IsShortHeader Has bytes at) (Otherwise (IsBadRate Has bytes at) (IsBadType Has bytes at))
+    none-of (HeaderRefusal Has bytes at)
+    (neither (IsShortHeader Has bytes at)
+    (Otherwise (IsBadRate Has bytes at) (IsBadType Has bytes at))
     (λ f p. k.back p.place p.kind p.latest.code p.latest.before)
-    (neither (IsBadRate Has bytes at) (IsBadType Has bytes at) (λ f p. k.back p.place 0xb3 p.latest.code p.latest.before) (λ f p. k.back p.place 0 p.latest.code p.latest.before)))
+    (neither (IsBadRate Has bytes at) (IsBadType Has bytes at) (λ f p.
+    k.back p.place 0xb3 p.latest.code p.latest.before) (λ f p.
+    k.back p.place 0 p.latest.code p.latest.before)))
 latest-decides Has bytes r (c ∷ past) at stop same k spaced texts far accepted =
     header-decides Has bytes c past at (rate_of past) (record {
       knows = k;
       spaced = spaced;
       fits = text-fits bytes r stop at c same texts.0 far;
-      rate_is = rate-known Has bytes r past c.place same (older Has c past at k spaced) spaced.1 texts.1 (accepted-older c past accepted) (older-judged c past accepted);
+      rate_is = rate-known Has bytes r past c.place same
+          (older Has c past at k spaced) spaced.1 texts.1 (accepted-older c past accepted)
+          (older-judged c past accepted);
     })

@@ -17,6 +17,7 @@ pub mod SliceLemmas
 pub mod OnlyLemmas
 pub mod DecideLemmas
 pub mod BeforeLemmas
+pub mod SinceLemmas
 pub mod HeaderLemmas
 pub mod RefusalLemmas
 pub mod RefusedLemmas

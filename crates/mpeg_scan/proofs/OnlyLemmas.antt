@@ -1,15 +1,15 @@
 -- The units of a film are the only ones that are as the standard says.
-use Rattle.std.proofs.Common.{ℕ, zero, suc, Bool, true, false, cond, ◌+◌, ◌<◌, ◌≤◌, ◌≡◌, ◌⊎◌, List, [], ◌∷◌, Some, length, slice_get, sym, ◌∙◌, ap, refl, subst, inl, inr, arith}
-use Rattle.std.proofs.lemmas.Bool.{cases_lt, false≢true}
+use Rattle.std.proofs.Common.{ℕ, suc, Bool, true, false, cond, ◌+◌, ◌<◌, ◌≤◌, ◌≡◌, ◌⊎◌, List, [], ◌∷◌, Some, length, slice_get, sym, ◌∙◌, ap, refl, subst, inl, inr, arith}
+use Rattle.std.proofs.lemmas.Bool.{cases_lt}
 use Rattle.mpeg_scan.specs.declared.units.Kind.{Kind}
 use Rattle.mpeg_scan.specs.declared.units.Kind.TheVariants.{I, P, B, D}
 use Rattle.mpeg_scan.specs.declared.units.Unit.{Unit as PictureUnit}
 use Rattle.mpeg_scan.specs.Calls.{kind_of}
-use Rattle.mpeg_scan.specs.Codes.{codes_of, matched, read}
+use Rattle.mpeg_scan.specs.Codes.{codes_of, read}
 use Rattle.mpeg_scan.specs.Films.{IsFilm}
 use Rattle.mpeg_scan.specs.Layout.{AreChained}
 use Rattle.mpeg_scan.specs.Places.{StandsAt}
-use Rattle.mpeg_scan.specs.Standard.{AnyKind, ArePresented, AreUnitsOf, Counts, HasFields, HasPicture, IsFirstCode, IsHeadKind, IsSliceKind, IsUnitOf, StandsIn, StandsThere, UnitIs, type_number, vector_fields}
+use Rattle.mpeg_scan.specs.Standard.{AnyKind, ArePresented, AreUnitsOf, Counts, HasFields, IsFirstCode, IsHeadKind, IsSliceKind, IsUnitOf, StandsIn, StandsThere, type_number, vector_fields}
 use Rattle.mpeg_scan.specs.Tiles.{first_of}
 use Rattle.mpeg_scan.proofs.FirstLemmas.{film-first}
 use Rattle.mpeg_scan.proofs.LaidLemmas.{film-chained}
@@ -18,33 +18,48 @@ use Rattle.mpeg_scan.proofs.StandardLemmas.{film-presented, film-standard}
 -- ---- one unit
 
 abbrev make : ℕ → ℕ → ℕ → ℕ → ℕ → ℕ → ℕ → Kind → ℕ → Bool → Bool → PictureUnit
-make from head_end to first_slice slices temporal presentation kind vectors has_sequence starts_group = record {
-  from = from;
-  head_end = head_end;
-  to = to;
-  first_slice = first_slice;
-  slices = slices;
-  temporal = temporal;
-  presentation = presentation;
-  kind = kind;
-  vectors = vectors;
-  has_sequence = has_sequence;
-  starts_group = starts_group;
-}
+make from head_end to first_slice slices temporal presentation kind vectors has_sequence
+    starts_group = record {
+      from = from;
+      head_end = head_end;
+      to = to;
+      first_slice = first_slice;
+      slices = slices;
+      temporal = temporal;
+      presentation = presentation;
+      kind = kind;
+      vectors = vectors;
+      has_sequence = has_sequence;
+      starts_group = starts_group;
+    }
 
-same-unit : (u v : PictureUnit) → u.from ≡ v.from → u.head_end ≡ v.head_end → u.to ≡ v.to → u.first_slice ≡ v.first_slice → u.slices ≡ v.slices → u.temporal ≡ v.temporal → u.presentation ≡ v.presentation → u.kind ≡ v.kind → u.vectors ≡ v.vectors → u.has_sequence ≡ v.has_sequence → u.starts_group ≡ v.starts_group → u ≡ v
+same-unit : (u v : PictureUnit) → u.from ≡ v.from → u.head_end ≡ v.head_end → u.to ≡ v.to →
+    u.first_slice ≡ v.first_slice → u.slices ≡ v.slices → u.temporal ≡ v.temporal →
+    u.presentation ≡ v.presentation → u.kind ≡ v.kind → u.vectors ≡ v.vectors →
+    u.has_sequence ≡ v.has_sequence → u.starts_group ≡ v.starts_group → u ≡ v
 same-unit u v a b c d e f g h i j k =
-    ap (λ (x : ℕ). make x u.head_end u.to u.first_slice u.slices u.temporal u.presentation u.kind u.vectors u.has_sequence u.starts_group) a
-    ∙ ap (λ (x : ℕ). make v.from x u.to u.first_slice u.slices u.temporal u.presentation u.kind u.vectors u.has_sequence u.starts_group) b
-    ∙ ap (λ (x : ℕ). make v.from v.head_end x u.first_slice u.slices u.temporal u.presentation u.kind u.vectors u.has_sequence u.starts_group) c
-    ∙ ap (λ (x : ℕ). make v.from v.head_end v.to x u.slices u.temporal u.presentation u.kind u.vectors u.has_sequence u.starts_group) d
-    ∙ ap (λ (x : ℕ). make v.from v.head_end v.to v.first_slice x u.temporal u.presentation u.kind u.vectors u.has_sequence u.starts_group) e
-    ∙ ap (λ (x : ℕ). make v.from v.head_end v.to v.first_slice v.slices x u.presentation u.kind u.vectors u.has_sequence u.starts_group) f
-    ∙ ap (λ (x : ℕ). make v.from v.head_end v.to v.first_slice v.slices v.temporal x u.kind u.vectors u.has_sequence u.starts_group) g
-    ∙ ap (λ (x : Kind). make v.from v.head_end v.to v.first_slice v.slices v.temporal v.presentation x u.vectors u.has_sequence u.starts_group) h
-    ∙ ap (λ (x : ℕ). make v.from v.head_end v.to v.first_slice v.slices v.temporal v.presentation v.kind x u.has_sequence u.starts_group) i
-    ∙ ap (λ (x : Bool). make v.from v.head_end v.to v.first_slice v.slices v.temporal v.presentation v.kind v.vectors x u.starts_group) j
-    ∙ ap (λ (x : Bool). make v.from v.head_end v.to v.first_slice v.slices v.temporal v.presentation v.kind v.vectors v.has_sequence x) k
+    ap (λ (x : ℕ). make x u.head_end u.to u.first_slice u.slices u.temporal u.presentation
+    u.kind u.vectors u.has_sequence u.starts_group) a
+    ∙ ap (λ (x : ℕ). make v.from x u.to u.first_slice u.slices u.temporal u.presentation u.kind
+    u.vectors u.has_sequence u.starts_group) b
+    ∙ ap (λ (x : ℕ). make v.from v.head_end x u.first_slice u.slices u.temporal u.presentation
+    u.kind u.vectors u.has_sequence u.starts_group) c
+    ∙ ap (λ (x : ℕ). make v.from v.head_end v.to x u.slices u.temporal u.presentation u.kind
+    u.vectors u.has_sequence u.starts_group) d
+    ∙ ap (λ (x : ℕ). make v.from v.head_end v.to v.first_slice x u.temporal u.presentation
+    u.kind u.vectors u.has_sequence u.starts_group) e
+    ∙ ap (λ (x : ℕ). make v.from v.head_end v.to v.first_slice v.slices x u.presentation u.kind
+    u.vectors u.has_sequence u.starts_group) f
+    ∙ ap (λ (x : ℕ). make v.from v.head_end v.to v.first_slice v.slices v.temporal x u.kind
+    u.vectors u.has_sequence u.starts_group) g
+    ∙ ap (λ (x : Kind). make v.from v.head_end v.to v.first_slice v.slices v.temporal
+    v.presentation x u.vectors u.has_sequence u.starts_group) h
+    ∙ ap (λ (x : ℕ). make v.from v.head_end v.to v.first_slice v.slices v.temporal
+    v.presentation v.kind x u.has_sequence u.starts_group) i
+    ∙ ap (λ (x : Bool). make v.from v.head_end v.to v.first_slice v.slices v.temporal
+    v.presentation v.kind v.vectors x u.starts_group) j
+    ∙ ap (λ (x : Bool). make v.from v.head_end v.to v.first_slice v.slices v.temporal
+    v.presentation v.kind v.vectors v.has_sequence x) k
 
 bool-same : (a b : Bool) → (a ≡ true → b ≡ true) → (b ≡ true → a ≡ true) → a ≡ b
 bool-same true b one other = sym (one refl)
@@ -60,17 +75,22 @@ kind-back D = refl
 kind-same : (k l : Kind) → type_number k ≡ type_number l → k ≡ l
 kind-same k l e = sym (kind-back k) ∙ ap kind_of e ∙ kind-back l
 
-count-same : (Has : ℕ → ℕ → Type 0) (OfKind : ℕ → Type 0) (from to m n : ℕ) → Counts Has OfKind from to m → Counts Has OfKind from to n → m ≡ n
-count-same Has OfKind from to m n c d = omega (arith, d.most c.places c.are, c.long, c.most d.places d.are, d.long)
+count-same : (Has : ℕ → ℕ → Type 0) (OfKind : ℕ → Type 0) (from to m n : ℕ) →
+    Counts Has OfKind from to m → Counts Has OfKind from to n → m ≡ n
+count-same Has OfKind from to m n c d =
+    omega (arith, d.most c.places c.are, c.long, c.most d.places d.are, d.long)
 
 order-of : (bytes : List ℕ) (u : PictureUnit) → IsUnitOf bytes u → u.from < u.head_end
 order-of bytes u is = omega (arith, is.picture.after, is.picture.before)
 
-head-not-less : (bytes : List ℕ) (u v : PictureUnit) → IsUnitOf bytes u → IsUnitOf bytes v → u.from ≡ v.from → u.head_end < v.head_end → ⊥
+head-not-less : (bytes : List ℕ) (u v : PictureUnit) → IsUnitOf bytes u → IsUnitOf bytes v →
+    u.from ≡ v.from → u.head_end < v.head_end → ⊥
 head-not-less bytes u v one other from less =
-    other.head u.head_end one.head_ends.0 one.head_ends.1.0 (omega (arith, from, order-of bytes u one)) less one.head_ends.1.1
+    other.head u.head_end one.head_ends.0 one.head_ends.1.0
+    (omega (arith, from, order-of bytes u one)) less one.head_ends.1.1
 
-head-same : (bytes : List ℕ) (u v : PictureUnit) → IsUnitOf bytes u → IsUnitOf bytes v → u.from ≡ v.from → u.head_end ≡ v.head_end
+head-same : (bytes : List ℕ) (u v : PictureUnit) → IsUnitOf bytes u → IsUnitOf bytes v →
+    u.from ≡ v.from → u.head_end ≡ v.head_end
 head-same bytes u v one other from = elim (cases_lt u.head_end v.head_end) [
   | inl less ↦ absurd (head-not-less bytes u v one other from less)
   | inr more ↦ elim (cases_lt v.head_end u.head_end) [
@@ -83,12 +103,15 @@ head-same bytes u v one other from = elim (cases_lt u.head_end v.head_end) [
 abbrev Ends : List ℕ → ℕ → Type 0
 Ends bytes to = (to ≡ length bytes) ⊎ StandsThere (StandsAt bytes) to IsHeadKind
 
-end-not-less : (bytes : List ℕ) (u v : PictureUnit) → IsUnitOf bytes u → IsUnitOf bytes v → u.head_end ≡ v.head_end → Ends bytes u.to → v.to ≤ length bytes → u.to < v.to → ⊥
+end-not-less : (bytes : List ℕ) (u v : PictureUnit) → IsUnitOf bytes u → IsUnitOf bytes v →
+    u.head_end ≡ v.head_end → Ends bytes u.to → v.to ≤ length bytes → u.to < v.to → ⊥
 end-not-less bytes u v one other head (inl end) low less = omega (arith, end, low, less)
 end-not-less bytes u v one other head (inr code) low less =
     other.slices u.to code.0 code.1.0 (omega (arith, head, one.rest)) less code.1.1
 
-end-same : (bytes : List ℕ) (u v : PictureUnit) → IsUnitOf bytes u → IsUnitOf bytes v → u.head_end ≡ v.head_end → Ends bytes u.to → Ends bytes v.to → u.to ≤ length bytes → v.to ≤ length bytes → u.to ≡ v.to
+end-same : (bytes : List ℕ) (u v : PictureUnit) → IsUnitOf bytes u → IsUnitOf bytes v →
+    u.head_end ≡ v.head_end → Ends bytes u.to → Ends bytes v.to → u.to ≤ length bytes →
+    v.to ≤ length bytes → u.to ≡ v.to
 end-same bytes u v one other head ends also low under = elim (cases_lt u.to v.to) [
   | inl less ↦ absurd (end-not-less bytes u v one other head ends under less)
   | inr more ↦ elim (cases_lt v.to u.to) [
@@ -97,7 +120,8 @@ end-same bytes u v one other head ends also low under = elim (cases_lt u.to v.to
   ]
 ]
 
-stands-same : (bytes : List ℕ) (from to at end kind : ℕ) → from ≡ at → to ≡ end → StandsIn (StandsAt bytes) from to kind → StandsIn (StandsAt bytes) at end kind
+stands-same : (bytes : List ℕ) (from to at end kind : ℕ) → from ≡ at → to ≡ end →
+    StandsIn (StandsAt bytes) from to kind → StandsIn (StandsAt bytes) at end kind
 stands-same bytes from to at end kind from_is to_is it = record {
   place = it.place;
   code = it.code;
@@ -105,31 +129,58 @@ stands-same bytes from to at end kind from_is to_is it = record {
   before = omega (arith, to_is, it.before);
 }
 
-group-same : (bytes : List ℕ) (from to at end : ℕ) → from ≡ at → to ≡ end → IsFirstCode (StandsAt bytes) from ⊎ StandsIn (StandsAt bytes) from to 0xb8 → IsFirstCode (StandsAt bytes) at ⊎ StandsIn (StandsAt bytes) at end 0xb8
-group-same bytes from to at end from_is to_is (inl first) = inl (subst (λ p. IsFirstCode (StandsAt bytes) p) from_is first)
-group-same bytes from to at end from_is to_is (inr it) = inr (stands-same bytes from to at end 0xb8 from_is to_is it)
+group-same : (bytes : List ℕ) (from to at end : ℕ) → from ≡ at → to ≡ end →
+    IsFirstCode (StandsAt bytes) from
+    ⊎ StandsIn (StandsAt bytes) from to 0xb8 → IsFirstCode (StandsAt bytes) at
+    ⊎ StandsIn (StandsAt bytes) at end 0xb8
+group-same bytes from to at end from_is to_is (inl first) =
+    inl (subst (λ p. IsFirstCode (StandsAt bytes) p) from_is first)
+group-same bytes from to at end from_is to_is (inr it) =
+    inr (stands-same bytes from to at end 0xb8 from_is to_is it)
 
-units-same : (bytes : List ℕ) (u v : PictureUnit) (number group : ℕ) → IsUnitOf bytes u → IsUnitOf bytes v → u.from ≡ v.from → Ends bytes u.to → Ends bytes v.to → u.to ≤ length bytes → v.to ≤ length bytes
-    → u.presentation ≡ cond u.starts_group number group + u.temporal → v.presentation ≡ cond v.starts_group number group + v.temporal → u ≡ v
+units-same : (bytes : List ℕ) (u v : PictureUnit) (number group : ℕ) → IsUnitOf bytes u →
+    IsUnitOf bytes v → u.from ≡ v.from → Ends bytes u.to → Ends bytes v.to → u.to ≤ length bytes →
+    v.to ≤ length bytes
+    → u.presentation ≡ cond u.starts_group number group + u.temporal →
+    v.presentation ≡ cond v.starts_group number group + v.temporal → u ≡ v
 units-same bytes u v number group one other from ends also low under shown known =
     let Has = StandsAt bytes in
     let head = head-same bytes u v one other from in
     let to = end-same bytes u v one other head ends also low under in
-    let place : other.picture.place ≡ one.picture.place = one.picture.only other.picture.place other.picture.code (omega (arith, from, other.picture.after)) (omega (arith, head, other.picture.before)) in
-    let its : HasFields bytes one.picture.place v = subst (λ p. HasFields bytes p v) place other.picture.fields in
+    let place : other.picture.place ≡
+    one.picture.place =
+    one.picture.only other.picture.place other.picture.code
+    (omega (arith, from, other.picture.after)) (omega (arith, head, other.picture.before)) in
+    let its : HasFields bytes one.picture.place v =
+    subst (λ p. HasFields bytes p v) place other.picture.fields in
     let temporal : u.temporal ≡ v.temporal = one.picture.fields.temporal ∙ sym its.temporal in
     let kind : u.kind ≡ v.kind = kind-same u.kind v.kind (one.picture.fields.kind ∙ sym its.kind) in
-    let vectors : u.vectors ≡ v.vectors = one.picture.fields.vectors ∙ ap (λ (k : Kind). vector_fields bytes one.picture.place k) kind ∙ sym its.vectors in
+    let vectors : u.vectors ≡
+    v.vectors = one.picture.fields.vectors ∙ ap
+    (λ (k : Kind). vector_fields bytes one.picture.place k) kind ∙ sym its.vectors in
     let sequence : u.has_sequence ≡ v.has_sequence = bool-same u.has_sequence v.has_sequence
-    (λ e. other.sequence.1 (stands-same bytes u.from u.head_end v.from v.head_end 0xb3 from head (one.sequence.0 e)))
-    (λ e. one.sequence.1 (stands-same bytes v.from v.head_end u.from u.head_end 0xb3 (sym from) (sym head) (other.sequence.0 e))) in
+    (λ e. other.sequence.1
+    (stands-same bytes u.from u.head_end v.from v.head_end 0xb3 from head (one.sequence.0 e)))
+    (λ e. one.sequence.1
+    (stands-same bytes v.from v.head_end u.from u.head_end 0xb3 (sym from) (sym head)
+    (other.sequence.0 e))) in
     let starts : u.starts_group ≡ v.starts_group = bool-same u.starts_group v.starts_group
-    (λ e. other.group.1 (group-same bytes u.from u.head_end v.from v.head_end from head (one.group.0 e)))
-    (λ e. one.group.1 (group-same bytes v.from v.head_end u.from u.head_end (sym from) (sym head) (other.group.0 e))) in
-    let slices : u.slices ≡ v.slices = count-same Has IsSliceKind v.head_end v.to u.slices v.slices (subst (λ p. Counts Has IsSliceKind v.head_end p u.slices) to (subst (λ p. Counts Has IsSliceKind p u.to u.slices) head one.own)) other.own in
-    let all = count-same Has IsSliceKind 0 v.to (u.first_slice + u.slices) (v.first_slice + v.slices) (subst (λ p. Counts Has IsSliceKind 0 p (u.first_slice + u.slices)) to one.all) other.all in
+    (λ e. other.group.1
+    (group-same bytes u.from u.head_end v.from v.head_end from head (one.group.0 e)))
+    (λ e. one.group.1 (group-same bytes v.from v.head_end u.from u.head_end (sym from) (sym head)
+    (other.group.0 e))) in
+    let slices : u.slices ≡
+    v.slices = count-same Has IsSliceKind v.head_end v.to u.slices v.slices (subst (λ p.
+    Counts Has IsSliceKind v.head_end p u.slices) to (subst (λ p.
+    Counts Has IsSliceKind p u.to u.slices) head one.own)) other.own in
+    let all = count-same Has IsSliceKind 0 v.to (u.first_slice + u.slices) (v.first_slice
+    + v.slices) (subst (λ p.
+    Counts Has IsSliceKind 0 p (u.first_slice + u.slices)) to one.all) other.all in
     let first : u.first_slice ≡ v.first_slice = omega (arith, all, slices) in
-    let presentation : u.presentation ≡ v.presentation = shown ∙ ap (λ b. cond b number group + u.temporal) starts ∙ ap (λ n. cond v.starts_group number group + n) temporal ∙ sym known in
+    let presentation : u.presentation ≡
+    v.presentation =
+    shown ∙ ap (λ b. cond b number group + u.temporal) starts ∙ ap (λ n.
+    cond v.starts_group number group + n) temporal ∙ sym known in
     same-unit u v from head to first slices temporal presentation kind vectors sequence starts
 
 -- ---- a list of units
@@ -138,44 +189,65 @@ abbrev All : List ℕ → List PictureUnit → Type 0
 All bytes [] = Unit {0}
 All bytes (u ∷ us) = IsUnitOf bytes u × All bytes us
 
-all-of : (bytes : List ℕ) (us : List PictureUnit) → ((k : ℕ) (u : PictureUnit) → slice_get us k ≡ Some u → IsUnitOf bytes u) → All bytes us
+all-of : (bytes : List ℕ) (us : List PictureUnit) →
+    ((k : ℕ) (u : PictureUnit) → slice_get us k ≡ Some u → IsUnitOf bytes u) → All bytes us
 all-of bytes [] each = tt
 all-of bytes (u ∷ us) each = (each 0 u refl, all-of bytes us (λ k v is. each (suc k) v is))
 
-chain-low : (bytes : List ℕ) (from : ℕ) (us : List PictureUnit) → All bytes us → AreChained from us (length bytes) → from ≤ length bytes
+chain-low : (bytes : List ℕ) (from : ℕ) (us : List PictureUnit) → All bytes us →
+    AreChained from us (length bytes) → from ≤ length bytes
 chain-low bytes from [] all chained = omega (arith, chained)
 chain-low bytes from (u ∷ us) all chained =
-    omega (arith, chained.0, order-of bytes u all.0, all.0.rest, chain-low bytes u.to us all.1 chained.1)
+    let rest = chain-low bytes u.to us all.1 chained.1 in
+    omega (arith, chained.0, order-of bytes u all.0, all.0.rest, rest)
 
-chain-ends : (bytes : List ℕ) (to : ℕ) (us : List PictureUnit) → All bytes us → AreChained to us (length bytes) → Ends bytes to
+chain-ends : (bytes : List ℕ) (to : ℕ) (us : List PictureUnit) → All bytes us →
+    AreChained to us (length bytes) → Ends bytes to
 chain-ends bytes to [] all chained = inl chained
-chain-ends bytes to (u ∷ us) all chained = inr (subst (λ p. StandsThere (StandsAt bytes) p IsHeadKind) chained.0 all.0.begins)
+chain-ends bytes to (u ∷ us) all chained =
+    inr (subst (λ p. StandsThere (StandsAt bytes) p IsHeadKind) chained.0 all.0.begins)
 
-not-at-end : (bytes : List ℕ) (from : ℕ) (u : PictureUnit) → IsUnitOf bytes u → u.from ≡ from → from ≡ length bytes → ⊥
+not-at-end : (bytes : List ℕ) (from : ℕ) (u : PictureUnit) → IsUnitOf bytes u → u.from ≡ from →
+    from ≡ length bytes → ⊥
 not-at-end bytes from u is same end = omega (arith, same, end, is.begins.1.0.fits)
 
-lists-same : (bytes : List ℕ) (from number group : ℕ) (us vs : List PictureUnit) → All bytes us → All bytes vs → AreChained from us (length bytes) → AreChained from vs (length bytes) → ArePresented number group us → ArePresented number group vs → us ≡ vs
+lists-same : (bytes : List ℕ) (from number group : ℕ) (us vs : List PictureUnit) → All bytes us →
+    All bytes vs → AreChained from us (length bytes) → AreChained from vs (length bytes) →
+    ArePresented number group us → ArePresented number group vs → us ≡ vs
 lists-same bytes from number group [] [] one other chained also shown known = refl
-lists-same bytes from number group [] (v ∷ vs) one other chained also shown known = absurd (not-at-end bytes from v other.0 also.0 chained)
-lists-same bytes from number group (u ∷ us) [] one other chained also shown known = absurd (not-at-end bytes from u one.0 chained.0 also)
+lists-same bytes from number group [] (v ∷ vs) one other chained also shown known =
+    absurd (not-at-end bytes from v other.0 also.0 chained)
+lists-same bytes from number group (u ∷ us) [] one other chained also shown known =
+    absurd (not-at-end bytes from u one.0 chained.0 also)
 lists-same bytes from number group (u ∷ us) (v ∷ vs) one other chained also shown known =
-    let e : u ≡ v = units-same bytes u v number group one.0 other.0 (chained.0 ∙ sym also.0) (chain-ends bytes u.to us one.1 chained.1) (chain-ends bytes v.to vs other.1 also.1)
-    (chain-low bytes u.to us one.1 chained.1) (chain-low bytes v.to vs other.1 also.1) shown.0 known.0 in
-    let rest : us ≡ vs = lists-same bytes v.to (number + 1) (cond v.starts_group number group) us vs one.1 other.1
+    let e : u ≡ v = units-same bytes u v number group one.0 other.0 (chained.0 ∙ sym also.0)
+    (chain-ends bytes u.to us one.1 chained.1) (chain-ends bytes v.to vs other.1 also.1)
+    (chain-low bytes u.to us one.1 chained.1)
+    (chain-low bytes v.to vs other.1 also.1) shown.0 known.0 in
+    let rest : us ≡ vs =
+    lists-same bytes v.to (number + 1) (cond v.starts_group number group) us vs one.1 other.1
     (subst (λ (w : PictureUnit). AreChained w.to us (length bytes)) e chained.1) also.1
-    (subst (λ (w : PictureUnit). ArePresented (number + 1) (cond w.starts_group number group) us) e shown.1) known.1 in
+    (subst (λ (w : PictureUnit). ArePresented (number
+    + 1) (cond w.starts_group number group) us) e shown.1) known.1 in
     ap (λ (w : PictureUnit). w ∷ us) e ∙ ap (λ (l : List PictureUnit). v ∷ l) rest
 
-one-first : (bytes : List ℕ) (p q : ℕ) → StandsThere (StandsAt bytes) p AnyKind → IsFirstCode (StandsAt bytes) p → StandsThere (StandsAt bytes) q AnyKind → IsFirstCode (StandsAt bytes) q → p ≡ q
-one-first bytes p q here first there also = omega (arith, first q there.0 there.1.0, also p here.0 here.1.0)
+one-first : (bytes : List ℕ) (p q : ℕ) → StandsThere (StandsAt bytes) p AnyKind →
+    IsFirstCode (StandsAt bytes) p → StandsThere (StandsAt bytes) q AnyKind →
+    IsFirstCode (StandsAt bytes) q → p ≡ q
+one-first bytes p q here first there also =
+    omega (arith, first q there.0 there.1.0, also p here.0 here.1.0)
 
-pub one-list : (bytes : List ℕ) (units others : List PictureUnit) → AreUnitsOf bytes units → AreUnitsOf bytes others → units ≡ others
+pub one-list : (bytes : List ℕ) (units others : List PictureUnit) → AreUnitsOf bytes units →
+    AreUnitsOf bytes others → units ≡ others
 one-list bytes units others one other =
     let from = one-first bytes other.from one.from other.code other.first one.code one.first in
-    lists-same bytes one.from 0 0 units others (all-of bytes units one.each) (all-of bytes others other.each)
-    one.chained (subst (λ p. AreChained p others (length bytes)) from other.chained) one.presented other.presented
+    lists-same bytes one.from 0 0 units others (all-of bytes units one.each)
+    (all-of bytes others other.each)
+    one.chained (subst (λ p.
+    AreChained p others (length bytes)) from other.chained) one.presented other.presented
 
-pub film-units_of : (bytes : List ℕ) (rate : ℕ) (units : List PictureUnit) (starts : List ℕ) → IsFilm bytes rate units starts → AreUnitsOf bytes units
+pub film-units_of : (bytes : List ℕ) (rate : ℕ) (units : List PictureUnit) (starts : List ℕ) →
+    IsFilm bytes rate units starts → AreUnitsOf bytes units
 film-units_of bytes rate units starts film =
     let first = film-first bytes rate units starts film in record {
       from = first_of (codes_of (read [] bytes));

@@ -1,25 +1,21 @@
 -- Each refusal comes exactly where the standard's words say.
-use Rattle.std.proofs.Common.{ℕ, zero, suc, Bool, true, false, cond, eqb, ltb, leb, not, ◌&&◌, ◌||◌, ◌+◌, ◌-◌, ◌^◌, ◌<◌, ◌≤◌, ◌≡◌, ◌↔◌, ◌⊎◌, List, [], ◌∷◌, Option, Some, None, length, get_or, sym, ◌∙◌, ap, refl, subst, inl, inr, arith}
+use Rattle.std.proofs.Common.{ℕ, zero, suc, Bool, true, false, cond, eqb, ltb, leb, not, ◌&&◌, ◌+◌, ◌-◌, ◌<◌, ◌≤◌, ◌≡◌, List, [], ◌∷◌, Option, Some, None, sym, ◌∙◌, ap, refl, subst, inl, inr, arith}
 use Rattle.std.specs.Prelude.{option_map}
-use Rattle.std.proofs.lemmas.Bool.{cases_lt, eqb-true, eq-eqb, leb-true, le-leb, ltb-true, ltb-false, lt-ltb, le-ltb, and_parts, and_from, and_cases, not_from_false, false≢true, true≢false}
+use Rattle.std.proofs.lemmas.Bool.{cases_lt, eqb-true, eq-eqb, leb-true, le-leb, ltb-true, lt-ltb, and_parts, and_from, and_cases, not_from_false, false≢true, true≢false}
 use Rattle.mpeg_scan.specs.declared.codes.Code.{Code}
 use Rattle.mpeg_scan.specs.declared.faults.FilmFault.{FilmFault}
-use Rattle.mpeg_scan.specs.declared.faults.FilmFault.TheVariants.{Empty, NoSequence, SystemCode, Mpeg2, PictureWithoutSlices, HeadTooLong, GroupTooLong, TooLong, HeadWithoutPicture}
+use Rattle.mpeg_scan.specs.declared.faults.FilmFault.TheVariants.{NoSequence, SystemCode, Mpeg2, PictureWithoutSlices, HeadTooLong, GroupTooLong, TooLong, HeadWithoutPicture}
 use Rattle.mpeg_scan.specs.declared.tallies.Header.{Header}
-use Rattle.mpeg_scan.specs.Codes.{read, codes_of, matched}
 use Rattle.mpeg_scan.specs.Words.{before_group_of, is_head, is_none_yet, is_slice, picture_of, pictures_of, slices_of, tally_of, unit_of}
-use Rattle.mpeg_scan.specs.Faults.{code_fault, count_fault, end_fault, fault_at, first_fault, first_slice_fault, head_fault, kind_fault, last_fault, latest_fault, left_without_slices, open_fault, otherwise, refusal_of, second_fault}
-use Rattle.mpeg_scan.specs.Films.{refusal}
-use Rattle.mpeg_scan.specs.Places.{HasCode, StandsAt}
-use Rattle.mpeg_scan.specs.Refusals.{CodeRefusal, CountRefusal, EndRefusal, FirstRefusal, HasPictures, HeaderRefusal, IsEmptyFilm, IsExtension, IsGroup, IsItsPicture, IsLargeFilm, IsLongFilm, IsLongGroup, IsLongHead, IsOpenHead, IsPicture, IsRefusedFor, IsSystemCode, KindRefusal, LacksCodes, LacksPicture, LacksSequence, LacksSlices, Otherwise, SecondRefusal, SliceRefusal}
-use Rattle.mpeg_scan.specs.Standard.{AnyKind, AreCodes, IsFirstCode, IsHeadKind, IsSliceKind, NoneIn, StandsThere}
-use Rattle.mpeg_scan.proofs.FilmLemmas.{length-read}
-use Rattle.mpeg_scan.proofs.StepLemmas.{accepted-older}
-use Rattle.mpeg_scan.proofs.PlaceLemmas.{at-bytes, codes-stand}
-use Rattle.mpeg_scan.proofs.TextLemmas.{TextsAre, codes-texts}
-use Rattle.mpeg_scan.proofs.TileLemmas.{Spaced, placed-codes}
-use Rattle.mpeg_scan.proofs.DecideLemmas.{Decides, both, both-cond, decide, decide-if, decide-with, neither, no-more, none-of, none-some, only-first, only-second, some-is}
-use Rattle.mpeg_scan.proofs.BeforeLemmas.{Ends, Knows, PictureThere, codes-from, codes-since, group-tests, head-kind, here, earlier, is_group, is_nothing, is_picture, kind-head, kind-slice, most-since, no-head, no-slice, not-open, older, one-head, one-picture, open-head, picture-tests, picture-there, since, since-all, since-group, slice-kind, slice-there, where-is, has-new, new-below}
+use Rattle.mpeg_scan.specs.Faults.{code_fault, count_fault, fault_at, first_fault, first_slice_fault, head_fault, kind_fault, latest_fault, left_without_slices, otherwise, second_fault}
+use Rattle.mpeg_scan.specs.Places.{HasCode}
+use Rattle.mpeg_scan.specs.Refusals.{BeginsUnit, CodeRefusal, CountRefusal, HasPictures, HeaderRefusal, IsExtension, IsItsPicture, IsLongFilm, IsLongGroup, IsLongHead, IsOpenHead, IsPicture, IsSystemCode, KindRefusal, LacksPicture, LacksSequence, LacksSlices, Otherwise, SecondRefusal, SliceRefusal}
+use Rattle.mpeg_scan.specs.Standard.{IsFirstCode, IsHeadKind, IsSliceKind, StandsThere}
+use Rattle.mpeg_scan.proofs.TextLemmas.{TextsAre}
+use Rattle.mpeg_scan.proofs.TileLemmas.{Spaced}
+use Rattle.mpeg_scan.proofs.DecideLemmas.{Decides, both, both-cond, decide, decide-if, decide-with, neither, no-more, none-of, only-second, some-is}
+use Rattle.mpeg_scan.proofs.BeforeLemmas.{Knows, PictureThere, head-kind, no-head, no-slice, not-open, one-head, one-picture, open-head, picture-there, slice-kind, slice-there, has-new, new-below}
+use Rattle.mpeg_scan.proofs.SinceLemmas.{codes-from, codes-since, group-tests, is_group, is_nothing, is_picture, most-since, picture-tests, since-all, since-group}
 use Rattle.mpeg_scan.proofs.HeaderLemmas.{Same, latest-decides}
 
 -- a code of a kind stands at a place, and the codes before it are these
@@ -35,15 +31,20 @@ no-codes : (past : List Code) (a : Bool) → (not (not (is_none_yet past)) && a)
 no-codes [] a e = refl
 no-codes (d ∷ past) a e = absurd (false≢true e)
 
-first-of-none : (Has : ℕ → ℕ → Type 0) (past : List Code) (at : ℕ) → Knows Has past at → past ≡ [] → IsFirstCode Has at
+first-of-none : (Has : ℕ → ℕ → Type 0) (past : List Code) (at : ℕ) → Knows Has past at → past ≡ [] →
+    IsFirstCode Has at
 first-of-none Has past at k none place kind has = elim (cases_lt place at) [
-  | inl before ↦ absurd (subst (λ (l : List Code). HasCode place kind l) none (k.back place kind has before))
+  | inl before ↦ absurd
+      (subst (λ (l : List Code). HasCode place kind l) none (k.back place kind has before))
   | inr after ↦ after
 ]
 
-none-of-first : (Has : ℕ → ℕ → Type 0) (past : List Code) (at : ℕ) → Knows Has past at → IsFirstCode Has at → is_none_yet past ≡ true
+none-of-first : (Has : ℕ → ℕ → Type 0) (past : List Code) (at : ℕ) → Knows Has past at →
+    IsFirstCode Has at → is_none_yet past ≡ true
 none-of-first Has [] at k first = refl
-none-of-first Has (d ∷ past) at k first = absurd (omega (arith, first d.place d.kind (has-new Has d past at k), new-below Has d past at k))
+none-of-first Has (d ∷ past) at k first =
+    absurd (omega
+    (arith, first d.place d.kind (has-new Has d past at k), new-below Has d past at k))
 
 twice : (b : Bool) → b ≡ true → not (not b) ≡ true
 twice true e = refl
@@ -63,7 +64,8 @@ apart-by false m n e other = refl
 apart : (m n : ℕ) → (m ≡ n → ⊥) → eqb m n ≡ false
 apart m n other = apart-by (eqb m n) m n refl other
 
-kind-decides : (Has : ℕ → ℕ → Type 0) (past : List Code) (at kind : ℕ) → AtCode Has past at kind → Decides (KindRefusal Has at) (kind_fault (tally_of past) at kind)
+kind-decides : (Has : ℕ → ℕ → Type 0) (past : List Code) (at kind : ℕ) → AtCode Has past at kind →
+    Decides (KindRefusal Has at) (kind_fault (tally_of past) at kind)
 kind-decides Has past at kind c =
     let System = IsSystemCode Has at in
     let Extension = IsExtension Has at in
@@ -71,15 +73,30 @@ kind-decides Has past at kind c =
     let first = not (not (is_none_yet past)) in
     let three = eqb kind 0xb3 in
     let rest = cond (first && not three) (Some NoSequence) None in
-    both-cond System (Otherwise Extension Lacks) (leb 0xb9 kind) (SystemCode at) (cond (eqb kind 0xb5) (Some (Mpeg2 at)) rest)
+    both-cond System (Otherwise Extension Lacks) (leb 0xb9 kind) (SystemCode at)
+    (cond (eqb kind 0xb5) (Some (Mpeg2 at)) rest)
     (λ e. ((kind, (c.code, leb-true 0xb9 kind e)), refl))
     (λ g p. (le-leb 0xb9 kind (subst (λ k. 0xb9 ≤ k) (c.one p.0.0 p.0.1.0) p.0.1.1), p.1))
     (λ _. both-cond Extension Lacks (eqb kind 0xb5) (Mpeg2 at) rest
     (λ e. (subst (λ k. Has at k) (eqb-true kind 0xb5 e) c.code, refl))
     (λ g p. (eq-eqb kind 0xb5 (sym (c.one 0xb5 p.0)), p.1))
     (λ _. decide Lacks (first && not three) NoSequence
-    (λ e. ((first-of-none Has past at c.knows (no-codes past (not three) e), λ has. unequal kind 0xb3 (not-false three (and_parts first (not three) e).1) (sym (c.one 0xb3 has))), refl))
-    (λ g p. (and_from first (not three) (twice (is_none_yet past) (none-of-first Has past at c.knows p.0.0)) (not_from_false three (apart kind 0xb3 (λ is. p.0.1 (subst (λ k. Has at k) is c.code)))), p.1))))
+    (λ e. (
+      (
+        first-of-none Has past at c.knows (no-codes past (not three) e),
+        λ has.
+            unequal kind 0xb3 (not-false three (and_parts first (not three) e).1)
+            (sym (c.one 0xb3 has)),
+      ),
+      refl,
+    ))
+    (λ g p. (
+      and_from first (not three)
+          (twice (is_none_yet past) (none-of-first Has past at c.knows p.0.0))
+          (not_from_false three (apart kind 0xb3 (λ is.
+          p.0.1 (subst (λ k. Has at k) is c.code)))),
+      p.1,
+    ))))
 
 -- ---- a head's picture
 
@@ -88,38 +105,59 @@ positive zero e = absurd (true≢false e)
 positive (suc n) e = omega arith
 
 -- the latest unit has no slice
-slices-left : (Has : ℕ → ℕ → Type 0) (past : List Code) (at unit : ℕ) → Knows Has past at → Spaced past → eqb (slices_of past) 0 ≡ false → IsOpenHead Has unit at → ⊥
+slices-left : (Has : ℕ → ℕ → Type 0) (past : List Code) (at unit : ℕ) → Knows Has past at →
+    Spaced past → eqb (slices_of past) 0 ≡ false → IsOpenHead Has unit at → ⊥
 slices-left Has past at unit k spaced some o =
     not-open Has unit at (slice-there Has past at k spaced (positive (slices_of past) some)) o
 
 -- the picture of an open head decides
-pub picture-slices : (Has : ℕ → ℕ → Type 0) (at unit : ℕ) (o : Option Header) → IsOpenHead Has unit at → PictureThere Has unit at o → Decides (LacksSlices Has at) (option_map left_without_slices o)
+pub picture-slices : (Has : ℕ → ℕ → Type 0) (at unit : ℕ) (o : Option Header) →
+    IsOpenHead Has unit at → PictureThere Has unit at o →
+    Decides (LacksSlices Has at) (option_map left_without_slices o)
 picture-slices Has at unit None head none = none-of (LacksSlices Has at)
-    (λ f p. none p.place 0 p.picture.code (subst (λ u. u ≤ p.place) (one-head Has p.unit unit at p.open_head head) p.picture.after) p.picture.before refl)
+    (λ f p. none p.place 0 p.picture.code (subst (λ u.
+    u ≤ p.place)
+    (one-head Has p.unit unit at p.open_head head) p.picture.after) p.picture.before refl)
 picture-slices Has at unit (Some h) head picture = λ f. (
-  λ e. record { unit = unit; place = h.place; open_head = head; picture = picture; is = sym (some-is (PictureWithoutSlices h.place) f e) },
+  λ e. record {
+    unit = unit;
+    place = h.place;
+    open_head = head;
+    picture = picture;
+    is = sym (some-is (PictureWithoutSlices h.place) f e);
+  },
   λ p. let same = one-head Has p.unit unit at p.open_head head in
-      let its = one-picture Has unit p.place h.place at (subst (λ u. IsItsPicture Has u p.place at) same p.picture) picture in
+      let its = one-picture Has unit p.place h.place at (subst (λ u.
+      IsItsPicture Has u p.place at) same p.picture) picture in
       ap (λ (v : ℕ). Some (PictureWithoutSlices v)) (sym its) ∙ ap Some (sym p.is),
 )
 
-begins-by : (Has : ℕ → ℕ → Type 0) (at unit : ℕ) → Knows Has [] at → unit < at → (StandsThere Has unit AnyKind × IsFirstCode Has unit) ⊎ (StandsThere Has unit IsHeadKind × ((slice : ℕ) × ((StandsThere Has slice IsSliceKind × (slice < unit)) × NoneIn Has slice unit IsHeadKind))) → ⊥
+begins-by : (Has : ℕ → ℕ → Type 0) (at unit : ℕ) → Knows Has [] at → unit < at →
+    BeginsUnit Has unit → ⊥
 begins-by Has at unit k before (inl first) = k.back unit first.0.0 first.0.1.0 before
 begins-by Has at unit k before (inr it) = k.back unit it.0.0 it.0.1.0 before
 
-pub begins-after : (Has : ℕ → ℕ → Type 0) (at unit : ℕ) → Knows Has [] at → IsOpenHead Has unit at → ⊥
+pub begins-after : (Has : ℕ → ℕ → Type 0) (at unit : ℕ) → Knows Has [] at →
+    IsOpenHead Has unit at → ⊥
 begins-after Has at unit k o = begins-by Has at unit k o.before o.begins
 
-slices-decide : (Has : ℕ → ℕ → Type 0) (past : List Code) (at : ℕ) → Knows Has past at → Spaced past → slices_of past ≡ 0 → Decides (LacksSlices Has at) (option_map left_without_slices (picture_of past))
-slices-decide Has [] at k spaced none = none-of (LacksSlices Has at) (λ f p. begins-after Has at p.unit k p.open_head)
+slices-decide : (Has : ℕ → ℕ → Type 0) (past : List Code) (at : ℕ) → Knows Has past at →
+    Spaced past → slices_of past ≡ 0 →
+    Decides (LacksSlices Has at) (option_map left_without_slices (picture_of past))
+slices-decide Has [] at k spaced none =
+    none-of (LacksSlices Has at) (λ f p. begins-after Has at p.unit k p.open_head)
 slices-decide Has (d ∷ past) at k spaced none =
-    picture-slices Has at (unit_of (d ∷ past)) (picture_of (d ∷ past)) (open-head Has d past at k spaced none) (picture-there Has d past at k spaced)
+    picture-slices Has at (unit_of (d ∷ past)) (picture_of (d ∷ past))
+    (open-head Has d past at k spaced none) (picture-there Has d past at k spaced)
 
-second-decides : (Has : ℕ → ℕ → Type 0) (past : List Code) (at kind : ℕ) → AtCode Has past at kind → Decides (SecondRefusal Has at) (second_fault (tally_of past) kind)
+second-decides : (Has : ℕ → ℕ → Type 0) (past : List Code) (at kind : ℕ) → AtCode Has past at kind →
+    Decides (SecondRefusal Has at) (second_fault (tally_of past) kind)
 second-decides Has past at kind c =
-    decide-if (SecondRefusal Has at) (is_head kind && eqb (slices_of past) 0) (option_map left_without_slices (picture_of past))
+    decide-if (SecondRefusal Has at) (is_head kind
+    && eqb (slices_of past) 0) (option_map left_without_slices (picture_of past))
     (λ e. let parts = and_parts (is_head kind) (eqb (slices_of past) 0) e in
-    decide-with (StandsThere Has at IsHeadKind) (LacksSlices Has at) (option_map left_without_slices (picture_of past)) (kind, (c.code, head-kind kind parts.0))
+    decide-with (StandsThere Has at IsHeadKind) (LacksSlices Has at)
+    (option_map left_without_slices (picture_of past)) (kind, (c.code, head-kind kind parts.0))
     (slices-decide Has past at c.knows c.spaced (eqb-true (slices_of past) 0 parts.1)))
     (λ e f p. elim (and_cases (is_head kind) (eqb (slices_of past) 0) e) [
       | inl other ↦ no-head kind other (subst IsHeadKind (c.one p.0.0 p.0.1.0) p.0.1.1)
@@ -128,33 +166,62 @@ second-decides Has past at kind c =
 
 -- ---- a unit's first slice
 
-head-decides : (Has : ℕ → ℕ → Type 0) (t_unit at : ℕ) (past : List Code) (o : Option Header) → unit_of past ≡ t_unit → IsOpenHead Has t_unit at → PictureThere Has t_unit at o
-    → Decides (Otherwise (LacksPicture Has at) (IsLongHead Has at)) (head_fault (tally_of past) at o)
+head-decides : (Has : ℕ → ℕ → Type 0) (t_unit at : ℕ) (past : List Code) (o : Option Header) →
+    unit_of past ≡ t_unit → IsOpenHead Has t_unit at → PictureThere Has t_unit at o
+    → Decides (Otherwise (LacksPicture Has at) (IsLongHead Has at))
+    (head_fault (tally_of past) at o)
 head-decides Has unit at past None is head none =
-    subst (λ u. Decides (Otherwise (LacksPicture Has at) (IsLongHead Has at)) (Some (HeadWithoutPicture u))) (sym is)
+    subst (λ u. Decides (Otherwise (LacksPicture Has at) (IsLongHead Has at))
+    (Some (HeadWithoutPicture u))) (sym is)
     (λ f. (
-      λ e. inl (record { unit = unit; open_head = head; none = none; is = sym (some-is (HeadWithoutPicture unit) f e) }),
+      λ e. inl (record {
+        unit = unit;
+        open_head = head;
+        none = none;
+        is = sym (some-is (HeadWithoutPicture unit) f e);
+      }),
       λ either. elim either [
-        | inl p ↦ ap (λ u. Some (HeadWithoutPicture u)) (one-head Has unit p.unit at head p.open_head) ∙ ap Some (sym p.is)
-        | inr q ↦ absurd (q.0 (HeadWithoutPicture unit) (record { unit = unit; open_head = head; none = none; is = refl }))
+        | inl p ↦ ap (λ u.
+            Some (HeadWithoutPicture u)) (one-head Has unit p.unit at head p.open_head) ∙ ap Some
+            (sym p.is)
+        | inr q ↦ absurd (q.0 (HeadWithoutPicture unit) (record {
+          unit = unit;
+          open_head = head;
+          none = none;
+          is = refl;
+        }))
       ],
     ))
 head-decides Has unit at past (Some h) is head picture =
-    subst (λ u. Decides (Otherwise (LacksPicture Has at) (IsLongHead Has at)) (cond (ltb 1380 (at - u)) (Some (HeadTooLong u)) None)) (sym is)
-    (only-second (LacksPicture Has at) (IsLongHead Has at) (cond (ltb 1380 (at - unit)) (Some (HeadTooLong unit)) None)
-    (λ f p. p.none h.place 0 picture.code (subst (λ u. u ≤ h.place) (one-head Has unit p.unit at head p.open_head) picture.after) picture.before refl)
+    subst (λ u. Decides (Otherwise (LacksPicture Has at) (IsLongHead Has at))
+    (cond (ltb 1380 (at - u)) (Some (HeadTooLong u)) None)) (sym is)
+    (only-second (LacksPicture Has at) (IsLongHead Has at)
+    (cond (ltb 1380 (at - unit)) (Some (HeadTooLong unit)) None)
+    (λ f p. p.none h.place 0 picture.code (subst (λ u.
+    u ≤ h.place)
+    (one-head Has unit p.unit at head p.open_head) picture.after) picture.before refl)
     (decide (IsLongHead Has at) (ltb 1380 (at - unit)) (HeadTooLong unit)
-    (λ e. record { unit = unit; open_head = head; long = omega (arith, ltb-true 1380 (at - unit) e); is = refl })
+    (λ e. record {
+      unit = unit;
+      open_head = head;
+      long = omega (arith, ltb-true 1380 (at - unit) e);
+      is = refl;
+    })
     (λ g p. let same = one-head Has p.unit unit at p.open_head head in
     (lt-ltb 1380 (at - unit) (omega (arith, same, p.long)), p.is ∙ ap HeadTooLong same))))
 
-lacks-none : (Has : ℕ → ℕ → Type 0) (at : ℕ) → ((unit : ℕ) → IsOpenHead Has unit at → ⊥) → (f : FilmFault) → Otherwise (LacksPicture Has at) (IsLongHead Has at) f → ⊥
-lacks-none Has at never = neither (LacksPicture Has at) (IsLongHead Has at) (λ f p. never p.unit p.open_head) (λ f p. never p.unit p.open_head)
+lacks-none : (Has : ℕ → ℕ → Type 0) (at : ℕ) → ((unit : ℕ) → IsOpenHead Has unit at → ⊥) →
+    (f : FilmFault) → Otherwise (LacksPicture Has at) (IsLongHead Has at) f → ⊥
+lacks-none Has at never =
+    neither (LacksPicture Has at) (IsLongHead Has at) (λ f p. never p.unit p.open_head) (λ f p.
+    never p.unit p.open_head)
 
-not-both : (Has : ℕ → ℕ → Type 0) (at kind : ℕ) → AtCode Has [] at kind → kind_fault (tally_of []) at kind ≡ None → is_slice kind ≡ true → IsFirstCode Has at → ⊥
+not-both : (Has : ℕ → ℕ → Type 0) (at kind : ℕ) → AtCode Has [] at kind →
+    kind_fault (tally_of []) at kind ≡ None → is_slice kind ≡ true → IsFirstCode Has at → ⊥
 not-both Has at kind c none slice first =
     let is = slice-kind kind slice in
-    no-more (KindRefusal Has at) (kind_fault (tally_of []) at kind) (kind-decides Has [] at kind c) none NoSequence
+    no-more (KindRefusal Has at) (kind_fault (tally_of []) at kind)
+    (kind-decides Has [] at kind c) none NoSequence
     (inr (
       (λ g p. let other = c.one p.0.0 p.0.1.0 in omega (arith, is.1, other, p.0.1.1)),
       inr (
@@ -163,12 +230,15 @@ not-both Has at kind c none slice first =
       ),
     ))
 
-three-first : (Has : ℕ → ℕ → Type 0) (at kind : ℕ) → AtCode Has [] at kind → kind_fault (tally_of []) at kind ≡ None → is_slice kind ≡ true → ⊥
+three-first : (Has : ℕ → ℕ → Type 0) (at kind : ℕ) → AtCode Has [] at kind →
+    kind_fault (tally_of []) at kind ≡ None → is_slice kind ≡ true → ⊥
 three-first Has at kind c none slice =
     let first : IsFirstCode Has at = first-of-none Has [] at c.knows refl in
     not-both Has at kind c none slice first
 
-slice-decides : (Has : ℕ → ℕ → Type 0) (past : List Code) (at kind : ℕ) → AtCode Has past at kind → kind_fault (tally_of past) at kind ≡ None → Decides (SliceRefusal Has at) (first_slice_fault (tally_of past) at kind)
+slice-decides : (Has : ℕ → ℕ → Type 0) (past : List Code) (at kind : ℕ) → AtCode Has past at kind →
+    kind_fault (tally_of past) at kind ≡ None →
+    Decides (SliceRefusal Has at) (first_slice_fault (tally_of past) at kind)
 slice-decides Has [] at kind c none =
     decide-if (SliceRefusal Has at) (is_slice kind && eqb 0 0) (head_fault (tally_of []) at None)
     (λ e. absurd (three-first Has at kind c none (and_parts (is_slice kind) (eqb 0 0) e).0))
@@ -176,64 +246,118 @@ slice-decides Has [] at kind c none =
 slice-decides Has (d ∷ past) at kind c none =
     let all : List Code = d ∷ past in
     let o = picture_of all in
-    decide-if (SliceRefusal Has at) (is_slice kind && eqb (slices_of all) 0) (head_fault (tally_of all) at o)
+    decide-if (SliceRefusal Has at) (is_slice kind
+    && eqb (slices_of all) 0) (head_fault (tally_of all) at o)
     (λ e. let parts = and_parts (is_slice kind) (eqb (slices_of all) 0) e in
-    decide-with (StandsThere Has at IsSliceKind) (Otherwise (LacksPicture Has at) (IsLongHead Has at)) (head_fault (tally_of all) at o) (kind, (c.code, slice-kind kind parts.0))
-    (head-decides Has (unit_of all) at all o refl (open-head Has d past at c.knows c.spaced (eqb-true (slices_of all) 0 parts.1)) (picture-there Has d past at c.knows c.spaced)))
+    decide-with (StandsThere Has at IsSliceKind)
+    (Otherwise (LacksPicture Has at) (IsLongHead Has at)) (head_fault (tally_of all) at o)
+    (kind, (c.code, slice-kind kind parts.0))
+    (head-decides Has (unit_of all) at all o refl
+    (open-head Has d past at c.knows c.spaced (eqb-true (slices_of all) 0 parts.1))
+    (picture-there Has d past at c.knows c.spaced)))
     (λ e f p. elim (and_cases (is_slice kind) (eqb (slices_of all) 0) e) [
       | inl other ↦ no-slice kind other (subst IsSliceKind (c.one p.0.0 p.0.1.0) p.0.1.1)
-      | inr some ↦ lacks-none Has at (λ unit o. slices-left Has all at unit c.knows c.spaced some o) f p.1
+      | inr some ↦ lacks-none Has at (λ unit o.
+          slices-left Has all at unit c.knows c.spaced some o) f p.1
     ])
 
 -- ---- the number of pictures
 
-group-test : (Has : ℕ → ℕ → Type 0) (past : List Code) (at : ℕ) → Knows Has past at → Spaced past → leb 1024 (pictures_of past - before_group_of past) ≡ true → IsLongGroup Has at (GroupTooLong at)
+group-test : (Has : ℕ → ℕ → Type 0) (past : List Code) (at : ℕ) → Knows Has past at → Spaced past →
+    leb 1024 (pictures_of past - before_group_of past) ≡ true → IsLongGroup Has at (GroupTooLong at)
 group-test Has past at k spaced e =
     let it = codes-since Has IsPicture is_picture is_group past at group-tests k spaced in record {
       from = it.from;
-      pictures = (it.places, (it.are, omega (arith, it.long, since-group past, leb-true 1024 (pictures_of past - before_group_of past) e)));
-      none = λ place kind has after before is. it.none place kind has after before (eq-eqb kind 0xb8 is);
+      pictures = (
+        it.places,
+        (
+          it.are,
+          omega (
+            arith,
+            it.long,
+            since-group past,
+            leb-true 1024
+                (pictures_of past - before_group_of past) e,
+          ),
+        ),
+      );
+      none = λ place kind has after before is.
+          it.none place kind has after before (eq-eqb kind 0xb8 is);
       is = refl;
     }
 
-test-group : (Has : ℕ → ℕ → Type 0) (past : List Code) (at : ℕ) (f : FilmFault) → Knows Has past at → Spaced past → IsLongGroup Has at f → leb 1024 (pictures_of past - before_group_of past) ≡ true
+test-group : (Has : ℕ → ℕ → Type 0) (past : List Code) (at : ℕ) (f : FilmFault) →
+    Knows Has past at → Spaced past → IsLongGroup Has at f →
+    leb 1024 (pictures_of past - before_group_of past) ≡ true
 test-group Has past at f k spaced p =
-    let most = most-since Has IsPicture is_picture is_group past p.from at p.pictures.0 group-tests k spaced p.pictures.1.0 (λ place kind has after before is. p.none place kind has after before (eqb-true kind 0xb8 is)) in
-    le-leb 1024 (pictures_of past - before_group_of past) (omega (arith, most, since-group past, p.pictures.1.1))
+    let most = most-since Has IsPicture is_picture is_group past p.from at p.pictures.0
+    group-tests k spaced p.pictures.1.0
+    (λ place kind has after before is.
+    p.none place kind has after before (eqb-true kind 0xb8 is)) in
+    le-leb 1024 (pictures_of past - before_group_of past)
+    (omega (arith, most, since-group past, p.pictures.1.1))
 
-film-test : (Has : ℕ → ℕ → Type 0) (past : List Code) (at : ℕ) → Knows Has past at → Spaced past → leb 4194304 (pictures_of past) ≡ true → HasPictures Has 0 at 4194304
+film-test : (Has : ℕ → ℕ → Type 0) (past : List Code) (at : ℕ) → Knows Has past at → Spaced past →
+    leb 4194304 (pictures_of past) ≡ true → HasPictures Has 0 at 4194304
 film-test Has past at k spaced e =
-    let it = codes-since Has IsPicture is_picture is_nothing past at picture-tests k spaced in
-    (it.places, (codes-from Has IsPicture it.from 0 at it.places (λ place has far before. omega arith) it.are, omega (arith, it.long, since-all past, leb-true 4194304 (pictures_of past) e)))
+    let it = codes-since Has IsPicture is_picture is_nothing past at picture-tests k spaced in (
+      it.places,
+      (
+        codes-from Has IsPicture it.from 0 at it.places (λ place has far before.
+            omega arith) it.are,
+        omega
+            (arith, it.long, since-all past, leb-true 4194304 (pictures_of past) e),
+      ),
+    )
 
-test-film : (Has : ℕ → ℕ → Type 0) (past : List Code) (at : ℕ) → Knows Has past at → Spaced past → HasPictures Has 0 at 4194304 → leb 4194304 (pictures_of past) ≡ true
+test-film : (Has : ℕ → ℕ → Type 0) (past : List Code) (at : ℕ) → Knows Has past at → Spaced past →
+    HasPictures Has 0 at 4194304 → leb 4194304 (pictures_of past) ≡ true
 test-film Has past at k spaced p =
-    let most = most-since Has IsPicture is_picture is_nothing past 0 at p.0 picture-tests k spaced p.1.0 (λ place kind has after before is. false≢true is) in
+    let most = most-since Has IsPicture is_picture is_nothing past 0 at p.0
+    picture-tests k spaced p.1.0
+    (λ place kind has after before is. false≢true is) in
     le-leb 4194304 (pictures_of past) (omega (arith, most, since-all past, p.1.1))
 
-count-decides : (Has : ℕ → ℕ → Type 0) (past : List Code) (at kind : ℕ) → AtCode Has past at kind → Decides (CountRefusal Has at) (count_fault (tally_of past) at kind)
+count-decides : (Has : ℕ → ℕ → Type 0) (past : List Code) (at kind : ℕ) → AtCode Has past at kind →
+    Decides (CountRefusal Has at) (count_fault (tally_of past) at kind)
 count-decides Has past at kind c =
     let many = leb 4194304 (pictures_of past) in
     let full = leb 1024 (pictures_of past - before_group_of past) in
     let o = cond full (Some (GroupTooLong at)) (cond many (Some TooLong) None) in
     decide-if (CountRefusal Has at) (eqb kind 0) o
-    (λ e. decide-with (Has at 0) (Otherwise (IsLongGroup Has at) (IsLongFilm Has at)) o (subst (λ k. Has at k) (eqb-true kind 0 e) c.code)
-    (both-cond (IsLongGroup Has at) (IsLongFilm Has at) full (GroupTooLong at) (cond many (Some TooLong) None)
+    (λ e. decide-with (Has at 0) (Otherwise (IsLongGroup Has at) (IsLongFilm Has at)) o (subst (λ k.
+    Has at k) (eqb-true kind 0 e) c.code)
+    (both-cond (IsLongGroup Has at) (IsLongFilm Has at) full (GroupTooLong at)
+    (cond many (Some TooLong) None)
     (λ t. group-test Has past at c.knows c.spaced t)
     (λ g p. (test-group Has past at g c.knows c.spaced p, p.is))
-    (λ _. decide (IsLongFilm Has at) many TooLong (λ t. (film-test Has past at c.knows c.spaced t, refl)) (λ g p. (test-film Has past at c.knows c.spaced p.0, p.1)))))
+    (λ _. decide (IsLongFilm Has at) many TooLong (λ t.
+    (film-test Has past at c.knows c.spaced t, refl)) (λ g p.
+    (test-film Has past at c.knows c.spaced p.0, p.1)))))
     (λ e f p. unequal kind 0 e (sym (c.one 0 p.0)))
 
 -- ---- a code
 
-pub code-decides : (Has : ℕ → ℕ → Type 0) (bytes r : List ℕ) (past : List Code) (at kind : ℕ) → Same bytes r → AtCode Has past at kind → TextsAre r (at + 4) past → first_fault past ≡ None → Decides (CodeRefusal Has bytes at) (fault_at past at kind)
+pub code-decides : (Has : ℕ → ℕ → Type 0) (bytes r : List ℕ) (past : List Code) (at kind : ℕ) →
+    Same bytes r → AtCode Has past at kind → TextsAre r (at + 4) past → first_fault past ≡ None →
+    Decides (CodeRefusal Has bytes at) (fault_at past at kind)
 unfolding fault_at
 code-decides Has bytes r past at kind same c texts accepted =
     let t = tally_of past in
-    both (HeaderRefusal Has bytes at) (Otherwise (KindRefusal Has at) (Otherwise (SecondRefusal Has at) (Otherwise (SliceRefusal Has at) (CountRefusal Has at)))) (latest_fault past at) (code_fault t at kind)
+    both (HeaderRefusal Has bytes at)
+    (Otherwise (KindRefusal Has at)
+    (Otherwise (SecondRefusal Has at) (Otherwise (SliceRefusal Has at) (CountRefusal Has at))))
+    (latest_fault past at) (code_fault t at kind)
     (latest-decides Has bytes r past at (at + 4) same c.knows c.spaced texts (omega arith) accepted)
-    (λ _. both (KindRefusal Has at) (Otherwise (SecondRefusal Has at) (Otherwise (SliceRefusal Has at) (CountRefusal Has at))) (kind_fault t at kind) (otherwise (second_fault t kind) (otherwise (first_slice_fault t at kind) (count_fault t at kind)))
+    (λ _. both (KindRefusal Has at)
+    (Otherwise (SecondRefusal Has at) (Otherwise (SliceRefusal Has at) (CountRefusal Has at)))
+    (kind_fault t at kind)
+    (otherwise (second_fault t kind)
+    (otherwise (first_slice_fault t at kind) (count_fault t at kind)))
     (kind-decides Has past at kind c)
-    (λ none. both (SecondRefusal Has at) (Otherwise (SliceRefusal Has at) (CountRefusal Has at)) (second_fault t kind) (otherwise (first_slice_fault t at kind) (count_fault t at kind))
+    (λ none. both (SecondRefusal Has at) (Otherwise (SliceRefusal Has at) (CountRefusal Has at))
+    (second_fault t kind) (otherwise (first_slice_fault t at kind) (count_fault t at kind))
     (second-decides Has past at kind c)
-    (λ _. both (SliceRefusal Has at) (CountRefusal Has at) (first_slice_fault t at kind) (count_fault t at kind) (slice-decides Has past at kind c none) (λ _. count-decides Has past at kind c))))
+    (λ _. both (SliceRefusal Has at) (CountRefusal Has at) (first_slice_fault t at kind)
+    (count_fault t at kind) (slice-decides Has past at kind c none) (λ _.
+    count-decides Has past at kind c))))

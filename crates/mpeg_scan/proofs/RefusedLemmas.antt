@@ -1,9 +1,9 @@
 -- A film is refused exactly where the standard's words say, and for what they say.
-use Rattle.std.proofs.Common.{ℕ, Bool, true, false, cond, eqb, ltb, not, ◌+◌, ◌^◌, ◌<◌, ◌≤◌, ◌≡◌, ◌↔◌, List, [], ◌∷◌, Option, Some, None, length, sym, ◌∙◌, ap, refl, subst, inl, inr, arith}
+use Rattle.std.proofs.Common.{ℕ, Bool, true, false, cond, eqb, ltb, ◌+◌, ◌^◌, ◌<◌, ◌≤◌, ◌≡◌, ◌↔◌, List, [], ◌∷◌, Option, Some, None, length, sym, ◌∙◌, ap, refl, subst, arith}
 use Rattle.std.proofs.lemmas.Bool.{eqb-true, eq-eqb, ltb-true, ltb-false, lt-ltb}
 use Rattle.mpeg_scan.specs.declared.codes.Code.{Code}
 use Rattle.mpeg_scan.specs.declared.faults.FilmFault.{FilmFault}
-use Rattle.mpeg_scan.specs.declared.faults.FilmFault.TheVariants.{Empty, NoSequence, PictureWithoutSlices, TooLong, HeadWithoutPicture}
+use Rattle.mpeg_scan.specs.declared.faults.FilmFault.TheVariants.{Empty, NoSequence, TooLong, HeadWithoutPicture}
 use Rattle.mpeg_scan.specs.declared.tallies.Header.{Header}
 use Rattle.mpeg_scan.specs.Codes.{read, codes_of, matched}
 use Rattle.mpeg_scan.specs.Words.{picture_of, slices_of, tally_of, unit_of}
@@ -17,13 +17,14 @@ use Rattle.mpeg_scan.proofs.StepLemmas.{accepted-older, otherwise-second}
 use Rattle.mpeg_scan.proofs.PlaceLemmas.{at-bytes, codes-stand}
 use Rattle.mpeg_scan.proofs.TextLemmas.{TextsAre, codes-texts}
 use Rattle.mpeg_scan.proofs.TileLemmas.{Spaced, all-below, placed-codes, room-after}
-use Rattle.mpeg_scan.proofs.DecideLemmas.{Decides, both, both-cond, decide, neither, no-more, none-of, only-first, only-second, some-is}
+use Rattle.mpeg_scan.proofs.DecideLemmas.{Decides, both, both-cond, neither, no-more, none-of, only-first, only-second, some-is}
 use Rattle.mpeg_scan.proofs.BeforeLemmas.{Knows, PictureThere, earlier, has-new, here, new-below, not-open, older, one-head, open-head, picture-there, slice-there, where-is}
 use Rattle.mpeg_scan.proofs.HeaderLemmas.{Same, latest-decides}
-use Rattle.mpeg_scan.proofs.RefusalLemmas.{AtCode, begins-after, code-decides, picture-slices}
+use Rattle.mpeg_scan.proofs.RefusalLemmas.{begins-after, code-decides, picture-slices}
 
 -- the codes before a place, and the bytes that they stand in
-record Film (Has : ℕ → ℕ → Type 0) (bytes r : List ℕ) (past : List Code) (end stop : ℕ) : Type 0 where
+record Film (Has : ℕ → ℕ →
+    Type 0) (bytes r : List ℕ) (past : List Code) (end stop : ℕ) : Type 0 where
   same : Same bytes r
   single : (place kind other : ℕ) → Has place kind → Has place other → other ≡ kind
   knows : Knows Has past end
@@ -31,7 +32,9 @@ record Film (Has : ℕ → ℕ → Type 0) (bytes r : List ℕ) (past : List Cod
   texts : TextsAre r stop past
   far : end ≤ stop
 
-film-older : (Has : ℕ → ℕ → Type 0) (bytes r : List ℕ) (c : Code) (past : List Code) (end stop : ℕ) → Film Has bytes r (c ∷ past) end stop → Film Has bytes r past c.place (c.place + 4)
+film-older : (Has : ℕ → ℕ →
+    Type 0) (bytes r : List ℕ) (c : Code) (past : List Code) (end stop : ℕ) →
+    Film Has bytes r (c ∷ past) end stop → Film Has bytes r past c.place (c.place + 4)
 film-older Has bytes r c past end stop film = record {
   same = film.same;
   single = film.single;
@@ -42,7 +45,10 @@ film-older Has bytes r c past end stop film = record {
 }
 
 -- the latest code is judged
-latest-code : (Has : ℕ → ℕ → Type 0) (bytes r : List ℕ) (c : Code) (past : List Code) (end stop : ℕ) → Film Has bytes r (c ∷ past) end stop → first_fault past ≡ None → Decides (CodeRefusal Has bytes c.place) (fault_at past c.place c.kind)
+latest-code : (Has : ℕ → ℕ →
+    Type 0) (bytes r : List ℕ) (c : Code) (past : List Code) (end stop : ℕ) →
+    Film Has bytes r (c ∷ past) end stop → first_fault past ≡ None →
+    Decides (CodeRefusal Has bytes c.place) (fault_at past c.place c.kind)
 latest-code Has bytes r c past end stop film accepted =
     let code = has-new Has c past end film.knows in
     code-decides Has bytes r past c.place c.kind film.same (record {
@@ -54,17 +60,23 @@ latest-code Has bytes r c past end stop film accepted =
 
 -- where none of them is refused, none is
 abbrev Clear : (ℕ → ℕ → Type 0) → List ℕ → ℕ → Type 0
-Clear Has bytes end = (other : ℕ) → StandsThere Has other AnyKind → other < end → (g : FilmFault) → CodeRefusal Has bytes other g → ⊥
+Clear Has bytes end = (other : ℕ) → StandsThere Has other AnyKind → other < end → (g : FilmFault) →
+    CodeRefusal Has bytes other g → ⊥
 
-all-clear : (Has : ℕ → ℕ → Type 0) (bytes r : List ℕ) (past : List Code) (end stop : ℕ) → Film Has bytes r past end stop → first_fault past ≡ None → Clear Has bytes end
+all-clear : (Has : ℕ → ℕ → Type 0) (bytes r : List ℕ) (past : List Code) (end stop : ℕ) →
+    Film Has bytes r past end stop → first_fault past ≡ None → Clear Has bytes end
 unfolding first_fault
-all-clear Has bytes r [] end stop film accepted other code before g refused = film.knows.back other code.0 code.1.0 before
+all-clear Has bytes r [] end stop film accepted other code before g refused =
+    film.knows.back other code.0 code.1.0 before
 all-clear Has bytes r (c ∷ past) end stop film accepted other code before g refused =
     let before_that = accepted-older c past accepted in
     elim (where-is Has c past end film.knows film.spaced other code.0 code.1.0 before) [
-      | here e m ↦ no-more (CodeRefusal Has bytes c.place) (fault_at past c.place c.kind) (latest-code Has bytes r c past end stop film before_that)
-          (otherwise-second (first_fault past) (fault_at past c.place c.kind) accepted) g (subst (λ v. CodeRefusal Has bytes v g) (sym e) refused)
-      | earlier far ↦ all-clear Has bytes r past c.place (c.place + 4) (film-older Has bytes r c past end stop film) before_that other code far g refused
+      | here e m ↦ no-more (CodeRefusal Has bytes c.place) (fault_at past c.place c.kind)
+          (latest-code Has bytes r c past end stop film before_that)
+          (otherwise-second (first_fault past) (fault_at past c.place c.kind) accepted) g
+          (subst (λ v. CodeRefusal Has bytes v g) (sym e) refused)
+      | earlier far ↦ all-clear Has bytes r past c.place (c.place
+          + 4) (film-older Has bytes r c past end stop film) before_that other code far g refused
     ]
 
 -- the first of the codes before a place that is refused
@@ -75,8 +87,12 @@ record FirstBefore (Has : ℕ → ℕ → Type 0) (bytes : List ℕ) (end : ℕ)
   refused : CodeRefusal Has bytes at f
   first : Clear Has bytes at
 
-first-step : (o b : Option FilmFault) (Has : ℕ → ℕ → Type 0) (bytes r : List ℕ) (c : Code) (past : List Code) (end stop : ℕ) → Film Has bytes r (c ∷ past) end stop
-    → Decides (FirstBefore Has bytes c.place) o → (o ≡ None → Decides (CodeRefusal Has bytes c.place) b) → (o ≡ None → Clear Has bytes c.place) → Decides (FirstBefore Has bytes end) (otherwise o b)
+first-step : (o b : Option FilmFault) (Has : ℕ → ℕ →
+    Type 0) (bytes r : List ℕ) (c : Code) (past : List Code) (end stop : ℕ) →
+    Film Has bytes r (c ∷ past) end stop
+    → Decides (FirstBefore Has bytes c.place) o →
+    (o ≡ None → Decides (CodeRefusal Has bytes c.place) b) →
+    (o ≡ None → Clear Has bytes c.place) → Decides (FirstBefore Has bytes end) (otherwise o b)
 first-step None b Has bytes r c past end stop film one new clear f = (
   λ e. record {
     at = c.place;
@@ -99,82 +115,143 @@ first-step (Some g) b Has bytes r c past end stop film one new clear f = (
     first = it.first;
   },
   λ p. elim (where-is Has c past end film.knows film.spaced p.at p.code.0 p.code.1.0 p.before) [
-    | here e m ↦ (let it = (one g).0 refl in absurd (p.first it.at it.code (omega (arith, it.before, e)) g it.refused))
-    | earlier far ↦ (one f).1 (record { at = p.at; code = p.code; before = far; refused = p.refused; first = p.first })
+    | here e m ↦ (let it = (one g).0 refl in absurd
+        (p.first it.at it.code (omega (arith, it.before, e)) g it.refused))
+    | earlier far ↦ (one f).1 (record {
+      at = p.at;
+      code = p.code;
+      before = far;
+      refused = p.refused;
+      first = p.first;
+    })
   ],
 )
 
-first-decides : (Has : ℕ → ℕ → Type 0) (bytes r : List ℕ) (past : List Code) (end stop : ℕ) → Film Has bytes r past end stop → Decides (FirstBefore Has bytes end) (first_fault past)
+first-decides : (Has : ℕ → ℕ → Type 0) (bytes r : List ℕ) (past : List Code) (end stop : ℕ) →
+    Film Has bytes r past end stop → Decides (FirstBefore Has bytes end) (first_fault past)
 unfolding first_fault
 first-decides Has bytes r [] end stop film =
     none-of (FirstBefore Has bytes end) (λ f p. film.knows.back p.at p.code.0 p.code.1.0 p.before)
 first-decides Has bytes r (c ∷ past) end stop film =
     let before = film-older Has bytes r c past end stop film in
-    first-step (first_fault past) (fault_at past c.place c.kind) Has bytes r c past end stop film (first-decides Has bytes r past c.place (c.place + 4) before)
-    (λ none. latest-code Has bytes r c past end stop film none) (λ none. all-clear Has bytes r past c.place (c.place + 4) before none)
+    first-step (first_fault past) (fault_at past c.place c.kind) Has bytes r c past end stop film
+    (first-decides Has bytes r past c.place (c.place + 4) before)
+    (λ none. latest-code Has bytes r c past end stop film none) (λ none.
+    all-clear Has bytes r past c.place (c.place + 4) before none)
 
 -- ---- the end
 
-open-decides : (Has : ℕ → ℕ → Type 0) (end unit : ℕ) (past : List Code) (o : Option Header) → unit_of past ≡ unit → IsOpenHead Has unit end → PictureThere Has unit end o
-    → Decides (Otherwise (LacksSlices Has end) (LacksPicture Has end)) (Some (open_fault (tally_of past) o))
+open-decides : (Has : ℕ → ℕ → Type 0) (end unit : ℕ) (past : List Code) (o : Option Header) →
+    unit_of past ≡ unit → IsOpenHead Has unit end → PictureThere Has unit end o
+    → Decides (Otherwise (LacksSlices Has end) (LacksPicture Has end))
+    (Some (open_fault (tally_of past) o))
 open-decides Has end unit past None is head none =
-    subst (λ u. Decides (Otherwise (LacksSlices Has end) (LacksPicture Has end)) (Some (HeadWithoutPicture u))) (sym is)
+    subst (λ u. Decides (Otherwise (LacksSlices Has end) (LacksPicture Has end))
+    (Some (HeadWithoutPicture u))) (sym is)
     (only-second (LacksSlices Has end) (LacksPicture Has end) (Some (HeadWithoutPicture unit))
     (no-more (LacksSlices Has end) None (picture-slices Has end unit None head none) refl)
     (λ f. (
-      λ e. record { unit = unit; open_head = head; none = none; is = sym (some-is (HeadWithoutPicture unit) f e) },
-      λ p. ap (λ u. Some (HeadWithoutPicture u)) (one-head Has unit p.unit end head p.open_head) ∙ ap Some (sym p.is),
+      λ e. record {
+        unit = unit;
+        open_head = head;
+        none = none;
+        is = sym (some-is (HeadWithoutPicture unit) f e);
+      },
+      λ p. ap (λ u. Some (HeadWithoutPicture u))
+          (one-head Has unit p.unit end head p.open_head) ∙ ap Some (sym p.is),
     )))
 open-decides Has end unit past (Some h) is head picture =
-    only-first (LacksSlices Has end) (LacksPicture Has end) (Some (left_without_slices h)) (picture-slices Has end unit (Some h) head picture)
-    (λ f p. p.none h.place 0 picture.code (subst (λ u. u ≤ h.place) (one-head Has unit p.unit end head p.open_head) picture.after) picture.before refl)
+    only-first (LacksSlices Has end) (LacksPicture Has end) (Some (left_without_slices h))
+    (picture-slices Has end unit (Some h) head picture)
+    (λ f p. p.none h.place 0 picture.code (subst (λ u.
+    u ≤ h.place)
+    (one-head Has unit p.unit end head p.open_head) picture.after) picture.before refl)
 
-unfinished : (b : Bool) (Has : ℕ → ℕ → Type 0) (c : Code) (past : List Code) (end : ℕ) → ltb 0 (slices_of (c ∷ past)) ≡ b → Knows Has (c ∷ past) end → Spaced (c ∷ past)
-    → Decides (Otherwise (LacksSlices Has end) (LacksPicture Has end)) (cond b None (Some (open_fault (tally_of (c ∷ past)) (picture_of (c ∷ past)))))
+unfinished : (b : Bool) (Has : ℕ → ℕ → Type 0) (c : Code) (past : List Code) (end : ℕ) →
+    ltb 0 (slices_of (c ∷ past)) ≡ b → Knows Has (c ∷ past) end → Spaced (c ∷ past)
+    → Decides (Otherwise (LacksSlices Has end) (LacksPicture Has end))
+    (cond b None (Some (open_fault (tally_of (c ∷ past)) (picture_of (c ∷ past)))))
 unfinished true Has c past end some k spaced =
     let s = slice-there Has (c ∷ past) end k spaced (ltb-true 0 (slices_of (c ∷ past)) some) in
-    none-of (Otherwise (LacksSlices Has end) (LacksPicture Has end)) (neither (LacksSlices Has end) (LacksPicture Has end)
+    none-of (Otherwise (LacksSlices Has end) (LacksPicture Has end))
+    (neither (LacksSlices Has end) (LacksPicture Has end)
     (λ f p. not-open Has p.unit end s p.open_head) (λ f p. not-open Has p.unit end s p.open_head))
 unfinished false Has c past end some k spaced =
-    open-decides Has end (unit_of (c ∷ past)) (c ∷ past) (picture_of (c ∷ past)) refl (open-head Has c past end k spaced (omega (arith, ltb-false 0 (slices_of (c ∷ past)) some))) (picture-there Has c past end k spaced)
+    open-decides Has end (unit_of (c ∷ past)) (c ∷ past) (picture_of (c ∷ past)) refl
+    (open-head Has c past end k spaced (omega (arith, ltb-false 0 (slices_of (c ∷ past)) some)))
+    (picture-there Has c past end k spaced)
 
-last-decides : (Has : ℕ → ℕ → Type 0) (past : List Code) (end : ℕ) → Knows Has past end → Spaced past → ((place kind : ℕ) → Has place kind → place < end)
-    → Decides (Otherwise (LacksCodes Has) (Otherwise (LacksSlices Has end) (LacksPicture Has end))) (last_fault (tally_of past))
+last-decides : (Has : ℕ → ℕ → Type 0) (past : List Code) (end : ℕ) → Knows Has past end →
+    Spaced past → ((place kind : ℕ) → Has place kind → place < end)
+    → Decides (Otherwise (LacksCodes Has) (Otherwise (LacksSlices Has end) (LacksPicture Has end)))
+    (last_fault (tally_of past))
 last-decides Has [] end k spaced all =
-    only-first (LacksCodes Has) (Otherwise (LacksSlices Has end) (LacksPicture Has end)) (Some NoSequence)
+    only-first (LacksCodes Has) (Otherwise (LacksSlices Has end) (LacksPicture Has end))
+    (Some NoSequence)
     (λ f. (
-      λ e. ((λ place kind has. k.back place kind has (all place kind has)), sym (some-is NoSequence f e)),
+      λ e. (
+        (λ place kind has.
+            k.back place kind has (all place kind has)),
+        sym (some-is NoSequence f e),
+      ),
       λ p. ap Some (sym p.1),
     ))
-    (neither (LacksSlices Has end) (LacksPicture Has end) (λ f p. begins-after Has end p.unit k p.open_head) (λ f p. begins-after Has end p.unit k p.open_head))
+    (neither (LacksSlices Has end) (LacksPicture Has end) (λ f p.
+    begins-after Has end p.unit k p.open_head) (λ f p.
+    begins-after Has end p.unit k p.open_head))
 last-decides Has (c ∷ past) end k spaced all =
-    only-second (LacksCodes Has) (Otherwise (LacksSlices Has end) (LacksPicture Has end)) (last_fault (tally_of (c ∷ past)))
+    only-second (LacksCodes Has) (Otherwise (LacksSlices Has end) (LacksPicture Has end))
+    (last_fault (tally_of (c ∷ past)))
     (λ f p. p.0 c.place c.kind (has-new Has c past end k))
     (unfinished (ltb 0 (slices_of (c ∷ past))) Has c past end refl k spaced)
 
-end-decides : (Has : ℕ → ℕ → Type 0) (bytes r : List ℕ) (past : List Code) (end stop : ℕ) → Film Has bytes r past end stop → ((place kind : ℕ) → Has place kind → place < end) → first_fault past ≡ None
+end-decides : (Has : ℕ → ℕ → Type 0) (bytes r : List ℕ) (past : List Code) (end stop : ℕ) →
+    Film Has bytes r past end stop → ((place kind : ℕ) → Has place kind → place < end) →
+    first_fault past ≡ None
     → Decides (EndRefusal Has bytes end) (end_fault past end)
 unfolding end_fault
 end-decides Has bytes r past end stop film all accepted =
-    both (HeaderRefusal Has bytes end) (Otherwise (LacksCodes Has) (Otherwise (LacksSlices Has end) (LacksPicture Has end))) (latest_fault past end) (last_fault (tally_of past))
-    (latest-decides Has bytes r past end stop film.same film.knows film.spaced film.texts film.far accepted)
+    both (HeaderRefusal Has bytes end)
+    (Otherwise (LacksCodes Has) (Otherwise (LacksSlices Has end) (LacksPicture Has end)))
+    (latest_fault past end) (last_fault (tally_of past))
+    (latest-decides Has bytes r past end stop film.same film.knows film.spaced film.texts film.far
+    accepted)
     (λ _. last-decides Has past end film.knows film.spaced all)
 
 -- ---- a film
 
-first-anywhere : (Has : ℕ → ℕ → Type 0) (bytes : List ℕ) (end : ℕ) (o : Option FilmFault) → ((place kind : ℕ) → Has place kind → place < end) → Decides (FirstBefore Has bytes end) o → Decides (FirstRefusal Has bytes) o
+first-anywhere : (Has : ℕ → ℕ → Type 0) (bytes : List ℕ) (end : ℕ) (o : Option FilmFault) →
+    ((place kind : ℕ) → Has place kind → place < end) → Decides (FirstBefore Has bytes end) o →
+    Decides (FirstRefusal Has bytes) o
 first-anywhere Has bytes end o all is f = (
-  λ e. let it = (is f).0 e in record { at = it.at; code = it.code; refused = it.refused; first = it.first },
-  λ p. (is f).1 (record { at = p.at; code = p.code; before = all p.at p.code.0 p.code.1.0; refused = p.refused; first = p.first }),
+  λ e. let it = (is f).0 e in record {
+    at = it.at;
+    code = it.code;
+    refused = it.refused;
+    first = it.first;
+  },
+  λ p. (is f).1 (record {
+    at = p.at;
+    code = p.code;
+    before = all p.at p.code.0 p.code.1.0;
+    refused = p.refused;
+    first = p.first;
+  }),
 )
 
-one-kind : (bytes : List ℕ) (place kind other : ℕ) → StandsAt bytes place kind → StandsAt bytes place other → other ≡ kind
+one-kind : (bytes : List ℕ) (place kind other : ℕ) → StandsAt bytes place kind →
+    StandsAt bytes place other → other ≡ kind
 one-kind bytes place kind other one two = sym two.fourth ∙ one.fourth
 
-code-below : (bytes : List ℕ) (n place kind : ℕ) → n ≡ length bytes → StandsAt bytes place kind → place < n
+code-below : (bytes : List ℕ) (n place kind : ℕ) → n ≡ length bytes → StandsAt bytes place kind →
+    place < n
 code-below bytes n place kind long has = omega (arith, has.fits, long)
 
-codes-decide : (bytes : List ℕ) → Decides (Otherwise (FirstRefusal (StandsAt bytes) bytes) (EndRefusal (StandsAt bytes) bytes (length bytes))) (otherwise (first_fault (codes_of (read [] bytes))) (end_fault (codes_of (read [] bytes)) (length (read [] bytes))))
+codes-decide : (bytes : List ℕ) →
+    Decides (Otherwise (FirstRefusal (StandsAt bytes) bytes)
+    (EndRefusal (StandsAt bytes) bytes (length bytes)))
+    (otherwise (first_fault (codes_of (read [] bytes)))
+    (end_fault (codes_of (read [] bytes)) (length (read [] bytes))))
 codes-decide bytes =
     let r = read [] bytes in
     let n = length r in
@@ -182,7 +259,8 @@ codes-decide bytes =
     let Has = StandsAt bytes in
     let long : n ≡ length bytes = length-read bytes [] ∙ omega arith in
     let placed = placed-codes r in
-    let all = λ (place kind : ℕ) (has : StandsAt bytes place kind). code-below bytes n place kind long has in
+    let all = λ (place kind : ℕ)
+    (has : StandsAt bytes place kind). code-below bytes n place kind long has in
     let film : Film Has bytes r past n n = record {
       same = record { byte = at-bytes bytes; long = long };
       single = one-kind bytes;
@@ -195,7 +273,8 @@ codes-decide bytes =
       texts = codes-texts r;
       far = omega arith;
     } in
-    subst (λ m. Decides (Otherwise (FirstRefusal Has bytes) (EndRefusal Has bytes m)) (otherwise (first_fault past) (end_fault past n))) long
+    subst (λ m. Decides (Otherwise (FirstRefusal Has bytes) (EndRefusal Has bytes m))
+    (otherwise (first_fault past) (end_fault past n))) long
     (both (FirstRefusal Has bytes) (EndRefusal Has bytes n) (first_fault past) (end_fault past n)
     (first-anywhere Has bytes n (first_fault past) all (first-decides Has bytes r past n n film))
     (λ none. end-decides Has bytes r past n n film all none))
@@ -206,8 +285,10 @@ film-decides bytes =
     let r = read [] bytes in
     let long : length r ≡ length bytes = length-read bytes [] ∙ omega arith in
     let judged = otherwise (first_fault (codes_of r)) (end_fault (codes_of r) (length r)) in
-    let Codes = Otherwise (FirstRefusal (StandsAt bytes) bytes) (EndRefusal (StandsAt bytes) bytes (length bytes)) in
-    both-cond (IsEmptyFilm bytes) (Otherwise (IsLargeFilm bytes) Codes) (eqb (length r) 0) Empty (cond (ltb (2 ^ 40) (length r)) (Some TooLong) judged)
+    let Codes = Otherwise (FirstRefusal (StandsAt bytes) bytes)
+    (EndRefusal (StandsAt bytes) bytes (length bytes)) in
+    both-cond (IsEmptyFilm bytes) (Otherwise (IsLargeFilm bytes) Codes) (eqb (length r) 0) Empty
+    (cond (ltb (2 ^ 40) (length r)) (Some TooLong) judged)
     (λ e. (sym long ∙ eqb-true (length r) 0 e, refl))
     (λ g p. (eq-eqb (length r) 0 (long ∙ p.0), p.1))
     (λ _. both-cond (IsLargeFilm bytes) Codes (ltb (2 ^ 40) (length r)) TooLong judged
@@ -215,14 +296,17 @@ film-decides bytes =
     (λ g p. (lt-ltb (2 ^ 40) (length r) (subst (λ n. 2 ^ 40 < n) (sym long) p.0), p.1))
     (λ _. codes-decide bytes))
 
-pub film-refused : (bytes : List ℕ) (f : FilmFault) → (refusal bytes ≡ Some f) ↔ IsRefusedFor bytes f
+pub film-refused : (bytes : List ℕ) (f : FilmFault) →
+    (refusal bytes ≡ Some f) ↔ IsRefusedFor bytes f
 film-refused bytes f = film-decides bytes f
 
-accepted-by : (P : FilmFault → Type 0) (o : Option FilmFault) → Decides P o → ((f : FilmFault) → P f → ⊥) → o ≡ None
+accepted-by : (P : FilmFault → Type 0) (o : Option FilmFault) → Decides P o →
+    ((f : FilmFault) → P f → ⊥) → o ≡ None
 accepted-by P None is none = refl
 accepted-by P (Some f) is none = absurd (none f ((is f).0 refl))
 
-pub film-accepted : (bytes : List ℕ) → (refusal bytes ≡ None) ↔ ((f : FilmFault) → IsRefusedFor bytes f → ⊥)
+pub film-accepted : (bytes : List ℕ) →
+    (refusal bytes ≡ None) ↔ ((f : FilmFault) → IsRefusedFor bytes f → ⊥)
 film-accepted bytes = (
   λ none f p. no-more (IsRefusedFor bytes) (refusal bytes) (film-decides bytes) none f p,
   λ none. accepted-by (IsRefusedFor bytes) (refusal bytes) (film-decides bytes) none,

@@ -25,7 +25,8 @@ use Rattle.mpeg_scan.proofs.PlaceLemmas.{at as at_byte, at-bytes, codes-stand}
 use Rattle.mpeg_scan.proofs.TextLemmas.{TextIs, TextsAre, codes-texts, text-byte}
 use Rattle.mpeg_scan.proofs.OpenLemmas.{Below, Firsts, Member, Open, Pictured, first-code, kinds-of, member-has, step-open}
 use Rattle.mpeg_scan.specs.Codes.{matched}
-use Rattle.mpeg_scan.proofs.BeforeLemmas.{Knows, all-slices, counts-same, few-slices, own-slices}
+use Rattle.mpeg_scan.proofs.BeforeLemmas.{Knows}
+use Rattle.mpeg_scan.proofs.SinceLemmas.{all-slices, counts-same, few-slices, own-slices}
 
 -- ---- the latest unit, code by code
 

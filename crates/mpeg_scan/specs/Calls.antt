@@ -17,8 +17,8 @@ pub data Call : Type 0 where
 
 -- the kind of a picture of type 1 to 4
 abbrev pub kind_of : ℕ → Kind
-kind_of coding = if coding == 1
-    then I else (if coding == 2 then P else (if coding == 3 then B else D))
+kind_of coding =
+    if coding == 1 then I else (if coding == 2 then P else (if coding == 3 then B else D))
 
 abbrev pub no_header : Header
 no_header = record { place = 0; temporal = 0; coding = 0; vectors = 0 }
@@ -49,8 +49,8 @@ unit_end t to = slice_call t.slice to ∷ unit_call (unit_at t to) ∷ []
 -- what ends at a code: at a slice the head or slice before it, at a head code the unit
 unfoldable pub calls_at : Tally → ℕ → ℕ → List Call
 calls_at t place kind =
-    if is_slice kind then (if t.slices == 0
-    then head_call t.unit place ∷ [] else slice_call t.slice place ∷ [])
+    if is_slice kind
+    then (if t.slices == 0 then head_call t.unit place ∷ [] else slice_call t.slice place ∷ [])
     else (if is_head kind && nat_lt 0 t.slices then unit_end t place else [])
 
 -- what ends at the codes of a film, which are given the latest first

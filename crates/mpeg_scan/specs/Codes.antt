@@ -18,8 +18,8 @@ back r i = slice_index_or r i 256
 unfoldable pub matched : List ℕ → Prefix
 matched r =
     if back r 0 == 1 && (back r 1 == 0 && back r 2 == 0) then Whole
-    else (if back r 0 == 0 && back r 1 == 0
-    then Zeros else (if back r 0 == 0 then Zero else Nothing))
+    else (if back r 0 == 0 && back r 1 == 0 then Zeros
+    else (if back r 0 == 0 then Zero else Nothing))
 
 -- the same once a byte 1, or a byte 0, or any byte is read
 abbrev pub after_one : Prefix → Prefix

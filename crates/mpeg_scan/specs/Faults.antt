@@ -31,8 +31,8 @@ picture_fault c end =
 -- the header of the code c, where the next code, or the film's end, stands at `end`
 abbrev pub header_fault : ℕ → Code → ℕ → Option FilmFault
 header_fault rate c end =
-    if c.kind == 0xb3 then (if nat_lt (end - c.place) 12
-    then Some (ShortHeader c.place) else rate_fault rate c)
+    if c.kind == 0xb3
+    then (if nat_lt (end - c.place) 12 then Some (ShortHeader c.place) else rate_fault rate c)
     else (if c.kind == 0xb8
     then (if nat_lt (end - c.place) 8 then Some (ShortHeader c.place) else None)
     else (if c.kind == 0 then picture_fault c end else None))
@@ -60,8 +60,8 @@ second_fault t kind =
 -- a unit's first slice: the head before it has a picture, and at most 1,380 bytes
 abbrev pub head_fault : Tally → ℕ → Option Header → Option FilmFault
 head_fault t place None = Some (HeadWithoutPicture t.unit)
-head_fault t place (Some p) = if nat_lt 1380 (place - t.unit)
-    then Some (HeadTooLong t.unit) else None
+head_fault t place (Some p) =
+    if nat_lt 1380 (place - t.unit) then Some (HeadTooLong t.unit) else None
 
 abbrev pub first_slice_fault : Tally → ℕ → ℕ → Option FilmFault
 first_slice_fault t place kind =

@@ -34,8 +34,8 @@ pub record IsLaid (slice_starts : List ℕ) (unit : PictureUnit) : Type 0 where
 -- each unit is laid out so, and ends at a place or before it
 abbrev pub AreLaid : ℕ → List ℕ → List PictureUnit → Type 0
 AreLaid end starts [] = Unit {0}
-AreLaid end starts (unit ∷ units) = ((unit.to ≤ end) × IsLaid starts unit)
-    × AreLaid end starts units
+AreLaid end starts (unit ∷ units) =
+    ((unit.to ≤ end) × IsLaid starts unit) × AreLaid end starts units
 
 -- units lie one after another, the first from a place on, and the last ends at another
 abbrev pub AreChained : ℕ → List PictureUnit → ℕ → Type 0

@@ -2,14 +2,18 @@
 -- bytes, and these bytes. Each start code is judged in its turn, and the film's end last: a refusal
 -- speaks of the codes before a place `at`, where the code stands that is judged, or the film ends.
 -- A word takes `Has`: that a code of a kind stands at a place.
-use Rattle.std.specs.Prelude.{ℕ, ◌+◌, ◌%◌, ◌^◌, ◌==◌, ◌<◌, ◌≤◌, ◌≡◌, ◌⊎◌, ◌||◌, List, [], ◌∷◌, length, if◌then◌else◌}
+use Rattle.std.specs.Prelude.{ℕ, ◌+◌, ◌%◌, ◌^◌, ◌==◌, ◌<◌, ◌≤◌, ◌≡◌, ◌⊎◌, ◌||◌, Bool, List}
+use Rattle.std.specs.Prelude.{length, if◌then◌else◌}
 use Rattle.std.specs.Prelude.{slice_index}
 use Rattle.mpeg_scan.specs.declared.faults.FilmFault.{FilmFault}
-use Rattle.mpeg_scan.specs.declared.faults.FilmFault.TheVariants.{Empty, NoSequence, SystemCode, Mpeg2, ShortHeader, BadRate}
-use Rattle.mpeg_scan.specs.declared.faults.FilmFault.TheVariants.{BadType, PictureWithoutSlices, HeadTooLong, GroupTooLong}
+use Rattle.mpeg_scan.specs.declared.faults.FilmFault.TheVariants.{Empty, NoSequence, SystemCode}
+use Rattle.mpeg_scan.specs.declared.faults.FilmFault.TheVariants.{Mpeg2, ShortHeader, BadRate}
+use Rattle.mpeg_scan.specs.declared.faults.FilmFault.TheVariants.{BadType, PictureWithoutSlices}
+use Rattle.mpeg_scan.specs.declared.faults.FilmFault.TheVariants.{HeadTooLong, GroupTooLong}
 use Rattle.mpeg_scan.specs.declared.faults.FilmFault.TheVariants.{TooLong, HeadWithoutPicture}
 use Rattle.mpeg_scan.specs.Places.{StandsAt}
-use Rattle.mpeg_scan.specs.Standard.{AnyKind, AreCodes, IsFirstCode, IsHeadKind, IsSliceKind, NoneIn, StandsThere, picture_coding_type}
+use Rattle.mpeg_scan.specs.Standard.{AnyKind, AreCodes, IsFirstCode, IsHeadKind, IsSliceKind}
+use Rattle.mpeg_scan.specs.Standard.{NoneIn, StandsThere, picture_coding_type}
 
 -- ---- the order of refusals
 
@@ -34,14 +38,18 @@ pub record IsLatest (Has : ℕ → ℕ → Type 0) (place kind at : ℕ) : Type 
   pub before : place < at
   pub last : NoneIn Has (place + 1) at AnyKind
 
+-- a slice code stands before, and no code of a head after it
+abbrev pub FollowsSlice : (ℕ → ℕ → Type 0) → ℕ → Type 0
+FollowsSlice Has place =
+    (slice : ℕ)
+    × ((StandsThere Has slice IsSliceKind × (slice < place)) × NoneIn Has slice place IsHeadKind)
+
 -- a unit begins at the first code, and at each code of a head that is the first of these after a
 -- slice code
 abbrev pub BeginsUnit : (ℕ → ℕ → Type 0) → ℕ → Type 0
 BeginsUnit Has place =
     (StandsThere Has place AnyKind × IsFirstCode Has place)
-    ⊎ (StandsThere Has place IsHeadKind
-    × ((slice : ℕ) × ((StandsThere Has slice IsSliceKind × (slice < place))
-    × NoneIn Has slice place IsHeadKind)))
+    ⊎ (StandsThere Has place IsHeadKind × FollowsSlice Has place)
 
 -- the unit that begins at this place has no slice yet
 pub record IsOpenHead (Has : ℕ → ℕ → Type 0) (unit at : ℕ) : Type 0 where
@@ -49,7 +57,7 @@ pub record IsOpenHead (Has : ℕ → ℕ → Type 0) (unit at : ℕ) : Type 0 wh
   pub before : unit < at
   pub no_slice : NoneIn Has unit at IsSliceKind
 
--- the picture in the head of the unit that begins at a place
+-- the picture, or the last of them, in the head of the unit that begins at a place
 pub record IsItsPicture (Has : ℕ → ℕ → Type 0) (unit place at : ℕ) : Type 0 where
   pub code : Has place 0
   pub after : unit ≤ place
@@ -67,16 +75,19 @@ HasPictures Has from at count =
 abbrev pub picture_rate : List ℕ → ℕ → ℕ
 picture_rate bytes place = slice_index bytes (place + 7) % 16
 
+-- a P or B picture
+abbrev pub has_vectors : ℕ → Bool
+has_vectors coding_type = coding_type == 2 || coding_type == 3
+
 -- the bytes of a header with its code: those of a P or B picture have one more
 abbrev pub header_bytes : List ℕ → ℕ → ℕ → ℕ
 header_bytes bytes place kind =
     if kind == 0xb3 then 12
     else (if kind == 0xb8 then 8
-    else (if picture_coding_type bytes place == 2 || picture_coding_type bytes place == 3
-    then 9 else 8))
+    else (if has_vectors (picture_coding_type bytes place) then 9 else 8))
 
-pub record IsShortHeader (Has : ℕ → ℕ →
-    Type 0) (bytes : List ℕ) (at : ℕ) (f : FilmFault) : Type 0 where
+pub record IsShortHeader (Has : ℕ → ℕ → Type 0) (bytes : List ℕ) (at : ℕ) (f : FilmFault)
+    : Type 0 where
   pub place : ℕ
   pub kind : ℕ
   pub latest : IsLatest Has place kind at
@@ -157,8 +168,8 @@ pub record IsLongHead (Has : ℕ → ℕ → Type 0) (at : ℕ) (f : FilmFault) 
   pub is : f ≡ HeadTooLong unit
 
 abbrev pub SliceRefusal : (ℕ → ℕ → Type 0) → ℕ → FilmFault → Type 0
-SliceRefusal Has at f = StandsThere Has at IsSliceKind
-    × Otherwise (LacksPicture Has at) (IsLongHead Has at) f
+SliceRefusal Has at f =
+    StandsThere Has at IsSliceKind × Otherwise (LacksPicture Has at) (IsLongHead Has at) f
 
 -- ---- 5. the number of pictures
 

@@ -61,8 +61,8 @@ IsReady Ready s = s.refused ≡ None → 0 < open_slices s → Ready (open_slice
 
 -- a code of a piece is refused at its last byte, and all that ends before it was told, after these
 -- calls
-pub record IsRefusedInPiece (Heard : List Call →
-    Type 0) (r piece : List ℕ) (calls : List Call) (f : FilmFault) : Type 0 where
+pub record IsRefusedInPiece (Heard : List Call → Type 0) (r piece : List ℕ) (calls : List Call)
+    (f : FilmFault) : Type 0 where
   pub count : ℕ
   pub within : count < length piece
   pub accepted : first_fault (codes_of (read r (take count piece))) ≡ None

@@ -30,8 +30,8 @@ pub record StandsIn (Has : ℕ → ℕ → Type 0) (from to kind : ℕ) : Type 0
 
 -- no code of such a kind stands there
 abbrev pub NoneIn : (ℕ → ℕ → Type 0) → ℕ → ℕ → (ℕ → Type 0) → Type 0
-NoneIn Has from to OfKind = (place kind : ℕ) → Has place kind → from ≤ place → place < to →
-    OfKind kind → ⊥
+NoneIn Has from to OfKind =
+    (place kind : ℕ) → Has place kind → from ≤ place → place < to → OfKind kind → ⊥
 
 -- no code at all stands before a place
 abbrev pub IsFirstCode : (ℕ → ℕ → Type 0) → ℕ → Type 0
@@ -96,8 +96,8 @@ pub record HasFields (bytes : List ℕ) (place : ℕ) (unit : PictureUnit) : Typ
 -- ---- a unit
 
 -- the one picture of a unit's head: no other header comes after it
-pub record HasPicture (Has : ℕ → ℕ → Type 0) (Fields : ℕ → PictureUnit →
-    Type 0) (unit : PictureUnit) : Type 0 where
+pub record HasPicture (Has : ℕ → ℕ → Type 0) (Fields : ℕ → PictureUnit → Type 0)
+    (unit : PictureUnit) : Type 0 where
   pub place : ℕ
   pub code : Has place 0
   pub after : unit.from ≤ place
@@ -109,8 +109,8 @@ pub record HasPicture (Has : ℕ → ℕ → Type 0) (Fields : ℕ → PictureUn
 -- a unit goes from a code of a head to its first slice code, and from there to the next code of a
 -- head or the end; so many slice codes stand in it, and so many before its end: those of the units
 -- before, and its own
-pub record UnitIs (Has : ℕ → ℕ → Type 0) (Fields : ℕ → PictureUnit →
-    Type 0) (unit : PictureUnit) : Type 0 where
+pub record UnitIs (Has : ℕ → ℕ → Type 0) (Fields : ℕ → PictureUnit → Type 0)
+    (unit : PictureUnit) : Type 0 where
   pub begins : StandsThere Has unit.from IsHeadKind
   pub head : NoneIn Has unit.from unit.head_end IsSliceKind
   pub head_ends : StandsThere Has unit.head_end IsSliceKind
@@ -151,8 +151,8 @@ pub record AreUnitsOf (bytes : List ℕ) (units : List PictureUnit) : Type 0 whe
 -- codes that are given the latest first stand in falling order, each place once
 abbrev pub AreFalling : List Code → Type 0
 AreFalling [] = Unit {0}
-AreFalling (c ∷ past) = ((place kind : ℕ) → HasCode place kind past → place < c.place)
-    × AreFalling past
+AreFalling (c ∷ past) =
+    ((place kind : ℕ) → HasCode place kind past → place < c.place) × AreFalling past
 
 -- the places of the slices among these codes, which are given the latest first; the places are
 -- given in their order

@@ -39,13 +39,13 @@ pub fn law_film(film: &Film)
 pub fn law_units(film: &Film)
     ensures some { 0 < length film.now.units.items }
     ensures group { OfUnit film.now.units.items 0 (λ u. u.starts_group ≡ true) }
-    ensures begins { OfUnit film.now.units.items 0 (λ u.
-        BeginsSequence film.now.bytes.items film.now.rate u.from) }
+    ensures begins { OfUnit film.now.units.items 0
+        (λ u. BeginsSequence film.now.bytes.items film.now.rate u.from) }
     ensures chained { AreInFilm film.now.bytes.items film.now.units.items }
-    ensures within { (k : ℕ) →
-        OfUnit film.now.units.items k (λ u. u.to ≤ length film.now.bytes.items) }
-    ensures laid { (k : ℕ) →
-        OfUnit film.now.units.items k (λ u. IsLaid film.now.slice_starts.items u) }
+    ensures within { (k : ℕ)
+        → OfUnit film.now.units.items k (λ u. u.to ≤ length film.now.bytes.items) }
+    ensures laid { (k : ℕ)
+        → OfUnit film.now.units.items k (λ u. IsLaid film.now.slice_starts.items u) }
 {
     let _read = film.bytes.len();
 }
@@ -55,8 +55,8 @@ pub fn law_units(film: &Film)
 pub fn law_refused_early()
     ensures code { (front rest : List ℕ) (f : FilmFault) → length (front ++ rest) ≤ 2 ^ 40
         → first_fault (codes_of (read [] front)) ≡ Some f → refusal (front ++ rest) ≡ Some f }
-    ensures long { (bytes : List ℕ) → 2 ^ 40 < length bytes →
-        refusal bytes ≡ Some FilmFault.TooLong }
+    ensures long { (bytes : List ℕ) → 2 ^ 40 < length bytes
+        → refusal bytes ≡ Some FilmFault.TooLong }
 {}
 
 /// Each unit in the words of ISO/IEC 11172-2, over the start codes that stand in the film's bytes:
@@ -98,8 +98,8 @@ pub fn law_slices(film: &Film)
 /// size, else the first in the order of the codes, and of the conditions at one code, else that of
 /// the film's end. A film is accepted exactly where none holds.
 pub fn law_refusals()
-    ensures refused { (bytes : List ℕ) (f : FilmFault) →
-        (refusal bytes ≡ Some f) ↔ IsRefusedFor bytes f }
-    ensures accepted { (bytes : List ℕ) →
-        (refusal bytes ≡ None) ↔ ((f : FilmFault) → IsRefusedFor bytes f → ⊥) }
+    ensures refused { (bytes : List ℕ) (f : FilmFault)
+        → (refusal bytes ≡ Some f) ↔ IsRefusedFor bytes f }
+    ensures accepted { (bytes : List ℕ)
+        → (refusal bytes ≡ None) ↔ ((f : FilmFault) → IsRefusedFor bytes f → ⊥) }
 {}
