@@ -102,8 +102,8 @@ impl From<NoMemory> for ScanRefused {
     }
 }
 
-// Bytes of a sequence header, of a group header, and of a picture header without and with the fields of
-// its vectors, each with the start code.
+// Bytes of a sequence header, of a group header, and of a picture header without and with the
+// fields of its vectors, each with the start code.
 const SEQUENCE_HEADER: u64 = 12;
 
 const GROUP_HEADER: u64 = 8;
@@ -145,8 +145,8 @@ fn picture_fault(code: &Code, end: u64) -> Option<FilmFault>
     }
 }
 
-/// The refusal of the header that `code` begins, where the next code, or the film's end, stands at `end`.
-/// `rate` is the rate code of the film, or 0 before its first sequence header.
+/// The refusal of the header that `code` begins, where the next code, or the film's end, stands at
+/// `end`. `rate` is the rate code of the film, or 0 before its first sequence header.
 pub fn header_fault(rate: u8, code: &Code, end: u64) -> Option<FilmFault>
     ensures { result ≡ header_fault rate code.now end }
 {

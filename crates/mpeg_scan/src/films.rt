@@ -34,8 +34,10 @@ pub fn scan(alloc: Global, bytes: Vec<u8>) -> Result<Film, ScanRefused>
     ensures film { IfOk result (λ film. film.bytes.items ≡ bytes.items) }
     ensures grammatical { IfOk result (λ film. IsGrammatical (read [] film.bytes.items)) }
     ensures numbered { IfOk result (λ film. AreNumbered (told_of film.bytes.items)) }
-    ensures tiled { IfOk result (λ film. Tiles (read [] film.bytes.items) (told_of film.bytes.items)) }
-    ensures fault { (f : FilmFault) → result ≡ Err (ScanRefused.Fault f) → refusal bytes.items ≡ Some f }
+    ensures tiled { IfOk result (λ film.
+        Tiles (read [] film.bytes.items) (told_of film.bytes.items)) }
+    ensures fault { (f : FilmFault) → result ≡ Err (ScanRefused.Fault f) →
+        refusal bytes.items ≡ Some f }
 {
     if FILM < bytes.len() {
         return Err(ScanRefused::Fault(FilmFault::TooLong));
@@ -57,10 +59,11 @@ pub fn scan(alloc: Global, bytes: Vec<u8>) -> Result<Film, ScanRefused>
     }
 }
 
-/// A law on the definitions: the start codes of a film's bytes are those that stand in them, 00 00 01 and
-/// a kind, each at its place.
+/// A law on the definitions: the start codes of a film's bytes are those that stand in them, each
+/// at its place: the bytes 00 00 01, and a kind.
 pub fn start_codes_stand(bytes: &[u8])
-    ensures { (place : ℕ) (kind : ℕ) → HasCode place kind (codes_of (read [] bytes.now)) ↔ StandsAt bytes.now place kind }
+    ensures { (place : ℕ) (kind : ℕ) →
+        HasCode place kind (codes_of (read [] bytes.now)) ↔ StandsAt bytes.now place kind }
 {
     let _ = bytes;
 }

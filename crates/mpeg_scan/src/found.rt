@@ -7,8 +7,8 @@ use crate::tallies::{Header, Tally, is_head, is_slice};
 use crate::units::{Kind, Unit};
 use vod_base::NoMemory;
 
-/// What hears of a film's parts while it is scanned: of each unit its head, its slices in order, and
-/// then the unit itself, each when it has ended.
+/// What hears of a film's parts while it is scanned: of each unit its head, its slices in order,
+/// and then the unit itself, each when it has ended.
 pub trait Found {
     ghost heard: { Self → List Call → Type 0 };
 
@@ -20,22 +20,25 @@ pub trait Found {
         requires some { from < to }
         requires most { to ≤ from + 1380 }
         requires within { to ≤ 2 ^ 40 }
-        ensures heard { OnOk result ((calls : List Call) → heard self.old calls → heard self.new (calls ++ head_call from to ∷ [])) }
+        ensures heard { OnOk result ((calls : List Call) → heard self.old calls →
+            heard self.new (calls ++ head_call from to ∷ [])) }
         ensures ready { OnOk result (ready_at self.new to) };
 
-    /// A slice, from its start code to the next slice of its unit or to its unit's end: at least 4 bytes, from where
-    /// the head or the slice before it ended.
+    /// A slice, from its start code to the next slice of its unit or to its unit's end: at least 4
+    /// bytes, from where the head or the slice before it ended.
     fn slice(&mut self, from: u64, to: u64) -> Result<(), NoMemory>
         requires least { from + 4 ≤ to }
         requires within { to ≤ 2 ^ 40 }
         requires ready { ready_at self.old from }
-        ensures heard { OnOk result ((calls : List Call) → heard self.old calls → heard self.new (calls ++ slice_call from to ∷ [])) }
+        ensures heard { OnOk result ((calls : List Call) → heard self.old calls →
+            heard self.new (calls ++ slice_call from to ∷ [])) }
         ensures ready { OnOk result (ready_at self.new to) };
 
     /// A unit, which ends where its last slice does.
     fn unit(&mut self, unit: Unit) -> Result<(), NoMemory>
         requires { ready_at self.old unit.to }
-        ensures { OnOk result ((calls : List Call) → heard self.old calls → heard self.new (calls ++ unit_call unit ∷ [])) };
+        ensures { OnOk result ((calls : List Call) → heard self.old calls →
+            heard self.new (calls ++ unit_call unit ∷ [])) };
 }
 
 // The kind of a picture of type 1 to 4.
@@ -84,7 +87,8 @@ pub fn tell_unit<F: Found>(tally: &Tally, to: u64, found: &mut F) -> Result<(), 
     requires least { tally.now.slice + 4 ≤ to }
     requires within { to ≤ 2 ^ 40 }
     requires ready { F.ready_at found.old tally.now.slice }
-    ensures { OnOk result ((calls : List Call) → F.heard found.old calls → F.heard found.new (calls ++ unit_end tally.now to)) }
+    ensures { OnOk result ((calls : List Call) → F.heard found.old calls →
+        F.heard found.new (calls ++ unit_end tally.now to)) }
 {
     found.slice(tally.slice, to)?;
     found.unit(unit_at(tally, to))
@@ -99,7 +103,8 @@ pub fn tell<F: Found>(tally: &Tally, place: u64, kind: u8, found: &mut F) -> Res
     requires within { place ≤ 2 ^ 40 }
     requires ready { AwaitsSlice (F.ready_at found.old) tally.now }
     ensures ready { OnOk result (AwaitsSliceAfter (F.ready_at found.new) tally.now place kind) }
-    ensures told { OnOk result ((calls : List Call) → F.heard found.old calls → F.heard found.new (calls ++ calls_at tally.now place kind)) }
+    ensures told { OnOk result ((calls : List Call) → F.heard found.old calls →
+        F.heard found.new (calls ++ calls_at tally.now place kind)) }
 {
     if is_slice(kind) {
         if tally.slices == 0 {

@@ -99,14 +99,20 @@ impl Progress {
     ) -> Result<(), ScanRefused>
         requires room { HasRoom (tally_with self.old.latest self.old.tally) place }
         requires within { place ≤ 2 ^ 40 }
-        requires ready { AwaitsSlice (F.ready_at found.old) (tally_with self.old.latest self.old.tally) }
-        ensures taken { OnOk result ((judged self.old.latest self.old.tally place kind ≡ None) × (self.new ≡ coded_scan self.old place kind)) }
+        requires ready { AwaitsSlice (F.ready_at found.old)
+            (tally_with self.old.latest self.old.tally) }
+        ensures taken { OnOk result ((judged self.old.latest self.old.tally place kind ≡ None)
+            × (self.new ≡ coded_scan self.old place kind)) }
         ensures told { OnOk result ((calls : List Call) → F.heard found.old calls
             → F.heard found.new (calls ++ calls_at (tally_with self.old.latest self.old.tally) place kind)) }
-        ensures fault { (f : FilmFault) → result ≡ Err (ScanRefused.Fault f) → judged self.old.latest self.old.tally place kind ≡ Some f }
-        ensures untold { (f : FilmFault) → result ≡ Err (ScanRefused.Fault f) → found.new ≡ found.old }
+        ensures fault { (f : FilmFault) → result ≡ Err (ScanRefused.Fault f) →
+            judged self.old.latest self.old.tally place kind ≡ Some f }
+        ensures untold { (f : FilmFault) → result ≡ Err (ScanRefused.Fault f) →
+            found.new ≡ found.old }
         ensures fed { self.new.fed ≡ self.old.fed }
-        ensures ready { OnOk result (AwaitsSliceAfter (F.ready_at found.new) (tally_with self.old.latest self.old.tally) place kind) }
+        ensures ready { OnOk result
+            (AwaitsSliceAfter (F.ready_at found.new)
+            (tally_with self.old.latest self.old.tally) place kind) }
     {
         let tally = match self.judge(place, kind) {
             Ok(tally) => tally,
@@ -129,16 +135,23 @@ impl Progress {
     fn take_byte<F: Found>(&mut self, byte: u8, found: &mut F) -> Result<(), ScanRefused>
         requires short { self.old.fed < 2 ^ 40 }
         requires room { HasRoomAhead self.old.fed self.old.prefix self.old.latest self.old.tally }
-        requires ready { AwaitsSlice (F.ready_at found.old) (tally_with self.old.latest self.old.tally) }
-        ensures kept { OnOk result ((r : List ℕ) → HasRead self.old r → HasRead self.new (byte ∷ r)) }
-        ensures told { OnOk result ((r : List ℕ) (calls : List Call) → HasRead self.old r → F.heard found.old (calls ++ told (codes_of r))
+        requires ready { AwaitsSlice (F.ready_at found.old)
+            (tally_with self.old.latest self.old.tally) }
+        ensures kept { OnOk result ((r : List ℕ) → HasRead self.old r →
+            HasRead self.new (byte ∷ r)) }
+        ensures told { OnOk result ((r : List ℕ) (calls : List Call) → HasRead self.old r →
+            F.heard found.old (calls ++ told (codes_of r))
             → F.heard found.new (calls ++ told (codes_of (byte ∷ r)))) }
-        ensures fault { (f : FilmFault) → result ≡ Err (ScanRefused.Fault f) → (r : List ℕ) → HasRead self.old r
+        ensures fault { (f : FilmFault) → result ≡ Err (ScanRefused.Fault f) → (r : List ℕ) →
+            HasRead self.old r
             → first_fault (codes_of (byte ∷ r)) ≡ Some f }
-        ensures untold { (f : FilmFault) → result ≡ Err (ScanRefused.Fault f) → found.new ≡ found.old }
+        ensures untold { (f : FilmFault) → result ≡ Err (ScanRefused.Fault f) →
+            found.new ≡ found.old }
         ensures fed { self.new.fed ≡ self.old.fed + 1 }
-        ensures room { OnOk result (HasRoomAhead self.new.fed self.new.prefix self.new.latest self.new.tally) }
-        ensures ready { OnOk result (AwaitsSlice (F.ready_at found.new) (tally_with self.new.latest self.new.tally)) }
+        ensures room { OnOk result
+            (HasRoomAhead self.new.fed self.new.prefix self.new.latest self.new.tally) }
+        ensures ready { OnOk result
+            (AwaitsSlice (F.ready_at found.new) (tally_with self.new.latest self.new.tally)) }
     {
         let whole = self.prefix.is_whole();
         let place = self.fed.saturating_sub(3);
@@ -152,7 +165,8 @@ impl Progress {
 
     // Whether nothing of a prefix stands at the end, and the latest text is full.
     fn is_quiet(&self) -> bool
-        ensures { IsTrue result → (self.now.prefix ≡ Prefix.Nothing) × (is_text_full self.now.latest ≡ true) }
+        ensures { IsTrue result → (self.now.prefix ≡ Prefix.Nothing)
+            × (is_text_full self.now.latest ≡ true) }
     {
         self.prefix.is_nothing()
             && match &self.latest {
@@ -161,13 +175,15 @@ impl Progress {
             }
     }
 
-    // Passes over the bytes in front of `rest` that change nothing but the place, and says how many: those
-    // before its first zero byte, where no prefix and no text takes them.
+    // Passes over the bytes in front of `rest` that change nothing but the place, and says how
+    // many: those before its first zero byte, where no prefix and no text takes them.
     fn skip(&mut self, rest: &[u8]) -> usize
         requires { self.old.fed + length rest.now < 2 ^ 41 }
         ensures bound { result ≤ length rest.now }
-        ensures kept { (r : List ℕ) → HasRead self.old r → HasRead self.new (read r (take result rest.now)) }
-        ensures quiet { (r : List ℕ) → HasRead self.old r → codes_of (read r (take result rest.now)) ≡ codes_of r }
+        ensures kept { (r : List ℕ) → HasRead self.old r →
+            HasRead self.new (read r (take result rest.now)) }
+        ensures quiet { (r : List ℕ) → HasRead self.old r →
+            codes_of (read r (take result rest.now)) ≡ codes_of r }
         ensures fed { self.new.fed ≡ self.old.fed + result }
         ensures prefix { self.new.prefix ≡ self.old.prefix }
         ensures latest { self.new.latest ≡ self.old.latest }
@@ -185,18 +201,25 @@ impl Progress {
     pub fn take_bytes<F: Found>(&mut self, piece: &[u8], found: &mut F) -> Result<(), ScanRefused>
         requires short { self.old.fed + length piece.now ≤ 2 ^ 40 }
         requires room { HasRoomAhead self.old.fed self.old.prefix self.old.latest self.old.tally }
-        requires ready { AwaitsSlice (F.ready_at found.old) (tally_with self.old.latest self.old.tally) }
-        ensures kept { OnOk result ((r : List ℕ) → HasRead self.old r → HasRead self.new (read r piece.now)) }
-        ensures told { OnOk result ((r : List ℕ) (calls : List Call) → HasRead self.old r → F.heard found.old (calls ++ told (codes_of r))
+        requires ready { AwaitsSlice (F.ready_at found.old)
+            (tally_with self.old.latest self.old.tally) }
+        ensures kept { OnOk result ((r : List ℕ) → HasRead self.old r →
+            HasRead self.new (read r piece.now)) }
+        ensures told { OnOk result ((r : List ℕ) (calls : List Call) → HasRead self.old r →
+            F.heard found.old (calls ++ told (codes_of r))
             → F.heard found.new (calls ++ told (codes_of (read r piece.now)))) }
-        ensures fault { (f : FilmFault) → result ≡ Err (ScanRefused.Fault f) → (r : List ℕ) → HasRead self.old r
+        ensures fault { (f : FilmFault) → result ≡ Err (ScanRefused.Fault f) → (r : List ℕ) →
+            HasRead self.old r
             → first_fault (codes_of (read r piece.now)) ≡ Some f }
-        ensures told_before { (f : FilmFault) → result ≡ Err (ScanRefused.Fault f) → (r : List ℕ) (calls : List Call)
+        ensures told_before { (f : FilmFault) → result ≡ Err (ScanRefused.Fault f) →
+            (r : List ℕ) (calls : List Call)
             → HasRead self.old r → F.heard found.old (calls ++ told (codes_of r))
             → IsRefusedInPiece (F.heard found.new) r piece.now calls f }
         ensures fed { self.new.fed ≤ self.old.fed + length piece.now }
-        ensures room { OnOk result (HasRoomAhead self.new.fed self.new.prefix self.new.latest self.new.tally) }
-        ensures ready { OnOk result (AwaitsSlice (F.ready_at found.new) (tally_with self.new.latest self.new.tally)) }
+        ensures room { OnOk result
+            (HasRoomAhead self.new.fed self.new.prefix self.new.latest self.new.tally) }
+        ensures ready { OnOk result
+            (AwaitsSlice (F.ready_at found.new) (tally_with self.new.latest self.new.tally)) }
     {
         let mut at = 0;
         while at < piece.len() {
@@ -233,8 +256,10 @@ impl Progress {
         ensures tally { IfOk result (λ t. t ≡ tally_with self.now.latest self.now.tally) }
         ensures sliced { IfOk result (λ t. 0 < t.slices) }
         ensures short { OnOk result (self.now.fed ≤ 2 ^ 40) }
-        ensures accepted { IfOk result (λ t. (r : List ℕ) → HasRead self.now r → (refusal_of r ≡ None) × (t ≡ tally_of (codes_of r))) }
-        ensures fault { IfErr result (λ f. (r : List ℕ) → HasRead self.now r → refusal_of r ≡ Some f) }
+        ensures accepted { IfOk result (λ t. (r : List ℕ) → HasRead self.now r →
+            (refusal_of r ≡ None) × (t ≡ tally_of (codes_of r))) }
+        ensures fault { IfErr result (λ f. (r : List ℕ) → HasRead self.now r →
+            refusal_of r ≡ Some f) }
     {
         if self.fed == 0 {
             Err(FilmFault::Empty)

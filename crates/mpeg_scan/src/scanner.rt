@@ -5,8 +5,8 @@ use crate::faults::{FilmFault, ScanRefused};
 use crate::found::{Found, tell_unit};
 use crate::progress::Progress;
 
-/// Reads a film once from the front, in pieces, and keeps none of it: it tells a `Found` of each part
-/// when it has ended.
+/// Reads a film once from the front, in pieces, and keeps none of it: it tells a `Found` of each
+/// part when it has ended.
 #[derive(Drop)]
 pub struct Scanner {
     progress: Progress,
@@ -38,17 +38,21 @@ impl Scanner {
 
     /// Takes the next bytes of the film, and tells of what has ended in them.
     ///
-    /// A fault is answered only once all that ends before the code that is refused was told. Once it has refused the
-    /// film, or memory was wanted, it answers the same again.
+    /// A fault is answered only once all that ends before the code that is refused was told. Once
+    /// it has refused the film, or memory was wanted, it answers the same again.
     pub fn feed<F: Found>(&mut self, piece: &[u8], found: &mut F) -> Result<(), ScanRefused>
         requires short { bytes_fed self.old + length piece.now ≤ 2 ^ 40 }
         requires ready { IsReady (F.ready_at found.old) self.old }
-        ensures kept { OnOk result ((r : List ℕ) → Fed self.old r → Fed self.new (read r piece.now)) }
-        ensures told { OnOk result ((r : List ℕ) (calls : List Call) → Fed self.old r → F.heard found.old (calls ++ told (codes_of r))
+        ensures kept { OnOk result ((r : List ℕ) → Fed self.old r →
+            Fed self.new (read r piece.now)) }
+        ensures told { OnOk result ((r : List ℕ) (calls : List Call) → Fed self.old r →
+            F.heard found.old (calls ++ told (codes_of r))
             → F.heard found.new (calls ++ told (codes_of (read r piece.now)))) }
-        ensures fault { (f : FilmFault) → result ≡ Err (ScanRefused.Fault f) → (r : List ℕ) → Fed self.old r
+        ensures fault { (f : FilmFault) → result ≡ Err (ScanRefused.Fault f) → (r : List ℕ) →
+            Fed self.old r
             → first_fault (codes_of (read r piece.now)) ≡ Some f }
-        ensures told_before { (f : FilmFault) → result ≡ Err (ScanRefused.Fault f) → (r : List ℕ) (calls : List Call)
+        ensures told_before { (f : FilmFault) → result ≡ Err (ScanRefused.Fault f) →
+            (r : List ℕ) (calls : List Call)
             → Fed self.old r → F.heard found.old (calls ++ told (codes_of r))
             → IsRefusedInPiece (F.heard found.new) r piece.now calls f }
         ensures refused { (e : ScanRefused) → result ≡ Err e → refused_by self.new ≡ Some e }
@@ -77,11 +81,15 @@ impl Scanner {
         ensures tiled { OnOk result ((r : List ℕ) → Fed self r → Tiles r (all_told r)) }
         ensures grammatical { OnOk result ((r : List ℕ) → Fed self r → IsGrammatical r) }
         ensures numbered { OnOk result ((r : List ℕ) → Fed self r → AreNumbered (all_told r)) }
-        ensures told { OnOk result ((r : List ℕ) (calls : List Call) → Fed self r → F.heard found.old (calls ++ told (codes_of r))
+        ensures told { OnOk result ((r : List ℕ) (calls : List Call) → Fed self r →
+            F.heard found.old (calls ++ told (codes_of r))
             → F.heard found.new (calls ++ all_told r)) }
-        ensures fault { (f : FilmFault) → result ≡ Err (ScanRefused.Fault f) → (r : List ℕ) → Fed self r → refusal_of r ≡ Some f }
-        ensures untold { (f : FilmFault) → result ≡ Err (ScanRefused.Fault f) → found.new ≡ found.old }
-        ensures again { (e : ScanRefused) → refused_by self ≡ Some e → (result ≡ Err e) × (found.new ≡ found.old) }
+        ensures fault { (f : FilmFault) → result ≡ Err (ScanRefused.Fault f) → (r : List ℕ) →
+            Fed self r → refusal_of r ≡ Some f }
+        ensures untold { (f : FilmFault) → result ≡ Err (ScanRefused.Fault f) →
+            found.new ≡ found.old }
+        ensures again { (e : ScanRefused) → refused_by self ≡ Some e → (result ≡ Err e)
+            × (found.new ≡ found.old) }
     {
         if let Some(refused) = self.refused {
             return Err(refused);

@@ -114,8 +114,8 @@ impl Tally {
         }
     }
 
-    /// The same with one code more, whose text is complete. Counts stop at the greatest numbers of their
-    /// types, which no film reaches.
+    /// The same with one code more, whose text is complete. Counts stop at the greatest numbers of
+    /// their types, which no film reaches.
     #[tactic(auto, unfolding(crate::specs::Steps::next))]
     pub fn then(&self, code: &Code) -> Tally
         ensures { result ≡ next self.now code.now }

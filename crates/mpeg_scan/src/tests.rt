@@ -1,5 +1,5 @@
-//! Expected values are worked out by hand from ISO/IEC 11172-2; film A is a sequence header, a group
-//! header, an I picture and one slice, and film B is film A, a P picture and one slice.
+//! Expected values are worked out by hand from ISO/IEC 11172-2; film A is a sequence header, a
+//! group header, an I picture and one slice, and film B is film A, a P picture and one slice.
 
 ghost use Rattle.std.specs.Prelude.{⊤, ◌<◌};
 
@@ -180,7 +180,8 @@ fn units_of_films(rt: HostRuntime) -> Result<(), Fail> {
 
 #[test]
 fn fields_of_headers(rt: HostRuntime) -> Result<(), Fail> {
-    // temporal_reference 2, type 3, vbv_delay FFFF, full-pel 1 and f-code 5 forward, 1 and 6 backward.
+    // temporal_reference 2, type 3, vbv_delay FFFF, full-pel 1 and f-code 5 forward, 1 and 6
+    // backward.
     let picture_b = [0, 0, 1, 0, 0x00, 0x9f, 0xff, 0xfe, 0xf0];
     // temporal_reference 1, type 4.
     let picture_d = [0, 0, 1, 0, 0x00, 0x67, 0xff, 0xf8];

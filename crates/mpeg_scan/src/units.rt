@@ -14,8 +14,8 @@ pub enum Kind {
     D,
 }
 
-/// A picture of a film with the headers before it, and its slices. Places are in bytes from the film's
-/// first.
+/// A picture of a film with the headers before it, and its slices. Places are in bytes from the
+/// film's first.
 #[derive(Clone, Copy, Debug, PartialEq, Eq)]
 pub struct Unit {
     /// The place of its first start code.
@@ -34,8 +34,8 @@ pub struct Unit {
     pub presentation: u64,
     /// The picture's kind.
     pub kind: Kind,
-    /// full_pel_backward, backward_f_code, full_pel_forward and forward_f_code, from the highest bit;
-    /// those that the picture hasn't are 0.
+    /// full_pel_backward, backward_f_code, full_pel_forward and forward_f_code, from the highest
+    /// bit; those that the picture hasn't are 0.
     pub vectors: u8,
     /// Whether a sequence header stands in its head.
     pub has_sequence: bool,
