@@ -1,5 +1,5 @@
 -- What a play, a halt and an admission leave of how a session is kept.
-use Rattle.std.proofs.Common.{◌≡◌, ℕ, ◌+◌, Bool, false, List, Option, Some, length, refl, sym, ap, subst, ◌∙◌}
+use Rattle.std.proofs.Common.{◌≡◌, ℕ, Bool, List, Option, length, refl, sym, ap, subst, ◌∙◌}
 use Rattle.plan_cert.specs.declared.Segment.{Segment}
 use Rattle.plan_cert.specs.Slots.{total_bytes}
 use Rattle.film_frames.specs.declared.stores.Stored.{Stored}
@@ -10,8 +10,7 @@ use Rattle.film_run.specs.Runs.{bytes_between}
 use Rattle.film_run.specs.Units.{stored_sizes}
 use Rattle.pacer.specs.Pacings.{IsPacing, Pacing, is_done, whole_pacing}
 use Rattle.session.specs.Films.{IsFilmAt, OfFilm, sending_of}
-use Rattle.session.specs.Inside.{IsAwaitedKept, IsGoing, IsNextIn, IsPlaying, IsPreparedAs, IsPreparedIn, IsStateKept, open_receipts}
-use Rattle.session.specs.Planning.{IsPausedIn}
+use Rattle.session.specs.Inside.{IsAwaitedKept, IsGoing, IsNextIn, IsPreparedAs, IsPreparedIn, IsStateKept, open_receipts}
 use Rattle.session.specs.Plans.{IsPrepared}
 use Rattle.session.specs.Playing.{IsPlayable}
 use Rattle.session.specs.Ranges.{IsSetup}

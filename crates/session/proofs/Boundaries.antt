@@ -1,5 +1,5 @@
 -- A step with a stop that leaves something ends at a boundary.
-use Rattle.std.proofs.Common.{◌≡◌, ℕ, ◌+◌, ◌-◌, ◌<◌, ◌≤◌, min, true, List, length, refl, sym, ap, subst, ◌∙◌, eq-eqb, arith}
+use Rattle.std.proofs.Common.{◌≡◌, ℕ, ◌+◌, ◌-◌, ◌<◌, ◌≤◌, min, true, List, length, sym, ap, subst, ◌∙◌, eq-eqb, arith}
 use Rattle.film_frames.specs.Tracks.{framed, IsBoundary, IsBoundaryAfter}
 use Rattle.pacer.specs.Boundaries.{boundary_from}
 use Rattle.pacer.specs.Pacings.{IsPacing, Pacing, due_by, next_boundary, stands_at_boundary, stepped}

@@ -1,26 +1,24 @@
 -- What a step leaves of how a session is kept.
-use Rattle.std.proofs.Common.{◌≡◌, ℕ, Bool, true, false, List, Option, refl, sym, ap, subst, ◌∙◌}
+use Rattle.std.proofs.Common.{◌≡◌, Bool, true, false, List, Option, refl, sym, ap, subst, ◌∙◌}
 use Rattle.plan_cert.specs.declared.Segment.{Segment}
 use Rattle.plan_cert.specs.Slots.{total_bytes}
 use Rattle.film_frames.specs.declared.stores.Stored.{Stored}
 use Rattle.film_frames.specs.Runs.{run_pieces}
 use Rattle.film_run.specs.declared.runs.Run.{Run}
-use Rattle.session.specs.Films.{OfFilm, sending_of}
-use Rattle.session.specs.Inside.{IsAwaitedKept, IsGoing, IsPlaying, IsStateKept, IsStopAnswered, IsUnhalted}
+use Rattle.session.specs.Films.{sending_of}
+use Rattle.session.specs.Inside.{IsAwaitedKept, IsGoing, IsPlaying, IsStateKept, IsStopAnswered}
 use Rattle.session.specs.Inside.{awaited_offers, awaited_plays, awaited_receipts, open_receipts}
 use Rattle.session.specs.Planning.{IsPausedIn}
 use Rattle.session.specs.Plans.{IsPlay}
 use Rattle.session.specs.Playing.{IsPlayable}
-use Rattle.session.specs.Ranges.{IsSetup}
 use Rattle.session.specs.Sendings.{IsFinished, is_done_in}
 use Rattle.session.specs.Standings.{NoAnswer, awaits_of}
-use Rattle.session.specs.Steps.{IsCarried, IsEven, IsHaltIn, IsSamePacing, settled}
+use Rattle.session.specs.Steps.{IsCarried, IsEven, IsSamePacing, settled}
 use Rattle.session.specs.declared.settings.Settings.{Settings}
 use Rattle.session.specs.declared.states.Awaited.{Awaited}
 use Rattle.session.specs.declared.states.Awaited.TheVariants.{Nothing, Play, Halt, Look, Offer}
 use Rattle.session.specs.declared.states.Counts.{Counts}
 use Rattle.session.specs.declared.states.Next.{Next}
-use Rattle.session.specs.declared.states.Next.TheVariants.{Done}
 use Rattle.session.specs.declared.states.Play.{Play as Played}
 use Rattle.session.specs.declared.states.Setup.{Setup}
 use Rattle.session.specs.declared.states.Source.{Source}

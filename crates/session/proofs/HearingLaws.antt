@@ -1,11 +1,10 @@
 -- What every request leaves.
 use Rattle.std.specs.Prelude.{is_none}
-use Rattle.std.proofs.Common.{◌≡◌, ℕ, ◌⊎◌, Bool, true, false, List, [], Option, Some, None, Result, Ok, Err, refl, sym, ap, subst, ◌∙◌, inl, inr}
-use Rattle.film_run.specs.declared.runs.Run.{Run}
+use Rattle.std.proofs.Common.{◌≡◌, ℕ, Bool, true, false, List, [], Option, Some, Result, Ok, Err, refl, sym, ap, subst, ◌∙◌, inl, inr}
 use Rattle.rtsp_text.specs.Replies.{Field, reply_text}
 use Rattle.rtsp_text.specs.declared.requests.Request.{Request}
 use Rattle.session.specs.declared.asks.Ask.{Ask}
-use Rattle.session.specs.declared.asks.Ask.TheVariants.{Reply, Play as AskPlay, Halt as AskHalt, Look as AskLook, Offer as AskOffer}
+use Rattle.session.specs.declared.asks.Ask.TheVariants.{Reply}
 use Rattle.session.specs.declared.methods.Topic.{Topic}
 use Rattle.session.specs.declared.methods.Topic.TheVariants.{Nothing, Booked, Offer as OfferTopic, Unknown}
 use Rattle.session.specs.declared.plans.Planned.{Planned}
@@ -18,8 +17,8 @@ use Rattle.session.specs.declared.states.State.{State}
 use Rattle.session.specs.declared.states.State.TheVariants.{Init, Ready, Playing, Stopping}
 use Rattle.session.specs.Hearings.{Hears, HearsOn}
 use Rattle.session.specs.Judging.{IsJudged, place_of}
-use Rattle.session.specs.Laws.{Goes, InitStage, IsNoHalt, IsOk, LeavesOr, PlaysOn, ReadyStage, StaysOr, stage_of}
-use Rattle.session.specs.Methods.{AsksOfferOr, AsksPlayOr, Ends, Gets, HearsRequest, IsReplied, IsSetUp, Looks, GetsOffer, Pauses, Plays, Takes, TearsDown}
+use Rattle.session.specs.Laws.{IsNoHalt, LeavesOr, PlaysOn}
+use Rattle.session.specs.Methods.{AsksOfferOr, AsksPlayOr, Ends, Gets, IsReplied, IsSetUp, Looks, GetsOffer, Pauses, Plays, Takes, TearsDown}
 use Rattle.session.specs.Standings.{Standing, replied}
 
 -- a reply of the session's own leaves all but the reply

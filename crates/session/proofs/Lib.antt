@@ -12,3 +12,5 @@ pub mod HearingLaws
 pub mod Askings
 pub mod Numbers
 pub mod Moves
+pub mod Changing
+pub mod Refusing

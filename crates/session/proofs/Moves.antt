@@ -1,6 +1,6 @@
 -- A session's state moves as RFC 2326 appendix A.2 has it.
-use Rattle.std.specs.Prelude.{is_none, ◌&&◌}
-use Rattle.std.proofs.Common.{◌≡◌, ℕ, ◌⊎◌, Bool, true, false, if◌then◌else◌, List, [], Some, Result, Ok, Err, refl, sym, ap, subst, ◌∙◌, inl, inr}
+use Rattle.std.specs.Prelude.{is_none}
+use Rattle.std.proofs.Common.{◌≡◌, ℕ, ◌⊎◌, Bool, true, false, List, Result, Ok, Err, refl, sym, ap, ◌∙◌, inl, inr}
 use Rattle.rtsp_text.specs.declared.requests.Request.{Request}
 use Rattle.session.specs.declared.asks.Ask.{Ask}
 use Rattle.session.specs.declared.methods.Topic.{Topic}
@@ -19,7 +19,7 @@ use Rattle.session.specs.declared.states.State.{State}
 use Rattle.session.specs.declared.states.State.TheVariants.{Init, Ready, Playing, Stopping}
 use Rattle.session.specs.Hearings.{Hears, HearsOn, after_admission, after_halt}
 use Rattle.session.specs.Judging.{IsJudged, place_of}
-use Rattle.session.specs.Laws.{Goes, InitStage, PlayingStage, ReadyStage, Stage, StaysOr, stage_of}
+use Rattle.session.specs.Laws.{InitStage, PlayingStage, ReadyStage, StaysOr, stage_of}
 use Rattle.session.specs.Methods.{AsksHalt, AsksOfferOr, AsksPlayOr, Ends, Gets, GetsOffer, IsReplied, IsSetUp, Looks, Pauses, Plays, Takes, TearsDown}
 use Rattle.session.specs.Sendings.{admitted_in, halted_in, next_of, state_after}
 use Rattle.session.specs.Standings.{Standing}

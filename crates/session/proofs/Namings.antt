@@ -1,5 +1,5 @@
 -- A URL names at most one film of a server.
-use Rattle.std.proofs.Common.{◌≡◌, ℕ, ◌<◌, inl, inr, List, [], Some, None, length, get_or, map, sym, ap, subst, ◌∙◌, string_bytes, slice_range}
+use Rattle.std.proofs.Common.{◌≡◌, ℕ, ◌<◌, inl, inr, List, [], Some, None, length, get_or, sym, ap, subst, ◌∙◌, string_bytes, slice_range}
 use Rattle.std.proofs.lemmas.Bool.{cases_order}
 use Rattle.std.proofs.lemmas.List.{get_or-map}
 use Rattle.std.proofs.lemmas.Option.{get_or_from_slice_get, slice_get_within}

@@ -1,5 +1,5 @@
 -- What can be sent on.
-use Rattle.std.proofs.Common.{◌≡◌, ℕ, ◌+◌, ◌≤◌, List, Option, Some, None, IfSome, MatchOption, sym, subst, ◌∙◌, arith}
+use Rattle.std.proofs.Common.{◌≡◌, ℕ, List, Option, Some, None, IfSome, MatchOption, sym, subst, ◌∙◌, arith}
 use Rattle.film_frames.specs.declared.stores.Stored.{Stored}
 use Rattle.film_run.specs.declared.runs.Run.{Run}
 use Rattle.film_run.specs.Seeks.{IsAsked}

@@ -15,3 +15,4 @@ pub mod Inside
 pub mod Methods
 pub mod Hearings
 pub mod Laws
+pub mod Changes

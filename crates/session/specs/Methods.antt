@@ -18,7 +18,6 @@ use Rattle.session.specs.declared.asks.Ask.{Ask}
 use Rattle.session.specs.declared.asks.Ask.TheVariants.{Reply, Play as AskPlay, Halt as AskHalt, Look as AskLook, Offer as AskOffer}
 use Rattle.session.specs.declared.methods.Topic.{Topic}
 use Rattle.session.specs.declared.methods.Topic.TheVariants.{Nothing, Booked, Offer as OfferTopic, Unknown}
-use Rattle.session.specs.declared.refusals.Asked.{Asked}
 use Rattle.session.specs.declared.refusals.Refusal.{Refusal}
 use Rattle.session.specs.declared.refusals.Refusal.TheVariants.{Session as NoSession, State as NotNow, Parameter, Memory}
 use Rattle.session.specs.declared.refusals.Task.{Task}

@@ -2,7 +2,7 @@
 use Rattle.std.specs.Prelude.{ℕ, ◌++◌, List, [], ◌∷◌, Option, Some, None, length, codes, decimal, flat_map}
 use Rattle.std.specs.Int.{w32, to_be_bytes}
 use Rattle.hex.specs.Hex.{encode_lower}
-use Rattle.rtsp_text.specs.Replies.{Field, reply_front, reply_text}
+use Rattle.rtsp_text.specs.Replies.{Field, reply_text}
 use Rattle.rtsp_fields.specs.Descriptions.{description_text, seconds_text}
 use Rattle.early_start.specs.declared.Tried.{Tried}
 use Rattle.session.specs.declared.refusals.Refusal.{Refusal}

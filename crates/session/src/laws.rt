@@ -12,6 +12,7 @@ ghost use Rattle.session.specs.declared.states.Setup.{Setup};
 ghost use Rattle.session.specs.declared.states.Source.{Source};
 ghost use Rattle.session.specs.declared.states.State.TheVariants.{Playing};
 ghost use Rattle.session.specs.Films.{counts_after, identity_of};
+ghost use Rattle.session.specs.Changes.{AsksOrLacks, CanBePlayed, ChangesState, IsSameGround, RefusesNone};
 ghost use Rattle.session.specs.Hearings.{Hears, after_admission, after_halt};
 ghost use Rattle.session.specs.Laws.{GoesOn, InitStage, IsNoHalt, LeavesOr, PlayingStage, PlaysOn, ReadyStage, Resumes, StaysOr};
 ghost use Rattle.session.specs.Planning.{IsPlannedRun};
@@ -56,4 +57,24 @@ pub fn law_states()
         → StaysOr ReadyStage PlayingStage old (after_admission old place start) }
     ensures halt { (old : Standing) (place : ℕ) →
         StaysOr PlayingStage ReadyStage old (after_halt old place) }
+{}
+
+/// A request changes neither the films, the settings, what was sent before, nor the heard slot.
+/// What a SETUP settles is in its ranges (RFC 2326 section 10.4). A PLAY asks for the run that its
+/// Range means, or the paused one, with the plan that is taken for it.
+pub fn law_changes()
+    ensures ground { (old new : Standing) (message : List ℕ) (ask : Ask) →
+        Hears old message ask new → IsSameGround old new }
+    ensures state { (old new : Standing) (message : List ℕ) (ask : Ask) →
+        Hears old message ask new → ChangesState ask old new }
+{}
+
+/// No reply of the session's own is 453 or 503. A PLAY to which no refusal applies asks the station
+/// for its play, or is answered 500 for want of memory.
+pub fn law_play_is_asked()
+    ensures replies { (old new : Standing) (message : List ℕ) (ask : Ask) →
+        Hears old message ask new → RefusesNone ask new }
+    ensures asks { (old new : Standing) (message : List ℕ) (ask : Ask) → Hears old message ask new →
+        CanBePlayed old message
+        → AsksOrLacks old ask new }
 {}

@@ -1,4 +1,4 @@
-use Rattle.std.proofs.Common.{◌≡◌, ℕ, List, Option, length, subst}
+use Rattle.std.proofs.Common.{ℕ, List, Option, subst}
 use Rattle.std.specs.Borrow.{Bor}
 use Rattle.std.specs.Option.{option_copied}
 use Rattle.rtsp_fields.specs.Urls.{IsRead}

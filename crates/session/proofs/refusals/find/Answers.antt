@@ -1,4 +1,4 @@
-use Rattle.std.proofs.Common.{◌≡◌, ℕ, ◌<◌, true, false, length, refl, sym, ap, ◌∙◌, string_bytes, arith, below_more}
+use Rattle.std.proofs.Common.{◌<◌, length, refl, sym, ap, ◌∙◌, string_bytes, arith, below_more}
 use Rattle.std.proofs.lemmas.Option.{get_or_from_slice_get, slice_get_read, slice_get_within}
 use Rattle.std.specs.Cmp.Lexicographic.{same_text, other_text}
 use Rattle.film_frames.specs.declared.stores.Stored.{Stored}

@@ -1,5 +1,4 @@
-use Rattle.std.proofs.Common.{◌≡◌, ℕ, true, rules, arith, sym, subst}
-use Rattle.std.proofs.lemmas.Grind.{common_steps}
+use Rattle.std.proofs.Common.{◌≡◌, ℕ, true, rules, sym, subst}
 use Rattle.session.specs.Judging.{FitsFilm, IsOnFilm, IsOwnTalk, IsTaken, IsTimely}
 use Rattle.session.specs.declared.refusals.Task.{Task}
 use Rattle.session.proofs.TaskLaws.{taken}

@@ -1,5 +1,5 @@
-use Rattle.std.proofs.Common.{◌≡◌, ◌++◌, ℕ, true, List, [], ◌∷◌, Some, length, take, codes, decimal, refl, sym, ap, subst, ◌∙◌, string_bytes, arith}
-use Rattle.rtsp_text.specs.Replies.{reply_front, reply_text}
+use Rattle.std.proofs.Common.{◌≡◌, ℕ, List, [], ◌∷◌, Some, codes, decimal, refl, ap, ◌∙◌}
+use Rattle.rtsp_text.specs.Replies.{reply_front}
 use Rattle.session.specs.Replies.{field, joined}
 use Rattle.rtsp_fields.specs.Descriptions.{seconds_text}
 use Rattle.session.proofs.replies.put_play.Goals as goal

@@ -1,4 +1,4 @@
-use Rattle.std.proofs.Common.{◌≡◌, ◌++◌, ℕ, true, List, [], ◌∷◌, Some, length, codes, decimal, refl, sym, ap, subst, ◌∙◌, string_bytes}
+use Rattle.std.proofs.Common.{[], ◌∷◌, Some, codes}
 use Rattle.session.specs.Replies.{field}
 use Rattle.session.proofs.replies.put_public.Goals as goal
 

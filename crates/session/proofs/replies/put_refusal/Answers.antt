@@ -1,4 +1,4 @@
-use Rattle.std.proofs.Common.{◌≡◌, ◌++◌, ℕ, true, List, [], ◌∷◌, Some, length, codes, decimal, refl, sym, ap, subst, ◌∙◌, string_bytes}
+use Rattle.std.proofs.Common.{[], ap, ◌∙◌}
 use Rattle.rtsp_text.specs.Replies.{reply_text}
 use Rattle.session.specs.Replies.{refusal_fields}
 use Rattle.session.proofs.replies.put_refusal.Goals as goal

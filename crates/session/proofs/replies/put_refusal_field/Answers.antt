@@ -1,6 +1,5 @@
-use Rattle.std.proofs.Common.{◌≡◌, ◌++◌, ℕ, true, List, [], ◌∷◌, Some, length, take, codes, decimal, refl, sym, ap, subst, ◌∙◌, string_bytes, arith}
-use Rattle.rtsp_text.specs.Replies.{reply_front, reply_text}
-use Rattle.session.specs.Replies.{field, joined}
+use Rattle.std.proofs.Common.{[], sym, ap, ◌∙◌}
+use Rattle.rtsp_text.specs.Replies.{reply_front}
 use Rattle.session.specs.Replies.{refusal_fields}
 use Rattle.session.proofs.replies.put_refusal_field.Goals as goal
 

@@ -1,4 +1,4 @@
-use Rattle.std.proofs.Common.{◌≡◌, ℕ, ◌-◌, false, List, refl, sym, ap, subst, ◌∙◌, length, rules, arith}
+use Rattle.std.proofs.Common.{◌≡◌, ◌-◌, refl, sym, ap, subst, ◌∙◌, rules, arith}
 use Rattle.film_frames.specs.Runs.{run_pieces}
 use Rattle.pacer.specs.Pacings.{IsPacing, whole_pacing}
 use Rattle.session.specs.Inside.{IsAwaitedKept, IsPreparedIn, IsStateKept, awaited_offers, awaited_plays, awaited_receipts, open_receipts}

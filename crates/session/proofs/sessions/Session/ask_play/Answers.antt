@@ -1,4 +1,4 @@
-use Rattle.std.proofs.Common.{◌≡◌, ℕ, List, Ok, length, map, refl, sym, ap, subst, ◌∙◌, string_bytes, rules, arith, inl}
+use Rattle.std.proofs.Common.{◌≡◌, ℕ, List, Ok, refl, sym, ap, subst, ◌∙◌, string_bytes, arith, inl}
 use Rattle.std.proofs.lemmas.List.{length-map}
 use Rattle.film_frames.specs.Pieces.{wire_size}
 use Rattle.film_frames.specs.Runs.{Run as Sending}

@@ -1,4 +1,4 @@
-use Rattle.std.proofs.Common.{◌≡◌, ℕ, List, ap, subst, ◌∙◌, string_bytes}
+use Rattle.std.proofs.Common.{ℕ, List, ap, subst, ◌∙◌, string_bytes}
 use Rattle.session.specs.Inside.{standing_of}
 use Rattle.session.specs.Methods.{Describes}
 use Rattle.session.specs.Replies.{describe_text}

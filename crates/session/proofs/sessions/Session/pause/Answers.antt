@@ -3,7 +3,6 @@ use Rattle.film_run.specs.declared.plans.Playback.{Playback}
 use Rattle.film_run.specs.Pauses.{IsLeft}
 use Rattle.film_run.specs.Units.{stored_sizes}
 use Rattle.pacer.specs.Pacings.{Pacing, next_boundary}
-use Rattle.session.specs.Films.{IsFilmAt}
 use Rattle.session.specs.Inside.{IsAwaitedKept, IsGoing, IsStateKept, IsUnhalted, awaited_plays, awaited_receipts, open_receipts, standing_of}
 use Rattle.session.specs.Methods.{Pauses}
 use Rattle.session.specs.Playing.{IsRunOf, playback_of}

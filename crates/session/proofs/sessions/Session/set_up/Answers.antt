@@ -1,4 +1,4 @@
-use Rattle.std.proofs.Common.{◌≡◌, ℕ, List, None, Ok, ap, subst, ◌∙◌}
+use Rattle.std.proofs.Common.{ℕ, List, None, Ok, ap, subst, ◌∙◌}
 use Rattle.session.specs.Inside.{standing_of}
 use Rattle.session.specs.Methods.{SetsUp}
 use Rattle.session.specs.Standings.{Standing, replied}

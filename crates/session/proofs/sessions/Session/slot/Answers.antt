@@ -1,4 +1,4 @@
-use Rattle.std.proofs.Common.{◌≡◌, ℕ, ◌-◌, false, true, max, sym, ap, subst, ◌∙◌, rules, arith}
+use Rattle.std.proofs.Common.{◌≡◌, false, true, sym, ap, subst, ◌∙◌, rules, arith}
 use Rattle.session.specs.Inside.{IsAwaitedKept, IsGoing, IsStateKept, IsStopAnswered, awaited_offers, awaited_plays, awaited_receipts, open_receipts, standing_of}
 use Rattle.session.specs.Sendings.{IsFinished}
 use Rattle.session.specs.Standings.{IsAtRest}
