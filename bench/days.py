@@ -40,7 +40,7 @@ def packets(head, slices):
                 done.append(now)
                 now = length
         else:
-            if not (only_head and now < PAYLOAD):
+            if now and not (only_head and now < PAYLOAD):
                 done.append(now)
                 now = 0
             rest = length
@@ -301,12 +301,17 @@ class Day:
         self.out.append("end")
 
 
-BAD = ["pause", "pause 256", "play 0 trace", "look x", "slot 0", "pause  0", "resume 0 ", "play 0 movie a 7 0", "offer 0 trace t0 7 0 256"]
+BAD = ["pause", "pause 256", "pause -1", "pause 0 0", "play 0 trace", "play 0 trace t0 0 0", "play 0 trace t0 4398046511105 0", "look x", "look",
+       "play 0 trace t0 7 10001", "play 256 trace t0 7 0", "play 0 trace t0 7", "play 0 trace t0 7 0 1", "play 0 trace .t 7 0", "play 0 Trace t0 7 0",
+       "play 0 trace a/b 7 0", "slot 0", "slot 4611686018427387905", "look 4611686018427387905", "look 18446744073709551616", "pause  0", " pause 0",
+       "pause\t0", "resume 0 ", "play 0 movie a 7 0", "offer 0 trace t0 7 0 256", "offer 0 trace t0 7 0", "stop 0", "pause 0\0", "pause 0x", " "]
+FAULTS = {("trace", "none"): "NotFound", ("film", "none.mpg"): "NotFound", ("trace", "x"): "BadTrace 2", ("trace", "f0"): "BadTrace 0",
+          ("film", "empty"): "Empty", ("film", "t0"): "NoSequence"}
 
 
 def drawn(rng, names):
-    """A script's lines, and the number of its first bad one, or 0."""
-    lines, heard, bad = [], 0, 0
+    """A script's lines, the number of its first bad one, or 0, and the first fault of a film or trace, or None."""
+    lines, heard, bad, fault = [], 0, 0, None
     for _ in range(rng.randrange(1, 60)):
         kind = rng.randrange(20)
         client = rng.choice([0, 1, 2, 255])
@@ -325,23 +330,33 @@ def drawn(rng, names):
         elif kind == 13:
             lines.append(f"offer {client} {film} {name} {buffer} {rng.randrange(6)} {rng.randrange(9)}")
         elif kind == 14 and rng.randrange(10) == 0:
-            lines.append(rng.choice(BAD))
+            lines.append(rng.choice(BAD + [f"slot {heard}"]))
             bad = bad or len(lines)
+        elif kind == 14 and rng.randrange(10) == 0:
+            film, name = rng.choice(list(FAULTS))
+            lines.append(f"play 0 {film} {name} 7 0")
+            fault = fault or f"{name}: {FAULTS[film, name]}"
+        elif kind == 14 and rng.randrange(10) == 0:
+            lines.append(rng.choice(["look 4611686018427387904", "pause 000", "look 007", "slot 4611686018427387904", "resume 0255"]))
+            if lines[-1].startswith("slot"):
+                return lines, bad, fault
         elif kind == 15:
             lines.append("")
         else:
             heard += rng.choice([1, 1, 1, 2, 3, 7])
             lines.append(f"slot {heard}")
-    return lines, bad
+    return lines, bad, fault
 
 
 def compare(program, number, sources, names):
     rng = random.Random(number)
-    lines, bad = drawn(rng, names)
+    lines, bad, fault = drawn(rng, names)
     peak = rng.choice([400, 1500, 4000, 50000])
     steps = [(0, peak)] + sorted((rng.randrange(1, 30) + 40 * k, rng.choice([0, peak // 2, peak, 2 * peak])) for k in range(rng.randrange(3)))
     limit, slot = rng.choice([2, 3, 6, 20, 65536]), rng.choice([14400, 14400, 7200, 20000])
-    text = rng.choice(["\n", "\r\n"]).join(lines) + rng.choice(["", "\n"])
+    end = rng.choice(["\n"] * 9 + [""] * 9 + ["\r"])
+    text = rng.choice(["\n", "\r\n"]).join(lines) + end
+    bad = bad or (len(lines) if end == "\r" else 0)
     with open("s.txt", "w", newline="") as file:
         file.write(text)
     capacity = ",".join(f"{first}:{bytes}" for first, bytes in steps)
@@ -349,6 +364,8 @@ def compare(program, number, sources, names):
     ran = subprocess.run(words, capture_output=True, text=True)
     if bad:
         wanted = (3, "", f"vodserve: s.txt: BadScript {bad}\n")
+    elif fault:
+        wanted = (3, "", f"vodserve: {fault}\n")
     else:
         day = Day(steps, limit, slot)
         for line in lines:
@@ -381,6 +398,9 @@ def main():
             file.write(film)
         sources["film", f"f{number}"] = film_source(film)
         names.append(("film", f"f{number}", max(sources["film", f"f{number}"].sizes)))
+    for name, text in (("x", "1 x"), ("empty", "")):
+        with open(name, "w") as file:
+            file.write(text)
     same = sum(compare(program, number, sources, names) for number in range(count))
     print(f"{same} of {count} scripts the same")
     sys.exit(same != count)

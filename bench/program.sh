@@ -19,4 +19,4 @@ for crate in "$@"; do
 done
 echo "bench_program: $*" >>crates.txt
 cd crates/bench_program
-rt try
+rt try ${TRY_FLAGS:-}
