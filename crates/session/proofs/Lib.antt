@@ -14,3 +14,4 @@ pub mod Numbers
 pub mod Moves
 pub mod Changing
 pub mod Refusing
+pub mod Shapes
