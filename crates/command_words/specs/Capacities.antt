@@ -15,18 +15,24 @@ flat_steps bytes = (record { from = 0; bytes = bytes }) ∷ []
 abbrev pub step_of : List ℕ → Option CapStep
 step_of text =
     if nat_lt (position_or_len (λ b. b == 58) text) (length text)
-    then option_and_then (λ from. option_map (λ bytes. record { from = from; bytes = bytes }) (number_of (after_first (λ b. b == 58) text)))
+    then option_and_then (λ from.
+    option_map (λ bytes.
+    record { from = from; bytes = bytes }) (number_of (after_first (λ b. b == 58) text)))
     (number_of (before_first (λ b. b == 58) text))
     else None
 
--- a step may stand after these: the first one at slot 0, each other one at a later slot than the one before
+-- a step may stand after these: the first one at slot 0, each other one at a later slot than the
+-- one before
 abbrev pub stands_after : List CapStep → ℕ → Bool
-stands_after steps slot = if length steps == 0 then slot == 0 else nat_lt (step_at steps (length steps - 1)).from slot
+stands_after steps slot = if length steps == 0
+    then slot == 0 else nat_lt (step_at steps (length steps - 1)).from slot
 
 -- a step that may follow: at most 64 of them, at slots up to 2^62, of at most 2^42 bytes
 abbrev pub may_follow : List CapStep → CapStep → Bool
 may_follow steps step =
-    nat_lt (length steps) 64 && (stands_after steps step.from && (nat_le step.from (2 ^ 62) && nat_le step.bytes (2 ^ 42)))
+    nat_lt (length steps) 64
+    && (stands_after steps step.from
+    && (nat_le step.from (2 ^ 62) && nat_le step.bytes (2 ^ 42)))
 
 abbrev pub step_more : List CapStep → Option CapStep → Option (List CapStep)
 step_more steps None = None
@@ -57,5 +63,6 @@ one_capacity (value ∷ other ∷ others) = None
 pub record IsFront (steps : List CapStep) : Type 0 where
   pub few : length steps ≤ 64
   pub first : 0 < length steps → (step_at steps 0).from ≡ 0
-  pub ascend : (i : ℕ) → i + 1 < length steps → (step_at steps i).from < (step_at steps (i + 1)).from
+  pub ascend : (i : ℕ) → i + 1 < length steps →
+      (step_at steps i).from < (step_at steps (i + 1)).from
   pub small : (i : ℕ) → i < length steps → (step_at steps i).bytes ≤ 2 ^ 42

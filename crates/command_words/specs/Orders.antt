@@ -26,7 +26,11 @@ source_read (TraceNamed name) = trace_source name.now
 source_read (FilmNamed name slot) = film_source name.now slot
 
 abbrev pub viewer_of : ViewerRead → Viewer
-viewer_of viewer = record { source = source_read viewer.source; buffer = viewer.buffer; startup = viewer.startup }
+viewer_of viewer = record {
+  source = source_read viewer.source;
+  buffer = viewer.buffer;
+  startup = viewer.startup;
+}
 
 abbrev pub made_of : MadeRead → Made
 made_of Film = made_film
@@ -35,7 +39,12 @@ made_of System = made_system
 
 abbrev pub listening_of : ListeningRead → Listening
 listening_of listening =
-    record { port = listening.port; all = listening.all; workers = listening.workers; connections = listening.connections }
+    record {
+      port = listening.port;
+      all = listening.all;
+      workers = listening.workers;
+      connections = listening.connections;
+    }
 
 abbrev pub pace_of : PaceRead → Pace
 pace_of pace = record { buffer = pace.buffer; startup = pace.startup; slot = pace.slot }
@@ -51,13 +60,19 @@ serving_of serving =
     }
 
 abbrev pub script_run_of : ScriptRunRead → ScriptRun
-script_run_of run = record { script = run.script.now; capacity = run.capacity; journal = run.journal; slot = run.slot }
+script_run_of run = record {
+  script = run.script.now;
+  capacity = run.capacity;
+  journal = run.journal;
+  slot = run.slot;
+}
 
 abbrev pub fair_run_of : FairRunRead → FairRun
 fair_run_of run = record { seed = run.seed; plays = run.plays; capacity = run.capacity }
 
 abbrev pub watching_of : WatchingRead → Watching
-watching_of watching = record { film = watching.film.now; port = watching.port; pace = pace_of watching.pace }
+watching_of watching =
+    record { film = watching.film.now; port = watching.port; pace = pace_of watching.pace }
 
 abbrev pub order_of : OrderRead → Order
 order_of Help = help

@@ -1,5 +1,6 @@
 -- The ranges of the numbers in an order.
 use Rattle.std.specs.Prelude.{◌≡◌, ◌≤◌, ◌^◌, true, codes}
+use Rattle.vod_base.specs.Names.{is_good_name}
 use Rattle.slot_calendar.specs.Profiles.{IsProfile}
 use Rattle.command_words.specs.Settings.{texts, values_of}
 use Rattle.command_words.specs.Words.{are_films}
@@ -59,6 +60,7 @@ pub record IsFairRunInRange (run : FairRun) : Type 0 where
   pub profile : IsProfile run.capacity
 
 pub record IsWatchingInRange (watching : Watching) : Type 0 where
+  pub named : is_good_name watching.film.now ≡ true
   pub some_port : 1 ≤ watching.port
   pub port_fits : watching.port ≤ 65535
   pub pace : IsPaceInRange watching.pace

@@ -1,5 +1,5 @@
--- Settings: words `key=value`, split at their first '='. Their order is free, and each key comes at most once, but for
--- those that say otherwise.
+-- Settings: words `key=value`, split at their first '='. Their order is free, and each key comes at
+-- most once, but for those that say otherwise.
 use Rattle.std.specs.Prelude.{ℕ, Bool, true, false, ◌&&◌, ◌==◌, if◌then◌else◌, nat_lt, nat_le, List, [], ◌∷◌, length, Option, Some, None, map, flat_map, string_bytes, String}
 use Rattle.std.specs.Global.{Global}
 use Rattle.std.specs.List.{before_first, after_first, position_or_len}
@@ -15,7 +15,8 @@ texts words = map string_bytes words
 -- the value that a word gives to a key
 abbrev pub setting_value : List ℕ → List ℕ → Option (List ℕ)
 setting_value key word =
-    if nat_lt (position_or_len (λ b. b == 61) word) (length word) && bytes_eq (before_first (λ b. b == 61) word) key
+    if nat_lt (position_or_len (λ b. b == 61) word) (length word)
+    && bytes_eq (before_first (λ b. b == 61) word) key
     then Some (after_first (λ b. b == 61) word) else None
 
 -- the values that words give to a key, in order

@@ -22,15 +22,16 @@ pub record Viewer : Type 0 where
   pub buffer : ℕ
   pub startup : ℕ
 
--- where a server listens: at 127.0.0.1 or at all addresses, at a port; how many workers it has, and how many connections
--- each of them takes, where 0 is no end
+-- where a server listens: at 127.0.0.1 or at all addresses, at a port; how many workers it has, and
+-- how many connections each of them takes, where 0 is no end
 pub record Listening : Type 0 where
   pub port : ℕ
   pub all : Bool
   pub workers : ℕ
   pub connections : ℕ
 
--- the client that a play is planned for where its request says nothing else, and the slot length in 1/360,000 second
+-- the client that a play is planned for where its request says nothing else, and the slot length in
+-- 1/360,000 second
 pub record Pace : Type 0 where
   pub buffer : ℕ
   pub startup : ℕ
@@ -79,13 +80,17 @@ pub data Order : Type 0 where
 -- exactly one of `trace` and `film`; `slot` with `film` alone
 abbrev pub source_of : List (List ℕ) → List (List ℕ) → List (List ℕ) → Option Source
 source_of [] films slots =
-    option_and_then (λ name. option_map (λ slot. film_source name slot) (number_or 14400 360 360000 slots)) (one_name films)
+    option_and_then (λ name.
+    option_map (λ slot.
+    film_source name slot) (number_or 14400 360 360000 slots)) (one_name films)
 source_of (trace ∷ traces) [] [] = option_map trace_source (one_name (trace ∷ traces))
 source_of (trace ∷ traces) [] (slot ∷ slots) = None
 source_of (trace ∷ traces) (film ∷ films) slots = None
 
 abbrev pub source_given : List (List ℕ) → Option Source
-source_given words = source_of (values_of (codes "trace") words) (values_of (codes "film") words) (values_of (codes "slot") words)
+source_given words =
+    source_of (values_of (codes "trace") words) (values_of (codes "film") words)
+    (values_of (codes "slot") words)
 
 abbrev pub viewer_given : List (List ℕ) → Option Viewer
 viewer_given words =
@@ -97,11 +102,13 @@ viewer_given words =
     (source_given words)
 
 abbrev pub check_given : List (List ℕ) → Option Order
-check_given words = option_and_then (λ viewer. option_map (λ cert. check_of viewer cert) (cert_given words)) (viewer_given words)
+check_given words = option_and_then (λ viewer.
+    option_map (λ cert. check_of viewer cert) (cert_given words)) (viewer_given words)
 
 abbrev pub make_given : List (List ℕ) → Option Order
 make_given words =
-    option_and_then (λ kind. option_and_then (λ seed. option_map (λ pictures. make_of kind seed pictures)
+    option_and_then (λ kind.
+    option_and_then (λ seed. option_map (λ pictures. make_of kind seed pictures)
     (pictures_given words))
     (seed_given words))
     (one_kind (values_of (codes "kind") words))
@@ -111,7 +118,8 @@ script_run_given words =
     option_and_then (λ script.
     option_and_then (λ capacity.
     option_and_then (λ journal.
-    option_map (λ slot. record { script = script; capacity = capacity; journal = journal; slot = slot })
+    option_map (λ slot.
+    record { script = script; capacity = capacity; journal = journal; slot = slot })
     (slot_given words))
     (journal_given words))
     (capacity_given words))
@@ -144,7 +152,8 @@ listening_given words =
     option_and_then (λ port.
     option_and_then (λ all.
     option_and_then (λ workers.
-    option_map (λ connections. record { port = port; all = all; workers = workers; connections = connections })
+    option_map (λ connections.
+    record { port = port; all = all; workers = workers; connections = connections })
     (connections_given words))
     (workers_given words))
     (one_bind (values_of (codes "bind") words)))
@@ -166,7 +175,14 @@ serving_given words =
     then option_and_then (λ capacity.
     option_and_then (λ journal.
     option_and_then (λ listening.
-    option_map (λ pace. record { films = values_of (codes "film") words; capacity = capacity; journal = journal; listening = listening; pace = pace })
+    option_map (λ pace.
+    record {
+      films = values_of (codes "film") words;
+      capacity = capacity;
+      journal = journal;
+      listening = listening;
+      pace = pace;
+    })
     (pace_given words))
     (listening_given words))
     (journal_given words))
@@ -195,7 +211,8 @@ order_given Watch words = option_map watch_of (watching_given words)
 
 -- what a command and its words ask for, where each gives a value to a key that the command takes
 abbrev pub command_order : List (List ℕ) → Command → Option Order
-command_order words command = if list_all (is_word_of command) words then order_given command words else None
+command_order words command = if list_all (is_word_of command) words
+    then order_given command words else None
 
 -- what stands alone
 abbrev pub lone_order : Order → List (List ℕ) → Option Order

@@ -1,5 +1,6 @@
-ghost use Rattle.std.specs.Prelude.{◌≡◌, ◌≤◌, ◌^◌, ◌∷◌, [], option_map, IfSome};
+ghost use Rattle.std.specs.Prelude.{◌≡◌, ◌≤◌, ◌^◌, ◌∷◌, [], true, option_map, IfSome};
 ghost use Rattle.std.specs.Option.{option_copied};
+ghost use Rattle.vod_base.specs.Names.{is_good_name};
 ghost use Rattle.slot_calendar.specs.Profiles.{IsProfile};
 ghost use Rattle.command_words.specs.Settings.{texts, values_of};
 ghost use Rattle.command_words.specs.Keys.{film_given, cert_given, script_given, buffer_given, startup_given, slot_given, capacity_given, journal_given, port_given, workers_given, connections_given, seed_given, pictures_given, plays_given, one_kind, one_bind};
@@ -11,7 +12,8 @@ use crate::settings::{Given, find_given, number_or, one_name, one_number};
 use crate::steps::Steps;
 
 pub(crate) fn film_given<'a>(words: &'a [String]) -> Option<&'a str>
-    ensures { option_copied result ≡ film_given (texts words.entry.now) }
+    ensures name { option_copied result ≡ film_given (texts words.entry.now) }
+    ensures good { IfSome result (λ name. is_good_name name.now ≡ true) }
 {
     one_name(words, "film")
 }

@@ -81,7 +81,8 @@ pub struct Listening {
     pub connections: u64,
 }
 
-/// The client that a play is planned for where its request says nothing else, and the length of a slot.
+/// The client that a play is planned for where its request says nothing else, and the length of a
+/// slot.
 #[derive(Clone, Copy, Debug, PartialEq, Eq)]
 pub struct Pace {
     /// The client's buffer, from 1 to 2^42 bytes.
@@ -95,7 +96,8 @@ pub struct Pace {
 /// A server's films, link and connections.
 #[derive(Debug, Drop)]
 pub struct Serving<'a> {
-    /// The words of the command, of which those of the key `film` name its films, 1 to 64, no two alike.
+    /// The words of the command, of which those of the key `film` name its films, 1 to 64, no two
+    /// alike.
     pub words: &'a [String],
     /// The steps of its link's capacity.
     pub capacity: Steps,

@@ -1,5 +1,6 @@
-ghost use Rattle.std.specs.Prelude.{◌≡◌, ◌≤◌, ◌^◌, IfSome};
+ghost use Rattle.std.specs.Prelude.{◌≡◌, ◌≤◌, ◌^◌, true, IfSome};
 ghost use Rattle.std.specs.Option.{option_copied};
+ghost use Rattle.vod_base.specs.Names.{is_good_name};
 ghost use Rattle.vod_base.specs.Numbers.{number_of};
 ghost use Rattle.command_words.specs.Settings.{texts, setting_value, values_of, one_name, in_range, one_number, number_or};
 ghost use Rattle.command_words.specs.Given.{IsGiven};
@@ -41,7 +42,8 @@ pub(crate) fn find_given<'a>(words: &'a [String], key: &str) -> Given<'a>
 }
 
 pub(crate) fn one_name<'a>(words: &'a [String], key: &str) -> Option<&'a str>
-    ensures { option_copied result ≡ one_name (values_of key.now (texts words.entry.now)) }
+    ensures name { option_copied result ≡ one_name (values_of key.now (texts words.entry.now)) }
+    ensures good { IfSome result (λ name. is_good_name name.now ≡ true) }
 {
     match find_given(words, key) {
         Given::Once(name) if good_name(name.as_bytes()) => Some(name),

@@ -61,7 +61,8 @@ fn command_order<'a>(command: Command, words: &'a [String]) -> Option<Order<'a>>
 /// The order, where no word follows.
 fn lone_order<'a>(order: Order<'a>, rest: &[String]) -> Option<Order<'a>>
     requires { IsOrderInRange order }
-    ensures order { option_map order_of result ≡ lone_order (order_of order.entry) (texts rest.now) }
+    ensures order { option_map order_of result ≡
+        lone_order (order_of order.entry) (texts rest.now) }
     ensures range { IfSome result IsOrderInRange }
 {
     match rest {

@@ -10,6 +10,7 @@ pub record IsCut (before text after : List ℕ) : Type 0 where
   pub after_is : after ≡ before ++ front
 
 -- a text was appended; or, without memory, the beginning of it
-pub record IsAppended (before text after : List ℕ) (result : Result (Unit {0}) NoMemory) : Type 0 where
+pub record IsAppended (before text after : List ℕ) (result : Result (Unit {0}) NoMemory)
+    : Type 0 where
   pub whole : OnOk result (after ≡ before ++ text)
   pub cut : OnErr result (IsCut before text after)

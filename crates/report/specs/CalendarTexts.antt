@@ -1,12 +1,13 @@
--- The text of the bytes that are booked in the slots from one on. Numbers are decimal, and each line ends with LF.
+-- The text of the bytes that are booked in the slots from one on. Numbers are decimal, and each
+-- line ends with LF.
 use Rattle.std.specs.Prelude.{ℕ, ◌≡◌, ◌+◌, ◌^◌, ◌≤◌, nat_lt, List, ◌++◌, filter, flat_map, codes}
 use Rattle.std.specs.List.{range_with_len}
 use Rattle.plan_cert.specs.Reading.{lines_of}
 use Rattle.slot_calendar.specs.Totals.{ring_slots}
 use Rattle.report.specs.Fields.{field}
 
--- What holds of the bytes booked on a link in the slots from one on: a ring's slots alone have some, and none has more than a
--- capacity can be.
+-- What holds of the bytes booked on a link in the slots from one on: a ring's slots alone have
+-- some, and none has more than a capacity can be.
 pub record AreBookings (from : ℕ) (booked : ℕ → ℕ) : Type 0 where
   pub first_small : from ≤ 2 ^ 62
   pub few : (t : ℕ) → from ≤ t → booked t ≤ 2 ^ 42
@@ -34,7 +35,8 @@ first_words first = field (codes "calendar from=") first
 -- that slot, each slot in which bytes are booked, and an end
 abbrev pub calendar_text : ℕ → (ℕ → ℕ) → List ℕ
 calendar_text from booked =
-    first_words from ++ codes "\n" ++ flat_map (slot_line booked) (booked_slots from booked) ++ codes "end\n"
+    first_words from ++ codes "\n" ++ flat_map (slot_line booked) (booked_slots from booked)
+    ++ codes "end\n"
 
 -- the lines of that text
 unfoldable pub calendar_lines : ℕ → (ℕ → ℕ) → List (List ℕ)

@@ -10,20 +10,28 @@ use Rattle.report.specs.Fields.{field}
 
 -- what was asked: of a plan its slots and its bytes
 abbrev pub command_words : Command → List ℕ
-command_words (Play slot plan) = field (codes " play slot=") slot ++ field (codes " slots=") (total_slots plan) ++ field (codes " bytes=") (total_bytes plan)
-command_words (Halt number keep) = field (codes " halt number=") number ++ field (codes " keep=") keep
+command_words (Play slot plan) =
+    field (codes " play slot=") slot ++ field (codes " slots=") (total_slots plan)
+    ++ field (codes " bytes=") (total_bytes plan)
+command_words (Halt number keep) =
+    field (codes " halt number=") number ++ field (codes " keep=") keep
 command_words (Look slot) = field (codes " look slot=") slot
 
 -- what was answered
 abbrev pub answer_words : Answer → List ℕ
 answer_words (Admitted start) = field (codes " admitted start=") start
-answer_words (Overflow slot booked asked) = field (codes " overflow slot=") slot ++ field (codes " booked=") booked ++ field (codes " asked=") asked
+answer_words (Overflow slot booked asked) =
+    field (codes " overflow slot=") slot ++ field (codes " booked=") booked
+    ++ field (codes " asked=") asked
 answer_words Halted = codes " halted"
-answer_words (Looked now at booked) = field (codes " looked now=") now ++ field (codes " at=") at ++ field (codes " booked=") booked
+answer_words (Looked now at booked) =
+    field (codes " looked now=") now ++ field (codes " at=") at ++ field (codes " booked=") booked
 
 -- the entry at a place: the place, who asked, the command and its answer
 abbrev pub entry_words : ℕ → Entry → List ℕ
-entry_words place entry = decimal place ++ field (codes " seat=") entry.maker ++ command_words entry.command ++ answer_words entry.answer
+entry_words place entry =
+    decimal place ++ field (codes " seat=") entry.maker ++ command_words entry.command
+    ++ answer_words entry.answer
 
 abbrev pub entry_line : ℕ → Entry → List ℕ
 entry_line place entry = entry_words place entry ++ codes "\n"

@@ -34,8 +34,9 @@ fn push_slots(out: &mut Vec<u8>, calendar: &Calendar) -> Result<(), NoMemory>
     Ok(())
 }
 
-/// Appends the text of a calendar: `calendar from=T` with T its now, then `at S booked=X` for each slot S of its ring,
-/// from now on, in which X bytes are booked, above 0, and then `end`. Numbers are decimal, and each line ends with LF.
+/// Appends the text of a calendar: `calendar from=T` with T its now, then `at S booked=X` for each
+/// slot S of its ring, from now on, in which X bytes are booked, above 0, and then `end`. Numbers
+/// are decimal, and each line ends with LF.
 ///
 /// After `NoMemory` the beginning of the text was appended. One pass over the slots.
 pub fn calendar_text(calendar: &Calendar, out: &mut Vec<u8>) -> Result<(), NoMemory>

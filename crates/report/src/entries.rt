@@ -49,10 +49,10 @@ fn push_answer(out: &mut Vec<u8>, answer: Answer) -> Result<(), NoMemory>
     }
 }
 
-/// Appends the line of the journal's entry at `place`: `PLACE seat=M` and then, for a play,
-/// `play slot=S slots=N bytes=B admitted start=T` or `play slot=S slots=N bytes=B overflow slot=U booked=X asked=Y`,
-/// for a halt `halt number=K keep=P halted`, for a look `look slot=S looked now=T at=U booked=X`. Numbers are decimal,
-/// and the line ends with LF.
+/// Appends the line of the journal's entry at `place`: `PLACE seat=M` and then, for a play, `play
+/// slot=S slots=N bytes=B admitted start=T` or `play slot=S slots=N bytes=B overflow slot=U
+/// booked=X asked=Y`, for a halt `halt number=K keep=P halted`, for a look `look slot=S looked
+/// now=T at=U booked=X`. Numbers are decimal, and the line ends with LF.
 ///
 /// After `NoMemory` the beginning of the line was appended.
 pub fn entry_line(place: u64, entry: &Entry, out: &mut Vec<u8>) -> Result<(), NoMemory>

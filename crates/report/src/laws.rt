@@ -1,5 +1,6 @@
-ghost use Rattle.std.specs.Prelude.{◌≡◌, ◌^◌, ◌<◌, ◌≤◌, ℕ, length, slice_index_or};
+ghost use Rattle.std.specs.Prelude.{◌≡◌, ◌^◌, ◌<◌, ◌≤◌, ℕ, List, length, slice_index_or};
 ghost use Rattle.std.specs.List.{Contains};
+ghost use Rattle.slot_calendar.specs.declared.profiles.CapStep.{CapStep};
 ghost use Rattle.slot_calendar.specs.Calendars.{Entries, StandsFor, booked_at};
 ghost use Rattle.admission.specs.Histories.{IsLegal};
 ghost use Rattle.admission.specs.Machine.{State, booked_in, plays_of};
@@ -7,12 +8,18 @@ ghost use Rattle.admission.specs.declared.entries.Entry.{Entry};
 ghost use Rattle.report.specs.CalendarTexts.{AreBookings, calendar_lines, calendar_text, slot_words};
 ghost use Rattle.report.specs.EntryForms.{HasForm};
 ghost use Rattle.report.specs.EntryLines.{entry_line};
-ghost use Rattle.report.specs.Kinds.{IsOfKind};
+ghost use Rattle.report.specs.Kinds.{AreOfKind, IsOfKind};
 
 use admission::Entry;
 use slot_calendar::Profile;
 
-/// Each entry of a legal history has an answer of its command's kind.
+/// Each entry of a legal history has an answer of its command's kind, as `entry_line` asks.
+pub fn law_answer_kinds()
+    ensures { (steps : List CapStep) (entries : List Entry) → IsLegal steps entries →
+        AreOfKind entries }
+{}
+
+/// Each entry of this legal history has an answer of its command's kind.
 pub fn law_kinds(profile: &Profile, entries: &[Entry])
     requires { IsLegal profile.now entries.now }
     ensures { (place : ℕ) (none : Entry) → place < length entries.now →
@@ -22,16 +29,16 @@ pub fn law_kinds(profile: &Profile, entries: &[Entry])
     let _read = (profile.steps().len(), entries.len());
 }
 
-/// The line of an entry whose answer is of its command's kind has the form of that command and answer, from its
-/// beginning to its end.
+/// The line of an entry whose answer is of its command's kind has the form of that command and
+/// answer, from its beginning to its end.
 pub fn law_entry_line()
     ensures { (place : ℕ) (entry : Entry) → IsOfKind entry.command entry.answer →
         HasForm place entry.maker (entry_line place entry) entry.command entry.answer }
 {}
 
-/// A line that tells the booked bytes of a slot stands in the text of what is booked from a slot on exactly where the
-/// slot isn't before that one, bytes are booked in it, and the line tells how many. So it is for each calendar, by what
-/// `Calendar::now` tells of it.
+/// A line that tells the booked bytes of a slot stands in the text of what is booked from a slot on
+/// exactly where the slot isn't before that one, bytes are booked in it, and the line tells how
+/// many. So it is for each calendar, by what `Calendar::now` tells of it.
 pub fn law_slot_lines()
     ensures stands { (from slot : ℕ) (booked : ℕ → ℕ) → AreBookings from booked → from ≤ slot →
         0 < booked slot → Contains (calendar_lines from booked) (slot_words slot (booked slot)) }
@@ -46,8 +53,9 @@ pub fn law_slot_lines()
         Contains (calendar_lines from booked) (slot_words slot told) → from ≤ slot }
 {}
 
-/// The text of a calendar that has come to a machine's now and stands for its plays is the text of what the machine
-/// has booked, from its now on. So it is for the calendar of a book and the state after its entries.
+/// The text of a calendar that has come to a machine's now and stands for its plays is the text of
+/// what the machine has booked, from its now on. So it is for the calendar of a book and the state
+/// after its entries.
 pub fn law_state_text()
     ensures { (calendar : Entries) (state : State) →
         calendar.first ≡ state.now → StandsFor calendar (plays_of state) →

@@ -3,7 +3,10 @@
 ghost use Rattle.std.specs.Prelude.{IsTrue};
 ghost use Rattle.report.specs.Kinds.{IsOfKind};
 
-use crate::{calendar_text, entry_line, law_entry_line, law_kinds, law_slot_lines, law_state_text};
+use crate::{
+    calendar_text, entry_line, law_answer_kinds, law_entry_line, law_kinds, law_slot_lines,
+    law_state_text,
+};
 use admission::{Answer, Command, Entry};
 use plan_cert::{Plan, Segment};
 use slot_calendar::{Calendar, Profile};
@@ -113,11 +116,13 @@ fn lines_of_entries(rt: HostRuntime) -> Result<(), Fail> {
         assert_eq!(rt; out.strip_prefix(b"front "), Some(want));
     }
     law_entry_line();
+    law_answer_kinds();
     law_kinds(&Profile::flat(alloc, 5)?, &[]);
     Ok(())
 }
 
-// The plan booked whole at slot 1, and at slot 3 with its first 2 bytes; then slots 0 and 1 are forgotten.
+// The plan booked whole at slot 1, and at slot 3 with its first 2 bytes; then slots 0 and 1 are
+// forgotten.
 fn calendar_of(rt: &impl Abort, alloc: Global, plan: &Plan) -> Result<Calendar, NoMemory> {
     let mut calendar = Calendar::new(alloc, Profile::flat(alloc, 5)?)?;
     assert!(rt; plan.slots() < 1000 && plan.bytes() >= 2);
