@@ -16,8 +16,9 @@ use Rattle.day_run.specs.declared.clients.Client.{Client}
 use Rattle.day_run.specs.declared.clients.Client.TheVariants as clients
 use Rattle.day_run.specs.declared.clients.Halt.{Halt as ClientHalt}
 use Rattle.day_run.specs.declared.clients.Play.{Play as ClientPlay}
-use Rattle.day_run.specs.Clients.{AreBooked, AreGoing, AreUndone, IsBooked, IsGoing, IsHaltOf, IsOpenOf, IsPlaying, IsQuiet, IsUndone}
+use Rattle.day_run.specs.Clients.{AreBooked, AreGoing, AreUndone, IsBooked, IsGoing, IsHaltOf, IsOpenOf, IsPlaying, IsQuiet, IsTimed, IsUndone}
 use Rattle.day_run.specs.Runners.{IsSoundDay}
+use Rattle.day_run.proofs.Sweeps.{timed-set}
 use Rattle.day_run.proofs.Bookings.{booked-halt, booked-more, booked-set, HaltsNone, going-set, undone-set}
 
 now-halt : (state : State) (place number keep : ℕ) (answer : Answer) → (next_state state place (Halt number keep) answer).now ≡ state.now
@@ -73,8 +74,8 @@ open-halt xs c (clients.Paused rest) halt going booked is = absurd is
 -- a client's play was halted
 pub day-halted : (slot_units heard : ℕ) (xs ys : List Entry) (cs ds : List Client) (c number bytes keep : ℕ) (client : Client) (e : Entry)
     → IsSoundDay slot_units heard xs cs → ys ≡ xs ++ e ∷ [] → ds ≡ set cs c client → e.command ≡ Halt number keep → IsOpenOf xs c number bytes
-    → c < length cs → IsGoing client → IsUndone client → IsQuiet client → IsSoundDay slot_units heard ys ds
-day-halted slot_units heard xs ys cs ds c number bytes keep client e day y d is its inside going undone quiet =
+    → c < length cs → IsGoing client → IsUndone client → IsQuiet client → IsTimed heard client → IsSoundDay slot_units heard ys ds
+day-halted slot_units heard xs ys cs ds c number bytes keep client e day y d is its inside going undone quiet timed =
     let D : List Client → Type 0 = λ l. IsSoundDay slot_units heard ys l in
     let Y : List Entry → Type 0 = λ l. IsSoundDay slot_units heard l (set cs c client) in
     let U : ℕ → Type 0 = λ n. AreUndone n (set cs c client) in
@@ -87,6 +88,7 @@ day-halted slot_units heard xs ys cs ds c number bytes keep client e day y d is 
       going = going-set cs c client going day.going;
       undone = subst U (sym (length-set cs c client)) (undone-set (length cs) cs c client inside undone day.undone);
       booked = booked-halt xs cs c client e number bytes keep is its quiet day.booked;
+      timed = timed-set heard cs c client timed day.timed;
     }))
 
 -- an entry was made that halts no play
@@ -103,14 +105,15 @@ day-noted slot_units heard xs ys cs e day y none now =
       going = day.going;
       undone = day.undone;
       booked = booked-more xs cs e none day.booked;
+      timed = day.timed;
     })
 
 -- a client's play was admitted
 pub day-played : (slot_units heard : ℕ) (xs ys : List Entry) (cs ds : List Client) (c slot : ℕ) (segments : List Segment) (play : ClientPlay) (e : Entry)
     → IsSoundDay slot_units heard xs cs → ys ≡ xs ++ e ∷ [] → ds ≡ set cs c (clients.Playing play) → e.command ≡ Play slot segments → slot ≤ heard
     → e.maker ≡ c → play.number ≡ length xs → CanHalt (state_after (xs ++ e ∷ [])) play.number (total_bytes play.plan)
-    → c < length cs → IsPlaying play → IsUndone (clients.Playing play) → IsSoundDay slot_units heard ys ds
-day-played slot_units heard xs ys cs ds c slot segments play e day y d is le maker number can inside playing undone =
+    → c < length cs → IsPlaying play → IsUndone (clients.Playing play) → IsTimed heard (clients.Playing play) → IsSoundDay slot_units heard ys ds
+day-played slot_units heard xs ys cs ds c slot segments play e day y d is le maker number can inside playing undone timed =
     let D : List Client → Type 0 = λ l. IsSoundDay slot_units heard ys l in
     let Y : List Entry → Type 0 = λ l. IsSoundDay slot_units heard l (set cs c (clients.Playing play)) in
     let U : ℕ → Type 0 = λ n. AreUndone n (set cs c (clients.Playing play)) in
@@ -132,4 +135,5 @@ day-played slot_units heard xs ys cs ds c slot segments play e day y d is le mak
       going = going-set cs c (clients.Playing play) playing day.going;
       undone = subst U (sym (length-set cs c (clients.Playing play))) (undone-set (length cs) cs c (clients.Playing play) inside undone day.undone);
       booked = booked-set xs cs c (clients.Playing play) e (λ d other. record { apart = λ n halts _. none n halts }) its day.booked;
+      timed = timed-set heard cs c (clients.Playing play) timed day.timed;
     }))

@@ -4,7 +4,7 @@ use Rattle.std.proofs.lemmas.Bool.{cases_lt}
 use Rattle.std.proofs.lemmas.List.{length-append, get_or_append_left, get_or-append_right}
 use Rattle.day_run.specs.declared.clients.Client.{Client}
 use Rattle.day_run.specs.declared.clients.Client.TheVariants.{Idle}
-use Rattle.day_run.specs.Clients.{AreBooked, AreGoing, AreIdle, AreUndone, IsBooked, IsGoing, IsUndone}
+use Rattle.day_run.specs.Clients.{AreBooked, AreGoing, AreIdle, AreUndone, IsBooked, IsGoing, IsTimed, IsUndone}
 use Rattle.day_run.specs.Runners.{IsSoundDay}
 
 pub idle-none : AreIdle []
@@ -40,5 +40,10 @@ idle-day slot_units cs some fit count idle =
         each = λ c none inside.
             let B : Client → Type 0 = λ x. IsBooked [] c x in
             subst B (sym (idle.each c none inside)) tt;
+      };
+      timed = record {
+        each = λ c none inside.
+            let T : Client → Type 0 = λ x. IsTimed 0 x in
+            subst T (sym (idle.each c none inside)) tt;
       };
     }

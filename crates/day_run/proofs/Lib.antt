@@ -6,6 +6,13 @@ pub mod Bookings
 pub mod Pausing
 pub mod DaySteps
 pub mod Idles
+pub mod Sweeps
+pub mod Timings
+pub mod LineSteps
+pub mod DayRuns
+pub mod SourceTracks
+pub mod Balances
+pub mod BalancedLines
 pub mod TraceReels
 pub mod SlotSums
 pub mod Drawn

@@ -1,7 +1,8 @@
 -- What holds of the clients of a day: what they send and how far they have come, and that the book has their plays open.
-use Rattle.std.specs.Prelude.{ℕ, ◌≡◌, ◌+◌, ◌-◌, ◌<◌, ◌≤◌, Bool, false, List, length, sum, slice_index_or}
+use Rattle.std.specs.Prelude.{ℕ, ◌≡◌, ◌+◌, ◌-◌, ◌<◌, ◌≤◌, Bool, false, List, [], length, map, sum, sum_by, slice_index_or, Option, Some, None}
 use Rattle.plan_cert.specs.declared.Segment.{Segment}
 use Rattle.plan_cert.specs.Slots.{total_bytes}
+use Rattle.slot_calendar.specs.Plays.{cut_play}
 use Rattle.film_frames.specs.Tracks.{IsBoundary}
 use Rattle.film_run.specs.Runs.{Fits, IsRun}
 use Rattle.film_run.specs.Plans.{IsPlanOf, IsPlayback}
@@ -16,6 +17,8 @@ use Rattle.day_run.specs.declared.clients.Play.{Play}
 use Rattle.day_run.specs.declared.clients.Rest.{Rest}
 use Rattle.day_run.specs.declared.clients.Stop.{Stop}
 use Rattle.day_run.specs.Reels.{reel_pieces, reel_sizes}
+use Rattle.day_run.specs.Seats as seats
+use Rattle.day_run.specs.Days.{halt_by}
 
 -- A rest can be sent on: it is a run of all of its reel's units, of which whole frames and reports were sent, and what was sent
 -- and isn't played fits in the client's buffer.
@@ -102,3 +105,73 @@ pub record AreBooked (entries : List Entry) (clients : List Client) : Type 0 whe
 
 pub record AreIdle (clients : List Client) : Type 0 where
   pub each : (c : ℕ) (none : Client) → c < length clients → slice_index_or clients c none ≡ Idle
+
+-- what is left of a client's rest, and what the client does, in the words of a day
+abbrev pub rest_of : Rest → seats.Rest
+rest_of rest = record {
+  sizes = reel_sizes rest.reel.now;
+  pieces = reel_pieces rest.reel.now;
+  playback = rest.playback;
+  run = rest.run;
+}
+
+abbrev pub play_of : Play → seats.Play
+play_of play = record { number = play.number; rest = rest_of play.rest; plan = play.plan; start = play.pacer.start }
+
+abbrev pub seat_of : Client → seats.Seat
+seat_of Idle = seats.Idle
+seat_of (Playing play) = seats.Playing (play_of play)
+seat_of (Pausing stop) = seats.Pausing (cut_play stop.pacer.start stop.pacer.plan stop.keep) (rest_of stop.rest)
+seat_of (Paused rest) = seats.Paused (rest_of rest)
+
+-- a client's play has come to the slot that was heard last
+abbrev pub IsTimed : ℕ → Client → Type 0
+IsTimed heard Idle = Unit {0}
+IsTimed heard (Playing play) = play.pacer.passed ≡ heard + 1 - play.pacer.start
+IsTimed heard (Pausing stop) = stop.pacer.passed ≡ heard + 1 - stop.pacer.start
+IsTimed heard (Paused rest) = Unit {0}
+
+pub record AreTimed (heard : ℕ) (clients : List Client) : Type 0 where
+  pub each : (c : ℕ) (none : Client) → c < length clients → IsTimed heard (slice_index_or clients c none)
+
+-- a client has come from one slot to another
+pub record IsStep (heard slot : ℕ) (old new : Client) (sent : ℕ) : Type 0 where
+  pub timed : IsTimed slot new
+  pub sent_is : sent ≡ seats.sent_between heard slot (seat_of old)
+  pub seat : seat_of new ≡ seats.after_sending slot (seat_of old)
+
+-- all clients have
+pub record AreSteps (heard slot : ℕ) (old new : List Client) (sent : ℕ) : Type 0 where
+  pub timed : AreTimed slot new
+  pub sent_is : sent ≡ sum_by (seats.sent_between heard slot) (map seat_of old)
+  pub seats_are : map seat_of new ≡ map (seats.after_sending slot) (map seat_of old)
+
+-- the entry of a halt, and what its client does after it, if there is one
+abbrev pub halts_of : ℕ → Option Halt → List Entry
+halts_of client None = []
+halts_of client (Some halt) = halt_by client halt.number halt.keep
+
+abbrev pub seat_after : Option Halt → seats.Seat → seats.Seat
+seat_after None seat = seat
+seat_after (Some halt) seat = seats.Idle
+
+-- a client after its play was halted
+abbrev pub after_open : seats.Seat → seats.Seat
+after_open seats.Idle = seats.Idle
+after_open (seats.Playing play) = seats.Idle
+after_open (seats.Pausing stop rest) = seats.Pausing stop rest
+after_open (seats.Paused rest) = seats.Paused rest
+
+-- a client isn't paused
+abbrev pub IsUnpaused : Client → Type 0
+IsUnpaused Idle = Unit {0}
+IsUnpaused (Playing play) = Unit {0}
+IsUnpaused (Pausing stop) = Unit {0}
+IsUnpaused (Paused rest) = ⊥
+
+-- a halt is that of a client's play
+abbrev pub IsPauseOf : ℕ → Halt → Client → Client → Type 0
+IsPauseOf heard halt Idle new = ⊥
+IsPauseOf heard halt (Playing play) new = (halt.number ≡ play.number) × seats.IsPause (play_of play) heard halt.keep (seat_of new)
+IsPauseOf heard halt (Pausing stop) new = ⊥
+IsPauseOf heard halt (Paused rest) new = ⊥

@@ -4,6 +4,10 @@ pub mod Readings
 pub mod Scripts
 pub mod Reels
 pub mod Sources
+pub mod Seats
+pub mod Tracks
+pub mod Days
+pub mod DayLaws
 pub mod Clients
 pub mod Runners
 pub mod Prints

@@ -1,13 +1,21 @@
 -- What holds of a day between its lines.
-use Rattle.std.specs.Prelude.{ℕ, ◌≡◌, ◌^◌, ◌<◌, ◌≤◌, List, length}
+use Rattle.std.specs.Prelude.{ℕ, ◌≡◌, ◌^◌, ◌<◌, ◌≤◌, ◌++◌, List, Result, Ok, Err, length, map, drop, flat_map}
 use Rattle.admission.specs.declared.entries.Entry.{Entry}
 use Rattle.admission.specs.Histories.{state_after}
+use Rattle.early_start.specs.Offered.{Found}
+use Rattle.wire_curve.specs.declared.film.CurveFault.{CurveFault}
+use Rattle.day_run.specs.declared.scripts.Line.{Line}
 use Rattle.day_run.specs.declared.clients.Client.{Client}
 use Rattle.day_run.specs.declared.runners.Runner.{Runner}
-use Rattle.day_run.specs.Clients.{AreBooked, AreGoing, AreUndone}
+use Rattle.day_run.specs.declared.runners.Told.{Told}
+use Rattle.day_run.specs.declared.runners.Told.TheVariants as tolds
+use Rattle.day_run.specs.Clients.{AreBooked, AreGoing, AreTimed, AreUndone, seat_of}
+use Rattle.day_run.specs.Days.{AreRun, Link, Moment, entry_lines, morning}
+use Rattle.day_run.specs.Prints.{fault_text, full_text, offer_text, state_text}
+use Rattle.day_run.specs.Tracks.{reel_track}
 
 -- the clients go on soundly, none of their plays is done, and the book has them open; the machine's now isn't later than the
--- slot that was heard last
+-- slot that was heard last, to which their plays have come
 pub record IsSoundDay (slot_units heard : ℕ) (entries : List Entry) (clients : List Client) : Type 0 where
   pub count : length clients ≡ 256
   pub some_slot_units : 1 ≤ slot_units
@@ -17,12 +25,50 @@ pub record IsSoundDay (slot_units heard : ℕ) (entries : List Entry) (clients :
   pub going : AreGoing clients
   pub undone : AreUndone (length clients) clients
   pub booked : AreBooked entries clients
+  pub timed : AreTimed heard clients
 
 abbrev pub IsRunner : Runner → Type 0
 IsRunner r = IsSoundDay r.slot_units r.heard r.book.entries r.clients.items
 
+-- the link of a day, and how far the day has come
+abbrev pub link_on : Runner → Link
+link_on r = record {
+  steps = r.book.steps;
+  limit = r.book.limit;
+  slot_units = r.slot_units;
+  tracks = map (reel_track r.slot_units) r.reels.now;
+}
+
+abbrev pub moment_of : Runner → Moment
+moment_of r = record { entries = r.book.entries; seats = map seat_of r.clients.items; heard = r.heard }
+
+-- the text of what is told to a client, by the entries
+abbrev pub told_text : List Entry → Told → List ℕ
+told_text entries (tolds.Entry place) = entry_lines place (drop place entries)
+told_text entries (tolds.Full full) = full_text full
+told_text entries tolds.State = state_text
+told_text entries (tolds.Fault fault) = fault_text fault
+
+-- the text of an offer
+abbrev pub offer_lines : Result Found CurveFault → List ℕ
+offer_lines (Ok found) = offer_text found
+offer_lines (Err fault) = fault_text fault
+
+-- what was printed after a text
+pub record IsPrinted (before after : List ℕ) (Is : List ℕ → Type 0) : Type 0 where
+  pub text : List ℕ
+  pub after_is : after ≡ before ++ text
+  pub is : Is text
+
+-- lines were run from a day's beginning on, and this is all that they printed
+pub record HasRun (link : Link) (lines : List Line) (text : List ℕ) (moment : Moment) : Type 0 where
+  pub texts : List (List ℕ)
+  pub text_is : text ≡ flat_map (λ (t : List ℕ). t) texts
+  pub run : AreRun link lines texts morning moment
+
 -- the link and the sources stay
 pub record IsKept (old new : Runner) : Type 0 where
+  pub link : link_on new ≡ link_on old
   pub steps : new.book.steps ≡ old.book.steps
   pub reels : new.reels.now ≡ old.reels.now
 

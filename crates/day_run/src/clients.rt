@@ -8,7 +8,11 @@ ghost use Rattle.film_run.specs.Plans.{IsPlanOf};
 ghost use Rattle.film_run.specs.Pauses.{IsHalt};
 ghost use Rattle.film_frames.specs.Tracks.{IsBoundary};
 ghost use Rattle.day_run.specs.Reels.{reel_pieces, reel_sizes};
-ghost use Rattle.day_run.specs.Clients.{IsBooked, IsGoing, IsHaltOf, IsPlaying, IsQuiet, IsRest, IsUndone};
+ghost use Rattle.day_run.specs.Clients.{IsBooked, IsGoing, IsHaltOf, IsPauseOf, IsPlaying, IsQuiet, IsRest, IsStep, IsTimed, IsUndone, IsUnpaused};
+ghost use Rattle.day_run.specs.declared.clients.Client.TheVariants.{Paused};
+ghost use Rattle.day_run.specs.Clients.{after_open, halts_of, play_of, seat_after, seat_of};
+ghost use Rattle.day_run.specs.Days.{done_halt, open_halt};
+ghost use Rattle.day_run.specs.Seats.{IsPause, after_play, is_busy};
 
 use crate::drains::Drain;
 use crate::reels::{Reel, Sending};
@@ -81,6 +85,7 @@ impl<'r> Client<'r> {
         ensures going { IsGoing self.new }
         ensures booked { (entries : List Entry) (client : ℕ) → IsBooked entries client self.old → IsBooked entries client self.new }
         ensures few { result ≤ 2 ^ 42 }
+        ensures step { (heard : ℕ) → heard ≤ slot → IsTimed heard self.old → IsStep heard slot self.old self.new result }
     {
         match self {
             Client::Playing(play) => send(&mut play.pacer, slot),
@@ -96,10 +101,35 @@ impl<'r> Client<'r> {
         }
     }
 
+    /// Whether it plays, or its pause isn't done.
+    pub(crate) fn is_busy(&self) -> bool
+        ensures { result ≡ is_busy (seat_of self.now) }
+    {
+        match self {
+            Client::Playing(_) | Client::Pausing(_) => true,
+            Client::Idle | Client::Paused(_) => false,
+        }
+    }
+
+    /// What is left to be sent to it, if it is paused.
+    pub(crate) fn left(&self) -> Option<Rest<'r>>
+        ensures some { IfSome result (λ rest. self.now ≡ Paused rest) }
+        ensures none { IfNone result (IsUnpaused self.now) }
+    {
+        match self {
+            Client::Paused(rest) => Some(*rest),
+            Client::Idle | Client::Playing(_) | Client::Pausing(_) => None,
+        }
+    }
+
     /// Its play, if it is done and so keeps all its bytes.
     pub(crate) fn done(&self) -> Option<Halt>
         ensures some { IfSome result (IsHaltOf self.now) }
         ensures none { IfNone result (IsUndone self.now) }
+        ensures halt { (slot client : ℕ) → IsGoing self.now → IsTimed slot self.now →
+            done_halt slot client (seat_of self.now) ≡ halts_of client result }
+        ensures seat { (slot : ℕ) → IsGoing self.now → IsTimed slot self.now →
+            after_play slot (seat_of self.now) ≡ seat_after result (seat_of self.now) }
     {
         match self {
             Client::Playing(play) => {
@@ -120,6 +150,9 @@ impl<'r> Client<'r> {
     pub(crate) fn open(&self) -> Option<Halt>
         ensures some { IfSome result (IsHaltOf self.now) }
         ensures none { IfNone result (IsQuiet self.now) }
+        ensures halt { (heard client : ℕ) → IsGoing self.now → IsTimed heard self.now →
+            open_halt heard client (seat_of self.now) ≡ halts_of client result }
+        ensures seat { after_open (seat_of self.now) ≡ seat_after result (seat_of self.now) }
     {
         match self {
             Client::Playing(play) => Some(Halt {
@@ -136,6 +169,10 @@ impl<'r> Client<'r> {
         requires undone { IsUndone self.old }
         ensures some { IfSome result (IsHaltOf self.old) }
         ensures none { IfNone result (self.new ≡ self.old) }
+        ensures idle { IfNone result (IsQuiet self.old) }
+        ensures pause { (heard : ℕ) → IsTimed heard self.old →
+            IfSome result (λ halt. IsPauseOf heard halt self.old self.new) }
+        ensures timed { (heard : ℕ) → IsTimed heard self.old → IsTimed heard self.new }
         ensures going { IsGoing self.new }
         ensures undone { IsUndone self.new }
         ensures quiet { OnSome result (IsQuiet self.new) }
@@ -162,6 +199,10 @@ fn paused<'r>(play: Play<'r>) -> (Halt, Client<'r>)
     ensures keep { result.0.keep ≤ play.entry.pacer.keep }
     ensures going { IsGoing result.1 }
     ensures quiet { IsQuiet result.1 }
+    ensures pause { (heard : ℕ) → play.entry.pacer.passed ≡ heard + 1 - play.entry.pacer.start →
+        IsPause (play_of play.entry) heard result.0.keep (seat_of result.1) }
+    ensures timed { (heard : ℕ) → play.entry.pacer.passed ≡ heard + 1 - play.entry.pacer.start →
+        IsTimed heard result.1 }
 {
     let Play {
         number,

@@ -1,8 +1,9 @@
 //! Scripts, run from their first line to the day's end.
 
-ghost use Rattle.std.specs.Prelude.{◌≡◌, ◌^◌, ◌≤◌, ◌<◌, length, IfOk, OnOk};
+ghost use Rattle.std.specs.Prelude.{◌≡◌, ◌^◌, ◌≤◌, ◌<◌, ◌++◌, [], drop, length, IfOk, OnOk};
 ghost use Rattle.admission.specs.Histories.{IsLegal};
-ghost use Rattle.day_run.specs.Runners.{IsKept, IsRunner};
+ghost use Rattle.day_run.specs.Days.{IsDay, IsLine, entry_lines, last_journal, last_lines, link_of, morning};
+ghost use Rattle.day_run.specs.Runners.{HasRun, IsKept, IsPrinted, IsRunner, link_on, moment_of, offer_lines, told_text};
 ghost use Rattle.day_run.specs.Scripts.{AreLines, StandsAfter, slot_after};
 ghost use Rattle.day_run.specs.Sources.{AreSources};
 
@@ -12,10 +13,12 @@ use crate::scripts::{Line, Script};
 use crate::sources::reels_of;
 use crate::texts::{push_fault, push_full, push_offer, push_slot, push_state};
 use admission::{Book, Entry};
-use report::{calendar_text, entry_line, law_kinds};
+use early_start::Offers;
+use report::{calendar_text, entry_line, law_kinds, law_state_text};
 use slot_calendar::Profile;
 use std::alloc::Global;
 use vod_base::NoMemory;
+use wire_curve::CurveFault;
 
 /// What a day leaves.
 #[derive(Drop)]
@@ -27,7 +30,10 @@ pub struct Day {
 }
 
 /// Prints the entries of a journal from a place on.
-fn print_entries(book: &Book, from: usize, text: &mut Vec<u8>) -> Result<(), NoMemory> {
+fn print_entries(book: &Book, from: usize, text: &mut Vec<u8>) -> Result<(), NoMemory>
+    ensures { OnOk result
+        (text.new.items ≡ text.old.items ++ entry_lines from (drop from book.now.entries)) }
+{
     let entries = book.entries();
     law_kinds(book.calendar().profile(), entries);
     for place in from..entries.len() {
@@ -37,12 +43,24 @@ fn print_entries(book: &Book, from: usize, text: &mut Vec<u8>) -> Result<(), NoM
 }
 
 /// Prints what a client was told.
-fn print_told(book: &Book, told: Told, text: &mut Vec<u8>) -> Result<(), NoMemory> {
+fn print_told(book: &Book, told: Told, text: &mut Vec<u8>) -> Result<(), NoMemory>
+    ensures { OnOk result (text.new.items ≡ text.old.items ++ told_text book.now.entries told) }
+{
     match told {
         Told::Entry(place) => print_entries(book, place as usize, text),
         Told::Full(full) => push_full(text, full),
         Told::State => push_state(text),
         Told::Fault(fault) => push_fault(text, fault),
+    }
+}
+
+/// Prints what is offered, or the fault of its curves.
+fn print_offer(offered: Result<Offers, CurveFault>, text: &mut Vec<u8>) -> Result<(), NoMemory>
+    ensures { OnOk result (text.new.items ≡ text.old.items ++ offer_lines offered) }
+{
+    match offered {
+        Ok(offers) => push_offer(text, &offers),
+        Err(fault) => push_fault(text, fault),
     }
 }
 
@@ -54,6 +72,8 @@ fn run_slot(runner: &mut Runner<'_>, slot: u64, text: &mut Vec<u8>) -> Result<()
     ensures runner { OnOk result (IsRunner runner.new) }
     ensures kept { OnOk result (IsKept runner.old runner.new) }
     ensures heard { OnOk result (runner.new.heard ≡ slot) }
+    ensures line { OnOk result (IsPrinted text.old.items text.new.items
+        (IsLine (link_on runner.old) (Line.Slot slot) (moment_of runner.old) (moment_of runner.new))) }
 {
     let from = runner.book.entries().len();
     let passed = runner.slot(slot);
@@ -73,40 +93,54 @@ fn run_line(
     ensures runner { OnOk result (IsRunner runner.new) }
     ensures kept { OnOk result (IsKept runner.old runner.new) }
     ensures heard { OnOk result (runner.new.heard ≡ slot_after runner.old.heard line) }
+    ensures line { OnOk result (IsPrinted text.old.items text.new.items
+        (IsLine (link_on runner.old) line (moment_of runner.old) (moment_of runner.new))) }
 {
-    let told = match line {
+    match line {
         Line::Play {
             client,
             source,
             buffer,
             delay,
-        } => runner.play(alloc, client, source, buffer, delay)?,
-        Line::Pause(client) => runner.pause(client),
-        Line::Resume(client) => runner.resume(alloc, client)?,
-        Line::Look(slot) => runner.look(slot),
-        Line::Slot(slot) => return run_slot(runner, slot, text),
+        } => {
+            let told = runner.play(alloc, client, source, buffer, delay)?;
+            print_told(&runner.book, told, text)
+        }
+        Line::Pause(client) => {
+            let told = runner.pause(client);
+            print_told(&runner.book, told, text)
+        }
+        Line::Resume(client) => {
+            let told = runner.resume(alloc, client)?;
+            print_told(&runner.book, told, text)
+        }
+        Line::Look(slot) => {
+            let told = runner.look(slot);
+            print_told(&runner.book, told, text)
+        }
+        Line::Slot(slot) => run_slot(runner, slot, text),
         Line::Offer {
             client: _,
             source,
             buffer,
             delay,
             wait,
-        } => match runner.offer(alloc, source, buffer, delay, wait)? {
-            Ok(offers) => return push_offer(text, &offers),
-            Err(fault) => Told::Fault(fault),
-        },
-    };
-    print_told(&runner.book, told, text)
+        } => print_offer(runner.offer(alloc, source, buffer, delay, wait)?, text),
+    }
 }
 
 /// Ends a day.
 fn run_end(runner: &mut Runner<'_>, text: &mut Vec<u8>) -> Result<(), NoMemory>
     requires { IsRunner runner.old }
-    ensures { OnOk result (IsKept runner.old runner.new) }
+    ensures kept { OnOk result (IsKept runner.old runner.new) }
+    ensures journal { OnOk result (runner.new.book.entries ≡ last_journal (moment_of runner.old)) }
+    ensures text { OnOk result
+        (text.new.items ≡ text.old.items ++ last_lines (moment_of runner.old)) }
 {
     let from = runner.book.entries().len();
     runner.end();
     print_entries(&runner.book, from, text)?;
+    law_state_text();
     calendar_text(runner.book.calendar(), text)
 }
 
@@ -120,8 +154,12 @@ fn run_lines(
     requires runner { IsRunner runner.old }
     requires begun { runner.old.heard ≡ 0 }
     requires lines { AreLines (length runner.old.reels.now) lines.now }
+    requires morning { moment_of runner.old ≡ morning }
+    requires empty { text.old.items ≡ [] }
     ensures runner { OnOk result (IsRunner runner.new) }
     ensures kept { OnOk result (IsKept runner.old runner.new) }
+    ensures run { OnOk result
+        (HasRun (link_on runner.old) lines.now text.new.items (moment_of runner.new)) }
 {
     for line in lines {
         run_line(alloc, runner, *line, text)?;
@@ -149,6 +187,9 @@ pub fn run_script(
     requires slot_units_fit { slot_units ≤ 360000 }
     requires sources { AreSources sources.now }
     requires lines { AreLines (length sources.now) script.now.lines.items }
+    ensures day { IfOk result (λ day.
+        IsDay (link_of profile limit slot_units sources.now) script.now.lines.items
+        day.text.items day.journal.items) }
     ensures legal { IfOk result (λ day. IsLegal profile day.journal.items) }
 {
     let reels = reels_of(alloc, sources)?;

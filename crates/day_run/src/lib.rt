@@ -6,6 +6,7 @@ mod counts;
 mod days;
 mod drains;
 mod fairs;
+mod laws;
 mod reading;
 mod reels;
 mod rolls;
@@ -18,6 +19,7 @@ mod texts;
 
 pub use days::{Day, run_script};
 pub use fairs::fair;
+pub use laws::{law_sent, law_texts};
 pub use reading::read_script;
 pub use reels::Source;
 pub use scripts::{Line, Named, Script, ScriptRefused};

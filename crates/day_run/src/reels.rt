@@ -1,9 +1,11 @@
 //! What the plays of a day send: films and traces, unit by unit, and as tracks.
 
-ghost use Rattle.std.specs.Prelude.{◌≡◌, ◌^◌, ◌≤◌, ◌<◌, length, sum, IfOk};
+ghost use Rattle.std.specs.Prelude.{ℕ, ◌≡◌, ◌^◌, ◌≤◌, ◌<◌, length, sum, IfOk};
 ghost use Rattle.film_frames.specs.Tracks.{framed};
 ghost use Rattle.film_run.specs.Units.{IsTrace};
 ghost use Rattle.day_run.specs.Reels.{reel_pieces, reel_sizes, sending_pieces};
+ghost use Rattle.day_run.specs.Tracks.{reel_track, reel_units};
+ghost use Rattle.day_run.specs.Seats.{trace_track};
 
 use crate::rolls::Rolled;
 use film_frames::{Frames, Part, Stored, TraceTrack, Track, law_piece_sizes};
@@ -51,7 +53,9 @@ impl<'s> Reel<'s> {
     /// A trace as it is played.
     pub(crate) fn trace(alloc: Global, sizes: &'s [u64]) -> Result<Reel<'s>, NoMemory>
         requires { IsTrace sizes.now }
-        ensures { IfOk result (λ reel. reel_sizes reel ≡ sizes.now) }
+        ensures sizes { IfOk result (λ reel. reel_sizes reel ≡ sizes.now) }
+        ensures track { IfOk result (λ reel. (slot_units : ℕ) →
+            reel_track slot_units reel ≡ trace_track slot_units sizes.now) }
     {
         let track = TraceTrack::new(Vec::from_slice(alloc, sizes)?)?;
         let sizes = Trace::new(sizes);
@@ -64,6 +68,7 @@ impl<'s> Reel<'s> {
         requires fits { slot_units ≤ 360000 }
         ensures some { 1 ≤ result }
         ensures fits { result ≤ 360000 }
+        ensures value { result ≡ reel_units slot_units self.now }
     {
         match self {
             Reel::Film(stored) => {

@@ -1,15 +1,28 @@
 //! A day as it runs: what clients ask and slots, one after the other, on one book.
 
-ghost use Rattle.std.specs.Prelude.{◌≡◌, ◌+◌, ◌*◌, ◌^◌, ◌≤◌, ◌<◌, ℕ, List, false, length, sum, slice_set, slice_index_or, IfSome, IfNone, IfOk, OnOk, OnSome, IfErr};
+ghost use Rattle.std.specs.Prelude.{◌≡◌, ◌+◌, ◌-◌, ◌*◌, ◌^◌, ◌≤◌, ◌<◌, ◌++◌, ℕ, List, false, length, map, min, sum, sum_by, slice_set, slice_index_or, IfSome, IfNone, IfOk, OnOk, OnSome, IfErr};
 ghost use Rattle.plan_cert.specs.Slots.{total_bytes};
 ghost use Rattle.film_run.specs.Plans.{IsPlayback};
 ghost use Rattle.pacer.specs.Pacings.{is_done};
 ghost use Rattle.admission.specs.declared.entries.Entry.{Entry};
-ghost use Rattle.admission.specs.Histories.{state_after};
+ghost use Rattle.admission.specs.declared.entries.Answer.TheVariants.{Admitted};
+ghost use Rattle.admission.specs.Histories.{is_admission, state_after};
 ghost use Rattle.day_run.specs.declared.clients.Client.{Client};
 ghost use Rattle.day_run.specs.declared.clients.Client.TheVariants.{Idle};
-ghost use Rattle.day_run.specs.Clients.{AreBooked, AreGoing, AreIdle, AreUndone, IsHaltOf, IsPlanFor, IsPlaying, IsRest};
-ghost use Rattle.day_run.specs.Runners.{IsAsked, IsKept, IsRunner};
+ghost use Rattle.day_run.specs.declared.clients.Client.TheVariants as clients;
+ghost use Rattle.day_run.specs.Clients.{AreBooked, AreGoing, AreIdle, AreSteps, AreTimed, AreUndone};
+ghost use Rattle.day_run.specs.Clients.{IsHaltOf, IsPlanFor, IsPlaying, IsRest, IsTimed};
+ghost use Rattle.day_run.specs.Clients.{halts_of, play_of, rest_of, seat_of};
+ghost use Rattle.day_run.specs.Days.{at_slot, booked_up_to, done_halt, halts, last_journal, morning, open_halt, rest_at, seat_at, sent_up_to};
+ghost use Rattle.day_run.specs.Days.{IsAsked as IsAskedFor, IsLookLine, IsOfferLine, IsPauseLine, IsPlanned, IsPlayLine, IsResumeLine};
+ghost use Rattle.day_run.specs.Runners.{IsAsked, IsKept, IsRunner, link_on, moment_of, offer_lines, told_text};
+ghost use Rattle.day_run.specs.Seats.{Track, after_play, whole_rest};
+ghost use Rattle.day_run.specs.Tracks.{reel_track};
+ghost use Rattle.day_run.specs.Reels.{reel_sizes};
+ghost use Rattle.wire_curve.specs.Refusal.{HasFault};
+ghost use Rattle.film_run.specs.Plans.{rest_sizes, timing_of};
+ghost use Rattle.admission.specs.Machine.{booked_in};
+ghost use Rattle.std.specs.List.{range_with_len};
 
 use crate::clients::{Client, Halt, Play, Rest};
 use crate::reels::Reel;
@@ -75,6 +88,8 @@ fn idle_clients<'r>(alloc: Global) -> Result<Vec<Client<'r>>, NoMemory>
 /// The source of that number.
 fn reel_at<'r>(reels: &'r [Reel<'r>], source: usize) -> &'r Reel<'r>
     requires { source < length reels.now }
+    ensures { (slot_units : ℕ) (none : Track) →
+        slice_index_or (map (reel_track slot_units) reels.now) source none ≡ reel_track slot_units result.now }
 {
     match reels.get(source) {
         Some(reel) => reel,
@@ -86,6 +101,9 @@ fn reel_at<'r>(reels: &'r [Reel<'r>], source: usize) -> &'r Reel<'r>
 fn whole_of<'r>(reel: &'r Reel<'r>, slot_units: u32, buffer: u64, delay: u64) -> Option<Rest<'r>>
     requires { IsAsked slot_units buffer delay }
     ensures rest { IfSome result IsRest }
+    ensures whole { IfSome result (λ rest.
+        rest_of rest ≡ whole_rest slot_units (reel_track slot_units reel.now) buffer delay) }
+    ensures none { IfNone result (length (reel_sizes reel.now) ≡ 0) }
 {
     let run = whole_run(reel)?;
     let playback = Playback {
@@ -104,12 +122,26 @@ fn whole_of<'r>(reel: &'r Reel<'r>, slot_units: u32, buffer: u64, delay: u64) ->
 /// The plan by which a rest is sent, or the fault of its curves.
 fn planned(alloc: Global, rest: &Rest<'_>) -> Result<Result<Plan, CurveFault>, NoMemory>
     requires { IsRest rest.now }
-    ensures { IfOk result (λ planned. IfOk planned (IsPlanFor rest.now)) }
+    ensures plan { IfOk result (λ planned. IfOk planned (IsPlanFor rest.now)) }
+    ensures fault { IfOk result (λ planned. IfErr planned (HasFault
+        (rest_sizes (reel_sizes rest.now.reel.now) rest.now.run)
+        (timing_of rest.now.playback rest.now.run))) }
 {
     match plan_of(alloc, rest.reel, &rest.playback, &rest.run) {
         Ok(plan) => Ok(Ok(plan)),
         Err(CurveRefused::Fault(fault)) => Ok(Err(fault)),
         Err(CurveRefused::NoMemory) => Err(NoMemory),
+    }
+}
+
+/// The first slot of a play that was admitted.
+fn start_of(answer: Answer) -> Option<u64>
+    ensures some { IfSome result (λ start. answer ≡ Admitted start) }
+    ensures none { IfNone result (is_admission answer ≡ false) }
+{
+    match answer {
+        Answer::Admitted { start } => Some(start),
+        Answer::Overflow { .. } | Answer::Halted | Answer::Looked { .. } => None,
     }
 }
 
@@ -122,6 +154,9 @@ fn begin_play<'r>(number: u64, rest: Rest<'r>, plan: Plan, paced: Plan, start: u
     ensures undone { is_done result.pacer ≡ false }
     ensures number { result.number ≡ number }
     ensures plan { result.plan ≡ plan }
+    ensures rest_is { result.rest ≡ rest.entry }
+    ensures start { result.pacer.start ≡ start }
+    ensures begun { result.pacer.passed ≡ 0 }
 {
     let pacer = Pacer::new(rest.reel.sending(), rest.run.sent, paced, start);
     let _sent = pacer.sent();
@@ -139,6 +174,8 @@ fn step_clients(clients: &mut [Client<'_>], slot: u64) -> u64
     requires going { AreGoing clients.old }
     ensures going { AreGoing clients.new }
     ensures booked { (entries : List Entry) → AreBooked entries clients.old → AreBooked entries clients.new }
+    ensures steps { (heard : ℕ) → heard ≤ slot → AreTimed heard clients.old →
+        AreSteps heard slot clients.old clients.new result }
 {
     let mut sent = 0;
     for client in 0..clients.len() {
@@ -160,6 +197,8 @@ fn end_play(book: &mut Book, clients: &mut [Client<'_>], client: usize, halt: Op
     ensures now { (state_after book.new.entries).now ≡ (state_after book.old.entries).now }
     ensures ended { OnSome halt (clients.new ≡ slice_set clients.old client Idle) }
     ensures left { IfNone halt (clients.new ≡ clients.old) }
+    ensures entries { book.new.entries ≡ book.old.entries ++ halts_of client halt }
+    ensures limit { book.new.limit ≡ book.old.limit }
 {
     if let Some(halt) = halt {
         clients[client] = Client::Idle;
@@ -177,6 +216,12 @@ fn end_done(book: &mut Book, clients: &mut [Client<'_>])
     ensures steps { book.new.steps ≡ book.old.steps }
     ensures now { (state_after book.new.entries).now ≡ (state_after book.old.entries).now }
     ensures undone { AreUndone (length clients.new) clients.new }
+    ensures limit { book.new.limit ≡ book.old.limit }
+    ensures timed { (slot : ℕ) → AreTimed slot clients.old → AreTimed slot clients.new }
+    ensures entries { (slot : ℕ) → AreTimed slot clients.old →
+        book.new.entries ≡ book.old.entries ++ halts (done_halt slot) 0 (map seat_of clients.old) }
+    ensures seats { (slot : ℕ) → AreTimed slot clients.old →
+        map seat_of clients.new ≡ map (after_play slot) (map seat_of clients.old) }
 {
     for client in 0..clients.len() {
         let halt = clients[client].done();
@@ -193,6 +238,9 @@ fn end_open(book: &mut Book, clients: &mut [Client<'_>])
     ensures booked { AreBooked book.new.entries clients.new }
     ensures steps { book.new.steps ≡ book.old.steps }
     ensures now { (state_after book.new.entries).now ≡ (state_after book.old.entries).now }
+    ensures limit { book.new.limit ≡ book.old.limit }
+    ensures entries { (heard : ℕ) → AreTimed heard clients.old →
+        book.new.entries ≡ book.old.entries ++ halts (open_halt heard) 0 (map seat_of clients.old) }
 {
     for client in 0..clients.len() {
         let halt = clients[client].open();
@@ -204,6 +252,8 @@ fn end_open(book: &mut Book, clients: &mut [Client<'_>])
 fn booked_between(book: &Book, from: u64, to: u64) -> (u64, u64)
     requires from_now { (state_after book.now.entries).now ≤ from }
     requires small { from ≤ 2 ^ 62 }
+    requires order { from ≤ to }
+    ensures { result.0 ≡ sum_by (booked_in (state_after book.now.entries)) (range_with_len (from + 1) (to - from)) }
 {
     let calendar = book.calendar();
     let end = to.min(calendar.now() + RING_SLOTS);
@@ -232,8 +282,15 @@ impl<'r> Runner<'r> {
         requires slot_units_fit { slot_units ≤ 360000 }
         ensures runner { IfOk result IsRunner }
         ensures steps { IfOk result (λ runner. runner.book.steps ≡ profile) }
+        ensures link { IfOk result (λ runner. link_on runner ≡ record {
+          steps = profile;
+          limit = limit;
+          slot_units = slot_units;
+          tracks = map (reel_track slot_units) reels.entry.now;
+        }) }
         ensures heard { IfOk result (λ runner. runner.heard ≡ 0) }
         ensures reels { IfOk result (λ runner. runner.reels.now ≡ reels.entry.now) }
+        ensures begun { IfOk result (λ runner. moment_of runner ≡ morning) }
     {
         let book = Book::new(alloc, profile, limit)?;
         let clients = idle_clients(alloc)?;
@@ -261,10 +318,13 @@ impl<'r> Runner<'r> {
         ensures runner { OnOk result (IsRunner self.new) }
         ensures kept { OnOk result (IsKept self.old self.new) }
         ensures heard { OnOk result (self.new.heard ≡ self.old.heard) }
+        ensures line { IfOk result (λ told.
+            IsPlayLine (link_on self.old) client (rest_at (link_on self.old) source buffer delay)
+            (seat_at (moment_of self.old) client) (moment_of self.old) (moment_of self.new)
+            (told_text self.new.book.entries told)) }
     {
-        match &self.clients[client as usize] {
-            Client::Playing(_) | Client::Pausing(_) => return Ok(Told::State),
-            Client::Idle | Client::Paused(_) => {}
+        if self.clients[client as usize].is_busy() {
+            return Ok(Told::State);
         }
         match whole_of(reel_at(self.reels, source), self.slot_units, buffer, delay) {
             Some(rest) => self.ask(alloc, client, rest),
@@ -278,13 +338,13 @@ impl<'r> Runner<'r> {
         ensures runner { OnOk result (IsRunner self.new) }
         ensures kept { OnOk result (IsKept self.old self.new) }
         ensures heard { OnOk result (self.new.heard ≡ self.old.heard) }
+        ensures line { IfOk result (λ told.
+            IsResumeLine (link_on self.old) client (seat_at (moment_of self.old) client)
+            (moment_of self.old) (moment_of self.new) (told_text self.new.book.entries told)) }
     {
-        match &self.clients[client as usize] {
-            Client::Paused(rest) => {
-                let rest = *rest;
-                self.ask(alloc, client, rest)
-            }
-            _ => Ok(Told::State),
+        match self.clients[client as usize].left() {
+            Some(rest) => self.ask(alloc, client, rest),
+            None => Ok(Told::State),
         }
     }
 
@@ -295,6 +355,9 @@ impl<'r> Runner<'r> {
         ensures runner { OnOk result (IsRunner self.new) }
         ensures kept { OnOk result (IsKept self.old self.new) }
         ensures heard { OnOk result (self.new.heard ≡ self.old.heard) }
+        ensures asked { IfOk result (λ told.
+            IsAskedFor (link_on self.old) client (rest_of rest.entry)
+            (moment_of self.old) (moment_of self.new) (told_text self.new.book.entries told)) }
     {
         match planned(alloc, &rest)? {
             Ok(plan) => {
@@ -316,12 +379,17 @@ impl<'r> Runner<'r> {
         ensures runner { IsRunner self.new }
         ensures kept { IsKept self.old self.new }
         ensures heard { self.new.heard ≡ self.old.heard }
+        ensures planned { IsPlanned (link_on self.old) client (rest_of rest.entry)
+            (moment_of self.old) (moment_of self.new) (told_text self.new.book.entries result) }
     {
         match self.book.play(u32::from(client), self.heard, plan) {
             Ok(noted) => {
-                if let Answer::Admitted { start } = noted.answer {
-                    let play = begin_play(noted.place, rest, kept, paced, start);
-                    self.clients[client as usize] = Client::Playing(play);
+                match start_of(noted.answer) {
+                    Some(start) => {
+                        let play = begin_play(noted.place, rest, kept, paced, start);
+                        self.clients[client as usize] = Client::Playing(play);
+                    }
+                    None => {}
                 }
                 Told::Entry(noted.place)
             }
@@ -335,6 +403,8 @@ impl<'r> Runner<'r> {
         ensures runner { IsRunner self.new }
         ensures kept { IsKept self.old self.new }
         ensures heard { self.new.heard ≡ self.old.heard }
+        ensures line { IsPauseLine (link_on self.old) client (seat_at (moment_of self.old) client)
+            (moment_of self.old) (moment_of self.new) (told_text self.new.book.entries result) }
     {
         match self.clients[client as usize].pause() {
             Some(halt) => {
@@ -351,6 +421,8 @@ impl<'r> Runner<'r> {
         ensures runner { IsRunner self.new }
         ensures kept { IsKept self.old self.new }
         ensures heard { self.new.heard ≡ self.old.heard }
+        ensures line { IsLookLine (link_on self.old) (min slot (2 ^ 62))
+            (moment_of self.old) (moment_of self.new) (told_text self.new.book.entries result) }
     {
         match self.book.look(0, slot) {
             Ok(noted) => Told::Entry(noted.place),
@@ -371,6 +443,9 @@ impl<'r> Runner<'r> {
         requires source { source < length self.now.reels.now }
         requires asked { IsAsked 1 buffer delay }
         requires wait { wait ≤ 255 }
+        ensures { IfOk result (λ offered.
+            IsOfferLine (link_on self.now) (rest_at (link_on self.now) source buffer delay) wait
+            (moment_of self.now) (moment_of self.now) (offer_lines offered)) }
     {
         let Some(rest) = whole_of(reel_at(self.reels, source), self.slot_units, buffer, delay)
         else {
@@ -379,6 +454,7 @@ impl<'r> Runner<'r> {
         match planned(alloc, &rest)? {
             Ok(plan) => {
                 let mut offers = Offers::new(alloc, wait)?;
+                let _legal = self.book.entries();
                 let calendar = self.book.calendar();
                 offers.find(calendar, &plan, calendar.now().max(self.heard) + 1);
                 Ok(Ok(offers))
@@ -395,6 +471,9 @@ impl<'r> Runner<'r> {
         ensures runner { IsRunner self.new }
         ensures kept { IsKept self.old self.new }
         ensures heard { self.new.heard ≡ slot }
+        ensures moment { moment_of self.new ≡ at_slot (moment_of self.old) slot }
+        ensures sent { result.sent ≡ sent_up_to (moment_of self.old) slot }
+        ensures booked { result.booked ≡ booked_up_to (moment_of self.old) slot }
     {
         let sent = step_clients(&mut self.clients, slot);
         let (booked, peak) = booked_between(&self.book, self.heard, slot);
@@ -406,7 +485,8 @@ impl<'r> Runner<'r> {
     /// The day ends: open plays are halted at what is due.
     pub(crate) fn end(&mut self)
         requires { IsRunner self.old }
-        ensures { IsKept self.old self.new }
+        ensures kept { IsKept self.old self.new }
+        ensures journal { self.new.book.entries ≡ last_journal (moment_of self.old) }
     {
         end_open(&mut self.book, &mut self.clients);
     }

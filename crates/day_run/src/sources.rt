@@ -1,7 +1,9 @@
 //! A script's films and traces, made ready to be played.
 
-ghost use Rattle.std.specs.Prelude.{◌≡◌, length, IfOk};
+ghost use Rattle.std.specs.Prelude.{ℕ, ◌≡◌, length, map, IfOk};
+ghost use Rattle.day_run.specs.Seats.{track_of};
 ghost use Rattle.day_run.specs.Sources.{AreSources, IsSource};
+ghost use Rattle.day_run.specs.Tracks.{reel_track};
 
 use crate::reels::{Reel, Source};
 use std::alloc::Global;
@@ -10,6 +12,8 @@ use vod_base::NoMemory;
 /// A source as it is played.
 fn reel_of<'s>(alloc: Global, source: &'s Source) -> Result<Reel<'s>, NoMemory>
     requires { IsSource source.now }
+    ensures { IfOk result (λ reel. (slot_units : ℕ) →
+        reel_track slot_units reel ≡ track_of slot_units source.entry.now) }
 {
     match source {
         Source::Film(stored) => Ok(Reel::Film(stored)),
@@ -20,7 +24,9 @@ fn reel_of<'s>(alloc: Global, source: &'s Source) -> Result<Reel<'s>, NoMemory>
 /// The sources as they are played.
 pub(crate) fn reels_of<'s>(alloc: Global, sources: &'s [Source]) -> Result<Vec<Reel<'s>>, NoMemory>
     requires { AreSources sources.now }
-    ensures { IfOk result (λ reels. length reels.items ≡ length sources.entry.now) }
+    ensures count { IfOk result (λ reels. length reels.items ≡ length sources.entry.now) }
+    ensures tracks { IfOk result (λ reels. (slot_units : ℕ) →
+        map (reel_track slot_units) reels.items ≡ map (track_of slot_units) sources.entry.now) }
 {
     let mut reels = Vec::with_capacity(alloc, sources.len())?;
     for source in sources {

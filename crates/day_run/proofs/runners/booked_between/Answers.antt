@@ -1,6 +1,12 @@
-use Rattle.std.proofs.Common.{◌≡◌, ◌≤◌, ◌+◌, ◌^◌, arith}
+use Rattle.std.proofs.Common.{◌≡◌, ◌≤◌, ◌+◌, ◌^◌, ◌-◌, ◌<◌, ◌∙◌, ap, sym, inl, inr, arith}
+use Rattle.std.specs.Prelude.{sum_by}
+use Rattle.std.specs.List.{range_with_len}
+use Rattle.std.proofs.lemmas.Bool.{cases_lt}
+use Rattle.slot_calendar.specs.Calendars.{booked_at}
+use Rattle.admission.specs.Histories.{state_after}
+use Rattle.admission.specs.Machine.{booked_in}
 use Rattle.slot_calendar.proofs.Capacities.{capacity-most}
-use Rattle.day_run.proofs.SlotSums.{booked-fits, booked-more}
+use Rattle.day_run.proofs.SlotSums.{booked-fits, booked-more, booked-next, sum-past}
 use Rattle.day_run.proofs.runners.booked_between.Goals as goal
 
 pub overflow_add-booked : goal.overflow_add-booked
@@ -9,11 +15,39 @@ overflow_add-booked c =
     let small : c.booked-here.result ≤ 2 ^ 42 = omega (arith, c.booked-here.ensures.within, capacity-most calendar.steps c.loop-slot.slot c.now.ensures.calendar.profile) in
     let fits =
     booked-fits c.loop-slot.booked c.booked-here.result c.loop-slot.slot c.args.from c.min-end.result calendar.first
-    (omega arith) c.loop-slot.invariant small (omega arith) (omega arith) (omega (arith, c.calendar-calendar.ensures.now, c.requires.from_now)) in
+    (omega arith) c.loop-slot.invariant.few small (omega arith) (omega arith) (omega (arith, c.calendar-calendar.ensures.now, c.requires.from_now)) in
     omega (arith, fits)
 
 pub loop-slot-preserved : goal.loop-slot-preserved
 loop-slot-preserved c =
     let calendar = c.calendar-calendar.result.now in
     let small : c.booked-here.result ≤ 2 ^ 42 = omega (arith, c.booked-here.ensures.within, capacity-most calendar.steps c.loop-slot.slot c.now.ensures.calendar.profile) in
-    booked-more c.loop-slot.booked c.booked-here.result c.loop-slot.slot c.args.from (omega arith) c.loop-slot.invariant small
+    let state = state_after c.args.book.now.entries in
+    let begun : c.args.from + 1 ≤ c.loop-slot.slot = omega arith in
+    let known : calendar.first ≤ c.loop-slot.slot = omega (arith, c.calendar-calendar.ensures.now, c.requires.from_now) in
+    record {
+      few = booked-more c.loop-slot.booked c.booked-here.result c.loop-slot.slot c.args.from begun c.loop-slot.invariant.few small;
+      late = omega arith;
+      sum =
+          booked-next (booked_in state) c.args.from c.loop-slot.slot c.loop-slot.booked c.booked-here.result begun c.loop-slot.invariant.sum
+          (c.booked-here.ensures.value ∙ c.calendar-calendar.ensures.stands.each c.loop-slot.slot known);
+    }
+
+pub returns : goal.returns
+returns c =
+    let calendar = c.calendar-calendar.result.now in
+    let f = booked_in (state_after c.args.book.now.entries) in
+    let slot = c.loop-slot.slot in
+    let from = c.args.from in
+    let to = c.args.to in
+    let known : calendar.first ≤ from = omega (arith, c.calendar-calendar.ensures.now, c.requires.from_now) in
+    let rest : sum_by f (range_with_len (from + 1) (slot - (from + 1))) ≡ sum_by f (range_with_len (from + 1) (to - from)) = elim (cases_lt (calendar.first + 1048576) to) [
+      | inl short ↦ sum-past f (from + 1) (slot - (from + 1)) (to - from) (omega (arith, short, c.loop-slot.invariant.late))
+          (λ t late.
+          let none : booked_at calendar t ≡ 0 = c.now.ensures.past t (omega (arith, late, short)) in
+          sym (c.calendar-calendar.ensures.stands.each t (omega (arith, late, known))) ∙ none)
+      | inr long ↦
+          let e : slot - (from + 1) ≡ to - from = omega (arith, long, c.loop-slot.invariant.late) in
+          ap (λ n. sum_by f (range_with_len (from + 1) n)) e
+    ] in
+    c.loop-slot.invariant.sum ∙ rest

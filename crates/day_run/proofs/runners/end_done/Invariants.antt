@@ -1,6 +1,9 @@
-use Rattle.std.proofs.Common.{◌≡◌}
+use Rattle.std.proofs.Common.{◌≡◌, ℕ}
 use Rattle.admission.specs.Histories.{state_after}
-use Rattle.day_run.specs.Clients.{AreBooked, AreGoing, AreUndone}
+use Rattle.day_run.specs.Clients.{AreBooked, AreGoing, AreTimed, AreUndone}
+use Rattle.day_run.specs.Days.{done_halt}
+use Rattle.day_run.specs.Seats.{after_play}
+use Rattle.day_run.proofs.Sweeps.{AreEndedTo}
 use Rattle.day_run.proofs.runners.end_done.Given as goal
 
 abbrev pub invariant-loop-client : goal.invariant-loop-client
@@ -10,4 +13,7 @@ invariant-loop-client l = record {
   steps : l.book.steps ≡ l.initial.book.steps;
   now : (state_after l.book.entries).now ≡ (state_after l.initial.book.entries).now;
   undone : AreUndone l.client l.clients;
+  limit : l.book.limit ≡ l.initial.book.limit;
+  ended : (slot : ℕ) → AreTimed slot l.initial.clients
+      → AreEndedTo (done_halt slot) (after_play slot) slot l.client l.initial.book.entries l.book.entries l.initial.clients l.clients;
 }

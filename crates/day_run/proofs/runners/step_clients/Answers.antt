@@ -3,6 +3,7 @@ use Rattle.admission.specs.declared.entries.Entry.{Entry}
 use Rattle.day_run.specs.declared.clients.Client.{Client}
 use Rattle.day_run.specs.Clients.{AreBooked, IsBooked}
 use Rattle.day_run.proofs.Bookings.{booked-same, going-set}
+use Rattle.day_run.proofs.Sweeps.{steps-all, steps-next, steps-none}
 use Rattle.day_run.proofs.runners.step_clients.Goals as goal
 
 pub loop-client-preserved : goal.loop-client-preserved
@@ -19,4 +20,12 @@ loop-client-preserved c =
           let own = (inv.booked entries begun).each i old inside in
           booked-same entries cs i new (c.step-sent.ensures.booked entries i own) (inv.booked entries begun);
       few = omega (arith, inv.few, c.step-sent.ensures.few);
+      steps = λ heard le timed.
+          steps-next i heard c.args.slot c.args.clients.now cs old new c.loop-client.sent c.step-sent.result inside
+          (λ t. c.step-sent.ensures.step heard le t) (inv.steps heard le timed);
     }
+
+pub returns-clause-steps : goal.returns-clause-steps
+returns-clause-steps c = λ heard le timed.
+    steps-all c.loop-client.client heard c.args.slot c.args.clients.now c.loop-client.clients c.loop-client.sent (omega arith)
+    (c.loop-client.invariant.steps heard le timed)

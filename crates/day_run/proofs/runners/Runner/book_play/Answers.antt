@@ -1,4 +1,4 @@
-use Rattle.std.proofs.Common.{◌≡◌, ◌<◌, ◌≤◌, ◌^◌, ◌++◌, ◌∷◌, [], ℕ, List, min, length, ap, refl, sym, subst, ◌∙◌, arith}
+use Rattle.std.proofs.Common.{◌≡◌, ◌<◌, ◌≤◌, ◌^◌, ◌++◌, ◌∷◌, [], ℕ, List, min, length, map, set, ap, refl, sym, subst, inl, inr, ◌∙◌, arith}
 use Rattle.plan_cert.specs.declared.Segment.{Segment}
 use Rattle.plan_cert.specs.Slots.{total_bytes}
 use Rattle.admission.specs.declared.entries.Command.TheVariants.{Play}
@@ -6,39 +6,104 @@ use Rattle.admission.specs.declared.entries.Entry.{Entry}
 use Rattle.admission.specs.Books.{Journal}
 use Rattle.admission.specs.Histories.{state_after}
 use Rattle.admission.specs.Machine.{CanHalt}
+use Rattle.day_run.specs.declared.clients.Client.TheVariants.{Playing}
+use Rattle.day_run.specs.Clients.{rest_of, seat_of}
+use Rattle.day_run.specs.Days.{Moment}
+use Rattle.day_run.specs.Runners.{link_on, moment_of}
 use Rattle.day_run.proofs.DaySteps.{day-noted, day-played, played-now}
+use Rattle.day_run.proofs.LineSteps.{begun-timed, noted-play, seats-played, seats-same, told-full}
 use Rattle.day_run.proofs.runners.Runner.book_play.Goals as goal
 
-pub returns-in-Admitted-clause-runner : goal.returns-in-Admitted-clause-runner
-returns-in-Admitted-clause-runner c =
+pub returns-in-Some-clause-runner : goal.returns-in-Some-clause-runner
+returns-in-Some-clause-runner c =
     let old = c.args.self.now in
     let day = c.requires.runner in
     let noted = c.in-Ok.ensures.noted in
     let play = c.begin_play-play.result in
     let slot = min old.heard (2 ^ 62) in
+    let late : slot ≡ old.heard = omega (arith, day.heard_fits) in
     let e : Entry = record { maker = c.from.result; command = Play slot c.args.plan; answer = c.in-Ok.noted.answer } in
     let y : c.play.new.self.entries ≡ old.book.entries ++ e ∷ [] = ap (λ (j : Journal). j.entries) noted.journal_is in
     let whole : total_bytes play.plan ≡ total_bytes c.args.plan = ap total_bytes (c.begin_play-play.ensures.plan ∙ c.requires.kept) in
     let can0 : CanHalt (state_after c.play.new.self.entries) c.in-Ok.noted.place (total_bytes play.plan) =
-    c.in-Ok.ensures.open c.in-Admitted.start (total_bytes play.plan) c.in-Admitted.is (omega (arith, whole)) in
+    c.in-Ok.ensures.open c.in-Some.start (total_bytes play.plan) c.in-Some.ensures.some (omega (arith, whole)) in
     let N : ℕ → Type 0 = λ n. CanHalt (state_after c.play.new.self.entries) n (total_bytes play.plan) in
     let Y : List Entry → Type 0 = λ l. CanHalt (state_after l) play.number (total_bytes play.plan) in
     let can = subst Y y (subst N (sym c.begin_play-play.ensures.number) can0) in
     let inside : c.args.client < length old.clients.items = omega (arith, day.count, c.ranges.client.fits) in
+    let timed =
+    begun-timed old.book.steps (state_after old.book.entries) play slot c.in-Some.start old.heard c.args.plan c.in-Ok.noted.answer c.in-Some.ensures.some
+    noted.answer_is late c.begin_play-play.ensures.start c.begin_play-play.ensures.begun in
     day-played old.slot_units old.heard old.book.entries c.play.new.self.entries old.clients.items _ c.args.client slot c.args.plan play e day y refl refl
-    (omega arith) c.from.ensures (c.begin_play-play.ensures.number ∙ noted.place_is) can inside c.begin_play-play.ensures.playing c.begin_play-play.ensures.undone
+    (omega arith) c.from.ensures (c.begin_play-play.ensures.number ∙ noted.place_is) can inside c.begin_play-play.ensures.playing c.begin_play-play.ensures.undone timed
 
-pub returns-in_default : goal.returns-in_default
-returns-in_default c =
+pub returns-in-Some-clause-planned : goal.returns-in-Some-clause-planned
+returns-in-Some-clause-planned c =
     let old = c.args.self.now in
     let day = c.requires.runner in
-    let noted = c.in-Ok.ensures.noted in
+    let made = c.in-Ok.ensures.noted in
+    let play = c.begin_play-play.result in
     let slot = min old.heard (2 ^ 62) in
+    let late : slot ≡ old.heard = omega (arith, day.heard_fits) in
+    let new : Moment = record {
+      entries = c.play.new.self.entries;
+      seats = map seat_of (set old.clients.items c.args.client (Playing play));
+      heard = old.heard;
+    } in
+    let seats =
+    seats-played old.clients.items c.args.client play (length old.book.entries) c.args.rest c.args.plan c.in-Some.start c.in-Ok.noted.answer c.in-Some.ensures.some
+    (c.begin_play-play.ensures.number ∙ made.place_is) c.begin_play-play.ensures.rest_is (c.begin_play-play.ensures.plan ∙ c.requires.kept)
+    c.begin_play-play.ensures.start in
+    record {
+      plan = c.args.plan;
+      plan_is = c.requires.plan.plan_is;
+      done = inr (record {
+        room = c.in-Ok.ensures.room;
+        answer = c.in-Ok.noted.answer;
+        noted =
+            noted-play (link_on old) (moment_of old) new c.in-Ok.noted.place c.args.client slot c.from.result c.args.plan c.in-Ok.noted.answer _ late c.from.ensures
+            made.answer_is made.place_is (ap (λ (j : Journal). j.entries) made.journal_is) seats refl;
+      });
+    }
+
+pub returns-in-None : goal.returns-in-None
+returns-in-None c =
+    let old = c.args.self.now in
+    let day = c.requires.runner in
+    let made = c.in-Ok.ensures.noted in
+    let slot = min old.heard (2 ^ 62) in
+    let late : slot ≡ old.heard = omega (arith, day.heard_fits) in
     let e : Entry = record { maker = c.from.result; command = Play slot c.args.plan; answer = c.in-Ok.noted.answer } in
-    let y : c.play.new.self.entries ≡ old.book.entries ++ e ∷ [] = ap (λ (j : Journal). j.entries) noted.journal_is in
+    let y : c.play.new.self.entries ≡ old.book.entries ++ e ∷ [] = ap (λ (j : Journal). j.entries) made.journal_is in
     let now = played-now old.book.entries e slot c.args.plan refl in
     record {
       runner = day-noted old.slot_units old.heard old.book.entries c.play.new.self.entries old.clients.items e day y (λ number halts. halts) (omega (arith, now, day.now_heard));
-      kept = record { steps = ap (λ (j : Journal). j.steps) noted.journal_is; reels = refl };
+      kept = record {
+        link = ap (λ (j : Journal). link_on (record old { book = j })) made.journal_is;
+        steps = ap (λ (j : Journal). j.steps) made.journal_is;
+        reels = refl;
+      };
       heard = refl;
+      planned = record {
+        plan = c.args.plan;
+        plan_is = c.requires.plan.plan_is;
+        done = inr (record {
+          room = c.in-Ok.ensures.room;
+          answer = c.in-Ok.noted.answer;
+          noted =
+              noted-play (link_on old) (moment_of old) (moment_of (record old { book = c.play.new.self })) c.in-Ok.noted.place c.args.client slot c.from.result c.args.plan
+              c.in-Ok.noted.answer _ late c.from.ensures made.answer_is made.place_is y
+              (seats-same c.args.client (rest_of c.args.rest) c.args.plan (length old.book.entries) c.in-Ok.noted.answer (moment_of old).seats c.in-None.ensures.none) refl;
+        });
+      };
+    }
+
+pub returns-in-Err-clause-planned : goal.returns-in-Err-clause-planned
+returns-in-Err-clause-planned c =
+    let old = c.args.self.now in
+    record {
+      plan = c.args.plan;
+      plan_is = c.requires.plan.plan_is;
+      done = inl (told-full (link_on old) 2 (moment_of old) (moment_of (record old { book = c.play.new.self })) c.in-Err.refused.full c.in-Err.ensures.full
+          c.in-Err.ensures.counts.entries_are c.in-Err.ensures.counts.live_is (ap (λ j. moment_of (record old { book = j })) c.in-Err.ensures.left));
     }

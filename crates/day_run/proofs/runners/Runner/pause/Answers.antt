@@ -1,10 +1,17 @@
-use Rattle.std.proofs.Common.{◌≡◌, ◌<◌, length, ap, refl, sym, subst, arith}
+use Rattle.std.proofs.Common.{◌≡◌, ◌<◌, ◌∙◌, get_or, length, map, set, ap, refl, sym, subst, arith}
+use Rattle.std.proofs.lemmas.List.{set-get_or}
 use Rattle.admission.specs.declared.entries.Command.TheVariants.{Halt}
 use Rattle.admission.specs.declared.entries.Entry.{Entry}
 use Rattle.admission.specs.Books.{Journal}
 use Rattle.day_run.specs.declared.clients.Client.{Client}
-use Rattle.day_run.specs.Clients.{IsBooked, IsGoing}
+use Rattle.day_run.specs.Clients.{IsBooked, IsGoing, IsTimed, seat_of}
 use Rattle.day_run.proofs.DaySteps.{day-halted, open-halt}
+use Rattle.day_run.specs.Days.{IsPauseLine, Moment}
+use Rattle.day_run.specs.Runners.{link_on, moment_of, told_text}
+use Rattle.day_run.specs.Seats.{Seat, Idle}
+use Rattle.day_run.specs.declared.runners.Told.TheVariants as tolds
+use Rattle.day_run.proofs.LineSteps.{no-pause, noted-halt, pause-line}
+use Rattle.day_run.proofs.Sweeps.{seat-at, seats-set}
 use Rattle.day_run.proofs.runners.Runner.pause.Goals as goal
 
 pub returns-in-Some-clause-runner : goal.returns-in-Some-clause-runner
@@ -18,8 +25,47 @@ returns-in-Some-clause-runner c =
     let G : Client → Type 0 = λ x. IsGoing x in
     let booked = subst B (sym c.index_mut.ensures.value) (day.booked.each c.args.client client inside) in
     let going = subst G (sym c.index_mut.ensures.value) (day.going.each c.args.client client inside) in
+    let T : Client → Type 0 = λ x. IsTimed old.heard x in
+    let timed = subst T (sym c.index_mut.ensures.value) (day.timed.each c.args.client client inside) in
     let its = open-halt old.book.entries c.args.client client halt going booked c.in-Some.ensures.some in
     let e : Entry = record { maker = c.from.result; command = Halt halt.number halt.keep; answer = c.halt-noted.result.answer } in
     day-halted old.slot_units old.heard old.book.entries c.halt-noted.new.self.entries old.clients.items _ c.args.client halt.number halt.keep halt.keep
     c.pause.new.self e day (ap (λ (j : Journal). j.entries) c.halt-noted.ensures.noted.journal_is) refl refl its inside c.pause.ensures.going c.pause.ensures.undone
-    c.in-Some.ensures.quiet
+    c.in-Some.ensures.quiet (c.pause.ensures.timed old.heard timed)
+
+pub returns-in-Some-clause-line : goal.returns-in-Some-clause-line
+returns-in-Some-clause-line c =
+    let old = c.args.self.now in
+    let day = c.requires.runner in
+    let halt = c.in-Some.halt in
+    let client = c.index_mut.result.now in
+    let next = c.pause.new.self in
+    let new : Moment = record { entries = c.halt-noted.new.self.entries; seats = map seat_of (set old.clients.items c.args.client next); heard = old.heard } in
+    let inside : c.args.client < length old.clients.items = omega (arith, day.count, c.ranges.client.fits) in
+    let T : Client → Type 0 = λ x. IsTimed old.heard x in
+    let timed = subst T (sym c.index_mut.ensures.value) (day.timed.each c.args.client client inside) in
+    let made = c.halt-noted.ensures.noted in
+    let e : Entry = record { maker = c.from.result; command = Halt halt.number halt.keep; answer = c.halt-noted.result.answer } in
+    let text = told_text c.halt-noted.new.self.entries (tolds.Entry c.halt-noted.result.place) in
+    let at : seat_of client ≡ get_or (map seat_of old.clients.items) c.args.client Idle =
+    ap seat_of c.index_mut.ensures.value ∙ sym (seat-at old.clients.items c.args.client client inside) in
+    let P : Seat → Type 0 = λ s. IsPauseLine (link_on old) c.args.client s (moment_of old) new text in
+    subst P at (pause-line (link_on old) c.args.client client next halt (moment_of old) new text (c.in-Some.ensures.pause old.heard timed)
+    (noted-halt (link_on old) (moment_of old) new c.halt-noted.result.place c.args.client halt.number halt.keep e made.answer_is
+    made.place_is (ap (λ (j : Journal). j.entries) made.journal_is) (seats-set old.clients.items c.args.client next) refl c.from.ensures c.halt-noted.ensures.answer refl))
+
+pub returns-in-None-clause-line : goal.returns-in-None-clause-line
+returns-in-None-clause-line c =
+    let old = c.args.self.now in
+    let day = c.requires.runner in
+    let client = c.index_mut.result.now in
+    let next = c.pause.new.self in
+    let new : Moment = record { entries = old.book.entries; seats = map seat_of (set old.clients.items c.args.client next); heard = old.heard } in
+    let inside : c.args.client < length old.clients.items = omega (arith, day.count, c.ranges.client.fits) in
+    let at : seat_of client ≡ get_or (map seat_of old.clients.items) c.args.client Idle =
+    ap seat_of c.index_mut.ensures.value ∙ sym (seat-at old.clients.items c.args.client client inside) in
+    let same : set old.clients.items c.args.client next ≡ old.clients.items =
+    ap (set old.clients.items c.args.client) (c.in-None.ensures.none ∙ c.index_mut.ensures.value) ∙ set-get_or old.clients.items c.args.client client in
+    let P : Seat → Type 0 = λ s. IsPauseLine (link_on old) c.args.client s (moment_of old) new (told_text old.book.entries tolds.State) in
+    subst P at (no-pause (link_on old) c.args.client client (moment_of old) new (told_text old.book.entries tolds.State) c.in-None.ensures.idle
+    (record { kept = ap (λ l. record (moment_of old) { seats = map seat_of l }) same; text_is = refl }))

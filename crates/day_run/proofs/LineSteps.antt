@@ -1,0 +1,191 @@
+-- What the lines of a script make of a day.
+use Rattle.std.proofs.Common.{◌≡◌, ◌<◌, ◌≤◌, ◌+◌, ◌-◌, ◌^◌, ℕ, min, max, true, false, List, [], ◌∷◌, ◌++◌, length, map, take, drop, set, get_or, replicate, Result, Ok, Err, IfOk, arith, refl, sym, ap, subst, ◌∙◌, inl, inr}
+use Rattle.std.specs.Prelude.{OnOk}
+use Rattle.std.proofs.lemmas.List.{append-nil, append_assoc, drop_at, ext_get_or, get_or-replicate, length-drop, length-map, length-take}
+use Rattle.plan_cert.specs.declared.Segment.{Segment}
+use Rattle.film_run.specs.Runs.{sizes_between}
+use Rattle.admission.specs.declared.entries.Answer.{Answer}
+use Rattle.admission.specs.declared.entries.Answer.TheVariants.{Admitted, Overflow, Halted, Looked}
+use Rattle.admission.specs.declared.entries.Command.TheVariants as commands
+use Rattle.admission.specs.declared.entries.Entry.{Entry}
+use Rattle.admission.specs.declared.entries.Full.{Full}
+use Rattle.admission.specs.Books.{places_taken}
+use Rattle.admission.specs.Histories.{IsAnswered, is_admission, live, state_after}
+use Rattle.report.specs.EntryLines.{entry_line}
+use Rattle.day_run.specs.declared.clients.Client.{Client}
+use Rattle.day_run.specs.declared.clients.Client.TheVariants as clients
+use Rattle.day_run.specs.declared.clients.Halt.{Halt}
+use Rattle.day_run.specs.declared.clients.Play.{Play as ClientPlay}
+use Rattle.day_run.specs.declared.clients.Rest.{Rest as ClientRest}
+use Rattle.slot_calendar.specs.declared.profiles.CapStep.{CapStep}
+use Rattle.admission.specs.Machine.{IsAnswer, State}
+use Rattle.day_run.specs.declared.runners.Told.{Told}
+use Rattle.day_run.specs.declared.runners.Told.TheVariants as tolds
+use Rattle.vod_base.specs.declared.outside.NoMemory.{NoMemory}
+use Rattle.day_run.specs.Clients.{AreIdle, IsPauseOf, IsQuiet, IsTimed, play_of, rest_of, seat_of}
+use Rattle.day_run.specs.Days.{IsAsked, IsFull, IsHaltedPlay, IsNoted, IsPauseLine, IsPlayLine, IsResumeLine, IsTold, Link, Moment, done_halt, entry_by, entry_lines, full_of, halts, with_play}
+use Rattle.day_run.specs.Prints.{full_text, state_text}
+use Rattle.day_run.specs.Runners.{IsPrinted, told_text}
+use Rattle.day_run.specs.Seats.{Idle, Playing, Pausing, Paused, IsPause, Rest, Seat, after_sending, is_busy}
+use Rattle.day_run.proofs.Sweeps.{seat-at, seats-set}
+use Rattle.day_run.proofs.Timings.{done-sent}
+
+-- the entries after those of a moment
+pub more-entries : (xs ys es : List Entry) → ys ≡ xs ++ es → drop (length xs) ys ≡ es
+more-entries xs ys es y = ap (drop (length xs)) y ∙ drop_at xs es (length xs) refl
+
+pub told-entry : (place : ℕ) (xs ys : List Entry) (e : Entry) → place ≡ length xs → ys ≡ xs ++ e ∷ [] → told_text ys (tolds.Entry place) ≡ entry_line (length xs) e
+told-entry place xs ys e at y =
+    ap (λ n. entry_lines n (drop n ys)) at ∙ ap (entry_lines (length xs)) (more-entries xs ys (e ∷ []) y) ∙ append-nil (entry_line (length xs) e)
+
+pub told-full : (link : Link) (places : ℕ) (old new : Moment) (full : Full) → link.limit < places_taken old.entries + places
+    → full.entries ≡ length old.entries → full.live ≡ live old.entries → new ≡ old → IsFull link places old new (full_text full)
+told-full link places old new full above entries opened kept = record {
+  full = above;
+  told = record {
+    kept = kept;
+    text_is =
+        ap (λ n. full_text (record { entries = n; live = full.live })) entries ∙ ap (λ n. full_text (record { entries = length old.entries; live = n })) opened;
+  };
+}
+
+-- an entry was made
+pub noted : (link : Link) (old new : Moment) (place : ℕ) (e : Entry) (seats : List Seat) → IsAnswered link.steps (state_after old.entries) e
+    → place ≡ length old.entries → new.entries ≡ old.entries ++ e ∷ [] → new.seats ≡ seats → new.heard ≡ old.heard
+    → IsNoted link e seats old new (told_text new.entries (tolds.Entry place))
+noted link old new place e seats answered at y s h = record {
+  answered = answered;
+  new_is =
+      ap (λ es. record { entries = es; seats = new.seats; heard = new.heard }) y
+      ∙ ap (λ l. record { entries = old.entries ++ e ∷ []; seats = l; heard = new.heard }) s
+      ∙ ap (λ n. record { entries = old.entries ++ e ∷ []; seats = seats; heard = n }) h;
+  text_is = told-entry place old.entries new.entries e at y;
+}
+
+-- the entry of a halt was made
+pub noted-halt : (link : Link) (old new : Moment) (place c number keep : ℕ) (e : Entry) {seats : List Seat} → IsAnswered link.steps (state_after old.entries) e
+    → place ≡ length old.entries → new.entries ≡ old.entries ++ e ∷ [] → new.seats ≡ seats → new.heard ≡ old.heard
+    → e.maker ≡ c → e.answer ≡ Halted → e.command ≡ commands.Halt number keep
+    → IsNoted link (entry_by c (commands.Halt number keep) Halted) seats old new (told_text new.entries (tolds.Entry place))
+noted-halt link old new place c number keep e {seats} answered at y s h maker answer command =
+    let same : e ≡ entry_by c (commands.Halt number keep) Halted =
+    ap (λ n. record { maker = n; command = e.command; answer = e.answer }) maker ∙ ap (λ x. record { maker = c; command = x; answer = e.answer }) command
+    ∙ ap (λ a. entry_by c (commands.Halt number keep) a) answer in
+    let N : Entry → Type 0 = λ x. IsNoted link x seats old new (told_text new.entries (tolds.Entry place)) in
+    subst N same (noted link old new place e seats answered at y s h)
+
+-- the entry of a play was made
+pub noted-play : (link : Link) (old new : Moment) (place c slot maker : ℕ) (plan : List Segment) (answer : Answer) (seats : List Seat) → slot ≡ old.heard → maker ≡ c
+    → IsAnswered link.steps (state_after old.entries) (entry_by maker (commands.Play slot plan) answer) → place ≡ length old.entries
+    → new.entries ≡ old.entries ++ entry_by maker (commands.Play slot plan) answer ∷ [] → new.seats ≡ seats → new.heard ≡ old.heard
+    → IsNoted link (entry_by c (commands.Play old.heard plan) answer) seats old new (told_text new.entries (tolds.Entry place))
+noted-play link old new place c slot maker plan answer seats late own answered at y s h =
+    let N : Entry → Type 0 = λ x. IsNoted link x seats old new (told_text new.entries (tolds.Entry place)) in
+    let same : entry_by maker (commands.Play slot plan) answer ≡ entry_by c (commands.Play old.heard plan) answer =
+    ap (λ n. entry_by n (commands.Play slot plan) answer) own ∙ ap (λ n. entry_by c (commands.Play n plan) answer) late in
+    subst N same (noted link old new place (entry_by maker (commands.Play slot plan) answer) seats answered at y s h)
+
+-- a play in the words of a day
+pub play-is : (play : ClientPlay) (number : ℕ) (rest : ClientRest) (plan : List Segment) (start : ℕ) → play.number ≡ number → play.rest ≡ rest
+    → play.plan ≡ plan → play.pacer.start ≡ start → play_of play ≡ record { number = number; rest = rest_of rest; plan = plan; start = start }
+play-is play number rest plan start n r p s =
+    ap (λ x. record { number = x; rest = rest_of play.rest; plan = play.plan; start = play.pacer.start }) n
+    ∙ ap (λ x. record { number = number; rest = rest_of x; plan = play.plan; start = play.pacer.start }) r
+    ∙ ap (λ x. record { number = number; rest = rest_of rest; plan = x; start = play.pacer.start }) p
+    ∙ ap (λ x. record { number = number; rest = rest_of rest; plan = plan; start = x }) s
+
+-- the clients after a play's answer
+pub seats-played : (cs : List Client) (c : ℕ) (play : ClientPlay) (number : ℕ) (rest : ClientRest) (plan : List Segment) (start : ℕ) (answer : Answer)
+    → answer ≡ Admitted start → play.number ≡ number → play.rest ≡ rest → play.plan ≡ plan → play.pacer.start ≡ start
+    → map seat_of (set cs c (clients.Playing play)) ≡ with_play c (rest_of rest) plan number answer (map seat_of cs)
+seats-played cs c play number rest plan start answer is n r p s =
+    seats-set cs c (clients.Playing play) ∙ ap (λ x. set (map seat_of cs) c (Playing x)) (play-is play number rest plan start n r p s)
+    ∙ ap (λ a. with_play c (rest_of rest) plan number a (map seat_of cs)) (sym is)
+
+pub seats-same : (c : ℕ) (rest : Rest) (plan : List Segment) (number : ℕ) (answer : Answer) (seats : List Seat) → is_admission answer ≡ false
+    → seats ≡ with_play c rest plan number answer seats
+seats-same c rest plan number (Admitted start) seats not = cc not
+seats-same c rest plan number (Overflow over booked asked) seats not = refl
+seats-same c rest plan number Halted seats not = refl
+seats-same c rest plan number (Looked now at booked) seats not = refl
+
+-- a play that was admitted hasn't come to its first slot
+pub begun-timed : (steps : List CapStep) (state : State) (play : ClientPlay) (slot start heard : ℕ) (plan : List Segment) (answer : Answer) → answer ≡ Admitted start
+    → IsAnswer steps state (commands.Play slot plan) answer → slot ≡ heard → play.pacer.start ≡ start → play.pacer.passed ≡ 0
+    → IsTimed heard (clients.Playing play)
+begun-timed steps state play slot start heard plan answer is answered late at begun =
+    let A : Answer → Type 0 = λ a. IsAnswer steps state (commands.Play slot plan) a in
+    let its = subst A is answered in
+    omega (arith, its.0, late, at, begun)
+
+-- a client pauses
+pub pause-line : (link : Link) (c : ℕ) (client next : Client) (halt : Halt) (old new : Moment) (text : List ℕ) → IsPauseOf old.heard halt client next
+    → IsNoted link (entry_by c (commands.Halt halt.number halt.keep) Halted) (set old.seats c (seat_of next)) old new text
+    → IsPauseLine link c (seat_of client) old new text
+pause-line link c clients.Idle next halt old new text is n = absurd is
+pause-line link c (clients.Playing play) next halt old new text is n =
+    let N : ℕ → Type 0 = λ k. IsNoted link (entry_by c (commands.Halt k halt.keep) Halted) (set old.seats c (seat_of next)) old new text in
+    record { keep = halt.keep; seat = seat_of next; pause = is.1; noted = subst N is.0 n }
+pause-line link c (clients.Pausing stop) next halt old new text is n = absurd is
+pause-line link c (clients.Paused rest) next halt old new text is n = absurd is
+
+pub no-pause : (link : Link) (c : ℕ) (client : Client) (old new : Moment) (text : List ℕ) → IsQuiet client → IsTold state_text old new text
+    → IsPauseLine link c (seat_of client) old new text
+no-pause link c clients.Idle old new text quiet told = told
+no-pause link c (clients.Playing play) old new text quiet told = absurd quiet
+no-pause link c (clients.Pausing stop) old new text quiet told = told
+no-pause link c (clients.Paused rest) old new text quiet told = told
+
+-- a client asks for a play, or can't
+pub play-line : (link : Link) (c : ℕ) (rest : Rest) (seat : Seat) (old new : Moment) (text : List ℕ) → is_busy seat ≡ false
+    → IsAsked link c rest old new text → IsPlayLine link c rest seat old new text
+play-line link c rest Idle old new text free asked = asked
+play-line link c rest (Playing play) old new text free asked = cc free
+play-line link c rest (Pausing stop left) old new text free asked = cc free
+play-line link c rest (Paused left) old new text free asked = asked
+
+pub no-play : (link : Link) (c : ℕ) (rest : Rest) (seat : Seat) (old new : Moment) (text : List ℕ) → is_busy seat ≡ true
+    → IsTold state_text old new text → IsPlayLine link c rest seat old new text
+no-play link c rest Idle old new text busy told = cc busy
+no-play link c rest (Playing play) old new text busy told = told
+no-play link c rest (Pausing stop left) old new text busy told = told
+no-play link c rest (Paused left) old new text busy told = cc busy
+
+pub play-asked : (link : Link) (c : ℕ) (one rest : Rest) (own seat : Seat) (old new : Moment) (text : List ℕ) → one ≡ rest → own ≡ seat → is_busy own ≡ false
+    → IsAsked link c one old new text → IsPlayLine link c rest seat old new text
+play-asked link c one rest own seat old new text r s free asked =
+    let R : Rest → Type 0 = λ x. IsPlayLine link c x seat old new text in
+    let S : Seat → Type 0 = λ x. IsPlayLine link c one x old new text in
+    subst R r (subst S s (play-line link c one own old new text free asked))
+
+pub play-ok : (r : Result Told NoMemory) (link : Link) (c : ℕ) (one rest : Rest) (own seat : Seat) (old new : Moment) (entries : List Entry) → one ≡ rest → own ≡ seat
+    → is_busy own ≡ false → IfOk r (λ told. IsAsked link c one old new (told_text entries told))
+    → IfOk r (λ told. IsPlayLine link c rest seat old new (told_text entries told))
+play-ok (Ok told) link c one rest own seat old new entries r s free asked =
+    play-asked link c one rest own seat old new (told_text entries told) r s free asked
+play-ok (Err e) link c one rest own seat old new entries r s free asked = tt
+
+-- a line's text was printed
+pub printed : (r : Result (Unit {0}) NoMemory) (before after text : List ℕ) (Is : List ℕ → Type 0) → Is text → OnOk r (after ≡ before ++ text)
+    → OnOk r (IsPrinted before after Is)
+printed (Ok u) before after text Is is e = record { text = text; after_is = e; is = is }
+printed (Err f) before after text Is is e = tt
+
+-- all of a source that has no picture
+pub none-left : (sizes : List ℕ) → length sizes ≡ 0 → length (sizes_between sizes 0 (length sizes)) ≡ 0
+none-left sizes none = omega (arith, none, length-take (length sizes - 0) (drop 0 sizes), length-drop 0 sizes)
+
+-- the halts after a sending
+pub halts-sent : (slot k : ℕ) (seats : List Seat) → halts (done_halt slot) k (map (after_sending slot) seats) ≡ halts (done_halt slot) k seats
+halts-sent slot k [] = refl
+halts-sent slot k (seat ∷ seats) =
+    ap (λ es. es ++ halts (done_halt slot) (k + 1) (map (after_sending slot) seats)) (done-sent slot k seat)
+    ∙ ap (λ es. done_halt slot k seat ++ es) (halts-sent slot (k + 1) seats)
+
+-- clients that play nothing
+pub idle-seats : (cs : List Client) → length cs ≡ 256 → AreIdle cs → map seat_of cs ≡ replicate 256 Idle
+idle-seats cs count idle =
+    ext_get_or Idle (map seat_of cs) (replicate 256 Idle) (length-map cs seat_of ∙ count)
+    (λ c inside.
+    let within : c < length cs = omega (arith, inside, length-map cs seat_of) in
+    seat-at cs c clients.Idle within ∙ ap seat_of (idle.each c clients.Idle within) ∙ sym (get_or-replicate 256 c Idle Idle (omega (arith, within, count))))

@@ -1,0 +1,14 @@
+use Rattle.std.proofs.Common.{◌≡◌, ℕ, subst}
+use Rattle.day_run.specs.declared.clients.Client.{Client}
+use Rattle.day_run.specs.Clients.{IsPauseOf, IsTimed}
+use Rattle.day_run.proofs.clients.Client.pause.Goals as goal
+
+pub returns-in-Playing-clause-pause : goal.returns-in-Playing-clause-pause
+returns-in-Playing-clause-pause c = λ heard.
+    let P : Client → Type 0 = λ x. IsTimed heard x → IsPauseOf heard c.paused-next.result.0 x c.paused-next.result.1 in
+    subst P c.in-Playing.ensures.value (λ timed. (c.paused-next.ensures.number, c.paused-next.ensures.pause heard timed))
+
+pub returns-in-Playing-clause-timed : goal.returns-in-Playing-clause-timed
+returns-in-Playing-clause-timed c = λ heard.
+    let P : Client → Type 0 = λ x. IsTimed heard x → IsTimed heard c.paused-next.result.1 in
+    subst P c.in-Playing.ensures.value (λ timed. c.paused-next.ensures.timed heard timed)

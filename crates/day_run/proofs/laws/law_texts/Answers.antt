@@ -1,0 +1,5 @@
+use Rattle.day_run.proofs.BalancedLines.{day-lines}
+use Rattle.day_run.proofs.laws.law_texts.Goals as goal
+
+pub returns : goal.returns
+returns c = day-lines

@@ -1,0 +1,46 @@
+use Rattle.std.proofs.Common.{◌≡◌, ◌<◌, ◌≤◌, ◌+◌, ℕ, max, List, IfOk, Result, refl, sym, ap, subst, ◌∙◌, inr, arith}
+use Rattle.plan_cert.specs.declared.Segment.{Segment}
+use Rattle.wire_curve.specs.declared.film.CurveFault.{CurveFault}
+use Rattle.slot_calendar.specs.Profiles.{capacity_at}
+use Rattle.admission.specs.Histories.{state_after}
+use Rattle.admission.specs.Machine.{booked_in, plays_of}
+use Rattle.admission.proofs.Within.{sound-after}
+use Rattle.early_start.proofs.Everywhere.{offer_everywhere}
+use Rattle.early_start.specs.Offered.{IsOffer}
+use Rattle.slot_calendar.specs.declared.profiles.CapStep.{CapStep}
+use Rattle.day_run.specs.Clients.{IsPlanFor, rest_of}
+use Rattle.day_run.specs.Days.{IsOfferLine, rest_at}
+use Rattle.day_run.specs.Prints.{offer_text}
+use Rattle.day_run.specs.Runners.{link_on, moment_of}
+use Rattle.day_run.specs.Seats.{Rest, Track, no_track, whole_rest}
+use Rattle.day_run.proofs.runners.Runner.offer.Goals as goal
+
+pub returns-in_ok-offers-in-Ok : goal.returns-in_ok-offers-in-Ok
+returns-in_ok-offers-in-Ok c =
+    let r = c.args.self.now in
+    let state = state_after r.book.entries in
+    let rest = c.in-Some.rest in
+    let calendar = c.calendar-calendar.result.now in
+    let found = c.find.new.self in
+    let plan = c.in-Ok.plan in
+    let within : (t : ℕ) → booked_in state t ≤ capacity_at r.book.steps t = (sound-after r.book.steps r.book.entries c.entries-legal.ensures.legal).within.each in
+    let P : Result (List Segment) CurveFault → Type 0 = λ p. IfOk p (IsPlanFor rest) in
+    let planned : IsPlanFor rest plan = subst P c.in-Ok.is c.in_ok-plan.ensures.plan in
+    let S : List CapStep → Type 0 = λ s. (t : ℕ) → booked_in state t ≤ capacity_at s t in
+    let late : calendar.first < c.max.result + 1 = omega arith in
+    let offer = offer_everywhere calendar (plays_of state) plan (c.max.result + 1) found c.calendar-calendar.ensures.stands
+    (subst S (sym c.calendar-calendar.ensures.steps) within) late c.find.ensures.offer in
+    let O : List CapStep → Type 0 = λ s. IsOffer 0 (booked_in state) (capacity_at s) plan (c.max.result + 1) found in
+    let first : c.max.result + 1 ≡ max state.now r.heard + 1 = omega (arith, c.calendar-calendar.ensures.now) in
+    let F : ℕ → Type 0 = λ n. IsOffer 0 (booked_in state) (capacity_at r.book.steps) plan n found in
+    let at : rest_of rest ≡ rest_at (link_on r) c.args.source c.args.buffer c.args.delay =
+    c.in-Some.ensures.whole ∙ ap (λ (t : Track). whole_rest r.slot_units t c.args.buffer c.args.delay) (sym (c.reel_at.ensures r.slot_units no_track)) in
+    let R : Rest → Type 0 = λ x. IsOfferLine (link_on r) x c.args.wait (moment_of r) (moment_of r) (offer_text found) in
+    subst R at (inr (record {
+      plan = plan;
+      plan_is = planned.plan_is;
+      found = found;
+      wait_is = c.find.ensures.wait ∙ c.in_ok-offers-in-Ok.ensures.wait;
+      found_is = subst F first (subst O c.calendar-calendar.ensures.steps offer);
+      told = record { kept = refl; text_is = refl };
+    }))
