@@ -1,4 +1,5 @@
--- What holds of the clients of a day: what they send and how far they have come, and that the book has their plays open.
+-- What holds of the clients of a day: what they send and how far they have come, and that the book
+-- has their plays open.
 use Rattle.std.specs.Prelude.{ℕ, ◌≡◌, ◌+◌, ◌-◌, ◌<◌, ◌≤◌, Bool, false, List, [], length, map, sum, sum_by, slice_index_or, Option, Some, None}
 use Rattle.plan_cert.specs.declared.Segment.{Segment}
 use Rattle.plan_cert.specs.Slots.{total_bytes}
@@ -20,8 +21,8 @@ use Rattle.day_run.specs.Reels.{reel_pieces, reel_sizes}
 use Rattle.day_run.specs.Seats as seats
 use Rattle.day_run.specs.Days.{halt_by}
 
--- A rest can be sent on: it is a run of all of its reel's units, of which whole frames and reports were sent, and what was sent
--- and isn't played fits in the client's buffer.
+-- A rest can be sent on: it is a run of all of its reel's units, of which whole frames and reports
+-- were sent, and what was sent and isn't played fits in the client's buffer.
 pub record IsRest (rest : Rest) : Type 0 where
   pub playback : IsPlayback rest.playback
   pub run : IsRun (reel_sizes rest.reel.now) rest.run
@@ -101,7 +102,8 @@ pub record AreUndone (upto : ℕ) (clients : List Client) : Type 0 where
   pub each : (c : ℕ) (none : Client) → c < upto → IsUndone (slice_index_or clients c none)
 
 pub record AreBooked (entries : List Entry) (clients : List Client) : Type 0 where
-  pub each : (c : ℕ) (none : Client) → c < length clients → IsBooked entries c (slice_index_or clients c none)
+  pub each : (c : ℕ) (none : Client) → c < length clients →
+      IsBooked entries c (slice_index_or clients c none)
 
 pub record AreIdle (clients : List Client) : Type 0 where
   pub each : (c : ℕ) (none : Client) → c < length clients → slice_index_or clients c none ≡ Idle
@@ -116,12 +118,18 @@ rest_of rest = record {
 }
 
 abbrev pub play_of : Play → seats.Play
-play_of play = record { number = play.number; rest = rest_of play.rest; plan = play.plan; start = play.pacer.start }
+play_of play = record {
+  number = play.number;
+  rest = rest_of play.rest;
+  plan = play.plan;
+  start = play.pacer.start;
+}
 
 abbrev pub seat_of : Client → seats.Seat
 seat_of Idle = seats.Idle
 seat_of (Playing play) = seats.Playing (play_of play)
-seat_of (Pausing stop) = seats.Pausing (cut_play stop.pacer.start stop.pacer.plan stop.keep) (rest_of stop.rest)
+seat_of (Pausing stop) =
+    seats.Pausing (cut_play stop.pacer.start stop.pacer.plan stop.keep) (rest_of stop.rest)
 seat_of (Paused rest) = seats.Paused (rest_of rest)
 
 -- a client's play has come to the slot that was heard last
@@ -132,7 +140,8 @@ IsTimed heard (Pausing stop) = stop.pacer.passed ≡ heard + 1 - stop.pacer.star
 IsTimed heard (Paused rest) = Unit {0}
 
 pub record AreTimed (heard : ℕ) (clients : List Client) : Type 0 where
-  pub each : (c : ℕ) (none : Client) → c < length clients → IsTimed heard (slice_index_or clients c none)
+  pub each : (c : ℕ) (none : Client) → c < length clients →
+      IsTimed heard (slice_index_or clients c none)
 
 -- a client has come from one slot to another
 pub record IsStep (heard slot : ℕ) (old new : Client) (sent : ℕ) : Type 0 where
@@ -172,6 +181,7 @@ IsUnpaused (Paused rest) = ⊥
 -- a halt is that of a client's play
 abbrev pub IsPauseOf : ℕ → Halt → Client → Client → Type 0
 IsPauseOf heard halt Idle new = ⊥
-IsPauseOf heard halt (Playing play) new = (halt.number ≡ play.number) × seats.IsPause (play_of play) heard halt.keep (seat_of new)
+IsPauseOf heard halt (Playing play) new = (halt.number ≡ play.number)
+    × seats.IsPause (play_of play) heard halt.keep (seat_of new)
 IsPauseOf heard halt (Pausing stop) new = ⊥
 IsPauseOf heard halt (Paused rest) new = ⊥

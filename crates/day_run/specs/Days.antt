@@ -1,5 +1,5 @@
--- A link's day: what the lines of a script bring on one link, line by line. Client C is maker C of the link's machine, and maker 0
--- looks.
+-- A link's day: what the lines of a script bring on one link, line by line. Client C is maker C of
+-- the link's machine, and maker 0 looks.
 use Rattle.std.specs.Prelude.{ℕ, ◌+◌, ◌-◌, ◌^◌, ◌≡◌, ◌<◌, ◌≤◌, ◌⊎◌, min, max, if◌then◌else◌, List, [], ◌∷◌, ◌++◌, flat_map, length, map, replicate, sum_by, slice_index_or, slice_set}
 use Rattle.std.specs.List.{range_with_len}
 use Rattle.plan_cert.specs.declared.Segment.{Segment}
@@ -27,7 +27,8 @@ use Rattle.day_run.specs.declared.scripts.Line.TheVariants as lines
 use Rattle.day_run.specs.Prints.{fault_text, full_text, offer_text, slot_text, state_text}
 use Rattle.day_run.specs.Seats.{Track, Rest, Play, Seat, Idle, Playing, Pausing, Paused, IsPause, after_play, after_sending, booking_of, is_done, no_track, sent_between, sent_by, track_of, whole_rest}
 
--- the steps of the link's capacity, the most entries of its journal, the time of a slot in 1/360,000 s, and what can be played
+-- the steps of the link's capacity, the most entries of its journal, the time of a slot in
+-- 1/360,000 s, and what can be played
 pub record Link : Type 0 where
   pub steps : List CapStep
   pub limit : ℕ
@@ -36,7 +37,12 @@ pub record Link : Type 0 where
 
 abbrev pub link_of : List CapStep → ℕ → ℕ → List Source → Link
 link_of steps limit slot_units sources =
-    record { steps = steps; limit = limit; slot_units = slot_units; tracks = map (track_of slot_units) sources }
+    record {
+      steps = steps;
+      limit = limit;
+      slot_units = slot_units;
+      tracks = map (track_of slot_units) sources;
+    }
 
 -- a day as far as it has come: the journal, the clients, and the slot that was heard last
 pub record Moment : Type 0 where
@@ -65,9 +71,14 @@ pub record IsTold (told : List ℕ) (old new : Moment) (text : List ℕ) : Type 
   pub text_is : text ≡ told
 
 -- The machine's answer is noted and printed, and the clients are then these.
-pub record IsNoted (link : Link) (entry : Entry) (seats : List Seat) (old new : Moment) (text : List ℕ) : Type 0 where
+pub record IsNoted (link : Link) (entry : Entry) (seats : List Seat) (old new : Moment)
+    (text : List ℕ) : Type 0 where
   pub answered : IsAnswered link.steps (state_after old.entries) entry
-  pub new_is : new ≡ record { entries = old.entries ++ entry ∷ []; seats = seats; heard = old.heard }
+  pub new_is : new ≡ record {
+    entries = old.entries ++ entry ∷ [];
+    seats = seats;
+    heard = old.heard;
+  }
   pub text_is : text ≡ entry_line (length old.entries) entry
 
 -- the journal has no room for so many more entries
@@ -87,27 +98,36 @@ pub record IsFaulty (rest : Rest) (old new : Moment) (text : List ℕ) : Type 0 
 -- the clients, of which one begins a play where it was admitted
 abbrev pub with_play : ℕ → Rest → List Segment → ℕ → Answer → List Seat → List Seat
 with_play client rest plan number (Admitted start) seats =
-    slice_set seats client (Playing (record { number = number; rest = rest; plan = plan; start = start }))
+    slice_set seats client (Playing (record {
+      number = number;
+      rest = rest;
+      plan = plan;
+      start = start;
+    }))
 with_play client rest plan number _ seats = seats
 
 -- the machine answers a play, for whose entry and whose halt's the journal has room
-pub record IsAnsweredPlay (link : Link) (client : ℕ) (rest : Rest) (plan : List Segment) (old new : Moment) (text : List ℕ) : Type 0 where
+pub record IsAnsweredPlay (link : Link) (client : ℕ) (rest : Rest) (plan : List Segment)
+    (old new : Moment) (text : List ℕ) : Type 0 where
   pub room : places_taken old.entries + 2 ≤ link.limit
   pub answer : Answer
   pub noted : IsNoted link (entry_by client (commands.Play old.heard plan) answer)
       (with_play client rest plan (length old.entries) answer old.seats) old new text
 
 -- there is a plan, and the journal has no room or the play is answered
-pub record IsPlanned (link : Link) (client : ℕ) (rest : Rest) (old new : Moment) (text : List ℕ) : Type 0 where
+pub record IsPlanned (link : Link) (client : ℕ) (rest : Rest) (old new : Moment) (text : List ℕ)
+    : Type 0 where
   pub plan : List Segment
   pub plan_is : IsPlanOf rest.sizes rest.playback rest.run plan
   pub done : IsFull link 2 old new text ⊎ IsAnsweredPlay link client rest plan old new text
 
 -- a client asks for what is to be sent: the curves are judged first, then the journal
 abbrev pub IsAsked : Link → ℕ → Rest → Moment → Moment → List ℕ → Type 0
-IsAsked link client rest old new text = IsFaulty rest old new text ⊎ IsPlanned link client rest old new text
+IsAsked link client rest old new text = IsFaulty rest old new text
+    ⊎ IsPlanned link client rest old new text
 
--- a client that plays, or whose pause isn't done, can't ask for a play; one that is paused begins anew
+-- a client that plays, or whose pause isn't done, can't ask for a play; one that is paused begins
+-- anew
 abbrev pub IsPlayLine : Link → ℕ → Rest → Seat → Moment → Moment → List ℕ → Type 0
 IsPlayLine link client rest Idle old new text = IsAsked link client rest old new text
 IsPlayLine link client rest (Playing play) old new text = IsTold state_text old new text
@@ -122,11 +142,13 @@ IsResumeLine link client (Pausing stop rest) old new text = IsTold state_text ol
 IsResumeLine link client (Paused rest) old new text = IsAsked link client rest old new text
 
 -- a play is halted at the boundary where its pause ends
-pub record IsHaltedPlay (link : Link) (client : ℕ) (play : Play) (old new : Moment) (text : List ℕ) : Type 0 where
+pub record IsHaltedPlay (link : Link) (client : ℕ) (play : Play) (old new : Moment) (text : List ℕ)
+    : Type 0 where
   pub keep : ℕ
   pub seat : Seat
   pub pause : IsPause play old.heard keep seat
-  pub noted : IsNoted link (entry_by client (commands.Halt play.number keep) Halted) (slice_set old.seats client seat) old new text
+  pub noted : IsNoted link (entry_by client (commands.Halt play.number keep) Halted)
+      (slice_set old.seats client seat) old new text
 
 -- a client that plays can be paused
 abbrev pub IsPauseLine : Link → ℕ → Seat → Moment → Moment → List ℕ → Type 0
@@ -142,10 +164,13 @@ pub record IsAnsweredLook (link : Link) (slot : ℕ) (old new : Moment) (text : 
   pub noted : IsNoted link (entry_by 0 (commands.Look slot) answer) old.seats old new text
 
 abbrev pub IsLookLine : Link → ℕ → Moment → Moment → List ℕ → Type 0
-IsLookLine link slot old new text = IsFull link 1 old new text ⊎ IsAnsweredLook link slot old new text
+IsLookLine link slot old new text = IsFull link 1 old new text
+    ⊎ IsAnsweredLook link slot old new text
 
--- The earliest start within a wait is told: of the starts after now and after the slot that was heard last. Nothing is booked.
-pub record IsOffered (link : Link) (rest : Rest) (wait : ℕ) (old new : Moment) (text : List ℕ) : Type 0 where
+-- The earliest start within a wait is told: of the starts after now and after the slot that was
+-- heard last. Nothing is booked.
+pub record IsOffered (link : Link) (rest : Rest) (wait : ℕ) (old new : Moment) (text : List ℕ)
+    : Type 0 where
   pub plan : List Segment
   pub plan_is : IsPlanOf rest.sizes rest.playback rest.run plan
   pub found : Found
@@ -155,15 +180,18 @@ pub record IsOffered (link : Link) (rest : Rest) (wait : ℕ) (old new : Moment)
   pub told : IsTold (offer_text found) old new text
 
 abbrev pub IsOfferLine : Link → Rest → ℕ → Moment → Moment → List ℕ → Type 0
-IsOfferLine link rest wait old new text = IsFaulty rest old new text ⊎ IsOffered link rest wait old new text
+IsOfferLine link rest wait old new text = IsFaulty rest old new text
+    ⊎ IsOffered link rest wait old new text
 
--- the halt of a client's play that is done, which keeps all its bytes, and of one that is open, which keeps what was sent
+-- the halt of a client's play that is done, which keeps all its bytes, and of one that is open,
+-- which keeps what was sent
 abbrev pub halt_by : ℕ → ℕ → ℕ → List Entry
 halt_by client number keep = entry_by client (commands.Halt number keep) Halted ∷ []
 
 abbrev pub done_halt : ℕ → ℕ → Seat → List Entry
 done_halt slot client Idle = []
-done_halt slot client (Playing play) = if is_done slot play then halt_by client play.number (total_bytes play.plan) else []
+done_halt slot client (Playing play) = if is_done slot play
+    then halt_by client play.number (total_bytes play.plan) else []
 done_halt slot client (Pausing stop rest) = []
 done_halt slot client (Paused rest) = []
 
@@ -183,13 +211,15 @@ abbrev pub entry_lines : ℕ → List Entry → List ℕ
 entry_lines place [] = []
 entry_lines place (entry ∷ entries) = entry_line place entry ++ entry_lines (place + 1) entries
 
--- the bytes that all clients are sent in the slots after the one that was heard last up to this one, and those booked there
+-- the bytes that all clients are sent in the slots after the one that was heard last up to this
+-- one, and those booked there
 abbrev pub sent_up_to : Moment → ℕ → ℕ
 sent_up_to moment slot = sum_by (sent_between moment.heard slot) moment.seats
 
 abbrev pub booked_up_to : Moment → ℕ → ℕ
 booked_up_to moment slot =
-    sum_by (booked_in (state_after moment.entries)) (range_with_len (moment.heard + 1) (slot - moment.heard))
+    sum_by (booked_in (state_after moment.entries)) (range_with_len (moment.heard
+    + 1) (slot - moment.heard))
 
 -- the halts of the plays that are done once a slot was sent
 abbrev pub halts_at : Moment → ℕ → List Entry
@@ -212,8 +242,10 @@ slot_lines moment slot =
 abbrev pub IsLine : Link → Line → Moment → Moment → List ℕ → Type 0
 IsLine link (lines.Play client source buffer delay) old new text =
     IsPlayLine link client (rest_at link source buffer delay) (seat_at old client) old new text
-IsLine link (lines.Pause client) old new text = IsPauseLine link client (seat_at old client) old new text
-IsLine link (lines.Resume client) old new text = IsResumeLine link client (seat_at old client) old new text
+IsLine link (lines.Pause client) old new text =
+    IsPauseLine link client (seat_at old client) old new text
+IsLine link (lines.Resume client) old new text =
+    IsResumeLine link client (seat_at old client) old new text
 IsLine link (lines.Look slot) old new text = IsLookLine link (min slot (2 ^ 62)) old new text
 IsLine link (lines.Slot slot) old new text = (new ≡ at_slot old slot) × (text ≡ slot_lines old slot)
 IsLine link (lines.Offer client source buffer delay wait) old new text =
@@ -237,10 +269,13 @@ last_journal moment = moment.entries ++ last_halts moment
 abbrev pub last_lines : Moment → List ℕ
 last_lines moment =
     entry_lines (length moment.entries) (last_halts moment)
-    ++ calendar_text (state_after (last_journal moment)).now (booked_in (state_after (last_journal moment)))
+    ++ calendar_text (state_after (last_journal moment)).now
+    (booked_in (state_after (last_journal moment)))
 
--- A script's day: the journal, and the text that is printed, which is that of each line, in order, and the end's.
-pub record IsDay (link : Link) (lines : List Line) (text : List ℕ) (journal : List Entry) : Type 0 where
+-- A script's day: the journal, and the text that is printed, which is that of each line, in order,
+-- and the end's.
+pub record IsDay (link : Link) (lines : List Line) (text : List ℕ) (journal : List Entry)
+    : Type 0 where
   pub evening : Moment
   pub texts : List (List ℕ)
   pub run : AreRun link lines texts morning evening

@@ -1,4 +1,5 @@
--- The printed lines of a day that are no entries of the journal. Numbers are decimal, and each line ends with LF.
+-- The printed lines of a day that are no entries of the journal. Numbers are decimal, and each line
+-- ends with LF.
 use Rattle.std.specs.Prelude.{ℕ, List, [], ◌∷◌, ◌++◌, Option, Some, None, codes, decimal, length, flat_map}
 use Rattle.admission.specs.declared.entries.Full.{Full}
 use Rattle.early_start.specs.Offered.{Found}
@@ -17,23 +18,29 @@ state_text = codes "refused state\n"
 abbrev pub fault_words : CurveFault → List ℕ
 fault_words NoPictures = codes "refused NoPictures"
 fault_words (TooManySlots slots) = field (codes "refused TooManySlots ") slots
-fault_words (BufferTooSmall slot used least) = field (codes "refused BufferTooSmall ") slot ++ field (codes " ") used ++ field (codes " ") least
+fault_words (BufferTooSmall slot used least) =
+    field (codes "refused BufferTooSmall ") slot ++ field (codes " ") used
+    ++ field (codes " ") least
 
 abbrev pub fault_text : CurveFault → List ℕ
 fault_text fault = fault_words fault ++ codes "\n"
 
 -- a journal that has no room
 abbrev pub full_text : Full → List ℕ
-full_text full = field (codes "refused journal entries=") full.entries ++ field (codes " open=") full.live ++ codes "\n"
+full_text full = field (codes "refused journal entries=") full.entries
+    ++ field (codes " open=") full.live ++ codes "\n"
 
 -- a slot, with the bytes sent, and those booked since the last slot that was heard
 abbrev pub slot_text : ℕ → ℕ → ℕ → List ℕ
-slot_text slot sent booked = field (codes "slot ") slot ++ field (codes " sent=") sent ++ field (codes " booked=") booked ++ codes "\n"
+slot_text slot sent booked =
+    field (codes "slot ") slot ++ field (codes " sent=") sent ++ field (codes " booked=") booked
+    ++ codes "\n"
 
 -- a start that was tried in vain
 abbrev pub tried_text : Tried → List ℕ
 tried_text tried =
-    field (codes "tried start=") tried.start ++ field (codes " slot=") tried.over.slot ++ field (codes " booked=") tried.over.booked
+    field (codes "tried start=") tried.start ++ field (codes " slot=") tried.over.slot
+    ++ field (codes " booked=") tried.over.booked
     ++ field (codes " asked=") tried.over.asked ++ codes "\n"
 
 abbrev pub start_words : Option ℕ → List ℕ
@@ -43,16 +50,19 @@ start_words None = codes "offer none"
 -- the starts that were tried in vain, and what is offered
 abbrev pub offer_text : Found → List ℕ
 offer_text found =
-    flat_map tried_text found.tried ++ (start_words found.start ++ field (codes " tried=") (length found.tried) ++ codes "\n")
+    flat_map tried_text found.tried
+    ++ (start_words found.start ++ field (codes " tried=") (length found.tried) ++ codes "\n")
 
 -- the entries that a fair made
 unfoldable pub made_words : Made → List ℕ
 made_words made =
-    field (codes " admitted=") made.admitted ++ field (codes " overflow=") made.overflows ++ field (codes " halted=") made.halted
+    field (codes " admitted=") made.admitted ++ field (codes " overflow=") made.overflows
+    ++ field (codes " halted=") made.halted
 
 -- what its slots brought
 unfoldable pub sum_words : Counts → List ℕ
-sum_words counts = field (codes " sent=") counts.sent ++ field (codes " booked=") counts.booked ++ field (codes " peak=") counts.peak
+sum_words counts = field (codes " sent=") counts.sent ++ field (codes " booked=") counts.booked
+    ++ field (codes " peak=") counts.peak
 
 -- its turns, and what was made in them
 unfoldable pub turn_words : Counts → Made → List ℕ
@@ -60,7 +70,8 @@ turn_words counts made = field (codes "fair turns=") counts.turns ++ made_words 
 
 -- how often the journal was full, the last slot, and what the slots brought
 unfoldable pub slot_words : Counts → List ℕ
-slot_words counts = field (codes " full=") counts.full ++ field (codes " last=") counts.last ++ sum_words counts
+slot_words counts = field (codes " full=") counts.full ++ field (codes " last=") counts.last
+    ++ sum_words counts
 
 -- what a fair tells at its end
 abbrev pub fair_text : Counts → Made → List ℕ

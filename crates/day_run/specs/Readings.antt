@@ -51,7 +51,8 @@ source_in names name = position_or_len (is_name name) names
 
 -- the names, with this one after them where it is new
 abbrev pub with_name : List Name → Name → List Name
-with_name names name = if nat_lt (source_in names name) (length names) then names else names ++ name ∷ []
+with_name names name = if nat_lt (source_in names name) (length names)
+    then names else names ++ name ∷ []
 
 abbrev pub with_line : Reading → Line → Reading
 with_line r line = record r { lines = r.lines ++ line ∷ [] }
@@ -60,24 +61,31 @@ with_line r line = record r { lines = r.lines ++ line ∷ [] }
 abbrev pub with_named : Reading → Name → (ℕ → Line) → Option Reading
 with_named r name line =
     if is_good_name name.name
-    then Some (record r { lines = r.lines ++ line (source_in r.names name) ∷ []; names = with_name r.names name })
+    then Some (record r {
+      lines = r.lines ++ line (source_in r.names name) ∷ [];
+      names = with_name r.names name;
+    })
     else None
 
 -- the film or trace that the fourth word of a line names
 abbrev pub named_in : List (List ℕ) → Asked → Name
 named_in words asked = name_as asked.film (slice_index_or words 3 [])
 
--- what was read with one more line, of these words; None where it may not stand there, as a `slot` line that isn't later
+-- what was read with one more line, of these words; None where it may not stand there, as a `slot`
+-- line that isn't later
 abbrev pub with_saying : Reading → List (List ℕ) → Saying → Option Reading
 with_saying r words (Play asked) =
-    with_named r (named_in words asked) (λ source. lines.Play asked.client source asked.buffer asked.delay)
+    with_named r (named_in words asked) (λ source.
+    lines.Play asked.client source asked.buffer asked.delay)
 with_saying r words (Pause client) = Some (with_line r (lines.Pause client))
 with_saying r words (Resume client) = Some (with_line r (lines.Resume client))
 with_saying r words (Look slot) = Some (with_line r (lines.Look slot))
 with_saying r words (Slot slot) =
-    if nat_lt r.slot slot then Some (record r { lines = r.lines ++ lines.Slot slot ∷ []; slot = slot }) else None
+    if nat_lt r.slot slot
+    then Some (record r { lines = r.lines ++ lines.Slot slot ∷ []; slot = slot }) else None
 with_saying r words (Offer asked wait) =
-    with_named r (named_in words asked) (λ source. lines.Offer asked.client source asked.buffer asked.delay wait)
+    with_named r (named_in words asked) (λ source.
+    lines.Offer asked.client source asked.buffer asked.delay wait)
 
 abbrev pub with_words : Reading → List (List ℕ) → Option Reading
 with_words r words = option_and_then (with_saying r words) (saying_in words)
@@ -93,7 +101,11 @@ lines_read r (line ∷ lines) = option_and_then (λ next. lines_read next lines)
 
 -- what a draft has read
 abbrev pub reading_of : Draft → Reading
-reading_of draft = record { lines = draft.lines.items; names = names_of draft.named.items; slot = draft.slot }
+reading_of draft = record {
+  lines = draft.lines.items;
+  names = names_of draft.named.items;
+  slot = draft.slot;
+}
 
 -- this is the place of a good name, which was noted, and nothing else was
 pub record IsSource (old new : Reading) (name : Name) (place : ℕ) : Type 0 where
@@ -116,7 +128,11 @@ pub record IsScript (text : List ℕ) (script : Script) : Type 0 where
   pub few : length (lines_of_script text) ≤ 1000000
   pub slot : ℕ
   pub read : lines_read nothing_read (lines_of_script text)
-      ≡ Some (record { lines = script.lines.items; names = names_of script.named.items; slot = slot })
+      ≡ Some (record {
+        lines = script.lines.items;
+        names = names_of script.named.items;
+        slot = slot;
+      })
 
 -- this line, from 1, is the first of a text that may not stand there
 pub record IsBadLine (text : List ℕ) (line : ℕ) : Type 0 where
@@ -125,7 +141,8 @@ pub record IsBadLine (text : List ℕ) (line : ℕ) : Type 0 where
   pub few : line ≤ 1000001
   pub inside : line ≤ length (lines_of_script text)
   pub before : lines_read nothing_read (take (line - 1) (lines_of_script text)) ≡ Some reading
-  pub here : (line ≡ 1000001) ⊎ (line_read reading (slice_index_or (lines_of_script text) (line - 1) []) ≡ None)
+  pub here : (line ≡ 1000001)
+      ⊎ (line_read reading (slice_index_or (lines_of_script text) (line - 1) []) ≡ None)
 
 -- why a text isn't read
 abbrev pub IsRefused : List ℕ → ScriptRefused → Type 0

@@ -12,7 +12,15 @@ use Rattle.day_run.specs.declared.reels.Sending.TheVariants as sendings
 
 -- the identity of what is sent, which nobody hears
 abbrev pub nobody : Identity
-nobody = record { channel = 0; control = 0; ssrc = 0; sequence = 0; timestamp = 0; packets = 0; octets = 0 }
+nobody = record {
+  channel = 0;
+  control = 0;
+  ssrc = 0;
+  sequence = 0;
+  timestamp = 0;
+  packets = 0;
+  octets = 0;
+}
 
 -- all reports and frames of a film, and all frames of a trace
 abbrev pub film_pieces : Stored → List (List ℕ)

@@ -14,9 +14,10 @@ use Rattle.day_run.specs.Days.{AreRun, Link, Moment, entry_lines, morning}
 use Rattle.day_run.specs.Prints.{fault_text, full_text, offer_text, state_text}
 use Rattle.day_run.specs.Tracks.{reel_track}
 
--- the clients go on soundly, none of their plays is done, and the book has them open; the machine's now isn't later than the
--- slot that was heard last, to which their plays have come
-pub record IsSoundDay (slot_units heard : ℕ) (entries : List Entry) (clients : List Client) : Type 0 where
+-- the clients go on soundly, none of their plays is done, and the book has them open; the machine's
+-- now isn't later than the slot that was heard last, to which their plays have come
+pub record IsSoundDay (slot_units heard : ℕ) (entries : List Entry) (clients : List Client)
+    : Type 0 where
   pub count : length clients ≡ 256
   pub some_slot_units : 1 ≤ slot_units
   pub slot_units_fit : slot_units ≤ 360000
@@ -40,7 +41,11 @@ link_on r = record {
 }
 
 abbrev pub moment_of : Runner → Moment
-moment_of r = record { entries = r.book.entries; seats = map seat_of r.clients.items; heard = r.heard }
+moment_of r = record {
+  entries = r.book.entries;
+  seats = map seat_of r.clients.items;
+  heard = r.heard;
+}
 
 -- the text of what is told to a client, by the entries
 abbrev pub told_text : List Entry → Told → List ℕ

@@ -10,7 +10,8 @@ use Rattle.day_run.specs.declared.sayings.Saying.TheVariants.{Play, Pause, Resum
 -- a number that is in a range
 abbrev pub in_range : ℕ → ℕ → Option ℕ → Option ℕ
 in_range least most None = None
-in_range least most (Some number) = if nat_le least number && nat_le number most then Some number else None
+in_range least most (Some number) = if nat_le least number && nat_le number most
+    then Some number else None
 
 -- the number that a word writes, where it is in a range
 abbrev pub number_in : ℕ → ℕ → List ℕ → Option ℕ
@@ -21,7 +22,8 @@ client_in word = number_in 0 255 word
 
 -- whether a film is meant, or a trace
 abbrev pub film_in : List ℕ → Option Bool
-film_in word = if bytes_eq word (codes "film") then Some true else (if bytes_eq word (codes "trace") then Some false else None)
+film_in word = if bytes_eq word (codes "film")
+    then Some true else (if bytes_eq word (codes "trace") then Some false else None)
 
 -- a client, `film` or `trace`, a buffer and a start delay; the name is read where it is noted
 abbrev pub asked_in : List ℕ → List ℕ → List ℕ → List ℕ → Option Asked

@@ -31,8 +31,10 @@ StandsAfter heard sources (Pause client) = Unit {0}
 StandsAfter heard sources (Resume client) = Unit {0}
 StandsAfter heard sources (Look slot) = Unit {0}
 StandsAfter heard sources (Slot slot) = (heard < slot) × (slot ≤ 2 ^ 62)
-StandsAfter heard sources (Offer client source buffer delay wait) = IsWish sources source buffer delay × (wait ≤ 255)
+StandsAfter heard sources (Offer client source buffer delay wait) =
+    IsWish sources source buffer delay × (wait ≤ 255)
 
 -- the lines of a script that names so many films and traces
 pub record AreLines (sources : ℕ) (lines : List Line) : Type 0 where
-  pub each : (i : ℕ) (none : Line) → i < length lines → StandsAfter (latest_slot (take i lines)) sources (slice_index_or lines i none)
+  pub each : (i : ℕ) (none : Line) → i < length lines →
+      StandsAfter (latest_slot (take i lines)) sources (slice_index_or lines i none)

@@ -13,8 +13,8 @@ use Rattle.day_run.specs.Reels.{film_pieces}
 use Rattle.day_run.specs.declared.reels.Source.{Source}
 use Rattle.day_run.specs.declared.reels.Source.TheVariants.{Film, Trace}
 
--- A film or trace as it is played: the sizes of its units on the wire, the frames and reports by which they are sent, and the time
--- of a picture in 1/360,000 s.
+-- A film or trace as it is played: the sizes of its units on the wire, the frames and reports by
+-- which they are sent, and the time of a picture in 1/360,000 s.
 pub record Track : Type 0 where
   pub sizes : List ℕ
   pub pieces : List (List ℕ)
@@ -30,7 +30,11 @@ trace_track slot_units sizes =
 
 abbrev pub track_of : ℕ → Source → Track
 track_of slot_units (Film stored) =
-    record { sizes = stored_sizes stored; pieces = film_pieces stored; picture_units = picture_time stored.film.rate }
+    record {
+      sizes = stored_sizes stored;
+      pieces = film_pieces stored;
+      picture_units = picture_time stored.film.rate;
+    }
 track_of slot_units (Trace sizes) = trace_track slot_units sizes.items
 
 -- what is still to be sent of a track, and to what kind of client
@@ -45,12 +49,23 @@ abbrev pub whole_rest : ℕ → Track → ℕ → ℕ → Rest
 whole_rest slot_units track buffer delay = record {
   sizes = track.sizes;
   pieces = track.pieces;
-  playback = record { picture_units = track.picture_units; slot_units = slot_units; buffer = buffer; delay = delay };
-  run = record { first_unit = 0; end_unit = length track.sizes; from_unit = 0; sent = 0; played = 0 };
+  playback = record {
+    picture_units = track.picture_units;
+    slot_units = slot_units;
+    buffer = buffer;
+    delay = delay;
+  };
+  run = record {
+    first_unit = 0;
+    end_unit = length track.sizes;
+    from_unit = 0;
+    sent = 0;
+    played = 0;
+  };
 }
 
--- a play that was admitted and isn't halted: the place of its admission, what was to be sent as it began, by which plan, and the
--- plan's first slot
+-- a play that was admitted and isn't halted: the place of its admission, what was to be sent as it
+-- began, by which plan, and the plan's first slot
 pub record Play : Type 0 where
   pub number : ℕ
   pub rest : Rest
@@ -61,8 +76,9 @@ pub record Play : Type 0 where
 abbrev pub booking_of : Play → Booked
 booking_of play = whole_play play.start play.plan
 
--- What a client does: nothing; it plays; it has paused, and the frame or report in hand is sent to its end, as what a play
--- with a plan that is cut there books; or that is done, and it may go on with the rest.
+-- What a client does: nothing; it plays; it has paused, and the frame or report in hand is sent to
+-- its end, as what a play with a plan that is cut there books; or that is done, and it may go on
+-- with the rest.
 pub data Seat : Type 0 where
   Idle : Seat
   Playing : (play : Play) → Seat
@@ -76,7 +92,8 @@ is_busy (Playing play) = true
 is_busy (Pausing stop rest) = true
 is_busy (Paused rest) = false
 
--- the bytes that were sent by the end of slot t: those of the plan up to there, but none past those that are kept
+-- the bytes that were sent by the end of slot t: those of the plan up to there, but none past those
+-- that are kept
 abbrev pub sent_by : Booked → ℕ → ℕ
 sent_by play t = min (sent_before play.segments play.start (t + 1)) play.keep
 
@@ -103,7 +120,8 @@ after_sending slot (Paused rest) = Paused rest
 
 -- a play is done once its first slot has come and all its bytes were sent
 abbrev pub is_done : ℕ → Play → Bool
-is_done slot play = nat_le play.start slot && (sent_by (booking_of play) slot == total_bytes play.plan)
+is_done slot play = nat_le play.start slot
+    && (sent_by (booking_of play) slot == total_bytes play.plan)
 
 -- a client once its play was halted, if that is done
 abbrev pub after_play : ℕ → Seat → Seat
@@ -116,10 +134,13 @@ after_play slot (Paused rest) = Paused rest
 abbrev pub slot_sent : ℕ → ℕ → Option ℕ
 slot_sent start heard = if nat_lt heard start then None else Some (heard - start)
 
--- A play is paused: it keeps the bytes up to the least boundary at or after what was sent. The pictures that are used in the slot
--- in which that is reached, or later, are left.
+-- A play is paused: it keeps the bytes up to the least boundary at or after what was sent. The
+-- pictures that are used in the slot in which that is reached, or later, are left.
 pub record IsPause (play : Play) (heard keep : ℕ) (seat : Seat) : Type 0 where
-  pub boundary : IsBoundaryAfter play.rest.pieces (play.rest.run.sent + sent_by (booking_of play) heard) (play.rest.run.sent + keep)
+  pub boundary : IsBoundaryAfter play.rest.pieces (play.rest.run.sent
+      + sent_by (booking_of play) heard) (play.rest.run.sent + keep)
   pub left : Run
-  pub left_is : IsLeft play.rest.sizes play.rest.playback play.rest.run play.plan (slot_sent play.start heard) keep left
-  pub seat_is : seat ≡ pausing heard (cut_play play.start play.plan keep) (record play.rest { run = left })
+  pub left_is : IsLeft play.rest.sizes play.rest.playback play.rest.run play.plan
+      (slot_sent play.start heard) keep left
+  pub seat_is : seat ≡
+      pausing heard (cut_play play.start play.plan keep) (record play.rest { run = left })

@@ -13,4 +13,8 @@ reel_units slot_units (Trace rolled) = slot_units
 
 abbrev pub reel_track : ℕ → Reel → Track
 reel_track slot_units reel =
-    record { sizes = reel_sizes reel; pieces = reel_pieces reel; picture_units = reel_units slot_units reel }
+    record {
+      sizes = reel_sizes reel;
+      pieces = reel_pieces reel;
+      picture_units = reel_units slot_units reel;
+    }

@@ -79,13 +79,16 @@ fn send(pacer: &mut Pacer<Sending<'_>>, slot: u64) -> u64
 }
 
 impl<'r> Client<'r> {
-    /// Comes to a slot, and tells how many bytes were sent. A pause is done once all that it keeps was sent.
+    /// Comes to a slot, and tells how many bytes were sent. A pause is done once all that it keeps
+    /// was sent.
     pub(crate) fn step(&mut self, slot: u64) -> u64
         requires { IsGoing self.old }
         ensures going { IsGoing self.new }
-        ensures booked { (entries : List Entry) (client : ℕ) → IsBooked entries client self.old → IsBooked entries client self.new }
+        ensures booked { (entries : List Entry) (client : ℕ) → IsBooked entries client self.old →
+            IsBooked entries client self.new }
         ensures few { result ≤ 2 ^ 42 }
-        ensures step { (heard : ℕ) → heard ≤ slot → IsTimed heard self.old → IsStep heard slot self.old self.new result }
+        ensures step { (heard : ℕ) → heard ≤ slot → IsTimed heard self.old →
+            IsStep heard slot self.old self.new result }
     {
         match self {
             Client::Playing(play) => send(&mut play.pacer, slot),
@@ -191,7 +194,8 @@ impl<'r> Client<'r> {
     }
 }
 
-/// A play as it is paused, and how it is to be halted. A pause is done at once where all that it keeps was sent.
+/// A play as it is paused, and how it is to be halted. A pause is done at once where all that it
+/// keeps was sent.
 fn paused<'r>(play: Play<'r>) -> (Halt, Client<'r>)
     requires playing { IsPlaying play }
     requires undone { is_done play.pacer ≡ false }

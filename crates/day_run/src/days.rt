@@ -167,8 +167,9 @@ fn run_lines(
     Ok(())
 }
 
-/// Runs a script on a link of this capacity, whose journal has room for `limit` entries, 2 to 1,048,576, in slots of
-/// `slot_units`, 1 to 360,000, in 1/360,000 s. The sources are those that the script names, in order.
+/// Runs a script on a link of this capacity, whose journal has room for `limit` entries, 2 to
+/// 1,048,576, in slots of `slot_units`, 1 to 360,000, in 1/360,000 s. The sources are those that
+/// the script names, in order.
 ///
 /// # Errors
 ///

@@ -165,7 +165,8 @@ fn run_turns(
     Ok(counts)
 }
 
-/// A large day that a number determines: 16 drawn traces, 256 clients and so many turns on one book, 1 to 100,000.
+/// A large day that a number determines: 16 drawn traces, 256 clients and so many turns on one
+/// book, 1 to 100,000.
 pub fn fair(alloc: Global, seed: u64, plays: u32, profile: Profile) -> Result<Day, NoMemory>
     requires { plays ≤ 100000 }
     ensures legal { IfOk result (λ day. IsLegal profile day.journal.items) }

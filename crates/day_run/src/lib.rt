@@ -1,4 +1,5 @@
-//! A link's day on one thread: scripts of plays, pauses, resumes, looks, offers and slots, run against one calendar.
+//! A link's day on one thread: scripts of plays, pauses, resumes, looks, offers and slots, run
+//! against one calendar.
 #![tactic(auto)]
 
 mod clients;

@@ -61,8 +61,10 @@ fn source_of(
     requires { is_good_name name.now ≡ true }
     ensures inside { IfOk result (λ place. place < length named.new.items) }
     ensures longer { OnOk result (length named.old.items ≤ length named.new.items) }
-    ensures place { IfOk result (λ place. place ≡ source_in (names_of named.old.items) (name_as film name.now)) }
-    ensures names { OnOk result (names_of named.new.items ≡ with_name (names_of named.old.items) (name_as film name.now)) }
+    ensures place { IfOk result (λ place. place ≡
+        source_in (names_of named.old.items) (name_as film name.now)) }
+    ensures names { OnOk result (names_of named.new.items ≡
+        with_name (names_of named.old.items) (name_as film name.now)) }
 {
     let place = place_of(named, film, name);
     if place == named.len() {
@@ -89,7 +91,8 @@ impl Draft {
     /// Takes in a line that may stand there.
     fn add(&mut self, line: Line) -> Result<(), NoMemory>
         requires lines { AreLines (length self.old.named.items) self.old.lines.items }
-        requires stands { StandsAfter (latest_slot self.old.lines.items) (length self.old.named.items) line }
+        requires stands { StandsAfter (latest_slot self.old.lines.items)
+            (length self.old.named.items) line }
         requires slot { self.old.slot ≡ slot_after (latest_slot self.old.lines.items) line }
         ensures reading { OnOk result (reading_of self.new ≡ with_line (reading_of self.old) line) }
         ensures draft { OnOk result (IsDraft self.new) }
@@ -103,7 +106,8 @@ impl Draft {
         ensures found { IfOk result (λ found. MatchOption found
             (is_good_name (named_in (shown words.now) asked).name ≡ false)
             (λ place. IsSource (reading_of self.old) (reading_of self.new) (named_in (shown words.now) asked) place)) }
-        ensures inside { IfOk result (λ found. IfSome found (λ place. place < length self.new.named.items)) }
+        ensures inside { IfOk result (λ found.
+            IfSome found (λ place. place < length self.new.named.items)) }
         ensures longer { OnOk result (length self.old.named.items ≤ length self.new.named.items) }
         ensures lines { OnOk result (self.new.lines.items ≡ self.old.lines.items) }
     {
@@ -116,13 +120,15 @@ impl Draft {
         }
     }
 
-    /// The line that these words say; None where it may not stand there. Its name and its slot are noted.
+    /// The line that these words say; None where it may not stand there. Its name and its slot are
+    /// noted.
     fn line_of(&mut self, words: &[&[u8]], saying: Saying) -> Result<Option<Line>, NoMemory>
         requires draft { IsDraft self.old }
         requires range { IsInRange saying }
         ensures line { IfOk result (λ found. IfSome found
             (λ line. with_saying (reading_of self.old) (shown words.now) saying ≡ Some (with_line (reading_of self.new) line))) }
-        ensures none { IfOk result (λ found. IfNone found (with_saying (reading_of self.old) (shown words.now) saying ≡ None)) }
+        ensures none { IfOk result (λ found.
+            IfNone found (with_saying (reading_of self.old) (shown words.now) saying ≡ None)) }
         ensures stands { IfOk result (λ found. IfSome found
             (λ line. StandsAfter (latest_slot self.old.lines.items) (length self.new.named.items) line)) }
         ensures slot { IfOk result (λ found. IfSome found
@@ -198,8 +204,9 @@ impl Draft {
     }
 }
 
-/// Reads a script. Lines end with LF or CR LF, the last one also with the text. An empty line is counted and passed over; each
-/// other one is a line of [`Line`]'s forms, its words one space apart and its numbers decimal. There are at most 1,000,000.
+/// Reads a script. Lines end with LF or CR LF, the last one also with the text. An empty line is
+/// counted and passed over; each other one is a line of [`Line`]'s forms, its words one space apart
+/// and its numbers decimal. There are at most 1,000,000.
 ///
 /// It takes time in the text's bytes, and for each line with a name in the names before it.
 ///
@@ -209,7 +216,8 @@ impl Draft {
 pub fn read_script(alloc: Global, text: &[u8]) -> Result<Script, ScriptRefused>
     ensures script { IfOk result (IsScript text.now) }
     ensures refused { IfErr result (IsRefused text.now) }
-    ensures lines { IfOk result (λ script. AreLines (length script.named.items) script.lines.items) }
+    ensures lines { IfOk result (λ script.
+        AreLines (length script.named.items) script.lines.items) }
 {
     let mut draft = Draft::new(alloc);
     let mut words = Vec::new(alloc);

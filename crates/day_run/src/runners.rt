@@ -57,7 +57,8 @@ pub(crate) enum Told {
 pub(crate) struct Passed {
     /// The bytes that were sent.
     pub(crate) sent: u64,
-    /// The bytes that are booked in the slots since the last one that was heard, and the most of them in one slot.
+    /// The bytes that are booked in the slots since the last one that was heard, and the most of
+    /// them in one slot.
     pub(crate) booked: u64,
     pub(crate) peak: u64,
 }
@@ -173,7 +174,8 @@ fn step_clients(clients: &mut [Client<'_>], slot: u64) -> u64
     requires few { length clients.old ≤ 256 }
     requires going { AreGoing clients.old }
     ensures going { AreGoing clients.new }
-    ensures booked { (entries : List Entry) → AreBooked entries clients.old → AreBooked entries clients.new }
+    ensures booked { (entries : List Entry) → AreBooked entries clients.old →
+        AreBooked entries clients.new }
     ensures steps { (heard : ℕ) → heard ≤ slot → AreTimed heard clients.old →
         AreSteps heard slot clients.old clients.new result }
 {
@@ -188,7 +190,8 @@ fn step_clients(clients: &mut [Client<'_>], slot: u64) -> u64
 fn end_play(book: &mut Book, clients: &mut [Client<'_>], client: usize, halt: Option<Halt>)
     requires inside { client < length clients.old }
     requires few { length clients.old ≤ 256 }
-    requires halt { IfSome halt (λ h. (none : Client) → IsHaltOf (slice_index_or clients.old client none) h) }
+    requires halt { IfSome halt (λ h. (none : Client) →
+        IsHaltOf (slice_index_or clients.old client none) h) }
     requires going { AreGoing clients.old }
     requires booked { AreBooked book.old.entries clients.old }
     ensures going { AreGoing clients.new }
@@ -253,7 +256,8 @@ fn booked_between(book: &Book, from: u64, to: u64) -> (u64, u64)
     requires from_now { (state_after book.now.entries).now ≤ from }
     requires small { from ≤ 2 ^ 62 }
     requires order { from ≤ to }
-    ensures { result.0 ≡ sum_by (booked_in (state_after book.now.entries)) (range_with_len (from + 1) (to - from)) }
+    ensures { result.0 ≡
+        sum_by (booked_in (state_after book.now.entries)) (range_with_len (from + 1) (to - from)) }
 {
     let calendar = book.calendar();
     let end = to.min(calendar.now() + RING_SLOTS);

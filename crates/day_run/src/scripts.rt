@@ -21,9 +21,11 @@ pub enum Line {
     Resume(u8),
     /// `look T`: what is booked in a slot, at most 2^62.
     Look(u64),
-    /// `slot T`: the link comes to a slot, from 1 to 2^62, later than that of each `slot` line before.
+    /// `slot T`: the link comes to a slot, from 1 to 2^62, later than that of each `slot` line
+    /// before.
     Slot(u64),
-    /// `offer C film NAME B D W` or `offer C trace NAME B D W`: from when on a play would be admitted.
+    /// `offer C film NAME B D W` or `offer C trace NAME B D W`: from when on a play would be
+    /// admitted.
     Offer {
         /// The client.
         client: u8,
@@ -52,7 +54,8 @@ pub struct Named {
 pub struct Script {
     /// Its lines that aren't empty, in order.
     pub lines: Vec<Line>,
-    /// Each film and each trace that they name, once, in the order of the lines that name them first.
+    /// Each film and each trace that they name, once, in the order of the lines that name them
+    /// first.
     pub named: Vec<Named>,
 }
 

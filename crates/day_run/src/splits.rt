@@ -28,11 +28,12 @@ fn without_return(line: &[u8]) -> &[u8]
     if ends { &line[..line.len() - 1] } else { line }
 }
 
-/// The first line of a text, and the text after it. A line is ended by LF or CR LF, the last one also by the end of the text;
-/// where no byte stands, no line begins.
+/// The first line of a text, and the text after it. A line is ended by LF or CR LF, the last one
+/// also by the end of the text; where no byte stands, no line begins.
 pub(crate) fn first_line(text: &[u8]) -> Option<(&[u8], &[u8])>
     ensures none { IfNone result (text.now ≡ []) }
-    ensures some { IfSome result (λ parts. lines_of_script text.now ≡ parts.0.now ∷ lines_of_script parts.1.now) }
+    ensures some { IfSome result (λ parts. lines_of_script text.now ≡
+        parts.0.now ∷ lines_of_script parts.1.now) }
     ensures shorter { IfSome result (λ parts. length parts.1.now < length text.now) }
 {
     if text.is_empty() {

@@ -128,7 +128,8 @@ fn push_start(out: &mut Vec<u8>, start: Option<u64>) -> Result<(), NoMemory>
 }
 
 #[tactic(auto, using(std::proofs::lemmas::List::append_assoc))]
-/// Appends the lines of an offer: one for each start that was tried in vain, and one for what is offered.
+/// Appends the lines of an offer: one for each start that was tried in vain, and one for what is
+/// offered.
 pub(crate) fn push_offer(out: &mut Vec<u8>, offers: &Offers) -> Result<(), NoMemory>
     ensures { OnOk result (out.new.items ≡ out.old.items ++ (offer_text offers.now)) }
 {
