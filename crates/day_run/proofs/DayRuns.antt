@@ -1,5 +1,5 @@
 -- Lines of a script, one after the other.
-use Rattle.std.proofs.Common.{◌≡◌, ◌<◌, ◌≤◌, ◌+◌, ℕ, List, [], ◌∷◌, ◌++◌, length, map, take, drop, get_or, arith, refl, sym, ap, subst, ◌∙◌}
+use Rattle.std.proofs.Common.{◌≡◌, ◌<◌, ◌≤◌, ◌+◌, ℕ, suc, List, [], ◌∷◌, ◌++◌, length, map, take, drop, get_or, arith, refl, sym, ap, subst, ◌∙◌}
 use Rattle.std.specs.Prelude.{flat_map}
 use Rattle.std.proofs.lemmas.Grind.{flat_map-append}
 use Rattle.std.proofs.lemmas.List.{append-nil, append_assoc, drop_all, drop_more, take_more}
@@ -74,3 +74,10 @@ day-of link here lines text whole m journal same run w j =
       text_is = w ∙ ap (λ l. l ++ last_lines m) run.text_is;
       journal_is = j;
     }
+
+-- a text for each line
+pub day-lines : (link : Link) (lines : List Line) (texts : List (List ℕ)) (old new : Moment) → AreRun link lines texts old new → length texts ≡ length lines
+day-lines link [] [] old new run = refl
+day-lines link [] (t ∷ texts) old new run = absurd run
+day-lines link (l ∷ ls) [] old new run = absurd run
+day-lines link (l ∷ ls) (t ∷ texts) old new run = ap suc (day-lines link ls texts run.0 new run.1.1)

@@ -11,8 +11,6 @@ pub mod Timings
 pub mod LineSteps
 pub mod DayRuns
 pub mod SourceTracks
-pub mod Balances
-pub mod BalancedLines
 pub mod TraceReels
 pub mod SlotSums
 pub mod Drawn

@@ -7,7 +7,6 @@ pub mod Sources
 pub mod Seats
 pub mod Tracks
 pub mod Days
-pub mod DayLaws
 pub mod Clients
 pub mod Runners
 pub mod Prints
