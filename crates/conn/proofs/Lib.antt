@@ -1,4 +1,5 @@
 pub mod Agreeing
+pub mod Answering
 pub mod Beginning
 pub mod Between
 pub mod Breaking
@@ -6,9 +7,14 @@ pub mod Counting
 pub mod Cutting
 pub mod Filming
 pub mod Going
+pub mod Grounds
+pub mod Hearing
 pub mod Playing
+pub mod Promising
 pub mod Refusing
 pub mod Replying
 pub mod Sighting
+pub mod Staying
 pub mod Taking
+pub mod Telling
 pub mod Workers

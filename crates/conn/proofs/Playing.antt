@@ -103,7 +103,7 @@ play_film waits setup play text slot =
     (plan_bytes p p.sent (step_end false (raised slot p))) text
 
 -- a play goes on by a slot that is taken up
-taken_slot : (old : Standing) (slot : ℕ) (setup : Setup) (play : Played) (film : List ℕ) → old.state ≡ Playing setup play → HasSent play old.heard film →
+pub taken_slot : (old : Standing) (slot : ℕ) (setup : Setup) (play : Played) (film : List ℕ) → old.state ≡ Playing setup play → HasSent play old.heard film →
     old.heard < slot → HasSentOn setup play (finished (sent_slot old slot)) (film ++ film_bytes (due_parts old slot))
 taken_slot old slot setup play film is has later =
     let goes : Bool = old.waits && is_between (stepped_in true slot old.state) in
@@ -146,7 +146,7 @@ as_it_was session setup play film is has = record {
   sent = has;
 }
 
-slot_cases : (taken sending : Bool) (old next still : Standing) (parts : List Part) (setup : Setup) (play : Played) (film : List ℕ) → sending ≡ true →
+pub slot_cases : (taken sending : Bool) (old next still : Standing) (parts : List Part) (setup : Setup) (play : Played) (film : List ℕ) → sending ≡ true →
     HasSentOn setup play old film → (taken ≡ true → HasSentOn setup play next (film ++ film_bytes parts)) →
     HasSentOn setup play (if taken then (if sending then next else still) else old) (film ++ film_bytes (if taken && sending then parts else []))
 slot_cases false sending old next still parts setup play film sends was goes = subst (HasSentOn setup play old) (sym (append-nil film)) was
@@ -157,7 +157,7 @@ and_left : (a b : Bool) → (a && b) ≡ true → a ≡ true
 and_left true b both = refl
 and_left false b both = both
 
-later_slot : (old : Standing) (slot : ℕ) → is_taken old slot ≡ true → old.heard < slot
+pub later_slot : (old : Standing) (slot : ℕ) → is_taken old slot ≡ true → old.heard < slot
 later_slot old slot taken = ltb-true old.heard slot (and_left (nat_lt old.heard slot) (nat_le slot (2 ^ 62)) taken)
 
 -- a play goes on by a slot

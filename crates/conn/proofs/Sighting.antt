@@ -43,7 +43,7 @@ sent_on a b c xs ys first second =
     second ∙ ap (λ t. told_more t (sends ys)) first ∙ told_on a (sends xs) (sends ys) ∙ ap (told_more a) (sym (map-append Sent xs ys))
 
 -- what the seat made
-entries_in-append : (xs ys : List Outcome) → entries_in (xs ++ ys) ≡ entries_in xs ++ entries_in ys
+pub entries_in-append : (xs ys : List Outcome) → entries_in (xs ++ ys) ≡ entries_in xs ++ entries_in ys
 entries_in-append [] ys = refl
 entries_in-append (x ∷ xs) ys =
     ap (λ es. entry_in x ++ es) (entries_in-append xs ys) ∙ sym (append_assoc (entry_in x) (entries_in xs) (entries_in ys))

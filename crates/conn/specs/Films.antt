@@ -4,10 +4,9 @@ use Rattle.film_frames.specs.Runs.{run_pieces}
 use Rattle.film_frames.specs.Tracks.{IsBoundary, framed}
 use Rattle.film_run.specs.declared.plans.Playback.{Playback}
 use Rattle.film_run.specs.declared.runs.Run.{Run}
-use Rattle.film_run.specs.Laws.{IsSending}
 use Rattle.film_run.specs.Plans.{rest_sizes, timing_of}
 use Rattle.plan_cert.specs.Slots.{total_bytes}
-use Rattle.wire_curve.specs.FilmCurves.{low_at, slot_count, up_at}
+use Rattle.wire_curve.specs.FilmCurves.{low_at, up_at}
 use Rattle.pacer.specs.Pacings.{IsPacing, Pacing, first_slots}
 use Rattle.admission.specs.declared.entries.Command.{Command}
 use Rattle.admission.specs.declared.entries.Command.TheVariants.{Play, Halt, Look}
@@ -71,12 +70,6 @@ IsReady setup (Stopping own stop) = ⊥
 pub record IsBetween (sizes : List ℕ) (playback : Playback) (run : Run) (slot sent : ℕ) : Type 0 where
   pub above : low_at (rest_sizes sizes run) (timing_of playback run) slot ≤ sent
   pub below : sent ≤ up_at (rest_sizes sizes run) (timing_of playback run) slot
-
--- the play of a run by its own plan, so many of its slots on
-pub record IsInSlot (sizes : List ℕ) (playback : Playback) (play : Played) (heard slot : ℕ) : Type 0 where
-  pub sending : IsSending sizes playback play.run play.plan
-  pub slot_is : heard ≡ play.start + slot
-  pub within : slot < slot_count (rest_sizes sizes play.run) (timing_of playback play.run)
 
 -- a play that was admitted begins in a slot: nothing is sent of it
 pub record HasBegun (setup : Setup) (prepared : Prepared) (place start : ℕ) (session : Standing) : Type 0 where

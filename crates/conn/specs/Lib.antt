@@ -7,3 +7,6 @@ pub mod Served
 pub mod Sights
 pub mod Turns
 pub mod Words
+pub mod Plays
+pub mod Promises
+pub mod Admissions

@@ -2,6 +2,7 @@
 #![tactic(auto)]
 
 mod connections;
+mod films;
 mod laws;
 mod parts;
 mod reports;
@@ -9,7 +10,8 @@ mod serving;
 mod words;
 
 pub use laws::{
-    law_between_curves, law_count_by_plan, law_film_by_plan, law_play_begins, law_replies_between,
+    law_between_curves, law_count_by_plan, law_film_by_plan, law_overflow_told, law_play_answered,
+    law_play_begins, law_replies_between,
 };
 pub use parts::serve_part;
 pub use reports::{ConnEnd, ConnReport, PartEnd, PartReport};

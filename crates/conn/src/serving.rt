@@ -8,10 +8,12 @@ ghost use Rattle.station.specs.Seats.{IsSameSeat};
 ghost use Rattle.conn.specs.declared.reports.ConnEnd.TheVariants.{LinkFault};
 ghost use Rattle.conn.specs.Events.{HasCounted};
 ghost use Rattle.conn.specs.Keeping.{HasGone, IsQuiet, at_rest, business};
+ghost use Rattle.conn.specs.Promises.{KeepsPromise};
 ghost use Rattle.conn.specs.Served.{HasServedConnection};
 ghost use Rattle.conn.specs.Sights.{HasCourse, sight};
 
 use crate::connections::Connection;
+use crate::films::law_all_shown;
 use crate::reports::{ConnEnd, ConnReport};
 use film_frames::Stored;
 use session::{Notes, Settings};
@@ -28,11 +30,13 @@ const MOST_EVENTS: u64 = 1 << 40;
 
 /// Serves a connection from its first event to its end.
 ///
-/// Bytes that come are cut into requests, which a session answers; plays are booked with the station, and what is due is sent
-/// as slots begin. An open booking is halted at the end, whatever ends the connection.
+/// Bytes that come are cut into requests, which a session answers; plays are booked with the
+/// station, and what is due is sent as slots begin. An open booking is halted at the end, whatever
+/// ends the connection.
 ///
-/// What the link tells is the connection's course, event by event: what was sent in its slot, the halt of a play that is then
-/// done, and each request that was taken up with the station's answer and the reply. The report tells what was noted on the way.
+/// What the link tells is the connection's course, event by event: what was sent in its slot, the
+/// halt of a play that is then done, and each request that was taken up with the station's answer
+/// and the reply. The report tells what was noted on the way.
 #[allow(clippy::too_many_arguments)]
 pub fn serve_connection<R: Wait, K: Link>(
     rt: &R,
@@ -53,10 +57,14 @@ pub fn serve_connection<R: Wait, K: Link>(
     ensures words { result.words ≡ words }
     ensures served { HasServedConnection (new_standing films.now settings.now words)
         (K.told link.old) (K.told link.new) seat.old seat.new result }
+    ensures headline { KeepsPromise (new_standing films.now settings.now words)
+        (K.told link.old) (K.told link.new) seat.old seat.new result }
     ensures count { K.faults link.old ≤ K.faults link.new }
     ensures fault { result.end ≡ LinkFault → HasRisen (K.faults link.old) (K.faults link.new) }
-    ensures entries { HasGone (at_rest seat.old.mine []) (at_rest seat.new.mine result.receipts.items) }
+    ensures entries { HasGone (at_rest seat.old.mine [])
+        (at_rest seat.new.mine result.receipts.items) }
 {
+    law_all_shown(films);
     let Ok(mut connection) = Connection::new(alloc, films, settings, words) else {
         let none = Notes {
             receipts: Vec::new(alloc),
@@ -68,6 +76,7 @@ pub fn serve_connection<R: Wait, K: Link>(
     };
     let end = hear_all(rt, station, seat, link, &mut connection);
     connection.close(rt, station, seat);
+    seat.holds();
     report_of(worker, words, end, connection.notes())
 }
 
@@ -86,7 +95,8 @@ fn hear_all<R: Wait, K: Link>(
     requires lost { connection.old.session.lost ≡ false }
     ensures seat { IsSameSeat seat.old seat.new }
     ensures quiet { IsQuiet seat.new.mine connection.new }
-    ensures gone { HasGone (business seat.old.mine connection.old) (business seat.new.mine connection.new) }
+    ensures gone { HasGone (business seat.old.mine connection.old)
+        (business seat.new.mine connection.new) }
     ensures counted { HasCounted (Some result) (K.faults link.old) (K.faults link.new) }
     ensures course { HasCourse result (sight connection.old (K.told link.old) seat.old)
         (sight connection.new (K.told link.new) seat.new) }

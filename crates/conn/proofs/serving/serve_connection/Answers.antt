@@ -1,6 +1,8 @@
-use Rattle.std.proofs.Common.{rules}
+use Rattle.std.proofs.Common.{refl, rules}
+use Rattle.session.specs.Hearings.{new_standing}
 use Rattle.conn.specs.Keeping.{business}
 use Rattle.conn.proofs.Going.{gone_on}
+use Rattle.conn.proofs.Promising.{keeps_promise, new_well}
 use Rattle.conn.proofs.Workers.{gone_whole}
 use Rattle.conn.proofs.serving.serve_connection.Goals as goal
 
@@ -11,3 +13,10 @@ returns-clause-entries g c =
     gone_whole c.args.seat.now.mine c.close.new.seat.mine c.in-Ok.connection.booking c.close.new.self.booking c.in-Ok.connection.session.receipts
     c.close.new.self.session.receipts c.report_of-2.result.receipts.items c.in-Ok.ensures.booking c.in-Ok.ensures.receipts c.close.ensures.booking
     (search rules) both
+
+pub returns-clause-headline : goal.returns-clause-headline
+returns-clause-headline g c =
+    let session = new_standing c.args.films.now c.args.settings.now c.args.words in
+    let well = new_well c.args.films.now c.args.settings.now c.args.words c.law_all_shown.ensures c.requires.settings in
+    keeps_promise session (g.K.Link.told c.args.link.now) (g.K.Link.told c.hear_all-end.new.link) c.args.seat.now c.close.new.seat c.report_of-2.result well
+    refl c.holds.ensures.kept (search rules)

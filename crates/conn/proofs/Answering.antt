@@ -1,0 +1,83 @@
+-- A PLAY to which no refusal applies is answered by what the station made of it.
+use Rattle.std.proofs.Common.{◌≡◌, ℕ, ◌-◌, List, [], Option, Some, refl, sym, ap, subst, ◌∙◌, inl, inr}
+use Rattle.std.specs.Fmt.{digits}
+use Rattle.rtsp_text.specs.Replies.{reply_front, reply_text, status_line}
+use Rattle.admission.specs.declared.entries.Answer.{Answer}
+use Rattle.admission.specs.declared.entries.Answer.TheVariants.{Admitted, Halted, Looked, Overflow}
+use Rattle.admission.specs.Makers.{Placed}
+use Rattle.plan_cert.specs.declared.Segment.{Segment}
+use Rattle.station.specs.Ledgers.{play_of}
+use Rattle.session.specs.declared.asks.Ask.{Ask}
+use Rattle.session.specs.declared.asks.Ask.TheVariants.{Reply as AskReply, Play as AskPlay}
+use Rattle.session.specs.Changes.{AsksOrLacks, CanBePlayed, ChangesState, HasCode, IsPlayAsked, IsPlayAskedFor, LacksMemory}
+use Rattle.session.specs.Hearings.{started_text}
+use Rattle.session.specs.Methods.{play_front, prepared_of}
+use Rattle.session.specs.Standings.{Standing, sequence_of}
+use Rattle.session.proofs.Changing.{hears_good, hears_ground, hears_state}
+use Rattle.conn.specs.Turns.{Outcome, Unasked, Entered, WasFull, Offered, HasHeard, IsAnswered, IsPlayAnswered}
+use Rattle.conn.specs.Films.{IsReady}
+use Rattle.conn.specs.Admissions.{IsEntryReplied, IsPlayReplied}
+use Rattle.conn.proofs.Beginning.{play_begins}
+
+-- the front of a play's reply is of 200, and the reply to one that lacks memory of 500
+front_ok : (old asking : Standing) (is : IsPlayAsked old asking) (slots : ℕ) →
+    HasCode 200 (started_text (play_front old is.stored is.setup is.planned is.sequence is.authority) slots)
+unfolding reply_front status_line digits
+front_ok old asking is slots = refl
+
+memory_code : (old : Standing) (ask : Ask) (asking : Standing) → LacksMemory old ask asking → HasCode 500 asking.text
+unfolding reply_text reply_front status_line digits
+memory_code old ask asking lacks = subst (HasCode 500) (sym (ap (λ (s : Standing). s.text) lacks.refused.1)) refl
+
+entry_replied : (old asking : Standing) (is : IsPlayAsked old asking) (placed : Placed) (answer : Answer) (new : Standing) → asking.state ≡ old.state →
+    placed.entry.command ≡ play_of old.heard is.planned.plan → IsPlayAnswered asking placed answer new → IsEntryReplied old placed answer new
+entry_replied old asking is placed (Admitted start) new same command answered =
+    let prepared = prepared_of old is.stored is.setup is.planned is.sequence in
+    let ready : IsReady is.setup asking.state = subst (IsReady is.setup) (sym (same ∙ is.ready)) refl in
+    let begun = play_begins asking new placed start is.setup prepared answered ready is.awaited in
+    let text = ap (λ (s : Standing). s.text) answered.1 ∙ ap (λ (t : List ℕ). started_text t (start - asking.heard)) is.text in record {
+      ok = subst (HasCode 200) (sym text) (front_ok old asking is (start - asking.heard));
+      asking = asking;
+      asked = is;
+      command = command;
+      play = begun.play;
+      state = begun.state;
+      run = begun.run;
+      plan = begun.plan;
+      place_is = begun.place_is;
+      start_is = begun.start_is;
+      sent = begun.sent;
+    }
+entry_replied old asking is placed (Overflow slot booked asked) new same command answered = (sequence_of asking.awaited, ap (λ (s : Standing). s.text) answered)
+entry_replied old asking is placed Halted new same command answered = absurd answered
+entry_replied old asking is placed (Looked now at booked) new same command answered = absurd answered
+
+asked_replied : (old asking : Standing) (is : IsPlayAsked old asking) (outcome : Outcome) (new : Standing) → asking.state ≡ old.state → asking.heard ≡ old.heard →
+    IsAnswered asking (AskPlay is.planned.plan) outcome new → IsPlayReplied old outcome new
+asked_replied old asking is Unasked new same heard answered = absurd answered
+asked_replied old asking is (Entered placed) new same heard answered =
+    entry_replied old asking is placed placed.entry.answer new same (answered.0 ∙ ap (λ h. play_of h is.planned.plan) heard) answered.1
+asked_replied old asking is (WasFull entries live) new same heard answered = (sequence_of asking.awaited, ap (λ (s : Standing). s.text) answered)
+asked_replied old asking is (Offered note) new same heard answered = absurd answered
+
+lacks_replied : (old : Standing) (ask : Ask) (asking : Standing) (outcome : Outcome) (new : Standing) → LacksMemory old ask asking →
+    IsAnswered asking AskReply outcome new → IsPlayReplied old outcome new
+lacks_replied old ask asking Unasked new lacks answered =
+    subst (HasCode 500) (sym (ap (λ (s : Standing). s.text) answered)) (memory_code old ask asking lacks)
+lacks_replied old ask asking (Entered placed) new lacks answered = absurd answered
+lacks_replied old ask asking (WasFull entries live) new lacks answered = absurd answered
+lacks_replied old ask asking (Offered note) new lacks answered = absurd answered
+
+either_replied : (old : Standing) (ask : Ask) (asking : Standing) (outcome : Outcome) (new : Standing) → AsksOrLacks old ask asking →
+    ChangesState ask old asking → asking.heard ≡ old.heard → IsAnswered asking ask outcome new → IsPlayReplied old outcome new
+either_replied old ask asking outcome new (inl asks) changes heard answered =
+    let state = subst (λ a. ChangesState a old asking) asks.command changes in
+    asked_replied old asking asks.play outcome new state.0 heard (subst (λ a. IsAnswered asking a outcome new) asks.command answered)
+either_replied old ask asking outcome new (inr lacks) changes heard answered =
+    lacks_replied old ask asking outcome new lacks (subst (λ a. IsAnswered asking a outcome new) lacks.refused.0 answered)
+
+pub play_answered : (old new : Standing) (message : List ℕ) (outcome : Outcome) → CanBePlayed old message → HasHeard old message outcome new →
+    IsPlayReplied old outcome new
+play_answered old new message outcome can heard =
+    either_replied old heard.ask heard.asking outcome new (hears_good old heard.asking message heard.ask heard.hears can)
+    (hears_state old heard.asking message heard.ask heard.hears) (hears_ground old heard.asking message heard.ask heard.hears).heard heard.answered

@@ -1,0 +1,153 @@
+-- What a connection keeps to while a play goes on, by the course.
+use Rattle.std.proofs.Common.{◌≡◌, ℕ, ◌+◌, ◌-◌, ◌≤◌, ◌^◌, ◌&&◌, ◌++◌, Bool, true, false, if◌then◌else◌, nat_lt, nat_le, List, [], ◌∷◌, length, take, drop, refl, sym, ap, subst, ◌∙◌, arith, inl, inr, Option}
+use Rattle.std.proofs.lemmas.List.{append-nil}
+use Rattle.film_frames.specs.declared.stores.Stored.{Stored}
+use Rattle.film_frames.specs.Tracks.{framed}
+use Rattle.film_run.proofs.PlayLaws.{sending-best}
+use Rattle.film_run.specs.declared.runs.Run.{Run}
+use Rattle.film_run.specs.Units.{stored_sizes}
+use Rattle.plan_cert.specs.declared.Segment.{Segment}
+use Rattle.plan_cert.specs.Plan.{IsPlan}
+use Rattle.vod_base.specs.Links.{Doing, HeardBytes, HeardEnd, HeardSlot, Sent}
+use Rattle.pacer.specs.Pacings.{first_slots}
+use Rattle.session.specs.declared.settings.Settings.{Settings}
+use Rattle.session.specs.declared.states.Play.{Play as Played}
+use Rattle.session.specs.declared.states.Setup.{Setup}
+use Rattle.session.specs.declared.states.State.{State}
+use Rattle.session.specs.declared.states.State.TheVariants.{Init, Playing, Ready, Stopping}
+use Rattle.session.specs.Hearings.{new_standing}
+use Rattle.session.specs.Ranges.{AreSettings}
+use Rattle.session.specs.Sendings.{finished, is_between, is_sending, is_taken, sent_due, sent_reply, sent_slot, slotted, stepped_in}
+use Rattle.session.specs.Standings.{Standing, taken_up}
+use Rattle.conn.specs.Turns.{Outcome, Part, Stage, film_bytes, slot_parts, stage}
+use Rattle.conn.specs.Rounds.{Comes, Round}
+use Rattle.conn.specs.Films.{HasSent, HasSentOn}
+use Rattle.conn.specs.Plays.{ArePlaysKept, IsKeptIn, IsRoundIn, IsSentBy, client_of, film_in, heard_by, play_pieces}
+use Rattle.conn.proofs.Between.{planned_between}
+use Rattle.conn.proofs.Hearing.{AreShown, HasPlay, IsStateOf, IsWell}
+use Rattle.conn.proofs.Playing.{as_it_was}
+use Rattle.conn.proofs.Replying.{film_count}
+use Rattle.conn.proofs.Telling.{course_tells, refusals_told}
+use Rattle.conn.specs.Films.{rounds_parts}
+use Rattle.conn.specs.Rounds.{ending_outcomes, entries_in, rounds_outcomes}
+use Rattle.conn.specs.Plays.{ending_rounds}
+use Rattle.conn.specs.Promises.{KeepsPromise}
+use Rattle.conn.specs.Served.{HasServedFrom}
+use Rattle.conn.specs.declared.reports.ConnReport.{ConnReport}
+use Rattle.admission.specs.Histories.{booked_after}
+use Rattle.admission.proofs.Runs.{legal-take}
+use Rattle.admission.proofs.Within.{sound-after}
+use Rattle.slot_calendar.specs.Profiles.{capacity_at}
+use Rattle.station.specs.Seats.{IsSeat, Sitting}
+use Rattle.conn.proofs.Staying.{rounds_well, slot_play}
+
+-- a session that heard nothing yet
+pub new_well : (films : List Stored) (settings : Settings) (words : List ℕ) → AreShown films → AreSettings settings →
+    IsWell (new_standing films settings words) []
+new_well films settings words shown good = record { films = shown; settings = good; state = tt }
+
+-- the heard slot after a slot
+reply_heard : (goes : Bool) (s : Standing) → (if goes then sent_reply s else s).heard ≡ s.heard
+reply_heard true s = refl
+reply_heard false s = refl
+
+heard_cases : (taken sending : Bool) (next still old : Standing) (slot : ℕ) → next.heard ≡ slot → still.heard ≡ slot →
+    (if taken then (if sending then next else still) else old).heard ≡ (if taken then slot else old.heard)
+heard_cases false sending next still old slot one other = refl
+heard_cases true false next still old slot one other = other
+heard_cases true true next still old slot one other = one
+
+slot_heard : (old : Standing) (slot : ℕ) → (slotted old slot).heard ≡ taken_up old.heard slot
+slot_heard old slot =
+    heard_cases (is_taken old slot) (is_sending old.state) (finished (sent_slot old slot)) (record old { heard = slot }) old slot
+    (reply_heard (old.waits && is_between (stepped_in true slot old.state)) (sent_due old slot)) refl
+
+-- what was sent of a play, by the play as it was and as it is now
+sent_by : (old : Standing) (setup : Setup) (play : Played) (film : List ℕ) (new : Standing) (heard : ℕ) (more : List ℕ) →
+    HasPlay old.films old.source old.settings old.counts old.heard film setup play → HasSentOn setup play new more → new.heard ≡ heard →
+    (stored : Stored) × IsSentBy old stored setup play heard more
+sent_by old setup play film new heard more its on same =
+    let stored = its.stored in
+    let now = on.now in
+    let sizes = stored_sizes stored in
+    let client = client_of old stored setup in
+    let sent : HasSent now heard more = subst (λ h. HasSent now h more) same on.sent in
+    let plan : now.pacer.plan ≡ play.plan = sent.plan ∙ on.plan in
+    let is_plan : IsPlan play.plan = subst IsPlan plan sent.pacing.plan in
+    let count : length more ≡ first_slots play.plan (heard + 1 - play.start) =
+    film_count now heard more sent ∙ ap (λ p. first_slots p (heard + 1 - now.start)) plan ∙ ap (λ s. first_slots play.plan (heard + 1 - s)) on.start in
+    let slots : first_slots now.pacer.plan (heard + 1 - now.pacer.start) ≡ length more =
+    ap (λ s. first_slots now.pacer.plan (heard + 1 - s)) sent.start ∙ sym (film_count now heard more sent) in
+    let before : now.pacer.before ≡ play.run.sent = sent.before ∙ ap (λ (r : Run). r.sent) on.run in
+    let pieces : now.pacer.pieces ≡ play_pieces old stored setup play = on.pieces ∙ its.pieces in (
+      stored,
+      record {
+        at = its.at;
+        sending = its.sending;
+        best = sending-best sizes client play.run play.plan its.sending;
+        count = count;
+        front = sent.film_is ∙ ap (λ n. take n (drop now.pacer.before (framed now.pacer.pieces))) slots
+            ∙ ap (λ n. take (length more) (drop n (framed now.pacer.pieces))) before
+            ∙ ap (λ ps. take (length more) (drop play.run.sent (framed ps))) pieces;
+        between = λ slot at.
+            let through : heard + 1 - play.start ≡ slot + 1 = omega (arith, at) in
+            planned_between sizes client play.run play.plan slot (length more) is_plan its.sending (count ∙ ap (first_slots play.plan) through);
+      },
+    )
+
+kept_event : (old new : Stage) (event : Doing) (due : List Part) (halt : Outcome) (setup : Setup) (play : Played) (film : List ℕ) →
+    HasPlay old.session.films old.session.source old.session.settings old.session.counts old.session.heard film setup play →
+    old.session.state ≡ Playing setup play → Comes old event due halt new →
+    (stored : Stored) × IsSentBy old.session stored setup play (heard_by old.session.heard event) (film ++ film_bytes due)
+kept_event old new (HeardBytes bytes) due halt setup play film its is comes =
+    subst (λ ps. (stored : Stored) × IsSentBy old.session stored setup play old.session.heard (film ++ film_bytes ps)) (sym comes.0)
+    (subst (λ bs. (stored : Stored) × IsSentBy old.session stored setup play old.session.heard bs) (sym (append-nil film))
+    (sent_by old.session setup play film old.session old.session.heard film its (as_it_was old.session setup play film is its.sent) refl))
+kept_event old new (HeardSlot slot) due halt setup play film its is comes =
+    subst (λ ps. (stored : Stored) × IsSentBy old.session stored setup play (taken_up old.session.heard slot) (film ++ film_bytes ps)) (sym comes.1.parts_are)
+    (sent_by old.session setup play film (slotted old.session slot) (taken_up old.session.heard slot) (film ++ film_bytes (slot_parts old.session slot)) its
+    (slot_play old.session slot setup play film is its.sent) (slot_heard old.session slot))
+kept_event old new HeardEnd due halt setup play film its is comes = absurd comes
+kept_event old new (Sent byte) due halt setup play film its is comes = absurd comes
+
+kept_in : (state : State) (old new : Stage) (event : Doing) (due : List Part) (halt : Outcome) (film : List ℕ) → IsWell old.session film →
+    old.session.state ≡ state → Comes old event due halt new →
+    IsKeptIn state old.session (heard_by old.session.heard event) (film ++ film_bytes due)
+kept_in Init old new event due halt film well is comes = tt
+kept_in (Ready setup paused) old new event due halt film well is comes = tt
+kept_in (Playing setup play) old new event due halt film well is comes =
+    let s = old.session in
+    let was = subst (IsStateOf s.films s.source s.settings s.counts s.heard film) is well.state in
+    kept_event old new event due halt setup play film was.1 is comes
+kept_in (Stopping setup stop) old new event due halt film well is comes = tt
+
+-- in each course from such a session on
+pub plays_kept : (first : Standing) (rounds : List Round) → IsWell first [] → ArePlaysKept first rounds
+plays_kept first rounds well = λ before round old at.
+    kept_in old.session.state old at.opened round.event round.due round.halt (film_in [] before)
+    (rounds_well (stage first []) old before [] well at.runs) refl at.comes
+
+-- no slot is booked above its capacity
+never_overbooked : (seat : Sitting) → IsSeat seat → (n slot : ℕ) → booked_after (take n seat.seen) slot ≤ capacity_at seat.steps slot
+never_overbooked seat is = λ n slot.
+    (sound-after seat.steps (take n seat.seen) (legal-take seat.steps seat.seen n is.legal)).within.each slot
+
+-- the whole promise
+pub keeps_promise : (session : Standing) (old_told new_told : Option (List Doing)) (old_seat new_seat : Sitting) (report : ConnReport) → IsWell session [] →
+    session.text ≡ [] → IsSeat new_seat → HasServedFrom session old_told new_told old_seat new_seat report →
+    KeepsPromise session old_told new_told old_seat new_seat report
+keeps_promise session old_told new_told old_seat new_seat report well none is served =
+    let course = served.course in
+    let made : List Outcome = rounds_outcomes course.rounds ++ ending_outcomes course.ending in
+    let parts : List Part = rounds_parts (course.rounds ++ ending_rounds course.ending) in
+    let after = entries_in (served.closes.halt ∷ []) in
+    let told = course_tells (stage session []) course.mid course.rounds course.ending report.end served.ended.stage none course.runs course.ends in
+    let mine : new_seat.mine ≡ (old_seat.mine ++ entries_in made) ++ after = served.closes.noted.mine ∙ ap (λ ps. ps ++ after) course.noted.mine in
+    inl (record {
+      served = served;
+      booked = record { legal = is.legal; within = never_overbooked new_seat is };
+      keeps = record {
+        plays = plays_kept session (course.rounds ++ ending_rounds course.ending) well;
+        refusals = refusals_told new_seat old_seat.mine after made parts is mine told;
+      };
+    })

@@ -1,0 +1,367 @@
+-- Through a course a session stays as `IsWell` has it.
+use Rattle.std.proofs.Common.{◌≡◌, ℕ, ◌++◌, ◌&&◌, ◌^◌, Bool, true, false, if◌then◌else◌, nat_lt, nat_le, List, [], ◌∷◌, length, refl, sym, ap, subst, ◌∙◌}
+use Rattle.std.proofs.lemmas.Bool.{true≢false}
+use Rattle.std.proofs.lemmas.List.{append-nil}
+use Rattle.film_frames.specs.declared.stores.Stored.{Stored}
+use Rattle.film_frames.specs.Runs.{run_pieces}
+use Rattle.film_run.specs.declared.runs.Run.{Run}
+use Rattle.film_run.specs.Laws.{IsSending}
+use Rattle.film_run.specs.Units.{stored_sizes}
+use Rattle.plan_cert.specs.declared.Segment.{Segment}
+use Rattle.vod_base.specs.Links.{Doing, HeardBytes, HeardEnd, HeardSlot, Sent}
+use Rattle.admission.specs.declared.entries.Answer.{Answer}
+use Rattle.admission.specs.declared.entries.Answer.TheVariants.{Admitted, Halted, Looked, Overflow}
+use Rattle.admission.specs.Histories.{is_admission}
+use Rattle.admission.specs.Makers.{Placed}
+use Rattle.session.specs.declared.asks.Ask.{Ask}
+use Rattle.session.specs.declared.asks.Ask.TheVariants.{Reply as AskReply, Play as AskPlay, Halt as AskHalt, Look as AskLook, Offer as AskOffer}
+use Rattle.session.specs.declared.settings.Settings.{Settings}
+use Rattle.session.specs.declared.states.Awaited.{Awaited}
+use Rattle.session.specs.declared.states.Counts.{Counts}
+use Rattle.session.specs.declared.states.Next.{Next}
+use Rattle.session.specs.declared.states.Next.TheVariants.{Done, Paused, Torn}
+use Rattle.session.specs.declared.states.Play.{Play as Played}
+use Rattle.session.specs.declared.states.Setup.{Setup}
+use Rattle.session.specs.declared.states.Source.{Source}
+use Rattle.session.specs.declared.states.State.{State}
+use Rattle.session.specs.declared.states.State.TheVariants.{Init, Playing, Ready, Stopping}
+use Rattle.session.specs.declared.states.Stop.{Stop}
+use Rattle.pacer.specs.Pacings.{stands_at_boundary, stepped}
+use Rattle.session.specs.Films.{sending_of}
+use Rattle.session.specs.Hearings.{after_admission, after_halt, counts_of}
+use Rattle.session.specs.Playing.{playback_of}
+use Rattle.session.specs.Ranges.{AreSettings, IsSetup}
+use Rattle.session.specs.Sendings.{can_reply, due_state, finished, halted_in, is_between, is_sending, is_taken, next_of, sent_due, sent_reply, sent_slot, slotted, state_after, stepped_in}
+use Rattle.session.specs.Standings.{Awaits, NoAnswer, PlayAnswer, HaltAnswer, LookAnswer, OfferAnswer, Standing, awaits}
+use Rattle.session.specs.Steps.{IsPlayIn, settled}
+use Rattle.conn.specs.Turns.{Outcome, Unasked, Entered, WasFull, Offered, Part, Text, Stage, Taking, Passed, Answered, HasHeard, IsAnswered, IsFinished, IsHalted, IsLookAnswered, IsPlayAnswered, Takes, TakesAll, after_reply, due_parts, film_bytes, reply_parts, slot_parts}
+use Rattle.conn.specs.Rounds.{Comes, Round, Runs, RunsAll}
+use Rattle.conn.specs.Films.{HasSent, HasSentOn, IsReady}
+use Rattle.conn.specs.Plays.{film_in, film_since, film_taken}
+use Rattle.conn.proofs.Beginning.{play_begins}
+use Rattle.conn.proofs.Hearing.{AreShown, HasPlay, IsAskedWell, IsHalting, IsSetUpIn, IsStateOf, IsWell, hears_well}
+use Rattle.conn.proofs.Playing.{as_it_was, later_slot, slot_cases, taken_slot}
+
+-- an admitted play is a sending of which nothing was sent
+admitted_well : (old : Standing) (placed : Placed) (start : ℕ) (new : Standing) (plan : List Segment) (film : List ℕ) → IsAskedWell (AskPlay plan) old film →
+    IsPlayAnswered old placed (Admitted start) new → IsWell new []
+admitted_well old placed start new plan film well answered =
+    let made : Standing = after_admission old placed.place start in
+    let asked = well.1 in
+    let playing = subst (λ (s : Standing). IsPlayIn s.state) answered.1 answered.2 in
+    let ready : IsReady asked.setup old.state = subst (IsReady asked.setup) (sym asked.state_is) refl in
+    let begun = play_begins old made placed start asked.setup asked.prepared (answered.0, refl, playing) ready asked.awaited_is in
+    let counts : counts_of old.awaited old.counts ≡ asked.prepared.counts = ap (λ a. counts_of a old.counts) asked.awaited_is in
+    let run = begun.run in
+    let play : HasPlay old.films old.source old.settings (counts_of old.awaited old.counts) old.heard [] asked.setup begun.play = record {
+      stored = asked.stored;
+      at = asked.at;
+      sending = subst (λ (r : Run). IsSending (stored_sizes asked.stored) (playback_of asked.stored.film old.settings asked.setup) r begun.play.plan) (sym run)
+          (subst (λ (p : List Segment). IsSending (stored_sizes asked.stored) (playback_of asked.stored.film old.settings asked.setup) asked.prepared.run p)
+          (sym begun.plan) asked.sending);
+      pieces = begun.pieces ∙ ap run_pieces asked.frames
+          ∙ ap (λ (r : Run). run_pieces (sending_of asked.stored.film old.source asked.setup asked.prepared.counts r)) (sym run)
+          ∙ ap (λ (c : Counts). run_pieces (sending_of asked.stored.film old.source asked.setup c begun.play.run)) (sym counts);
+      sent = begun.sent;
+    } in
+    subst (λ s. IsWell s []) (sym answered.1) (record {
+      films = well.0.films;
+      settings = well.0.settings;
+      state = subst (IsStateOf old.films old.source old.settings (counts_of old.awaited old.counts) old.heard []) (sym begun.state) (asked.values, play);
+    })
+
+play_answered : (old : Standing) (placed : Placed) (answer : Answer) (new : Standing) (plan : List Segment) (film : List ℕ) →
+    IsAskedWell (AskPlay plan) old film → IsPlayAnswered old placed answer new → IsWell new (if is_admission answer then [] else film)
+play_answered old placed (Admitted start) new plan film well answered = admitted_well old placed start new plan film well answered
+play_answered old placed (Overflow slot booked asked) new plan film well answered =
+    subst (λ s. IsWell s film) (sym answered) (record { films = well.0.films; settings = well.0.settings; state = well.0.state })
+play_answered old placed Halted new plan film well answered = absurd answered
+play_answered old placed (Looked now at booked) new plan film well answered = absurd answered
+
+look_answered : (old : Standing) (placed : Placed) (answer : Answer) (new : Standing) (film : List ℕ) → IsWell old film →
+    IsLookAnswered old placed answer new → IsWell new (if is_admission answer then [] else film)
+look_answered old placed (Admitted start) new film well answered = absurd answered
+look_answered old placed (Overflow slot booked asked) new film well answered = absurd answered
+look_answered old placed Halted new film well answered = absurd answered
+look_answered old placed (Looked now at booked) new film well answered =
+    subst (λ s. IsWell s film) (sym answered) (record { films = well.films; settings = well.settings; state = well.state })
+
+-- after a halt no play goes on
+next_values : (films : List Stored) (source : Source) (settings : Settings) (counts : Counts) (heard : ℕ) (film : List ℕ) (setup : Setup) (play : Played)
+    (next : Next) → IsSetup (length films) setup → IsStateOf films source settings counts heard film (state_after setup play next)
+next_values films source settings counts heard film setup play Done values = values
+next_values films source settings counts heard film setup play (Paused run) values = values
+next_values films source settings counts heard film setup play Torn values = values
+
+halted_values : (films : List Stored) (source : Source) (settings : Settings) (counts : Counts) (heard : ℕ) (film : List ℕ) (state : State) (awaited : Awaited) →
+    IsSetUpIn (length films) state → IsStateOf films source settings counts heard film (halted_in state awaited)
+halted_values films source settings counts heard film Init awaited values = tt
+halted_values films source settings counts heard film (Ready setup paused) awaited values = values
+halted_values films source settings counts heard film (Playing setup play) awaited values =
+    next_values films source settings counts heard film setup play (next_of awaited) values
+halted_values films source settings counts heard film (Stopping setup stop) awaited values = values
+
+halted_well : (old : Standing) (keep : ℕ) (outcome : Outcome) (new : Standing) (film : List ℕ) → IsHalting old → IsHalted old keep outcome new → IsWell new film
+halted_well old keep Unasked new film well halted = absurd halted
+halted_well old keep (Entered placed) new film well halted =
+    let made : Standing = after_halt old placed.place in
+    subst (λ s. IsWell s film) (sym halted.halts) (record {
+      films = well.films;
+      settings = well.settings;
+      state = halted_values made.films made.source made.settings made.counts made.heard film old.state old.awaited well.values;
+    })
+halted_well old keep (WasFull entries live) new film well halted = absurd halted
+halted_well old keep (Offered note) new film well halted = absurd halted
+
+values_in : (films : List Stored) (source : Source) (settings : Settings) (counts : Counts) (heard : ℕ) (film : List ℕ) (state : State) →
+    IsStateOf films source settings counts heard film state → IsSetUpIn (length films) state
+values_in films source settings counts heard film Init is = tt
+values_in films source settings counts heard film (Ready setup paused) is = is
+values_in films source settings counts heard film (Playing setup play) is = is.0
+values_in films source settings counts heard film (Stopping setup stop) is = is
+
+halting_of : (s : Standing) (film : List ℕ) → IsWell s film → IsHalting s
+halting_of s film well = record {
+  films = well.films;
+  settings = well.settings;
+  values = values_in s.films s.source s.settings s.counts s.heard film s.state well.state;
+}
+
+-- the station's answers
+answered_well : (old : Standing) (ask : Ask) (outcome : Outcome) (new : Standing) (film : List ℕ) → IsAskedWell ask old film →
+    IsAnswered old ask outcome new → IsWell new (film_since film outcome)
+answered_well old AskReply Unasked new film well answered = subst (λ s. IsWell s film) (sym answered) well
+answered_well old AskReply (Entered placed) new film well answered = absurd answered
+answered_well old AskReply (WasFull entries live) new film well answered = absurd answered
+answered_well old AskReply (Offered note) new film well answered = absurd answered
+answered_well old (AskPlay plan) Unasked new film well answered = absurd answered
+answered_well old (AskPlay plan) (Entered placed) new film well answered = play_answered old placed placed.entry.answer new plan film well answered.1
+answered_well old (AskPlay plan) (WasFull entries live) new film well answered =
+    subst (λ s. IsWell s film) (sym answered) (record { films = well.0.films; settings = well.0.settings; state = well.0.state })
+answered_well old (AskPlay plan) (Offered note) new film well answered = absurd answered
+answered_well old (AskHalt keep) outcome new film well answered = halted_well old keep outcome new (film_since film outcome) well answered
+answered_well old (AskLook slot) Unasked new film well answered = absurd answered
+answered_well old (AskLook slot) (Entered placed) new film well answered = look_answered old placed placed.entry.answer new film well answered.1
+answered_well old (AskLook slot) (WasFull entries live) new film well answered =
+    subst (λ s. IsWell s film) (sym answered) (record { films = well.films; settings = well.settings; state = well.state })
+answered_well old (AskLook slot) (Offered note) new film well answered = absurd answered
+answered_well old (AskOffer plan offers) Unasked new film well answered = absurd answered
+answered_well old (AskOffer plan offers) (Entered placed) new film well answered = absurd answered
+answered_well old (AskOffer plan offers) (WasFull entries live) new film well answered = absurd answered
+answered_well old (AskOffer plan offers) (Offered note) new film well answered =
+    subst (λ s. IsWell s film) (sym answered.2) (record { films = well.films; settings = well.settings; state = well.state })
+
+pub heard_well : (old : Standing) (message : List ℕ) (outcome : Outcome) (new : Standing) (film : List ℕ) → IsWell old film →
+    HasHeard old message outcome new → IsWell new (film_since film outcome)
+heard_well old message outcome new film well heard =
+    answered_well heard.asking heard.ask outcome new film (hears_well old heard.asking message heard.ask film well heard.hears) heard.answered
+
+-- a reply that was sent
+settled_well : (films : List Stored) (source : Source) (settings : Settings) (counts : Counts) (heard : ℕ) (film : List ℕ) (state : State) →
+    IsStateOf films source settings counts heard film state → IsStateOf films source settings counts heard film (settled state)
+settled_well films source settings counts heard film Init is = is
+settled_well films source settings counts heard film (Ready setup paused) is = is
+settled_well films source settings counts heard film (Playing setup play) is = is
+settled_well films source settings counts heard film (Stopping setup stop) is = is
+
+reply_well : (goes : Bool) (s : Standing) (film : List ℕ) → IsWell s film → IsWell (if goes then sent_reply s else s) film
+reply_well false s film well = well
+reply_well true s film well = record {
+  films = well.films;
+  settings = well.settings;
+  state = settled_well s.films s.source s.settings s.counts s.heard film s.state well.state;
+}
+
+reply_film : (goes : Bool) (text : List ℕ) → film_bytes (if goes then Text text ∷ [] else []) ≡ []
+reply_film false text = refl
+reply_film true text = refl
+
+-- one piece, and pieces
+pub taking_well : (old new : Stage) (taking : Taking) (film : List ℕ) → Takes old taking new → IsWell old.session film →
+    IsWell new.session (film_taken film (taking ∷ []))
+taking_well old new (Passed n) film takes well = subst (λ (s : Stage). IsWell s.session film) (sym takes.2) well
+taking_well old new (Answered message outcome parts) film takes well =
+    let since : List ℕ = film_since film outcome in
+    let heard : IsWell takes.answered since = heard_well old.session message outcome takes.answered film well takes.heard in
+    let after : IsWell (after_reply takes.answered) since = reply_well (can_reply takes.answered) takes.answered since heard in
+    let none : film_bytes parts ≡ [] = ap film_bytes takes.parts_are ∙ reply_film (can_reply takes.answered) takes.answered.text in
+    let same : since ≡ since ++ film_bytes parts = sym (append-nil since) ∙ ap (λ bs. since ++ bs) (sym none) in
+    subst (IsWell new.session) same (subst (λ (s : Stage). IsWell s.session since) (sym takes.new_is) after)
+
+pub takes_well : (old new : Stage) (takings : List Taking) (film : List ℕ) → TakesAll old takings new → IsWell old.session film →
+    IsWell new.session (film_taken film takings)
+takes_well old new [] film takes well = subst (λ (s : Stage). IsWell s.session film) (sym takes) well
+takes_well old new (Passed n ∷ takings) film takes well =
+    takes_well takes.0 new takings film takes.1.1 (taking_well old takes.0 (Passed n) film takes.1.0 well)
+takes_well old new (Answered message outcome parts ∷ takings) film takes well =
+    takes_well takes.0 new takings (film_since film outcome ++ film_bytes parts) takes.1.1
+    (taking_well old takes.0 (Answered message outcome parts) film takes.1.0 well)
+
+-- a slot leaves all of a session but what was sent
+record IsSameSession (old new : Standing) : Type 0 where
+  films : new.films ≡ old.films
+  source : new.source ≡ old.source
+  settings : new.settings ≡ old.settings
+  counts : new.counts ≡ old.counts
+
+sent_ground : (goes : Bool) (old s : Standing) → IsSameSession old s → IsSameSession old (if goes then sent_reply s else s)
+sent_ground false old s is = is
+sent_ground true old s is = record { films = is.films; source = is.source; settings = is.settings; counts = is.counts }
+
+finished_ground : (old s : Standing) → IsSameSession old s → IsSameSession old (finished s)
+finished_ground old s is = record { films = is.films; source = is.source; settings = is.settings; counts = is.counts }
+
+-- a slot is taken up in a play or its rest, or outside, or not at all
+slot_any : (P : Standing → Type 0) (taken sending : Bool) (next still old : Standing) → (sending ≡ true → P next) → P still → P old →
+    P (if taken then (if sending then next else still) else old)
+slot_any P false sending next still old goes stays same = same
+slot_any P true false next still old goes stays same = stays
+slot_any P true true next still old goes stays same = goes refl
+
+same_ground : (s : Standing) → IsSameSession s s
+same_ground s = record { films = refl; source = refl; settings = refl; counts = refl }
+
+slot_ground : (old : Standing) (slot : ℕ) → IsSameSession old (slotted old slot)
+slot_ground old slot =
+    slot_any (IsSameSession old) (is_taken old slot) (is_sending old.state) (finished (sent_slot old slot)) (record old { heard = slot }) old
+    (λ sends. finished_ground old (sent_slot old slot)
+    (sent_ground (old.waits && is_between (stepped_in true slot old.state)) old (sent_due old slot)
+    (record { films = refl; source = refl; settings = refl; counts = refl })))
+    (record { films = refl; source = refl; settings = refl; counts = refl }) (same_ground old)
+
+-- no play goes on
+abbrev IsOff : ℕ → State → Type 0
+IsOff films Init = Unit {0}
+IsOff films (Ready setup paused) = IsSetup films setup
+IsOff films (Playing setup play) = ⊥
+IsOff films (Stopping setup stop) = IsSetup films setup
+
+off_state : (films : List Stored) (source : Source) (settings : Settings) (counts : Counts) (heard : ℕ) (film : List ℕ) (state : State) → IsOff (length films) state →
+    IsStateOf films source settings counts heard film state
+off_state films source settings counts heard film Init off = tt
+off_state films source settings counts heard film (Ready setup paused) off = off
+off_state films source settings counts heard film (Playing setup play) off = absurd off
+off_state films source settings counts heard film (Stopping setup stop) off = off
+
+off_well : (old new : Standing) (film more : List ℕ) → IsSameSession old new → IsWell old film → IsOff (length old.films) new.state → IsWell new more
+off_well old new film more same well off = record {
+  films = subst AreShown (sym same.films) well.films;
+  settings = subst AreSettings (sym same.settings) well.settings;
+  state = off_state new.films new.source new.settings new.counts new.heard more new.state
+      (subst (λ (f : List Stored). IsOff (length f) new.state) (sym same.films) off);
+}
+
+-- the rest of a play that was halted
+rest_off : (films : ℕ) (waits between : Bool) (setup : Setup) (both one plain : Stop) → IsSetup films setup →
+    IsOff films (if waits && between
+    then settled (if waits then (if between then Stopping setup both else Stopping setup one) else Stopping setup plain)
+    else (if waits then (if between then Stopping setup both else Stopping setup one) else Stopping setup plain))
+rest_off films false between setup both one plain values = values
+rest_off films true false setup both one plain values = values
+rest_off films true true setup both one plain values = values
+
+reply_state : (goes : Bool) (s : Standing) → (if goes then sent_reply s else s).state ≡ (if goes then settled s.state else s.state)
+reply_state true s = refl
+reply_state false s = refl
+
+sent_off : (films : ℕ) (old : Standing) (slot : ℕ) (setup : Setup) (stop : Stop) → old.state ≡ Stopping setup stop → IsSetup films setup →
+    IsOff films (finished (sent_slot old slot)).state
+sent_off films old slot setup stop is values =
+    let p = stop.pacer in
+    let both : Stop = record stop { pacer = stepped false slot (stepped true slot p) } in
+    let one : Stop = record stop { pacer = stepped true slot p } in
+    let plain : Stop = record stop { pacer = stepped false slot p } in
+    subst (IsOff films) (sym (reply_state (old.waits && is_between (stepped_in true slot old.state)) (sent_due old slot)))
+    (subst (λ st. IsOff films (if old.waits && is_between (stepped_in true slot st) then settled (due_state old.waits st slot) else due_state old.waits st slot)) (sym is)
+    (rest_off films old.waits (stands_at_boundary (stepped true slot p)) setup both one plain values))
+
+-- a slot
+slot_off : (films : ℕ) (old : Standing) (slot : ℕ) → IsOff films old.state → (is_sending old.state ≡ true → IsOff films (finished (sent_slot old slot)).state) →
+    IsOff films (slotted old slot).state
+slot_off films old slot off sent =
+    slot_any (λ s. IsOff films s.state) (is_taken old slot) (is_sending old.state) (finished (sent_slot old slot)) (record old { heard = slot }) old sent off off
+
+-- a play goes on by a slot
+pub slot_play : (old : Standing) (slot : ℕ) (setup : Setup) (play : Played) (film : List ℕ) → old.state ≡ Playing setup play → HasSent play old.heard film →
+    HasSentOn setup play (slotted old slot) (film ++ film_bytes (slot_parts old slot))
+slot_play old slot setup play film is has =
+    slot_cases (is_taken old slot) (is_sending old.state) old (finished (sent_slot old slot)) (record old { heard = slot }) (due_parts old slot) setup play film
+    (ap is_sending is) (as_it_was old setup play film is has)
+    (λ taken. taken_slot old slot setup play film is has (later_slot old slot taken))
+
+play_on : (old new : Standing) (setup : Setup) (play : Played) (film more : List ℕ) → IsSameSession old new → IsWell old film → old.state ≡ Playing setup play →
+    HasSentOn setup play new more → IsWell new more
+play_on old new setup play film more same well is on =
+    let was = subst (IsStateOf old.films old.source old.settings old.counts old.heard film) is well.state in
+    let stored = was.1.stored in
+    let its : HasPlay old.films old.source old.settings old.counts new.heard more setup on.now = record {
+      stored = stored;
+      at = was.1.at;
+      sending = subst (λ (r : Run). IsSending (stored_sizes stored) (playback_of stored.film old.settings setup) r on.now.plan) (sym on.run)
+          (subst (λ (p : List Segment). IsSending (stored_sizes stored) (playback_of stored.film old.settings setup) play.run p) (sym on.plan) was.1.sending);
+      pieces = on.pieces ∙ was.1.pieces ∙ ap (λ (r : Run). run_pieces (sending_of stored.film old.source setup old.counts r)) (sym on.run);
+      sent = on.sent;
+    } in record {
+      films = subst AreShown (sym same.films) well.films;
+      settings = subst AreSettings (sym same.settings) well.settings;
+      state = subst (IsStateOf new.films new.source new.settings new.counts new.heard more) (sym on.state)
+          (subst (λ c. IsStateOf new.films new.source new.settings c new.heard more (Playing setup on.now)) (sym same.counts)
+          (subst (λ g. IsStateOf new.films new.source g old.counts new.heard more (Playing setup on.now)) (sym same.settings)
+          (subst (λ o. IsStateOf new.films o old.settings old.counts new.heard more (Playing setup on.now)) (sym same.source)
+          (subst (λ f. IsStateOf f old.source old.settings old.counts new.heard more (Playing setup on.now)) (sym same.films) (was.0, its)))));
+    }
+
+slot_state : (state : State) (old : Standing) (slot : ℕ) (film : List ℕ) → old.state ≡ state → IsWell old film →
+    IsWell (slotted old slot) (film ++ film_bytes (slot_parts old slot))
+slot_state Init old slot film is well =
+    off_well old (slotted old slot) film (film ++ film_bytes (slot_parts old slot)) (slot_ground old slot) well
+    (slot_off (length old.films) old slot (subst (IsOff (length old.films)) (sym is) tt) (λ sends. absurd (true≢false (sym sends ∙ ap is_sending is))))
+slot_state (Ready setup paused) old slot film is well =
+    let values = subst (IsStateOf old.films old.source old.settings old.counts old.heard film) is well.state in
+    off_well old (slotted old slot) film (film ++ film_bytes (slot_parts old slot)) (slot_ground old slot) well
+    (slot_off (length old.films) old slot (subst (IsOff (length old.films)) (sym is) values) (λ sends. absurd (true≢false (sym sends ∙ ap is_sending is))))
+slot_state (Playing setup play) old slot film is well =
+    let was = subst (IsStateOf old.films old.source old.settings old.counts old.heard film) is well.state in
+    play_on old (slotted old slot) setup play film (film ++ film_bytes (slot_parts old slot)) (slot_ground old slot) well is
+    (slot_play old slot setup play film is was.1.sent)
+slot_state (Stopping setup stop) old slot film is well =
+    let values = subst (IsStateOf old.films old.source old.settings old.counts old.heard film) is well.state in
+    off_well old (slotted old slot) film (film ++ film_bytes (slot_parts old slot)) (slot_ground old slot) well
+    (slot_off (length old.films) old slot (subst (IsOff (length old.films)) (sym is) values) (λ sends. sent_off (length old.films) old slot setup stop is values))
+
+-- a play that is done is halted
+finish_well : (asks : Awaits) (old : Standing) (halt : Outcome) (new : Standing) (film : List ℕ) → IsWell old film → IsFinished asks old halt new → IsWell new film
+finish_well NoAnswer old Unasked new film well is = subst (λ s. IsWell s film) (sym is) well
+finish_well NoAnswer old (Entered placed) new film well is = absurd is
+finish_well NoAnswer old (WasFull entries live) new film well is = absurd is
+finish_well NoAnswer old (Offered note) new film well is = absurd is
+finish_well (PlayAnswer plan) old halt new film well is = absurd is
+finish_well (HaltAnswer keep) old halt new film well is = halted_well old keep halt new film (halting_of old film well) is
+finish_well LookAnswer old halt new film well is = absurd is
+finish_well OfferAnswer old halt new film well is = absurd is
+
+-- an event
+comes_well : (old new : Stage) (event : Doing) (due : List Part) (halt : Outcome) (film : List ℕ) → IsWell old.session film → Comes old event due halt new →
+    IsWell new.session (film ++ film_bytes due)
+comes_well old new (HeardBytes bytes) due halt film well comes =
+    subst (λ ps. IsWell new.session (film ++ film_bytes ps)) (sym comes.0)
+    (subst (λ (s : Stage). IsWell s.session (film ++ [])) (sym comes.3) (subst (IsWell old.session) (sym (append-nil film)) well))
+comes_well old new (HeardSlot slot) due halt film well comes =
+    subst (λ ps. IsWell new.session (film ++ film_bytes ps)) (sym comes.1.parts_are)
+    (finish_well (awaits (slotted old.session slot)) (slotted old.session slot) halt new.session (film ++ film_bytes (slot_parts old.session slot))
+    (slot_state old.session.state old.session slot film refl well) comes.1.finished)
+comes_well old new HeardEnd due halt film well comes = absurd comes
+comes_well old new (Sent byte) due halt film well comes = absurd comes
+
+-- a round, and rounds
+pub round_well : (old new : Stage) (round : Round) (film : List ℕ) → IsWell old.session film → Runs old round new →
+    IsWell new.session (film_taken (film ++ film_bytes round.due) round.takings)
+round_well old new round film well runs =
+    takes_well runs.opened new round.takings (film ++ film_bytes round.due) runs.takes
+    (comes_well old runs.opened round.event round.due round.halt film well runs.comes)
+
+pub rounds_well : (old new : Stage) (rounds : List Round) (film : List ℕ) → IsWell old.session film → RunsAll old rounds new →
+    IsWell new.session (film_in film rounds)
+rounds_well old new [] film well runs = subst (λ (s : Stage). IsWell s.session film) (sym runs) well
+rounds_well old new (round ∷ rounds) film well runs =
+    rounds_well runs.0 new rounds (film_taken (film ++ film_bytes round.due) round.takings) (round_well old runs.0 round film well runs.1.0) runs.1.2

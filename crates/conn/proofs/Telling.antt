@@ -1,0 +1,461 @@
+-- What the replies of a connection tell of the station's answers.
+use Rattle.std.proofs.Common.{◌≡◌, ℕ, ◌-◌, ◌++◌, ◌&&◌, Bool, true, false, if◌then◌else◌, Contains, List, [], ◌∷◌, Some, codes, decimal, get_or, length, take, refl, sym, ap, subst, ◌∙◌, inl, inr, arith}
+use Rattle.std.proofs.lemmas.List.{append-nil, append_assoc}
+use Rattle.std.proofs.lemmas.List.Elements.{All-contains, Contains-append_left, Contains-append_right, Contains-push}
+use Rattle.vod_base.specs.Links.{Doing, HeardBytes, HeardEnd, HeardSlot, Sent}
+use Rattle.std.specs.Fmt.{digits}
+use Rattle.rtsp_text.specs.Replies.{field_line, reply_front, reply_text, status_line}
+use Rattle.admission.specs.declared.entries.Answer.{Answer}
+use Rattle.admission.specs.declared.entries.Answer.TheVariants.{Admitted, Halted, Looked, Overflow}
+use Rattle.admission.specs.Histories.{state_after}
+use Rattle.admission.specs.Machine.{IsAnswer, State as Journal, booked_in, start_after}
+use Rattle.admission.specs.Makers.{Placed, made_by}
+use Rattle.admission.specs.declared.entries.Command.{Command}
+use Rattle.admission.specs.declared.entries.Command.TheVariants.{Play, Halt, Look}
+use Rattle.admission.specs.declared.entries.Entry.{Entry}
+use Rattle.plan_cert.specs.declared.Segment.{Segment}
+use Rattle.slot_calendar.specs.Calendars.{IsFirstOverflow}
+use Rattle.slot_calendar.specs.Profiles.{capacity_at}
+use Rattle.slot_calendar.specs.declared.profiles.CapStep.{CapStep}
+use Rattle.station.specs.Seats.{IsSeat, Sitting}
+use Rattle.station.proofs.Makers.{IsAt, all-at}
+use Rattle.std.proofs.lemmas.Option.{slice_get-get_or}
+use Rattle.std.specs.Prelude.{slice_get}
+use Rattle.session.specs.declared.asks.Ask.{Ask}
+use Rattle.session.specs.declared.asks.Ask.TheVariants.{Reply as AskReply, Play as AskPlay, Halt as AskHalt, Look as AskLook, Offer as AskOffer}
+use Rattle.session.specs.Changes.{HasCode, IsNoRefusal, RefusesNone}
+use Rattle.session.specs.Hearings.{after_full, started_text}
+use Rattle.session.specs.Replies.{field, full_text, overflow_text}
+use Rattle.session.specs.Sendings.{can_reply, finished, is_between, is_sending, is_taken, sent_due, sent_reply, sent_slot, slotted, stepped_in}
+use Rattle.session.specs.Standings.{Awaits, NoAnswer, PlayAnswer, HaltAnswer, LookAnswer, OfferAnswer, Standing, awaits}
+use Rattle.conn.specs.Turns.{Outcome, Unasked, Entered, WasFull, Offered, Part, Film, Text, Stage, Taking, Passed, Answered, HasHeard, IsAnswered, IsFinished, IsHalted, IsLookAnswered, IsPlayAnswered, Takes as TakesPiece, TakesAll, after_reply, due_parts, entry_in, reply_parts, slot_parts}
+use Rattle.conn.specs.Rounds.{Comes, Ending, Ends, Unheard, PeerEnded, Overfull, AtPiece, InSlot, InReply, Round, Runs, RunsAll, ending_outcomes, entries_in, round_outcomes, rounds_outcomes, takings_outcomes}
+use Rattle.conn.specs.Films.{round_parts, rounds_parts, takings_parts}
+use Rattle.conn.specs.Plays.{ending_rounds}
+use Rattle.conn.specs.declared.reports.ConnEnd.{ConnEnd}
+use Rattle.session.proofs.Refusing.{hears_text, ok_plain}
+use Rattle.conn.proofs.Sighting.{entries_in-append}
+use Rattle.conn.specs.Promises.{AreRefusalsTold, TellsFullOf, TellsOverflowOf}
+
+-- three digits differ where the first does
+other : (a b c x y z : ℕ) → (a ≡ x → ⊥) → (a ∷ b ∷ c ∷ []) ≡ (x ∷ y ∷ z ∷ []) → ⊥
+other a b c x y z differ same = differ (ap (λ l. get_or l 0 0) same)
+
+-- a text of 453 is none of 503, nor the other way round
+overflow_not_full : (sequence slot booked asked : ℕ) → HasCode 503 (overflow_text sequence slot booked asked) → ⊥
+unfolding reply_text reply_front status_line digits
+overflow_not_full sequence slot booked asked is = other 52 53 51 53 48 51 (λ p. absurd (omega (arith, p))) is
+
+full_not_overflow : (sequence entries live : ℕ) → HasCode 453 (full_text sequence entries live) → ⊥
+unfolding reply_text reply_front status_line digits
+full_not_overflow sequence entries live is = other 53 48 51 52 53 51 (λ p. absurd (omega (arith, p))) is
+
+-- what a reply tells, by a seat's entries and the station's answers
+pub record TellsOver (mine : List Placed) (text : List ℕ) : Type 0 where
+  pub placed : Placed
+  pub made : Contains mine placed
+  pub slot : ℕ
+  pub booked : ℕ
+  pub asked : ℕ
+  pub answer : placed.entry.answer ≡ Overflow slot booked asked
+  pub sequence : ℕ
+  pub text_is : text ≡ overflow_text sequence slot booked asked
+
+pub record IsReplyTold (mine : List Placed) (outcomes : List Outcome) (text : List ℕ) : Type 0 where
+  pub overflow : HasCode 453 text → TellsOver mine text
+  pub full : HasCode 503 text → TellsFullOf outcomes text
+
+abbrev pub AreRepliesTold : List Placed → List Outcome → List Part → Type 0
+AreRepliesTold mine outcomes [] = Unit {0}
+AreRepliesTold mine outcomes (Film bytes ∷ parts) = AreRepliesTold mine outcomes parts
+AreRepliesTold mine outcomes (Text text ∷ parts) = IsReplyTold mine outcomes text × AreRepliesTold mine outcomes parts
+
+-- the same of what the station has answered up to now
+abbrev pub IsTold : List Outcome → List ℕ → Type 0
+IsTold made text = IsReplyTold (entries_in made) made text
+
+abbrev pub AreTold : List Outcome → List Part → Type 0
+AreTold made parts = AreRepliesTold (entries_in made) made parts
+
+told_plain : (made : List Outcome) (text : List ℕ) → IsNoRefusal text → IsTold made text
+told_plain made text plain = record { overflow = λ is. absurd (plain.no_overflow is); full = λ is. absurd (plain.not_full is) }
+
+pub refusal_more : (mine mine' : List Placed) (made made' : List Outcome) (text : List ℕ) → IsReplyTold mine made text →
+    IsReplyTold (mine ++ mine') (made ++ made') text
+refusal_more mine mine' made made' text told = record {
+  overflow = λ is.
+      let its = told.overflow is in
+      record {
+        placed = its.placed;
+        made = Contains-append_left mine mine' its.placed its.made;
+        slot = its.slot;
+        booked = its.booked;
+        asked = its.asked;
+        answer = its.answer;
+        sequence = its.sequence;
+        text_is = its.text_is;
+      };
+  full = λ is.
+      let its = told.full is in
+      record {
+        entries = its.entries;
+        live = its.live;
+        full = Contains-append_left made made' (WasFull its.entries its.live) its.full;
+        sequence = its.sequence;
+        text_is = its.text_is;
+      };
+}
+
+told_more : (made more : List Outcome) (text : List ℕ) → IsTold made text → IsTold (made ++ more) text
+told_more made more text told =
+    subst (λ mine. IsReplyTold mine (made ++ more) text) (sym (entries_in-append made more))
+    (refusal_more (entries_in made) (entries_in more) made more text told)
+
+are_more : (made more : List Outcome) (parts : List Part) → AreTold made parts → AreTold (made ++ more) parts
+are_more made more [] told = tt
+are_more made more (Film bytes ∷ parts) told = are_more made more parts told
+are_more made more (Text text ∷ parts) told = (told_more made more text told.0, are_more made more parts told.1)
+
+are_both : (made : List Outcome) (xs ys : List Part) → AreTold made xs → AreTold made ys → AreTold made (xs ++ ys)
+are_both made [] ys first second = second
+are_both made (Film bytes ∷ xs) ys first second = are_both made xs ys first second
+are_both made (Text text ∷ xs) ys first second = (first.0, are_both made xs ys first.1 second)
+
+-- what the station answers is told
+told_overflow : (made : List Outcome) (placed : Placed) (slot booked asked sequence : ℕ) → placed.entry.answer ≡ Overflow slot booked asked →
+    IsTold (made ++ Entered placed ∷ []) (overflow_text sequence slot booked asked)
+told_overflow made placed slot booked asked sequence answer = record {
+  overflow = λ is. record {
+    placed = placed;
+    made = subst (λ mine. Contains mine placed) (sym (entries_in-append made (Entered placed ∷ []))) (Contains-push (entries_in made) placed);
+    slot = slot;
+    booked = booked;
+    asked = asked;
+    answer = answer;
+    sequence = sequence;
+    text_is = refl;
+  };
+  full = λ is. absurd (overflow_not_full sequence slot booked asked is);
+}
+
+told_full : (made : List Outcome) (entries live sequence : ℕ) → IsTold (made ++ WasFull entries live ∷ []) (full_text sequence entries live)
+told_full made entries live sequence = record {
+  overflow = λ is. absurd (full_not_overflow sequence entries live is);
+  full = λ is. record {
+    entries = entries;
+    live = live;
+    full = Contains-push made (WasFull entries live);
+    sequence = sequence;
+    text_is = refl;
+  };
+}
+
+play_told : (made : List Outcome) (old : Standing) (placed : Placed) (answer : Answer) (new : Standing) → placed.entry.answer ≡ answer →
+    ((rest : List ℕ) → IsNoRefusal (old.text ++ rest)) → IsPlayAnswered old placed answer new → IsTold (made ++ Entered placed ∷ []) new.text
+play_told made old placed (Admitted start) new same plain answered =
+    subst (IsTold (made ++ Entered placed ∷ [])) (sym (ap (λ (s : Standing). s.text) answered.1))
+    (told_plain (made ++ Entered placed ∷ []) (started_text old.text (start - old.heard))
+    (subst IsNoRefusal (sym (append_assoc old.text (field_line (field (codes "x-Start") (decimal (start - old.heard)))) (codes "\r\n")))
+    (plain (field_line (field (codes "x-Start") (decimal (start - old.heard))) ++ codes "\r\n"))))
+play_told made old placed (Overflow slot booked asked) new same plain answered =
+    subst (IsTold (made ++ Entered placed ∷ [])) (sym (ap (λ (s : Standing). s.text) answered))
+    (told_overflow made placed slot booked asked _ same)
+play_told made old placed Halted new same plain answered = absurd answered
+play_told made old placed (Looked now at booked) new same plain answered = absurd answered
+
+look_told : (made : List Outcome) (old : Standing) (placed : Placed) (answer : Answer) (new : Standing) → IsLookAnswered old placed answer new →
+    IsTold (made ++ Entered placed ∷ []) new.text
+look_told made old placed (Admitted start) new answered = absurd answered
+look_told made old placed (Overflow slot booked asked) new answered = absurd answered
+look_told made old placed Halted new answered = absurd answered
+look_told made old placed (Looked now at booked) new answered =
+    subst (IsTold (made ++ Entered placed ∷ [])) (sym (ap (λ (s : Standing). s.text) answered))
+    (told_plain (made ++ Entered placed ∷ []) _ (ok_plain _ _ _))
+
+full_told : (made : List Outcome) (old : Standing) (entries live : ℕ) (new : Standing) → new ≡ after_full old entries live →
+    IsTold (made ++ WasFull entries live ∷ []) new.text
+full_told made old entries live new is =
+    subst (IsTold (made ++ WasFull entries live ∷ [])) (sym (ap (λ (s : Standing). s.text) is)) (told_full made entries live _)
+
+-- a halt leaves the reply
+halted_text : (old : Standing) (keep : ℕ) (outcome : Outcome) (new : Standing) → IsHalted old keep outcome new → new.text ≡ old.text
+halted_text old keep Unasked new halted = absurd halted
+halted_text old keep (Entered placed) new halted = ap (λ (s : Standing). s.text) halted.halts
+halted_text old keep (WasFull entries live) new halted = absurd halted
+halted_text old keep (Offered note) new halted = absurd halted
+
+answered_told : (made : List Outcome) (old : Standing) (ask : Ask) (outcome : Outcome) (new : Standing) → RefusesNone ask old → IsAnswered old ask outcome new →
+    IsTold (made ++ outcome ∷ []) new.text
+answered_told made old AskReply Unasked new heard answered =
+    subst (IsTold (made ++ Unasked ∷ [])) (sym (ap (λ (s : Standing). s.text) answered)) (told_plain (made ++ Unasked ∷ []) old.text heard)
+answered_told made old AskReply (Entered placed) new heard answered = absurd answered
+answered_told made old AskReply (WasFull entries live) new heard answered = absurd answered
+answered_told made old AskReply (Offered note) new heard answered = absurd answered
+answered_told made old (AskPlay plan) Unasked new heard answered = absurd answered
+answered_told made old (AskPlay plan) (Entered placed) new heard answered = play_told made old placed placed.entry.answer new refl heard answered.1
+answered_told made old (AskPlay plan) (WasFull entries live) new heard answered = full_told made old entries live new answered
+answered_told made old (AskPlay plan) (Offered note) new heard answered = absurd answered
+answered_told made old (AskHalt keep) outcome new heard answered =
+    subst (IsTold (made ++ outcome ∷ [])) (sym (halted_text old keep outcome new answered)) (told_plain (made ++ outcome ∷ []) old.text heard)
+answered_told made old (AskLook slot) Unasked new heard answered = absurd answered
+answered_told made old (AskLook slot) (Entered placed) new heard answered = look_told made old placed placed.entry.answer new answered.1
+answered_told made old (AskLook slot) (WasFull entries live) new heard answered = full_told made old entries live new answered
+answered_told made old (AskLook slot) (Offered note) new heard answered = absurd answered
+answered_told made old (AskOffer plan offers) Unasked new heard answered = absurd answered
+answered_told made old (AskOffer plan offers) (Entered placed) new heard answered = absurd answered
+answered_told made old (AskOffer plan offers) (WasFull entries live) new heard answered = absurd answered
+answered_told made old (AskOffer plan offers) (Offered note) new heard answered =
+    subst (IsTold (made ++ Offered note ∷ [])) (sym (ap (λ (s : Standing). s.text) answered.2)) (told_plain (made ++ Offered note ∷ []) _ (ok_plain _ _ _))
+
+heard_told : (made : List Outcome) (old : Standing) (message : List ℕ) (outcome : Outcome) (new : Standing) → HasHeard old message outcome new →
+    IsTold (made ++ outcome ∷ []) new.text
+heard_told made old message outcome new heard =
+    answered_told made heard.asking heard.ask outcome new (hears_text old heard.asking message heard.ask heard.hears) heard.answered
+
+-- a reply that goes out
+reply_told : (made : List Outcome) (goes : Bool) (text : List ℕ) → IsTold made text → AreTold made (if goes then Text text ∷ [] else [])
+reply_told made false text told = tt
+reply_told made true text told = (told, tt)
+
+reply_text_is : (goes : Bool) (s : Standing) → (if goes then sent_reply s else s).text ≡ s.text
+reply_text_is true s = refl
+reply_text_is false s = refl
+
+-- pieces: what was sent tells, and so does the reply that waits
+record Tells (made : List Outcome) (s : Standing) (parts : List Part) : Type 0 where
+  waiting : IsTold made s.text
+  sent : AreTold made parts
+
+taking_tells : (made : List Outcome) (old new : Stage) (message : List ℕ) (outcome : Outcome) (parts : List Part) →
+    TakesPiece old (Answered message outcome parts) new → Tells (made ++ outcome ∷ []) new.session parts
+taking_tells made old new message outcome parts takes =
+    let goes : Bool = can_reply takes.answered in
+    let told : IsTold (made ++ outcome ∷ []) takes.answered.text = heard_told made old.session message outcome takes.answered takes.heard in
+    let text : new.session.text ≡ takes.answered.text = ap (λ (s : Stage). s.session.text) takes.new_is ∙ reply_text_is goes takes.answered in
+    record {
+      waiting = subst (IsTold (made ++ outcome ∷ [])) (sym text) told;
+      sent = subst (AreTold (made ++ outcome ∷ [])) (sym takes.parts_are) (reply_told (made ++ outcome ∷ []) goes takes.answered.text told);
+    }
+
+tells_same : (made made' : List Outcome) (s : Standing) (parts : List Part) → made ≡ made' → Tells made s parts → Tells made' s parts
+tells_same made made' s parts same tells = subst (λ m. Tells m s parts) same tells
+
+takings_tell : (made : List Outcome) (old new : Stage) (takings : List Taking) → IsTold made old.session.text → TakesAll old takings new →
+    Tells (made ++ takings_outcomes takings) new.session (takings_parts takings)
+takings_tell made old new [] told takes =
+    tells_same made (made ++ []) new.session [] (sym (append-nil made))
+    (record { waiting = subst (λ (s : Stage). IsTold made s.session.text) (sym takes) told; sent = tt })
+takings_tell made old new (Passed n ∷ takings) told takes =
+    takings_tell made takes.0 new takings (subst (λ (s : Stage). IsTold made s.session.text) (sym takes.1.0.2) told) takes.1.1
+takings_tell made old new (Answered message outcome parts ∷ takings) told takes =
+    let first = taking_tells made old takes.0 message outcome parts takes.1.0 in
+    let rest = takings_tell (made ++ outcome ∷ []) takes.0 new takings first.waiting takes.1.1 in
+    let all : (made ++ outcome ∷ []) ++ takings_outcomes takings ≡ made ++ outcome ∷ takings_outcomes takings =
+    append_assoc made (outcome ∷ []) (takings_outcomes takings) in
+    tells_same ((made ++ outcome ∷ []) ++ takings_outcomes takings) (made ++ outcome ∷ takings_outcomes takings) new.session (parts ++ takings_parts takings) all
+    (record {
+      waiting = rest.waiting;
+      sent = are_both ((made ++ outcome ∷ []) ++ takings_outcomes takings) parts (takings_parts takings)
+          (are_more (made ++ outcome ∷ []) (takings_outcomes takings) parts first.sent) rest.sent;
+    })
+
+-- a slot leaves the reply, and sends it or not
+slot_text_cases : (taken sending : Bool) (next still old : Standing) → next.text ≡ old.text → still.text ≡ old.text →
+    (if taken then (if sending then next else still) else old).text ≡ old.text
+slot_text_cases false sending next still old one other = refl
+slot_text_cases true false next still old one other = other
+slot_text_cases true true next still old one other = one
+
+slot_text : (old : Standing) (slot : ℕ) → (slotted old slot).text ≡ old.text
+slot_text old slot =
+    slot_text_cases (is_taken old slot) (is_sending old.state) (finished (sent_slot old slot)) (record old { heard = slot }) old
+    (reply_text_is (old.waits && is_between (stepped_in true slot old.state)) (sent_due old slot)) refl
+
+due_told : (made : List Outcome) (sends waits between : Bool) (one after plain text : List ℕ) → IsTold made text →
+    AreTold made (if sends then (if waits then Film one ∷ (if between then Text text ∷ Film after ∷ [] else []) else Film plain ∷ []) else [])
+due_told made false waits between one after plain text told = tt
+due_told made true false between one after plain text told = tt
+due_told made true true false one after plain text told = tt
+due_told made true true true one after plain text told = (told, tt)
+
+slot_tells : (made : List Outcome) (old : Standing) (slot : ℕ) → IsTold made old.text → AreTold made (slot_parts old slot)
+slot_tells made old slot told =
+    due_told made (is_taken old slot && is_sending old.state) old.waits (is_between (stepped_in true slot old.state)) _ _ _ old.text told
+
+finished_text : (asks : Awaits) (old : Standing) (halt : Outcome) (new : Standing) → IsFinished asks old halt new → new.text ≡ old.text
+finished_text NoAnswer old Unasked new is = ap (λ (s : Standing). s.text) is
+finished_text NoAnswer old (Entered placed) new is = absurd is
+finished_text NoAnswer old (WasFull entries live) new is = absurd is
+finished_text NoAnswer old (Offered note) new is = absurd is
+finished_text (PlayAnswer plan) old halt new is = absurd is
+finished_text (HaltAnswer keep) old halt new is = halted_text old keep halt new is
+finished_text LookAnswer old halt new is = absurd is
+finished_text OfferAnswer old halt new is = absurd is
+
+comes_tells : (made : List Outcome) (old new : Stage) (event : Doing) (due : List Part) (halt : Outcome) → IsTold made old.session.text →
+    Comes old event due halt new → Tells made new.session due
+comes_tells made old new (HeardBytes bytes) due halt told comes = record {
+  waiting = subst (λ (s : Stage). IsTold made s.session.text) (sym comes.3) told;
+  sent = subst (AreTold made) (sym comes.0) tt;
+}
+comes_tells made old new (HeardSlot slot) due halt told comes =
+    let s = slotted old.session slot in
+    let text : new.session.text ≡ old.session.text = finished_text (awaits s) s halt new.session comes.1.finished ∙ slot_text old.session slot in
+    record {
+      waiting = subst (IsTold made) (sym text) told;
+      sent = subst (AreTold made) (sym comes.1.parts_are) (slot_tells made old.session slot told);
+    }
+comes_tells made old new HeardEnd due halt told comes = absurd comes
+comes_tells made old new (Sent byte) due halt told comes = absurd comes
+
+-- a round, and rounds
+round_tells : (made : List Outcome) (old new : Stage) (round : Round) → IsTold made old.session.text → Runs old round new →
+    Tells (made ++ round_outcomes round) new.session (round_parts round)
+round_tells made old new round told runs =
+    let first = comes_tells made old runs.opened round.event round.due round.halt told runs.comes in
+    let opened : IsTold (made ++ round.halt ∷ []) runs.opened.session.text = told_more made (round.halt ∷ []) runs.opened.session.text first.waiting in
+    let rest = takings_tell (made ++ round.halt ∷ []) runs.opened new round.takings opened runs.takes in
+    let all : (made ++ round.halt ∷ []) ++ takings_outcomes round.takings ≡ made ++ round_outcomes round =
+    append_assoc made (round.halt ∷ []) (takings_outcomes round.takings) in
+    record {
+      waiting = subst (λ m. IsTold m new.session.text) all rest.waiting;
+      sent = are_both (made ++ round_outcomes round) round.due (takings_parts round.takings)
+          (are_more made (round_outcomes round) round.due first.sent) (subst (λ m. AreTold m (takings_parts round.takings)) all rest.sent);
+    }
+
+rounds_tell : (made : List Outcome) (old new : Stage) (rounds : List Round) → IsTold made old.session.text → RunsAll old rounds new →
+    Tells (made ++ rounds_outcomes rounds) new.session (rounds_parts rounds)
+rounds_tell made old new [] told runs =
+    tells_same made (made ++ []) new.session [] (sym (append-nil made))
+    (record { waiting = subst (λ (s : Stage). IsTold made s.session.text) (sym runs) told; sent = tt })
+rounds_tell made old new (round ∷ rounds) told runs =
+    let first = round_tells made old runs.0 round told runs.1.0 in
+    let rest = rounds_tell (made ++ round_outcomes round) runs.0 new rounds first.waiting runs.1.2 in
+    let all : (made ++ round_outcomes round) ++ rounds_outcomes rounds ≡ made ++ (round_outcomes round ++ rounds_outcomes rounds) =
+    append_assoc made (round_outcomes round) (rounds_outcomes rounds) in
+    tells_same ((made ++ round_outcomes round) ++ rounds_outcomes rounds) (made ++ (round_outcomes round ++ rounds_outcomes rounds)) new.session
+    (round_parts round ++ rounds_parts rounds) all
+    (record {
+      waiting = rest.waiting;
+      sent = are_both ((made ++ round_outcomes round) ++ rounds_outcomes rounds) (round_parts round) (rounds_parts rounds)
+          (are_more (made ++ round_outcomes round) (rounds_outcomes rounds) (round_parts round) first.sent) rest.sent;
+    })
+
+-- the last round
+ending_tells : (made : List Outcome) (old : Stage) (count : ℕ) (ending : Ending) (end : ConnEnd) (new : Stage) → IsTold made old.session.text →
+    Ends old count ending end new → AreTold (made ++ ending_outcomes ending) (rounds_parts (ending_rounds ending))
+ending_tells made old count Unheard end new told ends = tt
+ending_tells made old count PeerEnded end new told ends = tt
+ending_tells made old count (Overfull bytes) end new told ends = tt
+ending_tells made old count (AtPiece round) end new told ends =
+    are_both (made ++ round_outcomes round) (round_parts round) [] (round_tells made old new round told ends.0).sent tt
+ending_tells made old count (InSlot slot front) end new told ends = tt
+ending_tells made old count (InReply round message outcome front) end new told ends =
+    let first = round_tells made old ends.1.mid round told ends.1.runs in
+    let all : (made ++ round_outcomes round) ++ outcome ∷ [] ≡ made ++ (round_outcomes round ++ outcome ∷ []) =
+    append_assoc made (round_outcomes round) (outcome ∷ []) in
+    subst (λ m. AreTold m (rounds_parts (round ∷ []))) all
+    (are_more (made ++ round_outcomes round) (outcome ∷ []) (round_parts round ++ []) (are_both (made ++ round_outcomes round) (round_parts round) [] first.sent tt))
+
+parts-more : (rounds more : List Round) → rounds_parts (rounds ++ more) ≡ rounds_parts rounds ++ rounds_parts more
+parts-more [] more = refl
+parts-more (round ∷ rounds) more =
+    ap (λ ps. round_parts round ++ ps) (parts-more rounds more) ∙ sym (append_assoc (round_parts round) (rounds_parts rounds) (rounds_parts more))
+
+no_digits : (a b c : ℕ) → [] ≡ a ∷ b ∷ c ∷ [] → ⊥
+no_digits a b c same = cc
+
+nothing_told : IsTold [] []
+unfolding digits
+nothing_told = record { overflow = λ is. absurd (no_digits 52 53 51 is); full = λ is. absurd (no_digits 53 48 51 is) }
+
+-- over a whole course
+pub course_tells : (old mid : Stage) (rounds : List Round) (ending : Ending) (end : ConnEnd) (new : Stage) → old.session.text ≡ [] → RunsAll old rounds mid →
+    Ends mid (length rounds) ending end new →
+    AreTold (rounds_outcomes rounds ++ ending_outcomes ending) (rounds_parts (rounds ++ ending_rounds ending))
+course_tells old mid rounds ending end new none runs ends =
+    let made : List Outcome = rounds_outcomes rounds ++ ending_outcomes ending in
+    let first = rounds_tell [] old mid rounds (subst (IsTold []) (sym none) nothing_told) runs in
+    let last = ending_tells (rounds_outcomes rounds) mid (length rounds) ending end new first.waiting ends in
+    subst (AreTold made) (sym (parts-more rounds (ending_rounds ending)))
+    (are_both made (rounds_parts rounds) (rounds_parts (ending_rounds ending)) (are_more (rounds_outcomes rounds) (ending_outcomes ending) (rounds_parts rounds) first.sent) last)
+
+-- more entries of the seat's
+mine_more : (mine after : List Placed) (made : List Outcome) (parts : List Part) → AreRepliesTold mine made parts → AreRepliesTold (mine ++ after) made parts
+mine_more mine after made [] told = tt
+mine_more mine after made (Film bytes ∷ parts) told = mine_more mine after made parts told
+mine_more mine after made (Text text ∷ parts) told =
+    (subst (λ m. IsReplyTold (mine ++ after) m text) (append-nil made) (refusal_more mine after made [] text told.0), mine_more mine after made parts told.1)
+
+mine_before : (before mine : List Placed) (made : List Outcome) (parts : List Part) → AreRepliesTold mine made parts → AreRepliesTold (before ++ mine) made parts
+mine_before before mine made [] told = tt
+mine_before before mine made (Film bytes ∷ parts) told = mine_before before mine made parts told
+mine_before before mine made (Text text ∷ parts) told = (
+  record {
+    overflow = λ is.
+        let its = told.0.overflow is in
+        record {
+          placed = its.placed;
+          made = Contains-append_right before mine its.placed its.made;
+          slot = its.slot;
+          booked = its.booked;
+          asked = its.asked;
+          answer = its.answer;
+          sequence = its.sequence;
+          text_is = its.text_is;
+        };
+    full = told.0.full;
+  },
+  mine_before before mine made parts told.1,
+)
+
+-- an entry of a seat's stands in what it has seen, and was answered in the state before it
+overflow_stands : (steps : List CapStep) (before : Journal) (command : Command) (slot booked asked : ℕ) → IsAnswer steps before command (Overflow slot booked asked) →
+    (heard : ℕ) × ((plan : List Segment) × ((command ≡ Play heard plan) × IsFirstOverflow 0 (booked_in before) (capacity_at steps) (start_after before heard) plan
+    (record { slot = slot; booked = booked; asked = asked })))
+overflow_stands steps before (Play heard plan) slot booked asked is = (heard, (plan, (refl, is)))
+overflow_stands steps before (Halt number keep) slot booked asked is = absurd is
+overflow_stands steps before (Look at) slot booked asked is = absurd is
+
+overflow_seen : (seat : Sitting) (text : List ℕ) → IsSeat seat → TellsOver seat.mine text → TellsOverflowOf seat text
+overflow_seen seat text is told =
+    let entry : Entry = told.placed.entry in
+    let own : Contains (made_by seat.number seat.seen) told.placed = subst (λ ps. Contains ps told.placed) is.own told.made in
+    let at = All-contains (IsAt 0 seat.number entry seat.seen) (made_by seat.number seat.seen) told.placed (all-at 0 seat.number entry seat.seen) own in
+    let place : ℕ = at.at in
+    let read : slice_get seat.seen place ≡ Some (get_or seat.seen place entry) = slice_get-get_or seat.seen place entry at.inside in
+    let seen : slice_get seat.seen place ≡ Some entry = read ∙ ap (λ e. Some e) (sym at.entry_is) in
+    let answered : IsAnswer seat.steps (state_after (take place seat.seen)) entry.command entry.answer =
+    subst (λ (e : Entry). IsAnswer seat.steps (state_after (take place seat.seen)) e.command e.answer) (sym at.entry_is) (is.legal.each place entry at.inside) in
+    let over = overflow_stands seat.steps (state_after (take place seat.seen)) entry.command told.slot told.booked told.asked
+    (subst (IsAnswer seat.steps (state_after (take place seat.seen)) entry.command) told.answer answered) in record {
+      slot = told.slot;
+      booked = told.booked;
+      asked = told.asked;
+      overflow = record {
+        place = place;
+        entry = entry;
+        seen = seen;
+        maker = ap (λ (e : Entry). e.maker) at.entry_is ∙ at.maker_is;
+        answer = told.answer;
+        heard = over.0;
+        plan = over.1.0;
+        command = over.1.1.0;
+        first = over.1.1.1;
+      };
+      sequence = told.sequence;
+      text_is = told.text_is;
+    }
+
+all_seen : (seat : Sitting) (made : List Outcome) (parts : List Part) → IsSeat seat → AreRepliesTold seat.mine made parts → AreRefusalsTold seat made parts
+all_seen seat made [] is told = tt
+all_seen seat made (Film bytes ∷ parts) is told = all_seen seat made parts is told
+all_seen seat made (Text text ∷ parts) is told =
+    (record { overflow = λ code. overflow_seen seat text is (told.0.overflow code); full = told.0.full }, all_seen seat made parts is told.1)
+
+-- over a whole course, by the seat at its end
+pub refusals_told : (seat : Sitting) (before after : List Placed) (made : List Outcome) (parts : List Part) → IsSeat seat →
+    seat.mine ≡ (before ++ entries_in made) ++ after → AreTold made parts → AreRefusalsTold seat made parts
+refusals_told seat before after made parts is mine told =
+    all_seen seat made parts is (subst (λ ps. AreRepliesTold ps made parts) (sym mine)
+    (mine_more (before ++ entries_in made) after made parts (mine_before before (entries_in made) made parts told)))

@@ -1,0 +1,119 @@
+-- What a connection keeps to while a play goes on: the film's bytes by the plan of the play's run,
+-- between the client's curves.
+use Rattle.std.specs.Prelude.{◌≡◌, ℕ, ◌+◌, ◌-◌, ◌≤◌, ◌++◌, ⊤, Bool, true, false, if◌then◌else◌, List, [], ◌∷◌, length, take, drop}
+use Rattle.vod_base.specs.Links.{Doing, HeardBytes, HeardEnd, HeardSlot, Sent}
+use Rattle.mpeg_scan.specs.Rates.{picture_time}
+use Rattle.film_frames.specs.declared.stores.Stored.{Stored}
+use Rattle.film_frames.specs.Runs.{run_pieces}
+use Rattle.film_frames.specs.Tracks.{framed}
+use Rattle.film_run.specs.declared.plans.Playback.{Playback}
+use Rattle.film_run.specs.Laws.{IsSending}
+use Rattle.film_run.specs.Plans.{IsBestPlanOf}
+use Rattle.film_run.specs.Units.{IsTrace, stored_sizes}
+use Rattle.admission.specs.Histories.{is_admission}
+use Rattle.pacer.specs.Pacings.{first_slots}
+use Rattle.session.specs.declared.states.Play.{Play as Played}
+use Rattle.session.specs.declared.states.Setup.{Setup}
+use Rattle.session.specs.declared.states.State.{State}
+use Rattle.session.specs.declared.states.State.TheVariants.{Init, Playing, Ready, Stopping}
+use Rattle.session.specs.Films.{IsFilmAt, sending_of}
+use Rattle.session.specs.Playing.{playback_of}
+use Rattle.session.specs.Standings.{Standing, taken_up}
+use Rattle.conn.specs.Turns.{Outcome, Unasked, Entered, WasFull, Offered, Stage, Taking, Passed, Answered, film_bytes, stage}
+use Rattle.conn.specs.Rounds.{Comes, Ending, Unheard, PeerEnded, Overfull, AtPiece, InSlot, InReply, Round, RunsAll}
+use Rattle.conn.specs.Films.{IsBetween}
+
+-- what holds of each film: its units are those of a trace, and a picture's time is in its range
+pub record IsShown (stored : Stored) : Type 0 where
+  pub sizes : IsTrace (stored_sizes stored)
+  pub some_time : 1 ≤ picture_time stored.film.rate
+  pub time_fits : picture_time stored.film.rate ≤ 360000
+
+-- a play was admitted
+abbrev pub is_admitted : Outcome → Bool
+is_admitted Unasked = false
+is_admitted (Entered placed) = is_admission placed.entry.answer
+is_admitted (WasFull entries live) = false
+is_admitted (Offered note) = false
+
+-- The film's bytes that were sent since the last admission: with one more answer of the station,
+-- with pieces that were taken up, and with rounds.
+abbrev pub film_since : List ℕ → Outcome → List ℕ
+film_since film outcome = if is_admitted outcome then [] else film
+
+abbrev pub film_taken : List ℕ → List Taking → List ℕ
+film_taken film [] = film
+film_taken film (Passed n ∷ takings) = film_taken film takings
+film_taken film (Answered message outcome parts ∷ takings) =
+    film_taken (film_since film outcome ++ film_bytes parts) takings
+
+abbrev pub film_in : List ℕ → List Round → List ℕ
+film_in film [] = film
+film_in film (round ∷ rounds) =
+    film_in (film_taken (film ++ film_bytes round.due) round.takings) rounds
+
+-- the last heard slot, with an event
+abbrev pub heard_by : ℕ → Doing → ℕ
+heard_by heard (HeardBytes bytes) = heard
+heard_by heard (HeardSlot slot) = taken_up heard slot
+heard_by heard HeardEnd = heard
+heard_by heard (Sent byte) = heard
+
+-- the frames and reports of a play's run, numbered on from what the session sent before
+abbrev pub play_pieces : Standing → Stored → Setup → Played → List (List ℕ)
+play_pieces session stored setup play =
+    run_pieces (sending_of stored.film session.source setup session.counts play.run)
+
+-- How the client plays the film, by what SETUP settled.
+abbrev pub client_of : Standing → Stored → Setup → Playback
+client_of session stored setup = playback_of stored.film session.settings setup
+
+-- By the end of a slot these bytes were sent of a play. Its plan is its run's own, than which no
+-- plan between the client's curves has less excess. They are as many as the plan has through that
+-- slot, in order, of the run's frames and reports from where its sending goes on. With what was
+-- sent of the run before, they lie between the two curves, in each slot from the play's start on.
+pub record IsSentBy (session : Standing) (stored : Stored) (setup : Setup) (play : Played)
+    (heard : ℕ) (film : List ℕ) : Type 0 where
+  pub at : IsFilmAt session.films setup.film stored
+  pub sending : IsSending (stored_sizes stored) (client_of session stored setup) play.run play.plan
+  pub best : IsBestPlanOf (stored_sizes stored) (client_of session stored setup) play.run play.plan
+  pub count : length film ≡ first_slots play.plan (heard + 1 - play.start)
+  pub front : film ≡ take (length film)
+      (drop play.run.sent (framed (play_pieces session stored setup play)))
+  pub between : (slot : ℕ) → heard ≡ play.start + slot
+      → IsBetween (stored_sizes stored) (client_of session stored setup) play.run slot
+      (play.run.sent + length film)
+
+-- of the play that goes on, if any
+abbrev pub IsKeptIn : State → Standing → ℕ → List ℕ → Type 0
+IsKeptIn Init session heard film = ⊤
+IsKeptIn (Ready setup paused) session heard film = ⊤
+IsKeptIn (Playing setup play) session heard film = (stored : Stored)
+    × IsSentBy session stored setup play heard film
+IsKeptIn (Stopping setup stop) session heard film = ⊤
+
+-- the round in which a connection ended
+abbrev pub ending_rounds : Ending → List Round
+ending_rounds Unheard = []
+ending_rounds PeerEnded = []
+ending_rounds (Overfull bytes) = []
+ending_rounds (AtPiece round) = round ∷ []
+ending_rounds (InSlot slot front) = []
+ending_rounds (InReply round message outcome front) = round ∷ []
+
+-- among these rounds, from a session on, this one comes after those, in this stage
+pub record IsRoundIn (first : Standing) (rounds before : List Round) (round : Round) (old : Stage)
+    : Type 0 where
+  pub after : List Round
+  pub rounds_are : rounds ≡ before ++ round ∷ after
+  pub runs : RunsAll (stage first []) before old
+  pub opened : Stage
+  pub comes : Comes old round.event round.due round.halt opened
+
+-- Each play is kept, from its admission until its halt: after the step of each slot, which its halt
+-- follows at the earliest, what was sent of it is by its plan and between its curves.
+abbrev pub ArePlaysKept : Standing → List Round → Type 0
+ArePlaysKept first rounds =
+    (before : List Round) (round : Round) (old : Stage) → IsRoundIn first rounds before round old
+    → IsKeptIn old.session.state old.session (heard_by old.session.heard round.event)
+    (film_in [] before ++ film_bytes round.due)

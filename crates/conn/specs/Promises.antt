@@ -1,0 +1,98 @@
+-- What a connection promises over its whole course, of its plays and of the plays that it refuses.
+use Rattle.std.specs.Prelude.{◌≡◌, ◌≤◌, ℕ, ◌⊎◌, ◌++◌, ⊤, Contains, List, [], ◌∷◌, slice_get, take, Option, Some}
+use Rattle.vod_base.specs.Links.{Doing}
+use Rattle.admission.specs.declared.entries.Answer.TheVariants.{Overflow}
+use Rattle.admission.specs.declared.entries.Command.TheVariants.{Play}
+use Rattle.admission.specs.declared.entries.Entry.{Entry}
+use Rattle.admission.specs.Histories.{IsLegal, booked_after, state_after}
+use Rattle.admission.specs.Machine.{start_after}
+use Rattle.plan_cert.specs.declared.Segment.{Segment}
+use Rattle.slot_calendar.specs.Calendars.{IsFirstOverflow}
+use Rattle.slot_calendar.specs.Profiles.{capacity_at}
+use Rattle.session.specs.Changes.{HasCode}
+use Rattle.session.specs.Replies.{full_text, overflow_text}
+use Rattle.session.specs.Standings.{Standing}
+use Rattle.station.specs.Seats.{Sitting}
+use Rattle.conn.specs.Turns.{Outcome, WasFull, Part, Film, Text}
+use Rattle.conn.specs.Rounds.{Ending, Round, ending_outcomes, rounds_outcomes}
+use Rattle.conn.specs.Films.{rounds_parts}
+use Rattle.conn.specs.Plays.{ArePlaysKept, ending_rounds}
+use Rattle.conn.specs.Served.{HasDoneNothing, HasServedFrom}
+use Rattle.conn.specs.declared.reports.ConnReport.{ConnReport}
+
+-- One of a seat's entries is a play that the link has no room for: beside what the plays before it
+-- book, this slot is the first into which its plan doesn't fit, with the bytes booked and asked
+-- there.
+pub record IsOverflowOf (seat : Sitting) (slot booked asked : ℕ) : Type 0 where
+  pub place : ℕ
+  pub entry : Entry
+  pub seen : slice_get seat.seen place ≡ Some entry
+  pub maker : entry.maker ≡ seat.number
+  pub answer : entry.answer ≡ Overflow slot booked asked
+  pub heard : ℕ
+  pub plan : List Segment
+  pub command : entry.command ≡ Play heard plan
+  pub first : IsFirstOverflow 0 (booked_after (take place seat.seen)) (capacity_at seat.steps)
+      (start_after (state_after (take place seat.seen)) heard) plan (record {
+        slot = slot;
+        booked = booked;
+        asked = asked;
+      })
+
+-- a reply tells it
+pub record TellsOverflowOf (seat : Sitting) (text : List ℕ) : Type 0 where
+  pub slot : ℕ
+  pub booked : ℕ
+  pub asked : ℕ
+  pub overflow : IsOverflowOf seat slot booked asked
+  pub sequence : ℕ
+  pub text_is : text ≡ overflow_text sequence slot booked asked
+
+-- one of the station's answers was that its journal is full: the text has its two numbers
+pub record TellsFullOf (outcomes : List Outcome) (text : List ℕ) : Type 0 where
+  pub entries : ℕ
+  pub live : ℕ
+  pub full : Contains outcomes (WasFull entries live)
+  pub sequence : ℕ
+  pub text_is : text ≡ full_text sequence entries live
+
+-- a reply is 453 only where a slot has no room for the play that was asked for, and 503 only where
+-- the journal was full
+pub record IsRefusalTold (seat : Sitting) (outcomes : List Outcome) (text : List ℕ) : Type 0 where
+  pub overflow : HasCode 453 text → TellsOverflowOf seat text
+  pub full : HasCode 503 text → TellsFullOf outcomes text
+
+-- so it is of each reply among these
+abbrev pub AreRefusalsTold : Sitting → List Outcome → List Part → Type 0
+AreRefusalsTold seat outcomes [] = ⊤
+AreRefusalsTold seat outcomes (Film bytes ∷ parts) = AreRefusalsTold seat outcomes parts
+AreRefusalsTold seat outcomes (Text text ∷ parts) = IsRefusalTold seat outcomes text
+    × AreRefusalsTold seat outcomes parts
+
+-- in a connection's rounds, the last of them included
+pub record KeepsIn (session : Standing) (rounds : List Round) (ending : Ending) (seat : Sitting)
+    : Type 0 where
+  pub plays : ArePlaysKept session (rounds ++ ending_rounds ending)
+  pub refusals : AreRefusalsTold seat (rounds_outcomes rounds
+      ++ ending_outcomes ending) (rounds_parts (rounds ++ ending_rounds ending))
+
+-- After each entry that a seat has seen, what the plays book in a slot, each with its plan as far
+-- as it is kept, is never above the link's capacity.
+pub record IsNeverOverbooked (seat : Sitting) : Type 0 where
+  pub legal : IsLegal seat.steps seat.seen
+  pub within : (n slot : ℕ) → booked_after (take n seat.seen) slot ≤ capacity_at seat.steps slot
+
+-- The connection has its course, and in it each play is kept between its client's curves, with the
+-- least excess, and no play is refused but for a slot without room or a full journal.
+pub record KeepsCourse (session : Standing) (old_told new_told : Option (List Doing))
+    (old_seat new_seat : Sitting) (report : ConnReport) : Type 0 where
+  pub served : HasServedFrom session old_told new_told old_seat new_seat report
+  pub booked : IsNeverOverbooked new_seat
+  pub keeps : KeepsIn session served.course.rounds served.course.ending new_seat
+
+-- or it found no memory and did nothing
+abbrev pub KeepsPromise : Standing → Option (List Doing) → Option (List Doing) → Sitting → Sitting →
+    ConnReport → Type 0
+KeepsPromise session old_told new_told old_seat new_seat report =
+    KeepsCourse session old_told new_told old_seat new_seat report
+    ⊎ HasDoneNothing old_told new_told old_seat new_seat report
