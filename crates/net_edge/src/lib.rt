@@ -2,6 +2,7 @@
 //! promise is that a call answers a fault only where their count of faults rose in it.
 #![tactic(auto)]
 
+mod dials;
 mod files;
 mod gates;
 mod gathers;
@@ -9,6 +10,7 @@ mod links;
 mod outputs;
 mod slots;
 
+pub use dials::DialGate;
 pub use files::FileLibrary;
 pub use gates::TcpGate;
 pub use links::TcpLink;

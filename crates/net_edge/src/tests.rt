@@ -104,3 +104,47 @@ fn reads_files(rt: HostRuntime) -> Result<(), Fail> {
     assert_eq!(rt; library.find("o.txt"), Ok(Some(3)));
     Ok(())
 }
+
+#[test]
+fn dials_over_loopback(rt: HostRuntime) -> Result<(), Fail> {
+    let mut gate = TcpGate::new(&rt, rt.alloc());
+    assert_eq!(rt; gate.open(&HOW), Ok(()));
+    let Some(port) = gate.port() else {
+        return Err(Fail::from("no port"));
+    };
+    let mut dial = DialGate::new(&rt, rt.alloc());
+    assert!(rt; dial.split().is_err());
+    assert_eq!(rt; dial.open(&Opening { port, ..HOW }), Ok(()));
+    let (Ok(mut first), Ok(mut second)) = (dial.split(), dial.split()) else {
+        return Err(Fail::from("no part"));
+    };
+    let Ok(Some(mut near)) = first.take() else {
+        return Err(Fail::from("no connection"));
+    };
+    assert!(rt; matches!((first.take(), second.take()), (Ok(None), Ok(None))));
+    let Ok(Some(mut far)) = gate.take() else {
+        return Err(Fail::from("nobody came"));
+    };
+    let mut into = [0; 8];
+    assert!(rt; matches!(near.next(&mut into), Ok(Heard::Slot(_))));
+    assert_eq!(rt; near.send(b"abc"), Ok(()));
+    assert!(rt; matches!(near.next(&mut into), Ok(Heard::Slot(_))));
+    assert_eq!(rt; next_but_slots(&mut far, &mut into)?.0, Heard::Bytes(3));
+    assert_eq!(rt; into.get(..3), Some(&b"abc"[..]));
+    drop(far);
+    assert_eq!(rt; next_but_slots(&mut near, &mut into)?.0, Heard::End);
+    first.give_back(near);
+    dial.rejoin(first);
+    dial.rejoin(second);
+    gate.open(&HOW).ok();
+    let unused = gate.port().unwrap_or(1);
+    drop(gate);
+    assert_eq!(rt;
+        dial.open(&Opening {
+            port: unused,
+            ..HOW
+        }),
+        Err(GateFault)
+    );
+    Ok(())
+}

@@ -1,0 +1,222 @@
+-- Events, one after another, up to the answer.
+use Rattle.std.proofs.Common.{◌≡◌, ℕ, zero, suc, ◌+◌, ◌<◌, ◌≤◌, ◌^◌, List, [], ◌∷◌, ◌++◌, length, take, Option, Some, None, Ok, Err, IfSome, refl, sym, ap, subst, ◌∙◌, append_assoc, arith, inl, inr}
+use Rattle.std.proofs.lemmas.List.{append-nil, length-append}
+use Rattle.vod_base.specs.Links.{Doing, HeardBytes, HeardEnd, HeardSlot, IsFrontTold, sends, told_more}
+use Rattle.vod_base.specs.Outside.{more}
+use Rattle.interleave.specs.Pieces.{IsFirst}
+use Rattle.interleave.specs.declared.pieces.Step.TheVariants.{More}
+use Rattle.rtsp_client.specs.declared.clients.Client.{Client}
+use Rattle.rtsp_client.specs.declared.frames.Source.{Source}
+use Rattle.rtsp_client.specs.declared.wishes.Wish.{Wish}
+use Rattle.rtsp_client.specs.declared.wishes.Watched.{Watched}
+use Rattle.rtsp_client.specs.declared.wishes.WatchEnd.{WatchEnd}
+use Rattle.rtsp_client.specs.declared.wishes.WatchEnd.TheVariants.{Fault, LinkFault, NoMemory}
+use Rattle.rtsp_client.specs.declared.wishes.WatchFault.TheVariants.{EndedEarly, TurnsSpent}
+use Rattle.rtsp_client.specs.Requests.{setup_text}
+use Rattle.rtsp_client.specs.Moments.{History, Moment, Slot, session, sizes}
+use Rattle.rtsp_client.specs.Answers.{GoOn, after, cut_bytes, moments_in, payloads_of, requests_after}
+use Rattle.rtsp_client.specs.Courses.{Ends, HasCourse, HasNotBegun, HasWatched, IsFront, Round, Runs, RunsAll, Stage, moments_of_rounds, rounds_doings, stage}
+use Rattle.rtsp_client.specs.Keeps.{Keeps, KeepsState}
+use Rattle.rtsp_client.specs.States.{after_slot, new_state}
+use Rattle.rtsp_client.specs.Takings.{HasEnded, HasRound, HasRun, HasStopped, HasTaken, IsUnsent, Sight, sight, sight_more}
+use Rattle.rtsp_client.proofs.Keeping.{keeps-new}
+use Rattle.rtsp_client.proofs.Metering.{keeps-slot}
+use Rattle.rtsp_client.proofs.Sighting.{out-none, out-on, sight-none, told-none, told-on}
+use Rattle.rtsp_client.proofs.Taking.{after-on, payloads-on}
+
+-- ---- one event
+
+pub round-bytes : (wish : Wish) (h : History) (rest bytes : List ℕ) (new : Client) (s t : Sight) → HasTaken wish h (rest ++ bytes) new s t
+    → IsFirst new.input (Ok More) → HasRound wish h rest (HeardBytes bytes) new s t
+round-bytes wish h rest bytes new s t taken idle = record {
+  moments = moments_in taken.pieces;
+  runs = record { brings = (taken.pieces, (taken.cut, refl)); good = taken.passed.good; history_is = refl };
+  keeps = taken.passed.keeps;
+  idle = idle;
+  sight_is = taken.passed.sight_is;
+}
+
+timed-from : (o : Option Source) → IfSome o (λ (s : Source). 0 < s.picture_units) → (s : Source) → o ≡ Some s → 0 < s.picture_units
+timed-from o timed s is =
+    let P : Option Source → Type 0 = λ x. IfSome x (λ (s : Source). 0 < s.picture_units) in
+    let Q : IfSome (Some s) (λ (s : Source). 0 < s.picture_units) = subst P is timed in Q
+
+pub round-slot : (wish : Wish) (h : History) (c new : Client) (slot cut : ℕ) (s : Sight) → Keeps wish h c → 0 < wish.slot_units
+    → IfSome c.watching.source (λ (source : Source). 0 < source.picture_units) → cut ≡ cut_bytes c.input
+    → IsFirst c.input (Ok More) → new.replies ≡ c.replies → new.session.items ≡ c.session.items → new.input ≡ c.input
+    → new.watching ≡ after_slot wish c.watching slot cut → HasRound wish h c.input (HeardSlot slot) new s s
+round-slot wish h c new slot cut s k some timed cut_is idle replies_same session_same input_same state = record {
+  moments = Slot slot (cut_bytes c.input) ∷ [];
+  runs = record { brings = (refl, input_same); good = (tt, tt); history_is = refl };
+  keeps = record {
+    replies_are = replies_same ∙ k.replies_are;
+    session_is = session_same ∙ k.session_is;
+    state = subst (λ w. KeepsState wish (Slot slot (cut_bytes c.input) ∷ h) w) (sym (state ∙ ap (after_slot wish c.watching slot) cut_is))
+        (keeps-slot wish h c.watching slot (cut_bytes c.input) k.state some (timed-from c.watching.source timed));
+  };
+  idle = subst (λ i. IsFirst i (Ok More)) (sym input_same) idle;
+  sight_is = sight-none s;
+}
+
+pub ended-bytes : (wish : Wish) (h : History) (rest bytes : List ℕ) (end : WatchEnd) (s t : Sight) → HasStopped wish h (rest ++ bytes) end s t
+    → HasEnded wish h rest (HeardBytes bytes) end s t
+ended-bytes wish h rest bytes end s t stopped = record {
+  sent = stopped.sent;
+  out = stopped.out;
+  ends = λ count few. inr (inr (bytes, (stopped.sent, (stopped.stops, refl, few))));
+  sight_is = stopped.sight_is;
+}
+
+pub ended-peer : (wish : Wish) (h : History) (c : Client) (end : WatchEnd) (s : Sight) → Keeps wish h c
+    → end ≡ Fault (EndedEarly c.watching.watched.units) → HasEnded wish h c.input HeardEnd end s s
+ended-peer wish h c end s k is = record {
+  sent = [];
+  out = [];
+  ends = λ count few. inr (inl (is ∙ ap (λ (w : Watched). Fault (EndedEarly w.units)) k.state.watched_is, few, refl, refl));
+  sight_is = sight-none s;
+}
+
+-- ---- all events
+
+runs-on : (old mid new : Stage) (rounds : List Round) (round : Round) → RunsAll old rounds mid → Runs mid round new → IsFirst new.rest (Ok More)
+    → RunsAll old (rounds ++ round ∷ []) new
+runs-on old mid new [] round all runs idle =
+    let R : Stage → Type 0 = λ x. Runs x round new in
+    (new, (subst R all runs, idle, refl))
+runs-on old mid new (first ∷ rounds) round all runs idle =
+    (all.0, (all.1.0, all.1.1, runs-on all.0 mid new rounds round all.1.2 runs idle))
+
+history-is : (old mid : Stage) (rounds : List Round) → RunsAll old rounds mid → mid.history ≡ after old.history (moments_of_rounds rounds)
+history-is old mid [] all = ap (λ (s : Stage). s.history) all
+history-is old mid (round ∷ rounds) all =
+    history-is all.0 mid rounds all.1.2
+    ∙ (ap (λ h. after h (moments_of_rounds rounds)) all.1.0.history_is ∙ sym (after-on old.history round.moments (moments_of_rounds rounds)))
+
+doings-on : (wish : Wish) (h : History) (rounds : List Round) (round : Round)
+    → rounds_doings wish h (rounds ++ round ∷ [])
+    ≡ rounds_doings wish h rounds ++ (round.event ∷ sends (requests_after wish (after h (moments_of_rounds rounds)) round.moments))
+doings-on wish h [] round = append-nil (round.event ∷ sends (requests_after wish h round.moments))
+doings-on wish h (first ∷ rounds) round =
+    let front = first.event ∷ sends (requests_after wish h first.moments) in
+    ap (λ d. front ++ d) (doings-on wish (after h first.moments) rounds round)
+    ∙ (ap (λ g. front ++ (rounds_doings wish (after h first.moments) rounds ++ (round.event ∷ sends (requests_after wish g round.moments))))
+    (sym (after-on h first.moments (moments_of_rounds rounds)))
+    ∙ sym (append_assoc front (rounds_doings wish (after h first.moments) rounds)
+    (round.event ∷ sends (requests_after wish (after h (moments_of_rounds (first ∷ rounds))) round.moments))))
+
+moments-of-on : (rounds : List Round) (round : Round) → moments_of_rounds (rounds ++ round ∷ []) ≡ moments_of_rounds rounds ++ round.moments
+moments-of-on [] round = append-nil round.moments
+moments-of-on (first ∷ rounds) round =
+    ap (λ m. first.moments ++ m) (moments-of-on rounds round) ∙ sym (append_assoc first.moments (moments_of_rounds rounds) round.moments)
+
+pub run-none : (wish : Wish) (client : Client) (s : Sight) → client.replies ≡ 0 → client.session.items ≡ [] → client.watching ≡ new_state
+    → client.input ≡ [] → HasRun wish 0 client s s
+run-none wish client s none empty new_ input = record {
+  rounds = [];
+  count_is = refl;
+  history = [];
+  runs = ap (λ i. stage [] i) input;
+  keeps = record {
+    replies_are = none;
+    session_is = empty;
+    state = subst (λ w. KeepsState wish [] w) (sym new_) (keeps-new wish);
+  };
+  sight_is = ap (λ t. sight t s.out) (sym (told-none s.told)) ∙ ap (λ o. sight (told_more s.told []) o) (sym (out-none s.out));
+}
+
+-- one more event
+pub run-on : (wish : Wish) (count : ℕ) (event : Doing) (c new : Client) (s t u v : Sight) (run : HasRun wish count c s t)
+    → u ≡ sight (told_more t.told (event ∷ [])) t.out → ((h : History) → Keeps wish h c → HasRound wish h c.input event new u v)
+    → HasRun wish (count + 1) new s v
+run-on wish count event c new s t u v run heard next =
+    let round = next run.history run.keeps in
+    let r : Round = record { event = event; moments = round.moments } in
+    let h : run.history ≡ after [] (moments_of_rounds run.rounds) = history-is (stage [] []) (stage run.history c.input) run.rounds run.runs in
+    let told : told_more (told_more (told_more s.told (rounds_doings wish [] run.rounds)) (event ∷ [])) (sends (requests_after wish run.history round.moments))
+    ≡ told_more s.told (rounds_doings wish [] (run.rounds ++ r ∷ [])) =
+    told-on (told_more s.told (rounds_doings wish [] run.rounds)) (event ∷ []) (sends (requests_after wish run.history round.moments))
+    ∙ (told-on s.told (rounds_doings wish [] run.rounds) (event ∷ sends (requests_after wish run.history round.moments))
+    ∙ ap (told_more s.told) (ap (λ g. rounds_doings wish [] run.rounds ++ (event ∷ sends (requests_after wish g round.moments))) h
+    ∙ sym (doings-on wish [] run.rounds r))) in
+    let out : more (more s.out (payloads_of (moments_of_rounds run.rounds))) (payloads_of round.moments)
+    ≡ more s.out (payloads_of (moments_of_rounds (run.rounds ++ r ∷ []))) =
+    out-on s.out (payloads_of (moments_of_rounds run.rounds)) (payloads_of round.moments)
+    ∙ ap (more s.out) (sym (payloads-on (moments_of_rounds run.rounds) round.moments) ∙ ap payloads_of (sym (moments-of-on run.rounds r))) in
+    record {
+      rounds = run.rounds ++ r ∷ [];
+      count_is = length-append run.rounds (r ∷ []) ∙ ap (λ n. n + 1) run.count_is;
+      history = after run.history round.moments;
+      runs = runs-on (stage [] []) (stage run.history c.input) (stage (after run.history round.moments) new.input) run.rounds r run.runs round.runs round.idle;
+      keeps = round.keeps;
+      sight_is = round.sight_is
+          ∙ (ap (λ x. sight_more x (requests_after wish run.history round.moments) (payloads_of round.moments))
+          (heard ∙ ap (λ (y : Sight). sight (told_more y.told (event ∷ [])) y.out) run.sight_is)
+          ∙ (ap (λ x. sight x (more (more s.out (payloads_of (moments_of_rounds run.rounds))) (payloads_of round.moments))) told
+          ∙ ap (λ o. sight (told_more s.told (rounds_doings wish [] (run.rounds ++ r ∷ []))) o) out));
+    }
+
+-- the course: SETUP was sent, and then events came
+course-of : (wish : Wish) (count : ℕ) (c : Client) (end : WatchEnd) (told0 : Option (List Doing)) (out0 : Option (List ℕ)) (s t : Sight)
+    (doings : List Doing) (out : List ℕ) (new_told : Option (List Doing)) (new_out : Option (List ℕ)) (run : HasRun wish count c s t)
+    → s ≡ sight (told_more told0 (sends (setup_text wish))) out0 → Ends wish (stage run.history c.input) count end doings out
+    → new_told ≡ told_more t.told doings → new_out ≡ more t.out out → HasWatched wish end told0 new_told out0 new_out
+course-of wish count c end told0 out0 s t doings out new_told new_out run begun ends told_is out_is =
+    let d = rounds_doings wish [] run.rounds in
+    inl (record {
+      rounds = run.rounds;
+      mid = stage run.history c.input;
+      runs = run.runs;
+      last_doings = doings;
+      last_out = out;
+      ends = subst (λ n. Ends wish (stage run.history c.input) n end doings out) (sym run.count_is) ends;
+      told = told_is
+          ∙ (ap (λ (x : Sight). told_more x.told doings) run.sight_is
+          ∙ (ap (λ (x : Sight). told_more (told_more x.told d) doings) begun
+          ∙ (told-on (told_more told0 (sends (setup_text wish))) d doings ∙ told-on told0 (sends (setup_text wish)) (d ++ doings))));
+      out = out_is
+          ∙ (ap (λ (x : Sight). more x.out out) run.sight_is
+          ∙ (ap (λ (x : Sight). more (more x.out (payloads_of (moments_of_rounds run.rounds))) out) begun
+          ∙ out-on out0 (payloads_of (moments_of_rounds run.rounds)) out));
+    })
+
+-- an event gave the answer
+pub watched-end : (wish : Wish) (count : ℕ) (event : Doing) (c : Client) (end : WatchEnd) (told0 : Option (List Doing)) (out0 : Option (List ℕ))
+    (s t u v : Sight) (run : HasRun wish count c s t) → s ≡ sight (told_more told0 (sends (setup_text wish))) out0 → count < 1099511627776
+    → u ≡ sight (told_more t.told (event ∷ [])) t.out → ((h : History) → Keeps wish h c → HasEnded wish h c.input event end u v)
+    → HasWatched wish end told0 v.told out0 v.out
+watched-end wish count event c end told0 out0 s t u v run begun few heard next =
+    let ended = next run.history run.keeps in
+    course-of wish count c end told0 out0 s t (event ∷ sends ended.sent) ended.out v.told v.out run begun (ended.ends count few)
+    (ap (λ (x : Sight). x.told) ended.sight_is
+    ∙ (ap (λ (x : Sight). told_more x.told (sends ended.sent)) heard ∙ told-on t.told (event ∷ []) (sends ended.sent)))
+    (ap (λ (x : Sight). x.out) ended.sight_is ∙ ap (λ (x : Sight). more x.out ended.out) heard)
+
+-- no further event was heard
+pub watched-lost : (wish : Wish) (count : ℕ) (c : Client) (end : WatchEnd) (told0 : Option (List Doing)) (out0 : Option (List ℕ)) (s t : Sight)
+    (new_told : Option (List Doing)) (run : HasRun wish count c s t) → s ≡ sight (told_more told0 (sends (setup_text wish))) out0
+    → count < 1099511627776 → end ≡ LinkFault → new_told ≡ t.told → HasWatched wish end told0 new_told out0 t.out
+watched-lost wish count c end told0 out0 s t new_told run begun few is same =
+    course-of wish count c end told0 out0 s t [] [] new_told t.out run begun (inl (inl (is, few), refl, refl)) (same ∙ sym (told-none t.told)) (sym (out-none t.out))
+
+pub watched-spent : (wish : Wish) (count : ℕ) (c : Client) (told0 : Option (List Doing)) (out0 : Option (List ℕ)) (s t : Sight)
+    (run : HasRun wish count c s t) → s ≡ sight (told_more told0 (sends (setup_text wish))) out0 → count ≡ 1099511627776
+    → HasWatched wish (Fault TurnsSpent) told0 t.told out0 t.out
+watched-spent wish count c told0 out0 s t run begun all =
+    course-of wish count c (Fault TurnsSpent) told0 out0 s t [] [] t.told t.out run begun (inl (inr (refl, all), refl, refl)) (sym (told-none t.told)) (sym (out-none t.out))
+
+-- it didn't begin
+pub watched-not : (wish : Wish) (end : WatchEnd) (told : Option (List Doing)) (out : Option (List ℕ)) → end ≡ NoMemory
+    → HasWatched wish end told told out out
+watched-not wish end told out is = inr (record { front = []; cause = inl (is, refl); told = sym (told-none told); out = refl })
+
+pub watched-unsent : (wish : Wish) (end : WatchEnd) (told new_told : Option (List Doing)) (out : Option (List ℕ)) → IsUnsent end wish told new_told
+    → HasWatched wish end told new_told out out
+watched-unsent wish end told new_told out (inl none) =
+    inr (record { front = []; cause = inl (none.0, refl); told = none.1 ∙ sym (told-none told); out = refl })
+watched-unsent wish end told new_told out (inr cut) =
+    inr (record {
+      front = take cut.1.0 (setup_text wish);
+      cause = inr (cut.0, (cut.1.0, (cut.1.1.0, refl)));
+      told = cut.1.1.1;
+      out = refl;
+    })

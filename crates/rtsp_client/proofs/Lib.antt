@@ -1,0 +1,13 @@
+pub mod Keeping
+pub mod Metering
+pub mod Rates
+pub mod Sighting
+pub mod Texts
+pub mod Answering
+pub mod Replying
+pub mod Framing
+pub mod Taking
+pub mod Coursing
+pub mod Cutting
+pub mod Outcomes
+pub mod Promising

@@ -1,0 +1,183 @@
+-- What a reply comes to.
+use Rattle.std.proofs.Common.{◌≡◌, ◌≢◌, ℕ, zero, suc, ◌+◌, ◌<◌, ◌≤◌, ◌==◌, ◌&&◌, ◌||◌, Bool, true, false, nat_lt, cond, List, [], ◌∷◌, ◌++◌, length, take, Option, Some, None, is_some, unwrap_or, refl, sym, ap, subst, ◌∙◌, arith, inl, inr}
+use Rattle.std.specs.Prelude.{MatchOption}
+use Rattle.std.proofs.lemmas.Bool.{cond-true, cond-false, eq-eqb, ne_eqb, true≢false}
+use Rattle.std.proofs.lemmas.List.{append-nil}
+use Rattle.vod_base.specs.Links.{Doing, IsFrontTold, sends, told_more}
+use Rattle.rtsp_client.specs.declared.clients.Client.{Client}
+use Rattle.rtsp_client.specs.declared.wishes.Wish.{Wish}
+use Rattle.rtsp_client.specs.declared.wishes.Watched.{Watched}
+use Rattle.rtsp_client.specs.declared.wishes.WatchEnd.{WatchEnd}
+use Rattle.rtsp_client.specs.declared.wishes.WatchEnd.TheVariants.{Done, Fault, LinkFault, SinkFault, NoMemory}
+use Rattle.rtsp_client.specs.declared.wishes.WatchFault.TheVariants.{Refused, BadReply, BadFrame}
+use Rattle.rtsp_client.specs.Replies.{IsAnswer, play_range, play_start, session_in}
+use Rattle.rtsp_client.specs.Requests.{play_text}
+use Rattle.rtsp_client.specs.Moments.{History, Moment, Frame, Reply, Report, Slot, replies, session}
+use Rattle.rtsp_client.specs.Films.{is_complete}
+use Rattle.rtsp_client.specs.Meters.{watched_in}
+use Rattle.rtsp_client.specs.Answers.{Gives, GoesOn, IsBadReply, IsGoodReply, IsOrderly, has_fields, is_awaited, payload_of, request_after}
+use Rattle.rtsp_client.specs.Courses.{Fails, IsFront}
+use Rattle.rtsp_client.specs.Keeps.{Keeps, KeepsState}
+use Rattle.rtsp_client.specs.Standing.{IsAwaited}
+use Rattle.rtsp_client.specs.States.{after_play, has_all}
+use Rattle.rtsp_client.specs.Takings.{HasEndedAt, HasPassed, Sight, sight, sight_more}
+use Rattle.rtsp_client.proofs.Keeping.{complete-is, keeps-first, keeps-play}
+use Rattle.rtsp_client.proofs.Sighting.{no-front, sight-none, sight-sent, told-none}
+
+awaited-is : (wish : Wish) (h : History) (c : Client) → Keeps wish h c → (nat_lt c.replies 2 || has_all c.watching) ≡ is_awaited h
+awaited-is wish h c k =
+    ap (λ n. nat_lt n 2 || has_all c.watching) k.replies_are ∙ ap (λ b. nat_lt (replies h) 2 || b) (complete-is wish h c.watching k.state)
+
+orderly : (wish : Wish) (h : History) (c : Client) (m : List ℕ) (code : ℕ) → Keeps wish h c → IsAwaited c m code → IsOrderly h m code
+orderly wish h c m code k is = record {
+  awaited = sym (awaited-is wish h c k) ∙ is.awaited;
+  answer = subst (λ n. IsAnswer m (n + 1) code) k.replies_are is.answer;
+}
+
+awaited-from : (wish : Wish) (h : History) (c : Client) (m : List ℕ) (code : ℕ) → Keeps wish h c → IsOrderly h m code → IsAwaited c m code
+awaited-from wish h c m code k is = record {
+  awaited = awaited-is wish h c k ∙ is.awaited;
+  answer = subst (λ n. IsAnswer m (n + 1) code) (sym k.replies_are) is.answer;
+}
+
+-- a moment gives the answer: nothing was sent or handed on
+pub gives : (wish : Wish) (h : History) (m : Moment) (end : WatchEnd) (s : Sight) → Gives wish h m end → HasEndedAt wish h m end s s
+gives wish h m end s is = record { sent = []; out = []; comes = inl (is, refl, refl); sight_is = sight-none s }
+
+-- the reply isn't awaited, or isn't as it should be
+pub bad-reply : (wish : Wish) (h : History) (c : Client) (m : List ℕ) (end : WatchEnd) (s : Sight) → Keeps wish h c
+    → ((code : ℕ) → ¬ IsAwaited c m code) → end ≡ Fault (BadReply (c.replies + 1)) → HasEndedAt wish h (Reply m) end s s
+bad-reply wish h c m end s k none is =
+    gives wish h (Reply m) end s
+    (inl (inl (λ code o. none code (awaited-from wish h c m code k o)), is ∙ ap (λ n. Fault (BadReply (n + 1))) k.replies_are))
+
+-- another code than 200
+pub refused-reply : (wish : Wish) (h : History) (c : Client) (m : List ℕ) (code : ℕ) (end : WatchEnd) (s : Sight) → Keeps wish h c
+    → IsAwaited c m code → code ≢ 200 → end ≡ Fault (Refused code) → HasEndedAt wish h (Reply m) end s s
+refused-reply wish h c m code end s k is other end_is =
+    gives wish h (Reply m) end s (inr (inl (code, ((orderly wish h c m code k is, other), end_is))))
+
+fields-first : (h : History) (m : List ℕ) → replies h ≡ 0 → has_fields h m ≡ is_some (session_in m)
+fields-first h m none = cond-true (replies h == 0) _ _ (eq-eqb (replies h) 0 none)
+
+fields-second : (h : History) (m : List ℕ) → replies h ≡ 1 → has_fields h m ≡ (is_some (play_range m) && is_some (play_start m))
+fields-second h m one =
+    cond-false (replies h == 0) _ _ (ne_eqb (replies h) 0 (λ none. absurd (omega (arith, none, one))))
+    ∙ cond-true (replies h == 1) _ _ (eq-eqb (replies h) 1 one)
+
+fields-third : (h : History) (m : List ℕ) → replies h ≡ 2 → has_fields h m ≡ true
+fields-third h m two =
+    cond-false (replies h == 0) _ _ (ne_eqb (replies h) 0 (λ none. absurd (omega (arith, none, two))))
+    ∙ cond-false (replies h == 1) _ _ (ne_eqb (replies h) 1 (λ one. absurd (omega (arith, one, two))))
+
+-- ---- the reply to SETUP
+
+pub setup-lacks : (wish : Wish) (h : History) (c : Client) (m : List ℕ) (end : WatchEnd) (s : Sight) → Keeps wish h c → c.replies ≡ 0
+    → IsAwaited c m 200 → session_in m ≡ None → end ≡ Fault (BadReply 1) → HasEndedAt wish h (Reply m) end s s
+setup-lacks wish h c m end s k first is none end_is =
+    let zero_ : replies h ≡ 0 = sym k.replies_are ∙ first in
+    gives wish h (Reply m) end s
+    (inl (inr (orderly wish h c m 200 k is, fields-first h m zero_ ∙ ap is_some none), end_is ∙ ap (λ n. Fault (BadReply (n + 1))) (sym zero_)))
+
+setup-good : (wish : Wish) (h : History) (c : Client) (m id : List ℕ) → Keeps wish h c → c.replies ≡ 0 → IsAwaited c m 200
+    → session_in m ≡ Some id → GoesOn h (Reply m)
+setup-good wish h c m id k first is some =
+    let zero_ : replies h ≡ 0 = sym k.replies_are ∙ first in
+    ((orderly wish h c m 200 k is, fields-first h m zero_ ∙ ap is_some some), omega (arith, zero_))
+
+setup-request : (wish : Wish) (h : History) (m id : List ℕ) → replies h ≡ 0 → session_in m ≡ Some id
+    → request_after wish h (Reply m) ≡ play_text wish id
+setup-request wish h m id none some =
+    cond-true (replies h == 0) _ _ (eq-eqb (replies h) 0 none) ∙ ap (λ o. play_text wish (unwrap_or o [])) some
+
+pub setup-starved : (wish : Wish) (h : History) (c : Client) (m id : List ℕ) (end : WatchEnd) (s : Sight) → Keeps wish h c → c.replies ≡ 0
+    → IsAwaited c m 200 → session_in m ≡ Some id → end ≡ NoMemory → HasEndedAt wish h (Reply m) end s s
+setup-starved wish h c m id end s k first is some end_is = record {
+  sent = [];
+  out = [];
+  comes = inr (setup-good wish h c m id k first is some, subst (λ e. Fails wish h (Reply m) e [] []) (sym end_is) (refl, no-front []));
+  sight_is = sight-none s;
+}
+
+pub setup-cut : (wish : Wish) (h : History) (c : Client) (m id : List ℕ) (end : WatchEnd) (told new : Option (List Doing)) (out : Option (List ℕ))
+    → Keeps wish h c → c.replies ≡ 0 → IsAwaited c m 200 → session_in m ≡ Some id → end ≡ LinkFault
+    → IsFrontTold told new (play_text wish id) → HasEndedAt wish h (Reply m) end (sight told out) (sight new out)
+setup-cut wish h c m id end told new out k first is some end_is front =
+    let zero_ : replies h ≡ 0 = sym k.replies_are ∙ first in
+    let asked = setup-request wish h m id zero_ some in
+    let F : List ℕ → Type 0 = λ text. IsFront (take front.0 (play_text wish id)) text in
+    record {
+      sent = take front.0 (play_text wish id);
+      out = [];
+      comes = inr (
+        setup-good wish h c m id k first is some,
+        subst (λ e. Fails wish h (Reply m) e (take front.0 (play_text wish id)) []) (sym end_is)
+            (subst F (sym asked) (front.0, (front.1.0, refl)), refl),
+      );
+      sight_is = sight-sent told new out (take front.0 (play_text wish id)) front.1.1;
+    }
+
+-- one moment was taken up
+pub passed-one : (wish : Wish) (h : History) (m : Moment) (new : Client) (old_sight new_sight : Sight) → GoesOn h m → Keeps wish (m ∷ h) new
+    → new_sight ≡ sight_more old_sight (request_after wish h m) (payload_of m) → HasPassed wish h (m ∷ []) new old_sight new_sight
+passed-one wish h m new old_sight new_sight good keeps is = record {
+  good = (good, tt);
+  keeps = keeps;
+  sight_is = is
+      ∙ (ap (λ a. sight_more old_sight a (payload_of m)) (sym (append-nil (request_after wish h m)))
+      ∙ ap (λ x. sight_more old_sight (request_after wish h m ++ []) x) (sym (append-nil (payload_of m))));
+}
+
+pub setup-done : (wish : Wish) (h : History) (c new : Client) (m id : List ℕ) (told new_told : Option (List Doing)) (out : Option (List ℕ))
+    → Keeps wish h c → c.replies ≡ 0 → IsAwaited c m 200 → session_in m ≡ Some id → new.replies ≡ 1 → new.session.items ≡ id
+    → new.watching ≡ c.watching → new_told ≡ told_more told (sends (play_text wish id))
+    → HasPassed wish h (Reply m ∷ []) new (sight told out) (sight new_told out)
+setup-done wish h c new m id told new_told out k first is some one its same sent =
+    let zero_ : replies h ≡ 0 = sym k.replies_are ∙ first in
+    let P : List ℕ → Type 0 = λ text. new_told ≡ told_more told (sends text) in
+    passed-one wish h (Reply m) new (sight told out) (sight new_told out) (setup-good wish h c m id k first is some)
+    (record {
+      replies_are = one ∙ ap (λ n. n + 1) (sym zero_);
+      session_is = its ∙ sym (cond-true (replies h == 0) _ _ (eq-eqb (replies h) 0 zero_) ∙ ap (λ o. unwrap_or o []) some);
+      state = keeps-first wish h new.watching m (subst (λ w. KeepsState wish h w) (sym same) k.state) zero_;
+    })
+    (sight-sent told new_told out (request_after wish h (Reply m)) (subst P (sym (setup-request wish h m id zero_ some)) sent))
+
+-- ---- the reply to PLAY
+
+pub play-lacks : (wish : Wish) (h : History) (c : Client) (m : List ℕ) (end : WatchEnd) (s : Sight) → Keeps wish h c → c.replies ≡ 1
+    → IsAwaited c m 200 → (is_some (play_range m) && is_some (play_start m)) ≡ false → end ≡ Fault (BadReply 2) → HasEndedAt wish h (Reply m) end s s
+play-lacks wish h c m end s k second is none end_is =
+    let one : replies h ≡ 1 = sym k.replies_are ∙ second in
+    gives wish h (Reply m) end s
+    (inl (inr (orderly wish h c m 200 k is, fields-second h m one ∙ none), end_is ∙ ap (λ n. Fault (BadReply (n + 1))) (sym one)))
+
+pub play-done : (wish : Wish) (h : History) (c new : Client) (m : List ℕ) (begin ms : ℕ) (s : Sight) → Keeps wish h c → c.replies ≡ 1
+    → IsAwaited c m 200 → play_start m ≡ Some begin → play_range m ≡ Some ms → new.replies ≡ 2 → new.session.items ≡ c.session.items
+    → new.watching ≡ after_play c.watching begin ms → HasPassed wish h (Reply m ∷ []) new s s
+play-done wish h c new m begin ms s k second is starts ends two same state =
+    let one : replies h ≡ 1 = sym k.replies_are ∙ second in
+    let later : (replies h == 0) ≡ false = ne_eqb (replies h) 0 (λ none. absurd (omega (arith, none, one))) in
+    passed-one wish h (Reply m) new s s
+    ((orderly wish h c m 200 k is, fields-second h m one ∙ (ap (λ o. is_some o && is_some (play_start m)) ends ∙ ap is_some starts)), omega (arith, one))
+    (record {
+      replies_are = two ∙ ap (λ n. n + 1) (sym one);
+      session_is = same ∙ (k.session_is ∙ sym (cond-false (replies h == 0) (unwrap_or (session_in m) []) (session h) later));
+      state = subst (λ w. KeepsState wish (Reply m ∷ h) w) (sym state) (keeps-play wish h c.watching m begin ms k.state one starts ends);
+    })
+    (sight-none s ∙ ap (λ a. sight_more s a []) (sym (cond-false (replies h == 0) (play_text wish (unwrap_or (session_in m) [])) [] later)))
+
+-- ---- the reply to TEARDOWN
+
+pub watch-done : (wish : Wish) (h : History) (c : Client) (m : List ℕ) (end : WatchEnd) (s : Sight) → Keeps wish h c → c.replies ≡ 2
+    → IsAwaited c m 200 → end ≡ Done c.watching.watched → HasEndedAt wish h (Reply m) end s s
+watch-done wish h c m end s k third is end_is =
+    let two : replies h ≡ 2 = sym k.replies_are ∙ third in
+    gives wish h (Reply m) end s
+    (inr (inr ((orderly wish h c m 200 k is, fields-third h m two), two, end_is ∙ ap (λ (w : Watched). Done w) k.state.watched_is)))
+
+pub awaited-of : (o : Option ℕ) (c : Client) (m : List ℕ) → (nat_lt c.replies 2 || has_all c.watching) ≡ true
+    → MatchOption o ((code : ℕ) → ¬ IsAnswer m (c.replies + 1) code) (IsAnswer m (c.replies + 1))
+    → MatchOption o ((code : ℕ) → ¬ IsAwaited c m code) (IsAwaited c m)
+awaited-of None c m awaited none = λ code is. none code is.answer
+awaited-of (Some code) c m awaited is = record { awaited = awaited; answer = is }

@@ -1,0 +1,277 @@
+-- Pieces and events, one after another.
+use Rattle.std.proofs.Common.{◌≡◌, ◌≢◌, ℕ, zero, suc, ◌+◌, ◌<◌, ◌≤◌, ◌==◌, ◌&&◌, ◌||◌, Bool, true, false, cond, List, [], ◌∷◌, ◌++◌, length, take, drop, map, get_or, Option, Some, None, Ok, Err, refl, sym, ap, subst, ◌∙◌, append_assoc, arith, inl, inr}
+use Rattle.std.proofs.lemmas.Bool.{cond-true, cond-false, true≢false}
+use Rattle.std.proofs.lemmas.List.{append-nil, get_or-take, length-append, length-take-le}
+use Rattle.vod_base.specs.Links.{Doing, HeardBytes, HeardEnd, HeardSlot, sends, told_more}
+use Rattle.vod_base.specs.Outside.{more}
+use Rattle.interleave.specs.Heads.{is_line_end}
+use Rattle.interleave.specs.Pieces.{AreLineEnds, IsFirst, StartsBlock, StartsRequest, block_length}
+use Rattle.interleave.specs.Streams.{AreCut, IsPieceLength, WholeBlock, WholeRequest, LineEnd, told_pieces}
+use Rattle.interleave.specs.declared.pieces.Step.TheVariants.{Block, More, Request, Skip}
+use Rattle.interleave.specs.declared.pieces.DemuxFault.{DemuxFault}
+use Rattle.interleave.proofs.Streams.{next_pieces}
+use Rattle.rtsp_client.specs.declared.clients.Client.{Client}
+use Rattle.rtsp_client.specs.declared.wishes.Wish.{Wish}
+use Rattle.rtsp_client.specs.declared.wishes.Watched.{Watched}
+use Rattle.rtsp_client.specs.declared.wishes.WatchEnd.{WatchEnd}
+use Rattle.rtsp_client.specs.declared.wishes.WatchEnd.TheVariants.{Fault, LinkFault, NoMemory}
+use Rattle.rtsp_client.specs.declared.wishes.WatchFault.TheVariants.{EndedEarly, Framing, TurnsSpent}
+use Rattle.rtsp_client.specs.Moments.{History, Moment, Frame, Reply, Report, Slot, payloads, sizes}
+use Rattle.rtsp_client.specs.Answers.{GoOn, GoesOn, after, block_moments, cut_bytes, moments_in, moments_of, payload_of, payloads_of, request_after, requests_after}
+use Rattle.rtsp_client.specs.Courses.{Brings, Ends, Fails, HasCourse, IsNext, Round, Runs, RunsAll, Stage, Stops, StopsAt, moments_of_rounds, rounds_doings, stage}
+use Rattle.rtsp_client.specs.Keeps.{Keeps, KeepsState}
+use Rattle.rtsp_client.specs.Takings.{HasEnded, HasEndedAt, HasPassed, HasRound, HasRun, HasStopped, HasTaken, Sight, sight, sight_more}
+use Rattle.rtsp_client.proofs.Sighting.{out-on, sends-on, sight-none, sight-on, told-none, told-on, out-none}
+
+-- ---- lists of moments
+
+pub after-on : (h : History) (a b : List Moment) → after h (a ++ b) ≡ after (after h a) b
+after-on h [] b = refl
+after-on h (m ∷ a) b = after-on (m ∷ h) a b
+
+good-on : (h : History) (a b : List Moment) → GoOn h a → GoOn (after h a) b → GoOn h (a ++ b)
+good-on h [] b first second = second
+good-on h (m ∷ a) b first second = (first.0, good-on (m ∷ h) a b first.1 second)
+
+requests-on : (wish : Wish) (h : History) (a b : List Moment)
+    → requests_after wish h (a ++ b) ≡ requests_after wish h a ++ requests_after wish (after h a) b
+requests-on wish h [] b = refl
+requests-on wish h (m ∷ a) b =
+    ap (λ t. request_after wish h m ++ t) (requests-on wish (m ∷ h) a b)
+    ∙ sym (append_assoc (request_after wish h m) (requests_after wish (m ∷ h) a) (requests_after wish (after (m ∷ h) a) b))
+
+pub payloads-on : (a b : List Moment) → payloads_of (a ++ b) ≡ payloads_of a ++ payloads_of b
+payloads-on [] b = refl
+payloads-on (m ∷ a) b = ap (λ t. payload_of m ++ t) (payloads-on a b) ∙ sym (append_assoc (payload_of m) (payloads_of a) (payloads_of b))
+
+moments-on : (p q : List (List ℕ)) → moments_in (p ++ q) ≡ moments_in p ++ moments_in q
+moments-on [] q = refl
+moments-on (piece ∷ p) q = ap (λ t. moments_of piece ++ t) (moments-on p q) ∙ sym (append_assoc (moments_of piece) (moments_in p) (moments_in q))
+
+cut-on : (bytes mid end : List ℕ) (p q : List (List ℕ)) → AreCut bytes p mid → AreCut mid q end → AreCut bytes (p ++ q) end
+cut-on bytes mid end [] q first second = subst (λ b. AreCut b q end) (sym first) second
+cut-on bytes mid end (piece ∷ p) q first second = (first.0, (first.1.0, first.1.1, cut-on (drop first.0 bytes) mid end p q first.1.2 second))
+
+-- ---- the pieces in front
+
+piece-start : (rest : List ℕ) (n : ℕ) → 0 < n → get_or (take n rest) 0 0 ≡ get_or rest 0 0
+piece-start rest n some = get_or-take n rest 0 0 some
+
+block-of : (rest : List ℕ) (n : ℕ) → 4 ≤ n → get_or rest 0 0 ≡ 36 → moments_of (take n rest) ≡ block_moments (get_or rest 1 0) (take n rest)
+block-of rest n long starts =
+    let front : get_or (take n rest) 0 0 ≡ 36 = piece-start rest n (omega (arith, long)) ∙ starts in
+    let second : get_or (take n rest) 1 0 ≡ get_or rest 1 0 = get_or-take n rest 1 0 (omega (arith, long)) in
+    let inside : ℕ → List Moment = λ b.
+    cond (is_line_end b) [] (cond (b == 36) (block_moments (get_or (take n rest) 1 0) (take n rest)) (Reply (take n rest) ∷ [])) in
+    ap inside front ∙ ap (λ c. block_moments c (take n rest)) second
+
+reply-of : (rest : List ℕ) (n : ℕ) → 0 < n → is_line_end (get_or rest 0 0) ≡ false → (get_or rest 0 0 == 36) ≡ false
+    → moments_of (take n rest) ≡ Reply (take n rest) ∷ []
+reply-of rest n some no_end no_block =
+    let inside : ℕ → List Moment = λ b.
+    cond (is_line_end b) [] (cond (b == 36) (block_moments (get_or (take n rest) 1 0) (take n rest)) (Reply (take n rest) ∷ [])) in
+    ap inside (piece-start rest n some)
+    ∙ (cond-false (is_line_end (get_or rest 0 0)) _ _ no_end ∙ cond-false (get_or rest 0 0 == 36) _ _ no_block)
+
+ends-none : (bytes : List ℕ) → ((k : ℕ) → k < length bytes → is_line_end (get_or bytes k 0) ≡ true) → moments_in (map (λ c. c ∷ []) bytes) ≡ []
+ends-none [] all = refl
+ends-none (b ∷ bytes) all =
+    let first : is_line_end b ≡ true = all 0 (omega arith) in
+    ap (λ t. t ++ moments_in (map (λ c. c ∷ []) bytes)) (cond-true (is_line_end b) [] _ first)
+    ∙ ends-none bytes (λ k few. all (suc k) (omega (arith, few)))
+
+-- ---- pieces were taken up
+
+pub passed-none : (wish : Wish) (h : History) (c new : Client) (s : Sight) → Keeps wish h c → new.replies ≡ c.replies
+    → new.session.items ≡ c.session.items → new.watching ≡ c.watching → HasPassed wish h [] new s s
+passed-none wish h c new s k replies_same session_same state_same = record {
+  good = tt;
+  keeps = record {
+    replies_are = replies_same ∙ k.replies_are;
+    session_is = session_same ∙ k.session_is;
+    state = subst (λ w. KeepsState wish h w) (sym state_same) k.state;
+  };
+  sight_is = sight-none s;
+}
+
+passed-on : (wish : Wish) (h : History) (a b : List Moment) (mid new : Client) (s t u : Sight) → HasPassed wish h a mid s t
+    → HasPassed wish (after h a) b new t u → HasPassed wish h (a ++ b) new s u
+passed-on wish h a b mid new s t u first second = record {
+  good = good-on h a b first.good second.good;
+  keeps = subst (λ x. Keeps wish x new) (sym (after-on h a b)) second.keeps;
+  sight_is = second.sight_is
+      ∙ (ap (λ x. sight_more x (requests_after wish (after h a) b) (payloads_of b)) first.sight_is
+      ∙ (sight-on s (requests_after wish h a) (requests_after wish (after h a) b) (payloads_of a) (payloads_of b)
+      ∙ (ap (λ x. sight_more s x (payloads_of a ++ payloads_of b)) (sym (requests-on wish h a b))
+      ∙ ap (λ x. sight_more s (requests_after wish h (a ++ b)) x) (sym (payloads-on a b)))));
+}
+
+-- the client with another input
+moved : (wish : Wish) (h : History) (moments : List Moment) (c new : Client) (s t : Sight) → HasPassed wish h moments c s t
+    → new.replies ≡ c.replies → new.session.items ≡ c.session.items → new.watching ≡ c.watching → HasPassed wish h moments new s t
+moved wish h moments c new s t p replies_same session_same state_same = record {
+  good = p.good;
+  keeps = record {
+    replies_are = replies_same ∙ p.keeps.replies_are;
+    session_is = session_same ∙ p.keeps.session_is;
+    state = subst (λ w. KeepsState wish (after h moments) w) (sym state_same) p.keeps.state;
+  };
+  sight_is = p.sight_is;
+}
+
+-- the piece in front, of so many bytes, was taken up and dropped
+taken-piece : (wish : Wish) (h : History) (rest : List ℕ) (n : ℕ) (moments : List Moment) (c new : Client) (s t : Sight)
+    → IsPieceLength rest n → moments_of (take n rest) ≡ moments → HasPassed wish h moments c s t
+    → new.replies ≡ c.replies → new.session.items ≡ c.session.items → new.watching ≡ c.watching → new.input ≡ drop n rest
+    → HasTaken wish h rest new s t
+taken-piece wish h rest n moments c new s t piece are passed replies_same session_same state_same dropped = record {
+  pieces = take n rest ∷ [];
+  cut = (n, (piece, refl, sym dropped));
+  passed = subst (λ ms. HasPassed wish h ms new s t) (sym (append-nil (moments_of (take n rest)) ∙ are))
+      (moved wish h moments c new s t passed replies_same session_same state_same);
+}
+
+pub taken-block : (wish : Wish) (h : History) (rest : List ℕ) (channel n : ℕ) (c new : Client) (s t : Sight)
+    → IsFirst rest (Ok (Block channel n)) → HasPassed wish h (block_moments channel (take n rest)) c s t
+    → new.replies ≡ c.replies → new.session.items ≡ c.session.items → new.watching ≡ c.watching → new.input ≡ drop n rest
+    → HasTaken wish h rest new s t
+taken-block wish h rest channel n c new s t first passed replies_same session_same state_same dropped =
+    taken-piece wish h rest n (block_moments channel (take n rest)) c new s t (WholeBlock first.0 first.1 first.3 first.4)
+    (block-of rest n (omega (arith, first.3)) first.0.1 ∙ ap (λ k. block_moments k (take n rest)) (sym first.2))
+    passed replies_same session_same state_same dropped
+
+request-some : (rest : List ℕ) (n : ℕ) → IsFirst rest (Ok (Request n)) → 0 < n
+request-some rest n first = omega (arith, first.1.is_head.some, first.1.total_is)
+
+pub taken-reply : (wish : Wish) (h : History) (rest : List ℕ) (n : ℕ) (c new : Client) (s t : Sight)
+    → IsFirst rest (Ok (Request n)) → HasPassed wish h (Reply (take n rest) ∷ []) c s t
+    → new.replies ≡ c.replies → new.session.items ≡ c.session.items → new.watching ≡ c.watching → new.input ≡ drop n rest
+    → HasTaken wish h rest new s t
+taken-reply wish h rest n c new s t first passed replies_same session_same state_same dropped =
+    taken-piece wish h rest n (Reply (take n rest) ∷ []) c new s t (WholeRequest first.0 first.1 first.2)
+    (reply-of rest n (request-some rest n first) first.0.1 first.0.2) passed replies_same session_same state_same dropped
+
+pub taken-ends : (wish : Wish) (h : History) (rest : List ℕ) (n : ℕ) (c new : Client) (s : Sight)
+    → IsFirst rest (Ok (Skip n)) → Keeps wish h c
+    → new.replies ≡ c.replies → new.session.items ≡ c.session.items → new.watching ≡ c.watching → new.input ≡ drop n rest
+    → HasTaken wish h rest new s s
+taken-ends wish h rest n c new s first k replies_same session_same state_same dropped =
+    let ends : AreLineEnds rest n = first.1 in
+    let long : length (take n rest) ≡ n = length-take-le n rest ends.within in
+    let none : moments_in (map (λ c. c ∷ []) (take n rest)) ≡ [] =
+    ends-none (take n rest) (λ k few.
+    let few' : k < n = omega (arith, few, long) in
+    ap is_line_end (get_or-take n rest k 0 few') ∙ ends.line_ends k few') in
+    record {
+      pieces = map (λ c. c ∷ []) (take n rest);
+      cut = subst (λ r. AreCut rest (map (λ c. c ∷ []) (take n rest)) r) (sym dropped) (next_pieces rest (Ok (Skip n)) first rest [] refl);
+      passed = subst (λ ms. HasPassed wish h ms new s s) (sym none) (passed-none wish h c new s k replies_same session_same state_same);
+    }
+
+pub taken-none : (wish : Wish) (h : History) (c new : Client) (s : Sight) → Keeps wish h c → new.replies ≡ c.replies
+    → new.session.items ≡ c.session.items → new.watching ≡ c.watching → new.input ≡ c.input → HasTaken wish h c.input new s s
+taken-none wish h c new s k replies_same session_same state_same input_same = record {
+  pieces = [];
+  cut = sym input_same;
+  passed = passed-none wish h c new s k replies_same session_same state_same;
+}
+
+pub taken-on : (wish : Wish) (h : History) (rest : List ℕ) (mid new : Client) (s t u : Sight) → HasTaken wish h rest mid s t
+    → ((g : History) → Keeps wish g mid → HasTaken wish g mid.input new t u) → HasTaken wish h rest new s u
+taken-on wish h rest mid new s t u first next =
+    let second = next (after h (moments_in first.pieces)) first.passed.keeps in
+    record {
+      pieces = first.pieces ++ second.pieces;
+      cut = cut-on rest mid.input new.input first.pieces second.pieces first.cut second.cut;
+      passed = subst (λ ms. HasPassed wish h ms new s u) (sym (moments-on first.pieces second.pieces))
+          (passed-on wish h (moments_in first.pieces) (moments_in second.pieces) mid new s t u first.passed second.passed);
+    }
+
+-- ---- nothing more was taken up
+
+stops-now : (wish : Wish) (h : History) (rest : List ℕ) (end : WatchEnd) (sent out : List ℕ) (s t : Sight)
+    → Stops wish (stage h rest) end sent out → t ≡ sight_more s sent out → HasStopped wish h rest end s t
+stops-now wish h rest end sent out s t stops is = record {
+  sent = sent;
+  out = out;
+  stops = record {
+    pieces = [];
+    mid = rest;
+    cut = refl;
+    good = tt;
+    more_sent = sent;
+    more_out = out;
+    stops = stops;
+    sent_is = refl;
+    out_is = refl;
+  };
+  sight_is = is;
+}
+
+stops-at : (wish : Wish) (h : History) (rest : List ℕ) (n : ℕ) (moment : Moment) (end : WatchEnd) (s t : Sight)
+    → IsPieceLength rest n → moments_of (take n rest) ≡ moment ∷ [] → HasEndedAt wish h moment end s t → HasStopped wish h rest end s t
+stops-at wish h rest n moment end s t piece is ended =
+    stops-now wish h rest end ended.sent ended.out s t (inr (moment, ((n, (piece, is)), ended.comes))) ended.sight_is
+
+pub stopped-framing : (wish : Wish) (h : History) (rest : List ℕ) (fault : DemuxFault) (end : WatchEnd) (s : Sight)
+    → IsFirst rest (Err fault) → end ≡ Fault Framing → HasStopped wish h rest end s s
+stopped-framing wish h rest fault end s first is =
+    stops-now wish h rest end [] [] s s (inl (is, (fault, first), refl, refl)) (sight-none s)
+
+pub stopped-block : (wish : Wish) (h : History) (rest : List ℕ) (channel n : ℕ) (end : WatchEnd) (s t : Sight)
+    → IsFirst rest (Ok (Block channel n)) → (channel ≡ 0) × HasEndedAt wish h (Frame (take n rest)) end s t → HasStopped wish h rest end s t
+stopped-block wish h rest channel n end s t first ended =
+    stops-at wish h rest n (Frame (take n rest)) end s t (WholeBlock first.0 first.1 first.3 first.4)
+    (block-of rest n (omega (arith, first.3)) first.0.1 ∙ ap (λ k. block_moments k (take n rest)) (sym first.2 ∙ ended.0)) ended.1
+
+pub stopped-reply : (wish : Wish) (h : History) (rest : List ℕ) (n : ℕ) (end : WatchEnd) (s t : Sight)
+    → IsFirst rest (Ok (Request n)) → HasEndedAt wish h (Reply (take n rest)) end s t → HasStopped wish h rest end s t
+stopped-reply wish h rest n end s t first ended =
+    stops-at wish h rest n (Reply (take n rest)) end s t (WholeRequest first.0 first.1 first.2)
+    (reply-of rest n (request-some rest n first) first.0.1 first.0.2) ended
+
+pub stopped-on : (wish : Wish) (h : History) (rest : List ℕ) (mid : Client) (end : WatchEnd) (s t u : Sight) → HasTaken wish h rest mid s t
+    → ((g : History) → Keeps wish g mid → HasStopped wish g mid.input end t u) → HasStopped wish h rest end s u
+stopped-on wish h rest mid end s t u first next =
+    let g = after h (moments_in first.pieces) in
+    let second = next g first.passed.keeps in
+    let st = second.stops in
+    let a = moments_in first.pieces in
+    let b = moments_in st.pieces in
+    let sent_on : requests_after wish h a ++ second.sent ≡ requests_after wish h (moments_in (first.pieces ++ st.pieces)) ++ st.more_sent =
+    ap (λ x. requests_after wish h a ++ x) st.sent_is
+    ∙ (sym (append_assoc (requests_after wish h a) (requests_after wish g b) st.more_sent)
+    ∙ ap (λ x. x ++ st.more_sent) (sym (requests-on wish h a b) ∙ ap (requests_after wish h) (sym (moments-on first.pieces st.pieces)))) in
+    let out_on : payloads_of a ++ second.out ≡ payloads_of (moments_in (first.pieces ++ st.pieces)) ++ st.more_out =
+    ap (λ x. payloads_of a ++ x) st.out_is
+    ∙ (sym (append_assoc (payloads_of a) (payloads_of b) st.more_out)
+    ∙ ap (λ x. x ++ st.more_out) (sym (payloads-on a b) ∙ ap payloads_of (sym (moments-on first.pieces st.pieces)))) in
+    let there : after g b ≡ after h (moments_in (first.pieces ++ st.pieces)) =
+    sym (after-on h a b) ∙ ap (after h) (sym (moments-on first.pieces st.pieces)) in
+    record {
+      sent = requests_after wish h a ++ second.sent;
+      out = payloads_of a ++ second.out;
+      stops = record {
+        pieces = first.pieces ++ st.pieces;
+        mid = st.mid;
+        cut = cut-on rest mid.input st.mid first.pieces st.pieces first.cut st.cut;
+        good = subst (GoOn h) (sym (moments-on first.pieces st.pieces)) (good-on h a b first.passed.good st.good);
+        more_sent = st.more_sent;
+        more_out = st.more_out;
+        stops = subst (λ x. Stops wish (stage x st.mid) end st.more_sent st.more_out) there st.stops;
+        sent_is = sent_on;
+        out_is = out_on;
+      };
+      sight_is = second.sight_is
+          ∙ (ap (λ x. sight_more x second.sent second.out) first.passed.sight_is
+          ∙ sight-on s (requests_after wish h a) second.sent (payloads_of a) second.out);
+    }
+
+-- the same client, with another input
+pub keeps-moved : (wish : Wish) (h : History) (c new : Client) → Keeps wish h c → new.replies ≡ c.replies
+    → new.session.items ≡ c.session.items → new.watching ≡ c.watching → Keeps wish h new
+keeps-moved wish h c new k replies_same session_same state_same = record {
+  replies_are = replies_same ∙ k.replies_are;
+  session_is = session_same ∙ k.session_is;
+  state = subst (λ w. KeepsState wish h w) (sym state_same) k.state;
+}

@@ -1,0 +1,105 @@
+-- What a moment comes to: the watching goes on, with what is then asked for and handed on; or it gives the answer.
+use Rattle.std.specs.Prelude.{◌≡◌, ◌≢◌, ℕ, ◌+◌, ◌<◌, ◌≤◌, ◌⊎◌, ◌==◌, ◌&&◌, ◌||◌, ⊤, Bool, true, false, if◌then◌else◌, nat_lt, nat_le, List, [], ◌∷◌, ◌++◌, length, take, drop, flat_map, slice_index, Option, is_some, unwrap_or, Ok, Err}
+use Rattle.interleave.specs.Heads.{is_line_end}
+use Rattle.rtsp_client.specs.declared.wishes.Wish.{Wish}
+use Rattle.rtsp_client.specs.declared.wishes.WatchEnd.{WatchEnd}
+use Rattle.rtsp_client.specs.declared.wishes.WatchEnd.TheVariants.{Done, Fault, LinkFault, SinkFault, NoMemory}
+use Rattle.rtsp_client.specs.declared.wishes.WatchFault.TheVariants.{Refused, BadReply, BadFrame}
+use Rattle.rtsp_client.specs.Replies.{IsAnswer, play_range, play_start, session_in}
+use Rattle.rtsp_client.specs.Requests.{play_text, teardown_text}
+use Rattle.rtsp_client.specs.Moments.{History, Moment, Frame, Reply, Report, Slot, frames, replies, session}
+use Rattle.rtsp_client.specs.Films.{is_complete, is_good_frame}
+use Rattle.rtsp_client.specs.Meters.{watched_in}
+
+-- a reply is awaited: to SETUP, then to PLAY, and to TEARDOWN once all units are whole
+abbrev pub is_awaited : History → Bool
+is_awaited h = nat_lt (replies h) 2 || is_complete h
+
+-- an awaited reply has its first line and its CSeq, and this code
+pub record IsOrderly (h : History) (message : List ℕ) (code : ℕ) : Type 0 where
+  pub awaited : is_awaited h ≡ true
+  pub answer : IsAnswer message (replies h + 1) code
+
+-- what a reply with 200 has: a session; or a range from the film's beginning and a start
+abbrev pub has_fields : History → List ℕ → Bool
+has_fields h message =
+    if replies h == 0 then is_some (session_in message)
+    else (if replies h == 1 then is_some (play_range message) && is_some (play_start message) else true)
+
+abbrev pub IsBadReply : History → List ℕ → Type 0
+IsBadReply h message =
+    ((code : ℕ) → ¬ IsOrderly h message code) ⊎ (IsOrderly h message 200 × (has_fields h message ≡ false))
+
+abbrev pub IsRefused : History → List ℕ → ℕ → Type 0
+IsRefused h message code = IsOrderly h message code × (code ≢ 200)
+
+abbrev pub IsGoodReply : History → List ℕ → Type 0
+IsGoodReply h message = IsOrderly h message 200 × (has_fields h message ≡ true)
+
+-- the answer that a moment gives
+abbrev pub Gives : Wish → History → Moment → WatchEnd → Type 0
+Gives wish h (Reply message) end =
+    (IsBadReply h message × (end ≡ Fault (BadReply (replies h + 1))))
+    ⊎ (((code : ℕ) × (IsRefused h message code × (end ≡ Fault (Refused code))))
+    ⊎ (IsGoodReply h message × (replies h ≡ 2) × (end ≡ Done (watched_in wish h))))
+Gives wish h (Frame block) end = (is_good_frame h block ≡ false) × (end ≡ Fault (BadFrame (frames h)))
+Gives wish h (Report block) end = ⊥
+Gives wish h (Slot slot cut) end = ⊥
+
+-- or the watching goes on
+abbrev pub GoesOn : History → Moment → Type 0
+GoesOn h (Reply message) = IsGoodReply h message × (replies h < 2)
+GoesOn h (Frame block) = is_good_frame h block ≡ true
+GoesOn h (Report block) = ⊤
+GoesOn h (Slot slot cut) = ⊤
+
+-- the request that a moment allows: PLAY after the first reply, TEARDOWN after the last frame of the last unit
+abbrev pub request_after : Wish → History → Moment → List ℕ
+request_after wish h (Reply message) = if replies h == 0 then play_text wish (unwrap_or (session_in message) []) else []
+request_after wish h (Frame block) = if is_complete (Frame block ∷ h) then teardown_text wish (session h) else []
+request_after wish h (Report block) = []
+request_after wish h (Slot slot cut) = []
+
+-- what is handed on of a moment: the payload of a frame, what follows its 20 bytes of heads
+abbrev pub payload_of : Moment → List ℕ
+payload_of (Reply message) = []
+payload_of (Frame block) = drop 20 block
+payload_of (Report block) = []
+payload_of (Slot slot cut) = []
+
+-- the history after moments, the watching going on at each; the requests that they allow; what is handed on of them
+abbrev pub after : History → List Moment → History
+after h [] = h
+after h (moment ∷ moments) = after (moment ∷ h) moments
+
+abbrev pub GoOn : History → List Moment → Type 0
+GoOn h [] = ⊤
+GoOn h (moment ∷ moments) = GoesOn h moment × GoOn (moment ∷ h) moments
+
+abbrev pub requests_after : Wish → History → List Moment → List ℕ
+requests_after wish h [] = []
+requests_after wish h (moment ∷ moments) = request_after wish h moment ++ requests_after wish (moment ∷ h) moments
+
+abbrev pub payloads_of : List Moment → List ℕ
+payloads_of [] = []
+payloads_of (moment ∷ moments) = payload_of moment ++ payloads_of moments
+
+-- the moment of a block on a channel; on other channels than 0 and 1 there is none
+abbrev pub block_moments : ℕ → List ℕ → List Moment
+block_moments channel block =
+    if channel == 0 then Frame block ∷ [] else (if channel == 1 then Report block ∷ [] else [])
+
+-- the moments of a piece of the input: none of a line end, one of a reply
+abbrev pub moments_of : List ℕ → List Moment
+moments_of piece =
+    if is_line_end (slice_index piece 0) then []
+    else (if slice_index piece 0 == 36 then block_moments (slice_index piece 1) piece else Reply piece ∷ [])
+
+abbrev pub moments_in : List (List ℕ) → List Moment
+moments_in [] = []
+moments_in (piece ∷ pieces) = moments_of piece ++ moments_in pieces
+
+-- the bytes that wait of a block on channel 0 or 1 that isn't whole; of a block whose channel didn't come yet, one
+abbrev pub cut_bytes : List ℕ → ℕ
+cut_bytes rest =
+    if (slice_index rest 0 == 36) && (nat_lt (length rest) 2 || nat_lt (slice_index rest 1) 2) then length rest else 0

@@ -1,0 +1,15 @@
+pub mod Requests
+pub mod Replies
+pub mod Moments
+pub mod Films
+pub mod Meters
+pub mod States
+pub mod Sound
+pub mod Causes
+pub mod Wishes
+pub mod Standing
+pub mod Answers
+pub mod Courses
+pub mod Keeps
+pub mod Takings
+pub mod Promises

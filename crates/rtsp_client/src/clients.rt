@@ -1,0 +1,401 @@
+//! A client between two events: what it asked for, what was replied, and what waits of its input.
+
+ghost use Rattle.std.specs.Prelude.{◌≡◌, ◌+◌, ◌^◌, ◌<◌, ◌≤◌, ◌||◌, ◌∷◌, ℕ, false, true, Ok, List, [], Option, nat_lt, take, length as list_length, IfOk, IfErr, IfSome, OnOk, OnErr, MatchOption};
+ghost use Rattle.vod_base.specs.Links.{IsWithin, doing_of, sends, told_more};
+ghost use Rattle.interleave.specs.Pieces.{IsFirst, IsRequestLength};
+ghost use Rattle.interleave.specs.declared.pieces.Step.TheVariants.{Block, More, Request};
+ghost use Rattle.rtsp_client.specs.Answers.{block_moments, cut_bytes};
+ghost use Rattle.rtsp_client.specs.Causes.{HasCause};
+ghost use Rattle.rtsp_client.specs.Keeps.{Keeps};
+ghost use Rattle.rtsp_client.specs.Moments.{History, Frame, Reply};
+ghost use Rattle.rtsp_client.specs.Requests.{setup_text};
+ghost use Rattle.rtsp_client.specs.Standing.{GoesOnFrom, IsAwaited, IsGoing, bytes_in};
+ghost use Rattle.rtsp_client.specs.States.{has_all, new_state};
+ghost use Rattle.rtsp_client.specs.Takings.{HasEnded, HasEndedAt, HasPassed, HasRound, HasStopped, HasTaken, IsUnsent, Sight, sight};
+ghost use Rattle.rtsp_client.specs.Wishes.{IsWish};
+
+use crate::replies::{play_range, play_start, reply_code, session_in};
+use crate::requests::{copied, play_request, setup_request, teardown_request};
+use crate::watching::Watching;
+use crate::wishes::{WatchEnd, WatchFault, Wish};
+use interleave::{Demux, Step};
+use std::alloc::Global;
+use vod_base::{Heard, Link, NoMemory, Sink};
+
+/// A client between two events.
+#[derive(Drop)]
+pub(crate) struct Client {
+    alloc: Global,
+    input: Demux,
+    /// The replies that were heard.
+    replies: u64,
+    /// The session's id, from the first reply on.
+    session: Vec<u8>,
+    watching: Watching,
+}
+
+/// How many bytes wait of a block on channel 0 or 1 that isn't whole; of a block whose channel didn't come yet, one.
+fn cut_bytes(waiting: &[u8]) -> usize
+    ensures cut { result ≡ cut_bytes waiting.now }
+    ensures within { result ≤ list_length waiting.now }
+{
+    if waiting.is_empty() || waiting[0] != b'$' {
+        return 0;
+    }
+    if waiting.len() >= 2 && waiting[1] >= 2 {
+        return 0;
+    }
+    waiting.len()
+}
+
+/// While no whole piece and no fault is in front, few bytes wait.
+fn waits_little(waiting: &[u8])
+    requires { IsFirst waiting.now (Ok More) }
+    ensures { list_length waiting.now ≤ 81920 }
+{
+    let _read = waiting.len();
+}
+
+impl Client {
+    /// A client that did nothing yet.
+    pub(crate) fn new(alloc: Global) -> Result<Client, NoMemory>
+        ensures input { IfOk result (λ client. client.input ≡ []) }
+        ensures replies { IfOk result (λ client. client.replies ≡ 0) }
+        ensures session { IfOk result (λ client. client.session.items ≡ []) }
+        ensures watching { IfOk result (λ client. client.watching ≡ new_state) }
+    {
+        Ok(Client {
+            alloc,
+            input: Demux::new(alloc)?,
+            replies: 0,
+            session: Vec::new(alloc),
+            watching: Watching::new(alloc),
+        })
+    }
+
+    /// Sends SETUP.
+    pub(crate) fn start<K: Link>(&self, wish: &Wish, link: &mut K) -> Result<(), WatchEnd>
+        ensures count { K.faults link.old ≤ K.faults link.new }
+        ensures cause { IfErr result (λ end. HasCause end (K.faults link.old) (K.faults link.new) 0 0) }
+    {
+        let Ok(request) = setup_request(self.alloc, wish) else {
+            return Err(WatchEnd::NoMemory);
+        };
+        if link.send(request.as_slice()).is_err() {
+            return Err(WatchEnd::LinkFault);
+        }
+        Ok(())
+    }
+
+    /// Takes up an event. The bytes that came stand in front of `bytes`.
+    ///
+    /// # Errors
+    ///
+    /// How it ended the watching.
+    pub(crate) fn hear<K: Link, O: Sink>(
+        &mut self,
+        wish: &Wish,
+        heard: Heard,
+        bytes: &[u8],
+        link: &mut K,
+        out: &mut O,
+    ) -> Result<(), WatchEnd>
+        requires wish { IsWish wish.now }
+        requires going { IsGoing self.old }
+        requires waits { list_length self.old.input ≤ 81920 }
+        requires heard { IsWithin heard (list_length bytes.now) }
+        requires short { list_length bytes.now ≤ 16384 }
+        requires few { bytes_in self.old + 16384 < 2 ^ 62 }
+        ensures replies { OnOk result (self.new.replies ≤ 2) }
+        ensures few { OnOk result (bytes_in self.new ≤ bytes_in self.old + 16384) }
+        ensures waits { OnOk result (list_length self.new.input ≤ 81920) }
+        ensures count { K.faults link.old ≤ K.faults link.new }
+        ensures count_out { O.faults out.old ≤ O.faults out.new }
+        ensures cause { IfErr result (λ end. HasCause end (K.faults link.old) (K.faults link.new) (O.faults out.old) (O.faults out.new)) }
+    {
+        match heard {
+            Heard::End => {
+                let units = self.watching.watched().units;
+                Err(WatchEnd::Fault(WatchFault::EndedEarly(units)))
+            }
+            Heard::Slot(slot) => {
+                let cut = cut_bytes(self.input.waiting());
+                self.watching.hear_slot(wish, slot, cut as u64);
+                Ok(())
+            }
+            Heard::Bytes(count) => match self.input.put(&bytes[..count]) {
+                Ok(()) => self.take_up(wish, link, out),
+                Err(_) => unreachable!(),
+            },
+        }
+    }
+
+    /// Takes up the whole pieces that wait.
+    fn take_up<K: Link, O: Sink>(
+        &mut self,
+        wish: &Wish,
+        link: &mut K,
+        out: &mut O,
+    ) -> Result<(), WatchEnd>
+        requires going { IsGoing self.old }
+        ensures going { OnOk result (GoesOnFrom self.old self.new) }
+        ensures waits { OnOk result (list_length self.new.input ≤ 81920) }
+        ensures count { K.faults link.old ≤ K.faults link.new }
+        ensures count_out { O.faults out.old ≤ O.faults out.new }
+        ensures cause { IfErr result (λ end. HasCause end (K.faults link.old) (K.faults link.new) (O.faults out.old) (O.faults out.new)) }
+    {
+        'pieces: loop {
+            match self.take_next(wish, link, out) {
+                Err(end) => return Err(end),
+                Ok(more) => {
+                    if !more {
+                        return Ok(());
+                    }
+                }
+            }
+        }
+    }
+
+    /// Takes up the piece in front, and answers whether one was whole.
+    fn take_next<K: Link, O: Sink>(
+        &mut self,
+        wish: &Wish,
+        link: &mut K,
+        out: &mut O,
+    ) -> Result<bool, WatchEnd>
+        requires going { IsGoing self.old }
+        ensures going { OnOk result (GoesOnFrom self.old self.new) }
+        ensures shorter { IfOk result (λ more. more ≡ true → list_length self.new.input < list_length self.old.input) }
+        ensures waits { IfOk result (λ more. more ≡ false → list_length self.new.input ≤ 81920) }
+        ensures count { K.faults link.old ≤ K.faults link.new }
+        ensures count_out { O.faults out.old ≤ O.faults out.new }
+        ensures cause { IfErr result (λ end. HasCause end (K.faults link.old) (K.faults link.new) (O.faults out.old) (O.faults out.new)) }
+    {
+        match self.input.look() {
+            Err(_) => Err(WatchEnd::Fault(WatchFault::Framing)),
+            Ok(Step::More) => {
+                waits_little(self.input.waiting());
+                Ok(false)
+            }
+            Ok(Step::Skip(length)) => {
+                self.input.drop_front(length);
+                Ok(true)
+            }
+            Ok(Step::Block(channel, length)) => {
+                match self.take_block(wish, channel, length, link, out) {
+                    Err(end) => Err(end),
+                    Ok(()) => {
+                        self.input.drop_front(length);
+                        Ok(true)
+                    }
+                }
+            }
+            Ok(Step::Request(length)) => {
+                match self.take_reply(wish, length, link) {
+                    Err(end) => Err(end),
+                    Ok(()) => {
+                        self.input.drop_front(length);
+                        Ok(true)
+                    }
+                }
+            }
+        }
+    }
+
+    /// Takes up the block in front, which stays there.
+    fn take_block<K: Link, O: Sink>(
+        &mut self,
+        wish: &Wish,
+        channel: u8,
+        length: usize,
+        link: &mut K,
+        out: &mut O,
+    ) -> Result<(), WatchEnd>
+        requires going { IsGoing self.old }
+        requires block { IsFirst self.old.input (Ok (Block channel length)) }
+        ensures input { self.new.input ≡ self.old.input }
+        ensures replies { self.new.replies ≡ self.old.replies }
+        ensures few { OnOk result (self.new.watching.received ≤ self.old.watching.received + length) }
+        ensures count { K.faults link.old ≤ K.faults link.new }
+        ensures count_out { O.faults out.old ≤ O.faults out.new }
+        ensures cause { IfErr result (λ end. HasCause end (K.faults link.old) (K.faults link.new) (O.faults out.old) (O.faults out.new)) }
+    {
+        match channel {
+            0 => self.take_frame(wish, length, link, out),
+            1 => {
+                self.watching.add_report(length as u64);
+                Ok(())
+            }
+            _ => Ok(()),
+        }
+    }
+
+    /// Takes up the frame in front: hands its payload on, and sends TEARDOWN once all pictures are whole.
+    fn take_frame<K: Link, O: Sink>(
+        &mut self,
+        wish: &Wish,
+        length: usize,
+        link: &mut K,
+        out: &mut O,
+    ) -> Result<(), WatchEnd>
+        requires going { IsGoing self.old }
+        requires least { 4 ≤ length }
+        requires within { length ≤ list_length self.old.input }
+        ensures input { self.new.input ≡ self.old.input }
+        ensures replies { self.new.replies ≡ self.old.replies }
+        ensures few { OnOk result (self.new.watching.received ≤ self.old.watching.received + length) }
+        ensures count { K.faults link.old ≤ K.faults link.new }
+        ensures count_out { O.faults out.old ≤ O.faults out.new }
+        ensures cause { IfErr result (λ end. HasCause end (K.faults link.old) (K.faults link.new) (O.faults out.old) (O.faults out.new)) }
+    {
+        let block = &self.input.waiting()[..length];
+        let Some(source) = self.watching.source_with(block) else {
+            let number = self.watching.watched().frames;
+            return Err(WatchEnd::Fault(WatchFault::BadFrame(number)));
+        };
+        if self.watching.add_frame(source, length as u64).is_err() {
+            return Err(WatchEnd::NoMemory);
+        }
+        if out.write_all(&block[20..]).is_err() {
+            return Err(WatchEnd::SinkFault);
+        }
+        if !self.watching.is_complete() {
+            return Ok(());
+        }
+        let Ok(request) = teardown_request(self.alloc, wish, self.session.as_slice()) else {
+            return Err(WatchEnd::NoMemory);
+        };
+        if link.send(request.as_slice()).is_err() {
+            return Err(WatchEnd::LinkFault);
+        }
+        Ok(())
+    }
+
+    /// Whether a reply is awaited: to SETUP and then to PLAY, and to TEARDOWN once all pictures are whole.
+    fn is_awaited(&self) -> bool
+        ensures { result ≡ (nat_lt self.now.replies 2 || has_all self.now.watching) }
+    {
+        self.replies < 2 || self.watching.is_complete()
+    }
+
+    /// The code of a reply that is awaited, and has its first line and its CSeq.
+    fn awaited_code(&self, message: &[u8]) -> Option<u16>
+        requires going { self.now.replies ≤ 2 }
+        requires whole { IsRequestLength message.now (list_length message.now) }
+        ensures { MatchOption result ((code : ℕ) → ¬ IsAwaited self.now message.now code) (IsAwaited self.now message.now) }
+    {
+        if !self.is_awaited() {
+            return None;
+        }
+        reply_code(message, self.replies + 1)
+    }
+
+    /// Takes up the reply in front, which stays there.
+    fn take_reply<K: Link>(
+        &mut self,
+        wish: &Wish,
+        length: usize,
+        link: &mut K,
+    ) -> Result<(), WatchEnd>
+        requires going { self.old.replies ≤ 2 }
+        requires message { IsFirst self.old.input (Ok (Request length)) }
+        ensures input { self.new.input ≡ self.old.input }
+        ensures replies { OnOk result (self.new.replies ≤ 2) }
+        ensures few { self.new.watching.received ≡ self.old.watching.received }
+        ensures count { K.faults link.old ≤ K.faults link.new }
+        ensures cause { IfErr result (λ end. HasCause end (K.faults link.old) (K.faults link.new) 0 0) }
+    {
+        match self.awaited_code(&self.input.waiting()[..length]) {
+            None => {
+                let number = self.replies + 1;
+                Err(WatchEnd::Fault(WatchFault::BadReply(number)))
+            }
+            Some(code) => {
+                if code != 200 {
+                    return Err(WatchEnd::Fault(WatchFault::Refused(code)));
+                }
+                self.take_good(wish, length, link)
+            }
+        }
+    }
+
+    /// Takes up the reply in front, which is awaited and has the code 200.
+    fn take_good<K: Link>(
+        &mut self,
+        wish: &Wish,
+        length: usize,
+        link: &mut K,
+    ) -> Result<(), WatchEnd>
+        requires going { self.old.replies ≤ 2 }
+        requires message { IsFirst self.old.input (Ok (Request length)) }
+        requires good { IsAwaited self.old (take length self.old.input) 200 }
+        ensures input { self.new.input ≡ self.old.input }
+        ensures replies { OnOk result (self.new.replies ≤ 2) }
+        ensures few { self.new.watching.received ≡ self.old.watching.received }
+        ensures count { K.faults link.old ≤ K.faults link.new }
+        ensures cause { IfErr result (λ end. HasCause end (K.faults link.old) (K.faults link.new) 0 0) }
+    {
+        if self.replies == 0 {
+            return self.take_setup(wish, length, link);
+        }
+        if self.replies == 1 {
+            return self.take_play(wish, length);
+        }
+        Err(WatchEnd::Done(self.watching.watched()))
+    }
+
+    /// Takes up the reply to SETUP in front, and asks for PLAY.
+    fn take_setup<K: Link>(
+        &mut self,
+        wish: &Wish,
+        length: usize,
+        link: &mut K,
+    ) -> Result<(), WatchEnd>
+        requires first { self.old.replies ≡ 0 }
+        requires message { IsFirst self.old.input (Ok (Request length)) }
+        requires good { IsAwaited self.old (take length self.old.input) 200 }
+        ensures input { self.new.input ≡ self.old.input }
+        ensures replies { OnOk result (self.new.replies ≡ 1) }
+        ensures few { self.new.watching.received ≡ self.old.watching.received }
+        ensures count { K.faults link.old ≤ K.faults link.new }
+        ensures cause { IfErr result (λ end. HasCause end (K.faults link.old) (K.faults link.new) 0 0) }
+    {
+        let Some(session) = session_in(&self.input.waiting()[..length]) else {
+            return Err(WatchEnd::Fault(WatchFault::BadReply(1)));
+        };
+        let Ok(request) = play_request(self.alloc, wish, session) else {
+            return Err(WatchEnd::NoMemory);
+        };
+        let Ok(kept) = copied(self.alloc, session) else {
+            return Err(WatchEnd::NoMemory);
+        };
+        if link.send(request.as_slice()).is_err() {
+            return Err(WatchEnd::LinkFault);
+        }
+        self.session = kept;
+        self.replies = 1;
+        Ok(())
+    }
+
+    /// Takes up the reply to PLAY in front.
+    fn take_play(&mut self, _wish: &Wish, length: usize) -> Result<(), WatchEnd>
+        requires second { self.old.replies ≡ 1 }
+        requires message { IsFirst self.old.input (Ok (Request length)) }
+        requires good { IsAwaited self.old (take length self.old.input) 200 }
+        ensures input { self.new.input ≡ self.old.input }
+        ensures replies { OnOk result (self.new.replies ≡ 2) }
+        ensures few { self.new.watching.received ≡ self.old.watching.received }
+        ensures cause { IfErr result (λ end. HasCause end 0 0 0 0) }
+    {
+        let message = &self.input.waiting()[..length];
+        let Some(end_ms) = play_range(message) else {
+            return Err(WatchEnd::Fault(WatchFault::BadReply(2)));
+        };
+        let Some(start) = play_start(message) else {
+            return Err(WatchEnd::Fault(WatchFault::BadReply(2)));
+        };
+        self.watching.begin(start, end_ms);
+        self.replies = 2;
+        Ok(())
+    }
+}

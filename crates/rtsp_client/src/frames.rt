@@ -1,0 +1,89 @@
+//! What the frames of a film say of it (RFC 2326 section 10.12, RFC 3550, RFC 2250).
+
+ghost use Rattle.std.specs.Prelude.{◌≡◌, ◌^◌, ◌<◌, IfSome};
+ghost use Rattle.rtsp_client.specs.Sound.{IsSource};
+ghost use Rattle.rtsp_client.specs.Films.{begins_film, units_until};
+ghost use Rattle.rtsp_client.specs.States.{first_source, next_source};
+
+use mpeg_scan::picture_units;
+use rtp_pack::Head;
+
+/// The most pictures of a film.
+const MOST_UNITS: u128 = 4_194_304;
+
+/// What the frames so far say of their film.
+#[derive(Clone, Copy, Debug)]
+pub(crate) struct Source {
+    /// The synchronization source.
+    pub(crate) ssrc: u32,
+    /// The latest frame's sequence number.
+    pub(crate) sequence: u16,
+    /// Whether the latest frame ends a picture.
+    pub(crate) marker: bool,
+    /// The time of a picture in 1/360,000 second.
+    pub(crate) picture_units: u32,
+    /// The pictures that are to come.
+    pub(crate) units: u64,
+}
+
+/// Whether a sequence header is in front (ISO/IEC 11172-2, 2.4.2.3), with a picture rate code from 1 to 8.
+fn begins_film(payload: &[u8]) -> bool
+    ensures { result ≡ begins_film payload.now }
+{
+    payload.len() >= 12
+        && (payload[0] == 0 && payload[1] == 0 && payload[2] == 1 && payload[3] == 0xb3)
+        && payload[7] % 16 >= 1
+        && payload[7] % 16 <= 8
+}
+
+/// The pictures of a film that ends so many milliseconds after its beginning: the least number that lasts as long.
+fn units_until(end_ms: u128, picture_units: u32) -> u128
+    requires some { 0 < picture_units }
+    requires short { end_ms < 2 ^ 100 }
+    ensures { result ≡ units_until end_ms picture_units }
+{
+    (end_ms * 360).div_ceil(u128::from(picture_units))
+}
+
+impl Source {
+    /// What the first frame of a film says, whose payload begins with a sequence header.
+    ///
+    /// None where it doesn't, or where the film has no picture or too many.
+    #[tactic(auto, using(crate::proofs::Rates::time_bounds))]
+    pub(crate) fn first(head: &Head, payload: &[u8], end_ms: u128) -> Option<Source>
+        requires { end_ms < 2 ^ 100 }
+        ensures source { result ≡ first_source head.now payload.now end_ms }
+        ensures follows { IfSome result (λ source. IsSource source 1) }
+    {
+        if !begins_film(payload) {
+            return None;
+        }
+        let picture_units = picture_units(payload[7] % 16);
+        let units = units_until(end_ms, picture_units);
+        if units < 1 || units > MOST_UNITS {
+            return None;
+        }
+        Some(Source {
+            ssrc: head.ssrc,
+            sequence: head.sequence,
+            marker: head.marker,
+            picture_units,
+            units: units as u64,
+        })
+    }
+
+    /// What the frames say with one more, where that is the next one.
+    pub(crate) fn next(&self, head: &Head) -> Option<Source>
+        ensures source { result ≡ next_source self.now head.now }
+        ensures same { IfSome result (λ source. (source.picture_units ≡ self.now.picture_units) × (source.units ≡ self.now.units)) }
+    {
+        if head.ssrc != self.ssrc || head.sequence != self.sequence.wrapping_add(1) {
+            return None;
+        }
+        Some(Source {
+            sequence: head.sequence,
+            marker: head.marker,
+            ..*self
+        })
+    }
+}

@@ -1,0 +1,123 @@
+//! What a client reads in a reply (RFC 2326 sections 7 and 12).
+
+ghost use Rattle.std.specs.Prelude.{◌≡◌, ◌^◌, ◌<◌, ◌≤◌, ◌==◌, ℕ, length, option_map, IfSome, MatchOption};
+ghost use Rattle.std.specs.List.{position_or_len};
+ghost use Rattle.interleave.specs.Pieces.{IsRequestLength};
+ghost use Rattle.rtsp_client.specs.Replies.{IsAnswer, has_point, milliseconds, number_in, play_range, play_start, range_end, session_id, session_in, time_in};
+
+use rtsp_text::{header_of, read_reply};
+use vod_base::{read_number, trimmed};
+
+/// The number that a field of a message writes, where the field's first line is one.
+fn number_in(message: &[u8], name: &[u8]) -> Option<u64>
+    ensures { result ≡ number_in message.now name.now }
+{
+    read_number(header_of(message, name)?).ok()
+}
+
+/// The code of a reply to the request of this number.
+///
+/// None where its first line isn't `RTSP/1.0`, three digits and a reason, or its CSeq isn't the number.
+#[tactic(auto, using(crate::proofs::Answering::answer_is))]
+pub(crate) fn reply_code(message: &[u8], number: u64) -> Option<u16>
+    requires { IsRequestLength message.now (length message.now) }
+    ensures { MatchOption result ((code : ℕ) → ¬ IsAnswer message.now number code) (IsAnswer message.now number) }
+{
+    let Some(reply) = read_reply(message) else {
+        return None;
+    };
+    match number_in(message, b"CSeq") {
+        None => None,
+        Some(found) => {
+            if found != number {
+                return None;
+            }
+            Some(reply.code)
+        }
+    }
+}
+
+/// Where a session's id ends: at the first `;`, or at the value's end.
+fn id_end(value: &[u8]) -> usize
+    ensures within { result ≤ length value.now }
+    ensures end { result ≡ position_or_len (λ byte. byte == 59) value.now }
+{
+    for at in 0..value.len() {
+        if value[at] == b';' {
+            return at;
+        }
+    }
+    value.len()
+}
+
+/// The id of a Session field: what stands before its first `;`, without the blanks around it.
+fn session_id(value: &[u8]) -> &[u8]
+    ensures { result.now ≡ session_id value.now }
+{
+    trimmed(&value[..id_end(value)])
+}
+
+/// The session that a reply names.
+pub(crate) fn session_in(message: &[u8]) -> Option<&[u8]>
+    ensures { option_map (λ session. session.now) result ≡ session_in message.now }
+{
+    Some(session_id(header_of(message, b"Session")?))
+}
+
+/// The milliseconds of seconds and a fraction of three digits.
+fn milliseconds(seconds: &[u8], fraction: &[u8]) -> Option<u128>
+    ensures sum { result ≡ milliseconds seconds.now fraction.now }
+    ensures short { IfSome result (λ ms. ms < 2 ^ 100) }
+{
+    let seconds = read_number(seconds).ok()?;
+    let fraction = read_number(fraction).ok()?;
+    Some(u128::from(seconds) * 1000 + u128::from(fraction))
+}
+
+/// Whether a text has a point before its last three bytes, and no needless zero in front.
+fn has_point(text: &[u8]) -> bool
+    ensures { result ≡ has_point text.now }
+{
+    text.len() >= 4 && text[text.len() - 4] == b'.' && !(text.len() > 5 && text[0] == b'0')
+}
+
+/// The milliseconds of a text that is seconds, a point and three digits.
+fn time_in(text: &[u8]) -> Option<u128>
+    ensures time { result ≡ time_in text.now }
+    ensures short { IfSome result (λ ms. ms < 2 ^ 100) }
+{
+    if !has_point(text) {
+        return None;
+    }
+    let point = text.len() - 4;
+    milliseconds(&text[..point], &text[point + 1..])
+}
+
+/// The end, in milliseconds, of a range from the film's beginning: `npt=0.000-` and seconds, a point and three digits.
+fn range_end(value: &[u8]) -> Option<u128>
+    ensures range { result ≡ range_end value.now }
+    ensures short { IfSome result (λ end_ms. end_ms < 2 ^ 100) }
+{
+    match value.strip_prefix(b"npt=0.000-") {
+        Some(text) => time_in(text),
+        None => None,
+    }
+}
+
+/// The end of the range that a reply to PLAY gives, in milliseconds from the film's beginning.
+pub(crate) fn play_range(message: &[u8]) -> Option<u128>
+    ensures range { result ≡ play_range message.now }
+    ensures short { IfSome result (λ end_ms. end_ms < 2 ^ 100) }
+{
+    range_end(header_of(message, b"Range")?)
+}
+
+/// In how many slots the play starts that a reply tells: from 1 to 2^62 + 1.
+pub(crate) fn play_start(message: &[u8]) -> Option<u64>
+    ensures { result ≡ play_start message.now }
+{
+    match number_in(message, b"x-Start") {
+        Some(start) if 1 <= start && start <= (1 << 62) + 1 => Some(start),
+        _ => None,
+    }
+}

@@ -1,0 +1,97 @@
+//! The three requests of a client (RFC 2326 sections 6 and 10).
+
+ghost use Rattle.std.specs.Prelude.{◌≡◌, ◌++◌, IfOk, OnOk, decimal};
+ghost use Rattle.rtsp_client.specs.Requests.{film_url, play_text, setup_text, teardown_text};
+
+use crate::wishes::Wish;
+use itoa::Buffer;
+use std::alloc::Global;
+use vod_base::NoMemory;
+
+/// A copy of a text.
+pub(crate) fn copied(alloc: Global, text: &[u8]) -> Result<Vec<u8>, NoMemory>
+    ensures { IfOk result (λ copy. copy.items ≡ text.now) }
+{
+    match Vec::from_slice(alloc, text) {
+        Ok(copy) => Ok(copy),
+        Err(_) => Err(NoMemory),
+    }
+}
+
+/// Appends bytes.
+fn put(text: &mut Vec<u8>, bytes: &[u8]) -> Result<(), NoMemory>
+    ensures { OnOk result (text.new.items ≡ text.old.items ++ bytes.now) }
+{
+    match text.extend_from_slice(bytes) {
+        Ok(()) => Ok(()),
+        Err(_) => Err(NoMemory),
+    }
+}
+
+/// Appends a number in decimal.
+fn put_number(text: &mut Vec<u8>, number: u64) -> Result<(), NoMemory>
+    ensures { OnOk result (text.new.items ≡ text.old.items ++ decimal number) }
+{
+    put(text, Buffer::new().format(number).as_bytes())
+}
+
+/// Appends the film's URL.
+fn put_url(text: &mut Vec<u8>, wish: &Wish) -> Result<(), NoMemory>
+    ensures { OnOk result (text.new.items ≡ text.old.items ++ film_url wish.now) }
+{
+    put(text, b"rtsp://127.0.0.1:")?;
+    put_number(text, u64::from(wish.port))?;
+    put(text, b"/")?;
+    put(text, wish.name.as_bytes())?;
+    Ok(())
+}
+
+/// SETUP of the film's video, interleaved on the channels 0 and 1, with the client's buffer and start delay.
+pub(crate) fn setup_request(alloc: Global, wish: &Wish) -> Result<Vec<u8>, NoMemory>
+    ensures { IfOk result (λ text. text.items ≡ setup_text wish.now) }
+{
+    let mut text = Vec::new(alloc);
+    put(&mut text, b"SETUP ")?;
+    put_url(&mut text, wish)?;
+    put(&mut text, b"/video RTSP/1.0\r\nCSeq: 1\r\n")?;
+    put(
+        &mut text,
+        b"Transport: RTP/AVP/TCP;unicast;interleaved=0-1\r\n",
+    )?;
+    put(&mut text, b"x-Buffer: ")?;
+    put_number(&mut text, wish.buffer)?;
+    put(&mut text, b"\r\nx-Startup: ")?;
+    put_number(&mut text, wish.startup)?;
+    put(&mut text, b"\r\n\r\n")?;
+    Ok(text)
+}
+
+/// PLAY of the whole film, in this session.
+pub(crate) fn play_request(alloc: Global, wish: &Wish, session: &[u8]) -> Result<Vec<u8>, NoMemory>
+    ensures { IfOk result (λ text. text.items ≡ play_text wish.now session.now) }
+{
+    let mut text = Vec::new(alloc);
+    put(&mut text, b"PLAY ")?;
+    put_url(&mut text, wish)?;
+    put(&mut text, b" RTSP/1.0\r\nCSeq: 2\r\nSession: ")?;
+    put(&mut text, session)?;
+    put(&mut text, b"\r\nRange: npt=0-\r\n\r\n")?;
+    Ok(text)
+}
+
+/// TEARDOWN of this session.
+pub(crate) fn teardown_request(
+    alloc: Global,
+    wish: &Wish,
+    session: &[u8],
+) -> Result<Vec<u8>, NoMemory>
+    ensures { IfOk result (λ text. text.items ≡ teardown_text wish.now session.now) }
+{
+    let mut text = Vec::new(alloc);
+    put(&mut text, b"TEARDOWN ")?;
+    put_url(&mut text, wish)?;
+    put(&mut text, b" RTSP/1.0\r\nCSeq: 3\r\nSession: ")?;
+    put(&mut text, session)?;
+    put(&mut text, b"\r\n\r\n")?;
+    Ok(text)
+}

@@ -1,0 +1,433 @@
+//! Films watched over a link in memory, with values worked out by hand.
+use super::*;
+use std::alloc::Global;
+use std::test::Fail;
+use vod_base::{Event, MemoryLink, MemorySink};
+
+/// What a link tells: a reply, bytes of the film as it is sent, other bytes, a slot, the end.
+#[derive(Clone, Copy)]
+enum Tell {
+    Text(&'static str),
+    Film(usize, usize),
+    Raw(&'static [u8]),
+    Slot(u64),
+    End,
+}
+
+use Tell::{Film, Raw, Slot, Text};
+
+/// A film of two pictures as it is sent: a report, and a frame for each picture.
+const SENT: [u8; 141] = [
+    0x24, 0x01, 0x00, 0x30, 0x80, 0xc8, 0x00, 0x06, 0x01, 0x02, 0x03, 0x04, 0, 0, 0, 0, 0, 0, 0, 0,
+    0, 0, 0, 0, 0, 0, 0, 0, 0, 0, 0, 0, 0x81, 0xca, 0x00, 0x04, 0x01, 0x02, 0x03, 0x04, 0x01, 0x08,
+    0x76, 0x6f, 0x64, 0x73, 0x65, 0x72, 0x76, 0x65, 0x00, 0x00, // the report
+    0x24, 0x00, 0x00, 0x32, 0x80, 0xa0, 0x00, 0x01, 0x00, 0x00, 0x00, 0x00, 0x01, 0x02, 0x03, 0x04,
+    0x00, 0x00, 0x39, 0x00, 0x00, 0x00, 0x01, 0xb3, 0x16, 0x01, 0x20, 0x13, 0xff, 0xff, 0xe0, 0xa0,
+    0x00, 0x00, 0x01, 0xb8, 0x00, 0x08, 0x00, 0x40, 0x00, 0x00, 0x01, 0x00, 0x00, 0x0f, 0xff, 0xf8,
+    0x00, 0x00, 0x01, 0x01, 0x12, 0x34, // the first picture's frame
+    0x24, 0x00, 0x00, 0x1f, 0x80, 0xa0, 0x00, 0x02, 0x00, 0x00, 0x0e, 0x10, 0x01, 0x02, 0x03, 0x04,
+    0x00, 0x01, 0x1a, 0x01, 0x00, 0x00, 0x01, 0x00, 0x00, 0x57, 0xff, 0xf8, 0x80, 0x00, 0x00, 0x01,
+    0x01, 0x12, 0x34,
+];
+
+const SETUP: &str = "SETUP rtsp://127.0.0.1:8554/b.mpg/video RTSP/1.0\r\nCSeq: 1\r\n\
+    Transport: RTP/AVP/TCP;unicast;interleaved=0-1\r\nx-Buffer: 1048576\r\nx-Startup: 2\r\n\r\n";
+
+const PLAY: &str =
+    "PLAY rtsp://127.0.0.1:8554/b.mpg RTSP/1.0\r\nCSeq: 2\r\nSession: 0123456789abcdef\r\n\
+    Range: npt=0-\r\n\r\n";
+
+const TEARDOWN: &str =
+    "TEARDOWN rtsp://127.0.0.1:8554/b.mpg RTSP/1.0\r\nCSeq: 3\r\nSession: 0123456789abcdef\r\n\r\n";
+
+const SET_UP: Tell = Text(
+    "RTSP/1.0 200 OK\r\nCSeq: 1\r\nTransport: RTP/AVP/TCP;unicast;interleaved=0-1;ssrc=01020304\r\n\
+    Session: 0123456789abcdef\r\n\r\n",
+);
+
+const PLAYED: Tell = Text(
+    "RTSP/1.0 200 OK\r\nCSeq: 2\r\nSession: 0123456789abcdef\r\nRange: npt=0.000-0.080\r\nx-Start: 1\r\n\r\n",
+);
+
+const TORN_DOWN: Tell = Text("RTSP/1.0 200 OK\r\nCSeq: 3\r\nSession: 0123456789abcdef\r\n\r\n");
+
+const BUFFER: u64 = 1_048_576;
+
+/// What the film's watching comes to.
+const ALL: Watched = Watched {
+    units: 2,
+    bytes: 49,
+    frames: 2,
+    reports: 1,
+    most: 106,
+    over: 0,
+    under: 0,
+};
+
+/// A case: the client's buffer, what the link tells, what comes of it, how many requests are sent, and how many of the film's
+/// bytes are handed on.
+struct Case {
+    buffer: u64,
+    tells: &'static [Tell],
+    end: WatchEnd,
+    requests: usize,
+    handed_on: usize,
+}
+
+/// The film, slot by slot as its plan has it.
+const BY_PLAN: &[Tell] = &[
+    SET_UP,
+    PLAYED,
+    Film(0, 35),
+    Slot(1),
+    Film(35, 70),
+    Slot(2),
+    Film(70, 106),
+    Slot(3),
+    Film(106, 141),
+    Slot(4),
+    TORN_DOWN,
+];
+
+/// The second frame with another sequence number, and with another source.
+const GAP: Tell = Raw(&[
+    0x24, 0, 0, 0x11, 0x80, 0xa0, 0, 3, 0, 0, 14, 16, 1, 2, 3, 4, 0, 1, 26, 1, 0,
+]);
+
+const STRANGER: Tell = Raw(&[
+    0x24, 0, 0, 0x11, 0x80, 0xa0, 0, 2, 0, 0, 14, 16, 1, 2, 3, 5, 0, 1, 26, 1, 0,
+]);
+
+const CASES: &[Case] = &[
+    Case {
+        buffer: BUFFER,
+        tells: BY_PLAN,
+        end: WatchEnd::Done(ALL),
+        requests: 3,
+        handed_on: 49,
+    },
+    Case {
+        buffer: 105,
+        tells: BY_PLAN,
+        end: WatchEnd::Done(Watched { over: 1, ..ALL }),
+        requests: 3,
+        handed_on: 49,
+    },
+    // late: the first picture isn't whole in the slot in which it is used; a slot that is told again isn't read again
+    Case {
+        buffer: BUFFER,
+        tells: &[
+            Slot(7),
+            SET_UP,
+            Slot(9),
+            PLAYED,
+            Slot(10),
+            Slot(12),
+            Slot(12),
+            Slot(11),
+            Film(0, 141),
+            Slot(13),
+            TORN_DOWN,
+        ],
+        end: WatchEnd::Done(Watched {
+            most: 35,
+            under: 1,
+            ..ALL
+        }),
+        requests: 3,
+        handed_on: 49,
+    },
+    // the session is sent without its parameters; blocks on other channels and line ends don't count
+    Case {
+        buffer: BUFFER,
+        tells: &[
+            Text("RTSP/1.0 200 OK\r\ncseq: 01\r\nSession:  0123456789abcdef ;timeout=60\r\n\r\n"),
+            PLAYED,
+            Text("\r\n"),
+            Raw(&[0x24, 2, 0, 1, 0]),
+            Film(0, 141),
+            TORN_DOWN,
+        ],
+        end: WatchEnd::Done(Watched { most: 0, ..ALL }),
+        requests: 3,
+        handed_on: 49,
+    },
+    Case {
+        buffer: BUFFER,
+        tells: &[
+            SET_UP,
+            Text("RTSP/1.0 453 Not Enough Bandwidth\r\nCSeq: 2\r\n\r\n"),
+        ],
+        end: WatchEnd::Fault(WatchFault::Refused(453)),
+        requests: 2,
+        handed_on: 0,
+    },
+    Case {
+        buffer: BUFFER,
+        tells: &[SET_UP, PLAYED, Film(0, 106), Slot(3), Tell::End],
+        end: WatchEnd::Fault(WatchFault::EndedEarly(1)),
+        requests: 2,
+        handed_on: 34,
+    },
+    Case {
+        buffer: BUFFER,
+        tells: &[Text("RTSP/1.0 200 OK\r\nCSeq: 1\r\n\r\n")],
+        end: WatchEnd::Fault(WatchFault::BadReply(1)),
+        requests: 1,
+        handed_on: 0,
+    },
+    Case {
+        buffer: BUFFER,
+        tells: &[Text("RTSP/1.0 200 OK\r\nCSeq: 2\r\nSession: 1\r\n\r\n")],
+        end: WatchEnd::Fault(WatchFault::BadReply(1)),
+        requests: 1,
+        handed_on: 0,
+    },
+    Case {
+        buffer: BUFFER,
+        tells: &[Text("RTSP/2.0 200 OK\r\nCSeq: 1\r\nSession: 1\r\n\r\n")],
+        end: WatchEnd::Fault(WatchFault::BadReply(1)),
+        requests: 1,
+        handed_on: 0,
+    },
+    Case {
+        buffer: BUFFER,
+        tells: &[
+            SET_UP,
+            Text("RTSP/1.0 200 OK\r\nCSeq: 2\r\nRange: npt=0.000-00.080\r\nx-Start: 1\r\n\r\n"),
+        ],
+        end: WatchEnd::Fault(WatchFault::BadReply(2)),
+        requests: 2,
+        handed_on: 0,
+    },
+    Case {
+        buffer: BUFFER,
+        tells: &[
+            SET_UP,
+            Text("RTSP/1.0 200 OK\r\nCSeq: 2\r\nRange: npt=0.000-0.080\r\nx-Start: 0\r\n\r\n"),
+        ],
+        end: WatchEnd::Fault(WatchFault::BadReply(2)),
+        requests: 2,
+        handed_on: 0,
+    },
+    Case {
+        buffer: BUFFER,
+        tells: &[SET_UP, PLAYED, TORN_DOWN],
+        end: WatchEnd::Fault(WatchFault::BadReply(3)),
+        requests: 2,
+        handed_on: 0,
+    },
+    Case {
+        buffer: BUFFER,
+        tells: &[SET_UP, Film(52, 106)],
+        end: WatchEnd::Fault(WatchFault::BadFrame(0)),
+        requests: 2,
+        handed_on: 0,
+    },
+    Case {
+        buffer: BUFFER,
+        tells: &[SET_UP, PLAYED, Film(106, 141)],
+        end: WatchEnd::Fault(WatchFault::BadFrame(0)),
+        requests: 2,
+        handed_on: 0,
+    },
+    Case {
+        buffer: BUFFER,
+        tells: &[SET_UP, PLAYED, Raw(&[0x24, 0, 0, 1, 0x80])],
+        end: WatchEnd::Fault(WatchFault::BadFrame(0)),
+        requests: 2,
+        handed_on: 0,
+    },
+    Case {
+        buffer: BUFFER,
+        tells: &[SET_UP, PLAYED, Film(0, 106), GAP],
+        end: WatchEnd::Fault(WatchFault::BadFrame(1)),
+        requests: 2,
+        handed_on: 34,
+    },
+    Case {
+        buffer: BUFFER,
+        tells: &[SET_UP, PLAYED, Film(0, 106), STRANGER],
+        end: WatchEnd::Fault(WatchFault::BadFrame(1)),
+        requests: 2,
+        handed_on: 34,
+    },
+    Case {
+        buffer: BUFFER,
+        tells: &[SET_UP, PLAYED, Film(0, 141), Film(106, 141)],
+        end: WatchEnd::Fault(WatchFault::BadFrame(2)),
+        requests: 3,
+        handed_on: 49,
+    },
+    // films of no picture, and of one too many
+    Case {
+        buffer: BUFFER,
+        tells: &[
+            SET_UP,
+            Text("RTSP/1.0 200 OK\r\nCSeq: 2\r\nRange: npt=0.000-0.000\r\nx-Start: 1\r\n\r\n"),
+            Film(0, 106),
+        ],
+        end: WatchEnd::Fault(WatchFault::BadFrame(0)),
+        requests: 2,
+        handed_on: 0,
+    },
+    Case {
+        buffer: BUFFER,
+        tells: &[
+            SET_UP,
+            Text("RTSP/1.0 200 OK\r\nCSeq: 2\r\nRange: npt=0.000-167772.161\r\nx-Start: 1\r\n\r\n"),
+            Film(0, 106),
+        ],
+        end: WatchEnd::Fault(WatchFault::BadFrame(0)),
+        requests: 2,
+        handed_on: 0,
+    },
+];
+
+/// The event that a link tells; where it brings bytes and is cut, one event for each of them.
+fn add_events(alloc: Global, events: &mut Vec<Event>, tell: Tell, cut: bool) -> Result<(), Fail> {
+    let bytes: &[u8] = match tell {
+        Text(text) => text.as_bytes(),
+        Film(from, to) => SENT.get(from..to).unwrap_or(&[]),
+        Raw(bytes) => bytes,
+        Slot(slot) => {
+            events.push(Event::Slot(slot))?;
+            return Ok(());
+        }
+        Tell::End => {
+            events.push(Event::End)?;
+            return Ok(());
+        }
+    };
+    if cut {
+        for byte in bytes {
+            events.push(Event::Bytes(Vec::from_slice(alloc, &[*byte])?))?;
+        }
+    } else {
+        events.push(Event::Bytes(Vec::from_slice(alloc, bytes)?))?;
+    }
+    Ok(())
+}
+
+/// What comes of watching, what was sent and what was handed on.
+#[derive(Drop)]
+struct Outcome {
+    end: WatchEnd,
+    sent: Vec<u8>,
+    out: Vec<u8>,
+}
+
+/// The numbers of the calls that fail: sends, calls of `next`, and writes.
+type Failing = (&'static [u64], &'static [u64], &'static [u64]);
+
+fn watch_events(
+    alloc: Global,
+    buffer: u64,
+    events: Vec<Event>,
+    failing: Failing,
+) -> Result<Outcome, Fail> {
+    let wish = Wish {
+        name: String::from_str(alloc, "b.mpg")?,
+        port: 8554,
+        buffer,
+        startup: 2,
+        slot_units: 14_400,
+    };
+    let (sends, nexts, writes) = failing;
+    let sends = Vec::from_slice(alloc, sends)?;
+    let nexts = Vec::from_slice(alloc, nexts)?;
+    let Ok(mut link) = MemoryLink::new(alloc, events, 40_000, sends, nexts) else {
+        return Err(Fail::from("no memory"));
+    };
+    let Ok(mut out) = MemorySink::new(alloc, 10_000, Vec::from_slice(alloc, writes)?) else {
+        return Err(Fail::from("no memory"));
+    };
+    let end = watch(alloc, &wish, &mut link, &mut out);
+    Ok(Outcome {
+        end,
+        sent: Vec::from_slice(alloc, link.sent())?,
+        out: Vec::from_slice(alloc, out.bytes())?,
+    })
+}
+
+/// The first requests, so many of them.
+fn requests(alloc: Global, count: usize, buffer: u64) -> Result<String, Fail> {
+    let mut text = String::new(alloc);
+    for request in [SETUP, PLAY, TEARDOWN].iter().take(count) {
+        text.push_str(request)?;
+    }
+    if buffer == 105 {
+        text = text.replace(alloc, "1048576", "105")?;
+    }
+    Ok(text)
+}
+
+/// The film's first bytes, so many of them.
+fn film(alloc: Global, count: usize) -> Result<Vec<u8>, Fail> {
+    let mut bytes = Vec::new(alloc);
+    for part in [SENT.get(72..106), SENT.get(126..)] {
+        bytes.extend_from_slice(part.unwrap_or(&[]))?;
+    }
+    bytes.truncate(count);
+    Ok(bytes)
+}
+
+#[test]
+fn watches_films(rt: HostRuntime) -> Result<(), Fail> {
+    let alloc = rt.alloc();
+    for (number, case) in CASES.iter().enumerate() {
+        for cut in [false, true] {
+            let mut events = Vec::new(alloc);
+            for tell in case.tells {
+                add_events(alloc, &mut events, *tell, cut)?;
+            }
+            let got = watch_events(alloc, case.buffer, events, (&[], &[], &[]))?;
+            assert_eq!(rt; got.end, case.end, "case {number} {cut}");
+            let sent = requests(alloc, case.requests, case.buffer)?;
+            assert_eq!(rt; got.sent.as_slice(), sent.as_bytes(), "case {number} {cut}");
+            let handed_on = film(alloc, case.handed_on)?;
+            assert_eq!(rt;
+                got.out.as_slice(),
+                handed_on.as_slice(),
+                "case {number} {cut}"
+            );
+        }
+    }
+    Ok(())
+}
+
+#[test]
+fn blames_the_outside(rt: HostRuntime) -> Result<(), Fail> {
+    let alloc = rt.alloc();
+    let cases: [(Failing, WatchEnd, usize, usize); 6] = [
+        ((&[1], &[], &[]), WatchEnd::LinkFault, 0, 0),
+        ((&[2], &[], &[]), WatchEnd::LinkFault, 1, 0),
+        ((&[3], &[], &[]), WatchEnd::LinkFault, 2, 49),
+        ((&[], &[1], &[]), WatchEnd::LinkFault, 1, 0),
+        ((&[], &[11], &[]), WatchEnd::LinkFault, 3, 49),
+        ((&[], &[], &[2]), WatchEnd::SinkFault, 2, 34),
+    ];
+    for (failing, end, sent, handed_on) in cases {
+        let mut events = Vec::new(alloc);
+        for tell in BY_PLAN {
+            add_events(alloc, &mut events, *tell, false)?;
+        }
+        let got = watch_events(alloc, BUFFER, events, failing)?;
+        assert_eq!(rt; got.end, end, "{failing:?}");
+        let wanted = requests(alloc, sent, BUFFER)?;
+        assert_eq!(rt; got.sent.as_slice(), wanted.as_bytes(), "{failing:?}");
+        let wanted = film(alloc, handed_on)?;
+        assert_eq!(rt; got.out.as_slice(), wanted.as_slice(), "{failing:?}");
+    }
+    Ok(())
+}
+
+#[test]
+fn refuses_an_endless_head(rt: HostRuntime) -> Result<(), Fail> {
+    let alloc = rt.alloc();
+    let mut events = Vec::new(alloc);
+    events.push(Event::Bytes(vec![in alloc; b'a'; 16_384]?))?;
+    let got = watch_events(alloc, BUFFER, events, (&[], &[], &[]))?;
+    assert_eq!(rt; got.end, WatchEnd::Fault(WatchFault::Framing));
+    Ok(())
+}

@@ -1,0 +1,68 @@
+//! A film watched from the first request to the last reply.
+
+ghost use Rattle.std.specs.Prelude.{◌≡◌, ◌≤◌, []};
+ghost use Rattle.vod_base.specs.Outside.{HasRisen};
+ghost use Rattle.rtsp_client.specs.Causes.{HasCause};
+ghost use Rattle.rtsp_client.specs.States.{new_state};
+ghost use Rattle.rtsp_client.specs.Wishes.{IsWish};
+ghost use Rattle.rtsp_client.specs.declared.wishes.WatchEnd.TheVariants.{LinkFault, SinkFault};
+
+use crate::clients::Client;
+use crate::wishes::{WatchEnd, WatchFault, Wish};
+use std::alloc::Global;
+use vod_base::{Link, Sink};
+
+/// The most bytes that are heard at once.
+const MOST_HEARD: usize = 16_384;
+
+/// The most events that are heard.
+const MOST_EVENTS: u64 = 1 << 40;
+
+/// Watches a film over a link and hands its bytes on to `out`.
+///
+/// The client asks for SETUP, PLAY and TEARDOWN (RFC 2326 section 10), each after the reply before it, and for TEARDOWN once all
+/// pictures are whole. The payload of each frame goes to `out` as the frame is whole. At each new slot from the play's first one on
+/// the meter of the client's buffer is read.
+pub fn watch<K: Link, O: Sink>(alloc: Global, wish: &Wish, link: &mut K, out: &mut O) -> WatchEnd
+    requires wish { IsWish wish.now }
+    ensures count { K.faults link.old ≤ K.faults link.new }
+    ensures count_out { O.faults out.old ≤ O.faults out.new }
+    ensures link { result ≡ LinkFault → HasRisen (K.faults link.old) (K.faults link.new) }
+    ensures out { result ≡ SinkFault → HasRisen (O.faults out.old) (O.faults out.new) }
+{
+    let Ok(mut client) = Client::new(alloc) else {
+        return WatchEnd::NoMemory;
+    };
+    match client.start(wish, link) {
+        Err(end) => end,
+        Ok(()) => hear_all(wish, &mut client, link, out),
+    }
+}
+
+/// Hears events until one of them ends the watching.
+fn hear_all<K: Link, O: Sink>(
+    wish: &Wish,
+    client: &mut Client,
+    link: &mut K,
+    out: &mut O,
+) -> WatchEnd
+    requires wish { IsWish wish.now }
+    requires new { client.old.watching ≡ new_state }
+    requires empty { client.old.input ≡ [] }
+    requires replies { client.old.replies ≡ 0 }
+    ensures count { K.faults link.old ≤ K.faults link.new }
+    ensures count_out { O.faults out.old ≤ O.faults out.new }
+    ensures cause { HasCause result (K.faults link.old) (K.faults link.new) (O.faults out.old) (O.faults out.new) }
+{
+    let mut into = [0; MOST_HEARD];
+    'events: for _event in 0..MOST_EVENTS {
+        let Ok(heard) = link.next(&mut into) else {
+            return WatchEnd::LinkFault;
+        };
+        match client.hear(wish, heard, &into, link, out) {
+            Err(end) => return end,
+            Ok(()) => {}
+        }
+    }
+    WatchEnd::Fault(WatchFault::TurnsSpent)
+}

@@ -1,0 +1,132 @@
+//! What is to be watched, and what came of it.
+
+use std::error::Error;
+use std::fmt;
+use vod_base::{LinkFault, NoMemory, SinkFault};
+
+/// What is to be watched, and how it is to be played.
+#[derive(Debug, Drop)]
+pub struct Wish {
+    /// The film's name: 1 to 64 letters, digits, `.`, `_` and `-`, the first not `.`.
+    pub name: String,
+    /// The server's port, from 1.
+    pub port: u16,
+    /// The client's buffer in bytes, 1 to 2^42.
+    pub buffer: u64,
+    /// The slots that pass before the first picture is used, 0 to 10,000.
+    pub startup: u64,
+    /// The slot length in 1/360,000 second, 360 to 360,000.
+    pub slot_units: u32,
+}
+
+/// What was heard of a film, and what the buffer's meter read.
+///
+/// The meter is read at each new slot from the play's first one on.
+#[derive(Clone, Copy, Debug, PartialEq, Eq)]
+pub struct Watched {
+    /// The pictures that came whole.
+    pub units: u64,
+    /// The bytes of the film that were handed on.
+    pub bytes: u64,
+    /// The frames that came whole, which are the blocks on channel 0.
+    pub frames: u64,
+    /// The reports that came whole, which are the blocks on channel 1.
+    pub reports: u64,
+    /// The most bytes that waited to be played.
+    pub most: u64,
+    /// In how many slots more bytes waited than the buffer holds.
+    pub over: u64,
+    /// In how many slots a picture was to be played that wasn't whole.
+    pub under: u64,
+}
+
+/// Why a film wasn't watched to its end.
+#[derive(Clone, Copy, Debug, PartialEq, Eq)]
+pub enum WatchFault {
+    /// A request was answered with this code.
+    Refused(u16),
+    /// The reply of this number, from 1, isn't awaited, has a bad first line or another CSeq, or lacks a field.
+    BadReply(u64),
+    /// The frame of this number, from 0, comes when none is to come, or isn't the next one of the film.
+    BadFrame(u64),
+    /// What came begins no reply and no block.
+    Framing,
+    /// The server ended when so many pictures were whole.
+    EndedEarly(u64),
+    /// So many events were heard as a client hears, 2^40.
+    TurnsSpent,
+}
+
+impl fmt::Display for WatchFault {
+    fn fmt<W: fmt::Write>(&self, f: &mut fmt::Formatter<W>) -> fmt::Result {
+        match self {
+            WatchFault::Refused(code) => write!(f, "a request was answered {code}"),
+            WatchFault::BadReply(number) => write!(f, "reply {number} isn't as it should be"),
+            WatchFault::BadFrame(number) => write!(f, "frame {number} isn't as it should be"),
+            WatchFault::Framing => write!(f, "what came begins no reply and no block"),
+            WatchFault::EndedEarly(units) => write!(f, "the server ended after {units} pictures"),
+            WatchFault::TurnsSpent => write!(f, "too many events"),
+        }
+    }
+}
+
+impl Error for WatchFault {}
+
+/// What came of watching a film.
+#[derive(Clone, Copy, Debug, PartialEq, Eq)]
+pub enum WatchEnd {
+    /// All pictures came whole, and the server took leave.
+    Done(Watched),
+    /// The server didn't do what was asked of it.
+    Fault(WatchFault),
+    /// The link failed.
+    LinkFault,
+    /// The output failed.
+    SinkFault,
+    /// There was no memory.
+    NoMemory,
+}
+
+impl From<WatchFault> for WatchEnd {
+    ghost use Rattle.std.specs.Prelude.{◌≡◌};
+    ghost use Rattle.rtsp_client.specs.declared.wishes.WatchEnd.TheVariants.{Fault};
+
+    ghost from_gives = { λ fault end. end ≡ Fault fault };
+
+    fn from(fault: WatchFault) -> WatchEnd {
+        WatchEnd::Fault(fault)
+    }
+}
+
+impl From<LinkFault> for WatchEnd {
+    ghost use Rattle.std.specs.Prelude.{◌≡◌};
+    ghost use Rattle.rtsp_client.specs.declared.wishes.WatchEnd.TheVariants.{LinkFault as EndLinkFault};
+
+    ghost from_gives = { λ _ end. end ≡ EndLinkFault };
+
+    fn from(_fault: LinkFault) -> WatchEnd {
+        WatchEnd::LinkFault
+    }
+}
+
+impl From<SinkFault> for WatchEnd {
+    ghost use Rattle.std.specs.Prelude.{◌≡◌};
+    ghost use Rattle.rtsp_client.specs.declared.wishes.WatchEnd.TheVariants.{SinkFault as EndSinkFault};
+
+    ghost from_gives = { λ _ end. end ≡ EndSinkFault };
+
+    fn from(_fault: SinkFault) -> WatchEnd {
+        WatchEnd::SinkFault
+    }
+}
+
+impl From<NoMemory> for WatchEnd {
+    ghost use Rattle.std.specs.Prelude.{◌≡◌};
+    ghost use Rattle.rtsp_client.specs.declared.wishes.WatchEnd.TheVariants.{NoMemory as EndNoMemory};
+
+    ghost from_gives = { λ _ end. end ≡ EndNoMemory };
+
+    fn from(_fault: NoMemory) -> WatchEnd {
+        WatchEnd::NoMemory
+    }
+}
