@@ -1,0 +1,166 @@
+-- The plays of a course are those that its entries tell.
+use Rattle.std.specs.Prelude.{⊤}
+use Rattle.std.proofs.Common.{◌≡◌, ℕ, ◌++◌, List, [], ◌∷◌, map, refl, ap, sym, ◌∙◌, subst}
+use Rattle.std.proofs.lemmas.List.{map-append}
+use Rattle.vod_base.specs.Links.{Doing, HeardBytes, HeardEnd, HeardSlot, Sent}
+use Rattle.plan_cert.specs.Slots.{total_bytes}
+use Rattle.slot_calendar.specs.Plays.{cut_play}
+use Rattle.film_frames.specs.declared.stores.Stored.{Stored}
+use Rattle.admission.specs.Histories.{play_admitted}
+use Rattle.admission.specs.Makers.{Placed}
+use Rattle.admission.specs.declared.entries.Answer.TheVariants.{Admitted}
+use Rattle.station.specs.Ledgers.{play_of}
+use Rattle.session.specs.declared.settings.Settings.{Settings}
+use Rattle.session.specs.declared.states.Awaited.{Awaited}
+use Rattle.session.specs.declared.states.Awaited.TheVariants.{Nothing, Play, Halt, Look, Offer}
+use Rattle.session.specs.Sendings.{slotted}
+use Rattle.session.specs.Standings.{NoAnswer, Standing, awaits_of}
+use Rattle.conn.specs.Rounds.{Comes, Round, entries_in, round_outcomes, rounds_outcomes, takings_outcomes}
+use Rattle.conn.specs.Turns.{Outcome, Unasked, Entered, WasFull, Offered, Part, Stage, Taking, Passed, Answered, IsFinished, IsHalted, TakesAll, entry_in, film_bytes}
+use Rattle.transcript.specs.Courses.{Follows, asked_by, askings_of, first_stage, round_askings, takings_askings}
+use Rattle.transcript.specs.Plays.{Asking, Asks, admitted, begun, booked_by, booked_plays, booking_of, kept_among, kept_in, kept_with, plays_of}
+use Rattle.transcript.proofs.Filming.{Stands, opened_stands, round_step, stands_by, taken_stands}
+use Rattle.transcript.proofs.Turning.{Ends, Starts, Stays, TurnsAs, told_by, turns_as}
+
+-- the play that begins is the one that the entry tells, if any
+abbrev pub IsToldBy : Awaited → Outcome → Type 0
+IsToldBy asked outcome = (askings : List Asking) (made : List Placed)
+    → ((all : ℕ) → kept_in askings all ≡ kept_among made all) → map booking_of (begun asked outcome askings) ≡ told_by outcome made
+
+abbrev pub AreTold : List Asking → Type 0
+AreTold [] = ⊤
+AreTold (Asks asked outcome ∷ askings) = IsToldBy asked outcome × AreTold askings
+
+-- the entries of askings
+abbrev pub outcomes_in : List Asking → List Outcome
+outcomes_in [] = []
+outcomes_in (Asks asked outcome ∷ askings) = outcome ∷ outcomes_in askings
+
+kept_more : (outcome : Outcome) (made : List Placed) (all : ℕ) → kept_with outcome (kept_among made all) ≡ kept_among (entry_in outcome ++ made) all
+kept_more Unasked made all = refl
+kept_more (Entered placed) made all = refl
+kept_more (WasFull entries live) made all = refl
+kept_more (Offered note) made all = refl
+
+told_more : (outcome : Outcome) (made : List Placed) → told_by outcome made ++ booked_plays made ≡ booked_plays (entry_in outcome ++ made)
+told_more Unasked made = refl
+told_more (Entered placed) made = refl
+told_more (WasFull entries live) made = refl
+told_more (Offered note) made = refl
+
+kept_same : (askings : List Asking) (all : ℕ) → kept_in askings all ≡ kept_among (entries_in (outcomes_in askings)) all
+kept_same [] all = refl
+kept_same (Asks asked outcome ∷ askings) all =
+    ap (kept_with outcome) (kept_same askings all) ∙ kept_more outcome (entries_in (outcomes_in askings)) all
+
+plays_told : (askings : List Asking) → AreTold askings → map booking_of (plays_of askings) ≡ booked_plays (entries_in (outcomes_in askings))
+plays_told [] told = refl
+plays_told (Asks asked outcome ∷ askings) told =
+    let made : List Placed = entries_in (outcomes_in askings) in
+    map-append booking_of (begun asked outcome askings) (plays_of askings)
+    ∙ ap (λ ps. ps ++ map booking_of (plays_of askings)) (told.0 askings made (kept_same askings))
+    ∙ ap (λ ps. told_by outcome made ++ ps) (plays_told askings told.1) ∙ told_more outcome made
+
+told-append : (xs ys : List Asking) → AreTold xs → AreTold ys → AreTold (xs ++ ys)
+told-append [] ys one two = two
+told-append (Asks asked outcome ∷ xs) ys one two = (one.0, told-append xs ys one.1 two)
+
+outcomes-append : (xs ys : List Asking) → outcomes_in (xs ++ ys) ≡ outcomes_in xs ++ outcomes_in ys
+outcomes-append [] ys = refl
+outcomes-append (Asks asked outcome ∷ xs) ys = ap (λ os. outcome ∷ os) (outcomes-append xs ys)
+
+-- by what was asked
+turn_told : (old new : Standing) (asked : Awaited) (outcome : Outcome) → TurnsAs old asked outcome new → IsToldBy asked outcome
+turn_told old new asked outcome (Stays same after still) = λ askings made keeps.
+    ap (map booking_of) (still.none askings) ∙ sym (still.untold made)
+turn_told old new asked outcome (Starts after begins) = λ askings made keeps.
+    let p = begins.prepared in
+    let mine : begun asked outcome askings ≡ admitted (Play p) (Admitted begins.start) askings =
+    ap (λ o. begun asked o askings) begins.outcome_is ∙ ap (λ a. admitted a begins.placed.entry.answer askings) begins.asked_is
+    ∙ ap (λ a. admitted (Play p) a askings) begins.answer in
+    let told : told_by outcome made ≡ cut_play begins.start p.plan (kept_among made (total_bytes p.plan)) ∷ [] =
+    ap (λ o. told_by o made) begins.outcome_is
+    ∙ ap (λ c. booked_by (play_admitted c begins.placed.entry.answer) made) begins.command
+    ∙ ap (λ a. booked_by (play_admitted (play_of old.heard p.plan) a) made) begins.answer in
+    ap (map booking_of) mine ∙ ap (λ k. cut_play begins.start p.plan k ∷ []) (keeps (total_bytes p.plan)) ∙ sym told
+turn_told old new asked outcome (Ends after halts) = λ askings made keeps.
+    ap (map booking_of) (halts.none askings)
+    ∙ sym (ap (λ o. told_by o made) halts.outcome_is
+    ∙ ap (λ c. booked_by (play_admitted c halts.placed.entry.answer) made) halts.command)
+
+takes_told : (old new : Stage) (takings : List Taking) (takes : TakesAll old takings new) → Stands old.session → AreTold (takings_askings old takings new takes)
+takes_told old new [] takes stands = tt
+takes_told old new (Passed n ∷ takings) takes stands =
+    takes_told takes.0 new takings takes.1.1 (taken_stands old takes.0 (Passed n) takes.1.0 stands)
+takes_told old new (Answered message outcome parts ∷ takings) takes stands =
+    let replied = takes.1.0 in (
+      turn_told old.session replied.answered replied.heard.asking.awaited outcome
+          (turns_as old.session message outcome replied.answered replied.heard stands.rest),
+      takes_told takes.0 new takings takes.1.1 (taken_stands old takes.0 (Answered message outcome parts) takes.1.0 stands),
+    )
+
+takes_outcomes : (old new : Stage) (takings : List Taking) (takes : TakesAll old takings new)
+    → outcomes_in (takings_askings old takings new takes) ≡ takings_outcomes takings
+takes_outcomes old new [] takes = refl
+takes_outcomes old new (Passed n ∷ takings) takes = takes_outcomes takes.0 new takings takes.1.1
+takes_outcomes old new (Answered message outcome parts ∷ takings) takes = ap (λ os. outcome ∷ os) (takes_outcomes takes.0 new takings takes.1.1)
+
+-- the halt of a play that is done tells none
+halt_told : (asked : Awaited) (s : Standing) (keep : ℕ) (halt : Outcome) (new : Standing) → ((answer : _) (later : List Asking) → admitted asked answer later ≡ [])
+    → IsHalted s keep halt new → IsToldBy asked halt
+halt_told asked s keep Unasked new none halted = absurd halted
+halt_told asked s keep (Entered placed) new none halted = λ askings made keeps.
+    ap (map booking_of) (none placed.entry.answer askings)
+    ∙ sym (ap (λ c. booked_by (play_admitted c placed.entry.answer) made) halted.command)
+halt_told asked s keep (WasFull entries live) new none halted = absurd halted
+halt_told asked s keep (Offered note) new none halted = absurd halted
+
+unasked_told : (asked : Awaited) (s : Standing) (halt : Outcome) (new : Standing) → IsFinished NoAnswer s halt new → IsToldBy asked halt
+unasked_told asked s Unasked new is = λ askings made keeps. refl
+unasked_told asked s (Entered placed) new is = absurd is
+unasked_told asked s (WasFull entries live) new is = absurd is
+unasked_told asked s (Offered note) new is = absurd is
+
+finished_told : (asked : Awaited) (s : Standing) (halt : Outcome) (new : Standing) → IsFinished (awaits_of asked) s halt new → IsToldBy asked halt
+finished_told Nothing s halt new is = unasked_told Nothing s halt new is
+finished_told (Play prepared) s halt new is = absurd is
+finished_told (Halt keep next) s halt new is = halt_told (Halt keep next) s keep halt new (λ answer later. refl) is
+finished_told (Look sequence) s halt new is = absurd is
+finished_told (Offer sequence) s halt new is = absurd is
+
+comes_told : (old opened : Stage) (event : Doing) (due : List Part) (halt : Outcome) → Comes old event due halt opened → IsToldBy (asked_by old.session event) halt
+comes_told old opened (HeardBytes bytes) due halt comes = subst (IsToldBy Nothing) (sym comes.1) (λ askings made keeps. refl)
+comes_told old opened (HeardSlot slot) due halt comes =
+    finished_told (slotted old.session slot).awaited (slotted old.session slot) halt opened.session comes.1.finished
+comes_told old opened HeardEnd due halt comes = absurd comes
+comes_told old opened (Sent byte) due halt comes = absurd comes
+
+course_told : (old new : Stage) (rounds : List Round) (follows : Follows old rounds new) → Stands old.session → AreTold (askings_of old rounds new follows)
+course_told old new [] follows stands = tt
+course_told old new (round ∷ rounds) follows stands =
+    let runs = follows.1.0 in
+    let mid : Stands follows.0.session =
+    stands_by old.session follows.0.session (round_askings old round follows.0 runs) (film_bytes round.due) (round_step old follows.0 round runs stands) in
+    told-append (round_askings old round follows.0 runs) (askings_of follows.0 rounds new follows.1.1) (
+      comes_told old runs.opened round.event round.due round.halt runs.comes,
+      takes_told runs.opened follows.0 round.takings runs.takes (opened_stands old follows.0 round runs stands),
+    )
+    (course_told follows.0 new rounds follows.1.1 mid)
+
+course_outcomes : (old new : Stage) (rounds : List Round) (follows : Follows old rounds new) → outcomes_in (askings_of old rounds new follows) ≡ rounds_outcomes rounds
+course_outcomes old new [] follows = refl
+course_outcomes old new (round ∷ rounds) follows =
+    let runs = follows.1.0 in
+    outcomes-append (round_askings old round follows.0 runs) (askings_of follows.0 rounds new follows.1.1)
+    ∙ ap (λ os. (round.halt ∷ os) ++ outcomes_in (askings_of follows.0 rounds new follows.1.1)) (takes_outcomes runs.opened follows.0 round.takings runs.takes)
+    ∙ ap (λ os. round_outcomes round ++ os) (course_outcomes follows.0 new rounds follows.1.1)
+
+-- the plays of a course are those that its entries tell
+pub plays_booked : (films : List Stored) (settings : Settings) (words : List ℕ) (rounds : List Round) (new : Stage)
+    (follows : Follows (first_stage films settings words) rounds new)
+    → map booking_of (plays_of (askings_of (first_stage films settings words) rounds new follows)) ≡ booked_plays (entries_in (rounds_outcomes rounds))
+plays_booked films settings words rounds new follows =
+    let first : Stage = first_stage films settings words in
+    let made : List Asking = askings_of first rounds new follows in
+    plays_told made (course_told first new rounds follows (record { rest = refl; sound = tt }))
+    ∙ ap (λ os. booked_plays (entries_in os)) (course_outcomes first new rounds follows)

@@ -1,0 +1,24 @@
+-- Courses joined and parted.
+use Rattle.std.proofs.Common.{◌++◌, List, [], ◌∷◌, refl, subst}
+use Rattle.conn.specs.Rounds.{Round, Runs, RunsAll}
+use Rattle.conn.specs.Turns.{Stage}
+use Rattle.transcript.specs.Courses.{Follows, IsParted}
+
+-- rounds after each of which all was taken up that could be
+pub follows_all : (old new : Stage) (rounds : List Round) → RunsAll old rounds new → Follows old rounds new
+follows_all old new [] runs = runs
+follows_all old new (round ∷ rounds) runs = (runs.0, (runs.1.0, follows_all runs.0 new rounds runs.1.2))
+
+-- and one more, up to a piece that ends a connection
+pub follows_last : (old mid new : Stage) (rounds : List Round) (round : Round) → RunsAll old rounds mid → Runs mid round new
+    → Follows old (rounds ++ round ∷ []) new
+follows_last old mid new [] round runs last = (new, (subst (λ s. Runs s round new) runs last, refl))
+follows_last old mid new (first ∷ rounds) round runs last =
+    (runs.0, (runs.1.0, follows_last runs.0 mid new rounds round runs.1.2 last))
+
+-- each front of a course is one
+pub parts_of : (old new : Stage) (first rest : List Round) → Follows old (first ++ rest) new → IsParted old first rest new
+parts_of old new [] rest follows = (old, (refl, follows))
+parts_of old new (round ∷ first) rest follows =
+    let parted : IsParted follows.0 first rest new = parts_of follows.0 new first rest follows.1.1 in
+    (parted.0, ((follows.0, (follows.1.0, parted.1.0)), parted.1.1))

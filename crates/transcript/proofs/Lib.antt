@@ -1,0 +1,11 @@
+pub mod Turning
+pub mod Films
+pub mod Steps
+pub mod Slots
+pub mod Filming
+pub mod Hearing
+pub mod Agreeing
+pub mod Following
+pub mod Booking
+pub mod Weaving
+pub mod Replying

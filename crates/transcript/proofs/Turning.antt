@@ -1,0 +1,311 @@
+-- What a request and its answer make of a session: what is sent of a film, and the play that begins or ends.
+use Rattle.std.proofs.Common.{◌≡◌, ℕ, ◌<◌, if◌then◌else◌, Bool, true, false, List, [], Option, refl, sym, ap, subst, ◌∙◌}
+use Rattle.film_frames.specs.Runs.{run_pieces}
+use Rattle.film_run.specs.declared.runs.Run.{Run}
+use Rattle.pacer.specs.Pacings.{IsPacing, Pacing, next_boundary, whole_pacing}
+use Rattle.plan_cert.specs.declared.Segment.{Segment}
+use Rattle.early_start.specs.Offered.{Found}
+use Rattle.admission.specs.declared.entries.Answer.{Answer}
+use Rattle.admission.specs.declared.entries.Answer.TheVariants.{Admitted, Halted, Looked, Overflow}
+use Rattle.admission.specs.declared.entries.Command.TheVariants.{Halt as HaltCommand}
+use Rattle.admission.specs.Histories.{play_admitted}
+use Rattle.admission.specs.Makers.{Placed}
+use Rattle.slot_calendar.specs.Plays.{Play as Booked}
+use Rattle.station.specs.Ledgers.{look_at, play_of}
+use Rattle.session.specs.declared.asks.Ask.{Ask}
+use Rattle.session.specs.declared.asks.Ask.TheVariants.{Reply as AskReply, Play as AskPlay, Look as AskLook, Offer as AskOffer}
+use Rattle.session.specs.declared.states.Awaited.{Awaited}
+use Rattle.session.specs.declared.states.Awaited.TheVariants.{Nothing, Play, Halt, Look}
+use Rattle.session.specs.declared.states.Next.{Next}
+use Rattle.session.specs.declared.states.Next.TheVariants.{Done, Paused, Torn}
+use Rattle.session.specs.declared.states.Play.{Play as Played}
+use Rattle.session.specs.declared.states.Prepared.{Prepared}
+use Rattle.session.specs.declared.states.Setup.{Setup}
+use Rattle.session.specs.declared.states.State.{State}
+use Rattle.session.specs.declared.states.State.TheVariants.{Init, Ready, Playing, Stopping}
+use Rattle.session.specs.Hearings.{after_halt, is_answered}
+use Rattle.session.specs.Sendings.{admitted_in, halted_in, next_of, state_after}
+use Rattle.session.specs.Standings.{Standing}
+use Rattle.session.specs.Steps.{IsPlayIn}
+use Rattle.conn.specs.Turns.{HasHeard, IsAnswered, IsHaltAnswered, IsHalted, IsLookAnswered, IsPlayAnswered, Outcome, Unasked, Entered, WasFull, Offered}
+use Rattle.transcript.specs.Plays.{Asking, admitted, begun, booked_by, kept_by, kept_with}
+use Rattle.session.proofs.Shapes.{HearsAs, Replies, SetsUp, AsksPlay, Stops, AsksLook, AsksOffer, hears_as}
+
+-- what of a film is being sent: nothing, a play, or the rest of one that was halted
+pub data Sends : Type 0 where
+  Idle : Sends
+  Going : Pacing → Sends
+  Ending : Pacing → Sends
+
+abbrev pub sends_in : State → Sends
+sends_in Init = Idle
+sends_in (Ready setup paused) = Idle
+sends_in (Playing setup play) = Going play.pacer
+sends_in (Stopping setup stop) = Ending stop.pacer
+
+-- a session that was answered: nothing is awaited, its reply waits, and the slot is the same
+pub record IsAfter (old new : Standing) : Type 0 where
+  pub heard : new.heard ≡ old.heard
+  pub awaited : new.awaited ≡ Nothing
+  pub waits : new.waits ≡ true
+
+-- the plays that an answer's entry tells
+abbrev pub told_by : Outcome → List Placed → List Booked
+told_by Unasked made = []
+told_by (Entered placed) made = booked_by (play_admitted placed.entry.command placed.entry.answer) made
+told_by (WasFull entries live) made = []
+told_by (Offered note) made = []
+
+-- neither begins nor halts a play
+pub record IsStill (asked : Awaited) (outcome : Outcome) : Type 0 where
+  pub none : (later : List Asking) → begun asked outcome later ≡ []
+  pub kept : (later : ℕ) → kept_with outcome later ≡ later
+  pub untold : (made : List Placed) → told_by outcome made ≡ []
+
+abbrev pub pacing_for : Prepared → ℕ → Pacing
+pacing_for prepared start = whole_pacing (run_pieces prepared.frames) prepared.run.sent prepared.paced start
+
+-- the play that was asked for begins
+pub record Begins (old : Standing) (asked : Awaited) (outcome : Outcome) (new : Standing) : Type 0 where
+  pub prepared : Prepared
+  pub placed : Placed
+  pub start : ℕ
+  pub idle : sends_in old.state ≡ Idle
+  pub asked_is : asked ≡ Play prepared
+  pub outcome_is : outcome ≡ Entered placed
+  pub answer : placed.entry.answer ≡ Admitted start
+  pub command : placed.entry.command ≡ play_of old.heard prepared.plan
+  pub later : old.heard < start
+  pub paced : prepared.paced ≡ prepared.plan
+  pub sends : sends_in new.state ≡ Going (pacing_for prepared start)
+  pub pacing : IsPacing (pacing_for prepared start)
+
+-- the play that is being sent is halted at the next boundary
+pub record Halts (old : Standing) (asked : Awaited) (outcome : Outcome) (new : Standing) : Type 0 where
+  pub pacing : Pacing
+  pub placed : Placed
+  pub number : ℕ
+  pub going : sends_in old.state ≡ Going pacing
+  pub outcome_is : outcome ≡ Entered placed
+  pub command : placed.entry.command ≡ HaltCommand number (next_boundary pacing)
+  pub answer : placed.entry.answer ≡ Halted
+  pub none : (later : List Asking) → begun asked outcome later ≡ []
+  pub sends : sends_in new.state ≡ Ending (record pacing { keep = next_boundary pacing })
+
+pub data TurnsAs (old : Standing) (asked : Awaited) (outcome : Outcome) (new : Standing) : Type 0 where
+  Stays : sends_in new.state ≡ sends_in old.state → IsAfter old new → IsStill asked outcome → TurnsAs old asked outcome new
+  Starts : IsAfter old new → Begins old asked outcome new → TurnsAs old asked outcome new
+  Ends : IsAfter old new → Halts old asked outcome new → TurnsAs old asked outcome new
+
+unasked_still : (asked : Awaited) → IsStill asked Unasked
+unasked_still asked = record { none = λ later. refl; kept = λ later. refl; untold = λ made. refl }
+
+-- a reply of the session's own
+reply_turns : (old : Standing) (outcome : Outcome) (asked new : Standing) → IsAnswered asked AskReply outcome new → old.awaited ≡ Nothing
+    → sends_in asked.state ≡ sends_in old.state → asked.heard ≡ old.heard → asked.awaited ≡ old.awaited → asked.waits ≡ true
+    → TurnsAs old asked.awaited outcome new
+reply_turns old Unasked asked new answered rest sends heard awaited waits =
+    subst (λ (s : Standing). TurnsAs old asked.awaited Unasked s) (sym answered)
+    (Stays sends (record { heard = heard; awaited = awaited ∙ rest; waits = waits }) (unasked_still asked.awaited))
+reply_turns old (Entered placed) asked new answered rest sends heard awaited waits = absurd answered
+reply_turns old (WasFull entries live) asked new answered rest sends heard awaited waits = absurd answered
+reply_turns old (Offered note) asked new answered rest sends heard awaited waits = absurd answered
+
+-- a play's answer
+idle_in : (state : State) (setup : Setup) (paused : Option Run) → state ≡ Ready setup paused → sends_in state ≡ Idle
+idle_in state setup paused is = ap sends_in is
+
+admitted_sends : (state : State) (setup : Setup) (paused : Option Run) (prepared : Prepared) (awaited : Awaited) (place start : ℕ)
+    → state ≡ Ready setup paused → awaited ≡ Play prepared
+    → sends_in (admitted_in state awaited place start) ≡ Going (pacing_for prepared start)
+admitted_sends state setup paused prepared awaited place start is asks =
+    ap (λ (s : State). sends_in (admitted_in s awaited place start)) is
+    ∙ ap (λ (a : Awaited). sends_in (admitted_in (Ready setup paused) a place start)) asks
+
+play_in : (state : State) (setup : Setup) (paused : Option Run) (prepared : Prepared) (awaited : Awaited) (place start : ℕ)
+    → state ≡ Ready setup paused → awaited ≡ Play prepared → IsPlayIn (admitted_in state awaited place start)
+    → IsPacing (pacing_for prepared start) × (prepared.paced ≡ prepared.plan)
+play_in state setup paused prepared awaited place start is asks plays =
+    let At : State → Awaited → Type 0 = λ s a. IsPlayIn (admitted_in s a place start) in
+    let there : At (Ready setup paused) (Play prepared) =
+    subst (At (Ready setup paused)) asks (subst (λ (s : State). At s awaited) is plays) in
+    (there.pacing, there.plan)
+
+play_turns : (old : Standing) (setup : Setup) (paused : Option Run) (prepared : Prepared) (placed : Placed) (answer : Answer) (asked new : Standing)
+    → placed.entry.answer ≡ answer → placed.entry.command ≡ play_of asked.heard prepared.plan → IsPlayAnswered asked placed answer new
+    → old.state ≡ Ready setup paused → asked.state ≡ old.state → asked.heard ≡ old.heard → asked.awaited ≡ Play prepared
+    → TurnsAs old asked.awaited (Entered placed) new
+play_turns old setup paused prepared placed (Admitted start) asked new is command answered ready state heard awaited =
+    let plays : IsPlayIn (admitted_in asked.state asked.awaited placed.place start) =
+    subst IsPlayIn (ap (λ (s : Standing). s.state) answered.1) answered.2 in
+    Starts (record {
+      heard = ap (λ (s : Standing). s.heard) answered.1 ∙ heard;
+      awaited = ap (λ (s : Standing). s.awaited) answered.1;
+      waits = ap (λ (s : Standing). s.waits) answered.1;
+    }) (record {
+      prepared = prepared;
+      placed = placed;
+      start = start;
+      idle = ap sends_in ready;
+      asked_is = awaited;
+      outcome_is = refl;
+      answer = is;
+      command = command ∙ ap (λ h. play_of h prepared.plan) heard;
+      later = subst (λ h. h < start) heard answered.0;
+      paced = (play_in asked.state setup paused prepared asked.awaited placed.place start (state ∙ ready) awaited plays).1;
+      sends = ap (λ (s : Standing). sends_in s.state) answered.1
+          ∙ admitted_sends asked.state setup paused prepared asked.awaited placed.place start (state ∙ ready) awaited;
+      pacing = (play_in asked.state setup paused prepared asked.awaited placed.place start (state ∙ ready) awaited plays).0;
+    })
+play_turns old setup paused prepared placed (Overflow slot booked asks) asked new is command answered ready state heard awaited =
+    Stays (ap (λ (s : Standing). sends_in s.state) answered ∙ ap sends_in state) (record {
+      heard = ap (λ (s : Standing). s.heard) answered ∙ heard;
+      awaited = ap (λ (s : Standing). s.awaited) answered;
+      waits = ap (λ (s : Standing). s.waits) answered;
+    }) (record {
+      none = λ later. ap (λ a. admitted a placed.entry.answer later) awaited ∙ ap (λ a. admitted (Play prepared) a later) is;
+      kept = λ later. ap (λ c. kept_by c later) command;
+      untold = λ made. ap (λ c. booked_by (play_admitted c placed.entry.answer) made) command
+          ∙ ap (λ a. booked_by (play_admitted (play_of asked.heard prepared.plan) a) made) is;
+    })
+play_turns old setup paused prepared placed Halted asked new is command answered ready state heard awaited = absurd answered
+play_turns old setup paused prepared placed (Looked now at booked) asked new is command answered ready state heard awaited = absurd answered
+
+asked_play : (old : Standing) (setup : Setup) (paused : Option Run) (prepared : Prepared) (outcome : Outcome) (asked new : Standing)
+    → IsAnswered asked (AskPlay prepared.plan) outcome new → old.state ≡ Ready setup paused → asked.state ≡ old.state → asked.heard ≡ old.heard
+    → asked.awaited ≡ Play prepared → TurnsAs old asked.awaited outcome new
+asked_play old setup paused prepared Unasked asked new answered ready state heard awaited = absurd answered
+asked_play old setup paused prepared (Entered placed) asked new answered ready state heard awaited =
+    play_turns old setup paused prepared placed placed.entry.answer asked new refl answered.0 answered.1 ready state heard awaited
+asked_play old setup paused prepared (WasFull entries live) asked new answered ready state heard awaited =
+    Stays (ap (λ (s : Standing). sends_in s.state) answered ∙ ap sends_in state) (record {
+      heard = ap (λ (s : Standing). s.heard) answered ∙ heard;
+      awaited = ap (λ (s : Standing). s.awaited) answered;
+      waits = ap (λ (s : Standing). s.waits) answered;
+    }) (record { none = λ later. refl; kept = λ later. refl; untold = λ made. refl })
+asked_play old setup paused prepared (Offered note) asked new answered ready state heard awaited = absurd answered
+
+-- a halt's answer
+stopped_sends : (setup : Setup) (play : Played) (next : Next) → is_answered next ≡ true → sends_in (state_after setup play next) ≡ Ending play.pacer
+stopped_sends setup play Done told = absurd (let no : ⊥ = cc in no)
+stopped_sends setup play (Paused run) told = refl
+stopped_sends setup play Torn told = refl
+
+told_if : (b waits : Bool) → b ≡ true → (if b then true else waits) ≡ true
+told_if true waits is = refl
+told_if false waits is = absurd (let no : ⊥ = cc in no)
+
+halt_state : (state : State) (awaited : Awaited) (setup : Setup) (play : Played) (keep : ℕ) (next : Next) → state ≡ Playing setup play
+    → awaited ≡ Halt keep next → halted_in state awaited ≡ state_after setup play next
+halt_state state awaited setup play keep next is asks =
+    ap (λ (s : State). halted_in s awaited) is ∙ ap (λ (a : Awaited). halted_in (Playing setup play) a) asks
+
+halt_turns : (old : Standing) (setup : Setup) (play : Played) (keep : ℕ) (next : Next) (placed : Placed) (asked new : Standing)
+    → IsHaltAnswered asked keep placed new → old.state ≡ Playing setup play → is_answered next ≡ true → keep ≡ next_boundary play.pacer
+    → asked.state ≡ Playing setup (record play { pacer = record play.pacer { keep = keep } }) → asked.awaited ≡ Halt keep next
+    → asked.heard ≡ old.heard → TurnsAs old asked.awaited (Entered placed) new
+halt_turns old setup play keep next placed asked new halted playing told keep_is state awaited heard =
+    let stopped : Played = record play { pacer = record play.pacer { keep = keep } } in
+    let is : new ≡ after_halt asked placed.place = halted.halts in
+    Ends (record {
+      heard = ap (λ (s : Standing). s.heard) is ∙ heard;
+      awaited = ap (λ (s : Standing). s.awaited) is;
+      waits = ap (λ (s : Standing). s.waits) is
+          ∙ told_if (is_answered (next_of asked.awaited)) asked.waits (ap (λ (a : Awaited). is_answered (next_of a)) awaited ∙ told);
+    }) (record {
+      pacing = play.pacer;
+      placed = placed;
+      number = halted.number;
+      going = ap sends_in playing;
+      outcome_is = refl;
+      command = halted.command ∙ ap (λ k. HaltCommand halted.number k) keep_is;
+      answer = halted.answer;
+      none = λ later. ap (λ a. admitted a placed.entry.answer later) awaited;
+      sends = ap (λ (s : Standing). sends_in s.state) is ∙ ap sends_in (halt_state asked.state asked.awaited setup stopped keep next state awaited)
+          ∙ stopped_sends setup stopped next told ∙ ap (λ k. Ending (record play.pacer { keep = k })) keep_is;
+    })
+
+asked_halt : (old : Standing) (setup : Setup) (play : Played) (keep : ℕ) (next : Next) (outcome : Outcome) (asked new : Standing)
+    → IsHalted asked keep outcome new → old.state ≡ Playing setup play → is_answered next ≡ true → keep ≡ next_boundary play.pacer
+    → asked.state ≡ Playing setup (record play { pacer = record play.pacer { keep = keep } }) → asked.awaited ≡ Halt keep next
+    → asked.heard ≡ old.heard → TurnsAs old asked.awaited outcome new
+asked_halt old setup play keep next Unasked asked new halted playing told keep_is state awaited heard = absurd halted
+asked_halt old setup play keep next (Entered placed) asked new halted playing told keep_is state awaited heard =
+    halt_turns old setup play keep next placed asked new halted playing told keep_is state awaited heard
+asked_halt old setup play keep next (WasFull entries live) asked new halted playing told keep_is state awaited heard = absurd halted
+asked_halt old setup play keep next (Offered note) asked new halted playing told keep_is state awaited heard = absurd halted
+
+-- a look's answer, and an offer's
+look_answered : (old : Standing) (placed : Placed) (answer : Answer) (sequence : ℕ) (asked new : Standing)
+    → placed.entry.command ≡ look_at asked.heard → IsLookAnswered asked placed answer new
+    → asked.state ≡ old.state → asked.heard ≡ old.heard → asked.awaited ≡ Look sequence → TurnsAs old asked.awaited (Entered placed) new
+look_answered old placed (Looked now at booked) sequence asked new command answered state heard awaited =
+    Stays (ap (λ (s : Standing). sends_in s.state) answered ∙ ap sends_in state) (record {
+      heard = ap (λ (s : Standing). s.heard) answered ∙ heard;
+      awaited = ap (λ (s : Standing). s.awaited) answered;
+      waits = ap (λ (s : Standing). s.waits) answered;
+    }) (record {
+      none = λ later. ap (λ a. admitted a placed.entry.answer later) awaited;
+      kept = λ later. ap (λ c. kept_by c later) command;
+      untold = λ made. ap (λ c. booked_by (play_admitted c placed.entry.answer) made) command;
+    })
+look_answered old placed (Admitted start) sequence asked new command answered state heard awaited = absurd answered
+look_answered old placed (Overflow slot booked asks) sequence asked new command answered state heard awaited = absurd answered
+look_answered old placed Halted sequence asked new command answered state heard awaited = absurd answered
+
+asked_look : (old : Standing) (slot sequence : ℕ) (outcome : Outcome) (asked new : Standing) → IsAnswered asked (AskLook slot) outcome new
+    → slot ≡ asked.heard → asked.state ≡ old.state → asked.heard ≡ old.heard → asked.awaited ≡ Look sequence
+    → TurnsAs old asked.awaited outcome new
+asked_look old slot sequence Unasked asked new answered slot_is state heard awaited = absurd answered
+asked_look old slot sequence (Entered placed) asked new answered slot_is state heard awaited =
+    look_answered old placed placed.entry.answer sequence asked new (answered.0 ∙ ap look_at slot_is) answered.1 state heard awaited
+asked_look old slot sequence (WasFull entries live) asked new answered slot_is state heard awaited =
+    Stays (ap (λ (s : Standing). sends_in s.state) answered ∙ ap sends_in state) (record {
+      heard = ap (λ (s : Standing). s.heard) answered ∙ heard;
+      awaited = ap (λ (s : Standing). s.awaited) answered;
+      waits = ap (λ (s : Standing). s.waits) answered;
+    }) (record { none = λ later. refl; kept = λ later. refl; untold = λ made. refl })
+asked_look old slot sequence (Offered note) asked new answered slot_is state heard awaited = absurd answered
+
+asked_offer : (old : Standing) (plan : List Segment) (offers : Found) (outcome : Outcome) (asked new : Standing)
+    → IsAnswered asked (AskOffer plan offers) outcome new → asked.state ≡ old.state → asked.heard ≡ old.heard
+    → TurnsAs old asked.awaited outcome new
+asked_offer old plan offers Unasked asked new answered state heard = absurd answered
+asked_offer old plan offers (Entered placed) asked new answered state heard = absurd answered
+asked_offer old plan offers (WasFull entries live) asked new answered state heard = absurd answered
+asked_offer old plan offers (Offered note) asked new answered state heard =
+    Stays (ap (λ (s : Standing). sends_in s.state) answered.2 ∙ ap sends_in state) (record {
+      heard = ap (λ (s : Standing). s.heard) answered.2 ∙ heard;
+      awaited = ap (λ (s : Standing). s.awaited) answered.2;
+      waits = ap (λ (s : Standing). s.waits) answered.2;
+    }) (record { none = λ later. refl; kept = λ later. refl; untold = λ made. refl })
+
+-- by what was asked
+answers_as : (old : Standing) (ask : Ask) (outcome : Outcome) (asked new : Standing) → old.awaited ≡ Nothing → IsAnswered asked ask outcome new
+    → HearsAs old ask asked → TurnsAs old asked.awaited outcome new
+answers_as old ask outcome asked new rest answered (Replies text tearing ask_is is) =
+    reply_turns old outcome asked new (subst (λ a. IsAnswered asked a outcome new) ask_is answered) rest (ap (λ (s : Standing). sends_in s.state) is)
+    (ap (λ (s : Standing). s.heard) is) (ap (λ (s : Standing). s.awaited) is) (ap (λ (s : Standing). s.waits) is)
+answers_as old ask outcome asked new rest answered (SetsUp text setup init ask_is is) =
+    reply_turns old outcome asked new (subst (λ a. IsAnswered asked a outcome new) ask_is answered) rest
+    (ap (λ (s : Standing). sends_in s.state) is ∙ sym (ap sends_in init)) (ap (λ (s : Standing). s.heard) is) (ap (λ (s : Standing). s.awaited) is)
+    (ap (λ (s : Standing). s.waits) is)
+answers_as old ask outcome asked new rest answered (AsksPlay setup paused prepared text ready ask_is is) =
+    asked_play old setup paused prepared outcome asked new (subst (λ a. IsAnswered asked a outcome new) ask_is answered) ready
+    (ap (λ (s : Standing). s.state) is) (ap (λ (s : Standing). s.heard) is) (ap (λ (s : Standing). s.awaited) is)
+answers_as old ask outcome asked new rest answered (Stops setup play keep next text playing told keep_is ask_is is) =
+    asked_halt old setup play keep next outcome asked new (subst (λ a. IsAnswered asked a outcome new) ask_is answered) playing told keep_is
+    (ap (λ (s : Standing). s.state) is) (ap (λ (s : Standing). s.awaited) is) (ap (λ (s : Standing). s.heard) is)
+answers_as old ask outcome asked new rest answered (AsksLook looks sequence ask_is is) =
+    asked_look old old.heard sequence outcome asked new (subst (λ a. IsAnswered asked a outcome new) ask_is answered)
+    (sym (ap (λ (s : Standing). s.heard) is)) (ap (λ (s : Standing). s.state) is) (ap (λ (s : Standing). s.heard) is)
+    (ap (λ (s : Standing). s.awaited) is)
+answers_as old ask outcome asked new rest answered (AsksOffer plan offers sequence ask_is is) =
+    asked_offer old plan offers outcome asked new (subst (λ a. IsAnswered asked a outcome new) ask_is answered)
+    (ap (λ (s : Standing). s.state) is) (ap (λ (s : Standing). s.heard) is)
+
+-- a request was heard and answered
+pub turns_as : (old : Standing) (message : List ℕ) (outcome : Outcome) (new : Standing) (heard : HasHeard old message outcome new)
+    → old.awaited ≡ Nothing → TurnsAs old heard.asking.awaited outcome new
+turns_as old message outcome new heard rest =
+    answers_as old heard.ask outcome heard.asking new rest heard.answered (hears_as old message heard.ask heard.asking heard.hears)

@@ -1,0 +1,99 @@
+-- Parts that are sent are the film's bytes with the texts among them.
+use Rattle.std.specs.Prelude.{⊤}
+use Rattle.std.proofs.Common.{◌≡◌, ℕ, ◌+◌, ◌-◌, ◌≤◌, ◌++◌, if◌then◌else◌, Bool, true, false, List, [], ◌∷◌, length, take, drop, refl, ap, sym, ◌∙◌, arith}
+use Rattle.std.proofs.lemmas.List.{append-nil, append_assoc}
+use Rattle.std.proofs.Math.Seq.{drop-append-add, take-append-add}
+use Rattle.conn.specs.Films.{round_parts, rounds_film, rounds_parts, takings_parts}
+use Rattle.conn.specs.Rounds.{Round, takings_bytes}
+use Rattle.transcript.specs.Courses.{rounds_bytes}
+use Rattle.conn.specs.Turns.{Answered, Film, Part, Passed, Stage, Taking, TakesAll, Text, film_bytes, part_bytes, parts_bytes}
+use Rattle.session.specs.Sendings.{can_reply}
+use Rattle.transcript.specs.Courses.{Follows}
+use Rattle.transcript.specs.Replies.{PlacedText, placed_texts, woven}
+
+-- the first text stands at or after a place
+abbrev IsFrom : ℕ → List PlacedText → Type 0
+IsFrom place [] = ⊤
+IsFrom place (placed ∷ texts) = place ≤ placed.place
+
+from_lower : (low place : ℕ) (texts : List PlacedText) → low ≤ place → IsFrom place texts → IsFrom low texts
+from_lower low place [] less is = tt
+from_lower low place (placed ∷ texts) less is = omega (arith, less, is)
+
+places_from : (place : ℕ) (parts : List Part) → IsFrom place (placed_texts place parts)
+places_from place [] = tt
+places_from place (Film bytes ∷ parts) =
+    from_lower place (place + length bytes) (placed_texts (place + length bytes) parts) (omega arith) (places_from (place + length bytes) parts)
+places_from place (Text text ∷ parts) = omega arith
+
+woven_front : (place : ℕ) (bytes film : List ℕ) (texts : List PlacedText) → IsFrom (place + length bytes) texts
+    → woven place (bytes ++ film) texts ≡ bytes ++ woven (place + length bytes) film texts
+woven_front place bytes film [] is = refl
+woven_front place bytes film (placed ∷ texts) is =
+    let n : ℕ = placed.place - (place + length bytes) in
+    let far : placed.place - place ≡ length bytes + n = omega (arith, is) in
+    let rest : List ℕ = placed.text ++ woven placed.place (drop n film) texts in
+    ap (λ m. take m (bytes ++ film) ++ (placed.text ++ woven placed.place (drop m (bytes ++ film)) texts)) far
+    ∙ ap (λ d. take (length bytes + n) (bytes ++ film) ++ (placed.text ++ woven placed.place d texts)) (drop-append-add bytes film n)
+    ∙ ap (λ t. t ++ rest) (take-append-add bytes film n) ∙ append_assoc bytes (take n film) rest
+
+pub parts_woven : (place : ℕ) (parts : List Part) → parts_bytes parts ≡ woven place (film_bytes parts) (placed_texts place parts)
+parts_woven place [] = refl
+parts_woven place (Film bytes ∷ parts) =
+    let at : ℕ = place + length bytes in
+    ap (λ bs. bytes ++ bs) (parts_woven at parts) ∙ sym (woven_front place bytes (film_bytes parts) (placed_texts at parts) (places_from at parts))
+parts_woven place (Text text ∷ parts) =
+    let film : List ℕ = film_bytes parts in
+    let texts : List PlacedText = placed_texts place parts in
+    let none : 0 ≡ place - place = omega arith in
+    ap (λ bs. text ++ bs) (parts_woven place parts) ∙ ap (λ n. take n film ++ (text ++ woven place (drop n film) texts)) none
+
+-- the film's bytes among all parts are those of the slots
+film_bytes-append : (xs ys : List Part) → film_bytes (xs ++ ys) ≡ film_bytes xs ++ film_bytes ys
+film_bytes-append [] ys = refl
+film_bytes-append (Film bytes ∷ xs) ys =
+    ap (λ bs. bytes ++ bs) (film_bytes-append xs ys) ∙ sym (append_assoc bytes (film_bytes xs) (film_bytes ys))
+film_bytes-append (Text text ∷ xs) ys = film_bytes-append xs ys
+
+no_film : (goes : Bool) (text : List ℕ) → film_bytes (if goes then Text text ∷ [] else []) ≡ []
+no_film true text = refl
+no_film false text = refl
+
+takings_film : (old new : Stage) (takings : List Taking) → TakesAll old takings new → film_bytes (takings_parts takings) ≡ []
+takings_film old new [] takes = refl
+takings_film old new (Passed n ∷ takings) takes = takings_film takes.0 new takings takes.1.1
+takings_film old new (Answered message outcome parts ∷ takings) takes =
+    film_bytes-append parts (takings_parts takings)
+    ∙ ap (λ bs. bs ++ film_bytes (takings_parts takings))
+    (ap film_bytes takes.1.0.parts_are ∙ no_film (can_reply takes.1.0.answered) takes.1.0.answered.text)
+    ∙ takings_film takes.0 new takings takes.1.1
+
+pub course_film : (old new : Stage) (rounds : List Round) → Follows old rounds new → film_bytes (rounds_parts rounds) ≡ rounds_film rounds
+course_film old new [] follows = refl
+course_film old new (round ∷ rounds) follows =
+    film_bytes-append (round_parts round) (rounds_parts rounds)
+    ∙ ap (λ bs. bs ++ film_bytes (rounds_parts rounds)) (film_bytes-append round.due (takings_parts round.takings))
+    ∙ ap (λ bs. (film_bytes round.due ++ bs) ++ film_bytes (rounds_parts rounds))
+    (takings_film follows.1.0.opened follows.0 round.takings follows.1.0.takes)
+    ∙ ap (λ bs. bs ++ film_bytes (rounds_parts rounds)) (append-nil (film_bytes round.due))
+    ∙ ap (λ bs. film_bytes round.due ++ bs) (course_film follows.0 new rounds follows.1.1)
+
+-- and all bytes of the parts are those of the rounds
+parts_bytes-append : (xs ys : List Part) → parts_bytes (xs ++ ys) ≡ parts_bytes xs ++ parts_bytes ys
+parts_bytes-append [] ys = refl
+parts_bytes-append (x ∷ xs) ys =
+    ap (λ bs. part_bytes x ++ bs) (parts_bytes-append xs ys) ∙ sym (append_assoc (part_bytes x) (parts_bytes xs) (parts_bytes ys))
+
+takings_sent : (takings : List Taking) → takings_bytes takings ≡ parts_bytes (takings_parts takings)
+takings_sent [] = refl
+takings_sent (Passed n ∷ takings) = takings_sent takings
+takings_sent (Answered message outcome parts ∷ takings) =
+    ap (λ bs. parts_bytes parts ++ bs) (takings_sent takings) ∙ sym (parts_bytes-append parts (takings_parts takings))
+
+pub rounds_sent : (rounds : List Round) → rounds_bytes rounds ≡ parts_bytes (rounds_parts rounds)
+rounds_sent [] = refl
+rounds_sent (round ∷ rounds) =
+    ap (λ bs. (parts_bytes round.due ++ bs) ++ rounds_bytes rounds) (takings_sent round.takings)
+    ∙ ap (λ bs. bs ++ rounds_bytes rounds) (sym (parts_bytes-append round.due (takings_parts round.takings)))
+    ∙ ap (λ bs. parts_bytes (round_parts round) ++ bs) (rounds_sent rounds)
+    ∙ sym (parts_bytes-append (round_parts round) (rounds_parts rounds))

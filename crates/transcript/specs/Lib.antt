@@ -1,0 +1,4 @@
+pub mod Plays
+pub mod Courses
+pub mod Agreement
+pub mod Replies

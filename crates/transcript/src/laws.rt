@@ -1,0 +1,73 @@
+ghost use Rattle.std.specs.Prelude.{◌≡◌, ◌++◌, ◌∷◌, [], ℕ, List, Some, map};
+ghost use mathlib.Core.List.{IsPrefix};
+ghost use Rattle.vod_base.specs.Gates.{Returned};
+ghost use Rattle.vod_base.specs.Links.{Doing};
+ghost use Rattle.film_frames.specs.declared.stores.Stored.{Stored};
+ghost use Rattle.slot_calendar.specs.declared.profiles.CapStep.{CapStep};
+ghost use Rattle.admission.specs.declared.entries.Entry.{Entry};
+ghost use Rattle.admission.specs.Histories.{IsLegal};
+ghost use Rattle.station.specs.Seats.{IsSeat, Sitting};
+ghost use Rattle.session.specs.declared.settings.Settings.{Settings};
+ghost use Rattle.conn.specs.Films.{rounds_film};
+ghost use Rattle.conn.specs.Parts.{HasServedOne};
+ghost use Rattle.conn.specs.Rounds.{Round, Runs, RunsAll, entries_in, rounds_outcomes};
+ghost use Rattle.conn.specs.Turns.{Stage};
+ghost use Rattle.conn.specs.declared.reports.ConnEnd.TheVariants.{NoMemory};
+ghost use Rattle.conn.specs.declared.reports.ConnReport.{ConnReport};
+ghost use Rattle.transcript.specs.Agreement.{Agrees};
+ghost use Rattle.transcript.specs.Courses.{Course, Follows, IsParted, course_film, course_plays};
+ghost use Rattle.transcript.specs.Courses.{greatest_slot, rounds_bytes};
+ghost use Rattle.transcript.specs.Plays.{AreOver, booked_plays, booking_of};
+ghost use Rattle.transcript.specs.Replies.{course_replies, course_texts, text_of, waiting, woven};
+
+/// The events of a connection's course follow one another, with the last one where a piece ended
+/// it, and so do those of each front of it.
+pub fn law_follows()
+    ensures all { (old new : Stage) (rounds : List Round) → RunsAll old rounds new
+        → Follows old rounds new }
+    ensures last { (old mid new : Stage) (rounds : List Round) (round : Round)
+        → RunsAll old rounds mid → Runs mid round new → Follows old (rounds ++ round ∷ []) new }
+    ensures fronts { (old new : Stage) (first rest : List Round) → Follows old (first ++ rest) new
+        → IsParted old first rest new }
+{}
+
+/// After each event the film bytes that a connection wrote from its beginning on are, of the films
+/// of its plays joined, as many as are due by the greatest slot that was heard: of each play what
+/// its plan has by then, and none past what is kept of it. Each play but the last was sent as far
+/// as it is kept.
+pub fn law_film_written()
+    ensures film { (course : Course) → rounds_film course.rounds ≡ course_film course }
+    ensures over { (course : Course) → AreOver (greatest_slot course.rounds) (course_plays course) }
+{}
+
+/// The plays of a connection's course are those that its entries in the journal tell: each begins
+/// in the slot and has the plan with which it was admitted, and keeps what the next halt keeps.
+pub fn law_plays_booked()
+    ensures { (course : Course) → map booking_of (course_plays course)
+        ≡ booked_plays (entries_in (rounds_outcomes course.rounds)) }
+{}
+
+/// All bytes that a connection sent are the film bytes that it wrote, with the replies among them:
+/// replies in the order of their requests, each once, but for the last one as long as it waits (RFC
+/// 2326 section 10.12).
+pub fn law_replies_woven()
+    ensures woven { (course : Course)
+        → rounds_bytes course.rounds ≡ woven 0 (course_film course) (course_texts course) }
+    ensures order { (course : Course)
+        → map text_of (course_texts course) ++ waiting course.last.session ≡ course_replies course }
+{}
+
+/// What a connection's link told and its report agree with the journal that its seat has seen then,
+/// and with each longer one.
+pub fn law_agrees()
+    ensures seen { (films : List Stored) (settings : Settings) (returned : Returned)
+        (told : List Doing) (report : ConnReport) (old new : Sitting)
+        → HasServedOne films settings returned report old new → returned.told ≡ Some told
+        → ¬ (report.end ≡ NoMemory) → IsSeat new
+        → Agrees films settings new.steps told report new.number new.seen }
+    ensures longer { (films : List Stored) (settings : Settings) (steps : List CapStep)
+        (told : List Doing) (report : ConnReport) (maker : ℕ) (journal longer : List Entry)
+        → Agrees films settings steps told report maker journal
+        → IsPrefix journal longer → IsLegal steps longer
+        → Agrees films settings steps told report maker longer }
+{}
