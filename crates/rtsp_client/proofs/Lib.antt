@@ -11,3 +11,4 @@ pub mod Coursing
 pub mod Cutting
 pub mod Outcomes
 pub mod Promising
+pub mod Handing

@@ -1,4 +1,5 @@
--- What a moment comes to: the watching goes on, with what is then asked for and handed on; or it gives the answer.
+-- What a moment comes to: the watching goes on, with what is then asked for and handed on; or it
+-- gives the answer.
 use Rattle.std.specs.Prelude.{◌≡◌, ◌≢◌, ℕ, ◌+◌, ◌<◌, ◌≤◌, ◌⊎◌, ◌==◌, ◌&&◌, ◌||◌, ⊤, Bool, true, false, if◌then◌else◌, nat_lt, nat_le, List, [], ◌∷◌, ◌++◌, length, take, drop, flat_map, slice_index, Option, is_some, unwrap_or, Ok, Err}
 use Rattle.interleave.specs.Heads.{is_line_end}
 use Rattle.rtsp_client.specs.declared.wishes.Wish.{Wish}
@@ -24,11 +25,13 @@ pub record IsOrderly (h : History) (message : List ℕ) (code : ℕ) : Type 0 wh
 abbrev pub has_fields : History → List ℕ → Bool
 has_fields h message =
     if replies h == 0 then is_some (session_in message)
-    else (if replies h == 1 then is_some (play_range message) && is_some (play_start message) else true)
+    else (if replies h == 1
+    then is_some (play_range message) && is_some (play_start message) else true)
 
 abbrev pub IsBadReply : History → List ℕ → Type 0
 IsBadReply h message =
-    ((code : ℕ) → ¬ IsOrderly h message code) ⊎ (IsOrderly h message 200 × (has_fields h message ≡ false))
+    ((code : ℕ) → ¬ IsOrderly h message code)
+    ⊎ (IsOrderly h message 200 × (has_fields h message ≡ false))
 
 abbrev pub IsRefused : History → List ℕ → ℕ → Type 0
 IsRefused h message code = IsOrderly h message code × (code ≢ 200)
@@ -42,7 +45,8 @@ Gives wish h (Reply message) end =
     (IsBadReply h message × (end ≡ Fault (BadReply (replies h + 1))))
     ⊎ (((code : ℕ) × (IsRefused h message code × (end ≡ Fault (Refused code))))
     ⊎ (IsGoodReply h message × (replies h ≡ 2) × (end ≡ Done (watched_in wish h))))
-Gives wish h (Frame block) end = (is_good_frame h block ≡ false) × (end ≡ Fault (BadFrame (frames h)))
+Gives wish h (Frame block) end = (is_good_frame h block ≡ false)
+    × (end ≡ Fault (BadFrame (frames h)))
 Gives wish h (Report block) end = ⊥
 Gives wish h (Slot slot cut) end = ⊥
 
@@ -53,10 +57,13 @@ GoesOn h (Frame block) = is_good_frame h block ≡ true
 GoesOn h (Report block) = ⊤
 GoesOn h (Slot slot cut) = ⊤
 
--- the request that a moment allows: PLAY after the first reply, TEARDOWN after the last frame of the last unit
+-- the request that a moment allows: PLAY after the first reply, TEARDOWN after the last frame of
+-- the last unit
 abbrev pub request_after : Wish → History → Moment → List ℕ
-request_after wish h (Reply message) = if replies h == 0 then play_text wish (unwrap_or (session_in message) []) else []
-request_after wish h (Frame block) = if is_complete (Frame block ∷ h) then teardown_text wish (session h) else []
+request_after wish h (Reply message) = if replies h == 0
+    then play_text wish (unwrap_or (session_in message) []) else []
+request_after wish h (Frame block) = if is_complete (Frame block ∷ h)
+    then teardown_text wish (session h) else []
 request_after wish h (Report block) = []
 request_after wish h (Slot slot cut) = []
 
@@ -67,7 +74,8 @@ payload_of (Frame block) = drop 20 block
 payload_of (Report block) = []
 payload_of (Slot slot cut) = []
 
--- the history after moments, the watching going on at each; the requests that they allow; what is handed on of them
+-- the history after moments, the watching going on at each; the requests that they allow; what is
+-- handed on of them
 abbrev pub after : History → List Moment → History
 after h [] = h
 after h (moment ∷ moments) = after (moment ∷ h) moments
@@ -78,7 +86,8 @@ GoOn h (moment ∷ moments) = GoesOn h moment × GoOn (moment ∷ h) moments
 
 abbrev pub requests_after : Wish → History → List Moment → List ℕ
 requests_after wish h [] = []
-requests_after wish h (moment ∷ moments) = request_after wish h moment ++ requests_after wish (moment ∷ h) moments
+requests_after wish h (moment ∷ moments) =
+    request_after wish h moment ++ requests_after wish (moment ∷ h) moments
 
 abbrev pub payloads_of : List Moment → List ℕ
 payloads_of [] = []
@@ -93,13 +102,16 @@ block_moments channel block =
 abbrev pub moments_of : List ℕ → List Moment
 moments_of piece =
     if is_line_end (slice_index piece 0) then []
-    else (if slice_index piece 0 == 36 then block_moments (slice_index piece 1) piece else Reply piece ∷ [])
+    else (if slice_index piece 0 == 36
+    then block_moments (slice_index piece 1) piece else Reply piece ∷ [])
 
 abbrev pub moments_in : List (List ℕ) → List Moment
 moments_in [] = []
 moments_in (piece ∷ pieces) = moments_of piece ++ moments_in pieces
 
--- the bytes that wait of a block on channel 0 or 1 that isn't whole; of a block whose channel didn't come yet, one
+-- the bytes that wait of a block on channel 0 or 1 that isn't whole; of a block whose channel
+-- didn't come yet, one
 abbrev pub cut_bytes : List ℕ → ℕ
 cut_bytes rest =
-    if (slice_index rest 0 == 36) && (nat_lt (length rest) 2 || nat_lt (slice_index rest 1) 2) then length rest else 0
+    if (slice_index rest 0 == 36) && (nat_lt (length rest) 2 || nat_lt (slice_index rest 1) 2)
+    then length rest else 0

@@ -23,7 +23,8 @@ pub record Stage : Type 0 where
 abbrev pub stage : History → List ℕ → Stage
 stage history rest = record { history = history; rest = rest }
 
--- an event brings these moments: those of the pieces that are whole then, or a slot's; and leaves these bytes waiting
+-- an event brings these moments: those of the pieces that are whole then, or a slot's; and leaves
+-- these bytes waiting
 abbrev pub Brings : Doing → List ℕ → List Moment → List ℕ → Type 0
 Brings (HeardBytes bytes) old moments new =
     (pieces : List (List ℕ)) × (AreCut (old ++ bytes) pieces new × (moments ≡ moments_in pieces))
@@ -45,13 +46,15 @@ pub record Runs (old : Stage) (round : Round) (new : Stage) : Type 0 where
 -- events, one after another; before the next one is asked for, all that was whole was taken up
 abbrev pub RunsAll : Stage → List Round → Stage → Type 0
 RunsAll old [] new = new ≡ old
-RunsAll old (round ∷ rounds) new = (mid : Stage) × (Runs old round mid × IsFirst mid.rest (Ok More) × RunsAll mid rounds new)
+RunsAll old (round ∷ rounds) new = (mid : Stage)
+    × (Runs old round mid × IsFirst mid.rest (Ok More) × RunsAll mid rounds new)
 
 -- what the link tells of them: each event, and directly after it the requests that it allowed
 abbrev pub rounds_doings : Wish → History → List Round → List Doing
 rounds_doings wish h [] = []
 rounds_doings wish h (round ∷ rounds) =
-    (round.event ∷ sends (requests_after wish h round.moments)) ++ rounds_doings wish (after h round.moments) rounds
+    (round.event ∷ sends (requests_after wish h round.moments))
+    ++ rounds_doings wish (after h round.moments) rounds
 
 -- the moments of events, in order
 abbrev pub moments_of_rounds : List Round → List Moment
@@ -62,10 +65,11 @@ moments_of_rounds (round ∷ rounds) = round.moments ++ moments_of_rounds rounds
 abbrev pub IsFront : List ℕ → List ℕ → Type 0
 IsFront front bytes = (n : ℕ) × ((n ≤ length bytes) × (front ≡ take n bytes))
 
--- the outside failed as a moment was taken up: its payload was handed on and a front of its request was sent; or a front of its
--- payload was handed on; or there was no memory
+-- the outside failed as a moment was taken up: its payload was handed on and a front of its request
+-- was sent; or a front of its payload was handed on; or there was no memory
 abbrev pub Fails : Wish → History → Moment → WatchEnd → List ℕ → List ℕ → Type 0
-Fails wish h moment LinkFault sent out = IsFront sent (request_after wish h moment) × (out ≡ payload_of moment)
+Fails wish h moment LinkFault sent out = IsFront sent (request_after wish h moment)
+    × (out ≡ payload_of moment)
 Fails wish h moment SinkFault sent out = (sent ≡ []) × IsFront out (payload_of moment)
 Fails wish h moment NoMemory sent out = (sent ≡ []) × IsFront out (payload_of moment)
 Fails wish h moment (Done watched) sent out = ⊥
@@ -75,12 +79,15 @@ Fails wish h moment (Fault fault) sent out = ⊥
 abbrev pub IsNext : List ℕ → Moment → Type 0
 IsNext rest moment = (n : ℕ) × (IsPieceLength rest n × (moments_of (take n rest) ≡ moment ∷ []))
 
--- nothing more is taken up: the bytes begin no piece; or the next moment gives the answer; or the outside failed as it was taken up
+-- nothing more is taken up: the bytes begin no piece; or the next moment gives the answer; or the
+-- outside failed as it was taken up
 abbrev pub Stops : Wish → Stage → WatchEnd → List ℕ → List ℕ → Type 0
 Stops wish mid end sent out =
-    ((end ≡ Fault Framing) × ((fault : DemuxFault) × IsFirst mid.rest (Err fault)) × (sent ≡ []) × (out ≡ []))
+    ((end ≡ Fault Framing) × ((fault : DemuxFault) × IsFirst mid.rest (Err fault)) × (sent ≡ [])
+    × (out ≡ []))
     ⊎ ((moment : Moment) × (IsNext mid.rest moment
-    × ((Gives wish mid.history moment end × (sent ≡ []) × (out ≡ [])) ⊎ (GoesOn mid.history moment × Fails wish mid.history moment end sent out))))
+    × ((Gives wish mid.history moment end × (sent ≡ []) × (out ≡ []))
+    ⊎ (GoesOn mid.history moment × Fails wish mid.history moment end sent out))))
 
 -- pieces of the bytes that wait were taken up, and then nothing more
 pub record StopsAt (wish : Wish) (old : Stage) (end : WatchEnd) (sent out : List ℕ) : Type 0 where
@@ -94,32 +101,44 @@ pub record StopsAt (wish : Wish) (old : Stage) (end : WatchEnd) (sent out : List
   pub sent_is : sent ≡ requests_after wish old.history (moments_in pieces) ++ more_sent
   pub out_is : out ≡ payloads_of (moments_in pieces) ++ more_out
 
--- the answer after so many events, what the link tells last, and what was handed on last: no further event was heard, since the link
--- failed or all were heard; or the server ended; or bytes came
+-- the answer after so many events, what the link tells last, and what was handed on last: no
+-- further event was heard, since the link failed or all were heard; or the server ended; or bytes
+-- came
 abbrev pub Ends : Wish → Stage → ℕ → WatchEnd → List Doing → List ℕ → Type 0
 Ends wish old count end doings out =
-    ((((end ≡ LinkFault) × (count < 2 ^ 40)) ⊎ ((end ≡ Fault TurnsSpent) × (count ≡ 2 ^ 40))) × (doings ≡ []) × (out ≡ []))
-    ⊎ (((end ≡ Fault (EndedEarly (length (sizes old.history)))) × (count < 2 ^ 40) × (doings ≡ HeardEnd ∷ []) × (out ≡ []))
-    ⊎ ((bytes : List ℕ) × ((sent : List ℕ) × (StopsAt wish (stage old.history (old.rest ++ bytes)) end sent out × (doings ≡ HeardBytes bytes ∷ sends sent) × (count < 2 ^ 40)))))
+    ((((end ≡ LinkFault) × (count < 2 ^ 40)) ⊎ ((end ≡ Fault TurnsSpent) × (count ≡ 2 ^ 40)))
+    × (doings ≡ []) × (out ≡ []))
+    ⊎ (((end ≡ Fault (EndedEarly (length (sizes old.history)))) × (count < 2 ^ 40)
+    × (doings ≡ HeardEnd ∷ []) × (out ≡ []))
+    ⊎ ((bytes : List ℕ)
+    × ((sent : List ℕ)
+    × (StopsAt wish (stage old.history (old.rest ++ bytes)) end sent out
+    × (doings ≡ HeardBytes bytes ∷ sends sent) × (count < 2 ^ 40)))))
 
 -- the whole course, from SETUP on
-pub record HasCourse (wish : Wish) (end : WatchEnd) (old_told new_told : Option (List Doing)) (old_out new_out : Option (List ℕ)) : Type 0 where
+pub record HasCourse (wish : Wish) (end : WatchEnd) (old_told new_told : Option (List Doing))
+    (old_out new_out : Option (List ℕ)) : Type 0 where
   pub rounds : List Round
   pub mid : Stage
   pub runs : RunsAll (stage [] []) rounds mid
   pub last_doings : List Doing
   pub last_out : List ℕ
   pub ends : Ends wish mid (length rounds) end last_doings last_out
-  pub told : new_told ≡ told_more old_told (sends (setup_text wish) ++ (rounds_doings wish [] rounds ++ last_doings))
+  pub told : new_told ≡
+      told_more old_told (sends (setup_text wish) ++ (rounds_doings wish [] rounds ++ last_doings))
   pub out : new_out ≡ more old_out (payloads_of (moments_of_rounds rounds) ++ last_out)
 
 -- or it didn't begin: there was no memory, or a front of SETUP was sent
-pub record HasNotBegun (wish : Wish) (end : WatchEnd) (old_told new_told : Option (List Doing)) (old_out new_out : Option (List ℕ)) : Type 0 where
+pub record HasNotBegun (wish : Wish) (end : WatchEnd) (old_told new_told : Option (List Doing))
+    (old_out new_out : Option (List ℕ)) : Type 0 where
   pub front : List ℕ
-  pub cause : ((end ≡ NoMemory) × (front ≡ [])) ⊎ ((end ≡ LinkFault) × IsFront front (setup_text wish))
+  pub cause : ((end ≡ NoMemory) × (front ≡ []))
+      ⊎ ((end ≡ LinkFault) × IsFront front (setup_text wish))
   pub told : new_told ≡ told_more old_told (sends front)
   pub out : new_out ≡ old_out
 
-abbrev pub HasWatched : Wish → WatchEnd → Option (List Doing) → Option (List Doing) → Option (List ℕ) → Option (List ℕ) → Type 0
+abbrev pub HasWatched : Wish → WatchEnd → Option (List Doing) → Option (List Doing) →
+    Option (List ℕ) → Option (List ℕ) → Type 0
 HasWatched wish end old_told new_told old_out new_out =
-    HasCourse wish end old_told new_told old_out new_out ⊎ HasNotBegun wish end old_told new_told old_out new_out
+    HasCourse wish end old_told new_told old_out new_out
+    ⊎ HasNotBegun wish end old_told new_told old_out new_out

@@ -13,7 +13,8 @@ rate_code payload = slice_index payload 7 % 16
 abbrev pub begins_film : List ℕ → Bool
 begins_film payload =
     nat_le 12 (length payload)
-    && ((slice_index payload 0 == 0) && (slice_index payload 1 == 0) && (slice_index payload 2 == 1) && (slice_index payload 3 == 179))
+    && ((slice_index payload 0 == 0) && (slice_index payload 1 == 0) && (slice_index payload 2 == 1)
+    && (slice_index payload 3 == 179))
     && nat_le 1 (rate_code payload) && nat_le (rate_code payload) 8
 
 -- the time of a picture in 1/360,000 second, by the first frame
@@ -36,18 +37,22 @@ is_complete h = nat_lt 0 (frames h) && (length (sizes h) == units h)
 abbrev pub is_first_good : History → List ℕ → Bool
 is_first_good h block =
     begins_film (drop 20 block)
-    && (let units = units_until (end_ms h) (time_in block) in nat_le 1 units && nat_le units 4194304)
+    && (let units = units_until (end_ms h) (time_in block) in nat_le 1 units
+    && nat_le units 4194304)
 
--- a later frame goes on: its sequence number is the next one, modulo 2^16, and its source the first one's
+-- a later frame goes on: its sequence number is the next one, modulo 2^16, and its source the first
+-- one's
 abbrev pub is_next_good : History → List ℕ → Bool
 is_next_good h block =
     let head = head_at (drop 4 block) in
     (head.ssrc == (head_at (drop 4 (first_frame h))).ssrc)
     && (head.sequence == ((head_at (drop 4 (latest_frame h))).sequence + 1) % 2 ^ 16)
 
--- a frame comes after the reply to PLAY and not after the last unit, its head is that of a packet of video, and it is the film's next one
+-- a frame comes after the reply to PLAY and not after the last unit, its head is that of a packet
+-- of video, and it is the film's next one
 abbrev pub is_good_frame : History → List ℕ → Bool
 is_good_frame h block =
     is_playing h
     && (not (is_complete h)
-    && (is_ok (head_of (drop 4 block)) && (if frames h == 0 then is_first_good h block else is_next_good h block)))
+    && (is_ok (head_of (drop 4 block))
+    && (if frames h == 0 then is_first_good h block else is_next_good h block)))

@@ -9,11 +9,13 @@ use Rattle.rtsp_client.specs.Films.{is_complete, time_in}
 abbrev pub use_slot : Wish → ℕ → ℕ → ℕ
 use_slot wish time unit = unit * time / wish.slot_units + wish.startup
 
--- the bytes of the units that are used before a slot of the play, among units of these sizes, of which the first has this number
+-- the bytes of the units that are used before a slot of the play, among units of these sizes, of
+-- which the first has this number
 abbrev pub used_before : Wish → ℕ → ℕ → ℕ → List ℕ → ℕ
 used_before wish time slot unit [] = 0
 used_before wish time slot unit (size ∷ sizes) =
-    (if nat_lt (use_slot wish time unit) slot then size else 0) + used_before wish time slot (unit + 1) sizes
+    (if nat_lt (use_slot wish time unit) slot then size else 0)
+    + used_before wish time slot (unit + 1) sizes
 
 -- the time of a picture of the film; 0 before its first frame
 abbrev pub time : History → ℕ
@@ -38,7 +40,8 @@ is_read h slot = is_playing h && (nat_le (first_slot h) slot && nat_lt (last_slo
 abbrev pub waiting : Wish → History → ℕ → ℕ → ℕ
 waiting wish h slot cut = (received h + cut) - played_before wish h (place_in h slot)
 
--- the first unit that isn't whole is used in this slot of the play, or was to be used before it. Units are used in their order.
+-- the first unit that isn't whole is used in this slot of the play, or was to be used before it.
+-- Units are used in their order.
 abbrev pub lacks : Wish → History → ℕ → Bool
 lacks wish h slot = not (is_complete h) && nat_le (use_slot wish (time h) (length (sizes h))) slot
 
@@ -48,7 +51,8 @@ most wish [] = 0
 most wish (Reply message ∷ h) = most wish h
 most wish (Frame block ∷ h) = most wish h
 most wish (Report block ∷ h) = most wish h
-most wish (Slot slot cut ∷ h) = if is_read h slot then max (most wish h) (waiting wish h slot cut) else most wish h
+most wish (Slot slot cut ∷ h) = if is_read h slot
+    then max (most wish h) (waiting wish h slot cut) else most wish h
 
 -- at how many readings more waited than the buffer holds
 abbrev pub over : Wish → History → ℕ
@@ -57,7 +61,8 @@ over wish (Reply message ∷ h) = over wish h
 over wish (Frame block ∷ h) = over wish h
 over wish (Report block ∷ h) = over wish h
 over wish (Slot slot cut ∷ h) =
-    if is_read h slot && nat_lt wish.buffer (waiting wish h slot cut) then over wish h + 1 else over wish h
+    if is_read h slot && nat_lt wish.buffer (waiting wish h slot cut)
+    then over wish h + 1 else over wish h
 
 -- at how many readings a unit was to be used that wasn't whole
 abbrev pub under : Wish → History → ℕ
@@ -65,7 +70,8 @@ under wish [] = 0
 under wish (Reply message ∷ h) = under wish h
 under wish (Frame block ∷ h) = under wish h
 under wish (Report block ∷ h) = under wish h
-under wish (Slot slot cut ∷ h) = if is_read h slot && lacks wish h (place_in h slot) then under wish h + 1 else under wish h
+under wish (Slot slot cut ∷ h) = if is_read h slot && lacks wish h (place_in h slot)
+    then under wish h + 1 else under wish h
 
 -- what was heard and read
 abbrev pub watched_in : Wish → History → Watched

@@ -1,11 +1,12 @@
--- What a client hears after its first request, piece by piece and slot by slot. A history is a list of moments, the latest first.
+-- What a client hears after its first request, piece by piece and slot by slot. A history is a list
+-- of moments, the latest first.
 use Rattle.std.specs.Prelude.{◌≡◌, ℕ, ◌+◌, ◌-◌, ◌*◌, ◌/◌, ◌%◌, ◌==◌, ◌&&◌, ◌||◌, Bool, true, false, not, max, nat_le, nat_lt, if◌then◌else◌, List, [], ◌∷◌, ◌++◌, length, drop, slice_index, unwrap_or}
 use Rattle.mpeg_scan.specs.Rates.{picture_time}
 use Rattle.rtp_pack.specs.Heads.{head_at}
 use Rattle.rtsp_client.specs.Replies.{play_range, play_start, session_in}
 
--- a reply; a block on channel 0, a frame; a block on channel 1, a report; a slot began, while so many bytes waited of a block on
--- channel 0 or 1 that wasn't whole
+-- a reply; a block on channel 0, a frame; a block on channel 1, a report; a slot began, while so
+-- many bytes waited of a block on channel 0 or 1 that wasn't whole
 pub data Moment : Type 0 where
   Reply : List ℕ → Moment
   Frame : List ℕ → Moment
@@ -62,19 +63,22 @@ is_inside (Frame block ∷ h) = not (is_last block)
 is_inside (Report block ∷ h) = is_inside h
 is_inside (Slot slot cut ∷ h) = is_inside h
 
--- the bytes so far of the unit that isn't whole: its frames, and the reports directly before its first one
+-- the bytes so far of the unit that isn't whole: its frames, and the reports directly before its
+-- first one
 abbrev pub pending : History → ℕ
 pending [] = 0
 pending (Reply message ∷ h) = pending h
 pending (Frame block ∷ h) = if is_last block then 0 else pending h + length block
-pending (Report block ∷ h) = if is_playing h && not (is_inside h) then pending h + length block else pending h
+pending (Report block ∷ h) = if is_playing h && not (is_inside h)
+    then pending h + length block else pending h
 pending (Slot slot cut ∷ h) = pending h
 
 -- the sizes of the whole units, in order
 abbrev pub sizes : History → List ℕ
 sizes [] = []
 sizes (Reply message ∷ h) = sizes h
-sizes (Frame block ∷ h) = if is_last block then sizes h ++ (pending h + length block) ∷ [] else sizes h
+sizes (Frame block ∷ h) = if is_last block
+    then sizes h ++ (pending h + length block) ∷ [] else sizes h
 sizes (Report block ∷ h) = sizes h
 sizes (Slot slot cut ∷ h) = sizes h
 
@@ -97,12 +101,14 @@ last_slot (Slot slot cut ∷ h) = max slot (last_slot h)
 -- the session that the first reply names
 abbrev pub session : History → List ℕ
 session [] = []
-session (Reply message ∷ h) = if replies h == 0 then unwrap_or (session_in message) [] else session h
+session (Reply message ∷ h) = if replies h == 0
+    then unwrap_or (session_in message) [] else session h
 session (Frame block ∷ h) = session h
 session (Report block ∷ h) = session h
 session (Slot slot cut ∷ h) = session h
 
--- of the reply to PLAY: in how many slots the play starts, the greatest slot that was heard before it, the film's end in milliseconds
+-- of the reply to PLAY: in how many slots the play starts, the greatest slot that was heard before
+-- it, the film's end in milliseconds
 abbrev pub start : History → ℕ
 start [] = 0
 start (Reply message ∷ h) = if replies h == 1 then unwrap_or (play_start message) 0 else start h

@@ -12,7 +12,8 @@ use Rattle.rtsp_text.specs.StatusLines.{IsStatusLine}
 abbrev pub number_in : List ℕ → List ℕ → Option ℕ
 number_in message name = option_and_then number_of (header_value message name)
 
--- a reply to the request of this number has this code: its first line is a status line, and its CSeq is the number
+-- a reply to the request of this number has this code: its first line is a status line, and its
+-- CSeq is the number
 pub record IsAnswer (message : List ℕ) (number code : ℕ) : Type 0 where
   pub reason : List ℕ
   pub line : IsStatusLine (first_line message) code reason
@@ -40,11 +41,13 @@ has_point text =
 -- the time of a text that is seconds, a point and three digits
 abbrev pub time_in : List ℕ → Option ℕ
 time_in text =
-    if has_point text then milliseconds (take (length text - 4) text) (drop (length text - 3) text) else None
+    if has_point text then milliseconds (take (length text - 4) text) (drop (length text - 3) text)
+    else None
 
 -- the end, in milliseconds, of a range from the film's beginning: `npt=0.000-` and that time
 abbrev pub range_end : List ℕ → Option ℕ
-range_end value = if starts_with nat_eq value (codes "npt=0.000-") then time_in (drop 10 value) else None
+range_end value = if starts_with nat_eq value (codes "npt=0.000-")
+    then time_in (drop 10 value) else None
 
 -- the end of the range that a reply to PLAY gives
 abbrev pub play_range : List ℕ → Option ℕ

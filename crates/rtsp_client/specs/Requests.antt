@@ -4,13 +4,15 @@ use Rattle.rtsp_client.specs.declared.wishes.Wish.{Wish}
 
 -- the film's URL
 abbrev pub film_url : Wish → List ℕ
-film_url wish = codes "rtsp://127.0.0.1:" ++ (decimal wish.port ++ (codes "/" ++ string_bytes wish.name))
+film_url wish = codes "rtsp://127.0.0.1:"
+    ++ (decimal wish.port ++ (codes "/" ++ string_bytes wish.name))
 
 -- SETUP of its video on the channels 0 and 1, with the client's buffer and start delay
 abbrev pub setup_text : Wish → List ℕ
 setup_text wish =
     (((((((codes "SETUP " ++ film_url wish) ++ codes "/video RTSP/1.0\r\nCSeq: 1\r\n")
-    ++ codes "Transport: RTP/AVP/TCP;unicast;interleaved=0-1\r\n") ++ codes "x-Buffer: ") ++ decimal wish.buffer)
+    ++ codes "Transport: RTP/AVP/TCP;unicast;interleaved=0-1\r\n") ++ codes "x-Buffer: ")
+    ++ decimal wish.buffer)
     ++ codes "\r\nx-Startup: ") ++ decimal wish.startup) ++ codes "\r\n\r\n"
 
 -- PLAY of the whole film, in a session
@@ -22,4 +24,5 @@ play_text wish session =
 -- TEARDOWN of a session
 abbrev pub teardown_text : Wish → List ℕ → List ℕ
 teardown_text wish session =
-    (((codes "TEARDOWN " ++ film_url wish) ++ codes " RTSP/1.0\r\nCSeq: 3\r\nSession: ") ++ session) ++ codes "\r\n\r\n"
+    (((codes "TEARDOWN " ++ film_url wish) ++ codes " RTSP/1.0\r\nCSeq: 3\r\nSession: ") ++ session)
+    ++ codes "\r\n\r\n"

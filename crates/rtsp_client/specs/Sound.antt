@@ -4,7 +4,8 @@ use Rattle.rtsp_client.specs.declared.frames.Source.{Source}
 use Rattle.rtsp_client.specs.declared.plays.Play.{Play}
 use Rattle.rtsp_client.specs.declared.wishes.Watched.{Watched}
 
--- the reply to PLAY came after a slot, the greatest one that was heard until then; the film's end is some number of milliseconds
+-- the reply to PLAY came after a slot, the greatest one that was heard until then; the film's end
+-- is some number of milliseconds
 abbrev pub CameAfter : Option Play → ℕ → Type 0
 CameAfter None slot = Unit {0}
 CameAfter (Some play) slot = (play.slot_before ≤ slot) × (play.end_ms < 2 ^ 100)
@@ -20,7 +21,8 @@ abbrev pub HasSource : Option Source → ℕ → Type 0
 HasSource None whole = whole ≡ 0
 HasSource (Some source) whole = IsSource source whole
 
--- the counts are at most the bytes that were received, and those of readings at most the greatest slot
+-- the counts are at most the bytes that were received, and those of readings at most the greatest
+-- slot
 pub record IsCounted (watched : Watched) (received last_slot : ℕ) : Type 0 where
   pub frames : watched.frames ≤ received
   pub reports : watched.reports ≤ received
@@ -32,7 +34,8 @@ pub record IsCounted (watched : Watched) (received last_slot : ℕ) : Type 0 whe
 abbrev pub AreEnds : List ℕ → ℕ → Type 0
 AreEnds ends taken = (k : ℕ) → k < length ends → slice_index ends k ≤ taken
 
-pub record IsSound (last_slot : ℕ) (play : Option Play) (source : Option Source) (ends : List ℕ) (received taken : ℕ) (watched : Watched) : Type 0 where
+pub record IsSound (last_slot : ℕ) (play : Option Play) (source : Option Source) (ends : List ℕ)
+    (received taken : ℕ) (watched : Watched) : Type 0 where
   pub play_is : CameAfter play last_slot
   pub source_is : HasSource source (length ends)
   pub ends_are : AreEnds ends taken

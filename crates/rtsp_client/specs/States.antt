@@ -11,8 +11,9 @@ use Rattle.rtsp_client.specs.declared.frames.Source.{Source}
 use Rattle.rtsp_client.specs.declared.plays.Play.{Play}
 use Rattle.rtsp_client.specs.Films.{begins_film, rate_code, units_until}
 
--- the greatest slot, the reply to PLAY, the frames' source, for each whole unit the sum of its size and those before it, the bytes of
--- all frames and reports, those of all units with the one that isn't whole, and what was heard and read
+-- the greatest slot, the reply to PLAY, the frames' source, for each whole unit the sum of its size
+-- and those before it, the bytes of all frames and reports, those of all units with the one that
+-- isn't whole, and what was heard and read
 pub record State : Type 0 where
   pub last_slot : ℕ
   pub play : Option Play
@@ -27,11 +28,20 @@ no_watched = record { units = 0; bytes = 0; frames = 0; reports = 0; most = 0; o
 
 -- nothing was heard
 abbrev pub new_state : State
-new_state = record { last_slot = 0; play = None; source = None; ends = []; received = 0; taken = 0; watched = no_watched }
+new_state = record {
+  last_slot = 0;
+  play = None;
+  source = None;
+  ends = [];
+  received = 0;
+  taken = 0;
+  watched = no_watched;
+}
 
 -- the reply to PLAY was heard
 abbrev pub after_play : State → ℕ → ℕ → State
-after_play s start end_ms = record s { play = Some (record { start = start; slot_before = s.last_slot; end_ms = end_ms }) }
+after_play s start end_ms =
+    record s { play = Some (record { start = start; slot_before = s.last_slot; end_ms = end_ms }) }
 
 abbrev pub is_all : Option Source → ℕ → Bool
 is_all None units = false
@@ -47,7 +57,13 @@ first_source head payload end_ms =
     let time = picture_time (rate_code payload) in
     let units = units_until end_ms time in
     if begins_film payload && (nat_le 1 units && nat_le units 4194304)
-    then Some (record { ssrc = head.ssrc; sequence = head.sequence; marker = head.marker; picture_units = time; units = units })
+    then Some (record {
+      ssrc = head.ssrc;
+      sequence = head.sequence;
+      marker = head.marker;
+      picture_units = time;
+      units = units;
+    })
     else None
 
 -- what the frames say with one more, if it is the next one
@@ -68,7 +84,8 @@ source_read source (Ok head) payload end_ms = source_after source head payload e
 abbrev pub source_played : Option Play → State → List ℕ → Option Source
 source_played None s block = None
 source_played (Some play) s block =
-    if has_all s then None else source_read s.source (head_of (drop 4 block)) (drop 20 block) play.end_ms
+    if has_all s then None
+    else source_read s.source (head_of (drop 4 block)) (drop 20 block) play.end_ms
 
 -- what the frames say with this block, if it is the next frame of the film
 abbrev pub source_with : State → List ℕ → Option Source
@@ -119,12 +136,14 @@ used_bytes ends count = if count == 0 then 0 else slice_index ends (count - 1)
 abbrev pub played_of : Wish → Option Source → List ℕ → ℕ → ℕ
 played_of wish None ends slot = 0
 played_of wish (Some source) ends slot =
-    used_bytes ends (min (div_ceil ((slot - wish.startup) * wish.slot_units) source.picture_units) (length ends))
+    used_bytes ends (min (div_ceil ((slot - wish.startup) * wish.slot_units) source.picture_units)
+    (length ends))
 
 -- a unit is used in this slot of the play, or before it, that isn't whole
 abbrev pub is_lacking : Wish → State → ℕ → Bool
 is_lacking wish s slot =
-    not (has_all s) && nat_le (s.watched.units * time_of s.source / wish.slot_units + wish.startup) slot
+    not (has_all s) && nat_le (s.watched.units * time_of s.source / wish.slot_units
+    + wish.startup) slot
 
 -- the meter was read
 abbrev pub after_reading : Wish → State → ℕ → ℕ → State
@@ -140,7 +159,8 @@ after_reading wish s place cut =
 -- the number of a slot from the play's first one on
 abbrev pub place_of : Option Play → ℕ → Option ℕ
 place_of None slot = None
-place_of (Some play) slot = if nat_le play.start (slot - play.slot_before) then Some ((slot - play.slot_before) - play.start) else None
+place_of (Some play) slot = if nat_le play.start (slot - play.slot_before)
+    then Some ((slot - play.slot_before) - play.start) else None
 
 abbrev pub reading_at : Wish → State → Option ℕ → ℕ → State
 reading_at wish s None cut = s

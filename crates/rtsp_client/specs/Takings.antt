@@ -1,4 +1,5 @@
--- What a client has done as moments, pieces and events were taken up, by what its link and its output tell.
+-- What a client has done as moments, pieces and events were taken up, by what its link and its
+-- output tell.
 use Rattle.std.specs.Prelude.{◌≡◌, ℕ, ◌<◌, ◌≤◌, ◌⊎◌, ◌++◌, ◌∷◌, [], List, length, Option, Some, None, Ok}
 use Rattle.vod_base.specs.Links.{Doing, IsFrontTold, sends, told_more}
 use Rattle.vod_base.specs.Outside.{more}
@@ -28,56 +29,75 @@ abbrev pub sight_more : Sight → List ℕ → List ℕ → Sight
 sight_more old sent out = record { told = told_more old.told (sends sent); out = more old.out out }
 
 -- moments were taken up, and the watching goes on
-pub record HasPassed (wish : Wish) (h : History) (moments : List Moment) (new : Client) (old_sight new_sight : Sight) : Type 0 where
+pub record HasPassed (wish : Wish) (h : History) (moments : List Moment) (new : Client)
+    (old_sight new_sight : Sight) : Type 0 where
   pub good : GoOn h moments
   pub keeps : Keeps wish (after h moments) new
-  pub sight_is : new_sight ≡ sight_more old_sight (requests_after wish h moments) (payloads_of moments)
+  pub sight_is : new_sight ≡
+      sight_more old_sight (requests_after wish h moments) (payloads_of moments)
 
 -- a moment gave the answer, or the outside failed as it was taken up
-pub record HasEndedAt (wish : Wish) (h : History) (moment : Moment) (end : WatchEnd) (old_sight new_sight : Sight) : Type 0 where
+pub record HasEndedAt (wish : Wish) (h : History) (moment : Moment) (end : WatchEnd)
+    (old_sight new_sight : Sight) : Type 0 where
   pub sent : List ℕ
   pub out : List ℕ
-  pub comes : (Gives wish h moment end × (sent ≡ []) × (out ≡ [])) ⊎ (GoesOn h moment × Fails wish h moment end sent out)
+  pub comes : (Gives wish h moment end × (sent ≡ []) × (out ≡ []))
+      ⊎ (GoesOn h moment × Fails wish h moment end sent out)
   pub sight_is : new_sight ≡ sight_more old_sight sent out
 
 -- pieces in front of the input were taken up
-pub record HasTaken (wish : Wish) (h : History) (rest : List ℕ) (new : Client) (old_sight new_sight : Sight) : Type 0 where
+pub record HasTaken (wish : Wish) (h : History) (rest : List ℕ) (new : Client)
+    (old_sight new_sight : Sight) : Type 0 where
   pub pieces : List (List ℕ)
   pub cut : AreCut rest pieces new.input
   pub passed : HasPassed wish h (moments_in pieces) new old_sight new_sight
 
 -- pieces in front of the input were taken up, and then nothing more
-pub record HasStopped (wish : Wish) (h : History) (rest : List ℕ) (end : WatchEnd) (old_sight new_sight : Sight) : Type 0 where
+pub record HasStopped (wish : Wish) (h : History) (rest : List ℕ) (end : WatchEnd)
+    (old_sight new_sight : Sight) : Type 0 where
   pub sent : List ℕ
   pub out : List ℕ
   pub stops : StopsAt wish (stage h rest) end sent out
   pub sight_is : new_sight ≡ sight_more old_sight sent out
 
 -- an event was taken up, of which the link told before
-pub record HasRound (wish : Wish) (h : History) (rest : List ℕ) (event : Doing) (new : Client) (old_sight new_sight : Sight) : Type 0 where
+pub record HasRound (wish : Wish) (h : History) (rest : List ℕ) (event : Doing) (new : Client)
+    (old_sight new_sight : Sight) : Type 0 where
   pub moments : List Moment
-  pub runs : Runs (stage h rest) (record { event = event; moments = moments }) (stage (after h moments) new.input)
+  pub runs : Runs (stage h rest) (record {
+    event = event;
+    moments = moments;
+  }) (stage (after h moments) new.input)
   pub keeps : Keeps wish (after h moments) new
   pub idle : IsFirst new.input (Ok More)
-  pub sight_is : new_sight ≡ sight_more old_sight (requests_after wish h moments) (payloads_of moments)
+  pub sight_is : new_sight ≡
+      sight_more old_sight (requests_after wish h moments) (payloads_of moments)
 
 -- or it gave the answer
-pub record HasEnded (wish : Wish) (h : History) (rest : List ℕ) (event : Doing) (end : WatchEnd) (old_sight new_sight : Sight) : Type 0 where
+pub record HasEnded (wish : Wish) (h : History) (rest : List ℕ) (event : Doing) (end : WatchEnd)
+    (old_sight new_sight : Sight) : Type 0 where
   pub sent : List ℕ
   pub out : List ℕ
-  pub ends : (count : ℕ) → count < 1099511627776 → Ends wish (stage h rest) count end (event ∷ sends sent) out
+  pub ends : (count : ℕ) → count < 1099511627776 →
+      Ends wish (stage h rest) count end (event ∷ sends sent) out
   pub sight_is : new_sight ≡ sight_more old_sight sent out
 
 -- so many events were taken up from the beginning on, and the watching goes on
-pub record HasRun (wish : Wish) (count : ℕ) (client : Client) (old_sight new_sight : Sight) : Type 0 where
+pub record HasRun (wish : Wish) (count : ℕ) (client : Client) (old_sight new_sight : Sight)
+    : Type 0 where
   pub rounds : List Round
   pub count_is : length rounds ≡ count
   pub history : History
   pub runs : RunsAll (stage [] []) rounds (stage history client.input)
   pub keeps : Keeps wish history client
-  pub sight_is : new_sight ≡ record { told = told_more old_sight.told (rounds_doings wish [] rounds); out = more old_sight.out (payloads_of (moments_of_rounds rounds)) }
+  pub sight_is : new_sight ≡
+      record {
+        told = told_more old_sight.told (rounds_doings wish [] rounds);
+        out = more old_sight.out (payloads_of (moments_of_rounds rounds));
+      }
 
 -- SETUP wasn't sent whole: there was no memory for it, or a front of it was sent
 abbrev pub IsUnsent : WatchEnd → Wish → Option (List Doing) → Option (List Doing) → Type 0
 IsUnsent end wish old_told new_told =
-    ((end ≡ NoMemory) × (new_told ≡ old_told)) ⊎ ((end ≡ LinkFault) × IsFrontTold old_told new_told (setup_text wish))
+    ((end ≡ NoMemory) × (new_told ≡ old_told))
+    ⊎ ((end ≡ LinkFault) × IsFrontTold old_told new_told (setup_text wish))

@@ -34,7 +34,8 @@ pub(crate) struct Client {
     watching: Watching,
 }
 
-/// How many bytes wait of a block on channel 0 or 1 that isn't whole; of a block whose channel didn't come yet, one.
+/// How many bytes wait of a block on channel 0 or 1 that isn't whole; of a block whose channel
+/// didn't come yet, one.
 fn cut_bytes(waiting: &[u8]) -> usize
     ensures cut { result ≡ cut_bytes waiting.now }
     ensures within { result ≤ list_length waiting.now }
@@ -76,7 +77,12 @@ impl Client {
     /// Sends SETUP.
     pub(crate) fn start<K: Link>(&self, wish: &Wish, link: &mut K) -> Result<(), WatchEnd>
         ensures count { K.faults link.old ≤ K.faults link.new }
-        ensures cause { IfErr result (λ end. HasCause end (K.faults link.old) (K.faults link.new) 0 0) }
+        ensures cause { IfErr result (λ end.
+            HasCause end (K.faults link.old) (K.faults link.new) 0 0) }
+        ensures sent { OnOk result (K.told link.new ≡
+            told_more (K.told link.old) (sends (setup_text wish.now))) }
+        ensures front { IfErr result (λ end.
+            IsUnsent end wish.now (K.told link.old) (K.told link.new)) }
     {
         let Ok(request) = setup_request(self.alloc, wish) else {
             return Err(WatchEnd::NoMemory);
@@ -103,6 +109,7 @@ impl Client {
         requires wish { IsWish wish.now }
         requires going { IsGoing self.old }
         requires waits { list_length self.old.input ≤ 81920 }
+        requires idle { IsFirst self.old.input (Ok More) }
         requires heard { IsWithin heard (list_length bytes.now) }
         requires short { list_length bytes.now ≤ 16384 }
         requires few { bytes_in self.old + 16384 < 2 ^ 62 }
@@ -111,7 +118,13 @@ impl Client {
         ensures waits { OnOk result (list_length self.new.input ≤ 81920) }
         ensures count { K.faults link.old ≤ K.faults link.new }
         ensures count_out { O.faults out.old ≤ O.faults out.new }
-        ensures cause { IfErr result (λ end. HasCause end (K.faults link.old) (K.faults link.new) (O.faults out.old) (O.faults out.new)) }
+        ensures cause { IfErr result (λ end.
+            HasCause end (K.faults link.old) (K.faults link.new) (O.faults out.old)
+            (O.faults out.new)) }
+        ensures on { (h : History) → Keeps wish.now h self.old → OnOk result
+            (HasRound wish.now h self.old.input (doing_of heard bytes.now) self.new (sight (K.told link.old) (O.written out.old)) (sight (K.told link.new) (O.written out.new))) }
+        ensures ended { (h : History) → Keeps wish.now h self.old → IfErr result
+            (λ end. HasEnded wish.now h self.old.input (doing_of heard bytes.now) end (sight (K.told link.old) (O.written out.old)) (sight (K.told link.new) (O.written out.new))) }
     {
         match heard {
             Heard::End => {
@@ -142,7 +155,16 @@ impl Client {
         ensures waits { OnOk result (list_length self.new.input ≤ 81920) }
         ensures count { K.faults link.old ≤ K.faults link.new }
         ensures count_out { O.faults out.old ≤ O.faults out.new }
-        ensures cause { IfErr result (λ end. HasCause end (K.faults link.old) (K.faults link.new) (O.faults out.old) (O.faults out.new)) }
+        ensures cause { IfErr result (λ end.
+            HasCause end (K.faults link.old) (K.faults link.new) (O.faults out.old)
+            (O.faults out.new)) }
+        ensures idle { OnOk result (IsFirst self.new.input (Ok More)) }
+        ensures taken { (h : History) → Keeps wish.now h self.old →
+            OnOk result (HasTaken wish.now h self.old.input self.new
+            (sight (K.told link.old) (O.written out.old))
+            (sight (K.told link.new) (O.written out.new))) }
+        ensures stopped { (h : History) → Keeps wish.now h self.old → IfErr result
+            (λ end. HasStopped wish.now h self.old.input end (sight (K.told link.old) (O.written out.old)) (sight (K.told link.new) (O.written out.new))) }
     {
         'pieces: loop {
             match self.take_next(wish, link, out) {
@@ -165,11 +187,21 @@ impl Client {
     ) -> Result<bool, WatchEnd>
         requires going { IsGoing self.old }
         ensures going { OnOk result (GoesOnFrom self.old self.new) }
-        ensures shorter { IfOk result (λ more. more ≡ true → list_length self.new.input < list_length self.old.input) }
+        ensures shorter { IfOk result (λ more. more ≡ true →
+            list_length self.new.input < list_length self.old.input) }
         ensures waits { IfOk result (λ more. more ≡ false → list_length self.new.input ≤ 81920) }
         ensures count { K.faults link.old ≤ K.faults link.new }
         ensures count_out { O.faults out.old ≤ O.faults out.new }
-        ensures cause { IfErr result (λ end. HasCause end (K.faults link.old) (K.faults link.new) (O.faults out.old) (O.faults out.new)) }
+        ensures cause { IfErr result (λ end.
+            HasCause end (K.faults link.old) (K.faults link.new) (O.faults out.old)
+            (O.faults out.new)) }
+        ensures idle { IfOk result (λ more. more ≡ false → IsFirst self.new.input (Ok More)) }
+        ensures taken { (h : History) → Keeps wish.now h self.old →
+            OnOk result (HasTaken wish.now h self.old.input self.new
+            (sight (K.told link.old) (O.written out.old))
+            (sight (K.told link.new) (O.written out.new))) }
+        ensures stopped { (h : History) → Keeps wish.now h self.old → IfErr result
+            (λ end. HasStopped wish.now h self.old.input end (sight (K.told link.old) (O.written out.old)) (sight (K.told link.new) (O.written out.new))) }
     {
         match self.input.look() {
             Err(_) => Err(WatchEnd::Fault(WatchFault::Framing)),
@@ -215,10 +247,17 @@ impl Client {
         requires block { IsFirst self.old.input (Ok (Block channel length)) }
         ensures input { self.new.input ≡ self.old.input }
         ensures replies { self.new.replies ≡ self.old.replies }
-        ensures few { OnOk result (self.new.watching.received ≤ self.old.watching.received + length) }
+        ensures few { OnOk result (self.new.watching.received ≤ self.old.watching.received
+            + length) }
         ensures count { K.faults link.old ≤ K.faults link.new }
         ensures count_out { O.faults out.old ≤ O.faults out.new }
-        ensures cause { IfErr result (λ end. HasCause end (K.faults link.old) (K.faults link.new) (O.faults out.old) (O.faults out.new)) }
+        ensures cause { IfErr result (λ end.
+            HasCause end (K.faults link.old) (K.faults link.new) (O.faults out.old)
+            (O.faults out.new)) }
+        ensures passed { (h : History) → Keeps wish.now h self.old → OnOk result
+            (HasPassed wish.now h (block_moments channel (take length self.old.input)) self.new (sight (K.told link.old) (O.written out.old)) (sight (K.told link.new) (O.written out.new))) }
+        ensures ended { (h : History) → Keeps wish.now h self.old → IfErr result
+            (λ end. (channel ≡ 0) × HasEndedAt wish.now h (Frame (take length self.old.input)) end (sight (K.told link.old) (O.written out.old)) (sight (K.told link.new) (O.written out.new))) }
     {
         match channel {
             0 => self.take_frame(wish, length, link, out),
@@ -230,7 +269,8 @@ impl Client {
         }
     }
 
-    /// Takes up the frame in front: hands its payload on, and sends TEARDOWN once all pictures are whole.
+    /// Takes up the frame in front: hands its payload on, and sends TEARDOWN once all pictures are
+    /// whole.
     fn take_frame<K: Link, O: Sink>(
         &mut self,
         wish: &Wish,
@@ -243,10 +283,17 @@ impl Client {
         requires within { length ≤ list_length self.old.input }
         ensures input { self.new.input ≡ self.old.input }
         ensures replies { self.new.replies ≡ self.old.replies }
-        ensures few { OnOk result (self.new.watching.received ≤ self.old.watching.received + length) }
+        ensures few { OnOk result (self.new.watching.received ≤ self.old.watching.received
+            + length) }
         ensures count { K.faults link.old ≤ K.faults link.new }
         ensures count_out { O.faults out.old ≤ O.faults out.new }
-        ensures cause { IfErr result (λ end. HasCause end (K.faults link.old) (K.faults link.new) (O.faults out.old) (O.faults out.new)) }
+        ensures cause { IfErr result (λ end.
+            HasCause end (K.faults link.old) (K.faults link.new) (O.faults out.old)
+            (O.faults out.new)) }
+        ensures passed { (h : History) → Keeps wish.now h self.old → OnOk result
+            (HasPassed wish.now h (Frame (take length self.old.input) ∷ []) self.new (sight (K.told link.old) (O.written out.old)) (sight (K.told link.new) (O.written out.new))) }
+        ensures ended { (h : History) → Keeps wish.now h self.old → IfErr result
+            (λ end. HasEndedAt wish.now h (Frame (take length self.old.input)) end (sight (K.told link.old) (O.written out.old)) (sight (K.told link.new) (O.written out.new))) }
     {
         let block = &self.input.waiting()[..length];
         let Some(source) = self.watching.source_with(block) else {
@@ -271,7 +318,8 @@ impl Client {
         Ok(())
     }
 
-    /// Whether a reply is awaited: to SETUP and then to PLAY, and to TEARDOWN once all pictures are whole.
+    /// Whether a reply is awaited: to SETUP and then to PLAY, and to TEARDOWN once all pictures are
+    /// whole.
     fn is_awaited(&self) -> bool
         ensures { result ≡ (nat_lt self.now.replies 2 || has_all self.now.watching) }
     {
@@ -282,7 +330,8 @@ impl Client {
     fn awaited_code(&self, message: &[u8]) -> Option<u16>
         requires going { self.now.replies ≤ 2 }
         requires whole { IsRequestLength message.now (list_length message.now) }
-        ensures { MatchOption result ((code : ℕ) → ¬ IsAwaited self.now message.now code) (IsAwaited self.now message.now) }
+        ensures { MatchOption result ((code : ℕ) →
+            ¬ IsAwaited self.now message.now code) (IsAwaited self.now message.now) }
     {
         if !self.is_awaited() {
             return None;
@@ -303,7 +352,14 @@ impl Client {
         ensures replies { OnOk result (self.new.replies ≤ 2) }
         ensures few { self.new.watching.received ≡ self.old.watching.received }
         ensures count { K.faults link.old ≤ K.faults link.new }
-        ensures cause { IfErr result (λ end. HasCause end (K.faults link.old) (K.faults link.new) 0 0) }
+        ensures cause { IfErr result (λ end.
+            HasCause end (K.faults link.old) (K.faults link.new) 0 0) }
+        ensures passed { (h : History) (out : Option (List ℕ)) → Keeps wish.now h self.old →
+            OnOk result
+            (HasPassed wish.now h (Reply (take length self.old.input) ∷ []) self.new (sight (K.told link.old) out) (sight (K.told link.new) out)) }
+        ensures ended { (h : History) (out : Option (List ℕ)) → Keeps wish.now h self.old →
+            IfErr result
+            (λ end. HasEndedAt wish.now h (Reply (take length self.old.input)) end (sight (K.told link.old) out) (sight (K.told link.new) out)) }
     {
         match self.awaited_code(&self.input.waiting()[..length]) {
             None => {
@@ -333,7 +389,14 @@ impl Client {
         ensures replies { OnOk result (self.new.replies ≤ 2) }
         ensures few { self.new.watching.received ≡ self.old.watching.received }
         ensures count { K.faults link.old ≤ K.faults link.new }
-        ensures cause { IfErr result (λ end. HasCause end (K.faults link.old) (K.faults link.new) 0 0) }
+        ensures cause { IfErr result (λ end.
+            HasCause end (K.faults link.old) (K.faults link.new) 0 0) }
+        ensures passed { (h : History) (out : Option (List ℕ)) → Keeps wish.now h self.old →
+            OnOk result
+            (HasPassed wish.now h (Reply (take length self.old.input) ∷ []) self.new (sight (K.told link.old) out) (sight (K.told link.new) out)) }
+        ensures ended { (h : History) (out : Option (List ℕ)) → Keeps wish.now h self.old →
+            IfErr result
+            (λ end. HasEndedAt wish.now h (Reply (take length self.old.input)) end (sight (K.told link.old) out) (sight (K.told link.new) out)) }
     {
         if self.replies == 0 {
             return self.take_setup(wish, length, link);
@@ -358,7 +421,14 @@ impl Client {
         ensures replies { OnOk result (self.new.replies ≡ 1) }
         ensures few { self.new.watching.received ≡ self.old.watching.received }
         ensures count { K.faults link.old ≤ K.faults link.new }
-        ensures cause { IfErr result (λ end. HasCause end (K.faults link.old) (K.faults link.new) 0 0) }
+        ensures cause { IfErr result (λ end.
+            HasCause end (K.faults link.old) (K.faults link.new) 0 0) }
+        ensures passed { (h : History) (out : Option (List ℕ)) → Keeps wish.now h self.old →
+            OnOk result
+            (HasPassed wish.now h (Reply (take length self.old.input) ∷ []) self.new (sight (K.told link.old) out) (sight (K.told link.new) out)) }
+        ensures ended { (h : History) (out : Option (List ℕ)) → Keeps wish.now h self.old →
+            IfErr result
+            (λ end. HasEndedAt wish.now h (Reply (take length self.old.input)) end (sight (K.told link.old) out) (sight (K.told link.new) out)) }
     {
         let Some(session) = session_in(&self.input.waiting()[..length]) else {
             return Err(WatchEnd::Fault(WatchFault::BadReply(1)));
@@ -378,7 +448,7 @@ impl Client {
     }
 
     /// Takes up the reply to PLAY in front.
-    fn take_play(&mut self, _wish: &Wish, length: usize) -> Result<(), WatchEnd>
+    fn take_play(&mut self, wish: &Wish, length: usize) -> Result<(), WatchEnd>
         requires second { self.old.replies ≡ 1 }
         requires message { IsFirst self.old.input (Ok (Request length)) }
         requires good { IsAwaited self.old (take length self.old.input) 200 }
@@ -386,6 +456,10 @@ impl Client {
         ensures replies { OnOk result (self.new.replies ≡ 2) }
         ensures few { self.new.watching.received ≡ self.old.watching.received }
         ensures cause { IfErr result (λ end. HasCause end 0 0 0 0) }
+        ensures passed { (h : History) (s : Sight) → Keeps wish.now h self.old → OnOk result
+            (HasPassed wish.now h (Reply (take length self.old.input) ∷ []) self.new s s) }
+        ensures ended { (h : History) (s : Sight) → Keeps wish.now h self.old → IfErr result
+            (λ end. HasEndedAt wish.now h (Reply (take length self.old.input)) end s s) }
     {
         let message = &self.input.waiting()[..length];
         let Some(end_ms) = play_range(message) else {

@@ -26,7 +26,8 @@ pub(crate) struct Source {
     pub(crate) units: u64,
 }
 
-/// Whether a sequence header is in front (ISO/IEC 11172-2, 2.4.2.3), with a picture rate code from 1 to 8.
+/// Whether a sequence header is in front (ISO/IEC 11172-2, 2.4.2.3), with a picture rate code from
+/// 1 to 8.
 fn begins_film(payload: &[u8]) -> bool
     ensures { result ≡ begins_film payload.now }
 {
@@ -36,7 +37,8 @@ fn begins_film(payload: &[u8]) -> bool
         && payload[7] % 16 <= 8
 }
 
-/// The pictures of a film that ends so many milliseconds after its beginning: the least number that lasts as long.
+/// The pictures of a film that ends so many milliseconds after its beginning: the least number that
+/// lasts as long.
 fn units_until(end_ms: u128, picture_units: u32) -> u128
     requires some { 0 < picture_units }
     requires short { end_ms < 2 ^ 100 }
@@ -75,7 +77,8 @@ impl Source {
     /// What the frames say with one more, where that is the next one.
     pub(crate) fn next(&self, head: &Head) -> Option<Source>
         ensures source { result ≡ next_source self.now head.now }
-        ensures same { IfSome result (λ source. (source.picture_units ≡ self.now.picture_units) × (source.units ≡ self.now.units)) }
+        ensures same { IfSome result (λ source. (source.picture_units ≡ self.now.picture_units)
+            × (source.units ≡ self.now.units)) }
     {
         if head.ssrc != self.ssrc || head.sequence != self.sequence.wrapping_add(1) {
             return None;

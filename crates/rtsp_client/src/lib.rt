@@ -1,9 +1,11 @@
-//! A client of RTSP 1.0 (RFC 2326) that watches a film over one connection and measures the buffer that it needs: it asks for
-//! the film, hands its bytes on as they come, and reads at each slot how much of it waits to be played.
+//! A client of RTSP 1.0 (RFC 2326) that watches a film over one connection and measures the buffer
+//! that it needs: it asks for the film, hands its bytes on as they come, and reads at each slot how
+//! much of it waits to be played.
 #![tactic(auto)]
 
 mod clients;
 mod frames;
+mod laws;
 mod plays;
 mod replies;
 mod requests;
@@ -11,6 +13,7 @@ mod viewing;
 mod watching;
 mod wishes;
 
+pub use laws::{law_film_watched, law_meter_within};
 pub use viewing::watch;
 pub use wishes::{WatchEnd, WatchFault, Watched, Wish};
 

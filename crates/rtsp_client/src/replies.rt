@@ -17,11 +17,13 @@ fn number_in(message: &[u8], name: &[u8]) -> Option<u64>
 
 /// The code of a reply to the request of this number.
 ///
-/// None where its first line isn't `RTSP/1.0`, three digits and a reason, or its CSeq isn't the number.
+/// None where its first line isn't `RTSP/1.0`, three digits and a reason, or its CSeq isn't the
+/// number.
 #[tactic(auto, using(crate::proofs::Answering::answer_is))]
 pub(crate) fn reply_code(message: &[u8], number: u64) -> Option<u16>
     requires { IsRequestLength message.now (length message.now) }
-    ensures { MatchOption result ((code : ℕ) → ¬ IsAnswer message.now number code) (IsAnswer message.now number) }
+    ensures { MatchOption result ((code : ℕ) →
+        ¬ IsAnswer message.now number code) (IsAnswer message.now number) }
 {
     let Some(reply) = read_reply(message) else {
         return None;
@@ -93,7 +95,8 @@ fn time_in(text: &[u8]) -> Option<u128>
     milliseconds(&text[..point], &text[point + 1..])
 }
 
-/// The end, in milliseconds, of a range from the film's beginning: `npt=0.000-` and seconds, a point and three digits.
+/// The end, in milliseconds, of a range from the film's beginning: `npt=0.000-` and seconds, a
+/// point and three digits.
 fn range_end(value: &[u8]) -> Option<u128>
     ensures range { result ≡ range_end value.now }
     ensures short { IfSome result (λ end_ms. end_ms < 2 ^ 100) }

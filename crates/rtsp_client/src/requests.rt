@@ -46,7 +46,8 @@ fn put_url(text: &mut Vec<u8>, wish: &Wish) -> Result<(), NoMemory>
     Ok(())
 }
 
-/// SETUP of the film's video, interleaved on the channels 0 and 1, with the client's buffer and start delay.
+/// SETUP of the film's video, interleaved on the channels 0 and 1, with the client's buffer and
+/// start delay.
 pub(crate) fn setup_request(alloc: Global, wish: &Wish) -> Result<Vec<u8>, NoMemory>
     ensures { IfOk result (λ text. text.items ≡ setup_text wish.now) }
 {

@@ -64,8 +64,8 @@ const ALL: Watched = Watched {
     under: 0,
 };
 
-/// A case: the client's buffer, what the link tells, what comes of it, how many requests are sent, and how many of the film's
-/// bytes are handed on.
+/// A case: the client's buffer, what the link tells, what comes of it, how many requests are sent,
+/// and how many of the film's bytes are handed on.
 struct Case {
     buffer: u64,
     tells: &'static [Tell],
@@ -113,7 +113,8 @@ const CASES: &[Case] = &[
         requests: 3,
         handed_on: 49,
     },
-    // late: the first picture isn't whole in the slot in which it is used; a slot that is told again isn't read again
+    // late: the first picture isn't whole in the slot in which it is used; a slot that is told
+    // again isn't read again
     Case {
         buffer: BUFFER,
         tells: &[
@@ -137,7 +138,8 @@ const CASES: &[Case] = &[
         requests: 3,
         handed_on: 49,
     },
-    // the session is sent without its parameters; blocks on other channels and line ends don't count
+    // the session is sent without its parameters; blocks on other channels and line ends don't
+    // count
     Case {
         buffer: BUFFER,
         tells: &[

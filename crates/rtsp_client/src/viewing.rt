@@ -1,8 +1,11 @@
 //! A film watched from the first request to the last reply.
 
-ghost use Rattle.std.specs.Prelude.{◌≡◌, ◌≤◌, []};
+ghost use Rattle.std.specs.Prelude.{◌≡◌, ◌≤◌, List, [], Option};
+ghost use Rattle.vod_base.specs.Links.{Doing, sends, told_more};
 ghost use Rattle.vod_base.specs.Outside.{HasRisen};
 ghost use Rattle.rtsp_client.specs.Causes.{HasCause};
+ghost use Rattle.rtsp_client.specs.Courses.{HasWatched};
+ghost use Rattle.rtsp_client.specs.Requests.{setup_text};
 ghost use Rattle.rtsp_client.specs.States.{new_state};
 ghost use Rattle.rtsp_client.specs.Wishes.{IsWish};
 ghost use Rattle.rtsp_client.specs.declared.wishes.WatchEnd.TheVariants.{LinkFault, SinkFault};
@@ -20,15 +23,18 @@ const MOST_EVENTS: u64 = 1 << 40;
 
 /// Watches a film over a link and hands its bytes on to `out`.
 ///
-/// The client asks for SETUP, PLAY and TEARDOWN (RFC 2326 section 10), each after the reply before it, and for TEARDOWN once all
-/// pictures are whole. The payload of each frame goes to `out` as the frame is whole. At each new slot from the play's first one on
-/// the meter of the client's buffer is read.
+/// The client asks for SETUP, PLAY and TEARDOWN (RFC 2326 section 10), each after the reply before
+/// it, and for TEARDOWN once all pictures are whole. The payload of each frame goes to `out` as the
+/// frame is whole. At each new slot from the play's first one on the meter of the client's buffer
+/// is read.
 pub fn watch<K: Link, O: Sink>(alloc: Global, wish: &Wish, link: &mut K, out: &mut O) -> WatchEnd
     requires wish { IsWish wish.now }
     ensures count { K.faults link.old ≤ K.faults link.new }
     ensures count_out { O.faults out.old ≤ O.faults out.new }
     ensures link { result ≡ LinkFault → HasRisen (K.faults link.old) (K.faults link.new) }
     ensures out { result ≡ SinkFault → HasRisen (O.faults out.old) (O.faults out.new) }
+    ensures watched { HasWatched wish.now result
+        (K.told link.old) (K.told link.new) (O.written out.old) (O.written out.new) }
 {
     let Ok(mut client) = Client::new(alloc) else {
         return WatchEnd::NoMemory;
@@ -50,9 +56,14 @@ fn hear_all<K: Link, O: Sink>(
     requires new { client.old.watching ≡ new_state }
     requires empty { client.old.input ≡ [] }
     requires replies { client.old.replies ≡ 0 }
+    requires session { client.old.session.items ≡ [] }
     ensures count { K.faults link.old ≤ K.faults link.new }
     ensures count_out { O.faults out.old ≤ O.faults out.new }
-    ensures cause { HasCause result (K.faults link.old) (K.faults link.new) (O.faults out.old) (O.faults out.new) }
+    ensures watched { (told : Option (List Doing)) →
+        K.told link.old ≡ told_more told (sends (setup_text wish.now)) →
+        HasWatched wish.now result told (K.told link.new) (O.written out.old) (O.written out.new) }
+    ensures cause { HasCause result (K.faults link.old) (K.faults link.new) (O.faults out.old)
+        (O.faults out.new) }
 {
     let mut into = [0; MOST_HEARD];
     'events: for _event in 0..MOST_EVENTS {

@@ -34,9 +34,19 @@ impl Model for Watching {
 
     ghost Value = { State };
 
-    ghost view = { λ w. record { last_slot = w.last_slot; play = w.play; source = w.source; ends = w.ends.items; received = w.received; taken = w.taken; watched = w.watched } };
+    ghost view = { λ w.
+        record {
+          last_slot = w.last_slot;
+          play = w.play;
+          source = w.source;
+          ends = w.ends.items;
+          received = w.received;
+          taken = w.taken;
+          watched = w.watched;
+        } };
 
-    ghost invariant = { λ w. IsSound w.last_slot w.play w.source w.ends.items w.received w.taken w.watched };
+    ghost invariant = { λ w.
+        IsSound w.last_slot w.play w.source w.ends.items w.received w.taken w.watched };
 }
 
 /// What was heard and read before anything came.
@@ -114,7 +124,8 @@ impl Watching {
         self.source_after(&head, &block[20..], play.end_ms)
     }
 
-    /// What the frames say with one more of this head and payload, where that is the next frame of the film.
+    /// What the frames say with one more of this head and payload, where that is the next frame of
+    /// the film.
     fn source_after(&self, head: &Head, payload: &[u8], end_ms: u128) -> Option<Source>
         requires open { has_all self.now ≡ false }
         requires short { end_ms < 2 ^ 100 }
@@ -156,7 +167,8 @@ impl Watching {
         }
     }
 
-    /// Counts a report of so many bytes. One before the first frame of a picture is part of the picture's size.
+    /// Counts a report of so many bytes. One before the first frame of a picture is part of the
+    /// picture's size.
     pub(crate) fn add_report(&mut self, length: u64)
         requires some { 0 < length }
         requires few { self.old.received + length < 2 ^ 63 }
@@ -200,7 +212,8 @@ impl Watching {
         !self.is_complete() && used + wish.startup <= slot
     }
 
-    /// Reads the meter in this slot of the play, while so many bytes wait of a block that isn't whole.
+    /// Reads the meter in this slot of the play, while so many bytes wait of a block that isn't
+    /// whole.
     fn read(&mut self, wish: &Wish, slot: u64, cut: u64)
         requires units { 1 ≤ wish.now.slot_units }
         requires startup { wish.now.startup ≤ 10000 }

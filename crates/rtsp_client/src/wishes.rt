@@ -45,9 +45,11 @@ pub struct Watched {
 pub enum WatchFault {
     /// A request was answered with this code.
     Refused(u16),
-    /// The reply of this number, from 1, isn't awaited, has a bad first line or another CSeq, or lacks a field.
+    /// The reply of this number, from 1, isn't awaited, has a bad first line or another CSeq, or
+    /// lacks a field.
     BadReply(u64),
-    /// The frame of this number, from 0, comes when none is to come, or isn't the next one of the film.
+    /// The frame of this number, from 0, comes when none is to come, or isn't the next one of the
+    /// film.
     BadFrame(u64),
     /// What came begins no reply and no block.
     Framing,

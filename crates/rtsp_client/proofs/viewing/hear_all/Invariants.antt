@@ -1,5 +1,8 @@
-use Rattle.std.proofs.Common.{◌≤◌, ◌*◌, ℕ, length}
+use Rattle.std.proofs.Common.{◌≤◌, ◌*◌, ℕ, length, Ok}
+use Rattle.interleave.specs.Pieces.{IsFirst}
+use Rattle.interleave.specs.declared.pieces.Step.TheVariants.{More}
 use Rattle.rtsp_client.specs.Standing.{bytes_in}
+use Rattle.rtsp_client.specs.Takings.{HasRun, sight}
 use Rattle.rtsp_client.proofs.viewing.hear_all.Given as goal
 
 abbrev pub invariant-events : goal.invariant-events
@@ -7,5 +10,8 @@ invariant-events g l =
     (l.client.replies ≤ 2)
     × (bytes_in l.client ≤ 16384 * l._event)
     × (length l.client.input ≤ 81920)
+    × IsFirst l.client.input (Ok More)
+    × HasRun l.wish l._event l.client (sight (g.K.Link.told l.initial.link) (g.O.Sink.written l.initial.out))
+    (sight (g.K.Link.told l.link) (g.O.Sink.written l.out))
     × (g.K.Link.faults l.initial.link ≤ g.K.Link.faults l.link)
     × (g.O.Sink.faults l.initial.out ≤ g.O.Sink.faults l.out)

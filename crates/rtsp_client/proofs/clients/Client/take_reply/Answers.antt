@@ -1,6 +1,31 @@
+use Rattle.std.proofs.Common.{◌≡◌, ◌+◌, ℕ, List, take, rules, refl, subst}
+use Rattle.rtsp_client.specs.declared.wishes.WatchEnd.TheVariants.{Fault}
+use Rattle.rtsp_client.specs.declared.wishes.WatchFault.TheVariants.{BadReply, Refused}
+use Rattle.rtsp_client.specs.Standing.{IsAwaited}
+use Rattle.rtsp_client.specs.Takings.{sight}
 use Rattle.rtsp_client.proofs.Cutting.{whole_request}
+use Rattle.rtsp_client.proofs.Replying.{bad-reply, refused-reply}
 use Rattle.rtsp_client.proofs.clients.Client.take_reply.Goals as goal
 
 pub awaited_code-requires-clause-whole : goal.awaited_code-requires-clause-whole
 awaited_code-requires-clause-whole g c =
     whole_request c.args.self.now.input c.waiting.result.now c.args.length c.requires.message c.waiting.ensures
+
+pub returns-in-None-clause-ended : goal.returns-in-None-clause-ended
+returns-in-None-clause-ended g c = λ h out k.
+    bad-reply c.args.wish.now h c.args.self.now (take c.args.length c.args.self.now.input) (Fault (BadReply (c.args.self.now.replies + 1)))
+    (sight (g.K.Link.told c.args.link.now) out) k
+    (subst (λ (i : List ℕ). (code : ℕ) → ¬ IsAwaited c.args.self.now (take c.args.length i) code) c.waiting.ensures c.in-None.ensures) refl
+
+pub returns-then-code-ne200-clause-ended : goal.returns-then-code-ne200-clause-ended
+returns-then-code-ne200-clause-ended g c = λ h out k.
+    refused-reply c.args.wish.now h c.args.self.now (take c.args.length c.args.self.now.input) c.in-Some.code (Fault (Refused c.in-Some.code))
+    (sight (g.K.Link.told c.args.link.now) out) k
+    (subst (λ (i : List ℕ). IsAwaited c.args.self.now (take c.args.length i) c.in-Some.code) c.waiting.ensures c.in-Some.ensures)
+    c.if-code-ne200.true refl
+
+pub returns-else-code-ne200-clause-passed : goal.returns-else-code-ne200-clause-passed
+returns-else-code-ne200-clause-passed g c = λ h out k. c.take_good.ensures.passed h out k
+
+pub returns-else-code-ne200-clause-ended : goal.returns-else-code-ne200-clause-ended
+returns-else-code-ne200-clause-ended g c = λ h out k. c.take_good.ensures.ended h out k

@@ -1,5 +1,8 @@
 use Rattle.std.proofs.Common.{◌≤◌, ℕ, length}
+use Rattle.rtsp_client.specs.Keeps.{Keeps}
+use Rattle.rtsp_client.specs.Moments.{History}
 use Rattle.rtsp_client.specs.Standing.{GoesOnFrom}
+use Rattle.rtsp_client.specs.Takings.{HasTaken, sight}
 use Rattle.rtsp_client.proofs.clients.Client.take_up.Given as goal
 
 abbrev pub invariant-pieces : goal.invariant-pieces
@@ -7,6 +10,9 @@ invariant-pieces g l =
     GoesOnFrom l.initial.self l.self
     × (g.K.Link.faults l.initial.link ≤ g.K.Link.faults l.link)
     × (g.O.Sink.faults l.initial.out ≤ g.O.Sink.faults l.out)
+    × ((h : History) → Keeps l.wish h l.initial.self → HasTaken l.wish h l.initial.self.input l.self
+    (sight (g.K.Link.told l.initial.link) (g.O.Sink.written l.initial.out))
+    (sight (g.K.Link.told l.link) (g.O.Sink.written l.out)))
 
 abbrev pub decreases-pieces : goal.decreases-pieces
 decreases-pieces g l = length l.self.input

@@ -1,0 +1,23 @@
+use Rattle.std.proofs.Common.{take, rules, ap, arith}
+use Rattle.rtsp_client.specs.declared.wishes.Watched.{Watched}
+use Rattle.rtsp_client.specs.declared.wishes.WatchEnd.TheVariants.{Done}
+use Rattle.rtsp_client.specs.Takings.{sight}
+use Rattle.rtsp_client.proofs.Replying.{watch-done}
+use Rattle.rtsp_client.proofs.clients.Client.take_good.Goals as goal
+
+pub returns-then-self-eq0-clause-passed : goal.returns-then-self-eq0-clause-passed
+returns-then-self-eq0-clause-passed g c = λ h out k. c.take_setup.ensures.passed h out k
+
+pub returns-then-self-eq0-clause-ended : goal.returns-then-self-eq0-clause-ended
+returns-then-self-eq0-clause-ended g c = λ h out k. c.take_setup.ensures.ended h out k
+
+pub returns-then-self-eq1-clause-passed : goal.returns-then-self-eq1-clause-passed
+returns-then-self-eq1-clause-passed g c = λ h out k. c.take_play.ensures.passed h (sight (g.K.Link.told c.args.link.now) out) k
+
+pub returns-then-self-eq1-clause-ended : goal.returns-then-self-eq1-clause-ended
+returns-then-self-eq1-clause-ended g c = λ h out k. c.take_play.ensures.ended h (sight (g.K.Link.told c.args.link.now) out) k
+
+pub returns-clause-ended : goal.returns-clause-ended
+returns-clause-ended g c = λ h out k.
+    watch-done c.args.wish.now h c.args.self.now (take c.args.length c.args.self.now.input) (Done c.watched.result)
+    (sight (g.K.Link.told c.args.link.now) out) k (omega arith) c.requires.good (ap (λ (w : Watched). Done w) c.watched.ensures)

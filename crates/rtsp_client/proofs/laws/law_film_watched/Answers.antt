@@ -1,0 +1,8 @@
+use Rattle.std.proofs.Common.{◌∙◌, ap}
+use Rattle.film_frames.specs.Laws.{payloads}
+use Rattle.rtsp_client.proofs.Handing.{payloads-are}
+use Rattle.rtsp_client.proofs.laws.law_film_watched.Goals as goal
+
+pub returns : goal.returns
+returns c = λ moments is first at_first last at_last.
+    payloads-are moments ∙ (ap payloads is ∙ c.law_film_comes_back.ensures first at_first last at_last)

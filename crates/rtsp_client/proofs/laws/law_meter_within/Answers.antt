@@ -1,0 +1,8 @@
+use Rattle.std.proofs.Common.{arith}
+use Rattle.rtsp_client.proofs.Promising.{quiet-always}
+use Rattle.rtsp_client.proofs.laws.law_meter_within.Goals as goal
+
+pub returns : goal.returns
+returns c = λ sizes time h timed some met.
+    let q = quiet-always c.args.wish.now sizes time h (omega (arith, c.requires.some_units)) timed some met in
+    (q.over_none, q.under_none, q.most_fits)
