@@ -7,6 +7,8 @@ list. The line is compared with the program's for several numbers, plays and cap
 status 1 where one differs, what was sent isn't what was booked, or a second run differs.
 """
 import os, subprocess, sys
+
+sys.dont_write_bytecode = True
 from days import curves, plan
 
 CLIENTS, LIMIT = 256, 1_048_576

@@ -21,6 +21,7 @@ status 1 where something differs.
 """
 import copy, os, subprocess, sys, tempfile, time
 
+sys.dont_write_bytecode = True
 HERE = os.path.dirname(os.path.abspath(__file__))
 sys.path[:0] = [HERE, HERE + "/transcript"]
 from drawing import drawn_scene

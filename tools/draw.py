@@ -80,6 +80,15 @@ class Panel:
             y = self.y(mark)
             self.parts.append(f'<path d="M{LEFT},{y}H{LEFT + WIDTH}" stroke="#ddd"/>'
                               f'<text x="{LEFT - 6}" y="{y + 4}" {FACE} text-anchor="end">{mark:,}</text>')
+        self.mark_slots(top + HEIGHT)
+
+    def mark_slots(self, below):
+        """Numbers of slots, each where its slot begins."""
+        self.parts.append(f'<text x="{LEFT - 6}" y="{below + 18}" {FACE} text-anchor="end">slot</text>')
+        for mark in range(0, self.slots + 1, scale_of(self.slots)[1]):
+            x = self.x(mark)
+            self.parts.append(f'<path d="M{x},{below}v5" stroke="#555"/>'
+                              f'<text x="{x}" y="{below + 18}" {FACE} text-anchor="middle">{mark:,}</text>')
 
     def x(self, slot):
         return round(LEFT + WIDTH * slot / self.slots, 2)

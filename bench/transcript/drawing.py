@@ -13,7 +13,8 @@ TRANSPORTS = ["RTP/AVP/TCP;unicast;interleaved=0-1"] * 5 + [
     "RTP/AVP/TCP;interleaved=200-254 ;mode=\"PLAY\"", "RTP/AVP/TCP ; interleaved=254"]
 BAD_TRANSPORTS = [
     "RTP/AVP;unicast;client_port=5000-5001", "RTP/AVP/TCP;multicast", "RTP/AVP/TCP;interleaved=7-7",
-    "RTP/AVP/TCP;interleaved=255", "RTP/AVP/TCP;mode=record", "RTP/AVP/TCP;interleaved=1-2-3",
+    "RTP/AVP/TCP;interleaved=255", "RTP/AVP/TCP;interleaved=255", "RTP/AVP/TCP;mode=record",
+    "RTP/AVP/TCP;interleaved=1-2-3",
     "RTP/AVP/TCP;interleaved=-", "RTP/AVP/TCP;interleaved=0-256", "", ","]
 ODD_RANGES = [
     "npt=-3", "npt=1e3-", "npt=0:60:00-", "smpte=0:00:05-", "npt=now", "npt=", "npt=NOW-",
@@ -29,6 +30,7 @@ SEQUENCES = [b"CSq:", b"CSeq: x", b"CSeq: 1a\r\nCSeq:", b"CSeq :", b"CSeq: 3\r\n
 ODD_LINES = [
     b" x: y", b"Content-Length: x", b"Content-Length: ", b": ", b"no colon", b"Require: funny",
     b"Proxy-Require: a b", b"Require:", b"Content-Length: 3", b"x: \x7f", b"x: \r", b"x: \t\xff"]
+FIRST_LINES = [b"CSeq: 7", b"Content-Length: 70000", b"cseq: 7 RTSP/1.0"]
 
 
 def drawn_film(rng, name):
@@ -87,8 +89,10 @@ class Drawer:
     def time(self):
         rng, film = self.rng, self.film
         whole = len(film.units) * film.time / 360_000
-        picture = rng.randrange(len(film.units)) * film.time / 360_000
-        inside = [rng.random() * whole, rng.random() * whole, picture]
+        units = [rng.randrange(len(film.units))]
+        units += [k for k, unit in enumerate(film.units) if unit.starts_group]
+        inside = [rng.random() * whole, rng.random() * whole]
+        inside += [rng.choice(units) * film.time / 360_000 for _ in range(2)]
         time = rng.choice([0, whole, whole + 1] + inside)
         clock = f"0:00:{int(time) % 60}.{int(time * 1000) % 1000:03}"
         return rng.choice([
@@ -108,7 +112,7 @@ class Drawer:
 
     def setup(self):
         rng, headers, least = self.rng, [], max(self.film.sizes)
-        transport = rng.choice(TRANSPORTS if rng.randrange(10) else BAD_TRANSPORTS)
+        transport = rng.choice(TRANSPORTS if rng.randrange(4) else BAD_TRANSPORTS)
         if rng.randrange(12):
             headers.append(("Transport", transport))
         if rng.randrange(3) == 0:
@@ -163,7 +167,7 @@ class Drawer:
         """A request that isn't as it should be."""
         rng = self.rng
         base = rng.choice([self.play, self.setup, self.get_parameter, self.pause, self.describe])()
-        kind, at, byte = rng.randrange(12), rng.randrange(len(base)), bytes([rng.randrange(256)])
+        kind, at, byte = rng.randrange(13), rng.randrange(len(base)), bytes([rng.randrange(256)])
         if kind < 3:
             return base[:at] + (b"", byte, byte)[kind] + base[at + (kind != 1):]
         if kind == 3:
@@ -180,6 +184,8 @@ class Drawer:
         if kind == 10:
             method = rng.choice(["RECORD", "ANNOUNCE", "play", "SET_PARAMETER", "REDIRECT"])
             return self.message(method, self.url(), self.session())
+        if kind == 11:
+            return rng.choice(FIRST_LINES) + b"\r\n" + base
         return rng.choice([self.message("PLAY", self.url(), []), b"\0\xff" + base])
 
     def flood(self):
@@ -191,7 +197,7 @@ class Drawer:
             return b"OPTIONS * RTSP/1.0\r\nx: " + b"y" * 17_000
         if kind == 2:
             rest = b"\r\nCSeq: 1\r\n\r\n"
-            filler = b"y" * (16_384 - 23 - len(rest) + rng.randrange(-2, 3))
+            filler = b"y" * (16_384 - 23 - len(rest) + rng.choice([-1, 0, 0, 0, 1]))
             return b"OPTIONS * RTSP/1.0\r\nx: " + filler + rest
         if kind == 3:
             length = rng.choice([65_536, 65_537, 10 ** 30])
