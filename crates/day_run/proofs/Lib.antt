@@ -10,6 +10,8 @@ pub mod Sweeps
 pub mod Timings
 pub mod LineSteps
 pub mod DayRuns
+pub mod Balances
+pub mod BalancedLines
 pub mod SourceTracks
 pub mod TraceReels
 pub mod SlotSums

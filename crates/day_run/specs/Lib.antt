@@ -7,6 +7,7 @@ pub mod Sources
 pub mod Seats
 pub mod Tracks
 pub mod Days
+pub mod DayLaws
 pub mod Clients
 pub mod Runners
 pub mod Prints

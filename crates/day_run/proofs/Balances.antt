@@ -1,0 +1,428 @@
+-- What is sent in a day's slots is what is booked there.
+use Rattle.std.proofs.Common.{◌≡◌, ◌<◌, ◌≤◌, ◌+◌, ◌-◌, ◌==◌, ◌&&◌, ◌^◌, ℕ, zero, suc, min, max, true, false, Bool, cond, nat_le, List, [], ◌∷◌, ◌++◌, All, length, map, take, drop, set, get_or, sum, replicate, Option, Some, None, arith, refl, sym, ap, subst, ◌∙◌, inl, inr}
+use Rattle.std.specs.Prelude.{sum_by}
+use Rattle.std.specs.List.{range_with_len}
+use Rattle.std.proofs.lemmas.Bool.{cases_Bool, cases_eq, cases_lt, cond-true, cond-false, eqb-true}
+use Rattle.std.proofs.lemmas.List.{append_assoc, append-nil, get_or-set_other, get_or-set_same, get_or_append_left, get_or-append_right, get_or-map, length-append, length-map, length-set, map-append, set-get_or, take-take, take_all}
+use Rattle.std.proofs.lemmas.List.Elements.{All-cons, All-head, All-push, All-tail, All-weaker}
+use Rattle.std.proofs.lemmas.List.Sums.{sum_by-append, sum_by-cons, sum_by-set, sum_by-take-le, sum_by_push}
+use Rattle.plan_cert.specs.declared.Segment.{Segment}
+use Rattle.plan_cert.specs.Slots.{plan_slots, total_bytes}
+use Rattle.slot_calendar.specs.Plays.{Play as Booked, booked_by, cut_play, sent_before, share_at, whole_play}
+use Rattle.admission.specs.declared.entries.Entry.{Entry}
+use Rattle.admission.specs.declared.entries.Answer.TheVariants.{Halted}
+use Rattle.admission.specs.declared.entries.Command.TheVariants as commands
+use Rattle.admission.specs.Histories.{state_after}
+use Rattle.admission.specs.Machine.{Held, State, admitted_play, booked_in, halted_play, held_as, plays_of, with_halted}
+use Rattle.admission.proofs.Finds.{found-new, found-other, found-push}
+use Rattle.admission.proofs.Halts.{plays-split, split}
+use Rattle.admission.proofs.Runs.{state-push}
+use Rattle.day_run.specs.Days.{Moment, at_slot, done_halt, entry_by, halt_by, halts}
+use Rattle.day_run.specs.Seats.{Idle, Playing, Pausing, Paused, Play, Rest, Seat, after_play, after_sending, booking_of, growth, is_done, pausing, sent_between, sent_by}
+use Rattle.day_run.proofs.LineSteps.{halts-sent}
+use Rattle.day_run.proofs.SlotSums.{sum-slots}
+use Rattle.day_run.proofs.Sweeps.{IsSwept, entries-more, swept-all, swept-none, swept-set}
+
+-- the bytes that a client books in a slot
+abbrev pub share_of : ℕ → Seat → ℕ
+share_of t Idle = 0
+share_of t (Playing play) = share_at t (booking_of play)
+share_of t (Pausing stop rest) = share_at t stop
+share_of t (Paused rest) = 0
+
+-- ---- plays slot by slot
+sent-rises : (segments : List Segment) (start t u : ℕ) → t ≤ u → sent_before segments start t ≤ sent_before segments start u
+sent-rises segments start t u le =
+    let xs = plan_slots segments in
+    let e : sum (take (t - start) (take (u - start) xs)) ≡ sum (take (t - start) xs) = ap sum (take-take (t - start) (u - start) xs (omega (arith, le))) in
+    let b : sum (take (t - start) (take (u - start) xs)) ≤ sum (take (u - start) xs) = sum_by-take-le (λ x. x) (take (u - start) xs) (t - start) in
+    omega (arith, e, b)
+
+-- one slot more
+pub growth-more : (heard slot : ℕ) (play : Booked) → heard ≤ slot → growth heard (slot + 1) play ≡ growth heard slot play + share_at (slot + 1) play
+growth-more heard slot play le =
+    omega (
+      arith,
+      sent-rises play.segments play.start (heard + 1) (slot + 1) (omega (arith, le)),
+      sent-rises play.segments play.start (slot + 1) (slot + 1 + 1) (omega arith),
+    )
+
+-- once all that is kept was sent nothing more is booked
+pub share-done : (t heard : ℕ) (play : Booked) → heard < t → sent_by play heard ≡ play.keep → share_at t play ≡ 0
+share-done t heard play later all =
+    omega (
+      arith,
+      all,
+      sent-rises play.segments play.start (heard + 1) t (omega (arith, later)),
+      sent-rises play.segments play.start (heard + 1) (t + 1) (omega (arith, later)),
+    )
+
+between-more : (heard slot : ℕ) (seat : Seat) → heard ≤ slot → sent_between heard (slot + 1) seat ≡ sent_between heard slot seat + share_of (slot + 1) seat
+between-more heard slot Idle le = omega arith
+between-more heard slot (Playing play) le = growth-more heard slot (booking_of play) le
+between-more heard slot (Pausing stop rest) le = growth-more heard slot stop le
+between-more heard slot (Paused rest) le = omega arith
+
+between-none : (heard : ℕ) (seat : Seat) → sent_between heard heard seat ≡ 0
+between-none heard Idle = refl
+between-none heard (Playing play) = omega arith
+between-none heard (Pausing stop rest) = omega arith
+between-none heard (Paused rest) = refl
+
+sum-between : (heard slot : ℕ) (seats : List Seat) → heard ≤ slot
+    → sum_by (sent_between heard (slot + 1)) seats ≡ sum_by (sent_between heard slot) seats + sum_by (share_of (slot + 1)) seats
+sum-between heard slot [] le = omega arith
+sum-between heard slot (seat ∷ seats) le =
+    omega (
+      arith,
+      between-more heard slot seat le,
+      sum-between heard slot seats le,
+      sum_by-cons (sent_between heard (slot + 1)) seat seats,
+      sum_by-cons (sent_between heard slot) seat seats,
+      sum_by-cons (share_of (slot + 1)) seat seats,
+    )
+
+sum-none : (heard : ℕ) (seats : List Seat) → sum_by (sent_between heard heard) seats ≡ 0
+sum-none heard [] = refl
+sum-none heard (seat ∷ seats) = omega (arith, between-none heard seat, sum-none heard seats, sum_by-cons (sent_between heard heard) seat seats)
+
+-- what is sent in the slots after one is what the clients book there
+sent-booked : (booked : ℕ → ℕ) (heard n : ℕ) (seats : List Seat) → ((t : ℕ) → heard < t → booked t ≡ sum_by (share_of t) seats)
+    → sum_by (sent_between heard (heard + n)) seats ≡ sum_by booked (range_with_len (heard + 1) n)
+sent-booked booked heard zero seats each =
+    let e : heard + 0 ≡ heard = omega arith in
+    ap (λ s. sum_by (sent_between heard s) seats) e ∙ sum-none heard seats
+sent-booked booked heard (suc n) seats each =
+    let e : heard + suc n ≡ heard + n + 1 = omega arith in
+    let f : suc n ≡ n + 1 = omega arith in
+    let g : heard + 1 + n ≡ heard + n + 1 = omega arith in
+    let s : sum_by (sent_between heard (heard + n + 1)) seats ≡ sum_by (sent_between heard (heard + n)) seats + sum_by (share_of (heard + n + 1)) seats =
+    sum-between heard (heard + n) seats (omega arith) in
+    let b : sum_by booked (range_with_len (heard + 1) (n + 1)) ≡ sum_by booked (range_with_len (heard + 1) n) + booked (heard + n + 1) =
+    sum-slots booked (heard + 1) n ∙ ap (λ k. sum_by booked (range_with_len (heard + 1) n) + booked k) g in
+    let here : booked (heard + n + 1) ≡ sum_by (share_of (heard + n + 1)) seats = each (heard + n + 1) (omega arith) in
+    let whole : sum_by (sent_between heard (heard + n + 1)) seats ≡ sum_by booked (range_with_len (heard + 1) (n + 1)) =
+    omega (arith, s, b, here, sent-booked booked heard n seats each) in
+    ap (λ k. sum_by (sent_between heard k) seats) e ∙ whole ∙ sym (ap (λ k. sum_by booked (range_with_len (heard + 1) k)) f)
+
+-- ---- the plays that the machine has open for the clients
+pub record IsHeld (entries : List Entry) (client : ℕ) (play : Play) : Type 0 where
+  pub inside : play.number < length entries
+  pub maker : (none : Entry) → (get_or entries play.number none).maker ≡ client
+  pub held : held_as play.number (state_after entries).held ≡ Some (admitted_play play.number play.start play.plan)
+
+abbrev pub AreHeldOf : List Entry → ℕ → Seat → Type 0
+AreHeldOf entries client Idle = Unit {0}
+AreHeldOf entries client (Playing play) = IsHeld entries client play
+AreHeldOf entries client (Pausing stop rest) = Unit {0}
+AreHeldOf entries client (Paused rest) = Unit {0}
+
+-- the clients book all that is booked in the slots to come
+pub record IsBalanced (entries : List Entry) (seats : List Seat) (heard : ℕ) : Type 0 where
+  pub each : (t : ℕ) → heard < t → booked_in (state_after entries) t ≡ sum_by (share_of t) seats
+  pub held : (c : ℕ) → c < length seats → AreHeldOf entries c (get_or seats c Idle)
+  pub fresh : All (λ (h : Held). h.number < length entries) (state_after entries).held
+
+pub balanced-sent : (entries : List Entry) (seats : List Seat) (heard slot : ℕ) → heard ≤ slot → IsBalanced entries seats heard
+    → sum_by (sent_between heard slot) seats ≡ sum_by (booked_in (state_after entries)) (range_with_len (heard + 1) (slot - heard))
+balanced-sent entries seats heard slot le balanced =
+    let e : heard + (slot - heard) ≡ slot = omega (arith, le) in
+    sym (ap (λ s. sum_by (sent_between heard s) seats) e) ∙ sent-booked (booked_in (state_after entries)) heard (slot - heard) seats balanced.each
+
+-- ---- one entry more
+-- a client has no play that is open
+abbrev pub IsShut : Seat → Type 0
+IsShut Idle = Unit {0}
+IsShut (Playing play) = ⊥
+IsShut (Pausing stop rest) = Unit {0}
+IsShut (Paused rest) = Unit {0}
+
+shut-held : (entries : List Entry) (c : ℕ) (seat : Seat) → IsShut seat → AreHeldOf entries c seat
+shut-held entries c Idle shut = tt
+shut-held entries c (Playing play) shut = absurd shut
+shut-held entries c (Pausing stop rest) shut = tt
+shut-held entries c (Paused rest) shut = tt
+
+maker-more : (entries : List Entry) (e : Entry) (c : ℕ) (play : Play) → IsHeld entries c play
+    → held_as play.number (state_after (entries ++ e ∷ [])).held ≡ Some (admitted_play play.number play.start play.plan) → IsHeld (entries ++ e ∷ []) c play
+maker-more entries e c play its held = record {
+  inside = omega (arith, its.inside, length-append entries (e ∷ []));
+  maker = λ none. ap (λ (x : Entry). x.maker) (get_or_append_left entries (e ∷ []) none play.number its.inside) ∙ its.maker none;
+  held = held;
+}
+
+sum-split : (t : ℕ) (before after : List Held) (h : Held)
+    → sum_by (share_at t) (map (λ (x : Held). x.play) (before ++ h ∷ after))
+    ≡ sum_by (share_at t) (map (λ (x : Held). x.play) before) + (share_at t h.play + sum_by (share_at t) (map (λ (x : Held). x.play) after))
+sum-split t before after h =
+    ap (sum_by (share_at t)) (plays-split before after h)
+    ∙ sum_by-append (share_at t) (map (λ (x : Held). x.play) before) (h.play ∷ map (λ (x : Held). x.play) after)
+    ∙ ap (λ k. sum_by (share_at t) (map (λ (x : Held). x.play) before) + k) (sum_by-cons (share_at t) h.play (map (λ (x : Held). x.play) after))
+
+-- what is booked once a play was halted
+booked-halted : (entries : List Entry) (c number keep start t : ℕ) (plan : List Segment)
+    → held_as number (state_after entries).held ≡ Some (admitted_play number start plan)
+    → booked_in (state_after (entries ++ halt_by c number keep)) t + share_at t (whole_play start plan)
+    ≡ booked_in (state_after entries) t + share_at t (cut_play start plan keep)
+booked-halted entries c number keep start t plan is =
+    let held = (state_after entries).held in
+    let parts = split number held (admitted_play number start plan) is in
+    let F : List Held → ℕ = λ hs. sum_by (share_at t) (map (λ (x : Held). x.play) hs) in
+    let s : F (state_after (entries ++ halt_by c number keep)).held ≡ F (with_halted number keep held) =
+    ap (λ (x : State). F x.held) (state-push entries (entry_by c (commands.Halt number keep) Halted)) in
+    let new : F (with_halted number keep held) ≡ F parts.before + (share_at t (cut_play start plan keep) + F parts.after) =
+    ap F (parts.becomes keep) ∙ sum-split t parts.before parts.after (halted_play keep (admitted_play number start plan)) in
+    let old : F held ≡ F parts.before + (share_at t (whole_play start plan) + F parts.after) =
+    ap F parts.was ∙ sum-split t parts.before parts.after (admitted_play number start plan) in
+    omega (arith, s, new, old)
+
+other-halted : (entries : List Entry) (c d number keep : ℕ) (play : Play) → number < length entries → ((none : Entry) → (get_or entries number none).maker ≡ c)
+    → (d ≡ c → ⊥) → IsHeld entries d play → IsHeld (entries ++ halt_by c number keep) d play
+other-halted entries c d number keep play inside maker other its =
+    let e = entry_by c (commands.Halt number keep) Halted in
+    let apart : number ≡ play.number → ⊥ = λ same. other (sym (its.maker e) ∙ ap (λ k. (get_or entries k e).maker) (sym same) ∙ maker e) in
+    maker-more entries e d play its
+    (ap (λ (x : State). held_as play.number x.held) (state-push entries e) ∙ found-other play.number number keep (state_after entries).held apart ∙ its.held)
+
+others-halted : (entries : List Entry) (c d number keep : ℕ) (seat : Seat) → number < length entries → ((none : Entry) → (get_or entries number none).maker ≡ c)
+    → (d ≡ c → ⊥) → AreHeldOf entries d seat → AreHeldOf (entries ++ halt_by c number keep) d seat
+others-halted entries c d number keep Idle inside maker other its = tt
+others-halted entries c d number keep (Playing play) inside maker other its = other-halted entries c d number keep play inside maker other its
+others-halted entries c d number keep (Pausing stop rest) inside maker other its = tt
+others-halted entries c d number keep (Paused rest) inside maker other its = tt
+
+fresh-halted : (number keep n : ℕ) (held : List Held) → All (λ (h : Held). h.number < n) held → All (λ (h : Held). h.number < n) (with_halted number keep held)
+fresh-halted number keep n [] all = all
+fresh-halted number keep n (x ∷ held) all =
+    let P : Held → Type 0 = λ h. h.number < n in
+    let A : List Held → Type 0 = λ l. All P l in
+    elim (cases_Bool (x.number == number)) [
+      | inl found ↦
+          subst A (sym (cond-true (x.number == number) (halted_play keep x ∷ held) (x ∷ with_halted number keep held) found))
+          (All-cons P (halted_play keep x) held (All-head P x held all) (All-tail P x held all))
+      | inr other ↦
+          subst A (sym (cond-false (x.number == number) (halted_play keep x ∷ held) (x ∷ with_halted number keep held) other))
+          (All-cons P x (with_halted number keep held) (All-head P x held all) (fresh-halted number keep n held (All-tail P x held all)))
+    ]
+
+fresh-more : (n m : ℕ) (held : List Held) → n ≤ m → All (λ (h : Held). h.number < n) held → All (λ (h : Held). h.number < m) held
+fresh-more n m held le all =
+    All-weaker (λ (h : Held). h.number < n) (λ (h : Held). h.number < m) (λ h less. omega (arith, less, le)) held all
+
+-- a client's play was halted, and the client books what is kept of it
+pub balanced-halt : (entries : List Entry) (seats : List Seat) (heard c keep : ℕ) (play : Play) (next : Seat) → c < length seats
+    → get_or seats c Idle ≡ Playing play → IsShut next → ((t : ℕ) → heard < t → share_of t next ≡ share_at t (cut_play play.start play.plan keep))
+    → IsBalanced entries seats heard → IsBalanced (entries ++ halt_by c play.number keep) (set seats c next) heard
+balanced-halt entries seats heard c keep play next inside at shut shares balanced =
+    let e = entry_by c (commands.Halt play.number keep) Halted in
+    let H : Seat → Type 0 = λ s. AreHeldOf entries c s in
+    let its : IsHeld entries c play = subst H at (balanced.held c inside) in
+    record {
+      each = λ t later.
+          let b = booked-halted entries c play.number keep play.start t play.plan its.held in
+          let s = sum_by-set (share_of t) seats c next Idle inside in
+          let was : share_of t (get_or seats c Idle) ≡ share_at t (whole_play play.start play.plan) = ap (share_of t) at in
+          omega (arith, b, s, was, shares t later, balanced.each t later);
+      held = λ d within. elim (cases_eq d c) [
+        | inl same ↦
+            let B : ℕ → Type 0 = λ n. AreHeldOf (entries ++ halt_by c play.number keep) n (get_or (set seats c next) n Idle) in
+            let C : Seat → Type 0 = λ x. AreHeldOf (entries ++ halt_by c play.number keep) c x in
+            subst B (sym same) (subst C (sym (get_or-set_same seats c next Idle inside)) (shut-held (entries ++ halt_by c play.number keep) c next shut))
+        | inr other ↦
+            let C : Seat → Type 0 = λ x. AreHeldOf (entries ++ halt_by c play.number keep) d x in
+            subst C (sym (get_or-set_other seats c d next Idle other))
+            (others-halted entries c d play.number keep (get_or seats d Idle) its.inside its.maker other (balanced.held d (omega (arith, within, length-set seats c next))))
+      ];
+      fresh =
+          let A : State → Type 0 = λ s. All (λ (h : Held). h.number < length (entries ++ halt_by c play.number keep)) s.held in
+          subst A (sym (state-push entries e))
+          (fresh-more (length entries) (length (entries ++ halt_by c play.number keep)) (with_halted play.number keep (state_after entries).held)
+          (omega (arith, length-append entries (e ∷ []))) (fresh-halted play.number keep (length entries) (state_after entries).held balanced.fresh));
+    }
+
+-- an entry that leaves the plays of the machine as they are
+same-held : (entries : List Entry) (e : Entry) (c : ℕ) (seat : Seat) → (state_after (entries ++ e ∷ [])).held ≡ (state_after entries).held
+    → AreHeldOf entries c seat → AreHeldOf (entries ++ e ∷ []) c seat
+same-held entries e c Idle same its = tt
+same-held entries e c (Playing play) same its = maker-more entries e c play its (ap (held_as play.number) same ∙ its.held)
+same-held entries e c (Pausing stop rest) same its = tt
+same-held entries e c (Paused rest) same its = tt
+
+pub balanced-same : (entries : List Entry) (seats : List Seat) (heard : ℕ) (e : Entry) → (state_after (entries ++ e ∷ [])).held ≡ (state_after entries).held
+    → IsBalanced entries seats heard → IsBalanced (entries ++ e ∷ []) seats heard
+balanced-same entries seats heard e same balanced = record {
+  each = λ t later. ap (λ hs. sum_by (share_at t) (map (λ (x : Held). x.play) hs)) same ∙ balanced.each t later;
+  held = λ c inside. same-held entries e c (get_or seats c Idle) same (balanced.held c inside);
+  fresh =
+      let A : List Held → Type 0 = λ l. All (λ (h : Held). h.number < length (entries ++ e ∷ [])) l in
+      subst A (sym same)
+      (fresh-more (length entries) (length (entries ++ e ∷ [])) (state_after entries).held (omega (arith, length-append entries (e ∷ []))) balanced.fresh);
+}
+
+push-held : (entries : List Entry) (e : Entry) (c : ℕ) (seat : Seat) (new : Held) → (state_after (entries ++ e ∷ [])).held ≡ (state_after entries).held ++ new ∷ []
+    → AreHeldOf entries c seat → AreHeldOf (entries ++ e ∷ []) c seat
+push-held entries e c Idle new is its = tt
+push-held entries e c (Playing play) new is its =
+    maker-more entries e c play its
+    (ap (held_as play.number) is ∙ found-push play.number (state_after entries).held (admitted_play play.number play.start play.plan) new its.held)
+push-held entries e c (Pausing stop rest) new is its = tt
+push-held entries e c (Paused rest) new is its = tt
+
+-- a client's play was admitted, which booked nothing before
+pub balanced-play : (entries : List Entry) (seats : List Seat) (heard c : ℕ) (play : Play) (e : Entry) → c < length seats → play.number ≡ length entries → e.maker ≡ c
+    → (state_after (entries ++ e ∷ [])).held ≡ (state_after entries).held ++ admitted_play play.number play.start play.plan ∷ []
+    → ((t : ℕ) → share_of t (get_or seats c Idle) ≡ 0) → IsBalanced entries seats heard → IsBalanced (entries ++ e ∷ []) (set seats c (Playing play)) heard
+balanced-play entries seats heard c play e inside number maker is free balanced =
+    let new = admitted_play play.number play.start play.plan in
+    let held = (state_after entries).held in
+    let n : length (entries ++ e ∷ []) ≡ length entries + 1 = omega (arith, length-append entries (e ∷ [])) in
+    let own : IsHeld (entries ++ e ∷ []) c play = record {
+      inside = omega (arith, number, n);
+      maker = λ none.
+          let z : play.number - play.number ≡ 0 = omega arith in
+          ap (λ (x : Entry). x.maker)
+          (get_or-append_right entries (e ∷ []) play.number play.number none (sym number) (omega arith) ∙ ap (λ k. get_or (e ∷ []) k none) z) ∙ maker;
+      held =
+          let A : ℕ → Type 0 = λ k. All (λ (h : Held). h.number < k) held in
+          ap (held_as play.number) is ∙ found-new play.number play.start play.plan held (subst A (sym number) balanced.fresh);
+    } in
+    record {
+      each = λ t later.
+          let b : booked_in (state_after (entries ++ e ∷ [])) t ≡ booked_in (state_after entries) t + share_at t (whole_play play.start play.plan) =
+          ap (λ hs. sum_by (share_at t) (map (λ (x : Held). x.play) hs)) is ∙ ap (sum_by (share_at t)) (map-append (λ (x : Held). x.play) held (new ∷ []))
+          ∙ sum_by_push (share_at t) (map (λ (x : Held). x.play) held) (whole_play play.start play.plan) in
+          let s = sum_by-set (share_of t) seats c (Playing play) Idle inside in
+          omega (arith, b, s, free t, balanced.each t later);
+      held = λ d within. elim (cases_eq d c) [
+        | inl same ↦
+            let B : ℕ → Type 0 = λ k. AreHeldOf (entries ++ e ∷ []) k (get_or (set seats c (Playing play)) k Idle) in
+            let C : Seat → Type 0 = λ x. AreHeldOf (entries ++ e ∷ []) c x in
+            subst B (sym same) (subst C (sym (get_or-set_same seats c (Playing play) Idle inside)) own)
+        | inr other ↦
+            let C : Seat → Type 0 = λ x. AreHeldOf (entries ++ e ∷ []) d x in
+            subst C (sym (get_or-set_other seats c d (Playing play) Idle other))
+            (push-held entries e d (get_or seats d Idle) new is (balanced.held d (omega (arith, within, length-set seats c (Playing play)))))
+      ];
+      fresh =
+          let P : Held → Type 0 = λ h. h.number < length (entries ++ e ∷ []) in
+          let A : List Held → Type 0 = λ l. All P l in
+          subst A (sym is)
+          (All-push P held new (fresh-more (length entries) (length (entries ++ e ∷ [])) held (omega (arith, n)) balanced.fresh) (omega (arith, number, n)));
+    }
+
+-- ---- a slot comes
+pause-share : (b : Bool) (t : ℕ) (stop : Booked) (rest : Rest) → (b ≡ true → share_at t stop ≡ 0) → share_of t (cond b (Paused rest) (Pausing stop rest)) ≡ share_at t stop
+pause-share true t stop rest none = sym (none refl)
+pause-share false t stop rest none = refl
+
+pub pausing-share : (t slot : ℕ) (stop : Booked) (rest : Rest) → slot < t → share_of t (pausing slot stop rest) ≡ share_at t stop
+pausing-share t slot stop rest later =
+    pause-share (sent_by stop slot == stop.keep) t stop rest (λ all. share-done t slot stop later (eqb-true (sent_by stop slot) stop.keep all))
+
+sending-share : (t slot : ℕ) (seat : Seat) → slot < t → share_of t (after_sending slot seat) ≡ share_of t seat
+sending-share t slot Idle later = refl
+sending-share t slot (Playing play) later = refl
+sending-share t slot (Pausing stop rest) later = pausing-share t slot stop rest later
+sending-share t slot (Paused rest) later = refl
+
+sending-shares : (t slot : ℕ) (seats : List Seat) → slot < t → sum_by (share_of t) (map (after_sending slot) seats) ≡ sum_by (share_of t) seats
+sending-shares t slot [] later = refl
+sending-shares t slot (seat ∷ seats) later =
+    omega (
+      arith,
+      sending-share t slot seat later,
+      sending-shares t slot seats later,
+      sum_by-cons (share_of t) seat seats,
+      sum_by-cons (share_of t) (after_sending slot seat) (map (after_sending slot) seats),
+    )
+
+pause-held : (b : Bool) (entries : List Entry) (c : ℕ) (stop : Booked) (rest : Rest) → AreHeldOf entries c (cond b (Paused rest) (Pausing stop rest))
+pause-held true entries c stop rest = tt
+pause-held false entries c stop rest = tt
+
+sending-held : (entries : List Entry) (c slot : ℕ) (seat : Seat) → AreHeldOf entries c seat → AreHeldOf entries c (after_sending slot seat)
+sending-held entries c slot Idle its = tt
+sending-held entries c slot (Playing play) its = its
+sending-held entries c slot (Pausing stop rest) its = pause-held (sent_by stop slot == stop.keep) entries c stop rest
+sending-held entries c slot (Paused rest) its = tt
+
+pub balanced-sending : (entries : List Entry) (seats : List Seat) (heard slot : ℕ) → heard ≤ slot → IsBalanced entries seats heard
+    → IsBalanced entries (map (after_sending slot) seats) slot
+balanced-sending entries seats heard slot le balanced = record {
+  each = λ t later. balanced.each t (omega (arith, le, later)) ∙ sym (sending-shares t slot seats later);
+  held = λ c within.
+      let inside : c < length seats = omega (arith, within, length-map seats (after_sending slot)) in
+      let C : Seat → Type 0 = λ x. AreHeldOf entries c x in
+      subst C (sym (get_or-map (after_sending slot) seats c Idle Idle inside)) (sending-held entries c slot (get_or seats c Idle) (balanced.held c inside));
+  fresh = balanced.fresh;
+}
+
+both-true : (a b : Bool) → (a && b) ≡ true → b ≡ true
+both-true true b h = h
+both-true false b h = cc h
+
+-- a play that is done is halted
+done-shares : (t slot : ℕ) (play : Play) → slot < t → is_done slot play ≡ true → share_of t Idle ≡ share_at t (cut_play play.start play.plan (total_bytes play.plan))
+done-shares t slot play later done =
+    let all : (sent_by (booking_of play) slot == total_bytes play.plan) ≡ true = both-true (nat_le play.start slot) (sent_by (booking_of play) slot == total_bytes play.plan) done in
+    sym (share-done t slot (booking_of play) later (eqb-true (sent_by (booking_of play) slot) (total_bytes play.plan) all))
+
+left-alone : (slot c : ℕ) (entries : List Entry) (seats : List Seat) (seat : Seat) → get_or seats c Idle ≡ seat → IsBalanced entries seats slot
+    → IsBalanced (entries ++ []) (set seats c seat) slot
+left-alone slot c entries seats seat at balanced =
+    let E : List Entry → Type 0 = λ es. IsBalanced es (set seats c seat) slot in
+    let S : List Seat → Type 0 = λ l. IsBalanced entries l slot in
+    let same : seats ≡ set seats c seat = sym (ap (set seats c) (sym at) ∙ set-get_or seats c Idle) in
+    subst E (sym (append-nil entries)) (subst S same balanced)
+
+step-play : (slot c : ℕ) (entries : List Entry) (seats : List Seat) (play : Play) (done : Bool) → is_done slot play ≡ done → c < length seats
+    → get_or seats c Idle ≡ Playing play → IsBalanced entries seats slot
+    → IsBalanced (entries ++ cond done (halt_by c play.number (total_bytes play.plan)) []) (set seats c (cond done Idle (Playing play))) slot
+step-play slot c entries seats play true done inside at balanced =
+    balanced-halt entries seats slot c (total_bytes play.plan) play Idle inside at tt (λ t later. done-shares t slot play later done) balanced
+step-play slot c entries seats play false done inside at balanced = left-alone slot c entries seats (Playing play) at balanced
+
+step-seat : (slot c : ℕ) (entries : List Entry) (seats : List Seat) (seat : Seat) → c < length seats → get_or seats c Idle ≡ seat → IsBalanced entries seats slot
+    → IsBalanced (entries ++ done_halt slot c seat) (set seats c (after_play slot seat)) slot
+step-seat slot c entries seats Idle inside at balanced = left-alone slot c entries seats Idle at balanced
+step-seat slot c entries seats (Playing play) inside at balanced = step-play slot c entries seats play (is_done slot play) refl inside at balanced
+step-seat slot c entries seats (Pausing stop rest) inside at balanced = left-alone slot c entries seats (Pausing stop rest) at balanced
+step-seat slot c entries seats (Paused rest) inside at balanced = left-alone slot c entries seats (Paused rest) at balanced
+
+record Ending (slot n : ℕ) (begun : List Entry) (old : List Seat) : Type 0 where
+  entries : List Entry
+  seats : List Seat
+  swept : IsSwept (after_play slot) n old seats
+  entries_are : entries ≡ begun ++ halts (done_halt slot) 0 (take n old)
+  balanced : IsBalanced entries seats slot
+
+ending : (slot : ℕ) (begun : List Entry) (old : List Seat) (n : ℕ) → n ≤ length old → IsBalanced begun old slot → Ending slot n begun old
+ending slot begun old zero most balanced =
+    record { entries = begun; seats = old; swept = swept-none (after_play slot) old; entries_are = sym (append-nil begun); balanced = balanced }
+ending slot begun old (suc n) most balanced =
+    let e = ending slot begun old n (omega (arith, most)) balanced in
+    let seat = get_or old n Idle in
+    let one : n + 1 ≡ suc n = omega arith in
+    let inside : n < length old = omega (arith, most) in
+    let E : ℕ → Type 0 = λ k. Ending slot k begun old in
+    subst E one (record {
+      entries = e.entries ++ done_halt slot n seat;
+      seats = set e.seats n (after_play slot seat);
+      swept = swept-set (after_play slot) n old e.seats (after_play slot seat) inside refl e.swept;
+      entries_are = entries-more (done_halt slot) old n begun e.entries (e.entries ++ done_halt slot n seat) (done_halt slot n seat) inside e.entries_are refl refl;
+      balanced = step-seat slot n e.entries e.seats seat (omega (arith, inside, e.swept.count)) (e.swept.later n (omega arith)) e.balanced;
+    })
+
+pub balanced-slot : (old : Moment) (slot : ℕ) → old.heard ≤ slot → IsBalanced old.entries old.seats old.heard
+    → IsBalanced (at_slot old slot).entries (at_slot old slot).seats slot
+balanced-slot old slot le balanced =
+    let sent = map (after_sending slot) old.seats in
+    let n = length sent in
+    let e = ending slot old.entries sent n (omega arith) (balanced-sending old.entries old.seats old.heard slot le balanced) in
+    let seats : e.seats ≡ map (after_play slot) sent = swept-all (after_play slot) n sent e.seats (omega arith) e.swept in
+    let entries : e.entries ≡ old.entries ++ halts (done_halt slot) 0 old.seats =
+    e.entries_are ∙ ap (λ l. old.entries ++ halts (done_halt slot) 0 l) (take_all n sent (omega arith))
+    ∙ ap (λ es. old.entries ++ es) (halts-sent slot 0 old.seats) in
+    let E : List Entry → Type 0 = λ es. IsBalanced es (map (after_play slot) sent) slot in
+    let S : List Seat → Type 0 = λ l. IsBalanced e.entries l slot in
+    subst E entries (subst S seats e.balanced)
