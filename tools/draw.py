@@ -84,7 +84,7 @@ class Panel:
 
     def mark_slots(self, below):
         """Numbers of slots, each where its slot begins."""
-        self.parts.append(f'<text x="{LEFT - 6}" y="{below + 18}" {FACE} text-anchor="end">slot</text>')
+        self.parts.append(f'<text x="{LEFT - 14}" y="{below + 18}" {FACE} text-anchor="end">slot</text>')
         for mark in range(0, self.slots + 1, scale_of(self.slots)[1]):
             x = self.x(mark)
             self.parts.append(f'<path d="M{x},{below}v5" stroke="#555"/>'
