@@ -10,7 +10,7 @@ use Rattle.troubles.specs.Causes.{IsReadTrouble}
 use Rattle.troubles.specs.declared.faults.Fault.{Fault}
 use Rattle.troubles.specs.declared.faults.Fault.TheVariants.{Film}
 use Rattle.troubles.specs.declared.faults.Trouble.{Trouble}
-use Rattle.troubles.specs.declared.faults.Trouble.TheVariants.{Usage, Refused, StoreFault, SinkFault, NoMemory, GateFault}
+use Rattle.troubles.specs.declared.faults.Trouble.TheVariants.{Usage, Refused, StoreFault, SinkFault, NoMemory, GateFault, LinkFault}
 use Rattle.inputs.specs.Files.{IsFront, IsNamed}
 use Rattle.inputs.specs.Films.{IsBytesTrouble, IsFilmTrouble}
 use Rattle.inputs.specs.Scans.{HoldsVideo}
@@ -49,6 +49,7 @@ video_trouble name file video (StoreFault other) is h = h
 video_trouble name file video SinkFault is h = h
 video_trouble name file video NoMemory is h = tt
 video_trouble name file video GateFault is h = h
+video_trouble name file video LinkFault is h = h
 
 -- what the bytes of a file come to is what the file comes to
 pub bytes_trouble : (most : ℕ) (over : Fault) (told : Option (List File)) (faults faults' : ℕ) (name file : List ℕ) (t : Trouble) → IsBytesTrouble name file t →
@@ -60,6 +61,7 @@ bytes_trouble most over told faults faults' name file (StoreFault other) h found
 bytes_trouble most over told faults faults' name file SinkFault h found short = h
 bytes_trouble most over told faults faults' name file NoMemory h found short = tt
 bytes_trouble most over told faults faults' name file GateFault h found short = h
+bytes_trouble most over told faults faults' name file LinkFault h found short = h
 
 pub film_loaded : (held : List File) (name file video : List ℕ) → file_named held name ≡ Some file → length file ≤ 2 ^ 40 → IsVideo file video → refusal video ≡ None → HoldsVideo held name video
 film_loaded held name file video found short is accepted =

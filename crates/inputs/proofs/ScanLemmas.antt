@@ -17,7 +17,7 @@ use Rattle.mpeg_scan.proofs.FilmLemmas.{length-read, told-none, refusal-at_code}
 use Rattle.troubles.specs.declared.faults.Fault.{Fault}
 use Rattle.troubles.specs.declared.faults.Fault.TheVariants.{Film}
 use Rattle.troubles.specs.declared.faults.Trouble.{Trouble}
-use Rattle.troubles.specs.declared.faults.Trouble.TheVariants.{Usage, Refused, StoreFault, SinkFault, NoMemory, GateFault}
+use Rattle.troubles.specs.declared.faults.Trouble.TheVariants.{Usage, Refused, StoreFault, SinkFault, NoMemory, GateFault, LinkFault}
 use Rattle.troubles.specs.Causes.{IsReadTrouble}
 use Rattle.troubles.proofs.CauseLemmas.{trouble_map}
 use Rattle.inputs.specs.Films.{IsFilmTrouble}
@@ -184,6 +184,7 @@ end_trouble name Refuses told' faults faults' (StoreFault other) refuses h = abs
 end_trouble name Refuses told' faults faults' SinkFault refuses h = absurd h
 end_trouble name Refuses told' faults faults' NoMemory refuses h = tt
 end_trouble name Refuses told' faults faults' GateFault refuses h = absurd h
+end_trouble name Refuses told' faults faults' LinkFault refuses h = absurd h
 
 -- what was found out before is not less known after more of the library was read
 pub trouble_on : (name : List ℕ) (Refuses : List File → List ℕ → Fault → Type 0) (told told' : Option (List File)) (a b c : ℕ) (t : Trouble) → told' ≡ told → a ≤ b →

@@ -31,7 +31,8 @@ pub record HoldsVideo (held : List File) (name : List ℕ) (video : List ℕ) : 
   pub accepted : refusal video ≡ None
 
 -- the film that the library holds has a video of this size, with this rate code and these units
-pub record HoldsFilm (held : List File) (name : List ℕ) (size rate : ℕ) (units : List PictureUnit) : Type 0 where
+pub record HoldsFilm (held : List File) (name : List ℕ) (size rate : ℕ) (units : List PictureUnit)
+    : Type 0 where
   pub video : List ℕ
   pub holds : HoldsVideo held name video
   pub sized : size ≡ length video
@@ -64,23 +65,28 @@ pub record HasRefused (scanner : Scanner) (video : List ℕ) : Type 0 where
 abbrev pub HasTaken : (List Call → Type 0) → Scanner → List ℕ → Type 0
 HasTaken Heard scanner video = HasTold Heard scanner video ⊎ HasRefused scanner video
 
--- the film before a place was scanned: the scanner was fed so many bytes, which are that front of the file, where the library
--- tells what it holds
-pub record HasScanned (Heard : List Call → Type 0) (told : Option (List File)) (name : List ℕ) (size place : ℕ) (scanner : Scanner) : Type 0 where
+-- the film before a place was scanned: the scanner was fed so many bytes, which are that front of
+-- the file, where the library tells what it holds
+pub record HasScanned (Heard : List Call →
+    Type 0) (told : Option (List File)) (name : List ℕ) (size place : ℕ) (scanner : Scanner)
+    : Type 0 where
   pub bytes : List ℕ
   pub long : length bytes ≡ place
   pub scanned : HasTold Heard scanner bytes
   pub front : (held : List File) → told ≡ Some held → IsFront held name size bytes
 
 -- an unwrapper was fed these bytes, and the scanner the video among them
-pub record HasUnwrapped (Heard : List Call → Type 0) (unwrapper : Unwrapper) (scanner : Scanner) (seen : List ℕ) : Type 0 where
+pub record HasUnwrapped (Heard : List Call →
+    Type 0) (unwrapper : Unwrapper) (scanner : Scanner) (seen : List ℕ) : Type 0 where
   pub video : List ℕ
   pub fed : WasFed unwrapper seen video
   pub few : length video ≤ length seen
   pub taken : HasTaken Heard scanner video
 
 -- all of it was scanned
-pub record HasScannedAll (Heard : List Call → Type 0) (told : Option (List File)) (name : List ℕ) (size : ℕ) (scanner : Scanner) : Type 0 where
+pub record HasScannedAll (Heard : List Call →
+    Type 0) (told : Option (List File)) (name : List ℕ) (size : ℕ) (scanner : Scanner)
+    : Type 0 where
   pub bytes : List ℕ
   pub few : length bytes ≤ size
   pub scanned : HasTold Heard scanner bytes
@@ -88,21 +94,27 @@ pub record HasScannedAll (Heard : List Call → Type 0) (told : Option (List Fil
 
 -- the bytes of a file from a place on, as far as they were read
 abbrev pub IsStreamFront : ℕ → ℕ → List ℕ → List File → List ℕ → Type 0
-IsStreamFront size from seen held name = (before : List ℕ) × ((length before ≡ from) × IsFront held name size (before ++ seen))
+IsStreamFront size from seen held name = (before : List ℕ)
+    × ((length before ≡ from) × IsFront held name size (before ++ seen))
 
 -- the stream that begins at `from` was unwrapped up to a place of the file
-pub record HasStreamed (Heard : List Call → Type 0) (told : Option (List File)) (name : List ℕ) (size from place : ℕ) (unwrapper : Unwrapper) (scanner : Scanner) : Type 0 where
+pub record HasStreamed (Heard : List Call →
+    Type 0) (told : Option (List File)) (name : List ℕ) (size from place : ℕ)
+    (unwrapper : Unwrapper) (scanner : Scanner) : Type 0 where
   pub seen : List ℕ
   pub long : from + length seen ≡ place
   pub unwrapped : HasUnwrapped Heard unwrapper scanner seen
   pub front : (held : List File) → told ≡ Some held → IsStreamFront size from seen held name
 
 -- all of it was unwrapped
-pub record HasStreamedAll (Heard : List Call → Type 0) (told : Option (List File)) (name : List ℕ) (size from : ℕ) (unwrapper : Unwrapper) (scanner : Scanner) : Type 0 where
+pub record HasStreamedAll (Heard : List Call →
+    Type 0) (told : Option (List File)) (name : List ℕ) (size from : ℕ) (unwrapper : Unwrapper)
+    (scanner : Scanner) : Type 0 where
   pub seen : List ℕ
   pub few : length seen ≤ size
   pub unwrapped : HasUnwrapped Heard unwrapper scanner seen
-  pub whole : (held : List File) → told ≡ Some held → (file : List ℕ) × ((file_named held name ≡ Some file) × (drop from file ≡ seen))
+  pub whole : (held : List File) → told ≡ Some held → (file : List ℕ)
+      × ((file_named held name ≡ Some file) × (drop from file ≡ seen))
 
 -- ---- a file whose first start code was looked for
 
@@ -127,16 +139,19 @@ pub record HasEnded (Heard : List Call → Type 0) (video : List ℕ) (size rate
 
 abbrev pub IsRefusedAtEnd : (List Call → Type 0) → Scanner → FilmFault → Type 0
 IsRefusedAtEnd Heard scanner fault =
-    (video : List ℕ) → length video ≤ 2 ^ 40 → HasTaken Heard scanner video → refusal video ≡ Some fault
+    (video : List ℕ) → length video ≤ 2 ^ 40 → HasTaken Heard scanner video →
+    refusal video ≡ Some fault
 
--- a film was accepted, with this size and rate code, and all its parts were told; it is the one that the library holds, where it
--- tells what that is
-pub record HasHeard (Heard : List Call → Type 0) (told : Option (List File)) (name : List ℕ) (size rate : ℕ) : Type 0 where
+-- a film was accepted, with this size and rate code, and all its parts were told; it is the one
+-- that the library holds, where it tells what that is
+pub record HasHeard (Heard : List Call →
+    Type 0) (told : Option (List File)) (name : List ℕ) (size rate : ℕ) : Type 0 where
   pub video : List ℕ
   pub ended : HasEnded Heard video size rate
   pub holds : (held : List File) → told ≡ Some held → HoldsVideo held name video
 
 -- why a piece of a stream is refused, after these bytes of it and whatever follows
 abbrev pub IsPieceRefused : List ℕ → List ℕ → StreamRefused → Type 0
-IsPieceRefused seen piece (StreamFault fault) = (more : List ℕ) → IsRefused (seen ++ piece ++ more) fault
+IsPieceRefused seen piece (StreamFault fault) = (more : List ℕ) →
+    IsRefused (seen ++ piece ++ more) fault
 IsPieceRefused seen piece NoRoom = Unit {0}

@@ -19,7 +19,10 @@ abbrev pub next_sized : Sized → Call → Sized
 next_sized s (head_call from to) = record s { unit = begun (to - from) }
 next_sized s (slice_call from to) = record s { unit = with_slice s.unit (to - from) }
 next_sized s (unit_call unit) =
-    record { unit = begun 1; sizes = s.sizes ++ ((if unit.starts_group then 52 else 0) + frames_of s.unit) ∷ [] }
+    record {
+      unit = begun 1;
+      sizes = s.sizes ++ ((if unit.starts_group then 52 else 0) + frames_of s.unit) ∷ [];
+    }
 
 abbrev pub sized_after : Sized → List Call → Sized
 sized_after s [] = s

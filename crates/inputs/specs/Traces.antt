@@ -7,7 +7,8 @@ use Rattle.vod_base.specs.Numbers.{number_of}
 abbrev pub is_blank : ℕ → Bool
 is_blank b = (b == 32) || (b == 9) || (b == 13) || (b == 10)
 
--- bytes of a text without a blank, with a blank or the text's end on each side, and the place of the first of them
+-- bytes of a text without a blank, with a blank or the text's end on each side, and the place of
+-- the first of them
 pub record Token : Type 0 where
   pub from : ℕ
   pub bytes : List ℕ
@@ -17,7 +18,8 @@ abbrev pub begins_token : List ℕ → Bool
 begins_token [] = false
 begins_token (b ∷ rest) = not (is_blank b)
 
--- a byte that is no blank in front of the tokens: it belongs to the first of them, or is a token by itself
+-- a byte that is no blank in front of the tokens: it belongs to the first of them, or is a token by
+-- itself
 abbrev pub joined : ℕ → ℕ → Bool → List Token → List Token
 joined at b false tokens = (record { from = at; bytes = b ∷ [] }) ∷ tokens
 joined at b true [] = (record { from = at; bytes = b ∷ [] }) ∷ []
@@ -26,7 +28,8 @@ joined at b true (token ∷ tokens) = (record { from = at; bytes = b ∷ token.b
 -- the tokens of a text that stands at `at`
 abbrev pub tokens_from : ℕ → List ℕ → List Token
 tokens_from at [] = []
-tokens_from at (b ∷ rest) = if is_blank b then tokens_from (at + 1) rest else joined at b (begins_token rest) (tokens_from (at + 1) rest)
+tokens_from at (b ∷ rest) = if is_blank b
+    then tokens_from (at + 1) rest else joined at b (begins_token rest) (tokens_from (at + 1) rest)
 
 -- the tokens write these sizes: each up to 2^32, 2^40 together, and at most 1,000,000 of them
 pub record IsTrace (tokens : List Token) (sizes : List ℕ) : Type 0 where
@@ -61,11 +64,13 @@ pub record AddsSize (token : List ℕ) (count total size : ℕ) : Type 0 where
 abbrev pub IsWord : List ℕ → Type 0
 IsWord bytes = (0 < length bytes) × (list_all (λ b. not (is_blank b)) bytes ≡ true)
 
--- these are the tokens of a text that stands at a place: words with their places, with blanks between them, in front and at the end
+-- these are the tokens of a text that stands at a place: words with their places, with blanks
+-- between them, in front and at the end
 abbrev pub AreSeparated : ℕ → List ℕ → List Token → Type 0
 AreSeparated at text [] = list_all is_blank text ≡ true
 AreSeparated at text (token ∷ tokens) =
     (front : List ℕ) × ((rest : List ℕ) × (
-    (text ≡ front ++ (token.bytes ++ rest)) × (list_all is_blank front ≡ true) × IsWord token.bytes × (begins_token rest ≡ false)
+    (text ≡ front ++ (token.bytes ++ rest)) × (list_all is_blank front ≡ true) × IsWord token.bytes
+    × (begins_token rest ≡ false)
     × (token.from ≡ at + length front) × AreSeparated (token.from + length token.bytes) rest tokens
     ))

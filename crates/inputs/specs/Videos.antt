@@ -1,5 +1,5 @@
--- The video of a file: its bytes, or, where its first start code is that of a pack, what the packets of this system stream
--- carry (ISO/IEC 11172-1).
+-- The video of a file: its bytes, or, where its first start code is that of a pack, what the
+-- packets of this system stream carry (ISO/IEC 11172-1).
 use Rattle.std.specs.Prelude.{◌≡◌, ℕ, ◌+◌, ◌==◌, ◌≤◌, ◌<◌, ◌^◌, ◌⊎◌, if◌then◌else◌, List, [], ◌∷◌, length, drop, Option, Some, None}
 use Rattle.vod_base.specs.Outside.{File, file_named}
 use Rattle.mpeg_scan.specs.declared.codes.Code.{Code}
@@ -13,7 +13,8 @@ use Rattle.inputs.specs.Files.{IsMissing}
 use Rattle.troubles.specs.declared.faults.Fault.{Fault}
 use Rattle.troubles.specs.declared.faults.Fault.TheVariants.{Film, System}
 
--- the place of the first of these start codes, which are given the latest first, where it is that of a pack
+-- the place of the first of these start codes, which are given the latest first, where it is that
+-- of a pack
 abbrev pub pack_of : List Code → Option ℕ
 pack_of [] = None
 pack_of (code ∷ []) = if code.kind == 0xba then Some code.place else None
@@ -45,25 +46,30 @@ moved place (Truncated at) = Truncated (place + at)
 
 abbrev pub IsStreamFaultFrom : Option ℕ → List ℕ → SystemFault → Type 0
 IsStreamFaultFrom None file fault = ⊥
-IsStreamFaultFrom (Some place) file fault = (own : SystemFault) × (IsRefused (drop place file) own × (fault ≡ moved place own))
+IsStreamFaultFrom (Some place) file fault = (own : SystemFault)
+    × (IsRefused (drop place file) own × (fault ≡ moved place own))
 
 abbrev pub IsStreamFault : List ℕ → SystemFault → Type 0
 IsStreamFault file fault = IsStreamFaultFrom (pack_in file) file fault
 
 -- why the film that a file is, is refused: its stream is, and else its video
 abbrev pub IsVideoRefused : List ℕ → Fault → Type 0
-IsVideoRefused file (Film fault) = (video : List ℕ) × (IsVideo file video × (refusal video ≡ Some fault))
+IsVideoRefused file (Film fault) = (video : List ℕ)
+    × (IsVideo file video × (refusal video ≡ Some fault))
 IsVideoRefused file (System fault) = IsStreamFault file fault
 IsVideoRefused file other = ⊥
 
 -- the same of a file of any size: more bytes than the most are too many
 abbrev pub IsFileRefused : ℕ → Fault → List ℕ → Fault → Type 0
-IsFileRefused most over file fault = ((most < length file) × (fault ≡ over)) ⊎ ((length file ≤ most) × IsVideoRefused file fault)
+IsFileRefused most over file fault = ((most < length file) × (fault ≡ over))
+    ⊎ ((length file ≤ most) × IsVideoRefused file fault)
 
 -- no such file, or its refusal
 abbrev pub IsRefusedAbove : ℕ → Fault → List File → List ℕ → Fault → Type 0
 IsRefusedAbove most over held name fault =
-    IsMissing held name fault ⊎ ((file : List ℕ) × ((file_named held name ≡ Some file) × IsFileRefused most over file fault))
+    IsMissing held name fault
+    ⊎ ((file : List ℕ)
+    × ((file_named held name ≡ Some file) × IsFileRefused most over file fault))
 
 -- a film has at most 2^40 bytes
 abbrev pub IsFilmRefused : List File → List ℕ → Fault → Type 0

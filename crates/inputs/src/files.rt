@@ -19,7 +19,8 @@ pub(crate) fn zeros(alloc: Global, len: usize) -> Result<Vec<u8>, AllocError>
 
 /// The size of a file that is there.
 pub(crate) fn find_file<'a, L: Library>(library: &mut L, name: &'a str) -> Result<u64, Trouble<'a>>
-    ensures library { IsReadOnly (L.files library.old) (L.files library.new) (L.faults library.old) (L.faults library.new) }
+    ensures library { IsReadOnly (L.files library.old) (L.files library.new) (L.faults library.old)
+        (L.faults library.new) }
     ensures found { (held : List File) → L.files library.old ≡ Some held
         → IfOk result (λ size. Some size ≡ option_map length (file_named held name.entry.now)) }
     ensures trouble { IfErr result (IsReadTrouble (IsNamed name.entry.now) IsMissing
@@ -42,7 +43,8 @@ pub(crate) fn read_at<'a, L: Library>(
 ) -> Result<usize, Trouble<'a>>
     requires some { 0 < length piece.old }
     requires before { at < size }
-    ensures library { IsReadOnly (L.files library.old) (L.files library.new) (L.faults library.old) (L.faults library.new) }
+    ensures library { IsReadOnly (L.files library.old) (L.files library.new) (L.faults library.old)
+        (L.faults library.new) }
     ensures within { IfOk result (λ count. count ≤ length piece.new) }
     ensures fits { IfOk result (λ count. at + count ≤ size) }
     ensures told { (held : List File) (bytes : List ℕ) → L.files library.old ≡ Some held
@@ -69,11 +71,13 @@ fn read_piece<'a, L: Library>(
 ) -> Result<bool, Trouble<'a>>
     requires some { 0 < length piece.old }
     requires before { vec_len bytes.old < size }
-    ensures library { IsReadOnly (L.files library.old) (L.files library.new) (L.faults library.old) (L.faults library.new) }
+    ensures library { IsReadOnly (L.files library.old) (L.files library.new) (L.faults library.old)
+        (L.faults library.new) }
     ensures longer { vec_len bytes.old ≤ vec_len bytes.new }
     ensures within { vec_len bytes.new ≤ size }
     ensures grows { IfOk result (λ more. more ≡ true → vec_len bytes.old < vec_len bytes.new) }
-    ensures told { (held : List File) → L.files library.old ≡ Some held → IsFront held name.entry.now size bytes.old.items
+    ensures told { (held : List File) → L.files library.old ≡ Some held →
+        IsFront held name.entry.now size bytes.old.items
         → IfOk result (λ more. IsFront held name.entry.now size bytes.new.items × (more ≡ true)) }
     ensures trouble { IfErr result (IsReadTrouble (IsNamed name.entry.now) IsNever
         (L.files library.old) (L.faults library.old) (L.faults library.new)) }
@@ -92,15 +96,16 @@ fn read_piece<'a, L: Library>(
     }
 }
 
-/// Reads a file of that size, by reads of at most 65,536 bytes from its beginning, until a read answers 0 or the size is
-/// reached.
+/// Reads a file of that size, by reads of at most 65,536 bytes from its beginning, until a read
+/// answers 0 or the size is reached.
 pub(crate) fn read_bytes<'a, L: Library>(
     alloc: Global,
     library: &mut L,
     name: &'a str,
     size: u64,
 ) -> Result<Vec<u8>, Trouble<'a>>
-    ensures library { IsReadOnly (L.files library.old) (L.files library.new) (L.faults library.old) (L.faults library.new) }
+    ensures library { IsReadOnly (L.files library.old) (L.files library.new) (L.faults library.old)
+        (L.faults library.new) }
     ensures read { (held : List File) → L.files library.old ≡ Some held
         → Some size ≡ option_map length (file_named held name.entry.now)
         → IfOk result (λ bytes. file_named held name.entry.now ≡ Some bytes.items) }
@@ -129,7 +134,8 @@ pub fn read_input<'a, L: Library>(
     library: &mut L,
     name: &'a str,
 ) -> Result<Vec<u8>, Trouble<'a>>
-    ensures library { IsReadOnly (L.files library.old) (L.files library.new) (L.faults library.old) (L.faults library.new) }
+    ensures library { IsReadOnly (L.files library.old) (L.files library.new) (L.faults library.old)
+        (L.faults library.new) }
     ensures found { (held : List File) → L.files library.old ≡ Some held
         → IfOk result (λ text. file_named held name.entry.now ≡ Some text.items) }
     ensures trouble { IfErr result (IsReadTrouble (IsNamed name.entry.now) IsMissing

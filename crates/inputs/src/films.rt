@@ -83,7 +83,8 @@ fn video_of<'a>(alloc: Global, name: &'a str, file: Vec<u8>) -> Result<Vec<u8>, 
 /// The film that a video is.
 fn scan_video<'a>(alloc: Global, name: &'a str, video: Vec<u8>) -> Result<Film, Trouble<'a>>
     ensures film { IfOk result (λ film. film.bytes.items ≡ video.items) }
-    ensures trouble { IfErr result (IsFilmTrouble name.entry.now (λ fault. refusal video.items ≡ Some fault)) }
+    ensures trouble { IfErr result (IsFilmTrouble name.entry.now (λ fault. refusal video.items ≡
+        Some fault)) }
 {
     match scan(alloc, video) {
         Ok(film) => Ok(film),
@@ -104,8 +105,8 @@ fn scan_file<'a>(alloc: Global, name: &'a str, file: Vec<u8>) -> Result<Film, Tr
     }
 }
 
-/// Loads a film: reads it whole, takes the video out of a system stream, scans it and makes its table. Where the file has
-/// more bytes than the most, `over` is the refusal, and no byte is read.
+/// Loads a film: reads it whole, takes the video out of a system stream, scans it and makes its
+/// table. Where the file has more bytes than the most, `over` is the refusal, and no byte is read.
 fn load_within<'a, L: Library>(
     alloc: Global,
     library: &mut L,
@@ -114,11 +115,13 @@ fn load_within<'a, L: Library>(
     over: Fault,
 ) -> Result<Stored, Trouble<'a>>
     requires { most ≤ 2 ^ 40 }
-    ensures library { IsReadOnly (L.files library.old) (L.files library.new) (L.faults library.old) (L.faults library.new) }
+    ensures library { IsReadOnly (L.files library.old) (L.files library.new) (L.faults library.old)
+        (L.faults library.new) }
     ensures name { IfOk result (λ stored. string_bytes stored.name ≡ name.entry.now) }
     ensures film { (held : List File) → L.files library.old ≡ Some held
         → IfOk result (λ stored. HoldsVideo held name.entry.now stored.film.bytes.items) }
-    ensures trouble { IfErr result (IsReadTrouble (IsNamed name.entry.now) (IsRefusedAbove most over)
+    ensures trouble { IfErr result
+        (IsReadTrouble (IsNamed name.entry.now) (IsRefusedAbove most over)
         (L.files library.old) (L.faults library.old) (L.faults library.new)) }
 {
     let size = match find_file(library, name) {
@@ -142,13 +145,15 @@ fn load_within<'a, L: Library>(
     }
 }
 
-/// Loads a film that is to be served, an MPEG-1 video stream or a system stream with one. Its file has at most 2^30 bytes.
+/// Loads a film that is to be served, an MPEG-1 video stream or a system stream with one. Its file
+/// has at most 2^30 bytes.
 pub fn load_film<'a, L: Library>(
     alloc: Global,
     library: &mut L,
     name: &'a str,
 ) -> Result<Stored, Trouble<'a>>
-    ensures library { IsReadOnly (L.files library.old) (L.files library.new) (L.faults library.old) (L.faults library.new) }
+    ensures library { IsReadOnly (L.files library.old) (L.files library.new) (L.faults library.old)
+        (L.faults library.new) }
     ensures name { IfOk result (λ stored. string_bytes stored.name ≡ name.entry.now) }
     ensures film { (held : List File) → L.files library.old ≡ Some held
         → IfOk result (λ stored. HoldsVideo held name.entry.now stored.film.bytes.items) }
@@ -164,7 +169,8 @@ pub fn load_script_film<'a, L: Library>(
     library: &mut L,
     name: &'a str,
 ) -> Result<Stored, Trouble<'a>>
-    ensures library { IsReadOnly (L.files library.old) (L.files library.new) (L.faults library.old) (L.faults library.new) }
+    ensures library { IsReadOnly (L.files library.old) (L.files library.new) (L.faults library.old)
+        (L.faults library.new) }
     ensures name { IfOk result (λ stored. string_bytes stored.name ≡ name.entry.now) }
     ensures film { (held : List File) → L.files library.old ≡ Some held
         → IfOk result (λ stored. HoldsVideo held name.entry.now stored.film.bytes.items) }

@@ -1,4 +1,5 @@
-//! The inputs that `vodserve` reads from a library: whole files, traces of picture sizes, and films.
+//! The inputs that `vodserve` reads from a library: whole files, traces of picture sizes, and
+//! films.
 #![tactic(auto)]
 
 mod collectors;

@@ -56,7 +56,8 @@ enum Opening {
 /// Looks for the first start code in the next bytes of a file, which stand at `at`.
 fn open_piece(before: Prefix, at: u64, piece: &[u8]) -> Opening
     requires { at + length piece.now ≤ 2 ^ 40 }
-    ensures opening { (seen : List ℕ) → length seen ≡ at → IsOpen before seen → IsOpening result (seen ++ piece.now) }
+    ensures opening { (seen : List ℕ) → length seen ≡ at → IsOpen before seen →
+        IsOpening result (seen ++ piece.now) }
     ensures within { IsWithin (at + length piece.now) result }
 {
     let mut prefix = before;
@@ -85,7 +86,8 @@ pub(crate) fn pack_in(file: &[u8]) -> Option<u64>
     }
 }
 
-/// Where the system stream in a file of that size begins, if its first start code is that of a pack.
+/// Where the system stream in a file of that size begins, if its first start code is that of a
+/// pack.
 pub(crate) fn find_pack<'a, L: Library>(
     library: &mut L,
     name: &'a str,
@@ -94,7 +96,8 @@ pub(crate) fn find_pack<'a, L: Library>(
 ) -> Result<Option<u64>, Trouble<'a>>
     requires some { 0 < length piece.old }
     requires short { size ≤ 2 ^ 40 }
-    ensures library { IsReadOnly (L.files library.old) (L.files library.new) (L.faults library.old) (L.faults library.new) }
+    ensures library { IsReadOnly (L.files library.old) (L.files library.new) (L.faults library.old)
+        (L.faults library.new) }
     ensures opened { (held : List File) → L.files library.old ≡ Some held
         → Some size ≡ option_map length (file_named held name.entry.now) → IfOk result (IsOpened held name.entry.now size) }
     ensures within { IfOk result (λ from. IfSome from (λ place. place ≤ size)) }

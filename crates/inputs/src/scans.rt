@@ -17,7 +17,8 @@ use vod_base::Library;
 /// The most bytes of a film.
 const FILM: u64 = 1 << 40;
 
-/// Reads one piece of the film at `at`, feeds it to the scanner, and answers how many bytes it had: 0 at the end.
+/// Reads one piece of the film at `at`, feeds it to the scanner, and answers how many bytes it had:
+/// 0 at the end.
 fn feed_piece<'a, L: Library, F: Found>(
     library: &mut L,
     name: &'a str,
@@ -31,14 +32,17 @@ fn feed_piece<'a, L: Library, F: Found>(
     requires before { at < size }
     requires short { size ≤ 2 ^ 40 }
     requires opened { WasOpened (L.files library.old) name.now size None }
-    requires scanned { HasScanned (F.heard found.old) (L.files library.old) name.now size at scanner.old }
+    requires scanned { HasScanned (F.heard found.old)
+        (L.files library.old) name.now size at scanner.old }
     requires ready { IsReady (F.ready_at found.old) scanner.old }
-    ensures library { IsReadOnly (L.files library.old) (L.files library.new) (L.faults library.old) (L.faults library.new) }
+    ensures library { IsReadOnly (L.files library.old) (L.files library.new) (L.faults library.old)
+        (L.faults library.new) }
     ensures within { IfOk result (λ count. at + count ≤ size) }
     ensures ready { IsReady (F.ready_at found.new) scanner.new }
     ensures scanned { IfOk result (λ count.
         HasScanned (F.heard found.new) (L.files library.old) name.entry.now size (at + count) scanner.new) }
-    ensures more { (held : List File) → L.files library.old ≡ Some held → IfOk result (λ count. 0 < count) }
+    ensures more { (held : List File) → L.files library.old ≡ Some held →
+        IfOk result (λ count. 0 < count) }
     ensures trouble { IfErr result (IsReadTrouble (IsNamed name.entry.now) IsFilmRefused
         (L.files library.old) (L.faults library.old) (L.faults library.new)) }
 {
@@ -53,7 +57,8 @@ fn feed_piece<'a, L: Library, F: Found>(
     }
 }
 
-/// Feeds the whole film to the scanner, by reads of a piece, until a read answers 0 or the size is reached.
+/// Feeds the whole film to the scanner, by reads of a piece, until a read answers 0 or the size is
+/// reached.
 fn feed_film<'a, L: Library, F: Found>(
     library: &mut L,
     name: &'a str,
@@ -65,11 +70,14 @@ fn feed_film<'a, L: Library, F: Found>(
     requires some { 0 < length piece.old }
     requires short { size ≤ 2 ^ 40 }
     requires opened { WasOpened (L.files library.old) name.now size None }
-    requires scanned { HasScanned (F.heard found.old) (L.files library.old) name.now size 0 scanner.old }
+    requires scanned { HasScanned (F.heard found.old)
+        (L.files library.old) name.now size 0 scanner.old }
     requires ready { IsReady (F.ready_at found.old) scanner.old }
-    ensures library { IsReadOnly (L.files library.old) (L.files library.new) (L.faults library.old) (L.faults library.new) }
+    ensures library { IsReadOnly (L.files library.old) (L.files library.new) (L.faults library.old)
+        (L.faults library.new) }
     ensures ready { IsReady (F.ready_at found.new) scanner.new }
-    ensures scanned { OnOk result (HasScannedAll (F.heard found.new) (L.files library.old) name.entry.now size scanner.new) }
+    ensures scanned { OnOk result
+        (HasScannedAll (F.heard found.new) (L.files library.old) name.entry.now size scanner.new) }
     ensures trouble { IfErr result (IsReadTrouble (IsNamed name.entry.now) IsFilmRefused
         (L.files library.old) (L.faults library.old) (L.faults library.new)) }
 {
@@ -93,9 +101,11 @@ pub(crate) fn end_film<'a, F: Found>(
     found: &mut F,
 ) -> Result<Ending, Trouble<'a>>
     requires ready { IsReady (F.ready_at found.old) scanner }
-    ensures ended { (video : List ℕ) → length video ≤ 2 ^ 40 → HasTaken (F.heard found.old) scanner video
+    ensures ended { (video : List ℕ) → length video ≤ 2 ^ 40 →
+        HasTaken (F.heard found.old) scanner video
         → IfOk result (λ ending. HasEnded (F.heard found.new) video ending.bytes ending.rate) }
-    ensures trouble { IfErr result (IsFilmTrouble name.entry.now (IsRefusedAtEnd (F.heard found.old) scanner)) }
+    ensures trouble { IfErr result
+        (IsFilmTrouble name.entry.now (IsRefusedAtEnd (F.heard found.old) scanner)) }
 {
     match scanner.finish(found) {
         Ok(ending) => Ok(ending),
@@ -116,7 +126,8 @@ fn scan_plain<'a, L: Library, F: Found>(
     requires short { size ≤ 2 ^ 40 }
     requires opened { WasOpened (L.files library.old) name.now size None }
     requires fresh { F.heard found.old [] }
-    ensures library { IsReadOnly (L.files library.old) (L.files library.new) (L.faults library.old) (L.faults library.new) }
+    ensures library { IsReadOnly (L.files library.old) (L.files library.new) (L.faults library.old)
+        (L.faults library.new) }
     ensures film { IfOk result (λ ending.
         HasHeard (F.heard found.new) (L.files library.old) name.entry.now ending.bytes ending.rate) }
     ensures trouble { IfErr result (IsReadTrouble (IsNamed name.entry.now) IsFilmRefused
@@ -129,8 +140,8 @@ fn scan_plain<'a, L: Library, F: Found>(
     }
 }
 
-/// Scans a film of the library, by reads of at most 65,536 bytes, and keeps nothing of it but what `found` keeps: the video
-/// that the file is, or that of its system stream.
+/// Scans a film of the library, by reads of at most 65,536 bytes, and keeps nothing of it but what
+/// `found` keeps: the video that the file is, or that of its system stream.
 pub(crate) fn hear_film<'a, L: Library, F: Found>(
     alloc: Global,
     library: &mut L,
@@ -138,7 +149,8 @@ pub(crate) fn hear_film<'a, L: Library, F: Found>(
     found: &mut F,
 ) -> Result<Ending, Trouble<'a>>
     requires fresh { F.heard found.old [] }
-    ensures library { IsReadOnly (L.files library.old) (L.files library.new) (L.faults library.old) (L.faults library.new) }
+    ensures library { IsReadOnly (L.files library.old) (L.files library.new) (L.faults library.old)
+        (L.faults library.new) }
     ensures film { IfOk result (λ ending.
         HasHeard (F.heard found.new) (L.files library.old) name.entry.now ending.bytes ending.rate) }
     ensures trouble { IfErr result (IsReadTrouble (IsNamed name.entry.now) IsFilmRefused

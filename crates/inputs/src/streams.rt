@@ -25,7 +25,8 @@ pub(crate) enum StreamRefused {
 
 /// The fault of a stream that begins at a place of the file. A place in a file is below 2^64.
 pub(crate) fn move_fault(place: u64, fault: SystemFault) -> SystemFault
-    ensures { (bytes : List ℕ) → IsRefused bytes fault → place + length bytes ≤ 2 ^ 40 → result ≡ moved place fault }
+    ensures { (bytes : List ℕ) → IsRefused bytes fault → place + length bytes ≤ 2 ^ 40 →
+        result ≡ moved place fault }
 {
     match fault {
         SystemFault::NotPack(at) => SystemFault::NotPack(place.saturating_add(at)),
@@ -35,8 +36,8 @@ pub(crate) fn move_fault(place: u64, fault: SystemFault) -> SystemFault
     }
 }
 
-/// Feeds video of a stream to the scanner. Where it refuses the film it does so again when the stream has ended, and till
-/// then the stream is read on: its own faults go first.
+/// Feeds video of a stream to the scanner. Where it refuses the film it does so again when the
+/// stream has ended, and till then the stream is read on: its own faults go first.
 fn take_video<F: Found>(scanner: &mut Scanner, video: &[u8], found: &mut F) -> Result<(), NoMemory>
     requires room { bytes_fed scanner.old + length video.now ≤ 2 ^ 40 }
     requires ready { IsReady (F.ready_at found.old) scanner.old }
@@ -52,8 +53,8 @@ fn take_video<F: Found>(scanner: &mut Scanner, video: &[u8], found: &mut F) -> R
     }
 }
 
-/// Takes bytes from the front of a piece of a stream, feeds the video among them to the scanner, and answers how many they
-/// were.
+/// Takes bytes from the front of a piece of a stream, feeds the video among them to the scanner,
+/// and answers how many they were.
 fn unwrap_part<F: Found>(
     unwrapper: &mut Unwrapper,
     piece: &[u8],
@@ -70,7 +71,8 @@ fn unwrap_part<F: Found>(
     ensures ready { IsReady (F.ready_at found.new) scanner.new }
     ensures next { (seen : List ℕ) → HasUnwrapped (F.heard found.old) unwrapper.old scanner.old seen
         → IfOk result (λ taken. HasUnwrapped (F.heard found.new) unwrapper.new scanner.new (seen ++ take taken piece.now)) }
-    ensures refused { (seen : List ℕ) → HasUnwrapped (F.heard found.old) unwrapper.old scanner.old seen
+    ensures refused { (seen : List ℕ) →
+        HasUnwrapped (F.heard found.old) unwrapper.old scanner.old seen
         → IfErr result (IsPieceRefused seen piece.now) }
 {
     let fed = match unwrapper.feed(piece) {
@@ -98,7 +100,8 @@ fn unwrap_piece<F: Found>(
     ensures ready { IsReady (F.ready_at found.new) scanner.new }
     ensures next { (seen : List ℕ) → HasUnwrapped (F.heard found.old) unwrapper.old scanner.old seen
         → OnOk result (HasUnwrapped (F.heard found.new) unwrapper.new scanner.new (seen ++ piece.now)) }
-    ensures refused { (seen : List ℕ) → HasUnwrapped (F.heard found.old) unwrapper.old scanner.old seen
+    ensures refused { (seen : List ℕ) →
+        HasUnwrapped (F.heard found.old) unwrapper.old scanner.old seen
         → IfErr result (IsPieceRefused seen piece.now) }
 {
     let mut at = 0;
@@ -111,8 +114,8 @@ fn unwrap_piece<F: Found>(
     Ok(())
 }
 
-/// Reads one piece of the stream that begins at `from`, feeds its video to the scanner, and answers how many bytes it had:
-/// 0 at the end.
+/// Reads one piece of the stream that begins at `from`, feeds its video to the scanner, and answers
+/// how many bytes it had: 0 at the end.
 fn feed_stream_piece<'a, L: Library, F: Found>(
     library: &mut L,
     name: &'a str,
@@ -128,16 +131,19 @@ fn feed_stream_piece<'a, L: Library, F: Found>(
     requires before { at < size }
     requires short { size ≤ 2 ^ 40 }
     requires opened { WasOpened (L.files library.old) name.now size (Some from) }
-    requires streamed { HasStreamed (F.heard found.old) (L.files library.old) name.now size from at unwrapper.old scanner.old }
+    requires streamed { HasStreamed (F.heard found.old)
+        (L.files library.old) name.now size from at unwrapper.old scanner.old }
     requires few { bytes_fed scanner.old ≤ unwrapper.old.fed }
     requires ready { IsReady (F.ready_at found.old) scanner.old }
-    ensures library { IsReadOnly (L.files library.old) (L.files library.new) (L.faults library.old) (L.faults library.new) }
+    ensures library { IsReadOnly (L.files library.old) (L.files library.new) (L.faults library.old)
+        (L.faults library.new) }
     ensures within { IfOk result (λ count. at + count ≤ size) }
     ensures few { OnOk result (bytes_fed scanner.new ≤ unwrapper.new.fed) }
     ensures ready { IsReady (F.ready_at found.new) scanner.new }
     ensures streamed { IfOk result (λ count.
         HasStreamed (F.heard found.new) (L.files library.old) name.entry.now size from (at + count) unwrapper.new scanner.new) }
-    ensures more { (held : List File) → L.files library.old ≡ Some held → IfOk result (λ count. 0 < count) }
+    ensures more { (held : List File) → L.files library.old ≡ Some held →
+        IfOk result (λ count. 0 < count) }
     ensures trouble { IfErr result (IsReadTrouble (IsNamed name.entry.now) IsFilmRefused
         (L.files library.old) (L.faults library.old) (L.faults library.new)) }
 {
@@ -170,12 +176,16 @@ fn feed_stream<'a, L: Library, F: Found>(
     requires short { size ≤ 2 ^ 40 }
     requires opened { WasOpened (L.files library.old) name.now size (Some from) }
     requires within { from ≤ size }
-    requires streamed { HasStreamed (F.heard found.old) (L.files library.old) name.now size from from unwrapper.old scanner.old }
+    requires streamed { HasStreamed (F.heard found.old)
+        (L.files library.old) name.now size from from unwrapper.old scanner.old }
     requires few { bytes_fed scanner.old ≤ unwrapper.old.fed }
     requires ready { IsReady (F.ready_at found.old) scanner.old }
-    ensures library { IsReadOnly (L.files library.old) (L.files library.new) (L.faults library.old) (L.faults library.new) }
+    ensures library { IsReadOnly (L.files library.old) (L.files library.new) (L.faults library.old)
+        (L.faults library.new) }
     ensures ready { IsReady (F.ready_at found.new) scanner.new }
-    ensures streamed { OnOk result (HasStreamedAll (F.heard found.new) (L.files library.old) name.entry.now size from unwrapper.new scanner.new) }
+    ensures streamed { OnOk result
+        (HasStreamedAll (F.heard found.new)
+        (L.files library.old) name.entry.now size from unwrapper.new scanner.new) }
     ensures trouble { IfErr result (IsReadTrouble (IsNamed name.entry.now) IsFilmRefused
         (L.files library.old) (L.faults library.old) (L.faults library.new)) }
 {
@@ -208,7 +218,8 @@ pub(crate) fn scan_stream<'a, L: Library, F: Found>(
     requires opened { WasOpened (L.files library.old) name.now size (Some from) }
     requires within { from ≤ size }
     requires fresh { F.heard found.old [] }
-    ensures library { IsReadOnly (L.files library.old) (L.files library.new) (L.faults library.old) (L.faults library.new) }
+    ensures library { IsReadOnly (L.files library.old) (L.files library.new) (L.faults library.old)
+        (L.faults library.new) }
     ensures film { IfOk result (λ ending.
         HasHeard (F.heard found.new) (L.files library.old) name.entry.now ending.bytes ending.rate) }
     ensures trouble { IfErr result (IsReadTrouble (IsNamed name.entry.now) IsFilmRefused

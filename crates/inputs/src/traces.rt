@@ -4,6 +4,7 @@ ghost use Rattle.inputs.specs.Traces.{is_blank, begins_token, tokens_from, AreSe
 ghost use Rattle.inputs.specs.TraceRefusals.{IsTraceRefused};
 
 use std::alloc::Global;
+use thiserror::Error;
 use vod_base::read_number;
 
 /// The most pictures of a trace.
@@ -16,12 +17,14 @@ const MOST_SIZE: u64 = 1 << 32;
 const MOST_TOTAL: u64 = 1 << 40;
 
 /// Why a text gives no trace.
-#[derive(Clone, Copy, Debug, PartialEq, Eq)]
+#[derive(Clone, Copy, Debug, PartialEq, Eq, Error)]
 pub enum TraceRefused {
-    /// The place of the first byte of the first token that isn't a number up to 2^32, or that brings
-    /// the sum above 2^40, or that is the 1,000,001st.
+    /// The place of the first byte of the first token that isn't a number up to 2^32, or that
+    /// brings the sum above 2^40, or that is the 1,000,001st.
+    #[error("the word at byte {0} makes it no trace")]
     BadTrace(u64),
     /// Want of memory.
+    #[error("no memory")]
     NoMemory,
 }
 
@@ -70,7 +73,14 @@ fn word_len(rest: &[u8]) -> usize
 /// The first token at or after `at`.
 fn next_token(text: &[u8], at: usize) -> Option<Token>
     requires { at ≤ length text.now }
-    ensures { MatchOption result (tokens_from at (drop at text.now) ≡ []) (λ token. (at ≤ token.from) × (token.from < token.to) × (token.to ≤ length text.now) × (tokens_from at (drop at text.now) ≡ (record { from = token.from; bytes = slice_range text.now token.from token.to }) ∷ tokens_from token.to (drop token.to text.now))) }
+    ensures { MatchOption result (tokens_from at (drop at text.now) ≡
+        []) (λ token. (at ≤ token.from) × (token.from < token.to) × (token.to ≤ length text.now)
+        × (tokens_from at (drop at text.now) ≡
+        (record {
+          from = token.from;
+          bytes = slice_range text.now token.from token.to;
+        }) ∷ tokens_from token.to
+        (drop token.to text.now))) }
 {
     let from = at + blank_len(&text[at..]);
     if from == text.len() {
@@ -83,7 +93,8 @@ fn next_token(text: &[u8], at: usize) -> Option<Token>
 /// The size that a token adds to a trace of `count` sizes with `total` bytes, where it may.
 fn next_size(token: &[u8], count: usize, total: u64) -> Option<u64>
     requires { total ≤ 2 ^ 40 }
-    ensures { MatchOption result ((size : ℕ) → AddsSize token.now count total size → ⊥) (AddsSize token.now count total) }
+    ensures { MatchOption result ((size : ℕ) → AddsSize token.now count total size →
+        ⊥) (AddsSize token.now count total) }
 {
     match read_number(token) {
         Ok(size) if count < MOST_PICTURES && size <= MOST_SIZE && total + size <= MOST_TOTAL =>
@@ -114,9 +125,11 @@ pub fn read_trace(alloc: Global, text: &[u8]) -> Result<Vec<u64>, TraceRefused>
     Ok(sizes)
 }
 
-/// A law: the tokens of a text are the words in it, each with its place: none is empty, none has a blank in it, and blanks
-/// stand between them, in front and at the end. No other list of tokens is so.
+/// A law: the tokens of a text are the words in it, each with its place: none is empty, none has a
+/// blank in it, and blanks stand between them, in front and at the end. No other list of tokens is
+/// so.
 pub fn law_tokens()
     ensures are { (text : List ℕ) → AreSeparated 0 text (tokens_from 0 text) }
-    ensures only { (text : List ℕ) (tokens : List TextToken) → AreSeparated 0 text tokens → tokens ≡ tokens_from 0 text }
+    ensures only { (text : List ℕ) (tokens : List TextToken) → AreSeparated 0 text tokens →
+        tokens ≡ tokens_from 0 text }
 {}

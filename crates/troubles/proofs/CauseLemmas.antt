@@ -4,7 +4,7 @@ use Rattle.vod_base.specs.Outside.{File}
 use Rattle.troubles.specs.Causes.{IsReadTrouble}
 use Rattle.troubles.specs.declared.faults.Fault.{Fault}
 use Rattle.troubles.specs.declared.faults.Trouble.{Trouble}
-use Rattle.troubles.specs.declared.faults.Trouble.TheVariants.{Usage, Refused, StoreFault, SinkFault, NoMemory, GateFault}
+use Rattle.troubles.specs.declared.faults.Trouble.TheVariants.{Usage, Refused, StoreFault, SinkFault, NoMemory, GateFault, LinkFault}
 
 -- a trouble with one cause has each cause that follows, over a count that rose no less
 pub trouble_map : (Reads Reads' : List ℕ → Type 0) (Refuses Refuses' : List File → List ℕ → Fault → Type 0)
@@ -21,3 +21,4 @@ trouble_map R R' F F' told told' a a' b b' (StoreFault name) reads refuses keeps
 trouble_map R R' F F' told told' a a' b b' SinkFault reads refuses keeps low high h = h
 trouble_map R R' F F' told told' a a' b b' NoMemory reads refuses keeps low high h = tt
 trouble_map R R' F F' told told' a a' b b' GateFault reads refuses keeps low high h = h
+trouble_map R R' F F' told told' a a' b b' LinkFault reads refuses keeps low high h = h

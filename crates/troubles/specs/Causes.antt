@@ -3,20 +3,21 @@ use Rattle.std.specs.Prelude.{◌≡◌, ℕ, ◌≤◌, List, Option, Some}
 use Rattle.vod_base.specs.Outside.{File, HasRisen}
 use Rattle.troubles.specs.declared.faults.Fault.{Fault}
 use Rattle.troubles.specs.declared.faults.Trouble.{Trouble}
-use Rattle.troubles.specs.declared.faults.Trouble.TheVariants.{Usage, Refused, StoreFault, SinkFault, NoMemory, GateFault}
+use Rattle.troubles.specs.declared.faults.Trouble.TheVariants.{Refused, StoreFault, NoMemory}
 
 -- a library that was read: it holds what it held, and its count of faults didn't fall
 pub record IsReadOnly (told told' : Option (List File)) (faults faults' : ℕ) : Type 0 where
   pub kept : told' ≡ told
   pub count : faults ≤ faults'
 
--- a refusal names an input that is read, and goes with `Refuses` where the library tells what it holds; a fault of the library
--- names an input that is read, and was counted; want of memory says nothing
-abbrev pub IsReadTrouble : (List ℕ → Type 0) → (List File → List ℕ → Fault → Type 0) → Option (List File) → ℕ → ℕ → Trouble → Type 0
-IsReadTrouble Reads Refuses told faults faults' Usage = ⊥
+-- a refusal names an input that is read, and goes with `Refuses` where the library tells what it
+-- holds; a fault of the library names an input that is read, and was counted; want of memory says
+-- nothing
+abbrev pub IsReadTrouble : (List ℕ → Type 0) → (List File → List ℕ → Fault → Type 0) →
+    Option (List File) → ℕ → ℕ → Trouble → Type 0
 IsReadTrouble Reads Refuses told faults faults' (Refused name fault) =
     Reads name.now × ((held : List File) → told ≡ Some held → Refuses held name.now fault)
-IsReadTrouble Reads Refuses told faults faults' (StoreFault name) = Reads name.now × HasRisen faults faults'
-IsReadTrouble Reads Refuses told faults faults' SinkFault = ⊥
+IsReadTrouble Reads Refuses told faults faults' (StoreFault name) =
+    Reads name.now × HasRisen faults faults'
 IsReadTrouble Reads Refuses told faults faults' NoMemory = Unit {0}
-IsReadTrouble Reads Refuses told faults faults' GateFault = ⊥
+IsReadTrouble Reads Refuses told faults faults' _ = ⊥

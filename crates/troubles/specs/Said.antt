@@ -6,8 +6,13 @@ use Rattle.vod_base.specs.Outside.{HasRisen, more, IsFrontMore}
 abbrev pub number_text : ℕ → List ℕ
 number_text n = codes " " ++ decimal n
 
+-- a blank, a label, `=` and a number
+abbrev pub labelled : List ℕ → ℕ → List ℕ
+labelled label number = codes " " ++ label ++ codes "=" ++ decimal number
+
 -- the text was written behind what was told; after a fault, which was counted, a front of it
-pub record IsSaid (faults faults' : ℕ) (told told' : Option (List ℕ)) (text : List ℕ) (whole : Bool) : Type 0 where
+pub record IsSaid (faults faults' : ℕ) (told told' : Option (List ℕ)) (text : List ℕ) (whole : Bool)
+    : Type 0 where
   pub count : faults ≤ faults'
   pub all : whole ≡ true → told' ≡ more told text
   pub risen : whole ≡ false → HasRisen faults faults'
@@ -16,4 +21,6 @@ pub record IsSaid (faults faults' : ℕ) (told told' : Option (List ℕ)) (text 
 -- a piece was written after what stood in a line, or the line went no further
 abbrev pub GoesOn : ℕ → ℕ → Option (List ℕ) → Option (List ℕ) → Bool → Bool → List ℕ → Type 0
 GoesOn faults faults' told told' going goes piece =
-    (first : ℕ) (start : Option (List ℕ)) (text : List ℕ) → IsSaid first faults start told text going → IsSaid first faults' start told' (text ++ piece) goes
+    (first : ℕ) (start : Option (List ℕ)) (text : List ℕ) →
+    IsSaid first faults start told text going →
+    IsSaid first faults' start told' (text ++ piece) goes

@@ -1,12 +1,14 @@
-//! What keeps `vodserve` from its work: the troubles, the line that names each on the error stream, and its exit status.
+//! What keeps `vodserve` from its work: the troubles, the line that names each on the error
+//! stream, and its exit status.
 #![tactic(auto)]
 
 mod faults;
 mod lines;
 mod statuses;
+mod words;
 
 pub use faults::{Fault, Trouble};
-pub use lines::say;
+pub use lines::{add, add_count, say};
 pub use statuses::status_of;
 
 #[cfg(test)]

@@ -3,8 +3,8 @@ ghost use Rattle.troubles.specs.Statuses.{status_of};
 
 use crate::faults::Trouble;
 
-/// The exit status that goes with a trouble: 2 for words without meaning, 3 for a refused input, 4 for the library, 5 for
-/// the output, 6 for want of memory, 7 for the gate.
+/// The exit status that goes with a trouble: 2 for words without meaning, 3 for a refused input,
+/// 4 for the library, 5 for the output, 6 for want of memory, 7 for the gate, 8 for the link.
 pub fn status_of(trouble: &Trouble<'_>) -> u8
     ensures { result ≡ status_of trouble.now }
 {
@@ -15,5 +15,6 @@ pub fn status_of(trouble: &Trouble<'_>) -> u8
         Trouble::SinkFault => 5,
         Trouble::NoMemory => 6,
         Trouble::GateFault => 7,
+        Trouble::LinkFault => 8,
     }
 }

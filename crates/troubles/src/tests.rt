@@ -1,4 +1,4 @@
-use crate::{Fault, Trouble, say, status_of};
+use crate::{Fault, Trouble, add, add_count, say, status_of};
 use mpeg_scan::FilmFault;
 use std::alloc::AllocError;
 use std::test::Fail;
@@ -25,10 +25,16 @@ fn says_each_trouble(rt: HostRuntime) -> Result<(), Fail> {
             3,
             "vodserve: a.mpg: Truncated 4\n",
         ),
+        (
+            Trouble::Refused("b.mpg", Fault::RefusedWith(453)),
+            3,
+            "vodserve: b.mpg: Refused 453\n",
+        ),
         (Trouble::StoreFault("t"), 4, "vodserve: t: StoreFault\n"),
         (Trouble::SinkFault, 5, "vodserve: SinkFault\n"),
         (Trouble::NoMemory, 6, "vodserve: NoMemory\n"),
         (Trouble::GateFault, 7, "vodserve: GateFault\n"),
+        (Trouble::LinkFault, 8, "vodserve: LinkFault\n"),
     ] {
         let mut sink = match MemorySink::new(alloc, 64, Vec::new(alloc)) {
             Ok(sink) => sink,
@@ -38,5 +44,19 @@ fn says_each_trouble(rt: HostRuntime) -> Result<(), Fail> {
         assert!(rt; say(&mut sink, trouble), "at {line}");
         assert_eq!(rt; sink.bytes(), line.as_bytes());
     }
+    Ok(())
+}
+
+#[test]
+fn says_a_line_of_numbers(rt: HostRuntime) -> Result<(), Fail> {
+    let alloc = rt.alloc();
+    let mut sink = match MemorySink::new(alloc, 64, Vec::new(alloc)) {
+        Ok(sink) => sink,
+        Err(NoMemory) => return Err(Fail::from(AllocError)),
+    };
+    let word = add(&mut sink, true, b"watched");
+    let units = add_count(&mut sink, word, "units", 2);
+    assert!(rt; add_count(&mut sink, units, "bytes", 49));
+    assert_eq!(rt; sink.bytes(), b"watched units=2 bytes=49".as_slice());
     Ok(())
 }

@@ -1,10 +1,12 @@
 pub mod CommandLemmas
 pub mod PictureLemmas
 pub mod OneAnswer
+pub mod OneVerdict
 pub mod ScanTextLemmas
 pub mod RunLemmas
 pub mod WorkerLemmas
 pub mod ServeLemmas
 pub mod JournalLemmas
 pub mod ServeLaws
+pub mod ConnectionLaws
 pub mod DayLemmas

@@ -1,12 +1,14 @@
 -- What was printed of what was done.
-use Rattle.std.proofs.Common.{◌≡◌, ◌≤◌, ℕ, List, Option, Some, None, Result, Ok, Err, Vec, Global, inl, inr, sym, subst}
+use Rattle.std.proofs.Common.{◌≡◌, ◌∙◌, ◌≤◌, ℕ, ap, List, Option, Some, None, Result, Ok, Err, Vec, Global, inl, inr, sym, subst}
 use Rattle.std.specs.Prelude.{IfOk, IfErr}
 use Rattle.command_words.specs.Keys.{Made}
+use Rattle.command_words.specs.Orders.{order_of}
+use Rattle.command_words.specs.declared.orders.Order.{Order as OrderRead}
 use Rattle.command_words.specs.Words.{Order, help, make_of, version}
 use Rattle.plan_cert.specs.declared.Segment.{Segment}
 use Rattle.troubles.specs.Causes.{IsReadOnly, IsReadTrouble}
 use Rattle.troubles.specs.declared.faults.Trouble.{Trouble}
-use Rattle.troubles.specs.declared.faults.Trouble.TheVariants.{Usage, Refused, StoreFault, SinkFault, NoMemory, GateFault}
+use Rattle.troubles.specs.declared.faults.Trouble.TheVariants.{Usage, Refused, StoreFault, SinkFault, NoMemory, GateFault, LinkFault}
 use Rattle.vod_base.specs.Outside.{File}
 use Rattle.vodserve.specs.Carrying.{IsDone, IsInputRefused, IsRead, made_text}
 use Rattle.vodserve.specs.Texts.{help_text, version_text}
@@ -40,6 +42,7 @@ caused before after order (StoreFault name) same cause = (cause, same)
 caused before after order SinkFault same cause = absurd cause
 caused before after order NoMemory same cause = same
 caused before after order GateFault same cause = absurd cause
+caused before after order LinkFault same cause = absurd cause
 
 carried_out : (before after : World) (order : Order) (result : Result Done Trouble) (ended : Ended) →
     IfOk result (λ done. IsDone before.store.told order done.status done.text.items done.plan) →
@@ -57,10 +60,15 @@ printed before after order result ended gate nothing ok err is =
     record { gate = gate; nothing = nothing; out = carried_out before after order result ended ok err is }
 
 -- what the words ask for was done
-pub ran_as : (before after : World) (seed : List ℕ) (asked : Option Order) (order : Order) (ended : Ended) → asked ≡ Some order →
+pub ran_as : (before after : World) (seed : List ℕ) (asked : Option Order) (ended : Ended) {read order : OrderRead} → Some (order_of read) ≡ asked → read ≡ order →
     IsReadOnly before.store.told after.store.told before.store.faults after.store.faults → before.out.faults ≤ after.out.faults → before.gate.faults ≤ after.gate.faults →
-    Does before after seed order ended → Ran before after seed asked ended
-ran_as before after seed asked order ended is library output gate does = record { library = library; output = output; gate = gate; does = inl (order, (is, does)) }
+    Does before after seed (order_of order) ended → Ran before after seed asked ended
+ran_as before after seed asked ended {order = order} is same library output gate does = record {
+  library = library;
+  output = output;
+  gate = gate;
+  does = inl (order_of order, (sym is ∙ ap (λ (o : OrderRead). Some (order_of o)) same, does));
+}
 
 pub made_done : {E : Type 0} (told : Option (List File)) (kind : Made) (seed pictures : ℕ) (made : Result (Vec ℕ Global) E) → IfOk made (λ text. text.items ≡ made_text kind seed pictures) →
     (result : Result Done Trouble) → IfOk result (λ done. (done.status ≡ 0) × (made ≡ Ok done.text) × (done.plan ≡ None)) →

@@ -12,7 +12,7 @@ use Rattle.film_frames.specs.declared.stores.Stored.{Stored}
 use Rattle.command_words.specs.Words.{Serving}
 use Rattle.troubles.specs.Statuses.{status_of}
 use Rattle.troubles.specs.declared.faults.Trouble.{Trouble}
-use Rattle.troubles.specs.declared.faults.Trouble.TheVariants.{Usage, Refused, StoreFault, SinkFault, NoMemory, GateFault}
+use Rattle.troubles.specs.declared.faults.Trouble.TheVariants.{Usage, Refused, StoreFault, SinkFault, NoMemory, GateFault, LinkFault}
 use Rattle.vodserve.specs.Laws.{HasNoFault, IsEmptied, IsServable, LeavesNoneOut, ServesWhatItMay}
 use Rattle.vodserve.specs.Run.{World}
 use Rattle.vodserve.specs.Served.{IsPrinted, IsServeTrouble}
@@ -28,6 +28,7 @@ kept_by_memory before after serving (StoreFault name) may none is = absurd (none
 kept_by_memory before after serving SinkFault may none is = absurd is
 kept_by_memory before after serving NoMemory may none is = refl
 kept_by_memory before after serving GateFault may none is = absurd (none.gate is.0)
+kept_by_memory before after serving LinkFault may none is = absurd is
 
 -- and so is what goes wrong at the end
 ended_by_memory : (before after : World) (text : List ℕ) (end : PartEnd) (trouble : Trouble) → HasNoFault before after →
@@ -39,6 +40,7 @@ ended_by_memory before after text end (StoreFault name) none fault is = absurd i
 ended_by_memory before after text end SinkFault none fault is = absurd (none.out is.0)
 ended_by_memory before after text end NoMemory none fault is = refl
 ended_by_memory before after text end GateFault none fault is = absurd (none.gate (fault is.1))
+ended_by_memory before after text end LinkFault none fault is = absurd is
 
 pub serves_what_it_may : ServesWhatItMay
 serves_what_it_may before after seed serving ended (inl kept) may none =
@@ -48,13 +50,14 @@ serves_what_it_may before after seed serving ended (inr served) may none = elim 
   | inr wrong ↦ inr (wrong.1.1.status ∙ ended_by_memory before after _ served.end wrong.0 none served.fault wrong.1.0)
 ]
 
-not_none : (trouble : Trouble) → status_of trouble ≡ 0 → ⊥
+pub not_none : (trouble : Trouble) → status_of trouble ≡ 0 → ⊥
 not_none Usage is = omega (arith, is)
 not_none (Refused name fault) is = omega (arith, is)
 not_none (StoreFault name) is = omega (arith, is)
 not_none SinkFault is = omega (arith, is)
 not_none NoMemory is = omega (arith, is)
 not_none GateFault is = omega (arith, is)
+not_none LinkFault is = omega (arith, is)
 
 -- a part that was served is told whole
 emptied : (old : Option Content) (new : Content) (told : Option Content) (count : ℕ) → IsServed old told count → told ≡ Some new → IfSome told (λ c. c.own.last ≡ NoMore) →

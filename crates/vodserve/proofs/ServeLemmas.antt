@@ -33,7 +33,7 @@ use Rattle.station.specs.Seats.{Hall, Sitting, IsWhole}
 use Rattle.command_words.specs.Words.{Serving}
 use Rattle.troubles.specs.Causes.{IsReadTrouble}
 use Rattle.troubles.specs.declared.faults.Trouble.{Trouble}
-use Rattle.troubles.specs.declared.faults.Trouble.TheVariants.{Usage, Refused, StoreFault, SinkFault, NoMemory, GateFault}
+use Rattle.troubles.specs.declared.faults.Trouble.TheVariants.{Usage, Refused, StoreFault, SinkFault, NoMemory, GateFault, LinkFault}
 use Rattle.inputs.specs.Films.{IsHeldRefused}
 use Rattle.vodserve.specs.Worked.{AllWorked, AreLeft, HasOne, HasWorked, HaveWorked, IsHeld, IsOpenAs, opening_of, settings_of}
 use Rattle.vodserve.specs.Workers.{AreJoined, AreWorkers, HasFinished, IsMakeTrouble, report_of}
@@ -111,6 +111,7 @@ read_serves serving told faults faults' gate gate' (StoreFault name) is = is
 read_serves serving told faults faults' gate gate' SinkFault is = is
 read_serves serving told faults faults' gate gate' NoMemory is = tt
 read_serves serving told faults faults' gate gate' GateFault is = absurd is
+read_serves serving told faults faults' gate gate' LinkFault is = absurd is
 
 -- and so does one of making workers
 pub make_serves : (serving : Serving) (told : Option (List File)) (faults faults' gate' : ℕ) (gate gate'' : Outlet) (t : Trouble) → IsMakeTrouble gate' gate''.faults t →
@@ -121,6 +122,7 @@ make_serves serving told faults faults' gate' gate gate'' (StoreFault name) is l
 make_serves serving told faults faults' gate' gate gate'' SinkFault is low fewer = is
 make_serves serving told faults faults' gate' gate gate'' NoMemory is low fewer = tt
 make_serves serving told faults faults' gate' gate gate'' GateFault is low fewer = (λ end. omega (arith, is end, low), fewer)
+make_serves serving told faults faults' gate' gate gate'' LinkFault is low fewer = absurd is
 
 -- what is told of a gate that was opened
 pub newly_open : (how : Opening) (gate gate' : Option Content) → gate' ≡ option_map (opened (Some how)) gate → IsNewlyOpen how gate'

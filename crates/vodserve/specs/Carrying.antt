@@ -36,18 +36,23 @@ made_text made_system seed pictures = system_of (film_of (words_of seed) picture
 abbrev pub IfTold : Option (List File) → (List File → Type 0) → Type 0
 IfTold told P = (held : List File) → told ≡ Some held → P held
 
--- the status, the text for the output and the plan of what is asked for. What `--help`, `--version` and `make` give is the
--- same over every library, also one that tells nothing; and status 1 is that of `check` alone
+-- the status, the text for the output and the plan of what is asked for. What `--help`, `--version`
+-- and `make` give is the same over every library, also one that tells nothing; and status 1 is that
+-- of `check` alone
 abbrev pub IsDone : Option (List File) → Order → ℕ → List ℕ → Option (List Segment) → Type 0
 IsDone told help status text plan = (status ≡ 0) × (plan ≡ None) × (text ≡ help_text)
 IsDone told version status text plan = (status ≡ 0) × (plan ≡ None) × (text ≡ version_text)
-IsDone told (plan_of viewer) status text plan = (status ≡ 0) × IfTold told (λ held. IsPlanned held viewer text plan)
-IsDone told (check_of viewer cert) status text plan = (status ≤ 1) × (plan ≡ None) × IfTold told (λ held. IsChecked held viewer cert status text)
+IsDone told (plan_of viewer) status text plan = (status ≡ 0)
+    × IfTold told (λ held. IsPlanned held viewer text plan)
+IsDone told (check_of viewer cert) status text plan = (status ≤ 1) × (plan ≡ None)
+    × IfTold told (λ held. IsChecked held viewer cert status text)
 IsDone told (day_of run) status text plan = ⊥
 IsDone told (fair_of run) status text plan = ⊥
 IsDone told (watch_of watching) status text plan = ⊥
-IsDone told (make_of kind seed pictures) status text plan = (status ≡ 0) × (plan ≡ None) × (text ≡ made_text kind seed pictures)
-IsDone told (scan_of film) status text plan = (status ≡ 0) × (plan ≡ None) × IfTold told (λ held. IsScanned held film text)
+IsDone told (make_of kind seed pictures) status text plan = (status ≡ 0) × (plan ≡ None)
+    × (text ≡ made_text kind seed pictures)
+IsDone told (scan_of film) status text plan = (status ≡ 0) × (plan ≡ None)
+    × IfTold told (λ held. IsScanned held film text)
 IsDone told (serve_of serving) status text plan = ⊥
 
 -- the inputs that are read
@@ -69,7 +74,8 @@ IsInputRefused help held name fault = ⊥
 IsInputRefused version held name fault = ⊥
 IsInputRefused (plan_of viewer) held name fault = IsViewerRefused held viewer fault
 IsInputRefused (check_of viewer cert) held name fault =
-    ((name ≡ source_name viewer.source) × IsViewerRefused held viewer fault) ⊎ ((name ≡ cert) × IsCertRefused held viewer cert fault)
+    ((name ≡ source_name viewer.source) × IsViewerRefused held viewer fault)
+    ⊎ ((name ≡ cert) × IsCertRefused held viewer cert fault)
 IsInputRefused (day_of run) held name fault = ⊥
 IsInputRefused (fair_of run) held name fault = ⊥
 IsInputRefused (watch_of watching) held name fault = ⊥

@@ -1,15 +1,17 @@
 -- What `day` reads, and why it is refused.
-use Rattle.std.specs.Prelude.{◌≡◌, ◌⊎◌, ℕ, List, map, Option, Some, string_bytes}
+use Rattle.std.specs.Prelude.{◌≡◌, ◌⊎◌, ℕ, ◌<◌, Bool, true, false, List, length, map, slice_index_or, Option, Some, string_bytes}
 use Rattle.std.specs.List.{Contains}
 use Rattle.vod_base.specs.Outside.{File, file_named}
 use Rattle.troubles.specs.declared.faults.Fault.{Fault}
 use Rattle.troubles.specs.declared.faults.Fault.TheVariants.{BadScript}
 use Rattle.inputs.specs.Files.{IsMissing}
-use Rattle.inputs.specs.Scans.{IsFilmRefused}
+use Rattle.inputs.specs.Scans.{HoldsVideo, IsFilmRefused}
+use Rattle.day_run.specs.declared.reels.Source.{Source}
+use Rattle.day_run.specs.declared.reels.Source.TheVariants.{Film, Trace}
 use Rattle.day_run.specs.declared.scripts.Named.{Named}
 use Rattle.day_run.specs.declared.scripts.Script.{Script}
 use Rattle.day_run.specs.Readings.{IsBadLine, IsScript}
-use Rattle.vodserve.specs.Plans.{IsTraceRefused}
+use Rattle.vodserve.specs.Plans.{HoldsTrace, IsTraceRefused}
 
 -- the library holds this script under a name
 pub record HoldsScript (held : List File) (name : List ℕ) (script : Script) : Type 0 where
@@ -32,17 +34,54 @@ pub record HasBadLine (held : List File) (name : List ℕ) (fault : Fault) : Typ
 abbrev pub IsScriptRefused : List File → List ℕ → Fault → Type 0
 IsScriptRefused held name fault = IsMissing held name fault ⊎ HasBadLine held name fault
 
-abbrev pub IsPlayedRefused : List File → List ℕ → Fault → Type 0
-IsPlayedRefused held name fault = IsTraceRefused held name fault ⊎ IsFilmRefused held name fault
+-- a film or trace by its name
+abbrev pub IsNameOf : Named → List ℕ → Type 0
+IsNameOf named name = name ≡ string_bytes named.name
 
--- a film or trace that the script of that name names, where the library tells what it holds
+-- what is named as a film is refused as a film, and what is named as a trace as a trace
+abbrev pub IsRefusedAs : Bool → List File → List ℕ → Fault → Type 0
+IsRefusedAs true held name fault = IsFilmRefused held name fault
+IsRefusedAs false held name fault = IsTraceRefused held name fault
+
+abbrev pub IsNamedRefused : Named → List File → List ℕ → Fault → Type 0
+IsNamedRefused named held name fault = IsRefusedAs named.film held name fault
+
+-- one of these films and traces has that name, and is refused
+pub record IsOneRefused (named : List Named) (held : List File) (name : List ℕ) (fault : Fault)
+    : Type 0 where
+  pub one : Named
+  pub inside : Contains named one
+  pub name_is : IsNameOf one name
+  pub refused : IsNamedRefused one held name fault
+
+-- a film or trace is what the library holds under the name
+abbrev pub IsHeldUnder : Bool → List File → List ℕ → Source → Type 0
+IsHeldUnder film held name (Film stored) =
+    (film ≡ true) × HoldsVideo held name stored.film.bytes.items
+IsHeldUnder film held name (Trace sizes) = (film ≡ false) × HoldsTrace held name sizes.items
+
+abbrev pub IsHeldAs : List File → Named → Source → Type 0
+IsHeldAs held named source = IsHeldUnder named.film held (string_bytes named.name) source
+
+-- all that are named are there, in their order
+pub record AreHeldAs (held : List File) (named : List Named) (sources : List Source) : Type 0 where
+  pub count : length sources ≡ length named
+  pub each : (k : ℕ) (name : Named) (none : Source) → k < length named →
+      IsHeldAs held (slice_index_or named k name) (slice_index_or sources k none)
+
+-- the script of that name names a film or trace of this name, where the library tells what it holds
 abbrev pub IsPlayed : Option (List File) → List ℕ → List ℕ → Type 0
 IsPlayed told script name =
-    (held : List File) → told ≡ Some held → (read : Script) × (HoldsScript held script read × Contains (names_in read.named.items) name)
+    (held : List File) → told ≡ Some held →
+    (read : Script) × (HoldsScript held script read × Contains (names_in read.named.items) name)
 
 -- the script is read, and then the films and traces that it names
 abbrev pub IsDayInput : Option (List File) → List ℕ → List ℕ → Type 0
 IsDayInput told script name = (name ≡ script) ⊎ IsPlayed told script name
 
+-- the script is refused; or it is read, and one of the films and traces that it names is refused
 abbrev pub IsDayRefused : List ℕ → List File → List ℕ → Fault → Type 0
-IsDayRefused script held name fault = ((name ≡ script) × IsScriptRefused held name fault) ⊎ IsPlayedRefused held name fault
+IsDayRefused script held name fault =
+    ((name ≡ script) × IsScriptRefused held name fault)
+    ⊎ ((read : Script)
+    × (HoldsScript held script read × IsOneRefused read.named.items held name fault))

@@ -4,7 +4,8 @@ use Rattle.vodserve.specs.Plans.{Pictures}
 use Rattle.vodserve.specs.declared.curves.Pictures.{Pictures as PicturesRead}
 
 abbrev pub pictures_of : PicturesRead → Pictures
-pictures_of pictures = record { sizes = pictures.sizes.items; picture = pictures.picture; slot = pictures.slot }
+pictures_of pictures =
+    record { sizes = pictures.sizes.items; picture = pictures.picture; slot = pictures.slot }
 
 -- so few, small and short that they have curves
 pub record AreWithinLimits (pictures : Pictures) : Type 0 where

@@ -43,7 +43,8 @@ pub record AreOfTrace (held : List File) (name : List ℕ) (pictures : Pictures)
   pub slot_is : pictures.slot ≡ 1
 
 -- a film has the wire sizes of its units, each for the time of its rate
-pub record AreOfFilm (held : List File) (name : List ℕ) (slot : ℕ) (pictures : Pictures) : Type 0 where
+pub record AreOfFilm (held : List File) (name : List ℕ) (slot : ℕ) (pictures : Pictures)
+    : Type 0 where
   pub rate : ℕ
   pub holds : HoldsSizes held name rate pictures.sizes
   pub picture_is : pictures.picture ≡ picture_time rate
@@ -75,7 +76,8 @@ pub record HasCurves (held : List File) (viewer : Viewer) (curves : CurvePair) :
 -- ---- its plan
 
 -- the one that no feasible plan of its curves betters, and its certificate
-pub record IsPlanned (held : List File) (viewer : Viewer) (text : List ℕ) (plan : Option (List Segment)) : Type 0 where
+pub record IsPlanned (held : List File) (viewer : Viewer) (text : List ℕ)
+    (plan : Option (List Segment)) : Type 0 where
   pub curves : CurvePair
   pub has : HasCurves held viewer curves
   pub segments : List Segment
@@ -85,7 +87,8 @@ pub record IsPlanned (held : List File) (viewer : Viewer) (text : List ℕ) (pla
 
 -- its text is no trace
 abbrev pub IsNoTrace : List File → List ℕ → Fault → Type 0
-IsNoTrace held name (BadTrace place) = (text : List ℕ) × ((file_named held name ≡ Some text) × IsBadTraceText text place)
+IsNoTrace held name (BadTrace place) = (text : List ℕ)
+    × ((file_named held name ≡ Some text) × IsBadTraceText text place)
 IsNoTrace held name other = ⊥
 
 -- no such file, or no trace
@@ -99,12 +102,15 @@ IsSourceRefused held (film_source name slot) fault = IsFilmRefused held name fau
 -- the pictures have no curves, by the refusal of the curves
 abbrev pub HasNoCurves : List File → Viewer → Fault → Type 0
 HasNoCurves held viewer (Curves fault) =
-    (pictures : Pictures) × (ArePictures held viewer.source pictures × HasFault pictures.sizes (timing_of viewer pictures) fault)
+    (pictures : Pictures)
+    × (ArePictures held viewer.source pictures
+    × HasFault pictures.sizes (timing_of viewer pictures) fault)
 HasNoCurves held viewer other = ⊥
 
 -- the trace or film is refused, or it has no curves
 abbrev pub IsViewerRefused : List File → Viewer → Fault → Type 0
-IsViewerRefused held viewer fault = IsSourceRefused held viewer.source fault ⊎ HasNoCurves held viewer fault
+IsViewerRefused held viewer fault = IsSourceRefused held viewer.source fault
+    ⊎ HasNoCurves held viewer fault
 
 abbrev pub IsSourceTrouble : Source → List File → List ℕ → Fault → Type 0
 IsSourceTrouble source held name fault = IsSourceRefused held source fault
@@ -114,9 +120,19 @@ IsViewerTrouble viewer held name fault = IsViewerRefused held viewer fault
 
 -- ---- a verdict
 
--- the verdict on the certificate that the library holds: status 0 where its segments are the best plan of the curves, and 1
--- where a fault is there, of which the first is named
-pub record IsChecked (held : List File) (viewer : Viewer) (cert : List ℕ) (status : ℕ) (text : List ℕ) : Type 0 where
+-- the verdict on segments: status 0 where they are the best plan of the curves, and 1 where a fault
+-- is there, of which the first is named
+abbrev pub IsVerdict : ℕ → List ℕ → List ℕ → List Segment → ℕ → List ℕ → Type 0
+IsVerdict from low up segments status text =
+    ((status ≡ 0) × IsBestPlan from low up segments × (text ≡ codes "least\n"))
+    ⊎ ((fault : CertFault)
+    × ((status ≡ 1) × IsFirstFault from low up segments fault
+    × (text ≡ codes "refused " ++ cert_fault_text fault ++ codes "\n")))
+
+-- the verdict on the segments of the certificate that the library holds, under the curves of the
+-- trace or film
+pub record IsChecked (held : List File) (viewer : Viewer) (cert : List ℕ) (status : ℕ)
+    (text : List ℕ) : Type 0 where
   pub curves : CurvePair
   pub has : HasCurves held viewer curves
   pub written : List ℕ
@@ -125,15 +141,16 @@ pub record IsChecked (held : List File) (viewer : Viewer) (cert : List ℕ) (sta
   pub bytes : ℕ
   pub segments : List Segment
   pub certificate : IsCertificate written slots bytes segments
-  pub verdict : ((status ≡ 0) × IsBestPlan curves.from curves.low.items curves.up.items segments × (text ≡ codes "least\n"))
-      ⊎ ((fault : CertFault) × ((status ≡ 1) × IsFirstFault curves.from curves.low.items curves.up.items segments fault × (text ≡ codes "refused " ++ cert_fault_text fault ++ codes "\n")))
+  pub verdict : IsVerdict curves.from curves.low.items curves.up.items segments status text
 
 -- its text is no certificate
 abbrev pub IsNoCert : List File → List ℕ → Fault → Type 0
 IsNoCert held cert (BadCert line) =
-    (written : List ℕ) × ((file_named held cert ≡ Some written) × IsCertTextRefused written (BadCertLine line))
+    (written : List ℕ)
+    × ((file_named held cert ≡ Some written) × IsCertTextRefused written (BadCertLine line))
 IsNoCert held cert other = ⊥
 
 -- the trace or film has curves, but there is no such certificate, or its text is none
 abbrev pub IsCertRefused : List File → Viewer → List ℕ → Fault → Type 0
-IsCertRefused held viewer cert fault = ((curves : CurvePair) × HasCurves held viewer curves) × (IsMissing held cert fault ⊎ IsNoCert held cert fault)
+IsCertRefused held viewer cert fault = ((curves : CurvePair) × HasCurves held viewer curves)
+    × (IsMissing held cert fault ⊎ IsNoCert held cert fault)

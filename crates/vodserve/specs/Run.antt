@@ -1,17 +1,20 @@
--- What a run of the program did: it carried out what the words ask for, or it said what kept it from that.
+-- What a run of the program did: it carried out what the words ask for, or it said what kept it
+-- from that.
 use Rattle.std.specs.Prelude.{◌≡◌, ℕ, ◌≤◌, Bool, List, [], length, Option, Some, None, Result, Ok, Err, ◌⊎◌}
 use Rattle.vod_base.specs.Outside.{File, HasRisen, more, IsFrontMore}
 use Rattle.plan_cert.specs.declared.Segment.{Segment}
 use Rattle.slot_calendar.specs.declared.profiles.CapStep.{CapStep}
 use Rattle.admission.specs.Histories.{IsLegal}
-use Rattle.vodserve.specs.Days.{IsDayInput, IsDayRefused}
+use Rattle.day_run.specs.declared.reels.Source.{Source}
+use Rattle.day_run.specs.declared.scripts.Script.{Script}
+use Rattle.vodserve.specs.Days.{AreHeldAs, HoldsScript, IsDayInput, IsDayRefused}
 use Rattle.command_words.specs.Words.{FairRun, ScriptRun, Serving, Order, help, version, plan_of, check_of, scan_of, make_of, day_of, fair_of, serve_of, watch_of}
 use Rattle.troubles.specs.Said.{IsSaid}
 use Rattle.troubles.specs.Lines.{trouble_text}
 use Rattle.troubles.specs.Statuses.{status_of}
 use Rattle.troubles.specs.Causes.{IsReadOnly, IsReadTrouble}
 use Rattle.troubles.specs.declared.faults.Trouble.{Trouble}
-use Rattle.troubles.specs.declared.faults.Trouble.TheVariants.{Usage, Refused, StoreFault, SinkFault, NoMemory, GateFault}
+use Rattle.troubles.specs.declared.faults.Trouble.TheVariants.{Usage, Refused, StoreFault, SinkFault, NoMemory}
 use Rattle.vod_base.specs.Gates.{Content}
 use Rattle.film_frames.specs.declared.stores.Stored.{Stored}
 use Rattle.conn.specs.Parts.{Outlet, outlet}
@@ -19,7 +22,7 @@ use Rattle.conn.specs.declared.reports.PartEnd.{PartEnd}
 use Rattle.conn.specs.declared.reports.PartEnd.TheVariants.{GateFault as PartFault}
 use Rattle.vodserve.specs.Worked.{AreLoaded, HaveWorked}
 use Rattle.vodserve.specs.Served.{IsJournal, IsPrinted, IsServeTrouble, served_text}
-use Rattle.vodserve.specs.Carrying.{IsDone, IsRead, IsInputRefused}
+use Rattle.vodserve.specs.Carrying.{IfTold, IsDone, IsRead, IsInputRefused}
 use Rattle.vodserve.specs.declared.done.Done.{Done}
 use Rattle.vodserve.specs.declared.run.Ended.{Ended}
 
@@ -69,34 +72,43 @@ pub record IsCut (before after : World) (order : Order) : Type 0 where
   pub front : IsFrontMore before.out.told after.out.told text
 
 -- the text of what was done was written whole; or a fault left a front of it, and was said
-abbrev pub IsWritten : Seen (List ℕ) → Seen (List ℕ) → Seen (List ℕ) → Seen (List ℕ) → Done → Ended → Type 0
+abbrev pub IsWritten : Seen (List ℕ) → Seen (List ℕ) → Seen (List ℕ) → Seen (List ℕ) → Done →
+    Ended → Type 0
 IsWritten out out' err err' done ended =
-    ((ended.status ≡ done.status) × (ended.plan ≡ done.plan) × (out'.told ≡ more out.told done.text.items) × (err' ≡ err))
-    ⊎ (HasRisen out.faults out'.faults × IsFrontMore out.told out'.told done.text.items × Fails err err' SinkFault ended)
+    ((ended.status ≡ done.status) × (ended.plan ≡ done.plan)
+    × (out'.told ≡ more out.told done.text.items) × (err' ≡ err))
+    ⊎ (HasRisen out.faults out'.faults × IsFrontMore out.told out'.told done.text.items
+    × Fails err err' SinkFault ended)
 
 -- the same of what was done; a trouble that kept from it was said alone
-abbrev pub Printed : Seen (List ℕ) → Seen (List ℕ) → Seen (List ℕ) → Seen (List ℕ) → Result Done Trouble → Ended → Type 0
+abbrev pub Printed : Seen (List ℕ) → Seen (List ℕ) → Seen (List ℕ) → Seen (List ℕ) →
+    Result Done Trouble → Ended → Type 0
 Printed out out' err err' (Ok done) ended = IsWritten out out' err err' done ended
 Printed out out' err err' (Err trouble) ended = (out' ≡ out) × Fails err err' trouble ended
 
--- what a trouble comes from, and what it leaves of the output: before the text was made nothing was written
+-- what a trouble comes from, and what it leaves of the output: before the text was made nothing was
+-- written
 abbrev pub IsCause : World → World → Order → Trouble → Type 0
-IsCause before after order Usage = ⊥
 IsCause before after order (Refused name fault) =
-    IsReadTrouble (IsRead order) (IsInputRefused order) before.store.told before.store.faults after.store.faults (Refused name fault)
+    IsReadTrouble (IsRead order)
+    (IsInputRefused order) before.store.told before.store.faults after.store.faults
+    (Refused name fault)
     × (after.out ≡ before.out)
 IsCause before after order (StoreFault name) =
-    IsReadTrouble (IsRead order) (IsInputRefused order) before.store.told before.store.faults after.store.faults (StoreFault name)
+    IsReadTrouble (IsRead order)
+    (IsInputRefused order) before.store.told before.store.faults after.store.faults
+    (StoreFault name)
     × (after.out ≡ before.out)
 IsCause before after order SinkFault = IsCut before after order
 IsCause before after order NoMemory = after.out ≡ before.out
-IsCause before after order GateFault = ⊥
+IsCause before after order _ = ⊥
 
 -- all was done and its text written; or a trouble kept from that
 abbrev pub IsCarriedOut : World → World → Order → Ended → Type 0
 IsCarriedOut before after order ended =
     Finishes before after order ended
-    ⊎ ((trouble : Trouble) × (IsCause before after order trouble × Fails before.err after.err trouble ended))
+    ⊎ ((trouble : Trouble)
+    × (IsCause before after order trouble × Fails before.err after.err trouble ended))
 
 -- no journal, and no reports
 abbrev pub HasServedNothing : Ended → Type 0
@@ -109,82 +121,117 @@ pub record Prints (before after : World) (order : Order) (ended : Ended) : Type 
   pub out : IsCarriedOut before after order ended
 
 -- a server's end: its text was written whole; or what went wrong was said
-abbrev pub Ends : Seen (List ℕ) → Seen (List ℕ) → Seen (List ℕ) → Seen (List ℕ) → List ℕ → PartEnd → Ended → Type 0
+abbrev pub Ends : Seen (List ℕ) → Seen (List ℕ) → Seen (List ℕ) → Seen (List ℕ) → List ℕ → PartEnd →
+    Ended → Type 0
 Ends out out' err err' text end ended =
-    (IsPrinted out.faults out'.faults out.told out'.told text end None × (ended.status ≡ 0) × (ended.plan ≡ None) × (err' ≡ err))
-    ⊎ ((trouble : Trouble) × (IsPrinted out.faults out'.faults out.told out'.told text end (Some trouble) × Fails err err' trouble ended))
+    (IsPrinted out.faults out'.faults out.told out'.told text end None × (ended.status ≡ 0)
+    × (ended.plan ≡ None) × (err' ≡ err))
+    ⊎ ((trouble : Trouble)
+    × (IsPrinted out.faults out'.faults out.told out'.told text end (Some trouble)
+    × Fails err err' trouble ended))
 
--- a server that served: the films as they were loaded, the journal, what the workers did, and the text that tells of it; where a worker
--- ended by a fault of the gate, the gate counted one
-pub record HasServed (before after : World) (seed : List ℕ) (serving : Serving) (ended : Ended) : Type 0 where
+-- a server that served: the films as they were loaded, the journal, what the workers did, and the
+-- text that tells of it; where a worker ended by a fault of the gate, the gate counted one
+pub record HasServed (before after : World) (seed : List ℕ) (serving : Serving) (ended : Ended)
+    : Type 0 where
   pub films : List Stored
   pub loaded : AreLoaded before.store.told serving.films films
   pub journal : IsJournal serving ended.journal.items
   pub end : PartEnd
-  pub worked : HaveWorked films seed serving ended.journal.items before.gate after.gate end ended.reports.items
+  pub worked : HaveWorked films seed serving ended.journal.items before.gate after.gate end
+      ended.reports.items
   pub fault : end ≡ PartFault → HasRisen before.gate.faults after.gate.faults
-  pub ends : Ends before.out after.out before.err after.err (served_text ended.journal.items (length ended.reports.items)) end ended
+  pub ends : Ends before.out after.out before.err after.err
+      (served_text ended.journal.items (length ended.reports.items)) end ended
 
 -- a server: what kept it from its work, and then nothing was written; or it served
 abbrev pub Serves : World → World → List ℕ → Serving → Ended → Type 0
 Serves before after seed serving ended =
-    ((trouble : Trouble) × (IsServeTrouble serving before.store.told before.store.faults after.store.faults before.gate after.gate trouble
+    ((trouble : Trouble)
+    × (IsServeTrouble serving before.store.told before.store.faults after.store.faults before.gate
+    after.gate trouble
     × (after.out ≡ before.out) × HasServedNothing ended × Fails before.err after.err trouble ended))
     ⊎ HasServed before after seed serving ended
 
 -- words without meaning: the line alone
 abbrev pub IsUsage : World → World → Ended → Type 0
 IsUsage before after ended =
-    (after.out ≡ before.out) × (after.gate ≡ before.gate) × HasServedNothing ended × Fails before.err after.err Usage ended
+    (after.out ≡ before.out) × (after.gate ≡ before.gate) × HasServedNothing ended
+    × Fails before.err after.err Usage ended
 
 -- a text was written whole, and the status is 0; or a fault left a front of it, and was said
-abbrev pub IsTextWritten : Seen (List ℕ) → Seen (List ℕ) → Seen (List ℕ) → Seen (List ℕ) → List ℕ → Ended → Type 0
+abbrev pub IsTextWritten : Seen (List ℕ) → Seen (List ℕ) → Seen (List ℕ) → Seen (List ℕ) → List ℕ →
+    Ended → Type 0
 IsTextWritten out out' err err' text ended =
     ((ended.status ≡ 0) × (ended.plan ≡ None) × (out'.told ≡ more out.told text) × (err' ≡ err))
-    ⊎ (HasRisen out.faults out'.faults × IsFrontMore out.told out'.told text × Fails err err' SinkFault ended)
+    ⊎ (HasRisen out.faults out'.faults × IsFrontMore out.told out'.told text
+    × Fails err err' SinkFault ended)
 
--- a day that ran: its journal is a legal history over the link's capacity, and what it printed was written
-pub record HasRun (out out' err err' : Seen (List ℕ)) (capacity : List CapStep) (ended : Ended) : Type 0 where
+-- a day that ran: its journal is a legal history over the link's capacity, and what it printed was
+-- written
+pub record HasRun (out out' err err' : Seen (List ℕ)) (capacity : List CapStep) (ended : Ended)
+    : Type 0 where
   pub legal : IsLegal capacity ended.journal.items
   pub no_reports : ended.reports.items ≡ []
   pub text : List ℕ
   pub written : IsTextWritten out out' err err' text ended
 
 -- what kept a day from its run: then nothing was written
-abbrev pub HasNotRun : Seen (List ℕ) → Seen (List ℕ) → Seen (List ℕ) → Seen (List ℕ) → (Trouble → Type 0) → Ended → Type 0
+abbrev pub HasNotRun : Seen (List ℕ) → Seen (List ℕ) → Seen (List ℕ) → Seen (List ℕ) →
+    (Trouble → Type 0) → Ended → Type 0
 HasNotRun out out' err err' IsWhy ended =
-    (trouble : Trouble) × (IsWhy trouble × (out' ≡ out) × HasServedNothing ended × Fails err err' trouble ended)
+    (trouble : Trouble)
+    × (IsWhy trouble × (out' ≡ out) × HasServedNothing ended × Fails err err' trouble ended)
+
+-- a script that ran, with its films and traces, as the library holds them
+pub record HasRunScript (store : Seen (List File)) (out out' err err' : Seen (List ℕ))
+    (run : ScriptRun) (ended : Ended) : Type 0 where
+  pub script : Script
+  pub sources : List Source
+  pub read : IfTold store.told (λ held. HoldsScript held run.script script)
+  pub loaded : IfTold store.told (λ held. AreHeldAs held script.named.items sources)
+  pub ran : HasRun out out' err err' run.capacity ended
 
 -- a script was run; or an input kept from that, or want of memory
-abbrev pub RunsDay : Seen (List File) → Seen (List File) → Seen (List ℕ) → Seen (List ℕ) → Seen (List ℕ) → Seen (List ℕ) → ScriptRun → Ended → Type 0
+abbrev pub RunsDay : Seen (List File) → Seen (List File) → Seen (List ℕ) → Seen (List ℕ) →
+    Seen (List ℕ) → Seen (List ℕ) → ScriptRun → Ended → Type 0
 RunsDay store store' out out' err err' run ended =
     HasNotRun out out' err err'
-    (λ trouble. IsReadTrouble (IsDayInput store.told run.script) (IsDayRefused run.script) store.told store.faults store'.faults trouble) ended
-    ⊎ HasRun out out' err err' run.capacity ended
+    (λ trouble. IsReadTrouble (IsDayInput store.told run.script)
+    (IsDayRefused run.script) store.told store.faults store'.faults trouble) ended
+    ⊎ HasRunScript store out out' err err' run ended
 
 -- drawn plays were run; or memory was wanting
-abbrev pub RunsFair : Seen (List ℕ) → Seen (List ℕ) → Seen (List ℕ) → Seen (List ℕ) → FairRun → Ended → Type 0
+abbrev pub RunsFair : Seen (List ℕ) → Seen (List ℕ) → Seen (List ℕ) → Seen (List ℕ) → FairRun →
+    Ended → Type 0
 RunsFair out out' err err' run ended =
-    HasNotRun out out' err err' (λ trouble. trouble ≡ NoMemory) ended ⊎ HasRun out out' err err' run.capacity ended
+    HasNotRun out out' err err' (λ trouble. trouble ≡ NoMemory) ended
+    ⊎ HasRun out out' err err' run.capacity ended
 
 -- one definition for each command
 abbrev pub Does : World → World → List ℕ → Order → Ended → Type 0
 Does before after seed help ended = Prints before after help ended
 Does before after seed version ended = Prints before after version ended
 Does before after seed (plan_of viewer) ended = Prints before after (plan_of viewer) ended
-Does before after seed (check_of viewer cert) ended = Prints before after (check_of viewer cert) ended
-Does before after seed (make_of kind number pictures) ended = Prints before after (make_of kind number pictures) ended
+Does before after seed (check_of viewer cert) ended =
+    Prints before after (check_of viewer cert) ended
+Does before after seed (make_of kind number pictures) ended =
+    Prints before after (make_of kind number pictures) ended
 Does before after seed (scan_of film) ended = Prints before after (scan_of film) ended
 Does before after seed (day_of run) ended =
-    (after.gate ≡ before.gate) × RunsDay before.store after.store before.out after.out before.err after.err run ended
+    (after.gate ≡ before.gate)
+    × RunsDay before.store after.store before.out after.out before.err after.err run ended
 Does before after seed (fair_of run) ended =
-    (after.gate ≡ before.gate) × (after.store ≡ before.store) × RunsFair before.out after.out before.err after.err run ended
+    (after.gate ≡ before.gate) × (after.store ≡ before.store)
+    × RunsFair before.out after.out before.err after.err run ended
 Does before after seed (watch_of watching) ended = IsUsage before after ended
 Does before after seed (serve_of serving) ended = Serves before after seed serving ended
 
 -- the library is as it was, and what the words ask for was done, if they mean something
-pub record Ran (before after : World) (seed : List ℕ) (asked : Option Order) (ended : Ended) : Type 0 where
+pub record Ran (before after : World) (seed : List ℕ) (asked : Option Order) (ended : Ended)
+    : Type 0 where
   pub library : IsReadOnly before.store.told after.store.told before.store.faults after.store.faults
   pub output : before.out.faults ≤ after.out.faults
   pub gate : before.gate.faults ≤ after.gate.faults
-  pub does : ((order : Order) × ((asked ≡ Some order) × Does before after seed order ended)) ⊎ ((asked ≡ None) × IsUsage before after ended)
+  pub does : ((order : Order) × ((asked ≡ Some order) × Does before after seed order ended))
+      ⊎ ((asked ≡ None) × IsUsage before after ended)

@@ -16,16 +16,21 @@ mark is word = if is then word else []
 
 -- a unit's number, from 0 on, its kind, and its place in presentation order
 abbrev pub unit_name : ℕ → PictureUnit → List ℕ
-unit_name number unit = decimal number ++ codes " " ++ kind_text unit.kind ++ codes " show=" ++ decimal unit.presentation
+unit_name number unit =
+    decimal number ++ codes " " ++ kind_text unit.kind ++ codes " show="
+    ++ decimal unit.presentation
 
--- the places where it begins, where its first slice begins and where it ends, and how many slices it has
+-- the places where it begins, where its first slice begins and where it ends, and how many slices
+-- it has
 abbrev pub unit_places : PictureUnit → List ℕ
 unit_places unit =
-    codes " from=" ++ decimal unit.from ++ codes " head=" ++ decimal unit.head_end ++ codes " to=" ++ decimal unit.to ++ codes " slices=" ++ decimal unit.slices
+    codes " from=" ++ decimal unit.from ++ codes " head=" ++ decimal unit.head_end ++ codes " to="
+    ++ decimal unit.to ++ codes " slices=" ++ decimal unit.slices
 
 -- whether a sequence header stands in its head, and whether it starts a group
 abbrev pub unit_marks : PictureUnit → List ℕ
-unit_marks unit = mark unit.has_sequence (codes " sequence") ++ mark unit.starts_group (codes " group") ++ codes "\n"
+unit_marks unit = mark unit.has_sequence (codes " sequence")
+    ++ mark unit.starts_group (codes " group") ++ codes "\n"
 
 abbrev pub unit_line : ℕ → PictureUnit → List ℕ
 unit_line number unit = unit_name number unit ++ unit_places unit ++ unit_marks unit
@@ -37,8 +42,10 @@ unit_lines number (unit ∷ units) = unit_line number unit ++ unit_lines (number
 
 abbrev pub film_line : ℕ → ℕ → ℕ → List ℕ
 film_line bytes rate pictures =
-    codes "film bytes=" ++ decimal bytes ++ codes " rate=" ++ decimal rate ++ codes " pictures=" ++ decimal pictures ++ codes "\n"
+    codes "film bytes=" ++ decimal bytes ++ codes " rate=" ++ decimal rate ++ codes " pictures="
+    ++ decimal pictures ++ codes "\n"
 
 -- the number of bytes, the rate code and the number of pictures, each unit, and an end
 abbrev pub scan_text : ℕ → ℕ → List PictureUnit → List ℕ
-scan_text bytes rate units = film_line bytes rate (length units) ++ unit_lines 0 units ++ codes "end\n"
+scan_text bytes rate units =
+    film_line bytes rate (length units) ++ unit_lines 0 units ++ codes "end\n"

@@ -16,7 +16,7 @@ use Rattle.report.specs.CalendarTexts.{calendar_text}
 use Rattle.inputs.specs.Films.{IsHeldRefused}
 use Rattle.troubles.specs.Causes.{IsReadTrouble}
 use Rattle.troubles.specs.declared.faults.Trouble.{Trouble}
-use Rattle.troubles.specs.declared.faults.Trouble.TheVariants.{Usage, Refused, StoreFault, SinkFault, NoMemory, GateFault}
+use Rattle.troubles.specs.declared.faults.Trouble.TheVariants.{Refused, StoreFault, SinkFault, NoMemory, GateFault}
 use Rattle.command_words.specs.Settings.{setting_value}
 use Rattle.command_words.specs.Words.{Serving}
 
@@ -27,15 +27,19 @@ journal_lines place (entry ∷ entries) = entry_line place entry ++ journal_line
 
 -- how many connections were served, and how many entries the journal has
 abbrev pub last_line : ℕ → ℕ → List ℕ
-last_line connections entries = codes "served connections=" ++ decimal connections ++ codes " entries=" ++ decimal entries ++ codes "\n"
+last_line connections entries =
+    codes "served connections=" ++ decimal connections ++ codes " entries=" ++ decimal entries
+    ++ codes "\n"
 
 -- the journal, what is booked from the machine's now on, and the last line
 abbrev pub served_text : List Entry → ℕ → List ℕ
 served_text entries connections =
-    journal_lines 0 entries ++ calendar_text (state_after entries).now (booked_in (state_after entries)) ++ last_line connections (length entries)
+    journal_lines 0 entries
+    ++ calendar_text (state_after entries).now (booked_in (state_after entries))
+    ++ last_line connections (length entries)
 
--- the journal of a closed server: a legal history over its capacity, in which each play is halted by its own maker, with entries of
--- the seats 1 up to that of the last worker alone
+-- the journal of a closed server: a legal history over its capacity, in which each play is halted
+-- by its own maker, with entries of the seats 1 up to that of the last worker alone
 pub record IsJournal (serving : Serving) (entries : List Entry) : Type 0 where
   pub legal : IsLegal serving.capacity entries
   pub halts : AreHaltsOwn entries
@@ -46,33 +50,37 @@ pub record IsJournal (serving : Serving) (entries : List Entry) : Type 0 where
 abbrev pub HasFewer : ℕ → Option Content → Type 0
 HasFewer workers told = IfSome told (λ content. length content.parts < workers)
 
--- what keeps a server from its work: a film, the library, memory, or the gate, which counted a fault and gave a part too few
-abbrev pub IsServeTrouble : Serving → Option (List File) → ℕ → ℕ → Outlet → Outlet → Trouble → Type 0
-IsServeTrouble serving told faults faults' gate gate' Usage = ⊥
+-- what keeps a server from its work: a film, the library, memory, or the gate, which counted a
+-- fault and gave a part too few
+abbrev pub IsServeTrouble : Serving → Option (List File) → ℕ → ℕ → Outlet → Outlet → Trouble →
+    Type 0
 IsServeTrouble serving told faults faults' gate gate' (Refused name fault) =
     IsReadTrouble (Contains serving.films) IsHeldRefused told faults faults' (Refused name fault)
 IsServeTrouble serving told faults faults' gate gate' (StoreFault name) =
     IsReadTrouble (Contains serving.films) IsHeldRefused told faults faults' (StoreFault name)
-IsServeTrouble serving told faults faults' gate gate' SinkFault = ⊥
 IsServeTrouble serving told faults faults' gate gate' NoMemory = Unit {0}
 IsServeTrouble serving told faults faults' gate gate' GateFault =
     HasRisen gate.faults gate'.faults × HasFewer serving.listening.workers gate'.told
+IsServeTrouble serving told faults faults' gate gate' _ = ⊥
 
 -- a gate that was opened in this way, and not split since
 abbrev pub IsNewlyOpen : Opening → Option Content → Type 0
-IsNewlyOpen opening told = IfSome told (λ content. (content.opening ≡ Some opening) × (content.parts ≡ []))
+IsNewlyOpen opening told =
+    IfSome told (λ content. (content.opening ≡ Some opening) × (content.parts ≡ []))
 
 -- the name that a word gives to the key `film`
 abbrev pub IsWordNamed : List ℕ → List ℕ → Type 0
 IsWordNamed word name = setting_value (codes "film") word ≡ Some name
 
--- the text was written whole and each part of the gate gave all its connections; or what went wrong: a fault of the output, which was counted, left a front of it; want of memory
--- left a front of it; a part of the gate failed
-abbrev pub IsPrinted : ℕ → ℕ → Option (List ℕ) → Option (List ℕ) → List ℕ → PartEnd → Option Trouble → Type 0
+-- the text was written whole and each part of the gate gave all its connections; or what went
+-- wrong: a fault of the output, which was counted, left a front of it; want of memory left a front
+-- of it; a part of the gate failed
+abbrev pub IsPrinted : ℕ → ℕ → Option (List ℕ) → Option (List ℕ) → List ℕ → PartEnd →
+    Option Trouble → Type 0
 IsPrinted faults faults' told told' text end None = (told' ≡ more told text) × (end ≡ AllTaken)
-IsPrinted faults faults' told told' text end (Some Usage) = ⊥
-IsPrinted faults faults' told told' text end (Some (Refused name fault)) = ⊥
-IsPrinted faults faults' told told' text end (Some (StoreFault name)) = ⊥
-IsPrinted faults faults' told told' text end (Some SinkFault) = HasRisen faults faults' × IsFrontMore told told' text
+IsPrinted faults faults' told told' text end (Some SinkFault) = HasRisen faults faults'
+    × IsFrontMore told told' text
 IsPrinted faults faults' told told' text end (Some NoMemory) = IsFrontMore told told' text
-IsPrinted faults faults' told told' text end (Some GateFault) = (told' ≡ more told text) × (end ≡ PartFault)
+IsPrinted faults faults' told told' text end (Some GateFault) = (told' ≡ more told text)
+    × (end ≡ PartFault)
+IsPrinted faults faults' told told' text end (Some _) = ⊥

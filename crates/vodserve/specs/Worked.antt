@@ -30,14 +30,21 @@ opening_of serving =
 
 -- what the words let clients settle by themselves, and the slot length
 abbrev pub settings_of : Serving → Settings
-settings_of serving = record { slot_units = serving.pace.slot; buffer = serving.pace.buffer; startup = serving.pace.startup }
+settings_of serving =
+    record {
+      slot_units = serving.pace.slot;
+      buffer = serving.pace.buffer;
+      startup = serving.pace.startup;
+    }
 
 -- a film is what the library holds under its name
 abbrev pub IsHeld : Option (List File) → Stored → Type 0
-IsHeld told film = (held : List File) → told ≡ Some held → HoldsVideo held (string_bytes film.name) film.film.bytes.items
+IsHeld told film = (held : List File) → told ≡ Some held →
+    HoldsVideo held (string_bytes film.name) film.film.bytes.items
 
 -- the films of these names, in their order, as the library holds them
-pub record AreLoaded (told : Option (List File)) (names : List (List ℕ)) (films : List Stored) : Type 0 where
+pub record AreLoaded (told : Option (List File)) (names : List (List ℕ)) (films : List Stored)
+    : Type 0 where
   pub names_are : names_of films ≡ names
   pub held : All (IsHeld told) films
 
@@ -51,12 +58,15 @@ HasParts count told = IfSome told (λ content. length content.parts ≡ count)
 
 -- a part is back in its gate as it was told last
 abbrev pub HasBack : ℕ → Option Content → Content → Type 0
-HasBack number told gate = (part : Content) × ((told ≡ Some part) × (slice_index_or gate.parts number None ≡ Some part.own))
+HasBack number told gate = (part : Content)
+    × ((told ≡ Some part) × (slice_index_or gate.parts number None ≡ Some part.own))
 
--- A worker served its part of the gate, of which no connection had been taken before, from the seat of the number after its own. The
--- journal's entries of that seat are those that the worker made, and all that it saw of the journal is its front. The part is back in the
--- gate, and a fault of it was counted there.
-pub record HasWorked (by : Duty) (journal : List Entry) (gate gate' : Outlet) (report : PartReport) : Type 0 where
+-- A worker served its part of the gate, of which no connection had been taken before, from the seat
+-- of the number after its own. The journal's entries of that seat are those that the worker made,
+-- and all that it saw of the journal is its front. The part is back in the gate, and a fault of it
+-- was counted there.
+pub record HasWorked (by : Duty) (journal : List Entry) (gate gate' : Outlet) (report : PartReport)
+    : Type 0 where
   pub seat : Sitting
   pub left : Sitting
   pub part : Option Content
@@ -71,13 +81,15 @@ pub record HasWorked (by : Duty) (journal : List Entry) (gate gate' : Outlet) (r
   pub counted : 0 < after.faults → HasRisen gate.faults gate'.faults
 
 -- workers whose numbers go on from one, with their reports
-abbrev pub AllWorked : List Stored → Settings → List ℕ → List Entry → Outlet → Outlet → ℕ → List PartReport → Type 0
+abbrev pub AllWorked : List Stored → Settings → List ℕ → List Entry → Outlet → Outlet → ℕ →
+    List PartReport → Type 0
 AllWorked films settings seed journal gate gate' from [] = ⊤
 AllWorked films settings seed journal gate gate' from (report ∷ reports) =
     HasWorked (duty films settings seed from) journal gate gate' report
     × AllWorked films settings seed journal gate gate' (from + 1) reports
 
--- the reports of workers on their connections: those of the first one, then those of the next, and so on
+-- the reports of workers on their connections: those of the first one, then those of the next, and
+-- so on
 abbrev pub all_reports : List PartReport → List ConnReport
 all_reports [] = []
 all_reports (part ∷ parts) = part.reports.items ++ all_reports parts
@@ -94,15 +106,18 @@ pub record HasOne (end : PartEnd) (parts : List PartReport) : Type 0 where
   pub inside : worker < length parts
   pub ended : (none : PartReport) → (slice_index_or parts worker none).end ≡ end
 
--- how workers ended in all, and what is left of their connections: all have taken all; or one part failed; without want of memory all
--- reports are left
-pub record AreLeft (parts : List PartReport) (end : PartEnd) (reports : List ConnReport) : Type 0 where
+-- how workers ended in all, and what is left of their connections: all have taken all; or one part
+-- failed; without want of memory all reports are left
+pub record AreLeft (parts : List PartReport) (end : PartEnd) (reports : List ConnReport)
+    : Type 0 where
   pub taken : end ≡ AllTaken → All (λ part. part.end ≡ AllTaken) parts
   pub failed : end ≡ GateFault → HasOne GateFault parts
   pub whole : (end ≡ NoMemory) ⊎ (reports ≡ all_reports parts)
 
--- The workers of a server: as many as the words say, each over a part of a gate that was opened as they say, and what is left of them.
-pub record HaveWorked (films : List Stored) (seed : List ℕ) (serving : Serving) (journal : List Entry) (gate gate' : Outlet) (end : PartEnd)
+-- The workers of a server: as many as the words say, each over a part of a gate that was opened as
+-- they say, and what is left of them.
+pub record HaveWorked (films : List Stored) (seed : List ℕ) (serving : Serving)
+    (journal : List Entry) (gate gate' : Outlet) (end : PartEnd)
     (reports : List ConnReport) : Type 0 where
   pub parts : List PartReport
   pub count : length parts ≡ serving.listening.workers

@@ -11,13 +11,14 @@ use Rattle.conn.specs.Parts.{HasServedPart, IsUntouched, duty, outlet}
 use Rattle.conn.specs.declared.reports.PartReport.{PartReport}
 use Rattle.conn.specs.declared.reports.PartEnd.TheVariants.{GateFault as PartFault}
 use Rattle.troubles.specs.declared.faults.Trouble.{Trouble}
-use Rattle.troubles.specs.declared.faults.Trouble.TheVariants.{Usage, Refused, StoreFault, SinkFault, NoMemory, GateFault}
+use Rattle.troubles.specs.declared.faults.Trouble.TheVariants.{NoMemory, GateFault}
 use Rattle.vodserve.specs.Worked.{HasBack}
 use Rattle.vodserve.specs.declared.workers.Worker.{Worker}
 
--- a worker has the seat of the number after its own, and the part of the gate of its own number; where it ended by a fault of the part,
--- the part counted one
-pub record IsWorker {G : Type 0} (told : G → Option Content) (faults : G → ℕ) (hall : Hall) (worker : Worker G) : Type 0 where
+-- a worker has the seat of the number after its own, and the part of the gate of its own number;
+-- where it ended by a fault of the part, the part counted one
+pub record IsWorker {G : Type 0} (told : G → Option Content) (faults : G →
+    ℕ) (hall : Hall) (worker : Worker G) : Type 0 where
   pub id : worker.seat.id ≡ hall.id
   pub steps : worker.seat.steps ≡ hall.steps
   pub seat : worker.seat.number ≡ worker.number + 1
@@ -25,27 +26,33 @@ pub record IsWorker {G : Type 0} (told : G → Option Content) (faults : G → �
   pub part : IfSome (told worker.part) (λ content. content.own.number ≡ worker.number)
   pub fault : worker.report.end ≡ PartFault → 0 < faults worker.part
 
--- a worker that did nothing yet: its seat made no entry, and its part gave no connection and counted no fault
-pub record IsFresh {G : Type 0} (told : G → Option Content) (faults : G → ℕ) (worker : Worker G) : Type 0 where
+-- a worker that did nothing yet: its seat made no entry, and its part gave no connection and
+-- counted no fault
+pub record IsFresh {G : Type 0} (told : G → Option Content) (faults : G →
+    ℕ) (worker : Worker G) : Type 0 where
   pub mine : worker.seat.mine ≡ []
   pub part : IfSome (told worker.part) IsUntouched
   pub count : faults worker.part ≡ 0
 
 -- a worker that served its part, after it had done nothing yet
-pub record HasFinished {G : Type 0} (told : G → Option Content) (faults : G → ℕ) (films : List Stored) (settings : Settings) (seed : List ℕ) (worker : Worker G)
+pub record HasFinished {G : Type 0} (told : G → Option Content) (faults : G →
+    ℕ) (films : List Stored) (settings : Settings) (seed : List ℕ) (worker : Worker G)
     : Type 0 where
   pub seat : Sitting
   pub part : Option Content
-  pub served : HasServedPart (duty films settings seed worker.number) seat worker.seat (outlet 0 part) (outlet (faults worker.part) (told worker.part)) worker.report
+  pub served : HasServedPart (duty films settings seed worker.number) seat worker.seat
+      (outlet 0 part) (outlet (faults worker.part) (told worker.part)) worker.report
   pub number : seat.number ≡ worker.number + 1
   pub mine : seat.mine ≡ []
   pub untouched : IfSome part IsUntouched
 
 -- workers whose numbers go on from one
-abbrev pub AreWorkers : {G : Type 0} → (G → Option Content) → (G → ℕ) → Hall → ℕ → List (Worker G) → Type 0
+abbrev pub AreWorkers : {G : Type 0} → (G → Option Content) → (G → ℕ) → Hall → ℕ → List (Worker G) →
+    Type 0
 AreWorkers told faults hall from [] = ⊤
 AreWorkers told faults hall from (worker ∷ workers) =
-    (worker.number ≡ from) × IsWorker told faults hall worker × AreWorkers told faults hall (from + 1) workers
+    (worker.number ≡ from) × IsWorker told faults hall worker
+    × AreWorkers told faults hall (from + 1) workers
 
 -- of the gate's parts those from one on are out
 pub record AreOut (from count : ℕ) (content : Content) : Type 0 where
@@ -53,9 +60,11 @@ pub record AreOut (from count : ℕ) (content : Content) : Type 0 where
   pub out : (k : ℕ) → from ≤ k → k < count → slice_index_or content.parts k None ≡ None
 
 -- the parts of workers, whose numbers go on from one, are back in the gate
-abbrev pub AreBack : {G : Type 0} → (G → Option Content) → Option Content → ℕ → List (Worker G) → Type 0
+abbrev pub AreBack : {G : Type 0} → (G → Option Content) → Option Content → ℕ → List (Worker G) →
+    Type 0
 AreBack told gate from [] = ⊤
-AreBack told gate from (worker ∷ workers) = IfSome gate (HasBack from (told worker.part)) × AreBack told gate (from + 1) workers
+AreBack told gate from (worker ∷ workers) = IfSome gate (HasBack from (told worker.part))
+    × AreBack told gate (from + 1) workers
 
 -- the first seat, after it was split so often
 abbrev pub split_seat : Hall → ℕ → Sitting
@@ -68,9 +77,10 @@ joined_of worker = record { number = worker.seat.number; mine = worker.seat.mine
 abbrev pub report_of : {G : Type 0} → Worker G → PartReport
 report_of worker = worker.report
 
--- the first ones of `count` workers are back: their seats are joined to the first seat, which has seen what they have seen, and their
--- parts are in the gate
-pub record AreJoined {G : Type 0} (told : G → Option Content) (hall : Hall) (count : ℕ) (workers : List (Worker G)) (seat : Sitting)
+-- the first ones of `count` workers are back: their seats are joined to the first seat, which has
+-- seen what they have seen, and their parts are in the gate
+pub record AreJoined {G : Type 0} (told : G →
+    Option Content) (hall : Hall) (count : ℕ) (workers : List (Worker G)) (seat : Sitting)
     (gate : Option Content) : Type 0 where
   pub id : seat.id ≡ hall.id
   pub steps : seat.steps ≡ hall.steps
@@ -85,9 +95,6 @@ pub record AreJoined {G : Type 0} (told : G → Option Content) (hall : Hall) (c
 
 -- no seat or no part could be made
 abbrev pub IsMakeTrouble : ℕ → ℕ → Trouble → Type 0
-IsMakeTrouble faults faults' Usage = ⊥
-IsMakeTrouble faults faults' (Refused name fault) = ⊥
-IsMakeTrouble faults faults' (StoreFault name) = ⊥
-IsMakeTrouble faults faults' SinkFault = ⊥
 IsMakeTrouble faults faults' NoMemory = ⊤
 IsMakeTrouble faults faults' GateFault = HasRisen faults faults'
+IsMakeTrouble faults faults' _ = ⊥

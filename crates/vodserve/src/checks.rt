@@ -34,7 +34,8 @@ fn fault_words(fault: &CertFault) -> (&'static str, Option<u64>)
 
 /// The line that names the fault of a certificate.
 fn refusal_text(alloc: Global, fault: &CertFault) -> Result<Vec<u8>, AllocError>
-    ensures { IfOk result (λ text. text.items ≡ codes "refused " ++ cert_fault_text fault.now ++ codes "\n") }
+    ensures { IfOk result (λ text. text.items ≡
+        codes "refused " ++ cert_fault_text fault.now ++ codes "\n") }
 {
     let mut text = Vec::from_slice(alloc, b"refused ")?;
     let (name, number) = fault_words(fault);
@@ -56,10 +57,13 @@ pub(crate) fn check_viewer<'a, L: Library>(
     cert: &'a str,
 ) -> Result<Done, Trouble<'a>>
     requires { IsViewerInRange viewer }
-    ensures library { IsReadOnly (L.files library.old) (L.files library.new) (L.faults library.old) (L.faults library.new) }
+    ensures library { IsReadOnly (L.files library.old) (L.files library.new) (L.faults library.old)
+        (L.faults library.new) }
     ensures done { IfOk result (λ done.
-        IsDone (L.files library.old) (check_of (viewer_of viewer.entry) cert.entry.now) done.status done.text.items done.plan) }
-    ensures trouble { IfErr result (IsReadTrouble (IsRead (check_of (viewer_of viewer.entry) cert.entry.now))
+        IsDone (L.files library.old) (check_of (viewer_of viewer.entry) cert.entry.now)
+        done.status done.text.items done.plan) }
+    ensures trouble { IfErr result
+        (IsReadTrouble (IsRead (check_of (viewer_of viewer.entry) cert.entry.now))
         (IsInputRefused (check_of (viewer_of viewer.entry) cert.entry.now))
         (L.files library.old) (L.faults library.old) (L.faults library.new)) }
 {

@@ -9,8 +9,9 @@ ghost use Rattle.inputs.specs.Scans.{IsFilmRefused};
 ghost use Rattle.vodserve.specs.Plans.{AreOfFilm, AreOfTrace, ArePictures, HasCurves, IsSourceTrouble, IsTraceRefused, IsViewerTrouble};
 ghost use Rattle.vodserve.specs.Pictures.{AreWithinLimits, pictures_of};
 
+use crate::traces::load_trace;
 use command_words::{Source, Viewer};
-use inputs::{TraceRefused, read_input, read_trace, size_film};
+use inputs::size_film;
 use mpeg_scan::picture_units;
 use std::alloc::Global;
 use troubles::{Fault, Trouble};
@@ -34,25 +35,21 @@ fn trace_pictures<'a, L: Library>(
     library: &mut L,
     name: &'a str,
 ) -> Result<Pictures, Trouble<'a>>
-    ensures library { IsReadOnly (L.files library.old) (L.files library.new) (L.faults library.old) (L.faults library.new) }
+    ensures library { IsReadOnly (L.files library.old) (L.files library.new) (L.faults library.old)
+        (L.faults library.new) }
     ensures limits { IfOk result (λ pictures. AreWithinLimits (pictures_of pictures)) }
     ensures pictures { (held : List File) → L.files library.old ≡ Some held
         → IfOk result (λ pictures. AreOfTrace held name.entry.now (pictures_of pictures)) }
     ensures trouble { IfErr result (IsReadTrouble (IsNamed name.entry.now) IsTraceRefused
         (L.files library.old) (L.faults library.old) (L.faults library.new)) }
 {
-    let text = match read_input(alloc, library, name) {
-        Ok(text) => text,
-        Err(trouble) => return Err(trouble),
-    };
-    match read_trace(alloc, &text) {
+    match load_trace(alloc, library, name) {
         Ok(sizes) => Ok(Pictures {
             sizes,
             picture: 1,
             slot: 1,
         }),
-        Err(TraceRefused::BadTrace(place)) => Err(Trouble::Refused(name, Fault::BadTrace(place))),
-        Err(TraceRefused::NoMemory) => Err(Trouble::NoMemory),
+        Err(trouble) => Err(trouble),
     }
 }
 
@@ -65,7 +62,8 @@ fn film_pictures<'a, L: Library>(
 ) -> Result<Pictures, Trouble<'a>>
     requires some_slot { 360 ≤ slot }
     requires slot_fits { slot ≤ 360000 }
-    ensures library { IsReadOnly (L.files library.old) (L.files library.new) (L.faults library.old) (L.faults library.new) }
+    ensures library { IsReadOnly (L.files library.old) (L.files library.new) (L.faults library.old)
+        (L.faults library.new) }
     ensures limits { IfOk result (λ pictures. AreWithinLimits (pictures_of pictures)) }
     ensures pictures { (held : List File) → L.files library.old ≡ Some held
         → IfOk result (λ pictures. AreOfFilm held name.entry.now slot (pictures_of pictures)) }
@@ -89,12 +87,15 @@ fn source_pictures<'a, L: Library>(
     source: Source<'a>,
 ) -> Result<Pictures, Trouble<'a>>
     requires { IsSourceInRange source }
-    ensures library { IsReadOnly (L.files library.old) (L.files library.new) (L.faults library.old) (L.faults library.new) }
+    ensures library { IsReadOnly (L.files library.old) (L.files library.new) (L.faults library.old)
+        (L.faults library.new) }
     ensures limits { IfOk result (λ pictures. AreWithinLimits (pictures_of pictures)) }
     ensures pictures { (held : List File) → L.files library.old ≡ Some held
-        → IfOk result (λ pictures. ArePictures held (source_read source.entry) (pictures_of pictures)) }
+        → IfOk result (λ pictures.
+        ArePictures held (source_read source.entry) (pictures_of pictures)) }
     ensures trouble { IfErr result (IsReadTrouble (IsNamed (source_name (source_read source.entry)))
-        (IsSourceTrouble (source_read source.entry)) (L.files library.old) (L.faults library.old) (L.faults library.new)) }
+        (IsSourceTrouble (source_read source.entry))
+        (L.files library.old) (L.faults library.old) (L.faults library.new)) }
 {
     match source {
         Source::Trace(name) => trace_pictures(alloc, library, name),
@@ -109,10 +110,13 @@ pub(crate) fn viewer_curves<'a, L: Library>(
     viewer: Viewer<'a>,
 ) -> Result<Curves, Trouble<'a>>
     requires { IsViewerInRange viewer }
-    ensures library { IsReadOnly (L.files library.old) (L.files library.new) (L.faults library.old) (L.faults library.new) }
+    ensures library { IsReadOnly (L.files library.old) (L.files library.new) (L.faults library.old)
+        (L.faults library.new) }
     ensures sound { IfOk result (λ curves. IsSound curves.from curves.low.items curves.up.items) }
-    ensures curves { (held : List File) → L.files library.old ≡ Some held → IfOk result (HasCurves held (viewer_of viewer.entry)) }
-    ensures trouble { IfErr result (IsReadTrouble (IsNamed (source_name (viewer_of viewer.entry).source))
+    ensures curves { (held : List File) → L.files library.old ≡ Some held →
+        IfOk result (HasCurves held (viewer_of viewer.entry)) }
+    ensures trouble { IfErr result
+        (IsReadTrouble (IsNamed (source_name (viewer_of viewer.entry).source))
         (IsViewerTrouble (viewer_of viewer.entry))
         (L.files library.old) (L.faults library.old) (L.faults library.new)) }
 {

@@ -19,7 +19,8 @@ fn end_day<O: Sink, E: Sink>(alloc: Global, out: &mut O, err: &mut E, day: Day) 
     ensures journal { result.journal ≡ day.journal }
     ensures reports { result.reports.items ≡ [] }
     ensures count { O.faults out.old ≤ O.faults out.new }
-    ensures written { IsTextWritten (seen O.faults O.written out.old) (seen O.faults O.written out.new)
+    ensures written { IsTextWritten (seen O.faults O.written out.old)
+        (seen O.faults O.written out.new)
         (seen E.faults E.written err.old) (seen E.faults E.written err.new) day.text.items result }
 {
     let Day { text, journal } = day;
@@ -51,11 +52,13 @@ pub(crate) fn day<L: Library, O: Sink, E: Sink>(
     run: &ScriptRun<'_>,
 ) -> Ended
     requires { IsScriptRunInRange run.now }
-    ensures library { IsReadOnly (L.files library.old) (L.files library.new) (L.faults library.old) (L.faults library.new) }
+    ensures library { IsReadOnly (L.files library.old) (L.files library.new) (L.faults library.old)
+        (L.faults library.new) }
     ensures count { O.faults out.old ≤ O.faults out.new }
     ensures runs { RunsDay (seen L.faults L.files library.old) (seen L.faults L.files library.new)
         (seen O.faults O.written out.old) (seen O.faults O.written out.new)
-        (seen E.faults E.written err.old) (seen E.faults E.written err.new) (script_run_of run.now) result }
+        (seen E.faults E.written err.old) (seen E.faults E.written err.new)
+        (script_run_of run.now) result }
 {
     let script = match load_script(alloc, library, run.script) {
         Ok(script) => script,
@@ -81,7 +84,8 @@ pub(crate) fn fair<O: Sink, E: Sink>(
     requires { IsFairRunInRange run.now }
     ensures count { O.faults out.old ≤ O.faults out.new }
     ensures runs { RunsFair (seen O.faults O.written out.old) (seen O.faults O.written out.new)
-        (seen E.faults E.written err.old) (seen E.faults E.written err.new) (fair_run_of run.now) result }
+        (seen E.faults E.written err.old) (seen E.faults E.written err.new)
+        (fair_run_of run.now) result }
 {
     match run_fair(alloc, run) {
         Ok(day) => end_day(alloc, out, err, day),

@@ -7,17 +7,15 @@ ghost use Rattle.admission.specs.Histories.{IsLegal};
 ghost use Rattle.command_words.specs.Ranges.{IsFairRunInRange, IsScriptRunInRange};
 ghost use Rattle.day_run.specs.Scripts.{AreLines};
 ghost use Rattle.day_run.specs.Sources.{AreSources, IsSource};
-ghost use Rattle.film_run.specs.Units.{IsTrace};
 ghost use Rattle.troubles.specs.Causes.{IsReadOnly, IsReadTrouble};
 ghost use Rattle.inputs.specs.Files.{IsNamed};
-ghost use Rattle.inputs.specs.Scans.{IsFilmRefused};
-ghost use Rattle.vodserve.specs.Days.{HoldsScript, IsPlayedRefused, IsScriptRefused, names_in};
-ghost use Rattle.vodserve.specs.Plans.{IsTraceRefused};
+ghost use Rattle.vodserve.specs.Days.{AreHeldAs, HoldsScript, IsHeldAs, IsNameOf, IsNamedRefused, IsOneRefused, IsScriptRefused, names_in};
 
 use crate::serving::profile_of;
+use crate::traces::load_trace;
 use command_words::{FairRun, ScriptRun};
 use day_run::{Day, Named, Script, ScriptRefused, Source, fair, read_script, run_script};
-use inputs::{TraceRefused, load_script_film, read_input, read_trace};
+use inputs::{load_script_film, read_input};
 use std::alloc::Global;
 use troubles::{Fault, Trouble};
 use vod_base::{Library, NoMemory};
@@ -28,9 +26,12 @@ pub(crate) fn load_script<'a, L: Library>(
     library: &mut L,
     name: &'a str,
 ) -> Result<Script, Trouble<'a>>
-    ensures library { IsReadOnly (L.files library.old) (L.files library.new) (L.faults library.old) (L.faults library.new) }
-    ensures lines { IfOk result (λ script. AreLines (length script.named.items) script.lines.items) }
-    ensures held { (held : List File) → L.files library.old ≡ Some held → IfOk result (HoldsScript held name.entry.now) }
+    ensures library { IsReadOnly (L.files library.old) (L.files library.new) (L.faults library.old)
+        (L.faults library.new) }
+    ensures lines { IfOk result (λ script.
+        AreLines (length script.named.items) script.lines.items) }
+    ensures held { (held : List File) → L.files library.old ≡ Some held →
+        IfOk result (HoldsScript held name.entry.now) }
     ensures trouble { IfErr result (IsReadTrouble (IsNamed name.entry.now) IsScriptRefused
         (L.files library.old) (L.faults library.old) (L.faults library.new)) }
 {
@@ -48,41 +49,23 @@ pub(crate) fn load_script<'a, L: Library>(
     }
 }
 
-/// The sizes of the trace of that name.
-fn load_trace<'a, L: Library>(
-    alloc: Global,
-    library: &mut L,
-    name: &'a str,
-) -> Result<Vec<u64>, Trouble<'a>>
-    ensures library { IsReadOnly (L.files library.old) (L.files library.new) (L.faults library.old) (L.faults library.new) }
-    ensures trace { IfOk result (λ sizes. IsTrace sizes.items) }
-    ensures trouble { IfErr result (IsReadTrouble (IsNamed name.entry.now) IsTraceRefused
-        (L.files library.old) (L.faults library.old) (L.faults library.new)) }
-{
-    let text = match read_input(alloc, library, name) {
-        Ok(text) => text,
-        Err(trouble) => return Err(trouble),
-    };
-    match read_trace(alloc, &text) {
-        Ok(sizes) => Ok(sizes),
-        Err(TraceRefused::BadTrace(place)) => Err(Trouble::Refused(name, Fault::BadTrace(place))),
-        Err(TraceRefused::NoMemory) => Err(Trouble::NoMemory),
-    }
-}
-
 /// A film or trace that a script names.
 fn load_source<'a, L: Library>(
     alloc: Global,
     library: &mut L,
-    film: bool,
-    name: &'a str,
+    named: &'a Named,
 ) -> Result<Source, Trouble<'a>>
-    ensures library { IsReadOnly (L.files library.old) (L.files library.new) (L.faults library.old) (L.faults library.new) }
+    ensures library { IsReadOnly (L.files library.old) (L.files library.new)
+        (L.faults library.old) (L.faults library.new) }
     ensures source { IfOk result IsSource }
-    ensures trouble { IfErr result (IsReadTrouble (IsNamed name.entry.now) IsPlayedRefused
+    ensures held { (held : List File) → L.files library.old ≡ Some held →
+        IfOk result (IsHeldAs held named.entry.now) }
+    ensures trouble { IfErr result (IsReadTrouble (IsNameOf named.entry.now)
+        (IsNamedRefused named.entry.now)
         (L.files library.old) (L.faults library.old) (L.faults library.new)) }
 {
-    if film {
+    let name = named.name.as_str();
+    if named.film {
         match load_script_film(alloc, library, name) {
             Ok(film) => Ok(Source::Film(film)),
             Err(trouble) => Err(trouble),
@@ -101,15 +84,19 @@ pub(crate) fn load_sources<'a, L: Library>(
     library: &mut L,
     named: &'a [Named],
 ) -> Result<Vec<Source>, Trouble<'a>>
-    ensures library { IsReadOnly (L.files library.old) (L.files library.new) (L.faults library.old) (L.faults library.new) }
+    ensures library { IsReadOnly (L.files library.old) (L.files library.new)
+        (L.faults library.old) (L.faults library.new) }
     ensures count { IfOk result (λ sources. length sources.items ≡ length named.entry.now) }
     ensures sources { IfOk result (λ sources. AreSources sources.items) }
-    ensures trouble { IfErr result (IsReadTrouble (Contains (names_in named.entry.now)) IsPlayedRefused
+    ensures held { (held : List File) → L.files library.old ≡ Some held →
+        IfOk result (λ sources. AreHeldAs held named.entry.now sources.items) }
+    ensures trouble { IfErr result (IsReadTrouble (Contains (names_in named.entry.now))
+        (IsOneRefused named.entry.now)
         (L.files library.old) (L.faults library.old) (L.faults library.new)) }
 {
     let mut sources = Vec::new(alloc);
     for one in named {
-        let source = match load_source(alloc, library, one.film, one.name.as_str()) {
+        let source = match load_source(alloc, library, one) {
             Ok(source) => source,
             Err(trouble) => return Err(trouble),
         };

@@ -17,7 +17,8 @@ pub(crate) struct Done {
 
 /// What was done, where its text was made.
 pub(crate) fn finish<'a, F: Drop>(status: u8, text: Result<Vec<u8>, F>) -> Result<Done, Trouble<'a>>
-    ensures done { IfOk result (λ done. (done.status ≡ status) × (text ≡ Ok done.text) × (done.plan ≡ None)) }
+    ensures done { IfOk result (λ done. (done.status ≡ status) × (text ≡ Ok done.text)
+        × (done.plan ≡ None)) }
     ensures trouble { IfErr result (λ trouble. trouble ≡ Trouble.NoMemory) }
 {
     match text {

@@ -1,4 +1,5 @@
-//! `vodserve`: a video-on-demand server for RTSP 1.0 that sends each film by its optimal smoothing plan.
+//! `vodserve`: a video-on-demand server for RTSP 1.0 that sends each film by its optimal smoothing
+//! plan.
 #![tactic(auto)]
 
 mod checks;
@@ -22,6 +23,7 @@ mod serving;
 #[cfg(test)]
 mod tests;
 mod texts;
+mod traces;
 mod workers;
 
 use net_edge::{FileLibrary, OutSink, TcpGate};

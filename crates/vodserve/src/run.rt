@@ -1,16 +1,16 @@
 ghost use Rattle.std.specs.Prelude.{◌≡◌, ◌≤◌, ◌⊎◌, None, Bool, length, ℕ, List, Option, Result, IfOk, IfErr};
-ghost use Rattle.command_words.specs.Words.{Order, meaning};
+ghost use Rattle.command_words.specs.Words.{Order, check_of, meaning};
 ghost use Rattle.command_words.specs.Settings.{texts};
 ghost use Rattle.plan_cert.specs.declared.Segment.{Segment};
 ghost use Rattle.troubles.specs.Causes.{IsReadOnly, IsReadTrouble};
 ghost use Rattle.troubles.specs.declared.faults.Fault.{Fault};
 ghost use Rattle.vod_base.specs.Outside.{File};
 ghost use Rattle.command_words.specs.Words.{Viewer};
-ghost use Rattle.vodserve.specs.Carrying.{IsDone, IsInputRefused, IsPlanned, IsRead, IsViewerRefused};
+ghost use Rattle.vodserve.specs.Carrying.{IsChecked, IsDone, IsInputRefused, IsPlanned, IsRead, IsViewerRefused};
 ghost use Rattle.command_words.specs.Orders.{serving_of};
 ghost use Rattle.command_words.specs.Ranges.{IsServingInRange};
 ghost use Rattle.vodserve.specs.Served.{served_text};
-ghost use Rattle.vodserve.specs.Laws.{LeavesNoneOut, ServesWhatItMay};
+ghost use Rattle.vodserve.specs.Laws.{LeavesNoneOut, ServesEach, ServesWhatItMay, TellsItsJournal};
 ghost use Rattle.vodserve.specs.Run.{Ends, Fails, HasServedNothing, Printed, Ran, Serves, gate_seen, seen, world};
 
 use crate::checks::check_viewer;
@@ -35,8 +35,8 @@ use vod_base::{Gate, Library, Sink};
 /// How a run ended.
 #[derive(Debug, Drop)]
 pub struct Ended {
-    /// The exit status: 0 done, 1 a certificate was refused, 2 the words mean nothing, 3 an input is
-    /// refused, 4 the library failed, 5 the output failed, 6 want of memory, 7 the gate failed.
+    /// The exit status: 0 done, 1 a certificate was refused, 2 the words mean nothing, 3 an input
+    /// is refused, 4 the library failed, 5 the output failed, 6 want of memory, 7 the gate failed.
     pub status: u8,
     /// The plan, for `plan` with status 0.
     pub plan: Option<Plan>,
@@ -89,14 +89,31 @@ fn print<O: Sink, E: Sink>(
     }
 }
 
-/// A law: a trace that a library holds has one plan and one text of it, and isn't refused besides.
-/// So the output is a function of the input, and status 3 comes only where there is no plan.
+/// A law: a trace or film that a library holds has one plan and one text of it, and isn't refused
+/// besides. So the output is a function of the input, and status 3 comes only where there is no
+/// plan.
 pub fn law_one_plan()
-    ensures once { (held : List File) → (viewer : Viewer) → (text text' : List ℕ) → (plan plan' : Option (List Segment)) → IsPlanned held viewer text plan → IsPlanned held viewer text' plan' → (text ≡ text') × (plan ≡ plan') }
-    ensures not_refused { (held : List File) → (viewer : Viewer) → (text : List ℕ) → (plan : Option (List Segment)) → (fault : Fault) → IsPlanned held viewer text plan → IsViewerRefused held viewer fault → ⊥ }
+    ensures once { (held : List File) (viewer : Viewer) (text text' : List ℕ)
+        (plan plan' : Option (List Segment)) → IsPlanned held viewer text plan →
+        IsPlanned held viewer text' plan' → (text ≡ text') × (plan ≡ plan') }
+    ensures not_refused { (held : List File) (viewer : Viewer) (text : List ℕ)
+        (plan : Option (List Segment)) (fault : Fault) → IsPlanned held viewer text plan →
+        IsViewerRefused held viewer fault → ⊥ }
 {}
 
-/// Ends a server: prints its journal, what is still booked and a last line, and hands journal and reports out.
+/// A law: a certificate of a trace or film that a library holds has one verdict, a status and a
+/// line, and neither of the two is refused besides.
+pub fn law_one_verdict()
+    ensures once { (held : List File) (viewer : Viewer) (cert : List ℕ) (status status' : ℕ)
+        (text text' : List ℕ) → IsChecked held viewer cert status text →
+        IsChecked held viewer cert status' text' → (status ≡ status') × (text ≡ text') }
+    ensures not_refused { (held : List File) (viewer : Viewer) (cert : List ℕ) (status : ℕ)
+        (text name : List ℕ) (fault : Fault) → IsChecked held viewer cert status text →
+        IsInputRefused (check_of viewer cert) held name fault → ⊥ }
+{}
+
+/// Ends a server: prints its journal, what is still booked and a last line, and hands journal and
+/// reports out.
 fn end_server<O: Sink, E: Sink>(alloc: Global, out: &mut O, err: &mut E, closed: Closed) -> Ended
     ensures journal { result.journal.items ≡ closed.book.entries }
     ensures reports { result.reports.items ≡ closed.reports.items }
@@ -162,22 +179,36 @@ where
     }
 }
 
-/// A law: a server whose films are accepted serves, where nothing fails outside and memory is found.
+/// A law: a server whose films are accepted serves, where nothing fails outside and memory is
+/// found.
 pub fn law_serves()
     ensures { ServesWhatItMay }
 {}
 
-/// A law: with status 0 the gate was opened as the words say, and each part of it gave connections until there were no more
-/// and got each one back.
+/// A law: with status 0 the gate was opened as the words say, and each part of it gave connections
+/// until there were no more and got each one back.
 pub fn law_all_served()
     ensures { LeavesNoneOut }
 {}
 
+/// A law: with status 0 or 7 each receipt of a report tells an entry of the journal in `Ended`: the
+/// one at its place, of the seat of the report's worker, with its answer.
+pub fn law_tells_its_journal()
+    ensures { TellsItsJournal }
+{}
+
+/// A law: with status 0 each connection that a part of the gate gave was served over the films of
+/// the library, as its own report in `Ended` tells, and what its seat made is in the journal.
+pub fn law_serves_each()
+    ensures { ServesEach }
+{}
+
 /// Carries out the words of the command line, which come without the program's name.
 ///
-/// Each command's text goes to `out` when all of it is known, and a trouble's line to `err`. With the statuses 2, 3 and 4
-/// nothing is written to `out`, with 5 a front of the text; a fault of `err` changes no status. `serve` takes its
-/// connections from `gate`, and draws their identities from `seed`.
+/// Each command's text goes to `out` when all of it is known, and a trouble's line to `err`. With
+/// the statuses 2, 3 and 4 nothing is written to `out`, with 5 a front of the text; a fault of
+/// `err` changes no status. `serve` takes its connections from `gate`, and draws their identities
+/// from `seed`.
 pub fn run<R: Threads + Wait + Sync, L: Library, O: Sink, E: Sink, G: Gate + Send + Drop>(
     rt: &R,
     alloc: Global,

@@ -19,9 +19,11 @@ pub(crate) fn print_scan<'a, L: Library>(
     library: &mut L,
     film: &'a str,
 ) -> Result<Done, Trouble<'a>>
-    ensures library { IsReadOnly (L.files library.old) (L.files library.new) (L.faults library.old) (L.faults library.new) }
+    ensures library { IsReadOnly (L.files library.old) (L.files library.new) (L.faults library.old)
+        (L.faults library.new) }
     ensures done { IfOk result (λ done.
-        IsDone (L.files library.old) (scan_of film.entry.now) done.status done.text.items done.plan) }
+        IsDone (L.files library.old) (scan_of film.entry.now)
+        done.status done.text.items done.plan) }
     ensures trouble { IfErr result (IsReadTrouble (IsRead (scan_of film.entry.now))
         (IsInputRefused (scan_of film.entry.now))
         (L.files library.old) (L.faults library.old) (L.faults library.new)) }
@@ -38,6 +40,8 @@ pub(crate) fn print_scan<'a, L: Library>(
 
 /// A law: a film that a library holds has one scan, and isn't refused besides.
 pub fn law_one_scan()
-    ensures once { (held : List File) (film text text' : List ℕ) → IsScanned held film text → IsScanned held film text' → text ≡ text' }
-    ensures not_refused { (held : List File) (film text : List ℕ) (fault : Fault) → IsScanned held film text → IsFilmRefused held film fault → ⊥ }
+    ensures once { (held : List File) (film text text' : List ℕ) → IsScanned held film text →
+        IsScanned held film text' → text ≡ text' }
+    ensures not_refused { (held : List File) (film text : List ℕ) (fault : Fault) →
+        IsScanned held film text → IsFilmRefused held film fault → ⊥ }
 {}

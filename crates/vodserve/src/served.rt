@@ -10,7 +10,7 @@ use crate::serving::Closed;
 use admission::{Book, Entry};
 use conn::PartEnd;
 use itoa::Buffer;
-use report::{calendar_text, entry_line, law_kinds, law_state_text};
+use report::{calendar_text, entry_line, law_answer_kinds, law_state_text};
 use slot_calendar::Profile;
 use std::alloc::Global;
 use troubles::Trouble;
@@ -48,7 +48,7 @@ fn journal_text(alloc: Global, profile: &Profile, entries: &[Entry]) -> Result<V
     requires { IsLegal profile.now entries.now }
     ensures { IfOk result (λ text. text.items ≡ journal_lines 0 entries.now) }
 {
-    law_kinds(profile, entries);
+    law_answer_kinds();
     let mut text = Vec::new(alloc);
     for (place, entry) in entries.iter().enumerate() {
         entry_line(place as u64, entry, &mut text)?;
@@ -69,15 +69,18 @@ fn served_text(alloc: Global, book: &Book, connections: u64) -> Result<Vec<u8>, 
     Ok(text)
 }
 
-/// Writes the text of a closed server, and answers what went wrong: want of memory before the output before the gate.
+/// Writes the text of a closed server, and answers what went wrong: want of memory before the
+/// output before the gate.
 pub(crate) fn print_served<O: Sink>(
     alloc: Global,
     out: &mut O,
     closed: &Closed,
 ) -> Option<Trouble<'static>>
     ensures count { O.faults out.old ≤ O.faults out.new }
-    ensures printed { IsPrinted (O.faults out.old) (O.faults out.new) (O.written out.old) (O.written out.new)
-        (served_text closed.now.book.entries (length closed.now.reports.items)) closed.now.end result }
+    ensures printed { IsPrinted (O.faults out.old) (O.faults out.new) (O.written out.old)
+        (O.written out.new)
+        (served_text closed.now.book.entries (length closed.now.reports.items))
+        closed.now.end result }
 {
     let Ok(text) = served_text(alloc, &closed.book, closed.reports.len() as u64) else {
         return Some(Trouble::NoMemory);

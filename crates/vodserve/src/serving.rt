@@ -39,7 +39,8 @@ pub(crate) struct Prepared {
     pub(crate) seat: Seat,
 }
 
-/// A server after its workers: its book, what is left of its connections, and the worst end of a worker.
+/// A server after its workers: its book, what is left of its connections, and the worst end of a
+/// worker.
 #[derive(Drop)]
 pub(crate) struct Closed {
     pub(crate) book: Book,
@@ -57,7 +58,8 @@ fn add_film<'a, L: Library>(
     ensures library { IsReadOnly (L.files library.old) (L.files library.new)
         (L.faults library.old) (L.faults library.new) }
     ensures added { OnOk result (names_of films.new.items
-        ≡ names_of films.old.items ++ option_to_list (setting_value (codes "film") word.entry.now)) }
+        ≡ names_of films.old.items
+        ++ option_to_list (setting_value (codes "film") word.entry.now)) }
     ensures held { All (IsHeld (L.files library.old)) films.old.items →
         OnOk result (All (IsHeld (L.files library.old)) films.new.items) }
     ensures trouble { IfErr result (IsReadTrouble (IsWordNamed word.entry.now) IsHeldRefused
@@ -149,7 +151,8 @@ pub(crate) fn prepare<'a, L: Library, G: Gate>(
         IsNewlyOpen (opening_of (serving_of serving.entry.now)) (G.told gate.new)) }
     ensures trouble { IfErr result (IsServeTrouble (serving_of serving.entry.now)
         (L.files library.old) (L.faults library.old) (L.faults library.new)
-        (outlet (G.faults gate.old) (G.told gate.old)) (outlet (G.faults gate.new) (G.told gate.new))) }
+        (outlet (G.faults gate.old) (G.told gate.old))
+        (outlet (G.faults gate.new) (G.told gate.new))) }
 {
     let films = match load_films(alloc, library, serving.words) {
         Ok(films) => films,
@@ -174,7 +177,8 @@ pub(crate) fn prepare<'a, L: Library, G: Gate>(
     }
 }
 
-/// Runs the workers over the open gate and closes the station. Where a seat or a part can't be made no worker runs.
+/// Runs the workers over the open gate and closes the station. Where a seat or a part can't be made
+/// no worker runs.
 pub(crate) fn run_server<R: Threads + Wait + Sync, G: Gate + Send + Drop>(
     rt: &R,
     alloc: Global,
@@ -195,7 +199,8 @@ where
         IsJournal (serving_of serving.entry.now) closed.book.entries) }
     ensures worked { IfOk result (λ closed. HaveWorked prepared.films.items seed
         (serving_of serving.entry.now) closed.book.entries
-        (outlet (G.faults gate.old) (G.told gate.old)) (outlet (G.faults gate.new) (G.told gate.new))
+        (outlet (G.faults gate.old) (G.told gate.old))
+        (outlet (G.faults gate.new) (G.told gate.new))
         closed.end closed.reports.items) }
     ensures trouble { IfErr result (IsMakeTrouble (G.faults gate.old) (G.faults gate.new)) }
     ensures fewer { IfErr result (λ trouble.

@@ -19,8 +19,8 @@ use std::thread::Threads;
 use troubles::Trouble;
 use vod_base::Gate;
 
-/// A worker of a server: its number from 0, its seat at the station, its part of the gate, and what is left of its
-/// connections.
+/// A worker of a server: its number from 0, its seat at the station, its part of the gate, and what
+/// is left of its connections.
 #[derive(Drop)]
 pub(crate) struct Worker<G> {
     number: u32,
@@ -38,7 +38,8 @@ pub(crate) struct Service<'a> {
     pub(crate) seed: [u8; 32],
 }
 
-/// Makes workers, each with a part of the gate and a seat. After a trouble there are those that were made before it.
+/// Makes workers, each with a part of the gate and a seat. After a trouble there are those that
+/// were made before it.
 pub(crate) fn make_workers<G: Gate + Drop>(
     alloc: Global,
     station: &Station,
@@ -153,8 +154,8 @@ fn worse(one: PartEnd, other: PartEnd) -> PartEnd
     }
 }
 
-/// Appends a worker's reports, and answers the worse of its end and of another, or want of memory where there was none for
-/// the reports.
+/// Appends a worker's reports, and answers the worse of its end and of another, or want of memory
+/// where there was none for the reports.
 fn add_reports(end: PartEnd, report: PartReport, reports: &mut Vec<ConnReport>) -> PartEnd
     ensures left { (parts : List PartReport) → AreLeft parts end reports.old.items →
         AreLeft (parts ++ report ∷ []) result reports.new.items }
@@ -169,8 +170,8 @@ fn add_reports(end: PartEnd, report: PartReport, reports: &mut Vec<ConnReport>) 
     }
 }
 
-/// Joins the workers' seats and parts, collects their reports in the order of the workers, and answers the worst of their
-/// ends, or want of memory where there was none for the reports.
+/// Joins the workers' seats and parts, collects their reports in the order of the workers, and
+/// answers the worst of their ends, or want of memory where there was none for the reports.
 pub(crate) fn join_workers<G: Gate + Drop>(
     station: &Station,
     seat: &mut Seat,

@@ -1,42 +1,31 @@
-use Rattle.std.proofs.Common.{◌∙◌, ◌++◌, ap, sym}
-use Rattle.std.specs.Prelude.{codes}
-use Rattle.std.proofs.lemmas.List.{append_assoc}
+use Rattle.std.proofs.Common.{◌∙◌, ◌++◌, ◌+◌, List, ℕ, ap, sym, take, get_or, length}
+use Rattle.std.specs.Prelude.{flat_map}
+use Rattle.std.proofs.lemmas.List.{append_assoc, append-nil, flat_map_more, take_all, take_more}
+use Rattle.troubles.specs.Lines.{fault_words}
 use Rattle.troubles.specs.Said.{number_text}
-use Rattle.troubles.specs.Lines.{fault_text}
-use Rattle.troubles.specs.declared.faults.Fault.{Fault}
 use Rattle.troubles.proofs.SaidLemmas.{said_as}
 use Rattle.troubles.proofs.lines.add_fault.Goals as goal
 
-pub returns-in-NotFound : goal.returns-in-NotFound
-returns-in-NotFound g c = λ faults told text said.
-    said_as (ap (λ (f : Fault). text ++ fault_text f) (sym c.in-NotFound.is)) (c.add.ensures faults told text said)
+pub loop-number-init : goal.loop-number-init
+loop-number-init g c = λ first start text said.
+    said_as (ap (λ (t : List ℕ). text ++ t) (c.as_bytes.ensures.value ∙ c.fault_words-words.ensures.name ∙ sym (append-nil (fault_words c.args.fault).name)))
+    (c.add-goes.ensures first start text said)
 
-pub returns-in-BadTrace : goal.returns-in-BadTrace
-returns-in-BadTrace g c = λ faults told text said.
-    said_as (append_assoc text (codes "BadTrace") (number_text c.in-BadTrace.place) ∙ ap (λ (f : Fault). text ++ fault_text f) (sym c.in-BadTrace.is))
-    (c.add_number.ensures faults told (text ++ codes "BadTrace") (c.add-named.ensures faults told text said))
+pub loop-number-preserved : goal.loop-number-preserved
+loop-number-preserved g c = λ first start text said.
+    let name : List ℕ = (fault_words c.args.fault).name in
+    let numbers : List ℕ = take c.fault_words-words.result.count c.fault_words-words.result.numbers in
+    let i : ℕ = c.loop-number.number-index in
+    let so_far : List ℕ = flat_map number_text (take i numbers) in
+    let n : ℕ = get_or numbers i 0 in
+    said_as (append_assoc text (name ++ so_far) (number_text n)
+    ∙ ap (λ (t : List ℕ). text ++ t) (flat_map_more number_text name (take i numbers) n
+    ∙ ap (λ (ns : List ℕ). name ++ flat_map number_text ns) (sym (take_more numbers i 0 c.loop-number-test.true))))
+    (c.add_number-goes.ensures first start (text ++ (name ++ so_far)) (c.loop-number.invariant first start text said))
 
-pub returns-in-Curves : goal.returns-in-Curves
-returns-in-Curves g c = λ faults told text said.
-    said_as (ap (λ (f : Fault). text ++ fault_text f) (sym c.in-Curves.is)) (c.add_curve_fault.ensures faults told text said)
-
-pub returns-in-BadCert : goal.returns-in-BadCert
-returns-in-BadCert g c = λ faults told text said.
-    said_as (append_assoc text (codes "BadCert") (number_text c.in-BadCert.line) ∙ ap (λ (f : Fault). text ++ fault_text f) (sym c.in-BadCert.is))
-    (c.add_number-in-BadCert.ensures faults told (text ++ codes "BadCert") (c.add-named-in-BadCert.ensures faults told text said))
-
-pub returns-in-Film : goal.returns-in-Film
-returns-in-Film g c = λ faults told text said.
-    said_as (ap (λ (f : Fault). text ++ fault_text f) (sym c.in-Film.is)) (c.add_film_fault.ensures faults told text said)
-
-pub returns-in-FilmTooLarge : goal.returns-in-FilmTooLarge
-returns-in-FilmTooLarge g c = λ faults told text said.
-    said_as (ap (λ (f : Fault). text ++ fault_text f) (sym c.in-FilmTooLarge.is)) (c.add-in-FilmTooLarge.ensures faults told text said)
-
-pub returns-in-System : goal.returns-in-System
-returns-in-System g c = λ faults told text said.
-    said_as (ap (λ (f : Fault). text ++ fault_text f) (sym c.in-System.is)) (c.add_system_fault.ensures faults told text said)
-
-pub returns-in-BadScript : goal.returns-in-BadScript
-returns-in-BadScript g c = λ faults told text said.
-    said_as (ap (λ (f : Fault). text ++ fault_text f) (sym c.in-BadScript.is)) (c.add_named.ensures faults told text said)
+pub returns : goal.returns
+returns g c = λ first start text said.
+    let numbers : List ℕ = take c.fault_words-words.result.count c.fault_words-words.result.numbers in
+    said_as (ap (λ (ns : List ℕ). text ++ ((fault_words c.args.fault).name ++ flat_map number_text ns))
+    (take_all c.loop-number.number-index numbers c.loop-number-test.false ∙ c.fault_words-words.ensures.numbers))
+    (c.loop-number.invariant first start text said)

@@ -45,3 +45,8 @@ returns-in-Refused g c =
     (c.add-colon.ensures (g.S.Sink.faults c.args.sink.now) (g.S.Sink.written c.args.sink.now) named
     (c.add-named.ensures (g.S.Sink.faults c.args.sink.now) (g.S.Sink.written c.args.sink.now) program
     (c.add-program.ensures (g.S.Sink.faults c.args.sink.now) (g.S.Sink.written c.args.sink.now) [] (said_nothing (g.S.Sink.faults c.args.sink.now) (g.S.Sink.written c.args.sink.now)))))))
+
+pub returns-in-LinkFault : goal.returns-in-LinkFault
+returns-in-LinkFault g c =
+    said_as (ap trouble_text (sym c.in-LinkFault.is))
+    (c.add-in-LinkFault.ensures (g.S.Sink.faults c.args.sink.now) (g.S.Sink.written c.args.sink.now) [] (said_nothing (g.S.Sink.faults c.args.sink.now) (g.S.Sink.written c.args.sink.now)))

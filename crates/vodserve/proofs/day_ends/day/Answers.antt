@@ -1,8 +1,10 @@
-use Rattle.std.proofs.Common.{◌≡◌, ◌∙◌, ◌≤◌, List, ℕ, inl, inr, refl, arith}
+use Rattle.std.proofs.Common.{◌≡◌, ◌∙◌, ◌≤◌, List, ℕ, Vec, Global, inl, inr, refl, sym, subst, arith}
+use Rattle.admission.specs.Histories.{IsLegal}
+use Rattle.admission.specs.declared.entries.Entry.{Entry}
 use Rattle.std.specs.List.{Contains}
 use Rattle.inputs.specs.Files.{IsNamed}
 use Rattle.troubles.proofs.CauseLemmas.{trouble_map}
-use Rattle.vodserve.specs.Days.{IsDayInput, IsDayRefused, IsPlayedRefused, IsScriptRefused, names_in}
+use Rattle.vodserve.specs.Days.{IsDayInput, IsDayRefused, IsOneRefused, IsScriptRefused, names_in}
 use Rattle.vodserve.proofs.day_ends.day.Goals as goal
 
 pub returns-in-Err-clause-runs : goal.returns-in-Err-clause-runs
@@ -29,12 +31,12 @@ returns-in-Err-load_sources-clause-runs g c =
       c.in-Err-load_sources.trouble,
       (
         trouble_map (Contains (names_in c.deref.result.now)) (IsDayInput (g.L.Library.files c.args.library.now) c.args.run.now.script.now)
-            IsPlayedRefused (IsDayRefused c.args.run.now.script.now)
+            (IsOneRefused c.deref.result.now) (IsDayRefused c.args.run.now.script.now)
             (g.L.Library.files c.load_script.new.library) (g.L.Library.files c.args.library.now)
             (g.L.Library.faults c.load_script.new.library) (g.L.Library.faults c.load_sources.new.library) (g.L.Library.faults c.args.library.now) (g.L.Library.faults c.load_sources.new.library)
             c.in-Err-load_sources.trouble
             (λ name inside. inr (λ held told. (c.in-Ok.script, ((c.in-Ok.ensures {u = tt}).held held told, rw c.deref.ensures.value at inside))))
-            (λ held name fault told is refused. inr refused) (λ held told. c.load_script.ensures.library.kept ∙ told)
+            (λ held name fault told is refused. inr (c.in-Ok.script, ((c.in-Ok.ensures {u = tt}).held held told, rw c.deref.ensures.value at refused))) (λ held told. c.load_script.ensures.library.kept ∙ told)
             (omega (arith, c.load_script.ensures.library.count)) (omega arith)
             ((c.in-Err-load_sources.ensures {u = tt}).trouble),
         refl,
@@ -42,3 +44,17 @@ returns-in-Err-load_sources-clause-runs g c =
         c.end_with-in-Err-load_sources.ensures.fails,
       ),
     )
+
+pub returns-in-Ok-run_day-clause-runs : goal.returns-in-Ok-run_day-clause-runs
+returns-in-Ok-run_day-clause-runs g c = inr (record {
+  script = c.in-Ok.script;
+  sources = c.in-Ok-load_sources.sources.items;
+  read = λ held told. (c.in-Ok.ensures {u = tt}).held held told;
+  loaded = λ held told. rw c.deref.ensures.value at ((c.in-Ok-load_sources.ensures {u = tt}).held held (c.load_script.ensures.library.kept ∙ told));
+  ran = record {
+    legal = subst (λ (v : Vec Entry Global). IsLegal c.args.run.now.capacity v.items) (sym c.end_day.ensures.journal) ((c.in-Ok-run_day.ensures {u = tt}));
+    no_reports = c.end_day.ensures.reports;
+    text = c.in-Ok-run_day.day.text.items;
+    written = c.end_day.ensures.written;
+  };
+})

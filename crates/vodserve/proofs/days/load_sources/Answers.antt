@@ -1,24 +1,33 @@
 use Rattle.std.proofs.Common.{rules, ◌≡◌, ◌∙◌, ◌+◌, ◌++◌, ◌∷◌, [], sym, arith, length, length-append, string_bytes}
 use Rattle.std.specs.List.{Contains}
-use Rattle.inputs.specs.Files.{IsNamed}
 use Rattle.troubles.proofs.CauseLemmas.{trouble_map}
-use Rattle.vodserve.specs.Days.{IsPlayedRefused, names_in}
-use Rattle.vodserve.proofs.DayLemmas.{named_contains, sources_push}
+use Rattle.vodserve.specs.Days.{IsNameOf, IsNamedRefused, IsOneRefused, names_in}
+use Rattle.vodserve.proofs.DayLemmas.{held_none, held_push, held_whole, named_contains, one_refused, sources_push}
 use Rattle.vodserve.proofs.days.load_sources.Goals as goal
 
 pub returns-in-Err-clause-trouble : goal.returns-in-Err-clause-trouble
 returns-in-Err-clause-trouble g c =
-    trouble_map (IsNamed c.as_str.result.now) (Contains (names_in c.args.named.now)) IsPlayedRefused IsPlayedRefused
+    trouble_map (IsNameOf c.one-item.result) (Contains (names_in c.args.named.now)) (IsNamedRefused c.one-item.result) (IsOneRefused c.args.named.now)
     (g.L.Library.files c.loop-one.library) (g.L.Library.files c.args.library.now)
     (g.L.Library.faults c.loop-one.library) (g.L.Library.faults c.load_source.new.library) (g.L.Library.faults c.args.library.now) (g.L.Library.faults c.load_source.new.library)
     c.in-Err.trouble
-    (λ name is. named_contains c.args.named.now c.loop-one.one-index c.one-item.result name c.loop-one-test.true c.one-item.is (is ∙ c.as_str.ensures.value))
-    (λ held name fault told is refused. refused) (λ held told. c.loop-one.invariant.library.kept ∙ told)
+    (λ name is. named_contains c.args.named.now c.loop-one.one-index c.one-item.result name c.loop-one-test.true c.one-item.is is)
+    (λ held name fault told is refused. one_refused held c.args.named.now c.loop-one.one-index c.one-item.result name fault c.loop-one-test.true c.one-item.is is refused)
+    (λ held told. c.loop-one.invariant.library.kept ∙ told)
     (omega (arith, c.loop-one.invariant.library.count)) (omega arith) ((c.in-Err.ensures {u = tt}).trouble)
 
 pub loop-one-preserved : goal.loop-one-preserved
 loop-one-preserved g c = record {
   count = search rules;
   sources = sources_push c.loop-one.sources.items c.push.new.self.items c.in-Ok.source (search rules) ((c.in-Ok.ensures {u = tt}).source) c.loop-one.invariant.sources;
+  held = λ held told.
+      held_push held c.args.named.now c.loop-one.sources.items c.push.new.self.items c.in-Ok.source c.one-item.result c.loop-one.one-index (search rules)
+      c.loop-one.invariant.count c.loop-one-test.true c.one-item.is (c.loop-one.invariant.held held told)
+      ((c.in-Ok.ensures {u = tt}).held held (c.loop-one.invariant.library.kept ∙ told));
   library = search rules;
 }
+
+pub returns-clause-held : goal.returns-clause-held
+returns-clause-held g c = λ held told.
+    held_whole held c.args.named.now c.loop-one.sources.items (omega (arith, c.loop-one.invariant.count, c.loop-one-test.false, c.loop-one.auto.one-index-end))
+    (c.loop-one.invariant.held held told)

@@ -1,14 +1,12 @@
 use Rattle.std.proofs.Common.{◌∙◌, Some, None, refl, sym, ap, arith}
 use Rattle.command_words.specs.Words.{help, version, plan_of, check_of, make_of, scan_of, day_of, fair_of, watch_of}
 use Rattle.command_words.specs.Orders.{fair_run_of, made_of, order_of, script_run_of, viewer_of, watching_of}
-use Rattle.command_words.specs.declared.orders.Order.{Order as OrderRead}
 use Rattle.vodserve.proofs.RunLemmas.{help_done, made_done, no_memory, printed, ran_as, version_done}
 use Rattle.vodserve.proofs.run.run.Goals as goal
 
 pub returns-in-Plan : goal.returns-in-Plan
 returns-in-Plan g c = record {
-  ran = ran_as _ _ _ _ (plan_of (viewer_of c.in-Plan.viewer)) _
-      (sym ((c.in-Some.ensures {u = tt}).order) ∙ ap (λ (o : OrderRead). Some (order_of o)) c.in-Plan.is)
+  ran = ran_as _ _ _ _ _ ((c.in-Some.ensures {u = tt}).order) c.in-Plan.is
       c.plan_viewer-done.ensures.library c.print-in-Plan.ensures.count (omega arith)
       (printed _ _ (plan_of (viewer_of c.in-Plan.viewer)) c.plan_viewer-done.result c.print-in-Plan.result refl c.print-in-Plan.ensures.nothing
       c.plan_viewer-done.ensures.done c.plan_viewer-done.ensures.trouble c.print-in-Plan.ensures.printed);
@@ -16,8 +14,7 @@ returns-in-Plan g c = record {
 
 pub returns-in-Check : goal.returns-in-Check
 returns-in-Check g c = record {
-  ran = ran_as _ _ _ _ (check_of (viewer_of c.in-Check.viewer) c.in-Check.cert.now) _
-      (sym ((c.in-Some.ensures {u = tt}).order) ∙ ap (λ (o : OrderRead). Some (order_of o)) c.in-Check.is)
+  ran = ran_as _ _ _ _ _ ((c.in-Some.ensures {u = tt}).order) c.in-Check.is
       c.check_viewer-done.ensures.library c.print-in-Check.ensures.count (omega arith)
       (printed _ _ (check_of (viewer_of c.in-Check.viewer) c.in-Check.cert.now) c.check_viewer-done.result c.print-in-Check.result refl
       c.print-in-Check.ensures.nothing c.check_viewer-done.ensures.done c.check_viewer-done.ensures.trouble c.print-in-Check.ensures.printed);
@@ -25,8 +22,7 @@ returns-in-Check g c = record {
 
 pub returns-in-Make : goal.returns-in-Make
 returns-in-Make g c = record {
-  ran = ran_as _ _ _ _ (make_of (made_of c.in-Make.kind) c.in-Make.seed c.in-Make.pictures) _
-      (sym ((c.in-Some.ensures {u = tt}).order) ∙ ap (λ (o : OrderRead). Some (order_of o)) c.in-Make.is)
+  ran = ran_as _ _ _ _ _ ((c.in-Some.ensures {u = tt}).order) c.in-Make.is
       (record { kept = refl; count = omega arith }) c.print-in-Make.ensures.count (omega arith)
       (printed _ _ (make_of (made_of c.in-Make.kind) c.in-Make.seed c.in-Make.pictures) c.finish-in-Make.result c.print-in-Make.result refl
       c.print-in-Make.ensures.nothing
@@ -37,8 +33,7 @@ returns-in-Make g c = record {
 
 pub returns-in-Scan : goal.returns-in-Scan
 returns-in-Scan g c = record {
-  ran = ran_as _ _ _ _ (scan_of c.in-Scan.film.now) _
-      (sym ((c.in-Some.ensures {u = tt}).order) ∙ ap (λ (o : OrderRead). Some (order_of o)) c.in-Scan.is)
+  ran = ran_as _ _ _ _ _ ((c.in-Some.ensures {u = tt}).order) c.in-Scan.is
       c.print_scan-done.ensures.library c.print-in-Scan.ensures.count (omega arith)
       (printed _ _ (scan_of c.in-Scan.film.now) c.print_scan-done.result c.print-in-Scan.result refl c.print-in-Scan.ensures.nothing
       c.print_scan-done.ensures.done c.print_scan-done.ensures.trouble c.print-in-Scan.ensures.printed);
@@ -46,8 +41,7 @@ returns-in-Scan g c = record {
 
 pub returns-in-Help : goal.returns-in-Help
 returns-in-Help g c = record {
-  ran = ran_as _ _ _ _ help _
-      (sym ((c.in-Some.ensures {u = tt}).order) ∙ ap (λ (o : OrderRead). Some (order_of o)) c.in-Help.is)
+  ran = ran_as _ _ _ _ _ ((c.in-Some.ensures {u = tt}).order) c.in-Help.is
       (record { kept = refl; count = omega arith }) c.print.ensures.count (omega arith)
       (printed _ _ help c.finish.result c.print.result refl c.print.ensures.nothing
       (help_done None c.help.result c.help.ensures c.finish.result c.finish.ensures.done)
@@ -56,8 +50,7 @@ returns-in-Help g c = record {
 
 pub returns-in-Version : goal.returns-in-Version
 returns-in-Version g c = record {
-  ran = ran_as _ _ _ _ version _
-      (sym ((c.in-Some.ensures {u = tt}).order) ∙ ap (λ (o : OrderRead). Some (order_of o)) c.in-Version.is)
+  ran = ran_as _ _ _ _ _ ((c.in-Some.ensures {u = tt}).order) c.in-Version.is
       (record { kept = refl; count = omega arith }) c.print-in-Version.ensures.count (omega arith)
       (printed _ _ version c.finish-in-Version.result c.print-in-Version.result refl c.print-in-Version.ensures.nothing
       (version_done None c.version.result c.version.ensures c.finish-in-Version.result c.finish-in-Version.ensures.done)
@@ -66,21 +59,18 @@ returns-in-Version g c = record {
 
 pub returns-in-Day : goal.returns-in-Day
 returns-in-Day g c = record {
-  ran = ran_as _ _ _ _ (day_of (script_run_of c.in-Day.order)) _
-      (sym ((c.in-Some.ensures {u = tt}).order) ∙ ap (λ (o : OrderRead). Some (order_of o)) c.in-Day.is)
+  ran = ran_as _ _ _ _ _ ((c.in-Some.ensures {u = tt}).order) c.in-Day.is
       c.day.ensures.library c.day.ensures.count (omega arith) (refl, c.day.ensures.runs);
 }
 
 pub returns-in-Fair : goal.returns-in-Fair
 returns-in-Fair g c = record {
-  ran = ran_as _ _ _ _ (fair_of (fair_run_of c.in-Fair.order)) _
-      (sym ((c.in-Some.ensures {u = tt}).order) ∙ ap (λ (o : OrderRead). Some (order_of o)) c.in-Fair.is)
+  ran = ran_as _ _ _ _ _ ((c.in-Some.ensures {u = tt}).order) c.in-Fair.is
       (record { kept = refl; count = omega arith }) c.fair.ensures.count (omega arith) (refl, refl, c.fair.ensures.runs);
 }
 
 pub returns-in-Watch : goal.returns-in-Watch
 returns-in-Watch g c = record {
-  ran = ran_as _ _ _ _ (watch_of (watching_of c.in-Watch.field-0)) _
-      (sym ((c.in-Some.ensures {u = tt}).order) ∙ ap (λ (o : OrderRead). Some (order_of o)) c.in-Watch.is)
+  ran = ran_as _ _ _ _ _ ((c.in-Some.ensures {u = tt}).order) c.in-Watch.is
       (record { kept = refl; count = omega arith }) (omega arith) (omega arith) (refl, refl, c.end_with-in-Watch.ensures.nothing, c.end_with-in-Watch.ensures.fails);
 }
