@@ -12,6 +12,7 @@ use Rattle.station.specs.Seats.{Sitting}
 use Rattle.conn.specs.declared.reports.ConnReport.{ConnReport}
 use Rattle.conn.specs.declared.reports.ConnEnd.TheVariants.{LinkFault}
 use Rattle.conn.specs.Rounds.{ending_doings, rounds_doings}
+use Rattle.conn.specs.Promises.{KeepsPromise}
 use Rattle.conn.specs.Served.{HasServedConnection}
 use Rattle.conn.specs.Parts.{AreServed, AreTold, HasServedOne, IsUntouched, fresh_told}
 use Rattle.conn.proofs.Sighting.{told_none}
@@ -29,13 +30,17 @@ fresh_is (Some told) new doings fresh is = ap Some fresh ∙ sym (ap fresh_told 
 
 pub served_fresh : (films : List Stored) (settings : Settings) (words : List ℕ) (old new : Option (List Doing)) (before after : ℕ) (seat next : Sitting)
     (report : ConnReport) → before ≡ 0 → IfSome old (λ told. told ≡ []) → report.words ≡ words →
-    HasServedConnection (new_standing films settings words) old new seat next report → (report.end ≡ LinkFault → HasRisen before after) →
+    HasServedConnection (new_standing films settings words) old new seat next report →
+    KeepsPromise (new_standing films settings words) old new seat next report → (report.end ≡ LinkFault → HasRisen before after) →
     HasServedOne films settings (record { faults = after; told = new }) report seat next
-served_fresh films settings words old new before after seat next report zero fresh is_words served fault =
+served_fresh films settings words old new before after seat next report zero fresh is_words served keeps fault =
     let more = told_after (new_standing films settings words) old new seat next report served in
     let told : HasServedConnection (new_standing films settings words) (fresh_told new) new seat next report =
-    subst (λ t. HasServedConnection (new_standing films settings words) t new seat next report) (fresh_is old new more.0 fresh more.1) served in record {
+    subst (λ t. HasServedConnection (new_standing films settings words) t new seat next report) (fresh_is old new more.0 fresh more.1) served in
+    let kept : KeepsPromise (new_standing films settings words) (fresh_told new) new seat next report =
+    subst (λ t. KeepsPromise (new_standing films settings words) t new seat next report) (fresh_is old new more.0 fresh more.1) keeps in record {
       served = subst (λ ws. HasServedConnection (new_standing films settings ws) (fresh_told new) new seat next report) (sym is_words) told;
+      keeps = subst (λ ws. KeepsPromise (new_standing films settings ws) (fresh_told new) new seat next report) (sym is_words) kept;
       fault = λ is. subst (λ n. HasRisen n after) zero (fault is);
     }
 

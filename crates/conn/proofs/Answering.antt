@@ -1,15 +1,14 @@
 -- A PLAY to which no refusal applies is answered by what the station made of it.
-use Rattle.std.proofs.Common.{◌≡◌, ℕ, ◌-◌, List, [], Option, Some, refl, sym, ap, subst, ◌∙◌, inl, inr}
+use Rattle.std.proofs.Common.{◌≡◌, ℕ, ◌-◌, List, refl, sym, ap, subst, ◌∙◌, inl, inr}
 use Rattle.std.specs.Fmt.{digits}
 use Rattle.rtsp_text.specs.Replies.{reply_front, reply_text, status_line}
 use Rattle.admission.specs.declared.entries.Answer.{Answer}
 use Rattle.admission.specs.declared.entries.Answer.TheVariants.{Admitted, Halted, Looked, Overflow}
 use Rattle.admission.specs.Makers.{Placed}
-use Rattle.plan_cert.specs.declared.Segment.{Segment}
 use Rattle.station.specs.Ledgers.{play_of}
 use Rattle.session.specs.declared.asks.Ask.{Ask}
 use Rattle.session.specs.declared.asks.Ask.TheVariants.{Reply as AskReply, Play as AskPlay}
-use Rattle.session.specs.Changes.{AsksOrLacks, CanBePlayed, ChangesState, HasCode, IsPlayAsked, IsPlayAskedFor, LacksMemory}
+use Rattle.session.specs.Changes.{AsksOrLacks, CanBePlayed, ChangesState, HasCode, IsPlayAsked, LacksMemory}
 use Rattle.session.specs.Hearings.{started_text}
 use Rattle.session.specs.Methods.{play_front, prepared_of}
 use Rattle.session.specs.Standings.{Standing, sequence_of}

@@ -1,5 +1,5 @@
 -- Through each request a session keeps its films, its settings and what SETUP settled, and a play that it asks for is a sending.
-use Rattle.std.proofs.Common.{◌≡◌, ℕ, ◌⊎◌, List, length, Option, refl, sym, ap, subst, ◌∙◌, inl, inr}
+use Rattle.std.proofs.Common.{◌≡◌, ℕ, List, length, Option, refl, sym, subst, ◌∙◌, inl, inr}
 use Rattle.film_frames.specs.declared.stores.Stored.{Stored}
 use Rattle.film_frames.specs.Runs.{run_pieces}
 use Rattle.film_run.specs.declared.runs.Run.{Run}

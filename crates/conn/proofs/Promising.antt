@@ -1,12 +1,11 @@
 -- What a connection keeps to while a play goes on, by the course.
-use Rattle.std.proofs.Common.{◌≡◌, ℕ, ◌+◌, ◌-◌, ◌≤◌, ◌^◌, ◌&&◌, ◌++◌, Bool, true, false, if◌then◌else◌, nat_lt, nat_le, List, [], ◌∷◌, length, take, drop, refl, sym, ap, subst, ◌∙◌, arith, inl, inr, Option}
+use Rattle.std.proofs.Common.{◌≡◌, ℕ, ◌+◌, ◌-◌, ◌≤◌, ◌&&◌, ◌++◌, Bool, true, false, if◌then◌else◌, List, [], ◌∷◌, length, take, drop, refl, sym, ap, subst, ◌∙◌, arith, inl, Option}
 use Rattle.std.proofs.lemmas.List.{append-nil}
 use Rattle.film_frames.specs.declared.stores.Stored.{Stored}
 use Rattle.film_frames.specs.Tracks.{framed}
 use Rattle.film_run.proofs.PlayLaws.{sending-best}
 use Rattle.film_run.specs.declared.runs.Run.{Run}
 use Rattle.film_run.specs.Units.{stored_sizes}
-use Rattle.plan_cert.specs.declared.Segment.{Segment}
 use Rattle.plan_cert.specs.Plan.{IsPlan}
 use Rattle.vod_base.specs.Links.{Doing, HeardBytes, HeardEnd, HeardSlot, Sent}
 use Rattle.pacer.specs.Pacings.{first_slots}
@@ -22,7 +21,7 @@ use Rattle.session.specs.Standings.{Standing, taken_up}
 use Rattle.conn.specs.Turns.{Outcome, Part, Stage, film_bytes, slot_parts, stage}
 use Rattle.conn.specs.Rounds.{Comes, Round}
 use Rattle.conn.specs.Films.{HasSent, HasSentOn}
-use Rattle.conn.specs.Plays.{ArePlaysKept, IsKeptIn, IsRoundIn, IsSentBy, client_of, film_in, heard_by, play_pieces}
+use Rattle.conn.specs.Plays.{ArePlaysKept, IsKeptIn, IsSentBy, client_of, film_in, heard_by, play_pieces}
 use Rattle.conn.proofs.Between.{planned_between}
 use Rattle.conn.proofs.Hearing.{AreShown, HasPlay, IsStateOf, IsWell}
 use Rattle.conn.proofs.Playing.{as_it_was}

@@ -1,5 +1,5 @@
 -- Through a course a session stays as `IsWell` has it.
-use Rattle.std.proofs.Common.{◌≡◌, ℕ, ◌++◌, ◌&&◌, ◌^◌, Bool, true, false, if◌then◌else◌, nat_lt, nat_le, List, [], ◌∷◌, length, refl, sym, ap, subst, ◌∙◌}
+use Rattle.std.proofs.Common.{◌≡◌, ℕ, ◌++◌, ◌&&◌, Bool, true, false, if◌then◌else◌, List, [], ◌∷◌, length, refl, sym, ap, subst, ◌∙◌}
 use Rattle.std.proofs.lemmas.Bool.{true≢false}
 use Rattle.std.proofs.lemmas.List.{append-nil}
 use Rattle.film_frames.specs.declared.stores.Stored.{Stored}
@@ -34,7 +34,7 @@ use Rattle.session.specs.Ranges.{AreSettings, IsSetup}
 use Rattle.session.specs.Sendings.{can_reply, due_state, finished, halted_in, is_between, is_sending, is_taken, next_of, sent_due, sent_reply, sent_slot, slotted, state_after, stepped_in}
 use Rattle.session.specs.Standings.{Awaits, NoAnswer, PlayAnswer, HaltAnswer, LookAnswer, OfferAnswer, Standing, awaits}
 use Rattle.session.specs.Steps.{IsPlayIn, settled}
-use Rattle.conn.specs.Turns.{Outcome, Unasked, Entered, WasFull, Offered, Part, Text, Stage, Taking, Passed, Answered, HasHeard, IsAnswered, IsFinished, IsHalted, IsLookAnswered, IsPlayAnswered, Takes, TakesAll, after_reply, due_parts, film_bytes, reply_parts, slot_parts}
+use Rattle.conn.specs.Turns.{Outcome, Unasked, Entered, WasFull, Offered, Part, Text, Stage, Taking, Passed, Answered, HasHeard, IsAnswered, IsFinished, IsHalted, IsLookAnswered, IsPlayAnswered, Takes, TakesAll, after_reply, due_parts, film_bytes, slot_parts}
 use Rattle.conn.specs.Rounds.{Comes, Round, Runs, RunsAll}
 use Rattle.conn.specs.Films.{HasSent, HasSentOn, IsReady}
 use Rattle.conn.specs.Plays.{film_in, film_since, film_taken}

@@ -1,5 +1,5 @@
 -- What the replies of a connection tell of the station's answers.
-use Rattle.std.proofs.Common.{◌≡◌, ℕ, ◌-◌, ◌++◌, ◌&&◌, Bool, true, false, if◌then◌else◌, Contains, List, [], ◌∷◌, Some, codes, decimal, get_or, length, take, refl, sym, ap, subst, ◌∙◌, inl, inr, arith}
+use Rattle.std.proofs.Common.{◌≡◌, ℕ, ◌-◌, ◌++◌, ◌&&◌, Bool, true, false, if◌then◌else◌, Contains, List, [], ◌∷◌, Some, codes, decimal, get_or, length, take, refl, sym, ap, subst, ◌∙◌, arith}
 use Rattle.std.proofs.lemmas.List.{append-nil, append_assoc}
 use Rattle.std.proofs.lemmas.List.Elements.{All-contains, Contains-append_left, Contains-append_right, Contains-push}
 use Rattle.vod_base.specs.Links.{Doing, HeardBytes, HeardEnd, HeardSlot, Sent}
@@ -28,7 +28,7 @@ use Rattle.session.specs.Hearings.{after_full, started_text}
 use Rattle.session.specs.Replies.{field, full_text, overflow_text}
 use Rattle.session.specs.Sendings.{can_reply, finished, is_between, is_sending, is_taken, sent_due, sent_reply, sent_slot, slotted, stepped_in}
 use Rattle.session.specs.Standings.{Awaits, NoAnswer, PlayAnswer, HaltAnswer, LookAnswer, OfferAnswer, Standing, awaits}
-use Rattle.conn.specs.Turns.{Outcome, Unasked, Entered, WasFull, Offered, Part, Film, Text, Stage, Taking, Passed, Answered, HasHeard, IsAnswered, IsFinished, IsHalted, IsLookAnswered, IsPlayAnswered, Takes as TakesPiece, TakesAll, after_reply, due_parts, entry_in, reply_parts, slot_parts}
+use Rattle.conn.specs.Turns.{Outcome, Unasked, Entered, WasFull, Offered, Part, Film, Text, Stage, Taking, Passed, Answered, HasHeard, IsAnswered, IsFinished, IsHalted, IsLookAnswered, IsPlayAnswered, Takes as TakesPiece, TakesAll, slot_parts}
 use Rattle.conn.specs.Rounds.{Comes, Ending, Ends, Unheard, PeerEnded, Overfull, AtPiece, InSlot, InReply, Round, Runs, RunsAll, ending_outcomes, entries_in, round_outcomes, rounds_outcomes, takings_outcomes}
 use Rattle.conn.specs.Films.{round_parts, rounds_parts, takings_parts}
 use Rattle.conn.specs.Plays.{ending_rounds}

@@ -19,9 +19,11 @@ abbrev pub IsEndOf : DemuxFault → ConnEnd → Type 0
 IsEndOf LongHead end = end ≡ HeadTooLong
 IsEndOf LongBody end = end ≡ BodyTooLong
 
--- nothing more can be taken up: no whole piece waits, or a request waits for a reply that isn't sent
+-- nothing more can be taken up: no whole piece waits, or a request waits for a reply that isn't
+-- sent
 abbrev pub IsWaiting : Connection → Type 0
-IsWaiting c = IsFirst c.input (Ok More) ⊎ ((n : ℕ) × (IsFirst c.input (Ok (Request n)) × (c.session.waits ≡ true)))
+IsWaiting c = IsFirst c.input (Ok More)
+    ⊎ ((n : ℕ) × (IsFirst c.input (Ok (Request n)) × (c.session.waits ≡ true)))
 
 -- what waits was taken up, and the connection goes on; or it ended, for this cause
 abbrev pub IsTakenUp : Option ConnEnd → Connection → Type 0
@@ -40,19 +42,23 @@ abbrev pub HasHeard : Heard → ℕ → Option ConnEnd → Connection → Type 0
 HasHeard PeerEnd waiting end c = end ≡ Some Ended
 HasHeard (Slot slot) waiting end c = IsTakenUp end c
 HasHeard (Bytes n) waiting end c =
-    ((131072 < waiting + n) × (end ≡ Some TooMuchInput)) ⊎ ((waiting + n < 131073) × IsTakenUp end c)
+    ((131072 < waiting + n) × (end ≡ Some TooMuchInput))
+    ⊎ ((waiting + n < 131073) × IsTakenUp end c)
 
 -- however bytes were cut into pieces and this rest, they are cut into pieces and that one too
 pub record CutsOn (old new : List ℕ) : Type 0 where
-  pub each : (bytes : List ℕ) (pieces : List (List ℕ)) → AreCut bytes pieces old → (more : List (List ℕ)) × AreCut bytes more new
+  pub each : (bytes : List ℕ) (pieces : List (List ℕ)) → AreCut bytes pieces old →
+      (more : List (List ℕ)) × AreCut bytes more new
 
 -- what waits, with the bytes that an event brought; where too many would wait, without them
 abbrev pub with_heard : List ℕ → Heard → List ℕ → List ℕ
-with_heard input (Bytes n) into = if nat_lt 131072 (length input + n) then input else input ++ take n into
+with_heard input (Bytes n) into = if nat_lt 131072 (length input + n)
+    then input else input ++ take n into
 with_heard input (Slot slot) into = input
 with_heard input PeerEnd into = input
 
--- what came of the piece in front: it was taken up and is gone; nothing more can be taken up; or the connection ended
+-- what came of the piece in front: it was taken up and is gone; nothing more can be taken up; or
+-- the connection ended
 abbrev pub IsTaken : Taken → ℕ → Connection → Type 0
 IsTaken Gone waiting c = (c.session.lost ≡ false) × (length c.input < waiting)
 IsTaken Waits waiting c = IsTakenUp None c
@@ -75,7 +81,8 @@ end_in Gone = None
 end_in Waits = None
 end_in (End end) = Some end
 
--- the link's count of faults never falls, and it rose where the connection ended because the link failed
+-- the link's count of faults never falls, and it rose where the connection ended because the link
+-- failed
 pub record HasCounted (end : Option ConnEnd) (old new : ℕ) : Type 0 where
   pub count : old ≤ new
   pub fault : is_fault end ≡ true → HasRisen old new

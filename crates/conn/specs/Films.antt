@@ -1,5 +1,5 @@
 -- What was sent of a film, as long as its play isn't halted.
-use Rattle.std.specs.Prelude.{◌≡◌, ℕ, ◌+◌, ◌-◌, ◌<◌, ◌≤◌, ⊤, List, [], ◌∷◌, ◌++◌, length, take, drop}
+use Rattle.std.specs.Prelude.{◌≡◌, ℕ, ◌+◌, ◌-◌, ◌≤◌, ⊤, List, [], ◌∷◌, ◌++◌, length, take, drop}
 use Rattle.film_frames.specs.Runs.{run_pieces}
 use Rattle.film_frames.specs.Tracks.{IsBoundary, framed}
 use Rattle.film_run.specs.declared.plans.Playback.{Playback}
@@ -25,9 +25,11 @@ use Rattle.conn.specs.Rounds.{Round, RunsAll, rounds_outcomes, takings_outcomes}
 
 -- the bytes that a plan sends up to the end of a slot, of frames and reports from a place on
 abbrev pub planned_bytes : Pacing → ℕ → List ℕ
-planned_bytes p slot = take (first_slots p.plan (slot + 1 - p.start)) (drop p.before (framed p.pieces))
+planned_bytes p slot =
+    take (first_slots p.plan (slot + 1 - p.start)) (drop p.before (framed p.pieces))
 
--- of a play these bytes were sent up to the heard slot: what its plan has for its slots up to that one, all in order
+-- of a play these bytes were sent up to the heard slot: what its plan has for its slots up to that
+-- one, all in order
 pub record HasSent (play : Played) (heard : ℕ) (film : List ℕ) : Type 0 where
   pub pacing : IsPacing play.pacer
   pub plan : play.pacer.plan ≡ play.plan
@@ -66,13 +68,16 @@ IsReady setup (Ready own paused) = own ≡ setup
 IsReady setup (Playing own play) = ⊥
 IsReady setup (Stopping own stop) = ⊥
 
--- what was sent of a run by the end of a slot of its play lies between its two curves: what must and what may have been sent
-pub record IsBetween (sizes : List ℕ) (playback : Playback) (run : Run) (slot sent : ℕ) : Type 0 where
+-- what was sent of a run by the end of a slot of its play lies between its two curves: what must
+-- and what may have been sent
+pub record IsBetween (sizes : List ℕ) (playback : Playback) (run : Run) (slot sent : ℕ)
+    : Type 0 where
   pub above : low_at (rest_sizes sizes run) (timing_of playback run) slot ≤ sent
   pub below : sent ≤ up_at (rest_sizes sizes run) (timing_of playback run) slot
 
 -- a play that was admitted begins in a slot: nothing is sent of it
-pub record HasBegun (setup : Setup) (prepared : Prepared) (place start : ℕ) (session : Standing) : Type 0 where
+pub record HasBegun (setup : Setup) (prepared : Prepared) (place start : ℕ) (session : Standing)
+    : Type 0 where
   pub play : Played
   pub state : session.state ≡ Playing setup play
   pub run : play.run ≡ prepared.run
@@ -97,14 +102,17 @@ abbrev pub rounds_parts : List Round → List Part
 rounds_parts [] = []
 rounds_parts (round ∷ rounds) = round_parts round ++ rounds_parts rounds
 
--- parts that are sent from a place of a film's frames and reports on: each reply stands between two of them
+-- parts that are sent from a place of a film's frames and reports on: each reply stands between two
+-- of them
 abbrev pub StandBetween : List (List ℕ) → ℕ → List Part → Type 0
 StandBetween pieces place [] = ⊤
 StandBetween pieces place (Film bytes ∷ parts) = StandBetween pieces (place + length bytes) parts
-StandBetween pieces place (Text text ∷ parts) = IsBoundary pieces place × StandBetween pieces place parts
+StandBetween pieces place (Text text ∷ parts) = IsBoundary pieces place
+    × StandBetween pieces place parts
 
 -- the play goes on, and of it these bytes were sent
-pub record HasSentOn (setup : Setup) (play : Played) (session : Standing) (film : List ℕ) : Type 0 where
+pub record HasSentOn (setup : Setup) (play : Played) (session : Standing) (film : List ℕ)
+    : Type 0 where
   pub now : Played
   pub state : session.state ≡ Playing setup now
   pub run : now.run ≡ play.run
@@ -116,8 +124,10 @@ pub record HasSentOn (setup : Setup) (play : Played) (session : Standing) (film 
   pub paced : now.pacer.plan ≡ play.pacer.plan
   pub sent : HasSent now session.heard film
 
--- of a play these bytes were sent; from then on pieces were taken up, and event after event; no booking was halted
-pub record GoesOn (old : Stage) (play : Played) (film : List ℕ) (takings : List Taking) (rounds : List Round) (new : Stage) : Type 0 where
+-- of a play these bytes were sent; from then on pieces were taken up, and event after event; no
+-- booking was halted
+pub record GoesOn (old : Stage) (play : Played) (film : List ℕ) (takings : List Taking)
+    (rounds : List Round) (new : Stage) : Type 0 where
   pub setup : Setup
   pub state : old.session.state ≡ Playing setup play
   pub sent : HasSent play old.session.heard film
@@ -126,7 +136,9 @@ pub record GoesOn (old : Stage) (play : Played) (film : List ℕ) (takings : Lis
   pub runs : RunsAll mid rounds new
   pub unhalted : AreUnhalted (takings_outcomes takings ++ rounds_outcomes rounds)
 
--- a play that the link has no room for is answered with the slot that its entry names, and with the bytes booked and asked in it
-pub record TellsOverflow (old : Standing) (plan : List Segment) (placed : Placed) (slot booked asked : ℕ) (new : Standing) : Type 0 where
+-- a play that the link has no room for is answered with the slot that its entry names, and with the
+-- bytes booked and asked in it
+pub record TellsOverflow (old : Standing) (plan : List Segment) (placed : Placed)
+    (slot booked asked : ℕ) (new : Standing) : Type 0 where
   pub command : placed.entry.command ≡ play_of old.heard plan
   pub text_is : new.text ≡ overflow_text (sequence_of old.awaited) slot booked asked

@@ -1,4 +1,5 @@
--- What a connection makes of the journal: its own entries, the receipts for them, and the booking that is open.
+-- What a connection makes of the journal: its own entries, the receipts for them, and the booking
+-- that is open.
 use Rattle.std.specs.Prelude.{◌≡◌, ℕ, ◌≤◌, ◌==◌, ⊤, if◌then◌else◌, List, [], ◌∷◌, ◌++◌, map, Option, Some, None}
 use Rattle.std.specs.List.{fold}
 use Rattle.plan_cert.specs.Slots.{total_bytes}
@@ -23,7 +24,8 @@ entry_receipts (FullReceipt entries live ∷ rest) = entry_receipts rest
 abbrev pub receipt_for : Placed → Receipt
 receipt_for placed = EntryReceipt placed.place placed.entry.answer
 
--- which play is open as entries are made one after another: none, the one of a number, or they don't follow one another
+-- which play is open as entries are made one after another: none, the one of a number, or they
+-- don't follow one another
 pub data Course : Type 0 where
   Closed : Course
   Playing : ℕ → Course
@@ -35,11 +37,13 @@ course_after Closed place (Play slot plan) (Admitted start) = Playing place
 course_after Closed place (Play slot plan) (Overflow slot' booked asked) = Closed
 course_after Closed place (Look slot) (Looked now at booked) = Closed
 course_after (Playing number) place (Look slot) (Looked now at booked) = Playing number
-course_after (Playing number) place (Halt halted keep) Halted = if halted == number then Closed else Broken
+course_after (Playing number) place (Halt halted keep) Halted = if halted == number
+    then Closed else Broken
 course_after _ _ _ _ = Broken
 
 abbrev pub course_with : Course → Placed → Course
-course_with course placed = course_after course placed.place placed.entry.command placed.entry.answer
+course_with course placed =
+    course_after course placed.place placed.entry.command placed.entry.answer
 
 -- the entries were made in order from this course on
 abbrev pub course_from : Course → List Placed → Course
@@ -57,7 +61,8 @@ pub record Business : Type 0 where
   pub receipts : List Receipt
 
 abbrev pub business : List Placed → Connection → Business
-business mine connection = record { mine = mine; booking = connection.booking; receipts = connection.session.receipts }
+business mine connection =
+    record { mine = mine; booking = connection.booking; receipts = connection.session.receipts }
 
 -- before a connection, and after it: no booking is open
 abbrev pub at_rest : List Placed → List Receipt → Business
@@ -67,15 +72,18 @@ at_rest mine receipts = record { mine = mine; booking = None; receipts = receipt
 pub record HasGone (old new : Business) : Type 0 where
   pub made : List Placed
   pub mine_is : new.mine ≡ old.mine ++ made
-  pub receipts_are : entry_receipts new.receipts ≡ entry_receipts old.receipts ++ map receipt_for made
+  pub receipts_are : entry_receipts new.receipts ≡
+      entry_receipts old.receipts ++ map receipt_for made
   pub course_is : course_from (course_of old.booking) made ≡ course_of new.booking
 
--- the booking is the one that the session holds open, and the seat can halt it with any bytes of its plan
+-- the booking is the one that the session holds open, and the seat can halt it with any bytes of
+-- its plan
 abbrev pub IsHeld : List Placed → Option Booking → Option Open → Type 0
 IsHeld mine None None = ⊤
 IsHeld mine None (Some play) = ⊥
 IsHeld mine (Some booking) None = ⊥
-IsHeld mine (Some booking) (Some play) = (keep : ℕ) → keep ≤ total_bytes play.plan → IsOpenAmong mine booking.number keep
+IsHeld mine (Some booking) (Some play) = (keep : ℕ) → keep ≤ total_bytes play.plan →
+    IsOpenAmong mine booking.number keep
 
 -- between two events: no answer is awaited, and the booking is held
 pub record IsQuiet (mine : List Placed) (connection : Connection) : Type 0 where

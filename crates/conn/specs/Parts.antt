@@ -1,4 +1,5 @@
--- What a worker does with its part of a gate: one report for each connection that was given, each given back.
+-- What a worker does with its part of a gate: one report for each connection that was given, each
+-- given back.
 use Rattle.std.specs.Prelude.{◌≡◌, ℕ, ◌<◌, ◌≤◌, List, [], ◌∷◌, ◌++◌, length, map, slice_index_or, Option, Some, None, IfSome, ⊤}
 use Rattle.vod_base.specs.Outside.{HasRisen}
 use Rattle.vod_base.specs.Gates.{Content, Returned, NoMore, Failed}
@@ -14,6 +15,7 @@ use Rattle.conn.specs.declared.reports.PartReport.{PartReport}
 use Rattle.conn.specs.declared.reports.PartEnd.TheVariants.{AllTaken, GateFault}
 use Rattle.conn.specs.Keeping.{Closed, course_from, entry_receipts, receipt_for}
 use Rattle.conn.specs.declared.reports.ConnEnd.TheVariants.{LinkFault}
+use Rattle.conn.specs.Promises.{KeepsPromise}
 use Rattle.conn.specs.Served.{HasServedConnection}
 use Rattle.conn.specs.Words.{words_of}
 
@@ -38,16 +40,20 @@ IsServed (Some old) (Some new) count = Served old new count
 
 -- each report has the worker's number and the words of its connection
 pub record AreOf (seed : List ℕ) (worker : ℕ) (reports : List ConnReport) : Type 0 where
-  pub worker_is : (k : ℕ) (none : ConnReport) → k < length reports → (slice_index_or reports k none).worker ≡ worker
-  pub words_are : (k : ℕ) (none : ConnReport) → k < length reports → (slice_index_or reports k none).words ≡ words_of seed worker k
+  pub worker_is : (k : ℕ) (none : ConnReport) → k < length reports →
+      (slice_index_or reports k none).worker ≡ worker
+  pub words_are : (k : ℕ) (none : ConnReport) → k < length reports →
+      (slice_index_or reports k none).words ≡ words_of seed worker k
 
 -- the entry receipts of all reports, in order
 abbrev pub entries_told : List ConnReport → List Receipt
 entries_told [] = []
 entries_told (report ∷ reports) = entry_receipts report.receipts.items ++ entries_told reports
 
--- the entries that the seat made are those that the reports tell, in order, and each admission is followed by its halt
-pub record HasServed (mine : List Placed) (reports : List ConnReport) (new : List Placed) : Type 0 where
+-- the entries that the seat made are those that the reports tell, in order, and each admission is
+-- followed by its halt
+pub record HasServed (mine : List Placed) (reports : List ConnReport) (new : List Placed)
+    : Type 0 where
   pub made : List Placed
   pub mine_is : new ≡ mine ++ made
   pub receipts_are : entries_told reports ≡ map receipt_for made
@@ -58,23 +64,32 @@ abbrev pub fresh_told : Option (List Doing) → Option (List Doing)
 fresh_told None = None
 fresh_told (Some told) = Some []
 
--- a connection that came back, and its report: what it tells is its course, and it failed only where its count rose
-pub record HasServedOne (films : List Stored) (settings : Settings) (returned : Returned) (report : ConnReport) (old new : Sitting) : Type 0 where
-  pub served : HasServedConnection (new_standing films settings report.words) (fresh_told returned.told) returned.told old new report
+-- a connection that came back, and its report: what it tells is its course, in which it keeps what
+-- it promises, and it failed only where its count rose
+pub record HasServedOne (films : List Stored) (settings : Settings) (returned : Returned)
+    (report : ConnReport) (old new : Sitting) : Type 0 where
+  pub served : HasServedConnection (new_standing films settings report.words)
+      (fresh_told returned.told) returned.told old new report
+  pub keeps : KeepsPromise (new_standing films settings report.words)
+      (fresh_told returned.told) returned.told old new report
   pub fault : report.end ≡ LinkFault → HasRisen 0 returned.faults
 
 -- connections that came back, and their reports, one after another: each with its own
-abbrev pub AreServed : List Stored → Settings → Sitting → List Returned → List ConnReport → Sitting → Type 0
+abbrev pub AreServed : List Stored → Settings → Sitting → List Returned → List ConnReport →
+    Sitting → Type 0
 AreServed films settings old [] [] new = new ≡ old
 AreServed films settings old [] (report ∷ reports) new = ⊥
 AreServed films settings old (returned ∷ back) [] new = ⊥
 AreServed films settings old (returned ∷ back) (report ∷ reports) new =
-    (mid : Sitting) × (HasServedOne films settings returned report old mid × AreServed films settings mid back reports new)
+    (mid : Sitting) × (HasServedOne films settings returned report old mid
+    × AreServed films settings mid back reports new)
 
 -- the same of what is told of the part
-abbrev pub AreTold : List Stored → Settings → Option Content → List ConnReport → Sitting → Sitting → Type 0
+abbrev pub AreTold : List Stored → Settings → Option Content → List ConnReport → Sitting → Sitting →
+    Type 0
 AreTold films settings None reports old new = ⊤
-AreTold films settings (Some content) reports old new = AreServed films settings old content.own.back reports new
+AreTold films settings (Some content) reports old new =
+    AreServed films settings old content.own.back reports new
 
 -- a part of a gate: its count of faults, and what it tells
 pub record Outlet : Type 0 where
@@ -84,7 +99,8 @@ pub record Outlet : Type 0 where
 abbrev pub outlet : ℕ → Option Content → Outlet
 outlet faults told = record { faults = faults; told = told }
 
--- what a worker is given to serve with: the films, their settings, the seed of all words, and its own number
+-- what a worker is given to serve with: the films, their settings, the seed of all words, and its
+-- own number
 pub record Duty : Type 0 where
   pub films : List Stored
   pub settings : Settings
@@ -92,10 +108,13 @@ pub record Duty : Type 0 where
   pub worker : ℕ
 
 abbrev pub duty : List Stored → Settings → List ℕ → ℕ → Duty
-duty films settings seed worker = record { films = films; settings = settings; seed = seed; worker = worker }
+duty films settings seed worker =
+    record { films = films; settings = settings; seed = seed; worker = worker }
 
--- all that a worker's part of a gate brings: what it leaves of the seat and of the part, and its report
-pub record HasServedPart (duty : Duty) (old_seat new_seat : Sitting) (old new : Outlet) (result : PartReport) : Type 0 where
+-- all that a worker's part of a gate brings: what it leaves of the seat and of the part, and its
+-- report
+pub record HasServedPart (duty : Duty) (old_seat new_seat : Sitting) (old new : Outlet)
+    (result : PartReport) : Type 0 where
   pub seat : IsSameSeat old_seat new_seat
   pub entries : HasServed old_seat.mine result.reports.items new_seat.mine
   pub reports : AreOf duty.seed duty.worker result.reports.items

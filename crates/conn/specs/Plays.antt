@@ -1,6 +1,6 @@
 -- What a connection keeps to while a play goes on: the film's bytes by the plan of the play's run,
 -- between the client's curves.
-use Rattle.std.specs.Prelude.{◌≡◌, ℕ, ◌+◌, ◌-◌, ◌≤◌, ◌++◌, ⊤, Bool, true, false, if◌then◌else◌, List, [], ◌∷◌, length, take, drop}
+use Rattle.std.specs.Prelude.{◌≡◌, ℕ, ◌+◌, ◌-◌, ◌≤◌, ◌++◌, ⊤, Bool, false, if◌then◌else◌, List, [], ◌∷◌, length, take, drop}
 use Rattle.vod_base.specs.Links.{Doing, HeardBytes, HeardEnd, HeardSlot, Sent}
 use Rattle.mpeg_scan.specs.Rates.{picture_time}
 use Rattle.film_frames.specs.declared.stores.Stored.{Stored}

@@ -1,4 +1,5 @@
--- The course of a connection: event after event, what was taken up, what the station answered and what was sent.
+-- The course of a connection: event after event, what was taken up, what the station answered and
+-- what was sent.
 use Rattle.std.specs.Prelude.{◌≡◌, ℕ, ◌+◌, ◌^◌, ◌<◌, ◌≤◌, ◌⊎◌, ◌++◌, true, false, List, [], ◌∷◌, length, take, drop, Ok, Err}
 use Rattle.vod_base.specs.Links.{Doing, HeardBytes, HeardEnd, HeardSlot, Sent, sends}
 use Rattle.interleave.specs.Pieces.{IsFirst}
@@ -12,18 +13,22 @@ use Rattle.conn.specs.Turns.{HasHeard, HasStepped, IsNext, Outcome, Unasked, Par
 use Rattle.conn.specs.declared.reports.ConnEnd.{ConnEnd}
 use Rattle.conn.specs.declared.reports.ConnEnd.TheVariants.{Ended, TornDown, LinkFault, TooMuchInput, HeadTooLong, BodyTooLong, TurnsSpent}
 
--- an event, what was sent in its slot, the halt of a play that was done, and the pieces that were taken up after it
+-- an event, what was sent in its slot, the halt of a play that was done, and the pieces that were
+-- taken up after it
 pub record Round : Type 0 where
   pub event : Doing
   pub due : List Part
   pub halt : Outcome
   pub takings : List Taking
 
--- an event came: its bytes wait behind those that waited, at most 131,072 in all; or its slot was taken up
+-- an event came: its bytes wait behind those that waited, at most 131,072 in all; or its slot was
+-- taken up
 abbrev pub Comes : Stage → Doing → List Part → Outcome → Stage → Type 0
 Comes old (HeardBytes bytes) due halt new =
-    (due ≡ []) × (halt ≡ Unasked) × (length old.input + length bytes ≤ 131072) × (new ≡ stage old.session (old.input ++ bytes))
-Comes old (HeardSlot slot) due halt new = (new.input ≡ old.input) × HasStepped old.session slot due halt new.session
+    (due ≡ []) × (halt ≡ Unasked) × (length old.input + length bytes ≤ 131072)
+    × (new ≡ stage old.session (old.input ++ bytes))
+Comes old (HeardSlot slot) due halt new = (new.input ≡ old.input)
+    × HasStepped old.session slot due halt new.session
 Comes old HeardEnd due halt new = ⊥
 Comes old (Sent byte) due halt new = ⊥
 
@@ -33,18 +38,21 @@ pub record Runs (old : Stage) (round : Round) (new : Stage) : Type 0 where
   pub comes : Comes old round.event round.due round.halt opened
   pub takes : TakesAll opened round.takings new
 
--- nothing more can be taken up: no whole piece waits, or a request waits for a reply that isn't sent
+-- nothing more can be taken up: no whole piece waits, or a request waits for a reply that isn't
+-- sent
 pub record IsIdle (stage : Stage) : Type 0 where
   pub torn : stage.session.torn ≡ false
-  pub waits : IsFirst stage.input (Ok More) ⊎ ((n : ℕ) × (IsFirst stage.input (Ok (Request n)) × (stage.session.waits ≡ true)))
+  pub waits : IsFirst stage.input (Ok More)
+      ⊎ ((n : ℕ) × (IsFirst stage.input (Ok (Request n)) × (stage.session.waits ≡ true)))
 
 -- events, one after another; before the next one is asked for, all was taken up that could be
 abbrev pub RunsAll : Stage → List Round → Stage → Type 0
 RunsAll old [] new = new ≡ old
-RunsAll old (round ∷ rounds) new = (mid : Stage) × (Runs old round mid × IsIdle mid × RunsAll mid rounds new)
+RunsAll old (round ∷ rounds) new = (mid : Stage)
+    × (Runs old round mid × IsIdle mid × RunsAll mid rounds new)
 
--- what was done last: no event came, the peer ended, bytes came that find no room, an event was taken up as far as a piece, a slot's
--- bytes were sent in front, or a reply's
+-- what was done last: no event came, the peer ended, bytes came that find no room, an event was
+-- taken up as far as a piece, a slot's bytes were sent in front, or a reply's
 pub data Ending : Type 0 where
   Unheard : Ending
   PeerEnded : Ending
@@ -59,7 +67,8 @@ IsUnheard LinkFault count = count < 2 ^ 40
 IsUnheard TurnsSpent count = count ≡ 2 ^ 40
 IsUnheard _ count = ⊥
 
--- the cause for which nothing more is taken up: the 200 of a TEARDOWN was sent, or the piece in front is too long
+-- the cause for which nothing more is taken up: the 200 of a TEARDOWN was sent, or the piece in
+-- front is too long
 abbrev pub IsStopped : ConnEnd → Stage → Type 0
 IsStopped TornDown stage = stage.session.torn ≡ true
 IsStopped HeadTooLong stage = (stage.session.torn ≡ false) × IsFirst stage.input (Err LongHead)
@@ -70,7 +79,8 @@ IsStopped _ stage = ⊥
 abbrev pub IsFront : List ℕ → List ℕ → Type 0
 IsFront front bytes = (n : ℕ) × ((n ≤ length bytes) × (front ≡ take n bytes))
 
--- a send failed in a slot: a front of what is due was sent, and the booking is due what it would be without the fault
+-- a send failed in a slot: a front of what is due was sent, and the booking is due what it would be
+-- without the fault
 pub record HasFailedInSlot (old : Stage) (slot : ℕ) (front : List ℕ) (new : Stage) : Type 0 where
   pub taken : is_taken old.session slot ≡ true
   pub sending : is_sending old.session.state ≡ true
@@ -80,13 +90,15 @@ pub record HasFailedInSlot (old : Stage) (slot : ℕ) (front : List ℕ) (new : 
   pub rest : IsAtRest new.session
   pub booking : open_of new.session ≡ open_in (due_state old.session.waits old.session.state slot)
   pub carried : IsCarried old.session.state new.session.state
-  pub late : new.session.late ≡ old.session.late + missed_between old.session.heard (start_in old.session.state) slot
+  pub late : new.session.late ≡
+      old.session.late + missed_between old.session.heard (start_in old.session.state) slot
   pub receipts : new.session.receipts ≡ old.session.receipts
   pub plays : new.session.plays ≡ old.session.plays
   pub offers : new.session.offers ≡ old.session.offers
 
 -- a send failed as a reply went out: a front of it was sent
-pub record HasFailedInReply (old : Stage) (message : List ℕ) (outcome : Outcome) (front : List ℕ) (new : Stage) : Type 0 where
+pub record HasFailedInReply (old : Stage) (message : List ℕ) (outcome : Outcome) (front : List ℕ)
+    (new : Stage) : Type 0 where
   pub next : IsNext old message
   pub answered : Standing
   pub heard : HasHeard old.session message outcome answered
@@ -94,7 +106,8 @@ pub record HasFailedInReply (old : Stage) (message : List ℕ) (outcome : Outcom
   pub front_is : IsFront front answered.text
   pub new_is : new ≡ stage (record answered { lost = true }) (drop (length message) old.input)
 
-pub record EndsInReply (old : Stage) (round : Round) (message : List ℕ) (outcome : Outcome) (front : List ℕ) (new : Stage) : Type 0 where
+pub record EndsInReply (old : Stage) (round : Round) (message : List ℕ) (outcome : Outcome)
+    (front : List ℕ) (new : Stage) : Type 0 where
   pub mid : Stage
   pub runs : Runs old round mid
   pub fails : HasFailedInReply mid message outcome front new
@@ -103,10 +116,12 @@ pub record EndsInReply (old : Stage) (round : Round) (message : List ℕ) (outco
 abbrev pub Ends : Stage → ℕ → Ending → ConnEnd → Stage → Type 0
 Ends old count Unheard end new = IsUnheard end count × (new ≡ old)
 Ends old count PeerEnded end new = (end ≡ Ended) × (new ≡ old)
-Ends old count (Overfull bytes) end new = (end ≡ TooMuchInput) × (131072 < length old.input + length bytes) × (new ≡ old)
+Ends old count (Overfull bytes) end new = (end ≡ TooMuchInput)
+    × (131072 < length old.input + length bytes) × (new ≡ old)
 Ends old count (AtPiece round) end new = Runs old round new × IsStopped end new
 Ends old count (InSlot slot front) end new = (end ≡ LinkFault) × HasFailedInSlot old slot front new
-Ends old count (InReply round message outcome front) end new = (end ≡ LinkFault) × EndsInReply old round message outcome front new
+Ends old count (InReply round message outcome front) end new = (end ≡ LinkFault)
+    × EndsInReply old round message outcome front new
 
 -- what is sent as pieces are taken up, in a round, and at the end
 abbrev pub taking_bytes : Taking → List ℕ

@@ -21,17 +21,24 @@ pub record HasClosed (old new : Standing) (old_seat new_seat : Sitting) : Type 0
   pub closes : IsClosed (open_of old) old halt new
   pub noted : AreNoted old_seat new_seat (halt ∷ [])
 
--- a connection with its course, from a session that heard nothing yet, and the halt of a booking that is open at its end
-pub record HasServedFrom (session : Standing) (old_told new_told : Option (List Doing)) (old_seat new_seat : Sitting) (report : ConnReport) : Type 0 where
+-- a connection with its course, from a session that heard nothing yet, and the halt of a booking
+-- that is open at its end
+pub record HasServedFrom (session : Standing) (old_told new_told : Option (List Doing))
+    (old_seat new_seat : Sitting) (report : ConnReport) : Type 0 where
   pub ended : Sight
-  pub course : HasCourse report.end (record { stage = stage session []; told = old_told; seat = old_seat }) ended
+  pub course : HasCourse report.end (record {
+    stage = stage session [];
+    told = old_told;
+    seat = old_seat;
+  }) ended
   pub closed : Standing
   pub closes : HasClosed ended.stage.session closed ended.seat new_seat
   pub told : new_told ≡ ended.told
   pub report_is : IsToldOf closed report
 
 -- a connection that found no memory: nothing was done
-pub record HasDoneNothing (old_told new_told : Option (List Doing)) (old_seat new_seat : Sitting) (report : ConnReport) : Type 0 where
+pub record HasDoneNothing (old_told new_told : Option (List Doing)) (old_seat new_seat : Sitting)
+    (report : ConnReport) : Type 0 where
   pub end : report.end ≡ NoMemory
   pub told : new_told ≡ old_told
   pub seat : new_seat ≡ old_seat
@@ -41,6 +48,8 @@ pub record HasDoneNothing (old_told new_told : Option (List Doing)) (old_seat ne
   pub offers : report.offers.items ≡ []
 
 -- what a connection's service is, from a session on
-abbrev pub HasServedConnection : Standing → Option (List Doing) → Option (List Doing) → Sitting → Sitting → ConnReport → Type 0
+abbrev pub HasServedConnection : Standing → Option (List Doing) → Option (List Doing) → Sitting →
+    Sitting → ConnReport → Type 0
 HasServedConnection session old_told new_told old_seat new_seat report =
-    HasServedFrom session old_told new_told old_seat new_seat report ⊎ HasDoneNothing old_told new_told old_seat new_seat report
+    HasServedFrom session old_told new_told old_seat new_seat report
+    ⊎ HasDoneNothing old_told new_told old_seat new_seat report

@@ -19,7 +19,8 @@ pub record Sight : Type 0 where
   pub seat : Sitting
 
 abbrev pub sight : Connection → Option (List Doing) → Sitting → Sight
-sight connection told seat = record { stage = stage connection.session connection.input; told = told; seat = seat }
+sight connection told seat =
+    record { stage = stage connection.session connection.input; told = told; seat = seat }
 
 -- what the station answered is what the seat made
 pub record AreNoted (old new : Sitting) (outcomes : List Outcome) : Type 0 where
@@ -30,19 +31,22 @@ abbrev pub IsSent : Option (List Doing) → List ℕ → Option (List Doing) →
 IsSent old bytes new = new ≡ told_more old (sends bytes)
 
 -- the station was asked, and answered
-pub record HasAnswered (old : Standing) (ask : Ask) (new : Standing) (old_seat new_seat : Sitting) : Type 0 where
+pub record HasAnswered (old : Standing) (ask : Ask) (new : Standing) (old_seat new_seat : Sitting)
+    : Type 0 where
   pub outcome : Outcome
   pub answered : IsAnswered old ask outcome new
   pub noted : AreNoted old_seat new_seat (outcome ∷ [])
 
 -- a booking was halted
-pub record HasHalted (old : Standing) (keep : ℕ) (new : Standing) (old_seat new_seat : Sitting) : Type 0 where
+pub record HasHalted (old : Standing) (keep : ℕ) (new : Standing) (old_seat new_seat : Sitting)
+    : Type 0 where
   pub outcome : Outcome
   pub halted : IsHalted old keep outcome new
   pub noted : AreNoted old_seat new_seat (outcome ∷ [])
 
 -- a request was heard, and answered as far as the station goes
-pub record HasAsked (old : Standing) (message : List ℕ) (new : Standing) (old_seat new_seat : Sitting) : Type 0 where
+pub record HasAsked (old : Standing) (message : List ℕ) (new : Standing)
+    (old_seat new_seat : Sitting) : Type 0 where
   pub outcome : Outcome
   pub heard : HasHeard old message outcome new
   pub noted : AreNoted old_seat new_seat (outcome ∷ [])
@@ -68,7 +72,8 @@ pub record HasLost (old new : Sight) : Type 0 where
 -- pieces were taken up until nothing more can be, or until the connection ended, for this cause
 abbrev pub HasTakenUp : Option ConnEnd → Sight → Sight → Type 0
 HasTakenUp None old new = HasTaken old new × IsIdle new.stage
-HasTakenUp (Some end) old new = ((end ≡ LinkFault) × HasLost old new) ⊎ (HasTaken old new × IsStopped end new.stage)
+HasTakenUp (Some end) old new = ((end ≡ LinkFault) × HasLost old new)
+    ⊎ (HasTaken old new × IsStopped end new.stage)
 
 -- one piece was taken up; or nothing more can be; or the connection ended
 abbrev pub TakesNext : Taken → Sight → Sight → Type 0
@@ -92,7 +97,8 @@ pub record HasBroken (old new : Sight) (slot : ℕ) : Type 0 where
   pub sent : IsSent old.told front new.told
   pub noted : new.seat ≡ old.seat
 
--- after an event: it was taken up with all that can be taken up then; or the connection ended, where it stood after so many events
+-- after an event: it was taken up with all that can be taken up then; or the connection ended,
+-- where it stood after so many events
 pub record HasRound (event : Doing) (old new : Sight) : Type 0 where
   pub round : Round
   pub event_is : round.event ≡ event
@@ -101,7 +107,8 @@ pub record HasRound (event : Doing) (old new : Sight) : Type 0 where
   pub sent : IsSent old.told (round_bytes round) new.told
   pub noted : AreNoted old.seat new.seat (round_outcomes round)
 
-pub record HasEnded (event : List Doing) (end : ConnEnd) (count : ℕ) (old new : Sight) : Type 0 where
+pub record HasEnded (event : List Doing) (end : ConnEnd) (count : ℕ) (old new : Sight)
+    : Type 0 where
   pub ending : Ending
   pub event_is : ending_events ending ≡ event
   pub ends : Ends old.stage count ending end new.stage

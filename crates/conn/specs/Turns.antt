@@ -42,29 +42,34 @@ film_bytes [] = []
 film_bytes (Film bytes ∷ parts) = bytes ++ film_bytes parts
 film_bytes (Text bytes ∷ parts) = film_bytes parts
 
--- what the station answered: it wasn't asked; it made an entry; its journal was full; it made an offer
+-- what the station answered: it wasn't asked; it made an entry; its journal was full; it made an
+-- offer
 pub data Outcome : Type 0 where
   Unasked : Outcome
   Entered : Placed → Outcome
   WasFull : ℕ → ℕ → Outcome
   Offered : OfferNote → Outcome
 
--- a play's entry has the heard slot and the plan that was asked for; an admitted play begins in a later slot
+-- a play's entry has the heard slot and the plan that was asked for; an admitted play begins in a
+-- later slot
 abbrev pub IsPlayAnswered : Standing → Placed → Answer → Standing → Type 0
 IsPlayAnswered old placed (Admitted start) new =
     (old.heard < start) × (new ≡ after_admission old placed.place start) × IsPlayIn new.state
-IsPlayAnswered old placed (Overflow slot booked asked) new = new ≡ after_overflow old placed.place slot booked asked
+IsPlayAnswered old placed (Overflow slot booked asked) new = new ≡
+    after_overflow old placed.place slot booked asked
 IsPlayAnswered old placed Halted new = ⊥
 IsPlayAnswered old placed (Looked now at booked) new = ⊥
 
 abbrev pub IsLookAnswered : Standing → Placed → Answer → Standing → Type 0
-IsLookAnswered old placed (Looked now at booked) new = new ≡ after_look old placed.place now at booked
+IsLookAnswered old placed (Looked now at booked) new = new ≡
+    after_look old placed.place now at booked
 IsLookAnswered old placed (Admitted start) new = ⊥
 IsLookAnswered old placed (Overflow slot booked asked) new = ⊥
 IsLookAnswered old placed Halted new = ⊥
 
 -- a halt's entry keeps so many bytes of a booking
-pub record IsHaltAnswered (old : Standing) (keep : ℕ) (placed : Placed) (new : Standing) : Type 0 where
+pub record IsHaltAnswered (old : Standing) (keep : ℕ) (placed : Placed) (new : Standing)
+    : Type 0 where
   pub number : ℕ
   pub command : placed.entry.command ≡ Halt number keep
   pub answer : placed.entry.answer ≡ Halted
@@ -80,7 +85,8 @@ IsHalted old keep (Offered note) new = ⊥
 abbrev pub IsAnswered : Standing → Ask → Outcome → Standing → Type 0
 IsAnswered old AskReply Unasked new = new ≡ old
 IsAnswered old (AskPlay plan) (Entered placed) new =
-    (placed.entry.command ≡ play_of old.heard plan) × IsPlayAnswered old placed placed.entry.answer new
+    (placed.entry.command ≡ play_of old.heard plan)
+    × IsPlayAnswered old placed placed.entry.answer new
 IsAnswered old (AskPlay plan) (WasFull entries live) new = new ≡ after_full old entries live
 IsAnswered old (AskHalt keep) outcome new = IsHalted old keep outcome new
 IsAnswered old (AskLook slot) (Entered placed) new =
@@ -91,7 +97,8 @@ IsAnswered old (AskOffer plan offers) (Offered note) new =
 IsAnswered _ _ _ _ = ⊥
 
 -- a request was heard and answered, with what the station answered on the way
-pub record HasHeard (old : Standing) (message : List ℕ) (outcome : Outcome) (new : Standing) : Type 0 where
+pub record HasHeard (old : Standing) (message : List ℕ) (outcome : Outcome) (new : Standing)
+    : Type 0 where
   pub ask : Ask
   pub asking : Standing
   pub hears : Hears old message ask asking
@@ -104,15 +111,16 @@ reply_parts session = if can_reply session then Text session.text ∷ [] else []
 abbrev pub after_reply : Standing → Standing
 after_reply session = if can_reply session then sent_reply session else session
 
--- a piece in front of the input: line ends or an interleaved block, so many bytes; or a request, what the station answered to it,
--- and what was sent
+-- a piece in front of the input: line ends or an interleaved block, so many bytes; or a request,
+-- what the station answered to it, and what was sent
 pub data Taking : Type 0 where
   Passed : ℕ → Taking
   Answered : List ℕ → Outcome → List Part → Taking
 
 -- these bytes in front are line ends, or an interleaved block
 abbrev pub IsPassed : List ℕ → ℕ → Type 0
-IsPassed input n = IsFirst input (Ok (Skip n)) ⊎ ((channel : ℕ) × IsFirst input (Ok (Block channel n)))
+IsPassed input n = IsFirst input (Ok (Skip n))
+    ⊎ ((channel : ℕ) × IsFirst input (Ok (Block channel n)))
 
 -- the request in front can be taken up: no reply waits, and no TEARDOWN was answered 200
 pub record IsNext (old : Stage) (message : List ℕ) : Type 0 where
@@ -122,7 +130,8 @@ pub record IsNext (old : Stage) (message : List ℕ) : Type 0 where
   pub torn : old.session.torn ≡ false
 
 -- a request was taken up, answered and replied to, as far as its reply can go out
-pub record IsReplied (old : Stage) (message : List ℕ) (outcome : Outcome) (parts : List Part) (new : Stage) : Type 0 where
+pub record IsReplied (old : Stage) (message : List ℕ) (outcome : Outcome) (parts : List Part)
+    (new : Stage) : Type 0 where
   pub next : IsNext old message
   pub answered : Standing
   pub heard : HasHeard old.session message outcome answered
@@ -130,13 +139,15 @@ pub record IsReplied (old : Stage) (message : List ℕ) (outcome : Outcome) (par
   pub new_is : new ≡ stage (after_reply answered) (drop (length message) old.input)
 
 abbrev pub Takes : Stage → Taking → Stage → Type 0
-Takes old (Passed n) new = IsPassed old.input n × (old.session.torn ≡ false) × (new ≡ stage old.session (drop n old.input))
+Takes old (Passed n) new = IsPassed old.input n × (old.session.torn ≡ false)
+    × (new ≡ stage old.session (drop n old.input))
 Takes old (Answered message outcome parts) new = IsReplied old message outcome parts new
 
 -- pieces were taken up, one after another
 abbrev pub TakesAll : Stage → List Taking → Stage → Type 0
 TakesAll old [] new = new ≡ old
-TakesAll old (taking ∷ takings) new = (mid : Stage) × (Takes old taking mid × TakesAll mid takings new)
+TakesAll old (taking ∷ takings) new = (mid : Stage)
+    × (Takes old taking mid × TakesAll mid takings new)
 
 -- what is due in a slot, with the reply that waits between two pieces of the film
 abbrev pub due_parts : Standing → ℕ → List Part
@@ -156,7 +167,8 @@ IsFinished (HaltAnswer keep) old outcome new = IsHalted old keep outcome new
 IsFinished _ _ _ _ = ⊥
 
 -- a slot was taken up: what is due was sent, and a play that is then done was halted
-pub record HasStepped (old : Standing) (slot : ℕ) (parts : List Part) (halt : Outcome) (new : Standing) : Type 0 where
+pub record HasStepped (old : Standing) (slot : ℕ) (parts : List Part) (halt : Outcome)
+    (new : Standing) : Type 0 where
   pub parts_are : parts ≡ slot_parts old slot
   pub finished : IsFinished (awaits (slotted old slot)) (slotted old slot) halt new
 

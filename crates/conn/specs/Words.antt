@@ -8,7 +8,8 @@ stream_of worker connection = (worker * 2 ^ 32 + connection) % 2 ^ 64
 
 -- the word at a place of that stream
 abbrev pub stream_word : List ℕ → ℕ → ℕ → ℕ → ℕ
-stream_word seed worker connection place = word_at 10 (key_of seed) (stream_of worker connection) place
+stream_word seed worker connection place =
+    word_at 10 (key_of seed) (stream_of worker connection) place
 
 -- the first five words
 abbrev pub words_of : List ℕ → ℕ → ℕ → List ℕ

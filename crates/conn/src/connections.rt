@@ -62,7 +62,8 @@ impl<'a> Connection<'a> {
         })
     }
 
-    /// Takes up an event, and answers how it ended the connection, if it did. The bytes that came stand in front of `bytes`.
+    /// Takes up an event, and answers how it ended the connection, if it did. The bytes that came
+    /// stand in front of `bytes`.
     #[tactic(auto, using(crate::proofs::Counting::counted_same, crate::proofs::Counting::counted_end, crate::proofs::Counting::counted_fault, crate::proofs::Counting::counted_on))]
     pub(crate) fn hear<R: Wait, K: Link>(
         &mut self,
@@ -104,7 +105,8 @@ impl<'a> Connection<'a> {
         }
     }
 
-    /// Takes up a slot: what is due is sent, a waiting reply goes out, and a play that is done is halted.
+    /// Takes up a slot: what is due is sent, a waiting reply goes out, and a play that is done is
+    /// halted.
     #[tactic(auto, using(crate::proofs::Going::gone_still, crate::proofs::Going::gone_on, crate::proofs::Going::held_same))]
     fn step<R: Wait, K: Link>(
         &mut self,
@@ -166,7 +168,8 @@ impl<'a> Connection<'a> {
         }
     }
 
-    /// Takes up the piece in front. A request is taken up only where no reply waits, and none is once a TEARDOWN was answered 200.
+    /// Takes up the piece in front. A request is taken up only where no reply waits, and none is
+    /// once a TEARDOWN was answered 200.
     #[tactic(auto, using(crate::proofs::Counting::counted_same, crate::proofs::Counting::counted_end, crate::proofs::Counting::counted_fault, crate::proofs::Counting::counted_on))]
     fn take_next<R: Wait, K: Link>(
         &mut self,
@@ -393,7 +396,8 @@ impl<'a> Connection<'a> {
 pub(crate) enum Taken {
     /// It was taken up and is gone.
     Gone,
-    /// Nothing more can be taken up: no whole piece waits, or a request waits for a reply to be sent.
+    /// Nothing more can be taken up: no whole piece waits, or a request waits for a reply to be
+    /// sent.
     Waits,
     /// The connection ended.
     End(ConnEnd),

@@ -1,4 +1,5 @@
-//! One RTSP connection over a link, from its first event to its report, and one worker's connections, one after another.
+//! One RTSP connection over a link, from its first event to its report, and one worker's
+//! connections, one after another.
 #![tactic(auto)]
 
 mod connections;

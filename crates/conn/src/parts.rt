@@ -20,8 +20,9 @@ use vod_base::Gate;
 
 /// Serves the connections that a part of a gate gives, one after another, until it gives no more.
 ///
-/// There is one report for each connection, in order, with the worker's number and the connection's words, and each connection
-/// is given back. [`PartEnd::NoMemory`] comes only where there is none for a report.
+/// There is one report for each connection, in order, with the worker's number and the connection's
+/// words, and each connection is given back. [`PartEnd::NoMemory`] comes only where there is none
+/// for a report.
 #[allow(clippy::too_many_arguments)]
 pub fn serve_part<R: Wait, G: Gate>(
     rt: &R,

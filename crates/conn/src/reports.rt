@@ -28,8 +28,8 @@ pub enum ConnEnd {
 pub struct ConnReport {
     /// The number of the worker that served it.
     pub worker: u32,
-    /// Its words: two of the session's id, the SSRC, the first sequence number (the low 16 bits), and the timestamp at
-    /// which the first run begins.
+    /// Its words: two of the session's id, the SSRC, the first sequence number (the low 16 bits),
+    /// and the timestamp at which the first run begins.
     pub words: [u32; 5],
     /// How it ended.
     pub end: ConnEnd,

@@ -5,8 +5,8 @@ use rand_chacha::ChaCha20Rng;
 use rand_core::SeedableRng;
 use rand_core::utils::NextWord;
 
-/// The words of a worker's connection, both counted from 0: the first five of the ChaCha20 generator of the seed, in the stream
-/// `worker * 2^32 + connection` modulo 2^64.
+/// The words of a worker's connection, both counted from 0: the first five of the ChaCha20
+/// generator of the seed, in the stream `worker * 2^32 + connection` modulo 2^64.
 pub fn connection_words(seed: [u8; 32], worker: u32, connection: u64) -> [u32; 5]
     ensures { result ≡ words_of seed worker connection }
 {

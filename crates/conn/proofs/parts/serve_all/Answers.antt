@@ -29,5 +29,6 @@ connections-preserved g c =
       told_one c.args.films.now c.args.settings.now (g.G.Gate.told c.connections.part) (g.G.Gate.told c.take.new.self) (g.G.Gate.told c.give_back.new.self) c.args.seat.now c.connections.seat
           c.serve_connection-report.new.seat c.connections.reports.items c.push_reserved.new.self.items _ report inv.5 given c.give_back.ensures.back items
           (served_fresh c.args.films.now c.args.settings.now _ _ _ _ _ c.connections.seat c.serve_connection-report.new.seat report (search rules) (search rules)
-          c.serve_connection-report.ensures.words c.serve_connection-report.ensures.served c.serve_connection-report.ensures.fault),
+          c.serve_connection-report.ensures.words c.serve_connection-report.ensures.served c.serve_connection-report.ensures.headline
+          c.serve_connection-report.ensures.fault),
     )
