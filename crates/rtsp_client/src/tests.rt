@@ -2,7 +2,7 @@
 use super::*;
 use std::alloc::Global;
 use std::test::Fail;
-use vod_base::{Event, MemoryLink, MemorySink};
+use vod_base::{Event, MemoryLink, MemorySink, good_name};
 
 /// What a link tells: a reply, bytes of the film as it is sent, other bytes, a slot, the end.
 #[derive(Clone, Copy)]
@@ -328,8 +328,12 @@ fn watch_events(
     events: Vec<Event>,
     failing: Failing,
 ) -> Result<Outcome, Fail> {
+    let name = String::from_str(alloc, "b.mpg")?;
+    if !good_name(name.as_bytes()) || buffer < 1 || buffer > 1 << 42 {
+        return Err(Fail::from("no such wish"));
+    }
     let wish = Wish {
-        name: String::from_str(alloc, "b.mpg")?,
+        name,
         port: 8554,
         buffer,
         startup: 2,
