@@ -79,8 +79,8 @@ TellsItsJournal =
     Serves before after seed serving ended → (ended.status ≡ 0) ⊎ (ended.status ≡ 7) →
     All (IsReportIn ended.journal.items) ended.reports.items
 
--- a connection of a worker: it was served as its report tells, and what its seat made up to its end
--- are the first of the journal's entries of that seat
+-- a connection of a worker: it was served as its report tells and kept what it promises, and what
+-- its seat made up to its end are the first of the journal's entries of that seat
 pub record IsServedBy (films : List Stored) (serving : Serving) (ended : Ended) (worker : ℕ)
     (returned : Returned) : Type 0 where
   pub report : ConnReport

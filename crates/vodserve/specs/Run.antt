@@ -1,12 +1,14 @@
 -- What a run of the program did: it carried out what the words ask for, or it said what kept it
 -- from that.
-use Rattle.std.specs.Prelude.{◌≡◌, ℕ, ◌≤◌, Bool, List, [], length, Option, Some, None, Result, Ok, Err, ◌⊎◌}
+use Rattle.std.specs.Prelude.{◌≡◌, ℕ, ◌≤◌, Bool, List, [], length, Option, Some, None, Result, Ok, Err, ◌⊎◌, ⊤}
 use Rattle.vod_base.specs.Outside.{File, HasRisen, more, IsFrontMore}
 use Rattle.plan_cert.specs.declared.Segment.{Segment}
 use Rattle.slot_calendar.specs.declared.profiles.CapStep.{CapStep}
 use Rattle.admission.specs.Histories.{IsLegal}
+use Rattle.admission.specs.declared.entries.Entry.{Entry}
 use Rattle.day_run.specs.declared.reels.Source.{Source}
 use Rattle.day_run.specs.declared.scripts.Script.{Script}
+use Rattle.day_run.specs.Days.{IsDay, link_of}
 use Rattle.vodserve.specs.Days.{AreHeldAs, HoldsScript, IsDayInput, IsDayRefused}
 use Rattle.command_words.specs.Words.{FairRun, ScriptRun, Serving, Order, help, version, plan_of, check_of, scan_of, make_of, day_of, fair_of, serve_of, watch_of}
 use Rattle.troubles.specs.Said.{IsSaid}
@@ -169,11 +171,12 @@ IsTextWritten out out' err err' text ended =
 
 -- a day that ran: its journal is a legal history over the link's capacity, and what it printed was
 -- written
-pub record HasRun (out out' err err' : Seen (List ℕ)) (capacity : List CapStep) (ended : Ended)
-    : Type 0 where
+pub record HasRun (out out' err err' : Seen (List ℕ)) (capacity : List CapStep)
+    (IsDayOf : List ℕ → List Entry → Type 0) (ended : Ended) : Type 0 where
   pub legal : IsLegal capacity ended.journal.items
   pub no_reports : ended.reports.items ≡ []
   pub text : List ℕ
+  pub day : IsDayOf text ended.journal.items
   pub written : IsTextWritten out out' err err' text ended
 
 -- what kept a day from its run: then nothing was written
@@ -190,7 +193,8 @@ pub record HasRunScript (store : Seen (List File)) (out out' err err' : Seen (Li
   pub sources : List Source
   pub read : IfTold store.told (λ held. HoldsScript held run.script script)
   pub loaded : IfTold store.told (λ held. AreHeldAs held script.named.items sources)
-  pub ran : HasRun out out' err err' run.capacity ended
+  pub ran : HasRun out out' err err' run.capacity
+      (IsDay (link_of run.capacity run.journal run.slot sources) script.lines.items) ended
 
 -- a script was run; or an input kept from that, or want of memory
 abbrev pub RunsDay : Seen (List File) → Seen (List File) → Seen (List ℕ) → Seen (List ℕ) →
@@ -206,7 +210,7 @@ abbrev pub RunsFair : Seen (List ℕ) → Seen (List ℕ) → Seen (List ℕ) �
     Ended → Type 0
 RunsFair out out' err err' run ended =
     HasNotRun out out' err err' (λ trouble. trouble ≡ NoMemory) ended
-    ⊎ HasRun out out' err err' run.capacity ended
+    ⊎ HasRun out out' err err' run.capacity (λ text journal. ⊤) ended
 
 -- one definition for each command
 abbrev pub Does : World → World → List ℕ → Order → Ended → Type 0

@@ -5,6 +5,7 @@ ghost use Rattle.std.specs.List.{Contains};
 ghost use Rattle.vod_base.specs.Outside.{File};
 ghost use Rattle.admission.specs.Histories.{IsLegal};
 ghost use Rattle.command_words.specs.Ranges.{IsFairRunInRange, IsScriptRunInRange};
+ghost use Rattle.day_run.specs.Days.{IsDay, link_of};
 ghost use Rattle.day_run.specs.Scripts.{AreLines};
 ghost use Rattle.day_run.specs.Sources.{AreSources, IsSource};
 ghost use Rattle.troubles.specs.Causes.{IsReadOnly, IsReadTrouble};
@@ -118,7 +119,10 @@ pub(crate) fn run_day(
     requires run { IsScriptRunInRange run.now }
     requires sources { AreSources sources.now }
     requires lines { AreLines (length sources.now) script.now.lines.items }
-    ensures { IfOk result (λ day. IsLegal run.now.capacity day.journal.items) }
+    ensures day { IfOk result (λ day.
+        IsDay (link_of run.now.capacity run.now.journal run.now.slot sources.now)
+        script.now.lines.items day.text.items day.journal.items) }
+    ensures legal { IfOk result (λ day. IsLegal run.now.capacity day.journal.items) }
 {
     let profile = profile_of(alloc, run.capacity.as_slice())?;
     run_script(alloc, script, sources, profile, run.journal, run.slot)

@@ -198,7 +198,10 @@ pub fn law_tells_its_journal()
 {}
 
 /// A law: with status 0 each connection that a part of the gate gave was served over the films of
-/// the library, as its own report in `Ended` tells, and what its seat made is in the journal.
+/// the library, as its own report in `Ended` tells, and what its seat made is in the journal. In
+/// its whole course each play was kept between its client's two curves with the least excess, no
+/// play was refused but for a slot without room or a full journal, and no slot was ever booked
+/// above its capacity.
 pub fn law_serves_each()
     ensures { ServesEach }
 {}

@@ -1,4 +1,5 @@
 use Rattle.std.proofs.Common.{◌≡◌, ◌∙◌, ◌≤◌, List, ℕ, Vec, Global, inl, inr, refl, sym, subst, arith}
+use Rattle.day_run.specs.Days.{IsDay, link_of}
 use Rattle.admission.specs.Histories.{IsLegal}
 use Rattle.admission.specs.declared.entries.Entry.{Entry}
 use Rattle.std.specs.List.{Contains}
@@ -52,9 +53,12 @@ returns-in-Ok-run_day-clause-runs g c = inr (record {
   read = λ held told. (c.in-Ok.ensures {u = tt}).held held told;
   loaded = λ held told. rw c.deref.ensures.value at ((c.in-Ok-load_sources.ensures {u = tt}).held held (c.load_script.ensures.library.kept ∙ told));
   ran = record {
-    legal = subst (λ (v : Vec Entry Global). IsLegal c.args.run.now.capacity v.items) (sym c.end_day.ensures.journal) ((c.in-Ok-run_day.ensures {u = tt}));
+    legal = subst (λ (v : Vec Entry Global). IsLegal c.args.run.now.capacity v.items) (sym c.end_day.ensures.journal) ((c.in-Ok-run_day.ensures {u = tt}).legal);
     no_reports = c.end_day.ensures.reports;
     text = c.in-Ok-run_day.day.text.items;
+    day = subst (λ (v : Vec Entry Global). IsDay (link_of c.args.run.now.capacity c.args.run.now.journal c.args.run.now.slot c.in-Ok-load_sources.sources.items)
+        c.in-Ok.script.lines.items c.in-Ok-run_day.day.text.items v.items) (sym c.end_day.ensures.journal)
+        (rw c.deref-2.ensures.value at (c.in-Ok-run_day.ensures {u = tt}).day);
     written = c.end_day.ensures.written;
   };
 })
