@@ -3,6 +3,7 @@
 #
 # Makes a repository in the current folder, with the named crates (the lowest first; a crate of the kit is named too) and MAIN as a
 # program that stands on all of them, and runs it by `rt try`, which checks each call as it runs.
+# TRY_FLAGS has further words for `rt try`, as --seconds 600.
 set -eu
 here=$(cd "$(dirname "$0")" && pwd)
 command -v rt >/dev/null || { echo "program.sh: rt is missing"; exit 2; }
