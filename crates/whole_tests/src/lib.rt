@@ -1,0 +1,21 @@
+//! Tests across crates: sessions and connections by scripts of whole requests, replies and frames,
+//! failing links, and long films.
+//!
+//! Each test is a script, as data, that one reader of its kind runs; so a row more costs no proof.
+//! Nothing here is public.
+#![tactic(auto)]
+
+#[cfg(test)]
+mod connections;
+#[cfg(test)]
+mod films;
+#[cfg(test)]
+mod links;
+#[cfg(test)]
+mod long_films;
+#[cfg(test)]
+mod scripts;
+#[cfg(test)]
+mod sessions;
+#[cfg(test)]
+mod talks;

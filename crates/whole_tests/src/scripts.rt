@@ -1,0 +1,45 @@
+//! What stands in a script's lines.
+
+use std::alloc::Global;
+use vod_base::{NoMemory, read_number};
+
+/// A line's first word, and what stands after it.
+pub(crate) fn word_and_rest(line: &str) -> (&str, &str) {
+    line.split_once(' ').unwrap_or((line, ""))
+}
+
+/// A message, in which `|` stands for CR LF.
+pub(crate) fn message_of(alloc: Global, text: &str) -> Result<Vec<u8>, NoMemory> {
+    let mut bytes = Vec::new(alloc);
+    for byte in text.as_bytes() {
+        match *byte {
+            b'|' => bytes.extend_from_slice(b"\r\n")?,
+            other => bytes.push(other)?,
+        }
+    }
+    Ok(bytes)
+}
+
+/// Bytes in hexadecimal digits, with spaces between them. What is none is answered as want of
+/// memory is, each time.
+pub(crate) fn bytes_of(alloc: Global, digits: &str) -> Result<Vec<u8>, NoMemory> {
+    let mut bytes = Vec::new(alloc);
+    for word in digits.split_whitespace() {
+        let Ok(part) = hex::decode(alloc, word) else {
+            return Err(NoMemory);
+        };
+        bytes.extend_from_slice(&part)?;
+    }
+    Ok(bytes)
+}
+
+/// The first numbers of a line, and 0 for those that it lacks.
+pub(crate) fn numbers_of(text: &str) -> [u64; 4] {
+    let mut numbers = [0; 4];
+    for (place, word) in text.split_whitespace().enumerate() {
+        if let Some(number) = numbers.get_mut(place) {
+            *number = read_number(word.as_bytes()).unwrap_or(0);
+        }
+    }
+    numbers
+}
