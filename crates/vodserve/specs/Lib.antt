@@ -2,6 +2,7 @@ pub mod Plans
 pub mod Pictures
 pub mod Carrying
 pub mod Run
+pub mod Watches
 pub mod ScanText
 pub mod Texts
 pub mod Verdict

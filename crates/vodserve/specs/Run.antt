@@ -10,13 +10,20 @@ use Rattle.day_run.specs.declared.reels.Source.{Source}
 use Rattle.day_run.specs.declared.scripts.Script.{Script}
 use Rattle.day_run.specs.Days.{IsDay, link_of}
 use Rattle.vodserve.specs.Days.{AreHeldAs, HoldsScript, IsDayInput, IsDayRefused}
-use Rattle.command_words.specs.Words.{FairRun, ScriptRun, Serving, Order, help, version, plan_of, check_of, scan_of, make_of, day_of, fair_of, serve_of, watch_of}
+use Rattle.rtsp_client.specs.declared.wishes.Wish.{Wish}
+use Rattle.rtsp_client.specs.declared.wishes.Watched.{Watched}
+use Rattle.rtsp_client.specs.declared.wishes.WatchEnd.{WatchEnd}
+use Rattle.rtsp_client.specs.declared.wishes.WatchEnd.TheVariants.{Done as WatchDone, Fault as WatchFailed, LinkFault as WatchLinkFault, SinkFault as WatchSinkFault, NoMemory as WatchNoMemory}
+use Rattle.rtsp_client.specs.declared.wishes.WatchFault.{WatchFault}
+use Rattle.command_words.specs.Words.{FairRun, ScriptRun, Serving, Watching, Order, help, version, plan_of, check_of, scan_of, make_of, day_of, fair_of, serve_of, watch_of}
 use Rattle.troubles.specs.Said.{IsSaid}
 use Rattle.troubles.specs.Lines.{trouble_text}
 use Rattle.troubles.specs.Statuses.{status_of}
 use Rattle.troubles.specs.Causes.{IsReadOnly, IsReadTrouble}
 use Rattle.troubles.specs.declared.faults.Trouble.{Trouble}
-use Rattle.troubles.specs.declared.faults.Trouble.TheVariants.{Usage, Refused, StoreFault, SinkFault, NoMemory}
+use Rattle.troubles.specs.declared.faults.Trouble.TheVariants.{Usage, Refused, StoreFault, SinkFault, NoMemory, GateFault, LinkFault}
+use Rattle.troubles.specs.declared.faults.Fault.TheVariants.{NoConnection}
+use Rattle.vodserve.specs.Watches.{HasHeardFilm, HasPart, IsWishOf, idle_part, refusal_of, watched_text}
 use Rattle.vod_base.specs.Gates.{Content}
 use Rattle.film_frames.specs.declared.stores.Stored.{Stored}
 use Rattle.conn.specs.Parts.{Outlet, outlet}
@@ -212,6 +219,54 @@ RunsFair out out' err err' run ended =
     HasNotRun out out' err err' (λ trouble. trouble ≡ NoMemory) ended
     ⊎ HasRun out out' err err' run.capacity (λ text journal. ⊤) ended
 
+-- what keeps a client from a film: no connection; the gate, which counted a fault; or want of memory
+abbrev pub IsWatchTrouble : List ℕ → Outlet → Outlet → Trouble → Type 0
+IsWatchTrouble film gate gate' (Refused name NoConnection) =
+    (name.now ≡ film) × HasPart gate'.told idle_part
+IsWatchTrouble film gate gate' NoMemory = ⊤
+IsWatchTrouble film gate gate' GateFault = HasRisen gate.faults gate'.faults
+IsWatchTrouble film gate gate' _ = ⊥
+
+-- a server's fault, as the refusal of the film
+abbrev pub IsRefusalOf : List ℕ → WatchFault → Trouble → Type 0
+IsRefusalOf film fault (Refused name refusal) = (name.now ≡ film) × (refusal ≡ refusal_of fault)
+IsRefusalOf film fault _ = ⊥
+
+-- what the meter of the client's buffer read was said, or after a fault there a front of it
+pub record SaysWatched (err err' : Seen (List ℕ)) (watched : Watched) (ended : Ended) : Type 0 where
+  pub status : ended.status ≡ 0
+  pub no_plan : ended.plan ≡ None
+  pub whole : Bool
+  pub said : IsSaid err.faults err'.faults err.told err'.told (watched_text watched) whole
+
+-- what was said of a watching
+abbrev pub EndsWatch : Seen (List ℕ) → Seen (List ℕ) → List ℕ → WatchEnd → Ended → Type 0
+EndsWatch err err' film (WatchDone watched) ended = SaysWatched err err' watched ended
+EndsWatch err err' film (WatchFailed fault) ended =
+    (trouble : Trouble) × (IsRefusalOf film fault trouble × Fails err err' trouble ended)
+EndsWatch err err' film WatchLinkFault ended = Fails err err' LinkFault ended
+EndsWatch err err' film WatchSinkFault ended = Fails err err' SinkFault ended
+EndsWatch err err' film WatchNoMemory ended = Fails err err' NoMemory ended
+
+-- a client that watched a film over the gate's one connection
+pub record HasWatchedFilm (out out' err err' : Seen (List ℕ)) (gate' : Outlet)
+    (watching : Watching) (ended : Ended) : Type 0 where
+  pub wish : Wish
+  pub wish_is : IsWishOf watching wish
+  pub end : WatchEnd
+  pub heard : HasHeardFilm wish gate'.told out.faults out'.faults out.told out'.told end
+  pub nothing : HasServedNothing ended
+  pub ends : EndsWatch err err' watching.film end ended
+
+-- a client: what kept it from the film, and then nothing was written; or it watched it
+abbrev pub Watches : Seen (List ℕ) → Seen (List ℕ) → Seen (List ℕ) → Seen (List ℕ) → Outlet →
+    Outlet → Watching → Ended → Type 0
+Watches out out' err err' gate gate' watching ended =
+    ((trouble : Trouble)
+    × (IsWatchTrouble watching.film gate gate' trouble × (out' ≡ out) × HasServedNothing ended
+    × Fails err err' trouble ended))
+    ⊎ HasWatchedFilm out out' err err' gate' watching ended
+
 -- one definition for each command
 abbrev pub Does : World → World → List ℕ → Order → Ended → Type 0
 Does before after seed help ended = Prints before after help ended
@@ -228,7 +283,9 @@ Does before after seed (day_of run) ended =
 Does before after seed (fair_of run) ended =
     (after.gate ≡ before.gate) × (after.store ≡ before.store)
     × RunsFair before.out after.out before.err after.err run ended
-Does before after seed (watch_of watching) ended = IsUsage before after ended
+Does before after seed (watch_of watching) ended =
+    (after.store ≡ before.store)
+    × Watches before.out after.out before.err after.err before.gate after.gate watching ended
 Does before after seed (serve_of serving) ended = Serves before after seed serving ended
 
 -- the library is as it was, and what the words ask for was done, if they mean something

@@ -188,7 +188,9 @@ fn helps_with_every_key(rt: HostRuntime) -> Result<(), Fail> {
     let Ok(text) = str::from_utf8(&help.out) else {
         return Err(Fail::from("no text"));
     };
-    for name in ["plan", "check", "scan", "make", "day", "fair", "serve"] {
+    for name in [
+        "plan", "check", "scan", "make", "day", "fair", "serve", "watch",
+    ] {
         let Some(command) = command_named(name) else {
             return Err(Fail::from("no command"));
         };

@@ -24,9 +24,11 @@ mod serving;
 mod tests;
 mod texts;
 mod traces;
+mod watches;
 mod workers;
 
-use net_edge::{FileLibrary, OutSink, TcpGate};
+use crate::run::run;
+use net_edge::{DialGate, FileLibrary, OutSink, TcpGate};
 use std::alloc::AllocError;
 use std::env;
 use std::io::ErrorKind;
@@ -43,6 +45,14 @@ fn program_words(rt: &(impl Env + AllocGlobal)) -> Result<Vec<String>, AllocErro
     }
 }
 
+/// Whether a client is asked for, which makes a connection where a server waits for them.
+fn is_watch(words: &[String]) -> bool {
+    match words.first() {
+        Some(word) => word.as_str() == "watch",
+        None => false,
+    }
+}
+
 fn main(rt: HostRuntime) -> ExitCode {
     let Ok(words) = program_words(&rt) else {
         return ExitCode::from(6);
@@ -54,16 +64,32 @@ fn main(rt: HostRuntime) -> ExitCode {
     let mut library = FileLibrary::new(&rt, rt.alloc());
     let mut out = OutSink::new(rt.stdout());
     let mut err = OutSink::new(rt.stderr());
-    let mut gate = TcpGate::new(&rt, rt.alloc());
-    let ended = run::run(
-        &rt,
-        rt.alloc(),
-        &words,
-        &mut library,
-        &mut out,
-        &mut err,
-        &mut gate,
-        seed,
-    );
-    ExitCode::from(ended.status)
+    let status = if is_watch(&words) {
+        let mut gate = DialGate::new(&rt, rt.alloc());
+        run(
+            &rt,
+            rt.alloc(),
+            &words,
+            &mut library,
+            &mut out,
+            &mut err,
+            &mut gate,
+            seed,
+        )
+        .status
+    } else {
+        let mut gate = TcpGate::new(&rt, rt.alloc());
+        run(
+            &rt,
+            rt.alloc(),
+            &words,
+            &mut library,
+            &mut out,
+            &mut err,
+            &mut gate,
+            seed,
+        )
+        .status
+    };
+    ExitCode::from(status)
 }

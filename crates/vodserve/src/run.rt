@@ -22,6 +22,7 @@ use crate::scans::print_scan;
 use crate::served::print_served;
 use crate::serving::{Closed, prepare, run_server};
 use crate::texts::{help, version};
+use crate::watches::watch_film;
 use admission::Entry;
 use command_words::{Order, Serving, read_words};
 use conn::ConnReport;
@@ -36,7 +37,8 @@ use vod_base::{Gate, Library, Sink};
 #[derive(Debug, Drop)]
 pub struct Ended {
     /// The exit status: 0 done, 1 a certificate was refused, 2 the words mean nothing, 3 an input
-    /// is refused, 4 the library failed, 5 the output failed, 6 want of memory, 7 the gate failed.
+    /// is refused, 4 the library failed, 5 the output failed, 6 want of memory, 7 the gate failed,
+    /// 8 the link to a server failed.
     pub status: u8,
     /// The plan, for `plan` with status 0.
     pub plan: Option<Plan>,
@@ -259,7 +261,7 @@ where
         }
         Order::Day(order) => day(alloc, library, out, err, &order),
         Order::Fair(order) => fair(alloc, out, err, &order),
-        Order::Watch(_) => end_with(alloc, err, Trouble::Usage),
+        Order::Watch(watching) => watch_film(alloc, out, err, gate, &watching),
         Order::Serve(serving) => serve(rt, alloc, library, out, err, gate, seed, &serving),
     }
 }

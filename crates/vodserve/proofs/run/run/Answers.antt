@@ -72,5 +72,5 @@ returns-in-Fair g c = record {
 pub returns-in-Watch : goal.returns-in-Watch
 returns-in-Watch g c = record {
   ran = ran_as _ _ _ _ _ ((c.in-Some.ensures {u = tt}).order) c.in-Watch.is
-      (record { kept = refl; count = omega arith }) (omega arith) (omega arith) (refl, refl, c.end_with-in-Watch.ensures.nothing, c.end_with-in-Watch.ensures.fails);
+      (record { kept = refl; count = omega arith }) c.watch_film.ensures.output c.watch_film.ensures.gate (refl, c.watch_film.ensures.watches);
 }

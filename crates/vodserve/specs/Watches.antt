@@ -1,0 +1,95 @@
+-- What a client that watches a film comes to.
+use Rattle.std.specs.Prelude.{◌≡◌, ℕ, List, [], ◌∷◌, ◌++◌, codes, option_map, slice_index_or, string_bytes, Option, Some, None, IfSome}
+use Rattle.vod_base.specs.Outside.{HasRisen}
+use Rattle.vod_base.specs.Links.{Doing}
+use Rattle.vod_base.specs.Gates.{Content, Gave, NoMore, Part, Returned, gave, gave_none, got_back}
+use Rattle.rtsp_client.specs.Courses.{HasWatched}
+use Rattle.rtsp_client.specs.declared.wishes.Wish.{Wish}
+use Rattle.rtsp_client.specs.declared.wishes.Watched.{Watched}
+use Rattle.rtsp_client.specs.declared.wishes.WatchEnd.{WatchEnd}
+use Rattle.rtsp_client.specs.declared.wishes.WatchEnd.TheVariants.{LinkFault, SinkFault}
+use Rattle.rtsp_client.specs.declared.wishes.WatchFault.{WatchFault}
+use Rattle.rtsp_client.specs.declared.wishes.WatchFault.TheVariants.{Refused as RefusedBy, BadReply as BadReplyOf, BadFrame as BadFrameOf, Framing as FramingOf, EndedEarly as EndedEarlyOf, TurnsSpent as TurnsSpentOf}
+use Rattle.command_words.specs.Words.{Watching}
+use Rattle.troubles.specs.Said.{labelled}
+use Rattle.troubles.specs.declared.faults.Fault.{Fault}
+use Rattle.troubles.specs.declared.faults.Fault.TheVariants.{RefusedWith, BadReply, BadFrame, Framing, EndedEarly, TurnsSpent}
+
+-- the refusal that a server's fault is
+abbrev pub refusal_of : WatchFault → Fault
+refusal_of (RefusedBy code) = RefusedWith code
+refusal_of (BadReplyOf number) = BadReply number
+refusal_of (BadFrameOf number) = BadFrame number
+refusal_of FramingOf = Framing
+refusal_of (EndedEarlyOf pictures) = EndedEarly pictures
+refusal_of TurnsSpentOf = TurnsSpent
+
+-- what the words wish for
+pub record IsWishOf (watching : Watching) (wish : Wish) : Type 0 where
+  pub name : string_bytes wish.name ≡ watching.film
+  pub port : wish.port ≡ watching.port
+  pub buffer : wish.buffer ≡ watching.pace.buffer
+  pub startup : wish.startup ≡ watching.pace.startup
+  pub slot : wish.slot_units ≡ watching.pace.slot
+
+-- the line on what the meter read
+abbrev pub watched_text : Watched → List ℕ
+watched_text w =
+    codes "watched" ++ labelled (codes "units") w.units ++ labelled (codes "bytes") w.bytes
+    ++ labelled (codes "frames") w.frames ++ labelled (codes "reports") w.reports
+    ++ labelled (codes "most") w.most ++ labelled (codes "over") w.over
+    ++ labelled (codes "under") w.under ++ codes "\n"
+
+-- a part that gave no connection, and one that gave one and got it back
+abbrev pub idle_part : Part
+idle_part = record { number = 0; given = 0; back = []; last = NoMore }
+
+abbrev pub used_part : Returned → Part
+used_part conn = record { number = 0; given = 1; back = conn ∷ []; last = Gave }
+
+-- the gate's one part is this one
+abbrev pub HasPart : Option Content → Part → Type 0
+HasPart told part = IfSome told (λ content. slice_index_or content.parts 0 None ≡ Some part)
+
+-- an output that nothing was written to
+pub record IsSameOutput (faults faults' : ℕ) (told told' : Option (List ℕ)) : Type 0 where
+  pub faults_are : faults' ≡ faults
+  pub told_is : told' ≡ told
+
+-- a film was watched over a connection that had done nothing yet
+pub record HasHeardFilm (wish : Wish) (gate : Option Content) (faults faults' : ℕ)
+    (told told' : Option (List ℕ)) (end : WatchEnd) : Type 0 where
+  pub conn : Returned
+  pub heard : Option (List Doing)
+  pub fresh : IfSome heard (λ doings. doings ≡ [])
+  pub part : HasPart gate (used_part conn)
+  pub link : end ≡ LinkFault → HasRisen 0 conn.faults
+  pub out : end ≡ SinkFault → HasRisen faults faults'
+  pub watched : HasWatched wish end heard conn.told told told'
+
+-- the same of a part
+pub record HasHeardPart (wish : Wish) (old new : Option Content) (faults faults' : ℕ)
+    (told told' : Option (List ℕ)) (end : WatchEnd) : Type 0 where
+  pub conn : Returned
+  pub heard : Option (List Doing)
+  pub fresh : IfSome heard (λ doings. doings ≡ [])
+  pub gave : new ≡ option_map (got_back conn) (option_map gave old)
+  pub link : end ≡ LinkFault → HasRisen 0 conn.faults
+  pub out : end ≡ SinkFault → HasRisen faults faults'
+  pub watched : HasWatched wish end heard conn.told told told'
+
+-- what a part came to: no connection, and then nothing was written; or a film that was watched
+abbrev pub HearsPart : Wish → Option Content → Option Content → ℕ → ℕ → Option (List ℕ) →
+    Option (List ℕ) → Option WatchEnd → Type 0
+HearsPart wish old new faults faults' told told' None =
+    (new ≡ option_map (gave_none NoMore) old) × IsSameOutput faults faults' told told'
+HearsPart wish old new faults faults' told told' (Some end) =
+    HasHeardPart wish old new faults faults' told told' end
+
+-- the same of a gate
+abbrev pub Hears : Wish → Option Content → ℕ → ℕ → Option (List ℕ) → Option (List ℕ) →
+    Option WatchEnd → Type 0
+Hears wish gate faults faults' told told' None =
+    HasPart gate idle_part × IsSameOutput faults faults' told told'
+Hears wish gate faults faults' told told' (Some end) =
+    HasHeardFilm wish gate faults faults' told told' end

@@ -1,0 +1,195 @@
+//! The command `watch`.
+
+ghost use Rattle.std.specs.Prelude.{◌≡◌, ◌≤◌, IfSome, IfOk, OnErr, option_map};
+ghost use Rattle.vod_base.specs.Outside.{HasRisen};
+ghost use Rattle.vod_base.specs.Gates.{Failed, gave_none};
+ghost use Rattle.rtsp_client.specs.Wishes.{IsWish};
+ghost use Rattle.command_words.specs.Orders.{watching_of};
+ghost use Rattle.command_words.specs.Ranges.{IsWatchingInRange};
+ghost use Rattle.conn.specs.Parts.{IsUntouched};
+ghost use Rattle.troubles.specs.Said.{IsSaid};
+ghost use Rattle.vodserve.specs.Run.{EndsWatch, HasServedNothing, SaysWatched, Watches, gate_seen, seen};
+ghost use Rattle.vodserve.specs.Watches.{Hears, HearsPart, IsSameOutput, IsWishOf, refusal_of, watched_text};
+
+use crate::run::{Ended, end_with};
+use command_words::Watching;
+use rtsp_client::{WatchEnd, WatchFault, Watched, Wish, watch};
+use std::alloc::Global;
+use troubles::{Fault, Trouble, add, add_count};
+use vod_base::{Gate, GateFault, NoMemory, Opening, Sink};
+
+/// The refusal that comes of a server's fault.
+fn refusal_of(fault: WatchFault) -> Fault
+    ensures { result ≡ refusal_of fault }
+{
+    match fault {
+        WatchFault::Refused(code) => Fault::RefusedWith(code),
+        WatchFault::BadReply(number) => Fault::BadReply(number),
+        WatchFault::BadFrame(number) => Fault::BadFrame(number),
+        WatchFault::Framing => Fault::Framing,
+        WatchFault::EndedEarly(pictures) => Fault::EndedEarly(pictures),
+        WatchFault::TurnsSpent => Fault::TurnsSpent,
+    }
+}
+
+/// What the words wish for.
+fn wish_of(alloc: Global, watching: &Watching<'_>) -> Result<Wish, NoMemory>
+    requires { IsWatchingInRange watching.now }
+    ensures wish { IfOk result IsWish }
+    ensures words { IfOk result (IsWishOf (watching_of watching.entry.now)) }
+{
+    match String::from_str(alloc, watching.film) {
+        Ok(name) => Ok(Wish {
+            name,
+            port: watching.port,
+            buffer: watching.pace.buffer,
+            startup: watching.pace.startup,
+            slot_units: watching.pace.slot,
+        }),
+        Err(_) => Err(NoMemory),
+    }
+}
+
+/// Says what the meter of the client's buffer read.
+fn say_watched<E: Sink>(err: &mut E, watched: &Watched) -> bool
+    ensures { IsSaid (E.faults err.old) (E.faults err.new) (E.written err.old) (E.written err.new)
+        (watched_text watched.now) result }
+{
+    let word = add(err, true, b"watched");
+    let units = add_count(err, word, "units", watched.units);
+    let bytes = add_count(err, units, "bytes", watched.bytes);
+    let frames = add_count(err, bytes, "frames", watched.frames);
+    let reports = add_count(err, frames, "reports", watched.reports);
+    let most = add_count(err, reports, "most", watched.most);
+    let over = add_count(err, most, "over", watched.over);
+    let under = add_count(err, over, "under", watched.under);
+    add(err, under, b"\n")
+}
+
+/// Watches over the first connection of a part, or answers None where it gives none.
+fn watch_part<O: Sink, G: Gate>(
+    alloc: Global,
+    out: &mut O,
+    part: &mut G,
+    wish: &Wish,
+) -> Result<Option<WatchEnd>, GateFault>
+    requires wish { IsWish wish.now }
+    requires untouched { IfSome (G.told part.old) IsUntouched }
+    ensures count { G.faults part.old ≤ G.faults part.new }
+    ensures output { O.faults out.old ≤ O.faults out.new }
+    ensures fault { OnErr result (HasRisen (G.faults part.old) (G.faults part.new)) }
+    ensures kept { OnErr result (IsSameOutput (O.faults out.old) (O.faults out.new)
+        (O.written out.old) (O.written out.new)) }
+    ensures lost { OnErr result (G.told part.new ≡ option_map (gave_none Failed) (G.told part.old)) }
+    ensures heard { IfOk result (HearsPart wish.entry.now (G.told part.old) (G.told part.new)
+        (O.faults out.old) (O.faults out.new) (O.written out.old) (O.written out.new)) }
+{
+    let mut link = match part.take() {
+        Ok(Some(link)) => link,
+        Ok(None) => return Ok(None),
+        Err(fault) => return Err(fault),
+    };
+    let end = watch(alloc, wish, &mut link, out);
+    part.give_back(link);
+    Ok(Some(end))
+}
+
+/// Opens the gate as the words say, and watches over the connection that it gives, or answers None
+/// where it gives none.
+fn watch_gate<O: Sink, G: Gate + Drop>(
+    alloc: Global,
+    out: &mut O,
+    gate: &mut G,
+    wish: &Wish,
+) -> Result<Option<WatchEnd>, GateFault>
+    requires { IsWish wish.now }
+    ensures count { G.faults gate.old ≤ G.faults gate.new }
+    ensures output { O.faults out.old ≤ O.faults out.new }
+    ensures fault { OnErr result (HasRisen (G.faults gate.old) (G.faults gate.new)) }
+    ensures kept { OnErr result (IsSameOutput (O.faults out.old) (O.faults out.new)
+        (O.written out.old) (O.written out.new)) }
+    ensures heard { IfOk result (Hears wish.entry.now (G.told gate.new)
+        (O.faults out.old) (O.faults out.new) (O.written out.old) (O.written out.new)) }
+{
+    let opening = Opening {
+        port: wish.port,
+        all: false,
+        connections: 1,
+        slot_units: wish.slot_units,
+    };
+    match gate.open(&opening) {
+        Ok(()) => {}
+        Err(fault) => return Err(fault),
+    }
+    let mut part = match gate.split() {
+        Ok(part) => part,
+        Err(fault) => return Err(fault),
+    };
+    let heard = watch_part(alloc, out, &mut part, wish);
+    gate.rejoin(part);
+    heard
+}
+
+/// Ends with what the meter of the client's buffer read.
+fn end_watched<E: Sink>(alloc: Global, err: &mut E, watched: &Watched) -> Ended
+    ensures nothing { HasServedNothing result }
+    ensures says { SaysWatched (seen E.faults E.written err.old) (seen E.faults E.written err.new)
+        watched.now result }
+{
+    let _ = say_watched(err, watched);
+    Ended {
+        status: 0,
+        plan: None,
+        journal: Vec::new(alloc),
+        reports: Vec::new(alloc),
+    }
+}
+
+/// Ends a watching: says what the meter read, or what kept from the film's end.
+fn end_watch<E: Sink>(alloc: Global, err: &mut E, film: &str, end: WatchEnd) -> Ended
+    ensures nothing { HasServedNothing result }
+    ensures ends { EndsWatch (seen E.faults E.written err.old) (seen E.faults E.written err.new)
+        film.entry.now end result }
+{
+    match end {
+        WatchEnd::Done(watched) => end_watched(alloc, err, &watched),
+        WatchEnd::Fault(fault) => {
+            let refusal = refusal_of(fault);
+            end_with(alloc, err, Trouble::Refused(film, refusal))
+        }
+        WatchEnd::LinkFault => end_with(alloc, err, Trouble::LinkFault),
+        WatchEnd::SinkFault => end_with(alloc, err, Trouble::SinkFault),
+        WatchEnd::NoMemory => end_with(alloc, err, Trouble::NoMemory),
+    }
+}
+
+/// Watches a film that a server plays: writes the film's bytes as they come, and says at the end
+/// what the meter of the client's buffer read.
+pub(crate) fn watch_film<O: Sink, E: Sink, G: Gate + Drop>(
+    alloc: Global,
+    out: &mut O,
+    err: &mut E,
+    gate: &mut G,
+    watching: &Watching<'_>,
+) -> Ended
+    requires { IsWatchingInRange watching.now }
+    ensures output { O.faults out.old ≤ O.faults out.new }
+    ensures gate { G.faults gate.old ≤ G.faults gate.new }
+    ensures watches { Watches (seen O.faults O.written out.old) (seen O.faults O.written out.new)
+        (seen E.faults E.written err.old) (seen E.faults E.written err.new)
+        (gate_seen G.faults G.told gate.old) (gate_seen G.faults G.told gate.new)
+        (watching_of watching.entry.now) result }
+{
+    let Ok(wish) = wish_of(alloc, watching) else {
+        return end_with(alloc, err, Trouble::NoMemory);
+    };
+    match watch_gate(alloc, out, gate, &wish) {
+        Ok(Some(end)) => end_watch(alloc, err, watching.film, end),
+        Ok(None) => end_with(
+            alloc,
+            err,
+            Trouble::Refused(watching.film, Fault::NoConnection),
+        ),
+        Err(_) => end_with(alloc, err, Trouble::GateFault),
+    }
+}
