@@ -1,12 +1,14 @@
 -- What lists of plays book, as a play is added or cut.
-use Rattle.std.proofs.Common.{◌≡◌, ◌≤◌, ◌+◌, ◌-◌, ℕ, min, List, [], ◌∷◌, ◌++◌, arith, sym, ap, ◌∙◌}
+use Rattle.std.proofs.Common.{◌≡◌, ◌≤◌, ◌+◌, ◌-◌, ℕ, zero, suc, min, map, sum_by, List, [], ◌∷◌, ◌++◌, arith, refl, sym, ap, ◌∙◌}
+use Rattle.std.specs.List.{range_with_len}
+use Rattle.std.proofs.lemmas.List.FromFn.{sum_by-map-range_with_len_more}
 use Rattle.std.proofs.lemmas.List.Sums.{sum_by-append, sum_by-cons, sum_by_push}
 use Rattle.plan_cert.specs.declared.Segment.{Segment}
 use Rattle.plan_cert.specs.Slots.{total_bytes}
 use Rattle.plan_cert.specs.Plan.{IsPlan}
 use Rattle.slot_calendar.specs.Plays.{Play, sent_before, asked_at, cut_at, whole_play, cut_play, share_at, booked_by}
 use Rattle.slot_calendar.specs.Calendars.{Entries, booked_at, StandsFor}
-use Rattle.slot_calendar.proofs.Sending.{sent-rises, sent-most}
+use Rattle.slot_calendar.proofs.Sending.{sent-none, sent-rises, sent-most}
 
 share_parts : (a b k : ℕ) → a ≤ b → min b k - min a k + ((b - k) - (a - k)) ≡ b - a
 share_parts a b k rises = omega arith
@@ -22,6 +24,29 @@ share-whole segments start t plan =
 pub share-cut : (segments : List Segment) (start keep t : ℕ) → share_at t (cut_play start segments keep) + cut_at segments start keep t ≡ asked_at segments start t
 share-cut segments start keep t =
     share_parts (sent_before segments start t) (sent_before segments start (t + 1)) keep (sent-rises segments start t (t + 1) (omega arith))
+
+-- up to a slot it books what its plan has sent by then, and no more than it keeps
+map_same : (xs : List ℕ) → map (λ (u : ℕ). u) xs ≡ xs
+map_same [] = refl
+map_same (x ∷ xs) = ap (λ l. x ∷ l) (map_same xs)
+
+shares_more : (f : ℕ → ℕ) (t : ℕ) → sum_by f (range_with_len 0 (suc t)) ≡ sum_by f (range_with_len 0 t) + f t
+shares_more f t =
+    let at : 0 + t ≡ t = omega arith in
+    let count : suc t ≡ t + 1 = omega arith in
+    ap (sum_by f) (sym (map_same (range_with_len 0 (suc t)))) ∙ ap (λ n. sum_by f (map (λ (u : ℕ). u) (range_with_len 0 n))) count
+    ∙ sum_by-map-range_with_len_more f (λ (u : ℕ). u) 0 t t at ∙ ap (λ l. sum_by f l + f t) (map_same (range_with_len 0 t))
+
+min_next : (a b k n : ℕ) → a ≤ b → n ≡ min a k → n + (min b k - min a k) ≡ min b k
+min_next a b k n rises is = omega (arith, is)
+
+pub shares-first : (segments : List Segment) (start keep t : ℕ) → sum_by (λ u. share_at u (cut_play start segments keep)) (range_with_len 0 t) ≡ min (sent_before segments start t) keep
+shares-first segments start keep zero = omega (arith, sent-none segments start 0 (omega arith))
+shares-first segments start keep (suc t) =
+    let at : t + 1 ≡ suc t = omega arith in
+    shares_more (λ u. share_at u (cut_play start segments keep)) t
+    ∙ min_next (sent_before segments start t) (sent_before segments start (t + 1)) keep (sum_by (λ u. share_at u (cut_play start segments keep)) (range_with_len 0 t)) (sent-rises segments start t (t + 1) (omega arith)) (shares-first segments start keep t)
+    ∙ ap (λ n. min (sent_before segments start n) keep) at
 
 -- a play more
 pub booked-push : (plays : List Play) (segments : List Segment) (start t : ℕ) → IsPlan segments →

@@ -1,10 +1,11 @@
-ghost use Rattle.std.specs.Prelude.{◌≡◌, ◌+◌, ◌-◌, ◌<◌, ◌≤◌, ◌++◌, ◌∷◌, ℕ, List, slice_index};
+ghost use Rattle.std.specs.Prelude.{◌≡◌, ◌+◌, ◌-◌, ◌<◌, ◌≤◌, ◌++◌, ◌∷◌, ℕ, List, min, slice_index, sum_by};
+ghost use Rattle.std.specs.List.{range_with_len};
 ghost use Rattle.plan_cert.specs.declared.Segment.{Segment};
 ghost use Rattle.plan_cert.specs.Plan.{IsPlan};
 ghost use Rattle.plan_cert.specs.Slots.{plan_slots, total_slots, total_bytes, sum_through};
 ghost use Rattle.slot_calendar.specs.declared.calendar.Overflow.{Overflow};
 ghost use Rattle.slot_calendar.specs.Profiles.{capacity_at};
-ghost use Rattle.slot_calendar.specs.Plays.{Play, sent_before, asked_at, cut_at, whole_play, booked_by};
+ghost use Rattle.slot_calendar.specs.Plays.{Play, sent_before, asked_at, cut_at, cut_play, share_at, whole_play, booked_by};
 ghost use Rattle.slot_calendar.specs.Calendars.{Entries, IsCalendar, IsFirstOverflow, StandsFor, booked_at};
 
 /// What a plan that begins at `start` has sent before a slot and sends in it, in the words of the
@@ -21,6 +22,19 @@ pub fn law_sending()
         asked_at segments start (start + j) ≡ slice_index (plan_slots segments) j }
     ensures outside { (segments : List Segment) (start t : ℕ) → t < start →
         asked_at segments start t ≡ 0 }
+{}
+
+/// What a play books: all that its plan asks for, or, of a play that was cut, the first `keep` bytes
+/// that its plan sends and no others. So its release gives back in each slot what is after them.
+pub fn law_shares()
+    ensures whole { (segments : List Segment) (start t : ℕ) → IsPlan segments →
+        share_at t (whole_play start segments) ≡ asked_at segments start t }
+    ensures cut { (segments : List Segment) (start keep t : ℕ) →
+        share_at t (cut_play start segments keep) + cut_at segments start keep t
+        ≡ asked_at segments start t }
+    ensures first { (segments : List Segment) (start keep t : ℕ) →
+        sum_by (λ u. share_at u (cut_play start segments keep)) (range_with_len 0 t)
+        ≡ min (sent_before segments start t) keep }
 {}
 
 /// The plays that a calendar stands for never book more than the capacity, in any slot from now on.
