@@ -42,6 +42,16 @@ no_overflow = record { slot = 0; booked = 0; asked = 0 }
 no_start : Tried
 no_start = record { start = 0; over = no_overflow }
 
+-- the plan fits at no start that was tried
+pub no_room_tried : (from : ℕ) (booked capacity : ℕ → ℕ) (segments : List Segment) (first : ℕ) (tried : List Tried) (start : ℕ) → AreRefusals from booked capacity segments first tried →
+    first ≤ start → start < first + length tried → CanStart from booked capacity segments start → ⊥
+no_room_tried from booked capacity segments first tried start all begun before room =
+    let i = start - first in
+    let inside : i < length tried = omega (arith, begun, before) in
+    let same : start ≡ first + i = omega (arith, begun) in
+    let t = get_or tried i no_start in
+    no-room from t.start booked capacity segments t.over (all.refused i no_start inside) (subst (CanStart from booked capacity segments) (same ∙ sym (all.starts i no_start inside)) room)
+
 -- where a start was found, or all were tried, the next one isn't tried in vain
 nothing_next : (from : ℕ) (booked capacity : ℕ → ℕ) (segments : List Segment) (first wait n : ℕ) (o : Option ℕ) (t : Tried) → IsStart from booked capacity segments first wait n o → n ≤ wait →
     t.start ≡ first + n → IsRefusal from booked capacity segments t → ⊥

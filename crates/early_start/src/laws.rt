@@ -1,6 +1,6 @@
-ghost use Rattle.std.specs.Prelude.{ℕ, ◌≡◌, ◌<◌, ◌≤◌, List};
+ghost use Rattle.std.specs.Prelude.{ℕ, ◌≡◌, ◌+◌, ◌<◌, ◌≤◌, List, None, Some};
 ghost use Rattle.plan_cert.specs.declared.Segment.{Segment};
-ghost use Rattle.slot_calendar.specs.Calendars.{Entries, StandsFor};
+ghost use Rattle.slot_calendar.specs.Calendars.{Entries, HasRoom, StandsFor};
 ghost use Rattle.slot_calendar.specs.Plays.{Play, booked_by};
 ghost use Rattle.slot_calendar.specs.Profiles.{capacity_at};
 ghost use Rattle.early_start.specs.Offered.{Found, IsOffer, IsOfferIn};
@@ -26,4 +26,26 @@ pub fn law_offer_of_plays()
         ((t : ℕ) → booked_by plays t ≤ capacity_at calendar.steps t) →
         calendar.first < first → IsOfferIn calendar segments first found →
         IsOffer 0 (booked_by plays) (capacity_at calendar.steps) segments first found }
+{}
+
+/// The start that is found is the least of those within the wait at which the plan fits; where none
+/// is found it fits at none of them.
+pub fn law_least_start()
+    ensures fits { (from first start : ℕ) (booked capacity : ℕ → ℕ) (segments : List Segment)
+        (found : Found) → IsOffer from booked capacity segments first found →
+        found.start ≡ Some start → HasRoom from booked capacity start segments }
+    ensures begun { (from first start : ℕ) (booked capacity : ℕ → ℕ) (segments : List Segment)
+        (found : Found) → IsOffer from booked capacity segments first found →
+        found.start ≡ Some start → first ≤ start }
+    ensures within { (from first start : ℕ) (booked capacity : ℕ → ℕ) (segments : List Segment)
+        (found : Found) → IsOffer from booked capacity segments first found →
+        found.start ≡ Some start → start ≤ first + found.wait }
+    ensures least { (from first start earlier : ℕ) (booked capacity : ℕ → ℕ)
+        (segments : List Segment) (found : Found) →
+        IsOffer from booked capacity segments first found → found.start ≡ Some start →
+        first ≤ earlier → earlier < start → ¬ HasRoom from booked capacity earlier segments }
+    ensures none { (from first start : ℕ) (booked capacity : ℕ → ℕ) (segments : List Segment)
+        (found : Found) → IsOffer from booked capacity segments first found →
+        found.start ≡ None → first ≤ start → start ≤ first + found.wait →
+        ¬ HasRoom from booked capacity start segments }
 {}

@@ -7,7 +7,7 @@ ghost use Rattle.early_start.specs.Offered.{AreRefusalsIn, IsOfferIn, IsStartIn}
 
 mod laws;
 
-pub use laws::{law_offer_of_plays, law_one_offer};
+pub use laws::{law_least_start, law_offer_of_plays, law_one_offer};
 use plan_cert::Plan;
 use slot_calendar::{Calendar, Overflow};
 use std::alloc::Global;

@@ -41,6 +41,7 @@ fn run(
 
 #[test]
 fn finds_the_least_start(rt: HostRuntime) -> Result<(), Fail> {
+    law_least_start();
     law_one_offer();
     law_offer_of_plays();
     let segments = [Segment { slots: 3, bytes: 7 }];
