@@ -56,7 +56,7 @@ pub stands-opened : (calendar : Calendar) (held : List Held) (number start : ℕ
 stands-opened calendar held number start segments stands = subst (StandsFor calendar) (sym (map_push play_of held (admitted_play number start segments))) stands
 
 -- the plays around one that stands whole
-plays-around : (state : State) (number start : ℕ) (segments : List Segment) (h : Held) (is : held_as number state.held ≡ Some h) → h.play ≡ whole_play start segments →
+pub plays-around : (state : State) (number start : ℕ) (segments : List Segment) (h : Held) (is : held_as number state.held ≡ Some h) → h.play ≡ whole_play start segments →
     plays_of state ≡ map play_of (split number state.held h is).before ++ whole_play start segments ∷ map play_of (split number state.held h is).after
 plays-around state number start segments h is play_is =
     let parts = split number state.held h is in

@@ -9,3 +9,4 @@ pub mod Opens
 pub mod Makers
 pub mod Once
 pub mod Counts
+pub mod Bookings

@@ -1,5 +1,7 @@
-ghost use Rattle.std.specs.Prelude.{◌≡◌, ◌+◌, ◌<◌, ◌≤◌, ℕ, List, Some, count_by, map, take};
+ghost use Rattle.std.specs.Prelude.{◌≡◌, ◌+◌, ◌<◌, ◌≤◌, ◌++◌, [], ◌∷◌, ℕ, List, Some, count_by, false, length, map, max, slice_index_or, take};
 ghost use Rattle.plan_cert.specs.declared.Segment.{Segment};
+ghost use Rattle.plan_cert.specs.Plan.{IsPlan};
+ghost use Rattle.slot_calendar.specs.Plays.{asked_at, cut_at};
 ghost use Rattle.slot_calendar.specs.declared.profiles.CapStep.{CapStep};
 ghost use Rattle.slot_calendar.specs.Profiles.{capacity_at};
 ghost use Rattle.admission.specs.declared.entries.Command.{Command};
@@ -88,4 +90,59 @@ pub fn law_own_play()
         IsLegal steps entries → AreHaltsOwn entries →
         IsOpenAmong (made_by maker entries) number keep →
         CanHalt (state_after entries) number keep }
+{}
+
+/// What an entry more does to what is booked: an admission adds in each slot what its plan asks for,
+/// a halt takes away what its play sends after the bytes that it keeps, and no other entry changes
+/// it.
+pub fn law_bookings()
+    ensures admitted { (entries : List Entry) (maker slot start t : ℕ) (segments : List Segment) →
+        IsPlan segments → booked_after (entries ++ record {
+          maker = maker;
+          command = Command.Play slot segments;
+          answer = Answer.Admitted start;
+        } ∷ [])
+        t ≡ booked_after entries t + asked_at segments start t }
+    ensures halted { (steps : List CapStep) (entries : List Entry)
+        (maker number keep start t : ℕ) (segments : List Segment) → IsLegal steps entries →
+        IsPlan segments → IsAdmission entries number start segments →
+        CanHalt (state_after entries) number keep → booked_after (entries ++ record {
+          maker = maker;
+          command = Command.Halt number keep;
+          answer = Answer.Halted;
+        } ∷ []) t
+        + cut_at segments start keep t ≡ booked_after entries t }
+    ensures others { (entries : List Entry) (entry : Entry) (t : ℕ) →
+        is_admission entry.answer ≡ false → is_halt entry.command ≡ false →
+        booked_after (entries ++ entry ∷ []) t ≡ booked_after entries t }
+{}
+
+/// A play that is admitted begins in the slot after the latest one in which a play was asked for, up
+/// to its own entry.
+pub fn law_starts()
+    ensures { (steps : List CapStep) (entries : List Entry) (number start : ℕ)
+        (segments : List Segment) → IsLegal steps entries →
+        IsAdmission entries number start segments →
+        start ≡ latest_asked (take (number + 1) entries) + 1 }
+{}
+
+/// What the answer of a look tells: now, which is the latest slot in which a play was asked for
+/// before it; the slot of the look, or now where that is later; and what the entries before it book
+/// there.
+pub fn law_looks()
+    ensures now { (steps : List CapStep) (entries : List Entry) (place slot now at booked : ℕ)
+        (none : Entry) → IsLegal steps entries → place < length entries →
+        (slice_index_or entries place none).command ≡ Command.Look slot →
+        (slice_index_or entries place none).answer ≡ Answer.Looked now at booked →
+        now ≡ latest_asked (take place entries) }
+    ensures at { (steps : List CapStep) (entries : List Entry) (place slot now at booked : ℕ)
+        (none : Entry) → IsLegal steps entries → place < length entries →
+        (slice_index_or entries place none).command ≡ Command.Look slot →
+        (slice_index_or entries place none).answer ≡ Answer.Looked now at booked →
+        at ≡ max now slot }
+    ensures booked { (steps : List CapStep) (entries : List Entry) (place slot now at booked : ℕ)
+        (none : Entry) → IsLegal steps entries → place < length entries →
+        (slice_index_or entries place none).command ≡ Command.Look slot →
+        (slice_index_or entries place none).answer ≡ Answer.Looked now at booked →
+        booked ≡ booked_after (take place entries) at }
 {}

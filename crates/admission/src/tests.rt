@@ -358,13 +358,16 @@ fn keeps_each_capacity(rt: HostRuntime) -> Result<(), Fail> {
 // The laws are calls, and the refusals have texts.
 #[test]
 fn states_laws(rt: HostRuntime) -> Result<(), Fail> {
+    law_bookings();
     law_prefix();
+    law_starts();
     law_never_overbooked();
     law_open();
     law_plays();
     law_one_step();
     law_one_history();
     law_counts();
+    law_looks();
     law_own_play();
     let full = Full {
         entries: 2,

@@ -1,0 +1,96 @@
+-- What an entry more does to what is booked; where a play begins.
+use Rattle.std.proofs.Common.{◌≡◌, ◌<◌, ◌+◌, ℕ, false, List, [], ◌∷◌, ◌++◌, Some, max, length, get_or, map, take, arith, refl, sym, ap, subst, ◌∙◌}
+use Rattle.std.proofs.lemmas.Bool.{false≢true}
+use Rattle.std.proofs.lemmas.List.{map-append}
+use Rattle.std.proofs.lemmas.List.Sums.{fold_more}
+use Rattle.plan_cert.specs.declared.Segment.{Segment}
+use Rattle.plan_cert.specs.Plan.{IsPlan}
+use Rattle.slot_calendar.specs.declared.profiles.CapStep.{CapStep}
+use Rattle.slot_calendar.specs.Plays.{Play as Booked, asked_at, cut_at, cut_play, booked_by}
+use Rattle.slot_calendar.proofs.Shares.{booked-cut, booked-push}
+use Rattle.admission.specs.declared.entries.Entry.{Entry}
+use Rattle.admission.specs.declared.entries.Command.{Command}
+use Rattle.admission.specs.declared.entries.Command.TheVariants.{Play, Halt, Look}
+use Rattle.admission.specs.declared.entries.Answer.{Answer}
+use Rattle.admission.specs.declared.entries.Answer.TheVariants.{Admitted, Overflow, Halted, Looked}
+use Rattle.admission.specs.Machine.{State, CanHalt, IsAnswer, admitted_play, booked_in, halted_play, held_as, next_state, plays_of, with_halted}
+use Rattle.admission.specs.Histories.{IsAdmission, IsLegal, asked_in, booked_after, is_admission, is_halt, latest_asked, state_after}
+use Rattle.admission.proofs.Admissions.{admission_of}
+use Rattle.admission.proofs.Calendars.{plays-around}
+use Rattle.admission.proofs.Counts.{counted}
+use Rattle.admission.proofs.Halts.{play_of, plays-split, split}
+use Rattle.admission.proofs.Opens.{can-still, whole-after}
+use Rattle.admission.proofs.Runs.{legal-at, legal-take, no_entry, state-push}
+
+abbrev entry_of : ℕ → Command → Answer → Entry
+entry_of maker command answer = record { maker = maker; command = command; answer = answer }
+
+after_entry : (xs : List Entry) (e : Entry) (t : ℕ) → booked_after (xs ++ e ∷ []) t ≡ booked_in (next_state (state_after xs) (length xs) e.command e.answer) t
+after_entry xs e t = ap (λ (s : State). booked_in s t) (state-push xs e)
+
+pub booked_admitted : (xs : List Entry) (maker slot start t : ℕ) (segments : List Segment) → IsPlan segments →
+    booked_after (xs ++ entry_of maker (Play slot segments) (Admitted start) ∷ []) t ≡ booked_after xs t + asked_at segments start t
+booked_admitted xs maker slot start t segments plan =
+    let state = state_after xs in
+    after_entry xs (entry_of maker (Play slot segments) (Admitted start)) t
+    ∙ ap (λ (l : List Booked). booked_by l t) (map-append play_of state.held (admitted_play (length xs) start segments ∷ []))
+    ∙ booked-push (plays_of state) segments start t plan
+
+halted_state : (state : State) (number keep start t : ℕ) (segments : List Segment) → IsPlan segments → held_as number state.held ≡ Some (admitted_play number start segments) →
+    booked_by (map play_of (with_halted number keep state.held)) t + cut_at segments start keep t ≡ booked_in state t
+halted_state state number keep start t segments plan is =
+    let h = admitted_play number start segments in
+    let parts = split number state.held h is in
+    let front = map play_of parts.before in
+    let back = map play_of parts.after in
+    let becomes : map play_of (with_halted number keep state.held) ≡ front ++ cut_play start segments keep ∷ back =
+    ap (map play_of) (parts.becomes keep) ∙ plays-split parts.before parts.after (halted_play keep h) in
+    ap (λ (l : List Booked). booked_by l t + cut_at segments start keep t) becomes ∙ booked-cut front back segments start keep t plan
+    ∙ ap (λ (l : List Booked). booked_by l t) (sym (plays-around state number start segments h is refl))
+
+pub booked_halted : (steps : List CapStep) (xs : List Entry) (maker number keep start t : ℕ) (segments : List Segment) → IsLegal steps xs → IsPlan segments → IsAdmission xs number start segments →
+    CanHalt (state_after xs) number keep → booked_after (xs ++ entry_of maker (Halt number keep) Halted ∷ []) t + cut_at segments start keep t ≡ booked_after xs t
+booked_halted steps xs maker number keep start t segments legal plan admission can =
+    let still = can-still steps xs number keep legal can in
+    let is = whole-after steps xs number start segments legal admission still.unhalted in
+    ap (λ n. n + cut_at segments start keep t) (after_entry xs (entry_of maker (Halt number keep) Halted) t)
+    ∙ halted_state (state_after xs) number keep start t segments plan is
+
+other_state : (state : State) (place : ℕ) (command : Command) (answer : Answer) (t : ℕ) → is_admission answer ≡ false → is_halt command ≡ false →
+    booked_in (next_state state place command answer) t ≡ booked_in state t
+other_state state place (Play slot segments) (Admitted start) t unopened unhalted = absurd (false≢true (sym unopened))
+other_state state place (Play slot segments) (Overflow over booked asked) t unopened unhalted = refl
+other_state state place (Play slot segments) Halted t unopened unhalted = refl
+other_state state place (Play slot segments) (Looked now at booked) t unopened unhalted = refl
+other_state state place (Halt number keep) answer t unopened unhalted = absurd (false≢true (sym unhalted))
+other_state state place (Look slot) answer t unopened unhalted = refl
+
+pub booked_other : (xs : List Entry) (e : Entry) (t : ℕ) → is_admission e.answer ≡ false → is_halt e.command ≡ false → booked_after (xs ++ e ∷ []) t ≡ booked_after xs t
+booked_other xs e t unopened unhalted = after_entry xs e t ∙ other_state (state_after xs) (length xs) e.command e.answer t unopened unhalted
+
+-- ---- where a play begins
+pub start_is : (steps : List CapStep) (xs : List Entry) (number start : ℕ) (segments : List Segment) → IsLegal steps xs → IsAdmission xs number start segments →
+    start ≡ latest_asked (take (number + 1) xs) + 1
+start_is steps xs number start segments legal admission =
+    let e = get_or xs number no_entry in
+    let state = state_after (take number xs) in
+    let found = admission_of e.command e.answer start segments (admission.admitted no_entry) in
+    let C : Command → Type 0 = λ c. IsAnswer steps state c e.answer in
+    let A : Answer → Type 0 = λ a. IsAnswer steps state (Play found.0 segments) a in
+    let answered = subst A found.1.1 (subst C found.1.0 (legal-at steps xs number legal admission.inside)) in
+    let now_is = (counted steps (take number xs) (legal-take steps xs number legal)).1 in
+    let slot_is : asked_in e.command ≡ found.0 = ap asked_in found.1.0 in
+    let latest : latest_asked (take (number + 1) xs) ≡ max (latest_asked (take number xs)) (asked_in e.command) =
+    fold_more (λ latest (x : Entry). max latest (asked_in x.command)) 0 xs number no_entry admission.inside in
+    omega (arith, answered.0, now_is, slot_is, latest)
+
+-- ---- what a look tells
+pub look_is : (steps : List CapStep) (xs : List Entry) (place slot now at booked : ℕ) (none : Entry) → IsLegal steps xs → place < length xs → (get_or xs place none).command ≡ Look slot →
+    (get_or xs place none).answer ≡ Looked now at booked → (now ≡ latest_asked (take place xs)) × (at ≡ max now slot) × (booked ≡ booked_after (take place xs) at)
+look_is steps xs place slot now at booked none legal inside command_is answer_is =
+    let state = state_after (take place xs) in
+    let C : Command → Type 0 = λ c. IsAnswer steps state c (get_or xs place none).answer in
+    let A : Answer → Type 0 = λ a. IsAnswer steps state (Look slot) a in
+    let told = subst A answer_is (subst C command_is (legal.each place none inside)) in
+    let now_is = (counted steps (take place xs) (legal-take steps xs place legal)).1 in
+    (told.0 ∙ now_is, omega (arith, told.0, told.1), told.2)

@@ -1,0 +1,5 @@
+use Rattle.admission.proofs.Bookings.{start_is}
+use Rattle.admission.proofs.laws.law_starts.Goals as goal
+
+pub returns : goal.returns
+returns c = start_is
