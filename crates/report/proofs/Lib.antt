@@ -4,3 +4,4 @@ pub mod LineLemmas
 pub mod KindLemmas
 pub mod FormLemmas
 pub mod StateLemmas
+mod FormedLemmas

@@ -26,7 +26,7 @@ pub clean_field : (label : List ℕ) (n : ℕ) → list_all (λ b. not (b == 10)
 clean_field label n test small =
     All-append (λ b. b ≢ 10) label (decimal n) (clean_by label test) (not_in_decimal 10 n small (λ within. omega (arith, within.0)))
 
-clean_words : (slot booked : ℕ) → slot < 2 ^ 64 → booked < 2 ^ 64 → IsClean (slot_words slot booked)
+pub clean_words : (slot booked : ℕ) → slot < 2 ^ 64 → booked < 2 ^ 64 → IsClean (slot_words slot booked)
 clean_words slot booked small few =
     All-append (λ b. b ≢ 10) (field (codes "at ") slot) (field (codes " booked=") booked) (clean_field (codes "at ") slot refl small) (clean_field (codes " booked=") booked refl few)
 
@@ -35,10 +35,10 @@ abbrev pub words_at : (ℕ → ℕ) → ℕ → List ℕ
 words_at bytes t = slot_words t (bytes t)
 
 -- a slot of 64 bits with bytes of 64 bits
-abbrev IsFew : (ℕ → ℕ) → ℕ → Type 0
+abbrev pub IsFew : (ℕ → ℕ) → ℕ → Type 0
 IsFew bytes t = (t < 2 ^ 64) × (bytes t < 2 ^ 64)
 
-lines-slots : (bytes : ℕ → ℕ) (slots : List ℕ) → All (IsFew bytes) slots →
+pub lines-slots : (bytes : ℕ → ℕ) (slots : List ℕ) → All (IsFew bytes) slots →
     (lines_of (flat_map (slot_line bytes) slots ++ codes "end\n")).whole ≡ map (words_at bytes) slots ++ codes "end" ∷ []
 lines-slots bytes [] few = refl
 lines-slots bytes (t ∷ rest) few =
@@ -50,10 +50,10 @@ lines-slots bytes (t ∷ rest) few =
     ∙ ap (λ ls. ls.whole) (lines-cut (words_at bytes t) after (clean_words t (bytes t) one.0 one.1))
     ∙ ap (λ (ls : List (List ℕ)). words_at bytes t ∷ ls) (lines-slots bytes rest (All-tail (IsFew bytes) t rest few))
 
-abbrev lines_told : ℕ → (ℕ → ℕ) → List (List ℕ)
+abbrev pub lines_told : ℕ → (ℕ → ℕ) → List (List ℕ)
 lines_told from bytes = first_words from ∷ (map (words_at bytes) (booked_slots from bytes) ++ codes "end" ∷ [])
 
-lines-calendar : (from : ℕ) (bytes : ℕ → ℕ) → from < 2 ^ 64 → All (IsFew bytes) (booked_slots from bytes) → calendar_lines from bytes ≡ lines_told from bytes
+pub lines-calendar : (from : ℕ) (bytes : ℕ → ℕ) → from < 2 ^ 64 → All (IsFew bytes) (booked_slots from bytes) → calendar_lines from bytes ≡ lines_told from bytes
 unfolding calendar_lines
 lines-calendar from bytes small few =
     let first = first_words from in
@@ -65,7 +65,7 @@ lines-calendar from bytes small few =
     ∙ ap (λ (ls : List (List ℕ)). first ∷ ls) (lines-slots bytes (booked_slots from bytes) few)
 
 -- ---- the slots in which bytes are booked
-all_booked : (bytes : ℕ → ℕ) (Q : ℕ → Type 0) (a n : ℕ) → ((t : ℕ) → a ≤ t → t < a + n → 0 < bytes t → Q t) → All Q (booked_among bytes (range_with_len a n))
+pub all_booked : (bytes : ℕ → ℕ) (Q : ℕ → Type 0) (a n : ℕ) → ((t : ℕ) → a ≤ t → t < a + n → 0 < bytes t → Q t) → All Q (booked_among bytes (range_with_len a n))
 all_booked bytes Q a zero each = All-nil Q
 all_booked bytes Q a (suc n) each =
     pick (nat_lt 0 (bytes a)) refl (all_booked bytes Q (a + 1) n (λ t after inside some. each t (omega arith) (omega arith) some))
@@ -77,7 +77,7 @@ all_booked bytes Q a (suc n) each =
     pick true is others = All-cons Q a rest (each a (omega arith) (omega arith) (ltb-true 0 (bytes a) is)) others
     pick false is others = others
 
-booked_stands : (bytes : ℕ → ℕ) (slot a n : ℕ) → a ≤ slot → slot < a + n → 0 < bytes slot → Contains (booked_among bytes (range_with_len a n)) slot
+pub booked_stands : (bytes : ℕ → ℕ) (slot a n : ℕ) → a ≤ slot → slot < a + n → 0 < bytes slot → Contains (booked_among bytes (range_with_len a n)) slot
 booked_stands bytes slot a zero after inside some = absurd (omega arith)
 booked_stands bytes slot a (suc n) after inside some = elim (cases_lt a slot) [
   | inl later ↦ over (nat_lt 0 (bytes a))
@@ -117,7 +117,7 @@ same_words s b t c small few small' few' e =
 abbrev TellsOf : ℕ → (ℕ → ℕ) → ℕ → ℕ → List ℕ → Type 0
 TellsOf from bytes slot booked line = line ≡ slot_words slot booked → (booked ≡ bytes slot) × (0 < booked) × (from ≤ slot)
 
-few_slots : (from : ℕ) (bytes : ℕ → ℕ) → AreBookings from bytes → ring_slots < 2 ^ 62 → All (IsFew bytes) (booked_slots from bytes)
+pub few_slots : (from : ℕ) (bytes : ℕ → ℕ) → AreBookings from bytes → ring_slots < 2 ^ 62 → All (IsFew bytes) (booked_slots from bytes)
 few_slots from bytes kept short =
     all_booked bytes (IsFew bytes) from ring_slots (λ t after inside some. (omega (arith, kept.first_small, inside, short), omega (arith, kept.few t after)))
 

@@ -4,3 +4,4 @@ pub mod Kinds
 pub mod EntryLines
 pub mod EntryForms
 pub mod CalendarTexts
+pub mod CalendarForms

@@ -5,6 +5,8 @@ ghost use Rattle.slot_calendar.specs.Calendars.{Entries, StandsFor, booked_at};
 ghost use Rattle.admission.specs.Histories.{IsLegal};
 ghost use Rattle.admission.specs.Machine.{State, booked_in, plays_of};
 ghost use Rattle.admission.specs.declared.entries.Entry.{Entry};
+ghost use Rattle.plan_cert.specs.Reading.{lines_of};
+ghost use Rattle.report.specs.CalendarForms.{IsCalendarTold};
 ghost use Rattle.report.specs.CalendarTexts.{AreBookings, calendar_lines, calendar_text, slot_words};
 ghost use Rattle.report.specs.EntryForms.{HasForm};
 ghost use Rattle.report.specs.EntryLines.{entry_line};
@@ -51,6 +53,13 @@ pub fn law_slot_lines()
     ensures begun { (from slot told : ℕ) (booked : ℕ → ℕ) → AreBookings from booked →
         slot < 2 ^ 64 → told < 2 ^ 64 →
         Contains (calendar_lines from booked) (slot_words slot told) → from ≤ slot }
+{}
+
+/// The text of what is booked from a slot on has a line for that slot, a line for each slot from it
+/// on in which bytes are booked, once and in the order of slots, and a last line `end`.
+pub fn law_calendar_lines()
+    ensures { (from : ℕ) (booked : ℕ → ℕ) → AreBookings from booked →
+        IsCalendarTold from booked (lines_of (calendar_text from booked)) }
 {}
 
 /// The text of a calendar that has come to a machine's now and stands for its plays is the text of

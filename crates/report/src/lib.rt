@@ -8,7 +8,9 @@ mod laws;
 
 pub use calendars::calendar_text;
 pub use entries::entry_line;
-pub use laws::{law_answer_kinds, law_entry_line, law_kinds, law_slot_lines, law_state_text};
+pub use laws::{
+    law_answer_kinds, law_calendar_lines, law_entry_line, law_kinds, law_slot_lines, law_state_text,
+};
 
 #[cfg(test)]
 mod tests;

@@ -4,8 +4,8 @@ ghost use Rattle.std.specs.Prelude.{IsTrue};
 ghost use Rattle.report.specs.Kinds.{IsOfKind};
 
 use crate::{
-    calendar_text, entry_line, law_answer_kinds, law_entry_line, law_kinds, law_slot_lines,
-    law_state_text,
+    calendar_text, entry_line, law_answer_kinds, law_calendar_lines, law_entry_line, law_kinds,
+    law_slot_lines, law_state_text,
 };
 use admission::{Answer, Command, Entry};
 use plan_cert::{Plan, Segment};
@@ -148,6 +148,7 @@ fn texts_of_calendars(rt: HostRuntime) -> Result<(), Fail> {
     // the last slot of the ring
     let byte = plan_of(&rt, alloc, 1, 1)?;
     assert!(rt; calendar.now() == 2 && byte.slots() == 1);
+    law_calendar_lines();
     law_slot_lines();
     law_state_text();
     assert!(rt; calendar.first_overflow(1_048_577, &byte).is_none());
