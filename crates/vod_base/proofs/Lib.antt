@@ -2,3 +2,4 @@ pub mod Digits
 pub mod FileSearch
 pub mod Giving
 pub mod Noting
+pub mod Written

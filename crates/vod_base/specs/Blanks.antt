@@ -1,5 +1,7 @@
 -- Blanks around a text: spaces and tabs.
-use Rattle.std.specs.Prelude.{ℕ, ◌==◌, ◌||◌, Bool, if◌then◌else◌, List, [], ◌∷◌, reverse}
+use Rattle.std.specs.Prelude.{◌≡◌, ℕ, ◌-◌, ◌<◌, ◌==◌, ◌||◌, Bool, true, false, if◌then◌else◌}
+use Rattle.std.specs.Prelude.{List, [], ◌∷◌, ◌++◌, length, reverse, slice_index}
+use Rattle.std.specs.List.{list_all}
 
 -- space or tab
 abbrev pub is_blank : ℕ → Bool
@@ -13,3 +15,14 @@ without_front_blanks (c ∷ cs) = if is_blank c then without_front_blanks cs els
 -- a text without the blanks around it
 abbrev pub trimmed : List ℕ → List ℕ
 trimmed text = reverse (without_front_blanks (reverse (without_front_blanks text)))
+
+-- a text is this bare one with blanks around it, or none; the bare one neither begins nor ends with
+-- a blank
+pub record IsTrimmed (text bare : List ℕ) : Type 0 where
+  pub front : List ℕ
+  pub back : List ℕ
+  pub parts : text ≡ front ++ bare ++ back
+  pub front_is_blank : list_all is_blank front ≡ true
+  pub back_is_blank : list_all is_blank back ≡ true
+  pub begins : 0 < length bare → is_blank (slice_index bare 0) ≡ false
+  pub ends : 0 < length bare → is_blank (slice_index bare (length bare - 1)) ≡ false

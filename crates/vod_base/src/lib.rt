@@ -5,6 +5,7 @@
 mod blanks;
 mod files;
 mod gates;
+mod laws;
 mod lines;
 mod links;
 mod memory_gates;
@@ -20,6 +21,7 @@ mod shares;
 pub use blanks::{is_blank, trimmed};
 pub use files::Library;
 pub use gates::{Gate, Opening};
+pub use laws::{law_file_name, law_number_read, law_sent, law_trimmed};
 pub use lines::{Line, line_end};
 pub use links::{Heard, Link};
 pub use memory_gates::{MemoryGate, MemoryPart};
