@@ -41,7 +41,7 @@ pieces-cover (n ∷ slices) f cuts fit (inr x) =
 
 -- ---- what is never cut
 
--- all cuts lie at a place or behind it
+-- all cuts lie at a place or after it
 abbrev pub AreBehind : ℕ → List ℕ → Type 0
 AreBehind place [] = Unit {0}
 AreBehind place (cut ∷ cuts) = (place ≤ cut) × AreBehind place cuts

@@ -7,7 +7,7 @@
 --   fits, and else begins the next;
 -- * a longer slice begins in the piece that has nothing but the head, where that leaves room, and
 -- else begins
---   the next; it fills each piece to 1,380 bytes, and no slice goes behind its last fragment;
+--   the next; it fills each piece to 1,380 bytes, and no slice goes after its last fragment;
 -- * a piece ends only where this says so, or with the unit. A unit's cut points are the places
 -- where its pieces end, the last of them the unit's end.
 use Rattle.std.specs.Prelude.{ℕ, zero, suc, ◌+◌, ◌-◌, ◌*◌, ◌/◌, ◌<◌, ◌≤◌, ◌≡◌, ◌⊎◌, Bool, true, false, nat_le, nat_lt, if◌then◌else◌, List, [], ◌∷◌, ◌++◌}
@@ -16,7 +16,7 @@ use Rattle.rtp_pack.specs.declared.filling.Holds.{Holds}
 use Rattle.rtp_pack.specs.declared.filling.Holds.TheVariants.{HeadAlone, Slices, LastFragment}
 
 -- a slice of at most 1,380 bytes goes into the piece that has the bytes `from` to `at` where all of
--- it fits, and never behind a longer slice's last fragment
+-- it fits, and never after a longer slice's last fragment
 abbrev pub goes_in_whole : ℕ → ℕ → Holds → ℕ → Bool
 goes_in_whole from at HeadAlone length = nat_le (at + length) (from + 1380)
 goes_in_whole from at Slices length = nat_le (at + length) (from + 1380)
@@ -64,7 +64,7 @@ Begins Goes goes from at cuts =
     ((goes ≡ true) × Goes from cuts)
     ⊎ ((goes ≡ false) × ((rest : List ℕ) × ((cuts ≡ at ∷ rest) × Goes at rest)))
 
--- the cut points behind a piece that is being filled, where slices of these lengths follow
+-- the cut points after a piece that is being filled, where slices of these lengths follow
 abbrev pub Cuts : Filling → List ℕ → List ℕ → Type 0
 Cuts f [] cuts = cuts ≡ f.at ∷ []
 Cuts f (length ∷ slices) cuts =

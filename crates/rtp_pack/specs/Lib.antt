@@ -5,3 +5,4 @@ pub mod Reports
 pub mod Sizes
 pub mod Laws
 pub mod Rules
+pub mod Fields

@@ -101,7 +101,7 @@ ends_to to [] = []
 ends_to to (start ∷ starts) = next_place to starts ∷ ends_to to starts
 
 -- the packet of a piece of a unit (RFC 2250 section 3.4): B where it begins with a slice, or with
--- the head and a slice behind it; E where its last byte is a slice's last byte; S where it begins
+-- the head and a slice after it; E where its last byte is a slice's last byte; S where it begins
 -- with a sequence header; the marker where it ends with the unit
 abbrev pub piece_packet : PictureUnit → List ℕ → ℕ → ℕ → Packet
 piece_packet unit starts from to =

@@ -25,7 +25,7 @@ description_bytes report =
 abbrev pub report_bytes : Report → List ℕ
 report_bytes report = sender_bytes report ++ description_bytes report
 
--- the media time of a unit in seconds, 32 bits before the point and 32 behind it, where a picture
+-- the media time of a unit in seconds, 32 bits before the point and 32 after it, where a picture
 -- takes so many 1/360,000 seconds
 abbrev pub unit_time : ℕ → PictureUnit → ℕ
 unit_time picture_time unit =

@@ -6,7 +6,7 @@ ghost use Rattle.rtp_pack.specs.Cutting.{full_before, goes_in, held};
 pub(crate) enum Holds {
     /// The unit's head alone.
     HeadAlone,
-    /// Whole slices, behind the head in the unit's first piece.
+    /// Whole slices, after the head in the unit's first piece.
     Slices,
     /// The last fragment of a slice that is longer than a piece.
     LastFragment,
@@ -17,7 +17,7 @@ pub(crate) enum Holds {
 pub(crate) struct Filling {
     /// The place of its first byte.
     pub from: u64,
-    /// The place behind its last byte so far.
+    /// The place after its last byte so far.
     pub at: u64,
     /// What stands in it.
     pub holds: Holds,

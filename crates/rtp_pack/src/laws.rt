@@ -1,12 +1,15 @@
-ghost use Rattle.std.specs.Prelude.{◌≡◌, ◌+◌, ◌<◌, ◌≤◌, ◌++◌, ℕ, List, length, sum, Ok};
+ghost use Rattle.std.specs.Prelude.{◌≡◌, ◌+◌, ◌*◌, ◌%◌, ◌^◌, ◌<◌, ◌≤◌, ◌++◌, ℕ, List, length, sum, Ok};
 ghost use Rattle.rtp_pack.specs.Cutting.{IsCutting};
-ghost use Rattle.rtp_pack.specs.Heads.{head_bytes, head_of};
+ghost use Rattle.rtp_pack.specs.Fields.{HasReportFields, HasVideoFields, IsTickOf};
+ghost use Rattle.rtp_pack.specs.Heads.{head_bytes, head_of, unit_timestamp, video_word};
 ghost use Rattle.rtp_pack.specs.Laws.{ArePieces, AreShortUncut, DoLongEndPieces, IsLastMarked, IsUncut};
+ghost use Rattle.rtp_pack.specs.Reports.{report_bytes, unit_time};
 ghost use Rattle.rtp_pack.specs.Rules.{HaveBytes, MeetsRules};
 ghost use Rattle.rtp_pack.specs.Packets.{ArePackets, DoCover, IsLaid, OfUnit};
 
 use crate::heads::Head;
 use crate::payloads::Packet;
+use crate::reports::{Identity, Report};
 use mpeg_scan::{Film, Unit};
 
 /// The rules for cutting leave one list: two lists of cut points that meet them for one unit are
@@ -45,7 +48,7 @@ pub fn law_last_marked(unit: &Unit, slice_starts: &[u64], packets: &[Packet])
 }
 
 /// The units of a film lie in its bytes. Each has a head of 1 to 1,380 bytes and at least one
-/// slice, and its slices, of at least 4 bytes each, lie one behind another to its end.
+/// slice, and its slices, of at least 4 bytes each, lie one after another to its end.
 pub fn law_unit_laid(film: &Film, unit: usize)
     ensures within { OfUnit film.now.units.items unit (λ u. u.to ≤ length film.now.bytes.items) }
     ensures laid { OfUnit film.now.units.items unit (λ u. IsLaid film.now.slice_starts.items u) }
@@ -75,3 +78,33 @@ pub fn law_rules()
         head_end ≤ from + 1380 → HaveBytes slices
         → MeetsRules from head_end slices cuts → IsCutting from head_end slices cuts }
 {}
+
+/// The fields of a video header, each read at its bits (RFC 2250 section 3.4). Film units keep both
+/// premises.
+pub fn law_video_header(unit: &Unit, packet: &Packet)
+    requires temporal { unit.now.temporal < 2 ^ 10 }
+    requires vectors { unit.now.vectors < 2 ^ 8 }
+    ensures { HasVideoFields (video_word unit.now packet.now) unit.now packet.now }
+{
+    let _read = (unit.to, packet.to);
+}
+
+/// The fields of a report, each read at its bytes (RFC 3550 sections 6.4.1 and 6.5).
+pub fn law_report_fields(report: Report)
+    ensures { HasReportFields (report_bytes report) report }
+{
+    let _read = report;
+}
+
+/// A report's time, in seconds with 32 bits after the point, and a packet's timestamp, on a clock of
+/// 90,000 Hz, are those of a unit's place in its film, which counts in 1/360,000 second.
+pub fn law_media_times(identity: &Identity, picture_time: u32, unit: &Unit)
+    requires { unit.now.presentation * picture_time < 360000 * 2 ^ 32 }
+    ensures time { IsTickOf (unit.now.presentation * picture_time) (2 ^ 32)
+        (unit_time picture_time unit.now) }
+    ensures timestamp { (tick : ℕ) × (IsTickOf (unit.now.presentation * picture_time) 90000 tick
+        × (unit_timestamp identity.now picture_time unit.now ≡
+        (identity.now.timestamp + tick) % 2 ^ 32)) }
+{
+    let _read = (identity.ssrc, picture_time, unit.to);
+}

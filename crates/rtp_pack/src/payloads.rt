@@ -13,11 +13,11 @@ use vod_base::NoMemory;
 pub struct Packet {
     /// The place of its first byte in the film.
     pub from: u64,
-    /// The place behind its last byte: 1 to 1,380 bytes more.
+    /// The place after its last byte: 1 to 1,380 bytes more.
     pub to: u64,
     /// The RTP marker: it is the unit's last packet.
     pub marker: bool,
-    /// B: it begins with a slice code, or with the unit's head and a slice behind it.
+    /// B: it begins with a slice code, or with the unit's head and a slice after it.
     pub begin: bool,
     /// E: its last byte is a slice's last byte.
     pub end: bool,

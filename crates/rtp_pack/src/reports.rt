@@ -29,7 +29,7 @@ pub struct Identity {
 pub struct Report {
     /// The synchronization source.
     pub ssrc: u32,
-    /// The time in seconds, 32 bits before the point and 32 behind it.
+    /// The time in seconds, 32 bits before the point and 32 after it.
     pub time: u64,
     /// The same time on the clock of the packets, 90,000 Hz.
     pub timestamp: u32,
@@ -57,7 +57,7 @@ pub fn write_report(report: &Report) -> [u8; 48]
     bytes
 }
 
-/// The media time of a unit in seconds, 32 bits before the point and 32 behind it.
+/// The media time of a unit in seconds, 32 bits before the point and 32 after it.
 ///
 /// `picture_time` is the time of a picture in 1/360,000 second.
 fn unit_time(picture_time: u32, unit: &Unit) -> u64

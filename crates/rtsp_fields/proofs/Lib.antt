@@ -9,3 +9,4 @@ pub mod Words
 pub mod SecondsTexts
 pub mod HexTexts
 pub mod Names
+pub mod Described

@@ -6,3 +6,4 @@ pub mod Ranges
 pub mod Sessions
 pub mod Values
 pub mod Descriptions
+pub mod Laws

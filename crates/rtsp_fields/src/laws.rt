@@ -1,8 +1,9 @@
 ghost use Rattle.std.specs.Prelude.{◌≡◌, ◌≢◌, ◌*◌, ◌^◌, ◌<◌, ◌++◌, ◌↔◌, ℕ, codes, true};
 ghost use Rattle.vod_base.specs.Names.{is_good_name};
 ghost use Rattle.rtsp_text.specs.Grammar.{IsUrl};
+ghost use Rattle.rtsp_fields.specs.Laws.{IsDescription};
 ghost use Rattle.rtsp_fields.specs.Ranges.{IsSpan};
-ghost use Rattle.rtsp_fields.specs.Descriptions.{seconds_text};
+ghost use Rattle.rtsp_fields.specs.Descriptions.{description_text, seconds_text};
 ghost use Rattle.rtsp_fields.specs.Times.{IsTime};
 ghost use Rattle.rtsp_fields.specs.Transports.{IsTransport};
 ghost use Rattle.rtsp_fields.specs.Urls.{IsAbsoluteUrl, IsTail, NamesFilm};
@@ -71,4 +72,15 @@ pub fn law_seconds_read(ms: u64)
     ensures { IsTime (seconds_text ms) (ms * 1000000) }
 {
     let _read = ms;
+}
+
+/// The description of a film that lasts less than 10^12 milliseconds has the lines that RFC 4566
+/// asks for, in their order. A player that reads them finds the whole film's time in it, and the
+/// control URL of the film's one stream.
+pub fn law_description(name: &[u8], end_ms: u64)
+    requires name { is_good_name name.now ≡ true }
+    requires end { end_ms < 10 ^ 12 }
+    ensures { IsDescription (description_text name.now end_ms) name.now (end_ms * 1000000) }
+{
+    let _read = (name.len(), end_ms);
 }

@@ -1,0 +1,25 @@
+-- What a description tells a player, in the words of RFC 4566 section 5 and RFC 2326 appendix C.
+use Rattle.std.specs.Prelude.{◌≡◌, ℕ, true, List, [], ◌∷◌, ◌++◌, Some, codes, flat_map}
+use Rattle.rtsp_text.specs.Lines.{is_one_line}
+use Rattle.rtsp_fields.specs.Ranges.{IsSpan}
+use Rattle.rtsp_fields.specs.Urls.{IsStream}
+use Rattle.rtsp_fields.specs.declared.ranges.Origin.TheVariants.{At}
+
+-- a line with its end
+abbrev pub ended : List ℕ → List ℕ
+ended line = line ++ codes "\r\n"
+
+-- The lines that a description must have, in their order: of the session the version, its origin,
+-- its name, the connection, no bounded time, and attributes; of its one medium the kind with the
+-- payload type of MPEG video, and an attribute. The session's range is the whole film's, in
+-- nanoseconds, and the medium's control URL, relative to the film's, is that of its stream.
+pub record IsDescription (text name : List ℕ) (end : ℕ) : Type 0 where
+  pub range : List ℕ
+  pub stream : List ℕ
+  pub lines : text ≡ flat_map ended (codes "v=0" ∷ codes "o=- 0 0 IN IP4 127.0.0.1" ∷ (codes "s="
+      ++ name) ∷ codes "c=IN IP4 0.0.0.0" ∷ codes "t=0 0" ∷ codes "a=control:*" ∷ (codes "a=range:"
+      ++ range) ∷ codes "m=video 0 RTP/AVP 32" ∷ (codes "a=control:" ++ stream) ∷ [])
+  pub name_is : is_one_line name ≡ true
+  pub range_is : is_one_line range ≡ true
+  pub whole : IsSpan range (record { from = At 0; to = Some end })
+  pub stream_is : IsStream (codes "/" ++ stream)
