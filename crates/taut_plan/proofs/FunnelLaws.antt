@@ -19,7 +19,7 @@ pub known_most : (side : Side) (slot : ℕ) → others_known side slot ≤ slot 
 known_most Lower slot = omega arith
 known_most Upper slot = omega arith
 
-chain_beyond : (side : Side) (curve : ℕ → ℕ) (t : ℕ) (o : Point) (chain : List Point)
+pub chain_beyond : (side : Side) (curve : ℕ → ℕ) (t : ℕ) (o : Point) (chain : List Point)
     → IsChain side curve t o chain → o.place ≤ t
 chain_beyond side curve t o [] at_end = omega (arith, at_end)
 chain_beyond side curve t o (p ∷ rest) chain = let later = chain.0.later in let near = chain.0.near in omega (arith, later, near)

@@ -9,3 +9,4 @@ pub mod FunnelLaws
 pub mod BandLaws
 pub mod WholeLaws
 pub mod Existence
+pub mod FitLaws

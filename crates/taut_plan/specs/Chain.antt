@@ -4,7 +4,7 @@
 use Rattle.std.specs.Prelude.{◌≡◌, ℕ, ◌<◌, ◌≤◌, List, [], ◌∷◌, ◌++◌, ◌⊎◌}
 use Rattle.taut_plan.specs.declared.points.Point.{Point}
 use Rattle.taut_plan.specs.declared.points.Side.{Side}
-use Rattle.taut_plan.specs.Slopes.{IsWithin, IsInside}
+use Rattle.taut_plan.specs.Slopes.{IsWithin, IsInside, AllFit}
 
 abbrev pub on_curve : (ℕ → ℕ) → ℕ → Point
 on_curve curve j = record { place = j; height = curve j }
@@ -58,3 +58,8 @@ abbrev pub EdgesAscend : Point → List Point → Point → Type 0
 EdgesAscend o chain point =
     (first second : Point) → IsLastEdge o chain first second → (first.place ≤ second.place)
     × (second.place ≤ point.place)
+
+-- the points of the last edge and the new one are of a plan
+abbrev pub EdgesFit : Point → List Point → Point → Type 0
+EdgesFit o chain point =
+    (first second : Point) → IsLastEdge o chain first second → AllFit first second point

@@ -5,7 +5,7 @@ use Rattle.std.specs.Prelude.{◌≡◌, ℕ, ◌+◌, ◌<◌, ◌≤◌, List,
 use Rattle.taut_plan.specs.declared.points.Point.{Point}
 use Rattle.taut_plan.specs.declared.points.Side.{Side}
 use Rattle.taut_plan.specs.declared.points.Side.TheVariants.{Lower, Upper}
-use Rattle.taut_plan.specs.Slopes.{IsWithin, IsInside, other_side}
+use Rattle.taut_plan.specs.Slopes.{IsWithin, IsInside, AllFit, other_side}
 use Rattle.taut_plan.specs.Chain.{on_curve, IsChain}
 
 -- one of the two curves, by its side
@@ -55,6 +55,11 @@ IsUncrossed side o (corner ∷ rest) point = IsWithin side o point corner
 abbrev pub FirstIsBetween : Point → List Point → Point → Type 0
 FirstIsBetween o [] point = Unit {0}
 FirstIsBetween o (first ∷ rest) point = (o.place ≤ first.place) × (first.place ≤ point.place)
+
+-- the corner, the front of the other chain and the point are of a plan
+abbrev pub FirstFits : Point → List Point → Point → Type 0
+FirstFits o [] point = Unit {0}
+FirstFits o (first ∷ rest) point = AllFit o first point
 
 -- The whole funnel, seen from one side: that side's chain reaches to place t, the other one to s.
 pub record IsFunnel (side : Side) (curve other : ℕ → ℕ) (t s : ℕ) (o : Point)

@@ -1,5 +1,5 @@
 -- The slopes at which a point sees later points, compared without division.
-use Rattle.std.specs.Prelude.{ℕ, ◌+◌, ◌-◌, ◌*◌, ◌<◌, ◌≤◌}
+use Rattle.std.specs.Prelude.{ℕ, ◌+◌, ◌-◌, ◌*◌, ◌^◌, ◌<◌, ◌≤◌}
 use Rattle.taut_plan.specs.declared.points.Point.{Point}
 use Rattle.taut_plan.specs.declared.points.Side.{Side}
 use Rattle.taut_plan.specs.declared.points.Side.TheVariants.{Lower, Upper}
@@ -22,6 +22,17 @@ IsWithin Upper o a b = slope_le o.height (b.place - o.place) b.height (a.place -
 abbrev pub IsInside : Side → Point → Point → Point → Type 0
 IsInside Lower o a b = slope_lt o.height (a.place - o.place) a.height (b.place - o.place) b.height
 IsInside Upper o a b = slope_lt o.height (b.place - o.place) b.height (a.place - o.place) a.height
+
+-- A point of a plan: a million slots are fewer than 2 ^ 20, so that a product of a difference of
+-- places and a height is at most 2 ^ 62.
+pub record Fits (p : Point) : Type 0 where
+  pub place : p.place ≤ 2 ^ 20
+  pub height : p.height ≤ 2 ^ 42
+
+pub record AllFit (first middle last : Point) : Type 0 where
+  pub begins : Fits first
+  pub passes : Fits middle
+  pub ends : Fits last
 
 -- the other one of the two curves
 abbrev pub other_side : Side → Side

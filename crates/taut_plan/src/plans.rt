@@ -5,7 +5,7 @@ ghost use Rattle.wire_curve.specs.Sound.{IsSound};
 ghost use Rattle.cert_check.specs.Fault.{IsTaut};
 ghost use Rattle.cert_check.specs.Best.{IsBestPlan};
 ghost use Rattle.taut_plan.specs.Slopes.{other_side};
-ghost use Rattle.taut_plan.specs.Funnel.{IsFunnel, IsCrossed, IsUncrossed, FirstIsBetween, others_known};
+ghost use Rattle.taut_plan.specs.Funnel.{IsFunnel, IsCrossed, IsUncrossed, FirstIsBetween, FirstFits, others_known};
 ghost use Rattle.taut_plan.specs.Path.{IsPath, IsWhole};
 ghost use Rattle.taut_plan.specs.Sides.{lower_of, upper_of, side_of};
 
@@ -19,8 +19,10 @@ use vod_base::NoMemory;
 use wire_curve::Curves;
 
 /// The front of the other chain, where `point` stands outside of it.
+#[inline(always)]
 fn crossed(side: Side, apex: Point, others: &VecDeque<Point>, point: Point) -> Option<Point>
-    requires { FirstIsBetween apex others.now.items point }
+    requires between { FirstIsBetween apex others.now.items point }
+    requires fit { FirstFits apex others.now.items point }
     ensures { MatchOption result
         (IsUncrossed side apex others.now.items point)
         (λ corner. IsCrossed side apex others.now.items point corner) }
@@ -35,6 +37,7 @@ fn crossed(side: Side, apex: Point, others: &VecDeque<Point>, point: Point) -> O
 
 /// Takes in the next slot's end on one side, and bends along the other chain while the new point
 /// stands outside of it.
+#[inline(always)]
 fn extend(
     curves: &Curves,
     side: Side,

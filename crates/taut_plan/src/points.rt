@@ -1,7 +1,7 @@
 //! Points of the curves, and the order of the slopes at which one point sees others.
 
 ghost use Rattle.std.specs.Prelude.{◌≡◌, ◌+◌, ◌-◌, ◌*◌, ◌<◌, ◌≤◌, ◌↔◌, IsTrue, MatchBool, length};
-ghost use Rattle.taut_plan.specs.Slopes.{IsWithin, IsInside, other_side};
+ghost use Rattle.taut_plan.specs.Slopes.{IsWithin, IsInside, AllFit, other_side};
 ghost use Rattle.taut_plan.specs.Chain.{on_curve};
 ghost use Rattle.taut_plan.specs.Sides.{side_of};
 
@@ -35,6 +35,7 @@ impl Side {
 }
 
 /// The point of a curve at the end of a slot.
+#[inline(always)]
 pub(crate) fn point_at(curves: &Curves, side: Side, slot: usize) -> Point
     requires low { slot < length curves.now.low.items }
     requires up { slot < length curves.now.up.items }
@@ -52,9 +53,11 @@ pub(crate) fn point_at(curves: &Curves, side: Side, slot: usize) -> Point
 
 /// Whether, seen from the first point, the middle one stands strictly inside the last one: below
 /// the line to it on the lower side, and above the line to it on the upper side.
+#[inline(always)]
 pub(crate) fn is_inside(side: Side, first: Point, middle: Point, last: Point) -> bool
     requires begins { first.place ≤ middle.place }
     requires ends { middle.place ≤ last.place }
+    requires fit { AllFit first middle last }
     ensures { MatchBool result (IsInside side first middle last) (IsWithin side first last middle) }
 {
     match side {
@@ -65,9 +68,11 @@ pub(crate) fn is_inside(side: Side, first: Point, middle: Point, last: Point) ->
 
 /// Whether the middle point stands strictly above the straight line from the first point to the
 /// last.
+#[inline(always)]
 fn is_above(first: Point, middle: Point, last: Point) -> bool
     requires begins { first.place ≤ middle.place }
     requires ends { middle.place ≤ last.place }
+    requires fit { AllFit first middle last }
     ensures { IsTrue result
         ↔ ((last.place - middle.place) * first.height + (middle.place - first.place) * last.height
         < (last.place - first.place) * middle.height) }
@@ -78,9 +83,11 @@ fn is_above(first: Point, middle: Point, last: Point) -> bool
 
 /// Whether the middle point stands strictly below the straight line from the first point to the
 /// last.
+#[inline(always)]
 fn is_below(first: Point, middle: Point, last: Point) -> bool
     requires begins { first.place ≤ middle.place }
     requires ends { middle.place ≤ last.place }
+    requires fit { AllFit first middle last }
     ensures { IsTrue result
         ↔ ((last.place - first.place) * middle.height
         < (last.place - middle.place) * first.height + (middle.place - first.place) * last.height) }
@@ -90,18 +97,20 @@ fn is_below(first: Point, middle: Point, last: Point) -> bool
 }
 
 /// The heights at the middle place of the straight line from the first point to the last, and of
-/// the middle point, both times the places from the first to the last.
-fn weights(first: Point, middle: Point, last: Point) -> (u128, u128)
+/// the middle point, both times the places from the first to the last: at most 2^62.
+#[inline(always)]
+fn weights(first: Point, middle: Point, last: Point) -> (u64, u64)
     requires begins { first.place ≤ middle.place }
     requires ends { middle.place ≤ last.place }
+    requires fit { AllFit first middle last }
     ensures line { result.0
         ≡ (last.place - middle.place) * first.height + (middle.place - first.place) * last.height }
     ensures point { result.1 ≡ (last.place - first.place) * middle.height }
 {
-    let before = u128::from(middle.place - first.place);
-    let beyond = u128::from(last.place - middle.place);
+    let before = middle.place - first.place;
+    let beyond = last.place - middle.place;
     (
-        beyond * u128::from(first.height) + before * u128::from(last.height),
-        (before + beyond) * u128::from(middle.height),
+        beyond * first.height + before * last.height,
+        (last.place - first.place) * middle.height,
     )
 }

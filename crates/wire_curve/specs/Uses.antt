@@ -30,6 +30,18 @@ IsFaultOfUses uses buffer (BufferTooSmall slot used least) =
 abbrev pub used_by : Timing → List ℕ → ℕ → ℕ
 used_by timing uses t = timing.played + sum (take t uses)
 
+-- the lower curve, slot by slot
+pub record IsLowerOfUses (timing : Timing) (uses low : List ℕ) : Type 0 where
+  pub slots : length low ≡ length uses
+  pub each : (t : ℕ) → t < length uses →
+      slice_index low t ≡ max timing.sent (used_by timing uses (t + 1))
+
+-- the upper one
+pub record IsUpperOfUses (timing : Timing) (uses : List ℕ) (total : ℕ) (up : List ℕ) : Type 0 where
+  pub slots : length up ≡ length uses
+  pub each : (t : ℕ) → t < length uses →
+      slice_index up t ≡ min total (used_by timing uses t + timing.buffer)
+
 pub record AreCurvesOfUses (timing : Timing) (uses : List ℕ) (total : ℕ) (curves : Curves)
     : Type 0 where
   pub from_is : curves.from ≡ timing.sent

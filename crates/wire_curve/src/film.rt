@@ -3,7 +3,7 @@
 ghost use Rattle.std.specs.Prelude.{◌≡◌, ℕ, ◌+◌, ◌-◌, ◌<◌, ◌≤◌, ◌^◌, length, sum, slice_index, vec_len, IfOk, IfErr, IfSome, IfNone, OnOk, All, max, min};
 ghost use Rattle.wire_curve.specs.Sound.{IsSound};
 ghost use Rattle.wire_curve.specs.FilmCurves.{due, used_in, total_of, slot_count, IsWithinLimits, AreFilmCurves};
-ghost use Rattle.wire_curve.specs.Uses.{AreUses, IsFaultOfUses, AreCurvesOfUses};
+ghost use Rattle.wire_curve.specs.Uses.{AreUses, IsFaultOfUses, AreCurvesOfUses, IsLowerOfUses, IsUpperOfUses};
 ghost use Rattle.wire_curve.specs.Refusal.{IsAccepted, IsOverfull, HasFault, IsRefused};
 
 use crate::curves::Curves;
@@ -115,7 +115,7 @@ pub fn film_curves(alloc: Global, sizes: &[u64], timing: &Timing) -> Result<Curv
     if let Some(fault) = buffer_fault(&uses.in_slot, timing.buffer) {
         return Err(CurveRefused::Fault(fault));
     }
-    Ok(curves_of_uses(alloc, timing, &uses)?)
+    Ok(curves_of_uses(alloc, timing, uses)?)
 }
 
 /// The slot in which a picture is used.
@@ -126,6 +126,9 @@ fn due_slot(timing: &Timing, picture: u64) -> u64
     requires delay { timing.now.delay ≤ 10000 }
     ensures { result ≡ due timing.now picture }
 {
+    if timing.picture_units == timing.slot_units {
+        return picture + timing.delay;
+    }
     picture * u64::from(timing.picture_units) / u64::from(timing.slot_units) + timing.delay
 }
 
@@ -176,24 +179,46 @@ fn buffer_fault(in_slot: &[u64], buffer: u64) -> Option<CurveFault>
     })
 }
 
-/// The curves of pictures that use so much in each slot.
-fn curves_of_uses(alloc: Global, timing: &Timing, uses: &SlotUses) -> Result<Curves, AllocError>
-    requires total { timing.now.played + sum uses.now.in_slot.items ≤ 2 ^ 42 }
+/// The curves of pictures that use so much in each slot. The list of the uses becomes the lower one.
+fn curves_of_uses(alloc: Global, timing: &Timing, uses: SlotUses) -> Result<Curves, AllocError>
+    requires total { timing.now.played + sum uses.in_slot.items ≤ 2 ^ 42 }
     requires buffer { timing.now.buffer ≤ 2 ^ 42 }
-    ensures { IfOk result (AreCurvesOfUses timing.now uses.now.in_slot.items uses.now.total) }
+    ensures { IfOk result (AreCurvesOfUses timing.now uses.in_slot.items uses.total) }
 {
-    let slots = uses.in_slot.len();
-    let mut low = Vec::with_capacity(alloc, slots)?;
-    let mut up = Vec::with_capacity(alloc, slots)?;
-    let mut used = timing.played;
-    for in_slot in &uses.in_slot {
-        up.push(uses.total.min(used + timing.buffer))?;
-        used += *in_slot;
-        low.push(timing.sent.max(used))?;
-    }
+    let up = upper_curve(alloc, timing, &uses)?;
+    let mut low = uses.in_slot;
+    lower_curve(timing, low.as_mut_slice());
     Ok(Curves {
         from: timing.sent,
         low,
         up,
     })
+}
+
+/// What may have been sent by the end of each slot: all, or what the buffer still holds.
+fn upper_curve(alloc: Global, timing: &Timing, uses: &SlotUses) -> Result<Vec<u64>, AllocError>
+    requires total { timing.now.played + sum uses.now.in_slot.items ≤ 2 ^ 42 }
+    requires buffer { timing.now.buffer ≤ 2 ^ 42 }
+    ensures { IfOk result (λ up.
+        IsUpperOfUses timing.now uses.now.in_slot.items uses.now.total up.items) }
+{
+    let mut up = Vec::with_capacity(alloc, uses.in_slot.len())?;
+    let mut used = timing.played;
+    for in_slot in &uses.in_slot {
+        up.push(uses.total.min(used + timing.buffer))?;
+        used += *in_slot;
+    }
+    Ok(up)
+}
+
+/// Makes of the bytes used in each slot what must have been sent by its end.
+fn lower_curve(timing: &Timing, uses: &mut [u64])
+    requires { timing.now.played + sum uses.old ≤ 2 ^ 42 }
+    ensures { IsLowerOfUses timing.now uses.old uses.new }
+{
+    let mut used = timing.played;
+    for slot in 0..uses.len() {
+        used += uses[slot];
+        uses[slot] = timing.sent.max(used);
+    }
 }

@@ -1,10 +1,11 @@
-use Rattle.std.proofs.Common.{◌+◌, arith, sym, subst}
+use Rattle.std.proofs.Common.{◌+◌, ◌≤◌, length, arith, sym, subst}
 use Rattle.taut_plan.specs.Slopes.{other_side}
 use Rattle.taut_plan.specs.Funnel.{IsCrossing, others_known}
 use Rattle.taut_plan.specs.Path.{IsPath}
 use Rattle.taut_plan.specs.Sides.{lower_of, upper_of, side_of}
 use Rattle.taut_plan.proofs.BandLaws.{band_of_sound}
-use Rattle.taut_plan.proofs.FunnelLaws.{crossing_starts, bends_at, crossing_ends}
+use Rattle.taut_plan.proofs.FitLaws.{corner_fits, first_fits, point_fits}
+use Rattle.taut_plan.proofs.FunnelLaws.{chain_beyond, crossing_starts, bends_at, crossing_ends}
 use Rattle.taut_plan.proofs.plans.extend.Goals as goal
 
 pub loop-corner-init : goal.loop-corner-init
@@ -15,6 +16,25 @@ loop-corner-init c =
       crossing = crossing_starts c.args.side (side_of curves c.args.side) (side_of curves (other_side c.args.side)) c.args.slot c.args.path.now.apex c.args.own.now.items _ c.args.others.now.items
           c.requires.funnel c.in_ok-point.ensures.chain;
     }
+
+pub join-requires-clause-apex : goal.join-requires-clause-apex
+join-requires-clause-apex c =
+    let curves = c.args.curves.now in
+    let slot = c.requires.slot in
+    let beyond = chain_beyond c.args.side (side_of curves c.args.side) c.args.slot c.args.path.now.apex c.args.own.now.items c.requires.funnel.own in
+    corner_fits curves.from curves.low.items curves.up.items c.args.path.now.apex c.requires.sound (omega (arith, beyond, slot)) c.requires.path.below
+
+pub crossed-requires-clause-fit : goal.crossed-requires-clause-fit
+crossed-requires-clause-fit c =
+    let curves = c.args.curves.now in
+    let slot = c.requires.slot in
+    let beyond = c.loop-corner.invariant.crossing.beyond in
+    let fits : c.args.slot + 1 ≤ length curves.low.items = omega (arith, slot) in
+    first_fits c.args.side (side_of curves c.args.side) (side_of curves (other_side c.args.side)) (c.args.slot + 1) (others_known c.args.side c.args.slot) (length curves.low.items)
+    c.loop-corner.path.apex _ c.loop-corner.others.items c.in_ok-point.point c.in_ok-point.ensures.point c.loop-corner.invariant.crossing fits
+    (corner_fits curves.from curves.low.items curves.up.items c.loop-corner.path.apex c.requires.sound (omega (arith, beyond, fits)) c.loop-corner.invariant.path.below)
+    (point_fits c.args.side curves.from curves.low.items curves.up.items c.requires.sound)
+    (point_fits (other_side c.args.side) curves.from curves.low.items curves.up.items c.requires.sound)
 
 pub bend_at-requires-clause-higher : goal.bend_at-requires-clause-higher
 bend_at-requires-clause-higher c =

@@ -1,0 +1,88 @@
+-- The points of the chains are of a plan, so that no product of the test overflows.
+use Rattle.std.proofs.Common.{◌≡◌, ℕ, ◌+◌, ◌^◌, ◌≤◌, List, [], ◌∷◌, ◌++◌, length, arith, sym, subst}
+use Rattle.wire_curve.specs.Sound.{IsSound, bound_at}
+use Rattle.cert_check.proofs.TautForms.{bound_end}
+use Rattle.taut_plan.specs.declared.points.Point.{Point}
+use Rattle.taut_plan.specs.declared.points.Side.{Side}
+use Rattle.taut_plan.specs.declared.points.Side.TheVariants.{Lower, Upper}
+use Rattle.taut_plan.specs.Slopes.{Fits, other_side}
+use Rattle.taut_plan.specs.Chain.{on_curve, IsFurthest, last_point, EdgesFit}
+use Rattle.taut_plan.specs.Funnel.{IsCrossing, FirstFits, curve_on}
+use Rattle.taut_plan.proofs.BandLaws.{band_of_sound}
+use Rattle.taut_plan.proofs.ChainLaws.{IsOpen}
+
+-- no curve rises above the total
+upper_fits : (from : ℕ) (low up : List ℕ) → IsSound from low up → (j : ℕ) → j ≤ length low
+    → bound_at from up j ≤ 2 ^ 42
+upper_fits from low up sound j fits =
+    let band = band_of_sound from low up sound in
+    let rise = band.high_rises j (length low) fits (omega arith) in
+    let meet = band.meet in
+    let end = bound_end from low (length low) sound.some_slot in
+    let total = sound.total_fits in
+    omega (arith, rise, meet, end, total)
+
+pub curve_fits : (side : Side) (from : ℕ) (low up : List ℕ) → IsSound from low up → (j : ℕ) → j ≤ length low
+    → curve_on (bound_at from low) (bound_at from up) side j ≤ 2 ^ 42
+curve_fits Upper from low up sound j fits = upper_fits from low up sound j fits
+curve_fits Lower from low up sound j fits =
+    let band = band_of_sound from low up sound in
+    let below = band.ordered j fits in
+    let above = upper_fits from low up sound j fits in
+    omega (arith, below, above)
+
+pub point_fits : (side : Side) (from : ℕ) (low up : List ℕ) → IsSound from low up → (j : ℕ) → j ≤ length low
+    → Fits (on_curve (curve_on (bound_at from low) (bound_at from up) side) j)
+point_fits side from low up sound j fits = record {
+  place = let few = sound.few_slots in omega (arith, few, fits);
+  height = curve_fits side from low up sound j fits;
+}
+
+-- a corner between the curves
+pub corner_fits : (from : ℕ) (low up : List ℕ) (o : Point) → IsSound from low up → o.place ≤ length low
+    → o.height ≤ bound_at from up o.place → Fits o
+corner_fits from low up o sound fits below = record {
+  place = let few = sound.few_slots in omega (arith, few, fits);
+  height = let above = upper_fits from low up sound o.place fits in omega (arith, above, below);
+}
+
+furthest_fits : (side : Side) (curve : ℕ → ℕ) (last : ℕ) (o p : Point) → IsFurthest side curve last o p
+    → ((j : ℕ) → j ≤ last → Fits (on_curve curve j)) → Fits p
+furthest_fits side curve last o p edge all = record {
+  place = (all p.place edge.near).place;
+  height = subst (λ h. h ≤ 2 ^ 42) (sym edge.on) (all p.place edge.near).height;
+}
+
+pub record EdgeFits (first second : Point) : Type 0 where
+  pub begins : Fits first
+  pub ends : Fits second
+
+open_fits : (side : Side) (curve : ℕ → ℕ) (s : ℕ) (o : Point) (front : List Point) (q : Point)
+    → IsOpen side curve s o (front ++ q ∷ []) → Fits o → ((j : ℕ) → j ≤ s → Fits (on_curve curve j))
+    → EdgeFits (last_point o front) q
+open_fits side curve s o [] q open_ o_fits all = record { begins = o_fits; ends = furthest_fits side curve s o q open_.0 all }
+open_fits side curve s o (p ∷ front) q open_ o_fits all =
+    open_fits side curve s p front q open_.1 (furthest_fits side curve s o p open_.0 all) all
+
+pub edges_fit : (side : Side) (curve : ℕ → ℕ) (s : ℕ) (o : Point) (chain : List Point) (point : Point)
+    → point ≡ on_curve curve (s + 1) → IsOpen side curve s o chain → Fits o
+    → ((j : ℕ) → j ≤ s + 1 → Fits (on_curve curve j)) → EdgesFit o chain point
+edges_fit side curve s o chain point is open_ o_fits all first second edge =
+    let both = open_fits side curve s o edge.front second (subst (IsOpen side curve s o) edge.is open_) o_fits (λ j le. all j (omega (arith, le))) in
+    record {
+      begins = subst Fits (sym edge.begins) both.begins;
+      passes = both.ends;
+      ends = subst Fits (sym is) (all (s + 1) (omega arith));
+    }
+
+pub first_fits : (side : Side) (curve other : ℕ → ℕ) (t s n : ℕ) (o : Point) (own others : List Point) (point : Point)
+    → point ≡ on_curve curve t → IsCrossing side curve other t s o own others → t ≤ n → Fits o
+    → ((j : ℕ) → j ≤ n → Fits (on_curve curve j)) → ((j : ℕ) → j ≤ n → Fits (on_curve other j))
+    → FirstFits o others point
+first_fits side curve other t s n o own [] point is state fits o_fits all others_all = tt
+first_fits side curve other t s n o own (b ∷ rest) point is state fits o_fits all others_all = record {
+  begins = o_fits;
+  passes = let most = state.not_past in
+      furthest_fits (other_side side) other s o b state.others.0 (λ j le. others_all j (omega (arith, le, most, fits)));
+  ends = subst Fits (sym is) (all t fits);
+}
