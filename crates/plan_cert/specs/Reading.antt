@@ -75,6 +75,12 @@ pub record AreSmall (segments : List Segment) : Type 0 where
   pub few : length segments ≤ 1000000
   pub small : All (λ s. (s.slots ≤ 2 ^ 42) × (s.bytes ≤ 2 ^ 42)) segments
 
+-- so are their sums
+pub record IsNamed (segments : List Segment) : Type 0 where
+  pub small : AreSmall segments
+  pub few_slots : total_slots segments ≤ 2 ^ 42
+  pub few_bytes : total_bytes segments ≤ 2 ^ 42
+
 -- All lines are well formed, but the sums at the head aren't those of the segments: line i, from 0,
 -- is the first of the two that is wrong.
 pub record HasWrongSum (text : List ℕ) (i : ℕ) : Type 0 where

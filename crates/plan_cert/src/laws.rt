@@ -1,10 +1,14 @@
-ghost use Rattle.std.specs.Prelude.{◌≡◌, ◌+◌, ◌-◌, ◌*◌, ◌/◌, ◌<◌, ◌≤◌, ◌⊎◌, ℕ, List, length, take, sum, slice_index, slice_index_or};
+ghost use Rattle.std.specs.Prelude.{◌≡◌, ◌+◌, ◌-◌, ◌*◌, ◌/◌, ◌<◌, ◌≤◌, ◌⊎◌, ◌↔◌, ◌∷◌, ◌++◌, [], ℕ, All, List, codes, decimal, flat_map, length, map, min, take, sum, sum_by, slice_index, slice_index_or};
 ghost use Rattle.plan_cert.specs.declared.Segment.{Segment};
-ghost use Rattle.plan_cert.specs.Slots.{slot_of, plan_slots, total_slots, total_bytes, sum_through};
+ghost use Rattle.plan_cert.specs.Slots.{slot_of, slots_of, plan_slots, total_slots, total_bytes, sum_through};
 ghost use Rattle.plan_cert.specs.Plan.{IsPlan};
+ghost use Rattle.plan_cert.specs.Text.{cert_text};
+ghost use Rattle.plan_cert.specs.Reading.{IsNamed};
+ghost use Rattle.plan_cert.specs.Feasible.{excess};
 
 /// A plan's slots are those of its segments and add up to its bytes. A slot of a segment sends the
-/// segment's bytes over its slots, rounded down or up.
+/// segment's bytes over its slots, rounded down or up; what its first slots have sent is the height
+/// of its straight line at their end, rounded down.
 pub fn law_slots()
     ensures count { (segments : List Segment) →
         length (plan_slots segments) ≡ total_slots segments }
@@ -15,6 +19,9 @@ pub fn law_slots()
         slice_index (plan_slots segments) (total_slots (take i segments) + j) ≡ slot_of s j }
     ensures rounded { (s : Segment) (j : ℕ) → 1 ≤ s.slots →
         (slot_of s j ≡ s.bytes / s.slots) ⊎ (slot_of s j ≡ (s.bytes + (s.slots - 1)) / s.slots) }
+    ensures line { (s : Segment) (j : ℕ) → 1 ≤ s.slots → j ≤ s.slots →
+        (sum (take j (slots_of s)) * s.slots ≤ j * s.bytes)
+        × (j * s.bytes < (sum (take j (slots_of s)) + 1) * s.slots) }
 {}
 
 /// The running sum of a plan's slots grows in each slot by that slot's bytes, never falls, and is
@@ -28,4 +35,28 @@ pub fn law_running_sum()
         sum_through segments t ≤ sum_through segments u }
     ensures end { (segments : List Segment) (t : ℕ) → IsPlan segments →
         total_slots segments ≤ t + 1 → sum_through segments t ≡ total_bytes segments }
+{}
+
+/// A law: a certificate is these lines, each ended by LF: the title, the slots and the bytes of all
+/// segments, and for each segment its slots and bytes, in this order. No other list of segments
+/// whose numbers a certificate can name has the same text.
+pub fn law_text()
+    ensures lines { (segments : List Segment) →
+        cert_text segments ≡ flat_map (λ line. line ++ codes "\n")
+        (codes "smooth 1"
+        ∷ (codes "slots " ++ decimal (sum_by (λ s. s.slots) segments))
+        ∷ (codes "bytes " ++ decimal (sum_by (λ s. s.bytes) segments))
+        ∷ map (λ s. codes "segment " ++ decimal s.slots ++ codes " " ++ decimal s.bytes) segments
+        ++ codes "end" ∷ []) }
+    ensures one { (segments others : List Segment) → IsNamed segments → IsNamed others →
+        cert_text segments ≡ cert_text others → segments ≡ others }
+{}
+
+/// A law: what is sent above a rate and what is sent within it are together what is sent. Nothing
+/// is sent above a rate that no slot exceeds, and else something is.
+pub fn law_excess()
+    ensures parts { (x : List ℕ) (p q : ℕ) →
+        excess x p q + sum_by (λ b. min (q * b) p) x ≡ q * sum x }
+    ensures none { (x : List ℕ) (p q : ℕ) →
+        (excess x p q ≡ 0) ↔ All (λ b. q * b ≤ p) x }
 {}

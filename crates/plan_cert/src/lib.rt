@@ -11,7 +11,7 @@ mod segments;
 
 pub use certs::write_cert;
 pub use cursors::PlanCursor;
-pub use laws::{law_running_sum, law_slots};
+pub use laws::{law_excess, law_running_sum, law_slots, law_text};
 pub use plans::{MAX_BYTES, MAX_SLOTS, Plan};
 pub use reading::{CertRead, CertText, read_cert};
 

@@ -2,3 +2,4 @@ pub mod Sums
 pub mod UseLaws
 pub mod SoundLaws
 pub mod Exact
+pub mod PlayedLaws

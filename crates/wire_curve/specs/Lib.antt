@@ -2,3 +2,4 @@ pub mod Sound
 pub mod FilmCurves
 pub mod Refusal
 pub mod Uses
+pub mod Played

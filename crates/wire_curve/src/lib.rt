@@ -9,9 +9,11 @@
 
 mod curves;
 mod film;
+mod laws;
 
 pub use curves::Curves;
 pub use film::{CurveFault, CurveRefused, Timing, film_curves};
+pub use laws::{law_curves, law_due_slot};
 
 #[cfg(test)]
 mod tests;

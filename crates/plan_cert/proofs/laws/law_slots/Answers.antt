@@ -1,4 +1,5 @@
 use Rattle.plan_cert.proofs.SlotSums.{length-plan_slots, sum-plan_slots}
+use Rattle.plan_cert.proofs.TextLaws.{sent_is_floor}
 use Rattle.plan_cert.proofs.SlotLaws.{slot_in, slot_rounded}
 use Rattle.plan_cert.proofs.laws.law_slots.Goals as goal
 
@@ -13,3 +14,6 @@ returns-clause-place c = slot_in
 
 pub returns-clause-rounded : goal.returns-clause-rounded
 returns-clause-rounded c = slot_rounded
+
+pub returns-clause-line : goal.returns-clause-line
+returns-clause-line c = sent_is_floor

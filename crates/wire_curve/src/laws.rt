@@ -1,0 +1,30 @@
+//! Laws: what the two curves say of a client that plays its pictures.
+
+ghost use Rattle.std.specs.Prelude.{◌≡◌, ℕ, ◌+◌, ◌*◌, ◌<◌, ◌≤◌, ◌↔◌, List, max, min};
+ghost use Rattle.wire_curve.specs.declared.film.Timing.{Timing};
+ghost use Rattle.wire_curve.specs.FilmCurves.{due, low_at, up_at, total_of};
+ghost use Rattle.wire_curve.specs.Played.{AreUsedBy, AreUsedBefore, played_to};
+
+/// A law: a picture is used in the slot in whose time its own time begins, where slots are counted
+/// from the end of the delay.
+pub fn law_due_slot()
+    ensures { (timing : Timing) (k s : ℕ) → 1 ≤ timing.slot_units →
+        (due timing k ≡ s + timing.delay)
+        ↔ ((s * timing.slot_units ≤ k * timing.picture_units)
+        × (k * timing.picture_units < (s + 1) * timing.slot_units)) }
+{}
+
+/// A law: some first pictures are those that are used by the end of a slot, and the lower curve is
+/// their bytes, or what was sent before. Some are those that are used before it begins: the upper
+/// curve is their bytes and a full buffer, or all bytes.
+pub fn law_curves()
+    ensures some_by { (sizes : List ℕ) (timing : Timing) (t : ℕ) → 1 ≤ timing.slot_units →
+        (n : ℕ) × AreUsedBy sizes timing n t }
+    ensures low { (sizes : List ℕ) (timing : Timing) (n t : ℕ) → AreUsedBy sizes timing n t →
+        low_at sizes timing t ≡ max timing.sent (played_to sizes timing n) }
+    ensures some_before { (sizes : List ℕ) (timing : Timing) (t : ℕ) → 1 ≤ timing.slot_units →
+        (n : ℕ) × AreUsedBefore sizes timing n t }
+    ensures up { (sizes : List ℕ) (timing : Timing) (n t : ℕ) → AreUsedBefore sizes timing n t →
+        up_at sizes timing t
+        ≡ min (total_of sizes timing) (played_to sizes timing n + timing.buffer) }
+{}
