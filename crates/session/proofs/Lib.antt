@@ -15,3 +15,6 @@ pub mod Moves
 pub mod Changing
 pub mod Refusing
 pub mod Shapes
+pub mod OneVerdict
+pub mod OnePlan
+pub mod OneHearing

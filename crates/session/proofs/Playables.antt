@@ -63,7 +63,7 @@ goes_on stored source setup counts paused range wanted kept asked =
     wanted_goes_on stored source setup counts paused asked.span.from asked.span.to wanted kept asked.is_wanted
 
 -- a Range gives one span
-span_of_once : (range : Option (List ℕ)) (a b : Span) → IsSpanOf range a → IsSpanOf range b → a ≡ b
+pub span_of_once : (range : Option (List ℕ)) (a b : Span) → IsSpanOf range a → IsSpanOf range b → a ≡ b
 span_of_once None a b one other = one ∙ sym other
 span_of_once (Some value) a b one other = span_once value a b one other
 

@@ -1,5 +1,5 @@
 -- Laws of a session, in RFC 2326's words.
-use Rattle.std.specs.Prelude.{ℕ, ◌≡◌, ◌+◌, ◌%◌, ◌^◌, ◌⊎◌, ⊤, List, Option}
+use Rattle.std.specs.Prelude.{ℕ, ◌≡◌, ◌+◌, ◌%◌, ◌^◌, ◌⊎◌, ⊤, List, [], Option}
 use Rattle.rtp_pack.specs.declared.reports.Identity.{Identity}
 use Rattle.film_run.specs.declared.runs.Run.{Run}
 use Rattle.rtsp_text.specs.Replies.{Field, reply_text}
@@ -8,6 +8,9 @@ use Rattle.session.specs.declared.asks.Ask.TheVariants.{Reply, Play as AskPlay, 
 use Rattle.session.specs.declared.plans.Planned.{Planned}
 use Rattle.session.specs.declared.states.State.{State}
 use Rattle.session.specs.declared.states.State.TheVariants.{Init, Ready, Playing, Stopping}
+use Rattle.rtsp_text.specs.Fields.{first_sequence}
+use Rattle.session.specs.declared.refusals.Refusal.TheVariants.{Memory}
+use Rattle.session.specs.Methods.{IsRefused}
 use Rattle.session.specs.Standings.{Standing, replied}
 
 -- the states of RFC 2326's server (appendix A.2); a play that was halted is over, also while its
@@ -66,3 +69,17 @@ pub record GoesOn (before after : Identity) (frames bytes : ℕ) : Type 0 where
 pub record Resumes (old : Standing) (paused : Run) (planned : Planned) : Type 0 where
   pub run : planned.run ≡ paused
   pub counts : planned.counts ≡ old.counts
+
+-- memory is wanting for a message: it is answered 500 by its own number, and nothing else changes
+abbrev pub IsWanting : Standing → List ℕ → Ask → Standing → Type 0
+IsWanting old message ask new = IsRefused old (first_sequence message) Memory [] ask new
+
+-- the same command to the station, and the same session after it, its reply with it
+pub record IsSameHearing (ask again : Ask) (one other : Standing) : Type 0 where
+  pub ask_is : again ≡ ask
+  pub session_is : other ≡ one
+
+-- what two hearings of a message come to is the same, or memory was wanting for one of them
+abbrev pub IsOneHearing : Standing → List ℕ → Ask → Standing → Ask → Standing → Type 0
+IsOneHearing old message ask one again other = IsSameHearing ask again one other
+    ⊎ (IsWanting old message ask one ⊎ IsWanting old message again other)

@@ -4,7 +4,7 @@ use Rattle.wire_curve.specs.Refusal.{IsRefused as HaveNoCurves}
 use Rattle.wire_curve.specs.declared.film.CurveRefused.{CurveRefused}
 use Rattle.film_frames.specs.declared.stores.Stored.{Stored}
 use Rattle.film_run.specs.declared.runs.Run.{Run}
-use Rattle.film_run.specs.Plans.{IsPlanOf, rest_sizes, timing_of}
+use Rattle.film_run.specs.Plans.{CanPlay, IsPlanOf, rest_sizes, timing_of}
 use Rattle.film_run.specs.Units.{stored_sizes}
 use Rattle.session.specs.declared.plans.Planned.{Planned}
 use Rattle.session.specs.declared.refusals.Refusal.{Refusal}
@@ -34,6 +34,8 @@ pub record IsPlannedRun (old : Standing) (stored : Stored) (setup : Setup) (paus
   pub run_is : planned.run ≡ run_of wanted
   pub counts_is : planned.counts ≡ counts_for stored.film old.source setup old.counts paused wanted
   pub goes_on : IsRunOf stored old.source setup planned.counts planned.run
+  pub can_play : CanPlay (stored_sizes stored)
+      (playback_of stored.film old.settings setup) planned.run
   pub plan_is : IsPlanOf (stored_sizes stored)
       (playback_of stored.film old.settings setup) planned.run planned.plan
 

@@ -6,12 +6,12 @@ ghost use Rattle.mpeg_scan.specs.Rates.{picture_time};
 ghost use Rattle.film_frames.specs.Runs.{run_pieces};
 ghost use Rattle.film_frames.specs.Tracks.{framed};
 ghost use Rattle.film_run.specs.Runs.{bytes_between};
-ghost use Rattle.film_run.specs.Units.{stored_sizes};
+ghost use Rattle.film_run.specs.Units.{IsTrace, stored_sizes};
 ghost use Rattle.session.specs.Films.{IsFilmAt, counts_after, identity_of, length_ms, ms_at, sending_of, timestamp_at};
 ghost use Rattle.session.specs.Ranges.{AreFilms};
 
 use crate::states::{Counts, Setup, Source};
-use film_frames::{Frames, Stored, law_piece_sizes};
+use film_frames::{Frames, Stored, law_piece_sizes, law_wire_sizes};
 use film_run::Run;
 use mpeg_scan::{Film, law_film, picture_units};
 use rtp_pack::Identity;
@@ -22,8 +22,12 @@ pub(crate) fn stored_at(films: &[Stored], film: usize) -> &Stored
     requires within { film < length films.now }
     ensures film { IsFilmAt films.now film result.now }
     ensures good { is_good_name (string_bytes result.now.name) ≡ true }
+    ensures sizes { IsTrace (stored_sizes result.now) }
 {
-    &films[film]
+    let stored = &films[film];
+    law_film(&stored.film);
+    law_wire_sizes(&stored.film);
+    stored
 }
 
 /// The time of a picture in 1/360,000 second.

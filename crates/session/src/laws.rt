@@ -14,8 +14,9 @@ ghost use Rattle.session.specs.declared.states.State.TheVariants.{Playing};
 ghost use Rattle.session.specs.Films.{counts_after, identity_of};
 ghost use Rattle.session.specs.Changes.{AsksOrLacks, CanBePlayed, ChangesState, IsSameGround, RefusesNone};
 ghost use Rattle.session.specs.Hearings.{Hears, after_admission, after_halt};
-ghost use Rattle.session.specs.Laws.{GoesOn, InitStage, IsNoHalt, LeavesOr, PlayingStage, PlaysOn, ReadyStage, Resumes, StaysOr};
+ghost use Rattle.session.specs.Laws.{GoesOn, InitStage, IsNoHalt, IsOneHearing, LeavesOr, PlayingStage, PlaysOn, ReadyStage, Resumes, StaysOr};
 ghost use Rattle.session.specs.Planning.{IsPlannedRun};
+ghost use Rattle.session.specs.Ranges.{AreFilms};
 ghost use Rattle.session.specs.Standings.{Standing};
 
 /// A reply other than 200 leaves all of the session but the reply (RFC 2326 section 7.1.1).
@@ -77,4 +78,12 @@ pub fn law_play_is_asked()
     ensures asks { (old new : Standing) (message : List ℕ) (ask : Ask) → Hears old message ask new →
         CanBePlayed old message
         → AsksOrLacks old ask new }
+{}
+
+/// A message is heard in one way, where memory is found for it: one command to the station, and one
+/// session after it, with its state and its reply. Where memory is wanting, it is answered 500.
+pub fn law_one_hearing()
+    ensures { (old one other : Standing) (message : List ℕ) (ask again : Ask) → AreFilms old.films
+        → Hears old message ask one → Hears old message again other
+        → IsOneHearing old message ask one again other }
 {}

@@ -3,7 +3,7 @@ use Rattle.std.specs.Borrow.{Bor}
 use Rattle.wire_curve.specs.Refusal.{IsRefused as HaveNoCurves}
 use Rattle.film_run.specs.declared.plans.Playback.{Playback}
 use Rattle.film_run.specs.declared.runs.Run.{Run}
-use Rattle.film_run.specs.Plans.{IsPlanOf, rest_sizes, timing_of}
+use Rattle.film_run.specs.Plans.{IsPlanOf, IsPlayback, rest_sizes, timing_of}
 use Rattle.film_run.specs.Units.{stored_sizes}
 use Rattle.session.specs.Planning.{HasNoPlan, HasNoRun, IsPlanned}
 use Rattle.session.specs.Playing.{playback_of}
@@ -37,6 +37,12 @@ returns-in-Ok-clause-exact c =
         run_is = c.run_and_counts.ensures.run;
         counts_is = c.run_and_counts.ensures.counts;
         goes_on = c.run_and_counts.ensures.goes_on;
+        can_play = record {
+          sizes_are = c.stored_at-stored.ensures.sizes;
+          playback_is = subst IsPlayback c.playback_of-playback.ensures.playback c.playback_of-playback.ensures.ranges;
+          run_is = c.run_and_counts.ensures.goes_on.run_is;
+          fits = c.run_and_counts.ensures.goes_on.fits;
+        };
         plan_is = subst (λ (p : Playback). IsPlanOf sizes p c.run_and_counts.result.0 c.in-Ok.plan)
             c.playback_of-playback.ensures.playback c.in-Ok.ensures.plan;
       },
