@@ -130,7 +130,7 @@ asked-next segments i s start from t inside is at =
     ap (λ l. asked_at l start t) (front-next segments i s inside is) ∙ asked-append (take i segments) (s ∷ []) start t
     ∙ ap (λ n. asked_at (take i segments) start t + asked_at (s ∷ []) n t) (sym at)
 
--- the front of a plan asks for no more than all of it
+-- the first segments of a plan ask for no more than all of it
 pub asked-front : (segments : List Segment) (i start t : ℕ) →
     asked_at segments start t ≡ asked_at (take i segments) start t + asked_at (drop i segments) (start + total_slots (take i segments)) t
 asked-front segments i start t =

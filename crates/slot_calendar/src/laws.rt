@@ -6,7 +6,7 @@ ghost use Rattle.plan_cert.specs.Slots.{plan_slots, total_slots, total_bytes, su
 ghost use Rattle.slot_calendar.specs.declared.calendar.Overflow.{Overflow};
 ghost use Rattle.slot_calendar.specs.Profiles.{capacity_at};
 ghost use Rattle.slot_calendar.specs.Plays.{Play, sent_before, asked_at, cut_at, cut_play, share_at, whole_play, booked_by};
-ghost use Rattle.slot_calendar.specs.Calendars.{Entries, IsCalendar, IsFirstOverflow, StandsFor, booked_at};
+ghost use Rattle.slot_calendar.specs.Calendars.{Entries, HasRoom, IsCalendar, IsFirstOverflow, StandsFor, booked_at};
 
 /// What a plan that begins at `start` has sent before a slot and sends in it, in the words of the
 /// plan: nothing before its start, its running sum through the slot before, all its bytes from its
@@ -50,6 +50,17 @@ pub fn law_release()
         (start keep : ℕ) → IsPlan segments →
         StandsFor calendar (before ++ whole_play start segments ∷ after) →
         (t : ℕ) → calendar.first ≤ t → cut_at segments start keep t ≤ booked_at calendar t }
+{}
+
+/// A plan has room where no slot comes above its capacity with it: a slot may be booked to the last
+/// byte. A slot without room would come above it.
+pub fn law_room()
+    ensures room { (from start : ℕ) (booked capacity : ℕ → ℕ) (segments : List Segment) →
+        ((u : ℕ) → from ≤ u → booked u + asked_at segments start u ≤ capacity u) →
+        HasRoom from booked capacity start segments }
+    ensures over { (from start : ℕ) (booked capacity : ℕ → ℕ) (segments : List Segment)
+        (over : Overflow) → IsFirstOverflow from booked capacity start segments over →
+        capacity over.slot < over.booked + over.asked }
 {}
 
 /// A plan has one first slot without room.

@@ -157,6 +157,7 @@ fn books_and_cuts(rt: HostRuntime) -> Result<(), Fail> {
     law_sending();
     law_capacity();
     law_release();
+    law_room();
     law_shares();
     law_one_overflow();
     let plan: &[(u64, u64)] = &[(3, 7)];
