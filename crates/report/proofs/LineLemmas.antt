@@ -5,7 +5,7 @@ use Rattle.std.proofs.lemmas.Bool.{and_parts, cases_lt, eqb-false, lt-ltb, ltb-t
 use Rattle.std.proofs.lemmas.Fmt.{decimal_injective}
 use Rattle.std.proofs.lemmas.List.{append_cancel_left, get_or-map, length-map}
 use Rattle.std.proofs.lemmas.List.Elements.{All-append, All-cons, All-get_or, All-head, All-nil, All-tail, Contains-append_left, Contains-append_right}
-use Rattle.plan_cert.specs.Reading.{lines_of}
+use Rattle.plan_cert.specs.Reading.{Lines, lines_of}
 use Rattle.plan_cert.proofs.Decimals.{not_in_decimal, same_cut}
 use Rattle.plan_cert.proofs.Grammar.{lines-cut}
 use Rattle.report.specs.Fields.{field}
@@ -26,7 +26,7 @@ pub clean_field : (label : List ℕ) (n : ℕ) → list_all (λ b. not (b == 10)
 clean_field label n test small =
     All-append (λ b. b ≢ 10) label (decimal n) (clean_by label test) (not_in_decimal 10 n small (λ within. omega (arith, within.0)))
 
-pub clean_words : (slot booked : ℕ) → slot < 2 ^ 64 → booked < 2 ^ 64 → IsClean (slot_words slot booked)
+clean_words : (slot booked : ℕ) → slot < 2 ^ 64 → booked < 2 ^ 64 → IsClean (slot_words slot booked)
 clean_words slot booked small few =
     All-append (λ b. b ≢ 10) (field (codes "at ") slot) (field (codes " booked=") booked) (clean_field (codes "at ") slot refl small) (clean_field (codes " booked=") booked refl few)
 
@@ -38,31 +38,36 @@ words_at bytes t = slot_words t (bytes t)
 abbrev pub IsFew : (ℕ → ℕ) → ℕ → Type 0
 IsFew bytes t = (t < 2 ^ 64) × (bytes t < 2 ^ 64)
 
-pub lines-slots : (bytes : ℕ → ℕ) (slots : List ℕ) → All (IsFew bytes) slots →
-    (lines_of (flat_map (slot_line bytes) slots ++ codes "end\n")).whole ≡ map (words_at bytes) slots ++ codes "end" ∷ []
+-- the lines of these slots and of the end, and nothing after them
+lines-slots : (bytes : ℕ → ℕ) (slots : List ℕ) → All (IsFew bytes) slots →
+    lines_of (flat_map (slot_line bytes) slots ++ codes "end\n") ≡ record { whole = map (words_at bytes) slots ++ codes "end" ∷ []; rest = [] }
 lines-slots bytes [] few = refl
 lines-slots bytes (t ∷ rest) few =
     let one : IsFew bytes t = All-head (IsFew bytes) t rest few in
     let after = flat_map (slot_line bytes) rest ++ codes "end\n" in
     let shape : (slot_line bytes t ++ flat_map (slot_line bytes) rest) ++ codes "end\n" ≡ words_at bytes t ++ 10 ∷ after =
     append_assoc (slot_line bytes t) (flat_map (slot_line bytes) rest) (codes "end\n") ∙ append_assoc (words_at bytes t) (10 ∷ []) after in
-    ap (λ (l : List ℕ). (lines_of l).whole) shape
-    ∙ ap (λ ls. ls.whole) (lines-cut (words_at bytes t) after (clean_words t (bytes t) one.0 one.1))
-    ∙ ap (λ (ls : List (List ℕ)). words_at bytes t ∷ ls) (lines-slots bytes rest (All-tail (IsFew bytes) t rest few))
+    let with_line : Lines → Lines = λ ls. record { whole = words_at bytes t ∷ ls.whole; rest = ls.rest } in
+    ap lines_of shape ∙ lines-cut (words_at bytes t) after (clean_words t (bytes t) one.0 one.1)
+    ∙ ap with_line (lines-slots bytes rest (All-tail (IsFew bytes) t rest few))
 
 abbrev pub lines_told : ℕ → (ℕ → ℕ) → List (List ℕ)
 lines_told from bytes = first_words from ∷ (map (words_at bytes) (booked_slots from bytes) ++ codes "end" ∷ [])
 
-pub lines-calendar : (from : ℕ) (bytes : ℕ → ℕ) → from < 2 ^ 64 → All (IsFew bytes) (booked_slots from bytes) → calendar_lines from bytes ≡ lines_told from bytes
-unfolding calendar_lines
-lines-calendar from bytes small few =
+pub lines-text : (from : ℕ) (bytes : ℕ → ℕ) → from < 2 ^ 64 → All (IsFew bytes) (booked_slots from bytes) →
+    lines_of (calendar_text from bytes) ≡ record { whole = lines_told from bytes; rest = [] }
+lines-text from bytes small few =
     let first = first_words from in
     let slots = flat_map (slot_line bytes) (booked_slots from bytes) in
     let after = slots ++ codes "end\n" in
     let shape : calendar_text from bytes ≡ first ++ 10 ∷ after = append_assoc (first ++ codes "\n") slots (codes "end\n") ∙ append_assoc first (codes "\n") after in
-    ap (λ (l : List ℕ). (lines_of l).whole) shape
-    ∙ ap (λ ls. ls.whole) (lines-cut first after (clean_field (codes "calendar from=") from refl small))
-    ∙ ap (λ (ls : List (List ℕ)). first ∷ ls) (lines-slots bytes (booked_slots from bytes) few)
+    let with_first : Lines → Lines = λ ls. record { whole = first ∷ ls.whole; rest = ls.rest } in
+    ap lines_of shape ∙ lines-cut first after (clean_field (codes "calendar from=") from refl small)
+    ∙ ap with_first (lines-slots bytes (booked_slots from bytes) few)
+
+lines-calendar : (from : ℕ) (bytes : ℕ → ℕ) → from < 2 ^ 64 → All (IsFew bytes) (booked_slots from bytes) → calendar_lines from bytes ≡ lines_told from bytes
+unfolding calendar_lines
+lines-calendar from bytes small few = ap (λ (ls : Lines). ls.whole) (lines-text from bytes small few)
 
 -- ---- the slots in which bytes are booked
 pub all_booked : (bytes : ℕ → ℕ) (Q : ℕ → Type 0) (a n : ℕ) → ((t : ℕ) → a ≤ t → t < a + n → 0 < bytes t → Q t) → All Q (booked_among bytes (range_with_len a n))
