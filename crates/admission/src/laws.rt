@@ -18,7 +18,7 @@ pub fn law_prefix()
         IsLegal steps (take n entries) }
 {}
 
-/// The link is never overbooked: after each front of a legal history, no slot is booked above its
+/// The link is never overbooked: after each prefix of a legal history, no slot is booked above its
 /// capacity.
 pub fn law_never_overbooked()
     ensures { (steps : List CapStep) (entries : List Entry) (n t : ℕ) → IsLegal steps entries →

@@ -1,4 +1,4 @@
--- One start more that was tried in vain; and a plan has one answer.
+-- One more start at which a plan does not fit; and a plan has one answer.
 use Rattle.std.proofs.Common.{◌≡◌, ℕ, ◌+◌, ◌-◌, ◌<◌, ◌≤◌, List, [], ◌∷◌, ◌++◌, Option, Some, None, length, get_or, refl, sym, ◌∙◌, ap, subst, arith, inl, inr}
 use Rattle.std.proofs.lemmas.Bool.{cases_order}
 use Rattle.std.proofs.lemmas.List.{get_or_append_left, get_or-append_right, length-append, same_lists}
@@ -52,7 +52,7 @@ no_room_tried from booked capacity segments first tried start all begun before r
     let t = get_or tried i no_start in
     no-room from t.start booked capacity segments t.over (all.refused i no_start inside) (subst (CanStart from booked capacity segments) (same ∙ sym (all.starts i no_start inside)) room)
 
--- where a start was found, or all were tried, the next one isn't tried in vain
+-- the start after those that were tried is no refusal
 nothing_next : (from : ℕ) (booked capacity : ℕ → ℕ) (segments : List Segment) (first wait n : ℕ) (o : Option ℕ) (t : Tried) → IsStart from booked capacity segments first wait n o → n ≤ wait →
     t.start ≡ first + n → IsRefusal from booked capacity segments t → ⊥
 nothing_next from booked capacity segments first wait n None t is few start refusal = omega (arith, is, few)
