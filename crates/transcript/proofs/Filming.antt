@@ -58,7 +58,7 @@ turn_after old new asked outcome (Stays same after still) = after
 turn_after old new asked outcome (Starts after begins) = after
 turn_after old new asked outcome (Ends after halts) = after
 
-turn_step : (old new : Standing) (asked : Awaited) (outcome : Outcome) → Stands old → TurnsAs old asked outcome new → Step old new (Asks asked outcome ∷ []) []
+pub turn_step : (old new : Standing) (asked : Awaited) (outcome : Outcome) → Stands old → TurnsAs old asked outcome new → Step old new (Asks asked outcome ∷ []) []
 turn_step old new asked outcome stands turns =
     let after = turn_after old new asked outcome turns in
     let on = turn_goes old new asked outcome (sound_waits (sends_in old.state) old.waits true old.heard stands.sound refl) turns in
@@ -111,7 +111,7 @@ takes_step old new (Answered message outcome parts ∷ takings) takes stands =
 -- ---- slots
 
 -- a play that is done is halted with all that was sent
-done_kept : (p : Pacing) → is_done p ≡ true → p.sent ≡ p.keep
+pub done_kept : (p : Pacing) → is_done p ≡ true → p.sent ≡ p.keep
 done_kept p done = eqb-true p.sent p.keep (and_right (nat_lt 0 p.passed) (p.sent == p.keep) done)
 
 done_rest : (p : Pacing) (slot : ℕ) (asked : Awaited) (placed : Placed) (number keep : ℕ) (askings : List Asking) (end : ℕ) (more : List ℕ)
@@ -125,7 +125,7 @@ done_rest p slot asked placed number keep askings end more on sent command asks 
     (subst (λ ps. IsFilm end (play_with p keep ∷ (ps ++ plays_of askings)) (take p.sent (film_in p) ++ more)) (sym none)
     (film_over p slot end keep (plays_of askings) more on (sym sent) later is))
 
-halt_state : (state : State) (awaited : Awaited) (setup : Setup) (play : Played) (keep : ℕ) → state ≡ Playing setup play → awaited ≡ Halt keep Done
+pub halt_state : (state : State) (awaited : Awaited) (setup : Setup) (play : Played) (keep : ℕ) → state ≡ Playing setup play → awaited ≡ Halt keep Done
     → sends_in (halted_in state awaited) ≡ Idle
 halt_state state awaited setup play keep is asks =
     ap (λ (s : State). sends_in (halted_in s awaited)) is ∙ ap (λ (a : Awaited). sends_in (halted_in (Playing setup play) a)) asks
@@ -195,19 +195,19 @@ finished_step : (s : Standing) (halt : Outcome) (new : Standing) (done : Bool) �
 finished_step s halt new true sound done asks finished = finishes s s.state halt new refl sound done asks finished
 finished_step s halt new false sound done asks finished = unasked_step s halt new (record { rest = asks; sound = sound }) finished
 
-reply_state : (goes : Bool) (s : Standing) → (if goes then sent_reply s else s).state ≡ (if goes then settled s.state else s.state)
+pub reply_state : (goes : Bool) (s : Standing) → (if goes then sent_reply s else s).state ≡ (if goes then settled s.state else s.state)
 reply_state true s = refl
 reply_state false s = refl
 
-reply_heard : (goes : Bool) (s : Standing) → (if goes then sent_reply s else s).heard ≡ s.heard
+pub reply_heard : (goes : Bool) (s : Standing) → (if goes then sent_reply s else s).heard ≡ s.heard
 reply_heard true s = refl
 reply_heard false s = refl
 
-reply_waits : (goes : Bool) (s : Standing) → (if goes then sent_reply s else s).waits ≡ (if goes then false else s.waits)
+pub reply_waits : (goes : Bool) (s : Standing) → (if goes then sent_reply s else s).waits ≡ (if goes then false else s.waits)
 reply_waits true s = refl
 reply_waits false s = refl
 
-reply_awaited : (goes : Bool) (s : Standing) → (if goes then sent_reply s else s).awaited ≡ s.awaited
+pub reply_awaited : (goes : Bool) (s : Standing) → (if goes then sent_reply s else s).awaited ≡ s.awaited
 reply_awaited true s = refl
 reply_awaited false s = refl
 
@@ -220,28 +220,34 @@ then_asked a b c asked outcome bytes one two = record {
       (then_on (sends_in a.state) (sends_in b.state) (sends_in c.state) a.heard b.heard c.heard b.waits c.waits [] (Asks asked outcome ∷ []) bytes [] one two.on);
 }
 
-sent_step : (old : Standing) (slot : ℕ) (halt : Outcome) (new : Standing) → Stands old → is_sending old.state ≡ true → old.heard < slot
-    → IsFinished (awaits (finished (sent_slot old slot))) (finished (sent_slot old slot)) halt new
-    → Step old new (Asks (finished (sent_slot old slot)).awaited halt ∷ []) (film_bytes (due_parts old slot))
-sent_step old slot halt new stands sending later finishing =
+pub sent_on : (old : Standing) (slot : ℕ) → Stands old → is_sending old.state ≡ true → old.heard < slot
+    → On old (finished (sent_slot old slot)) [] (film_bytes (due_parts old slot))
+sent_on old slot stands sending later =
     let s : Standing = finished (sent_slot old slot) in
     let goes : Bool = old.waits && is_between (stepped_in true slot old.state) in
     let due : Standing = sent_due old slot in
     let state : s.state ≡ state_after old.waits old.state slot = reply_state goes due in
     let heard : s.heard ≡ slot = reply_heard goes due in
     let waits : s.waits ≡ waits_after old.waits old.state slot = reply_waits goes due in
-    let asks : s.awaited ≡ (if is_done_in s.state then Halt (sent_in s.state) Done else Nothing) =
-    ap (λ a. if is_done_in s.state then Halt (sent_in s.state) Done else a) (reply_awaited goes due ∙ stands.rest) in
-    let on : On old s [] (film_bytes (due_parts old slot)) =
     subst (λ st. GoesOn (sends_in old.state) (sends_in st) old.heard s.heard s.waits [] (film_bytes (due_parts old slot))) (sym state)
     (subst (λ h. GoesOn (sends_in old.state) (sends_in (state_after old.waits old.state slot)) old.heard h s.waits [] (film_bytes (due_parts old slot))) (sym heard)
     (subst (λ w. GoesOn (sends_in old.state) (sends_in (state_after old.waits old.state slot)) old.heard slot w [] (film_bytes (due_parts old slot))) (sym waits)
-    (slot_goes old.state old.waits old.heard slot old.text sending stands.sound later))) in
+    (slot_goes old.state old.waits old.heard slot old.text sending stands.sound later)))
+
+sent_step : (old : Standing) (slot : ℕ) (halt : Outcome) (new : Standing) → Stands old → is_sending old.state ≡ true → old.heard < slot
+    → IsFinished (awaits (finished (sent_slot old slot))) (finished (sent_slot old slot)) halt new
+    → Step old new (Asks (finished (sent_slot old slot)).awaited halt ∷ []) (film_bytes (due_parts old slot))
+sent_step old slot halt new stands sending later finishing =
+    let s : Standing = finished (sent_slot old slot) in
+    let goes : Bool = old.waits && is_between (stepped_in true slot old.state) in
+    let asks : s.awaited ≡ (if is_done_in s.state then Halt (sent_in s.state) Done else Nothing) =
+    ap (λ a. if is_done_in s.state then Halt (sent_in s.state) Done else a) (reply_awaited goes (sent_due old slot) ∙ stands.rest) in
+    let on = sent_on old slot stands sending later in
     then_asked old s new s.awaited halt (film_bytes (due_parts old slot)) on
     (finished_step s halt new (is_done_in s.state) on.sound refl asks finishing)
 
 -- nothing is being sent
-idle_sound : (state : State) (waits : Bool) (from to : ℕ) → is_sending state ≡ false → IsSound (sends_in state) waits from → IsSound (sends_in state) waits to
+pub idle_sound : (state : State) (waits : Bool) (from to : ℕ) → is_sending state ≡ false → IsSound (sends_in state) waits from → IsSound (sends_in state) waits to
 idle_sound Init waits from to none sound = tt
 idle_sound (Ready setup paused) waits from to none sound = tt
 idle_sound (Playing setup play) waits from to none sound = absurd (true≢false none)
@@ -254,7 +260,7 @@ idle_on old slot stands none later = record {
   rest = λ askings end more on is. is;
 }
 
-and_left : (a b : Bool) → (a && b) ≡ true → a ≡ true
+pub and_left : (a b : Bool) → (a && b) ≡ true → a ≡ true
 and_left true b both = refl
 and_left false b both = both
 

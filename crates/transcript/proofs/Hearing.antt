@@ -25,7 +25,7 @@ reply_left : (goes : Bool) (s : Standing) → ((if goes then sent_reply s else s
 reply_left true s = (refl, refl)
 reply_left false s = (refl, refl)
 
-takes_left : (old new : Stage) (takings : List Taking) → TakesAll old takings new → old.session.awaited ≡ Nothing → IsLeft old.session new.session
+pub takes_left : (old new : Stage) (takings : List Taking) → TakesAll old takings new → old.session.awaited ≡ Nothing → IsLeft old.session new.session
 takes_left old new [] takes rest = subst (λ (s : Stage). IsLeft old.session s.session) (sym takes) (rest, refl)
 takes_left old new (Passed n ∷ takings) takes rest =
     let same : takes.0.session ≡ old.session = ap (λ (s : Stage). s.session) takes.1.0.2 in
@@ -73,7 +73,7 @@ slotted_heard : (old : Standing) (slot : ℕ) → (slotted old slot).heard ≡ m
 slotted_heard old slot =
     slot_cases old slot (nat_lt old.heard slot) (nat_le slot (2 ^ 62)) (is_sending old.state) (ltb-true old.heard slot) (ltb-false old.heard slot)
 
-comes_heard : (old opened : Stage) (event : Doing) (due : List Part) (halt : Outcome) → Comes old event due halt opened
+pub comes_heard : (old opened : Stage) (event : Doing) (due : List Part) (halt : Outcome) → Comes old event due halt opened
     → opened.session.heard ≡ max old.session.heard (slot_in event)
 comes_heard old opened (HeardBytes bytes) due halt comes =
     ap (λ (s : Stage). s.session.heard) comes.3 ∙ omega arith

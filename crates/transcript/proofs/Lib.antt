@@ -9,3 +9,11 @@ pub mod Following
 pub mod Booking
 pub mod Weaving
 pub mod Replying
+pub mod Once
+pub mod Paths
+pub mod TwoCuttings
+pub mod Places
+pub mod Waits
+pub mod Placed
+pub mod Replied
+pub mod Requests

@@ -25,7 +25,7 @@ ended_at p slot place on last boundary is =
     let least : p.before + p.keep ≤ place = last place boundary (omega (arith, is)) in
     omega (arith, least, is, on.even, on.pacing.due)
 
-stands_here : (p : Pacing) → IsPacing p → stands_at_boundary p ≡ true → IsBoundary p.pieces (p.before + p.sent)
+pub stands_here : (p : Pacing) → IsPacing p → stands_at_boundary p ≡ true → IsBoundary p.pieces (p.before + p.sent)
 stands_here p is stands =
     let inside : p.before + p.sent ≤ length (framed p.pieces) = omega (arith, is.whole, is.most, is.due, is.sent) in
     let next = boundary-from p.pieces (p.before + p.sent) inside in
@@ -99,10 +99,10 @@ film_of waits p text slot is =
     (plan_bytes p p.sent (step_end false (raised slot p))) text
     ∙ slot_bytes waits (stands_at_boundary q) slot p is refl
 
-abbrev going_with : Setup → Played → Pacing → State
+abbrev pub going_with : Setup → Played → Pacing → State
 going_with setup play p = Playing setup (record play { pacer = p })
 
-going_cases : (waits between : Bool) (setup : Setup) (play : Played) (both one plain : Pacing) →
+pub going_cases : (waits between : Bool) (setup : Setup) (play : Played) (both one plain : Pacing) →
     sends_in (if waits && between
     then settled (if waits then (if between then going_with setup play both else going_with setup play one) else going_with setup play plain)
     else (if waits then (if between then going_with setup play both else going_with setup play one) else going_with setup play plain))
@@ -111,10 +111,10 @@ going_cases false between setup play both one plain = refl
 going_cases true false setup play both one plain = refl
 going_cases true true setup play both one plain = refl
 
-abbrev ending_with : Setup → Stop → Pacing → State
+abbrev pub ending_with : Setup → Stop → Pacing → State
 ending_with setup stop p = Stopping setup (record stop { pacer = p })
 
-ending_cases : (between : Bool) (setup : Setup) (stop : Stop) (both one : Pacing) →
+pub ending_cases : (between : Bool) (setup : Setup) (stop : Stop) (both one : Pacing) →
     sends_in (if between then settled (if between then ending_with setup stop both else ending_with setup stop one)
     else (if between then ending_with setup stop both else ending_with setup stop one))
     ≡ (if between then Idle else Ending one)
@@ -130,7 +130,7 @@ going_on p heard slot waits sound later = record {
   rest = λ askings end more on is. through_film p slot end _ (plays_of askings) more sound.0.pacing is;
 }
 
-stopped_is : (slot : ℕ) (p : Pacing) → IsPacing p → IsPacing (stepped true slot p)
+pub stopped_is : (slot : ℕ) (p : Pacing) → IsPacing p → IsPacing (stepped true slot p)
 stopped_is slot p is = record {
   plan = is.plan;
   whole = is.whole;

@@ -97,7 +97,7 @@ pub data TurnsAs (old : Standing) (asked : Awaited) (outcome : Outcome) (new : S
   Starts : IsAfter old new → Begins old asked outcome new → TurnsAs old asked outcome new
   Ends : IsAfter old new → Halts old asked outcome new → TurnsAs old asked outcome new
 
-unasked_still : (asked : Awaited) → IsStill asked Unasked
+pub unasked_still : (asked : Awaited) → IsStill asked Unasked
 unasked_still asked = record { none = λ later. refl; kept = λ later. refl; untold = λ made. refl }
 
 -- a reply of the session's own

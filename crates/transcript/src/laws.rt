@@ -7,17 +7,22 @@ ghost use Rattle.slot_calendar.specs.declared.profiles.CapStep.{CapStep};
 ghost use Rattle.admission.specs.declared.entries.Entry.{Entry};
 ghost use Rattle.admission.specs.Histories.{IsLegal};
 ghost use Rattle.station.specs.Seats.{IsSeat, Sitting};
+ghost use Rattle.session.specs.Ranges.{AreFilms};
 ghost use Rattle.session.specs.declared.settings.Settings.{Settings};
 ghost use Rattle.conn.specs.Films.{rounds_film};
 ghost use Rattle.conn.specs.Parts.{HasServedOne};
-ghost use Rattle.conn.specs.Rounds.{Round, Runs, RunsAll, entries_in, rounds_outcomes};
+ghost use Rattle.conn.specs.Rounds.{IsStopped, Round, Runs, RunsAll, entries_in, rounds_outcomes};
 ghost use Rattle.conn.specs.Turns.{Stage};
+ghost use Rattle.conn.specs.declared.reports.ConnEnd.{ConnEnd};
 ghost use Rattle.conn.specs.declared.reports.ConnEnd.TheVariants.{NoMemory};
 ghost use Rattle.conn.specs.declared.reports.ConnReport.{ConnReport};
 ghost use Rattle.transcript.specs.Agreement.{Agrees};
 ghost use Rattle.transcript.specs.Courses.{Course, Follows, IsParted, course_film, course_plays};
 ghost use Rattle.transcript.specs.Courses.{greatest_slot, rounds_bytes};
+ghost use Rattle.transcript.specs.Cuttings.{AreCutsOfOne, AreFronts, AreSame, Beginning, Cutting, TakesUp};
+ghost use Rattle.transcript.specs.Places.{AreSentAt, slots_from};
 ghost use Rattle.transcript.specs.Plays.{AreOver, booked_plays, booking_of};
+ghost use Rattle.transcript.specs.Requests.{AreTaken};
 ghost use Rattle.transcript.specs.Replies.{course_replies, course_texts, text_of, waiting, woven};
 
 /// The events of a connection's course follow one another, with the last one where a piece ended
@@ -55,6 +60,39 @@ pub fn law_replies_woven()
         → rounds_bytes course.rounds ≡ woven 0 (course_film course) (course_texts course) }
     ensures order { (course : Course)
         → map text_of (course_texts course) ++ waiting course.last.session ≡ course_replies course }
+{}
+
+/// Each reply stands at the first boundary of the films that are sent, the end of a frame or of a
+/// report, at or after what was due when its request was taken up (RFC 2326 section 10.12). Until
+/// what is due reaches that boundary, the reply waits.
+pub fn law_replies_placed()
+    ensures { (course : Course) → AreSentAt (greatest_slot course.rounds) (course_plays course)
+        (slots_from 0 course.rounds) (course_texts course) }
+{}
+
+/// The requests in a connection's input are taken up in order. After each event so were all that
+/// are whole, unless an earlier reply waits or the 200 of a TEARDOWN was sent.
+pub fn law_requests_taken()
+    ensures { (beginning : Beginning) (cutting : Cutting beginning) → AreTaken beginning cutting }
+{}
+
+/// A connection's course is one of those of which the laws on cuttings speak, with the last event
+/// where a piece ended it, and so is each front of it.
+pub fn law_cuttings()
+    ensures all { (old new : Stage) (rounds : List Round) → RunsAll old rounds new
+        → TakesUp old rounds new }
+    ensures last { (old mid new : Stage) (rounds : List Round) (round : Round) (end : ConnEnd)
+        → RunsAll old rounds mid → Runs mid round new → IsStopped end new
+        → TakesUp old (rounds ++ round ∷ []) new }
+    ensures fronts { (old new : Stage) (first rest : List Round) → TakesUp old (first ++ rest) new
+        → AreFronts old first rest new }
+{}
+
+/// However the same bytes between the same slots are cut into events, a connection sends the same,
+/// as long as the station answers the same and memory is wanting for the same requests.
+pub fn law_two_cuttings()
+    ensures { (beginning : Beginning) (one other : Cutting beginning) → AreFilms beginning.films
+        → AreCutsOfOne beginning one other → AreSame beginning one other }
 {}
 
 /// What a connection's link told and its report agree with the journal that its seat has seen then,

@@ -3,4 +3,7 @@
 
 mod laws;
 
-pub use laws::{law_agrees, law_film_written, law_follows, law_plays_booked, law_replies_woven};
+pub use laws::{
+    law_agrees, law_cuttings, law_film_written, law_follows, law_plays_booked, law_replies_placed,
+    law_replies_woven, law_requests_taken, law_two_cuttings,
+};

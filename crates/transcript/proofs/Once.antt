@@ -1,0 +1,248 @@
+-- What a connection does with a request or a slot has one result, by what the station and the memory answer.
+use Rattle.std.specs.Prelude.{⊤}
+use Rattle.std.proofs.Common.{◌≡◌, ℕ, ◌++◌, ◌&&◌, if◌then◌else◌, Bool, true, false, List, [], ◌∷◌, refl, ap, sym, ◌∙◌, subst, inl, inr}
+use Rattle.admission.specs.declared.entries.Answer.{Answer}
+use Rattle.admission.specs.declared.entries.Answer.TheVariants.{Admitted, Halted, Looked, Overflow}
+use Rattle.admission.specs.Makers.{Placed}
+use Rattle.session.specs.declared.asks.Ask.{Ask}
+use Rattle.session.specs.declared.asks.Ask.TheVariants.{Reply as AskReply, Play as AskPlay, Halt as AskHalt, Look as AskLook, Offer as AskOffer}
+use Rattle.session.specs.Hearings.{Hears}
+use Rattle.session.specs.Laws.{IsOneHearing}
+use Rattle.session.specs.Ranges.{AreFilms}
+use Rattle.session.proofs.OneHearing.{hears_once}
+use Rattle.session.specs.Sendings.{can_reply, finished, is_between, is_sending, is_taken, sent_due, sent_reply, sent_slot, slotted, stepped_in}
+use Rattle.session.specs.Standings.{Awaits, NoAnswer, PlayAnswer, HaltAnswer, LookAnswer, OfferAnswer, Standing, awaits}
+use Rattle.conn.specs.Turns.{Outcome, Unasked, Entered, WasFull, Offered, Part, HasStepped, IsAnswered, IsFinished, IsHalted, IsLookAnswered, IsPlayAnswered, after_reply}
+use Rattle.transcript.specs.Cuttings.{AreSameAnswers, Hearing, LackAlike, LacksMemory, answer_in}
+
+-- ---- a request is heard
+
+abbrev pub hearing : Standing → List ℕ → Ask → Standing → Hearing
+hearing session message ask asking = record { session = session; message = message; ask = ask; asking = asking }
+
+lacks_once : (old one other : Standing) (message : List ℕ) (ask again : Ask) → LacksMemory (hearing old message ask one)
+    → LacksMemory (hearing old message again other) → (again ≡ ask) × (other ≡ one)
+lacks_once old one other message ask again lacks also = (also.0 ∙ sym lacks.0, also.1 ∙ sym lacks.1)
+
+hears_by : (old one other : Standing) (message : List ℕ) (ask again : Ask) → LackAlike (hearing old message ask one) (hearing old message again other)
+    → IsOneHearing old message ask one again other → (again ≡ ask) × (other ≡ one)
+hears_by old one other message ask again alike (inl same) = (same.ask_is, same.session_is)
+hears_by old one other message ask again alike (inr (inl lacks)) = lacks_once old one other message ask again lacks (alike.there lacks)
+hears_by old one other message ask again alike (inr (inr lacks)) = lacks_once old one other message ask again (alike.back lacks) lacks
+
+pub hears_same : (old one other : Standing) (message : List ℕ) (ask again : Ask) → AreFilms old.films → Hears old message ask one
+    → Hears old message again other → LackAlike (hearing old message ask one) (hearing old message again other)
+    → (again ≡ ask) × (other ≡ one)
+hears_same old one other message ask again films hears also alike =
+    hears_by old one other message ask again alike (hears_once old one other message ask again films hears also)
+
+-- ---- the station answers
+
+abbrev IsAnswer : Outcome → Type 0
+IsAnswer Unasked = ⊥
+IsAnswer (Entered placed) = ⊤
+IsAnswer (WasFull entries live) = ⊤
+IsAnswer (Offered note) = ⊤
+
+answer_one : (outcome : Outcome) → IsAnswer outcome → answer_in outcome ≡ outcome ∷ []
+answer_one Unasked is = absurd is
+answer_one (Entered placed) is = refl
+answer_one (WasFull entries live) is = refl
+answer_one (Offered note) is = refl
+
+heads_same : (one other : Outcome) (ones others : List Outcome) → IsAnswer one → IsAnswer other
+    → AreSameAnswers (answer_in one ++ ones) (answer_in other ++ others) → (other ≡ one) × AreSameAnswers ones others
+heads_same one other ones others is also same =
+    let both : AreSameAnswers (one ∷ ones) (other ∷ others) =
+    subst (λ l. AreSameAnswers (l ++ ones) (other ∷ others)) (answer_one one is)
+    (subst (λ l. AreSameAnswers (answer_in one ++ ones) (l ++ others)) (answer_one other also) same) in
+    (sym both.0, both.1)
+
+abbrev IsOutcomeOf : Ask → Outcome → Type 0
+IsOutcomeOf AskReply outcome = outcome ≡ Unasked
+IsOutcomeOf (AskPlay plan) outcome = IsAnswer outcome
+IsOutcomeOf (AskHalt keep) outcome = IsAnswer outcome
+IsOutcomeOf (AskLook slot) outcome = IsAnswer outcome
+IsOutcomeOf (AskOffer plan offers) outcome = IsAnswer outcome
+
+halted_answer : (old : Standing) (keep : ℕ) (outcome : Outcome) (new : Standing) → IsHalted old keep outcome new → IsAnswer outcome
+halted_answer old keep Unasked new halted = absurd halted
+halted_answer old keep (Entered placed) new halted = tt
+halted_answer old keep (WasFull entries live) new halted = absurd halted
+halted_answer old keep (Offered note) new halted = absurd halted
+
+outcome_of : (old : Standing) (ask : Ask) (outcome : Outcome) (new : Standing) → IsAnswered old ask outcome new → IsOutcomeOf ask outcome
+outcome_of old AskReply Unasked new is = refl
+outcome_of old AskReply (Entered placed) new is = absurd is
+outcome_of old AskReply (WasFull entries live) new is = absurd is
+outcome_of old AskReply (Offered note) new is = absurd is
+outcome_of old (AskPlay plan) Unasked new is = absurd is
+outcome_of old (AskPlay plan) (Entered placed) new is = tt
+outcome_of old (AskPlay plan) (WasFull entries live) new is = tt
+outcome_of old (AskPlay plan) (Offered note) new is = absurd is
+outcome_of old (AskHalt keep) outcome new is = halted_answer old keep outcome new is
+outcome_of old (AskLook slot) Unasked new is = absurd is
+outcome_of old (AskLook slot) (Entered placed) new is = tt
+outcome_of old (AskLook slot) (WasFull entries live) new is = tt
+outcome_of old (AskLook slot) (Offered note) new is = absurd is
+outcome_of old (AskOffer plan offers) Unasked new is = absurd is
+outcome_of old (AskOffer plan offers) (Entered placed) new is = absurd is
+outcome_of old (AskOffer plan offers) (WasFull entries live) new is = absurd is
+outcome_of old (AskOffer plan offers) (Offered note) new is = tt
+
+outcomes_same : (ask : Ask) (one other : Outcome) (ones others : List Outcome) → IsOutcomeOf ask one → IsOutcomeOf ask other
+    → AreSameAnswers (answer_in one ++ ones) (answer_in other ++ others) → (other ≡ one) × AreSameAnswers ones others
+outcomes_same AskReply one other ones others is also same = (
+  also ∙ sym is,
+  subst (λ o. AreSameAnswers (answer_in o ++ ones) others) is (subst (λ o. AreSameAnswers (answer_in one ++ ones) (answer_in o ++ others)) also same),
+)
+outcomes_same (AskPlay plan) one other ones others is also same = heads_same one other ones others is also same
+outcomes_same (AskHalt keep) one other ones others is also same = heads_same one other ones others is also same
+outcomes_same (AskLook slot) one other ones others is also same = heads_same one other ones others is also same
+outcomes_same (AskOffer plan offers) one other ones others is also same = heads_same one other ones others is also same
+
+play_once : (old : Standing) (placed : Placed) (answer : Answer) (one other : Standing) → IsPlayAnswered old placed answer one
+    → IsPlayAnswered old placed answer other → other ≡ one
+play_once old placed (Admitted start) one other is also = also.1 ∙ sym is.1
+play_once old placed (Overflow slot booked asked) one other is also = also ∙ sym is
+play_once old placed Halted one other is also = absurd is
+play_once old placed (Looked now at booked) one other is also = absurd is
+
+look_once : (old : Standing) (placed : Placed) (answer : Answer) (one other : Standing) → IsLookAnswered old placed answer one
+    → IsLookAnswered old placed answer other → other ≡ one
+look_once old placed (Admitted start) one other is also = absurd is
+look_once old placed (Overflow slot booked asked) one other is also = absurd is
+look_once old placed Halted one other is also = absurd is
+look_once old placed (Looked now at booked) one other is also = also ∙ sym is
+
+halted_once : (old : Standing) (keep : ℕ) (outcome : Outcome) (one other : Standing) → IsHalted old keep outcome one → IsHalted old keep outcome other
+    → other ≡ one
+halted_once old keep Unasked one other is also = absurd is
+halted_once old keep (Entered placed) one other is also = also.halts ∙ sym is.halts
+halted_once old keep (WasFull entries live) one other is also = absurd is
+halted_once old keep (Offered note) one other is also = absurd is
+
+answered_once : (old : Standing) (ask : Ask) (outcome : Outcome) (one other : Standing) → IsAnswered old ask outcome one
+    → IsAnswered old ask outcome other → other ≡ one
+answered_once old AskReply Unasked one other is also = also ∙ sym is
+answered_once old AskReply (Entered placed) one other is also = absurd is
+answered_once old AskReply (WasFull entries live) one other is also = absurd is
+answered_once old AskReply (Offered note) one other is also = absurd is
+answered_once old (AskPlay plan) Unasked one other is also = absurd is
+answered_once old (AskPlay plan) (Entered placed) one other is also = play_once old placed placed.entry.answer one other is.1 also.1
+answered_once old (AskPlay plan) (WasFull entries live) one other is also = also ∙ sym is
+answered_once old (AskPlay plan) (Offered note) one other is also = absurd is
+answered_once old (AskHalt keep) outcome one other is also = halted_once old keep outcome one other is also
+answered_once old (AskLook slot) Unasked one other is also = absurd is
+answered_once old (AskLook slot) (Entered placed) one other is also = look_once old placed placed.entry.answer one other is.1 also.1
+answered_once old (AskLook slot) (WasFull entries live) one other is also = also ∙ sym is
+answered_once old (AskLook slot) (Offered note) one other is also = absurd is
+answered_once old (AskOffer plan offers) Unasked one other is also = absurd is
+answered_once old (AskOffer plan offers) (Entered placed) one other is also = absurd is
+answered_once old (AskOffer plan offers) (WasFull entries live) one other is also = absurd is
+answered_once old (AskOffer plan offers) (Offered note) one other is also = also.2 ∙ sym is.2
+
+-- the same answer, and the same session after it
+pub answers_same : (old : Standing) (ask : Ask) (one other : Outcome) (new again : Standing) (ones others : List Outcome) → IsAnswered old ask one new
+    → IsAnswered old ask other again → AreSameAnswers (answer_in one ++ ones) (answer_in other ++ others)
+    → (again ≡ new) × AreSameAnswers ones others
+answers_same old ask one other new again ones others is also same =
+    let both = outcomes_same ask one other ones others (outcome_of old ask one new is) (outcome_of old ask other again also) same in
+    (answered_once old ask one new again is (subst (λ o. IsAnswered old ask o again) both.0 also), both.1)
+
+-- ---- a slot is taken up
+
+unasked : (old : Standing) (outcome : Outcome) (new : Standing) → IsFinished NoAnswer old outcome new → (outcome ≡ Unasked) × (new ≡ old)
+unasked old Unasked new is = (refl, is)
+unasked old (Entered placed) new is = absurd is
+unasked old (WasFull entries live) new is = absurd is
+unasked old (Offered note) new is = absurd is
+
+finished_same : (asks : Awaits) (old : Standing) (one other : Outcome) (new again : Standing) (ones others : List Outcome)
+    → IsFinished asks old one new → IsFinished asks old other again → AreSameAnswers (answer_in one ++ ones) (answer_in other ++ others)
+    → (again ≡ new) × AreSameAnswers ones others
+finished_same NoAnswer old one other new again ones others is also same =
+    let first = unasked old one new is in
+    let second = unasked old other again also in (
+      second.1 ∙ sym first.1,
+      subst (λ o. AreSameAnswers (answer_in o ++ ones) others) first.0
+          (subst (λ o. AreSameAnswers (answer_in one ++ ones) (answer_in o ++ others)) second.0 same),
+    )
+finished_same (PlayAnswer plan) old one other new again ones others is also same = absurd is
+finished_same (HaltAnswer keep) old one other new again ones others is also same =
+    let both = heads_same one other ones others (halted_answer old keep one new is) (halted_answer old keep other again also) same in
+    (halted_once old keep one new again is (subst (λ o. IsHalted old keep o again) both.0 also), both.1)
+finished_same LookAnswer old one other new again ones others is also same = absurd is
+finished_same OfferAnswer old one other new again ones others is also same = absurd is
+
+pub steps_same : (old : Standing) (slot : ℕ) (due sent : List Part) (one other : Outcome) (new again : Standing) (ones others : List Outcome)
+    → HasStepped old slot due one new → HasStepped old slot sent other again → AreSameAnswers (answer_in one ++ ones) (answer_in other ++ others)
+    → (sent ≡ due) × (again ≡ new) × AreSameAnswers ones others
+steps_same old slot due sent one other new again ones others is also same =
+    let both = finished_same (awaits (slotted old slot)) (slotted old slot) one other new again ones others is.finished also.finished same in
+    (also.parts_are ∙ sym is.parts_are, both.0, both.1)
+
+-- ---- the films stay
+
+play_films : (old : Standing) (placed : Placed) (answer : Answer) (new : Standing) → IsPlayAnswered old placed answer new → new.films ≡ old.films
+play_films old placed (Admitted start) new is = ap (λ (s : Standing). s.films) is.1
+play_films old placed (Overflow slot booked asked) new is = ap (λ (s : Standing). s.films) is
+play_films old placed Halted new is = absurd is
+play_films old placed (Looked now at booked) new is = absurd is
+
+look_films : (old : Standing) (placed : Placed) (answer : Answer) (new : Standing) → IsLookAnswered old placed answer new → new.films ≡ old.films
+look_films old placed (Admitted start) new is = absurd is
+look_films old placed (Overflow slot booked asked) new is = absurd is
+look_films old placed Halted new is = absurd is
+look_films old placed (Looked now at booked) new is = ap (λ (s : Standing). s.films) is
+
+halted_films : (old : Standing) (keep : ℕ) (outcome : Outcome) (new : Standing) → IsHalted old keep outcome new → new.films ≡ old.films
+halted_films old keep Unasked new is = absurd is
+halted_films old keep (Entered placed) new is = ap (λ (s : Standing). s.films) is.halts
+halted_films old keep (WasFull entries live) new is = absurd is
+halted_films old keep (Offered note) new is = absurd is
+
+pub answered_films : (old : Standing) (ask : Ask) (outcome : Outcome) (new : Standing) → IsAnswered old ask outcome new → new.films ≡ old.films
+answered_films old AskReply Unasked new is = ap (λ (s : Standing). s.films) is
+answered_films old AskReply (Entered placed) new is = absurd is
+answered_films old AskReply (WasFull entries live) new is = absurd is
+answered_films old AskReply (Offered note) new is = absurd is
+answered_films old (AskPlay plan) Unasked new is = absurd is
+answered_films old (AskPlay plan) (Entered placed) new is = play_films old placed placed.entry.answer new is.1
+answered_films old (AskPlay plan) (WasFull entries live) new is = ap (λ (s : Standing). s.films) is
+answered_films old (AskPlay plan) (Offered note) new is = absurd is
+answered_films old (AskHalt keep) outcome new is = halted_films old keep outcome new is
+answered_films old (AskLook slot) Unasked new is = absurd is
+answered_films old (AskLook slot) (Entered placed) new is = look_films old placed placed.entry.answer new is.1
+answered_films old (AskLook slot) (WasFull entries live) new is = ap (λ (s : Standing). s.films) is
+answered_films old (AskLook slot) (Offered note) new is = absurd is
+answered_films old (AskOffer plan offers) Unasked new is = absurd is
+answered_films old (AskOffer plan offers) (Entered placed) new is = absurd is
+answered_films old (AskOffer plan offers) (WasFull entries live) new is = absurd is
+answered_films old (AskOffer plan offers) (Offered note) new is = ap (λ (s : Standing). s.films) is.2
+
+reply_films : (goes : Bool) (s : Standing) → (if goes then sent_reply s else s).films ≡ s.films
+reply_films true s = refl
+reply_films false s = refl
+
+pub replied_films : (s : Standing) → (after_reply s).films ≡ s.films
+replied_films s = reply_films (can_reply s) s
+
+slot_films : (old : Standing) (slot : ℕ) (taken sending : Bool)
+    → (if taken then (if sending then finished (sent_slot old slot) else record old { heard = slot }) else old).films ≡ old.films
+slot_films old slot true true = reply_films (old.waits && is_between (stepped_in true slot old.state)) (sent_due old slot)
+slot_films old slot true false = refl
+slot_films old slot false sending = refl
+
+finished_films : (asks : Awaits) (old : Standing) (outcome : Outcome) (new : Standing) → IsFinished asks old outcome new → new.films ≡ old.films
+finished_films NoAnswer old outcome new is = ap (λ (s : Standing). s.films) (unasked old outcome new is).1
+finished_films (PlayAnswer plan) old outcome new is = absurd is
+finished_films (HaltAnswer keep) old outcome new is = halted_films old keep outcome new is
+finished_films LookAnswer old outcome new is = absurd is
+finished_films OfferAnswer old outcome new is = absurd is
+
+pub stepped_films : (old : Standing) (slot : ℕ) (due : List Part) (halt : Outcome) (new : Standing) → HasStepped old slot due halt new
+    → new.films ≡ old.films
+stepped_films old slot due halt new is =
+    finished_films (awaits (slotted old slot)) (slotted old slot) halt new is.finished
+    ∙ slot_films old slot (is_taken old slot) (is_sending old.state)

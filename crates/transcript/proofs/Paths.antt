@@ -1,0 +1,373 @@
+-- The pieces of a connection's input that are taken up, one after another: each byte CR or LF, each block, each request.
+use Rattle.std.proofs.Common.{◌≡◌, ◌⊎◌, ℕ, zero, suc, ◌<◌, ◌≤◌, ◌++◌, true, false, List, [], ◌∷◌, Ok, Err, length, take, drop, get_or, refl, ap, sym, ◌∙◌, subst, inl, inr, arith}
+use Rattle.std.proofs.lemmas.Bool.{true≢false}
+use Rattle.std.proofs.lemmas.List.{append-nil, append_assoc, take-append-le, drop-append-le, length-append, get_or_append_left}
+use Rattle.interleave.specs.Heads.{is_line_end}
+use Rattle.interleave.specs.Pieces.{IsFirst, StartsBlock, StartsRequest, block_length}
+use Rattle.interleave.specs.Streams.{IsPieceLength, LineEnd, WholeBlock, WholeRequest}
+use Rattle.interleave.specs.declared.pieces.Step.TheVariants.{More, Request}
+use Rattle.interleave.specs.declared.pieces.DemuxFault.TheVariants.{HeadTooLong as LongHead, BodyTooLong as LongBody}
+use Rattle.interleave.proofs.Cuts.{StartsBlock-append, block_length-append, whole_stays}
+use Rattle.interleave.proofs.Streams.{piece_once, tells_none}
+use Rattle.interleave.proofs.Unique.{clash_block_request, not_both, total_once}
+use Rattle.session.specs.declared.asks.Ask.{Ask}
+use Rattle.session.specs.Hearings.{Hears}
+use Rattle.session.specs.Ranges.{AreFilms}
+use Rattle.session.specs.Standings.{Standing}
+use Rattle.session.proofs.Changing.{hears_ground}
+use Rattle.conn.specs.Rounds.{IsStopped, takings_bytes, takings_outcomes}
+use Rattle.conn.specs.Turns.{Answered, IsAnswered, IsNext, IsPassed, IsReplied, Outcome, Part, Passed, Stage, Taking, TakesAll, after_reply, parts_bytes, reply_parts, stage}
+use Rattle.conn.specs.declared.reports.ConnEnd.{ConnEnd}
+use Rattle.conn.specs.declared.reports.ConnEnd.TheVariants.{Ended, TornDown, LinkFault, TooMuchInput, HeadTooLong, BodyTooLong, TurnsSpent, NoMemory}
+use Rattle.transcript.specs.Cuttings.{AllLackAlike, AreSameAnswers, Hearing, IsDone, LackAlike, answer_in, answers_in, takings_hearings}
+use Rattle.transcript.proofs.Once.{answered_films, answers_same, hearing, hears_same, replied_films}
+
+-- a request that was taken up, what was asked, and what came of it
+pub record Turn : Type 0 where
+  pub session : Standing
+  pub message : List ℕ
+  pub ask : Ask
+  pub asking : Standing
+  pub outcome : Outcome
+  pub answered : Standing
+
+pub data Piece : Type 0 where
+  Over : ℕ → Piece
+  Taken : Turn → Piece
+
+-- a byte CR or LF is in front, or a block
+pub data IsOver (input : List ℕ) (n : ℕ) : Type 0 where
+  AnEnd : n ≡ 1 → 0 < length input → is_line_end (get_or input 0 0) ≡ true → IsOver input n
+  ABlock : StartsBlock input → 4 ≤ length input → n ≡ block_length input → n ≤ length input → IsOver input n
+
+pub over_piece : (input : List ℕ) (n : ℕ) → IsOver input n → IsPieceLength input n
+over_piece input n (AnEnd one some end) = LineEnd one some end
+over_piece input n (ABlock starts four size inside) = WholeBlock starts four size inside
+
+over_within : (input : List ℕ) (n : ℕ) → IsOver input n → n ≤ length input
+over_within input n (AnEnd one some end) = omega (arith, one, some)
+over_within input n (ABlock starts four size inside) = inside
+
+over_grows : (input more : List ℕ) (n : ℕ) → IsOver input n → IsOver (input ++ more) n
+over_grows input more n (AnEnd one some end) =
+    AnEnd one (omega (arith, length-append input more, some)) (rw (get_or_append_left input more 0 0 some) end)
+over_grows input more n (ABlock starts four size inside) =
+    ABlock (StartsBlock-append input more starts) (omega (arith, length-append input more, four)) (rw (block_length-append input more four) size)
+    (omega (arith, length-append input more, inside))
+
+over_no_request : (input : List ℕ) (n : ℕ) → IsOver input n → StartsRequest input → ⊥
+over_no_request input n (AnEnd one some end) starts = not_both (is_line_end (get_or input 0 0)) end starts.1
+over_no_request input n (ABlock block four size inside) starts = clash_block_request input block starts
+
+pub record IsTaken (old : Stage) (turn : Turn) (new : Stage) : Type 0 where
+  pub session_is : turn.session ≡ old.session
+  pub next : IsNext old turn.message
+  pub hears : Hears old.session turn.message turn.ask turn.asking
+  pub answered : IsAnswered turn.asking turn.ask turn.outcome turn.answered
+  pub new_is : new ≡ stage (after_reply turn.answered) (drop (length turn.message) old.input)
+
+pub record IsPassing (old : Stage) (n : ℕ) (new : Stage) : Type 0 where
+  pub over : IsOver old.input n
+  pub torn : old.session.torn ≡ false
+  pub new_is : new ≡ stage old.session (drop n old.input)
+
+abbrev pub Goes : Stage → Piece → Stage → Type 0
+Goes old (Over n) new = IsPassing old n new
+Goes old (Taken turn) new = IsTaken old turn new
+
+abbrev pub GoesAll : Stage → List Piece → Stage → Type 0
+GoesAll old [] new = new ≡ old
+GoesAll old (piece ∷ pieces) new = (mid : Stage) × (Goes old piece mid × GoesAll mid pieces new)
+
+-- what is sent meanwhile, what the station answers, and the requests that are heard
+abbrev pub pieces_bytes : List Piece → List ℕ
+pieces_bytes [] = []
+pieces_bytes (Over n ∷ pieces) = pieces_bytes pieces
+pieces_bytes (Taken turn ∷ pieces) = parts_bytes (reply_parts turn.answered) ++ pieces_bytes pieces
+
+abbrev pub pieces_answers : List Piece → List Outcome
+pieces_answers [] = []
+pieces_answers (Over n ∷ pieces) = pieces_answers pieces
+pieces_answers (Taken turn ∷ pieces) = answer_in turn.outcome ++ pieces_answers pieces
+
+abbrev pub pieces_hearings : List Piece → List Hearing
+pieces_hearings [] = []
+pieces_hearings (Over n ∷ pieces) = pieces_hearings pieces
+pieces_hearings (Taken turn ∷ pieces) = hearing turn.session turn.message turn.ask turn.asking ∷ pieces_hearings pieces
+
+-- ---- joined, and with more input
+
+pub join_goes : (a b c : Stage) (xs ys : List Piece) → GoesAll a xs b → GoesAll b ys c → GoesAll a (xs ++ ys) c
+join_goes a b c [] ys goes after = subst (λ s. GoesAll s ys c) goes after
+join_goes a b c (x ∷ xs) ys goes after = (goes.0, (goes.1.0, join_goes goes.0 b c xs ys goes.1.1 after))
+
+pub join_bytes : (xs ys : List Piece) → pieces_bytes (xs ++ ys) ≡ pieces_bytes xs ++ pieces_bytes ys
+join_bytes [] ys = refl
+join_bytes (Over n ∷ xs) ys = join_bytes xs ys
+join_bytes (Taken turn ∷ xs) ys =
+    ap (λ bs. parts_bytes (reply_parts turn.answered) ++ bs) (join_bytes xs ys)
+    ∙ sym (append_assoc (parts_bytes (reply_parts turn.answered)) (pieces_bytes xs) (pieces_bytes ys))
+
+pub join_answers : (xs ys : List Piece) → pieces_answers (xs ++ ys) ≡ pieces_answers xs ++ pieces_answers ys
+join_answers [] ys = refl
+join_answers (Over n ∷ xs) ys = join_answers xs ys
+join_answers (Taken turn ∷ xs) ys =
+    ap (λ os. answer_in turn.outcome ++ os) (join_answers xs ys)
+    ∙ sym (append_assoc (answer_in turn.outcome) (pieces_answers xs) (pieces_answers ys))
+
+pub join_hearings : (xs ys : List Piece) → pieces_hearings (xs ++ ys) ≡ pieces_hearings xs ++ pieces_hearings ys
+join_hearings [] ys = refl
+join_hearings (Over n ∷ xs) ys = join_hearings xs ys
+join_hearings (Taken turn ∷ xs) ys = ap (λ hs. hearing turn.session turn.message turn.ask turn.asking ∷ hs) (join_hearings xs ys)
+
+abbrev pub longer : Stage → List ℕ → Stage
+longer old more = stage old.session (old.input ++ more)
+
+shorter : (old new : Stage) (session : Standing) (more : List ℕ) (n : ℕ) → n ≤ length old.input → new ≡ stage session (drop n old.input)
+    → longer new more ≡ stage session (drop n (old.input ++ more))
+shorter old new session more n inside is =
+    ap (λ s. longer s more) is ∙ ap (λ input. stage session input) (sym (drop-append-le n old.input more inside))
+
+next_grows : (old : Stage) (message more : List ℕ) → IsNext old message → IsNext (longer old more) message
+next_grows old message more next = record {
+  first = whole_stays old.input more (Ok (Request (length message))) next.first tt;
+  message_is = next.message_is ∙ sym (take-append-le (length message) old.input more next.first.2);
+  replied = next.replied;
+  torn = next.torn;
+}
+
+piece_grows : (old new : Stage) (piece : Piece) (more : List ℕ) → Goes old piece new → Goes (longer old more) piece (longer new more)
+piece_grows old new (Over n) more goes = record {
+  over = over_grows old.input more n goes.over;
+  torn = goes.torn;
+  new_is = shorter old new old.session more n (over_within old.input n goes.over) goes.new_is;
+}
+piece_grows old new (Taken turn) more goes = record {
+  session_is = goes.session_is;
+  next = next_grows old turn.message more goes.next;
+  hears = goes.hears;
+  answered = goes.answered;
+  new_is = shorter old new (after_reply turn.answered) more (length turn.message) goes.next.first.2 goes.new_is;
+}
+
+pub goes_grow : (old new : Stage) (pieces : List Piece) (more : List ℕ) → GoesAll old pieces new → GoesAll (longer old more) pieces (longer new more)
+goes_grow old new [] more goes = ap (λ s. longer s more) goes
+goes_grow old new (piece ∷ pieces) more goes =
+    (longer goes.0 more, (piece_grows old goes.0 piece more goes.1.0, goes_grow goes.0 new pieces more goes.1.1))
+
+-- ---- what is taken up
+
+pub record Path (old new : Stage) (bytes : List ℕ) (answers : List Outcome) (hearings : List Hearing) : Type 0 where
+  pub pieces : List Piece
+  pub goes : GoesAll old pieces new
+  pub bytes_are : pieces_bytes pieces ≡ bytes
+  pub answers_are : pieces_answers pieces ≡ answers
+  pub hearings_are : pieces_hearings pieces ≡ hearings
+
+path_none : (s : Stage) → Path s s [] [] []
+path_none s = record { pieces = []; goes = refl; bytes_are = refl; answers_are = refl; hearings_are = refl }
+
+path_over : (a b c : Stage) (n : ℕ) (bytes : List ℕ) (answers : List Outcome) (hearings : List Hearing) → IsPassing a n b
+    → Path b c bytes answers hearings → Path a c bytes answers hearings
+path_over a b c n bytes answers hearings passing path = record {
+  pieces = Over n ∷ path.pieces;
+  goes = (b, (passing, path.goes));
+  bytes_are = path.bytes_are;
+  answers_are = path.answers_are;
+  hearings_are = path.hearings_are;
+}
+
+path_then : (a b c : Stage) (first second : List ℕ) (one two : List Outcome) (heard later : List Hearing) → Path a b first one heard
+    → Path b c second two later → Path a c (first ++ second) (one ++ two) (heard ++ later)
+path_then a b c first second one two heard later path after = record {
+  pieces = path.pieces ++ after.pieces;
+  goes = join_goes a b c path.pieces after.pieces path.goes after.goes;
+  bytes_are = join_bytes path.pieces after.pieces ∙ ap (λ bs. bs ++ pieces_bytes after.pieces) path.bytes_are ∙ ap (λ bs. first ++ bs) after.bytes_are;
+  answers_are = join_answers path.pieces after.pieces ∙ ap (λ os. os ++ pieces_answers after.pieces) path.answers_are
+      ∙ ap (λ os. one ++ os) after.answers_are;
+  hearings_are = join_hearings path.pieces after.pieces ∙ ap (λ hs. hs ++ pieces_hearings after.pieces) path.hearings_are
+      ∙ ap (λ hs. heard ++ hs) after.hearings_are;
+}
+
+ends_over : (session : Standing) (input : List ℕ) (n : ℕ) → session.torn ≡ false → n ≤ length input
+    → ((k : ℕ) → k < n → is_line_end (get_or input k 0) ≡ true) → Path (stage session input) (stage session (drop n input)) [] [] []
+ends_over session input zero torn inside ends = path_none (stage session input)
+ends_over session [] (suc n) torn inside ends = let bad : ⊥ = omega (arith, inside) in absurd bad
+ends_over session (c ∷ cs) (suc n) torn inside ends =
+    path_over (stage session (c ∷ cs)) (stage session cs) (stage session (drop n cs)) 1 [] [] []
+    (record { over = AnEnd refl (omega arith) (ends 0 (omega arith)); torn = torn; new_is = refl })
+    (ends_over session cs n torn (omega (arith, inside)) (λ k below. ends (suc k) (omega (arith, below))))
+
+passed_over : (session : Standing) (input : List ℕ) (n : ℕ) → IsPassed input n → session.torn ≡ false
+    → Path (stage session input) (stage session (drop n input)) [] [] []
+passed_over session input n (inl skip) torn = ends_over session input n torn skip.1.within skip.1.line_ends
+passed_over session input n (inr block) torn =
+    path_over (stage session input) (stage session (drop n input)) (stage session (drop n input)) n [] [] []
+    (record { over = ABlock block.1.0 block.1.1 block.1.3 block.1.4; torn = torn; new_is = refl }) (path_none (stage session (drop n input)))
+
+path_taken : (old new : Stage) (message : List ℕ) (outcome : Outcome) (parts : List Part) (replied : IsReplied old message outcome parts new)
+    → Path old new (parts_bytes parts) (answer_in outcome) (hearing old.session message replied.heard.ask replied.heard.asking ∷ [])
+path_taken old new message outcome parts replied = record {
+  pieces = Taken (record {
+    session = old.session;
+    message = message;
+    ask = replied.heard.ask;
+    asking = replied.heard.asking;
+    outcome = outcome;
+    answered = replied.answered;
+  }) ∷ [];
+  goes = (
+    new,
+    (
+      record { session_is = refl; next = replied.next; hears = replied.heard.hears; answered = replied.heard.answered; new_is = replied.new_is },
+      refl,
+    ),
+  );
+  bytes_are = append-nil (parts_bytes (reply_parts replied.answered)) ∙ ap parts_bytes (sym replied.parts_are);
+  answers_are = append-nil (answer_in outcome);
+  hearings_are = refl;
+}
+
+pub path_of : (old new : Stage) (takings : List Taking) (takes : TakesAll old takings new)
+    → Path old new (takings_bytes takings) (answers_in (takings_outcomes takings)) (takings_hearings old takings new takes)
+path_of old new [] takes = subst (λ s. Path old s [] [] []) (sym takes) (path_none old)
+path_of old new (Passed n ∷ takings) takes =
+    let over : Path old takes.0 [] [] [] =
+    subst (λ s. Path old s [] [] []) (sym takes.1.0.2) (passed_over old.session old.input n takes.1.0.0 takes.1.0.1) in
+    path_then old takes.0 new [] (takings_bytes takings) [] (answers_in (takings_outcomes takings)) [] (takings_hearings takes.0 takings new takes.1.1)
+    over (path_of takes.0 new takings takes.1.1)
+path_of old new (Answered message outcome parts ∷ takings) takes =
+    let replied = takes.1.0 in
+    path_then old takes.0 new (parts_bytes parts) (takings_bytes takings) (answer_in outcome) (answers_in (takings_outcomes takings))
+    (hearing old.session message replied.heard.ask replied.heard.asking ∷ []) (takings_hearings takes.0 takings new takes.1.1)
+    (path_taken old takes.0 message outcome parts replied) (path_of takes.0 new takings takes.1.1)
+
+-- ---- where nothing more can be taken up
+
+first_piece : (old new : Stage) (piece : Piece) → Goes old piece new → (n : ℕ) × IsPieceLength old.input n
+first_piece old new (Over n) goes = (n, over_piece old.input n goes.over)
+first_piece old new (Taken turn) goes = (length turn.message, WholeRequest goes.next.first.0 goes.next.first.1 goes.next.first.2)
+
+goes_on : (old new : Stage) (piece : Piece) → Goes old piece new → old.session.torn ≡ false
+goes_on old new (Over n) goes = goes.torn
+goes_on old new (Taken turn) goes = goes.next.torn
+
+waits_on : (old new : Stage) (piece : Piece) (n : ℕ) → IsFirst old.input (Ok (Request n)) → old.session.waits ≡ true → Goes old piece new → ⊥
+waits_on old new (Over m) n first waits goes = over_no_request old.input m goes.over first.0
+waits_on old new (Taken turn) n first waits goes = true≢false (sym waits ∙ goes.next.replied)
+
+idle_done : (old new : Stage) (piece : Piece) → (IsFirst old.input (Ok More) ⊎ ((n : ℕ) × (IsFirst old.input (Ok (Request n)) × (old.session.waits ≡ true))))
+    → Goes old piece new → ⊥
+idle_done old new piece (inl more) goes =
+    let first = first_piece old new piece goes in tells_none old.input (Ok More) more first.0 first.1
+idle_done old new piece (inr request) goes = waits_on old new piece request.0 request.1.0 request.1.1 goes
+
+stopped_done : (old new : Stage) (piece : Piece) (end : ConnEnd) → IsStopped end old → Goes old piece new → ⊥
+stopped_done old new piece Ended stopped goes = absurd stopped
+stopped_done old new piece TornDown stopped goes = true≢false (sym stopped ∙ goes_on old new piece goes)
+stopped_done old new piece LinkFault stopped goes = absurd stopped
+stopped_done old new piece TooMuchInput stopped goes = absurd stopped
+stopped_done old new piece HeadTooLong stopped goes =
+    let first = first_piece old new piece goes in tells_none old.input (Err LongHead) stopped.1 first.0 first.1
+stopped_done old new piece BodyTooLong stopped goes =
+    let first = first_piece old new piece goes in tells_none old.input (Err LongBody) stopped.1 first.0 first.1
+stopped_done old new piece TurnsSpent stopped goes = absurd stopped
+stopped_done old new piece NoMemory stopped goes = absurd stopped
+
+done_goes : (old new : Stage) (piece : Piece) → IsDone old → Goes old piece new → ⊥
+done_goes old new piece (inl idle) goes = idle_done old new piece idle.waits goes
+done_goes old new piece (inr stopped) goes = stopped_done old new piece stopped.0 stopped.1 goes
+
+-- ---- two paths from one place
+
+taken_films : (old new : Stage) (turn : Turn) → IsTaken old turn new → new.session.films ≡ old.session.films
+taken_films old new turn taken =
+    ap (λ (s : Stage). s.session.films) taken.new_is ∙ replied_films turn.answered ∙ answered_films turn.asking turn.ask turn.outcome turn.answered taken.answered
+    ∙ (hears_ground old.session turn.asking turn.message turn.ask taken.hears).films
+
+pub goes_films : (old new : Stage) (pieces : List Piece) → GoesAll old pieces new → new.session.films ≡ old.session.films
+goes_films old new [] goes = ap (λ (s : Stage). s.session.films) goes
+goes_films old new (Over n ∷ pieces) goes =
+    goes_films goes.0 new pieces goes.1.1 ∙ ap (λ (s : Stage). s.session.films) goes.1.0.new_is
+goes_films old new (Taken turn ∷ pieces) goes =
+    goes_films goes.0 new pieces goes.1.1 ∙ taken_films old goes.0 turn goes.1.0
+
+pub record SameEnds (one other : Stage) (sent again : List ℕ) (ones others : List Outcome) (heard also : List Hearing) : Type 0 where
+  pub last : other ≡ one
+  pub bytes : again ≡ sent
+  pub answers : AreSameAnswers ones others
+  pub memory : AllLackAlike heard also
+
+message_same : (old : Stage) (one other : List ℕ) → IsNext old one → IsNext old other → other ≡ one
+message_same old one other is also =
+    also.message_is ∙ ap (λ n. take n old.input) (total_once old.input (length other) (length one) also.first.1 is.first.1) ∙ sym is.message_is
+
+lacks_same : (session s r : Standing) (message m k : List ℕ) (ask again : Ask) (asking other : Standing) → s ≡ session → r ≡ session → m ≡ message → k ≡ message
+    → LackAlike (hearing s m ask asking) (hearing r k again other) → LackAlike (hearing session message ask asking) (hearing session message again other)
+lacks_same session s r message m k ask again asking other one two three four alike =
+    subst (λ z. LackAlike (hearing z message ask asking) (hearing session message again other)) one
+    (subst (λ z. LackAlike (hearing s message ask asking) (hearing z message again other)) two
+    (subst (λ z. LackAlike (hearing s z ask asking) (hearing r message again other)) three
+    (subst (λ z. LackAlike (hearing s m ask asking) (hearing r z again other)) four alike)))
+
+stages_same : (a b : Standing) (x y : List ℕ) → a ≡ b → x ≡ y → stage a x ≡ stage b y
+stages_same a b x y one two = ap (λ s. stage s x) one ∙ ap (λ input. stage b input) two
+
+turns_same : (old one other : Stage) (turn again : Turn) (ones others : List Outcome) → AreFilms old.session.films
+    → IsTaken old turn one → IsTaken old again other
+    → LackAlike (hearing turn.session turn.message turn.ask turn.asking) (hearing again.session again.message again.ask again.asking)
+    → AreSameAnswers (answer_in turn.outcome ++ ones) (answer_in again.outcome ++ others)
+    → (other ≡ one) × (parts_bytes (reply_parts again.answered) ≡ parts_bytes (reply_parts turn.answered)) × AreSameAnswers ones others
+turns_same old one other turn again ones others films taken also alike answers =
+    let message : again.message ≡ turn.message = message_same old turn.message again.message taken.next also.next in
+    let heard = hears_same old.session turn.asking again.asking turn.message turn.ask again.ask films taken.hears
+    (subst (λ m. Hears old.session m again.ask again.asking) message also.hears)
+    (lacks_same old.session turn.session again.session turn.message turn.message again.message turn.ask again.ask turn.asking again.asking
+    taken.session_is also.session_is refl message alike) in
+    let answered : IsAnswered turn.asking turn.ask again.outcome again.answered =
+    subst (λ a. IsAnswered turn.asking a again.outcome again.answered) heard.0
+    (subst (λ s. IsAnswered s again.ask again.outcome again.answered) heard.1 also.answered) in
+    let both = answers_same turn.asking turn.ask turn.outcome again.outcome turn.answered again.answered ones others taken.answered answered answers in (
+      also.new_is
+          ∙ stages_same (after_reply again.answered) (after_reply turn.answered) (drop (length again.message) old.input) (drop (length turn.message) old.input)
+          (ap after_reply both.0) (ap (λ (m : List ℕ). drop (length m) old.input) message)
+          ∙ sym taken.new_is,
+      ap (λ s. parts_bytes (reply_parts s)) both.0,
+      both.1,
+    )
+
+pub ends_same : (old one other : Stage) (xs ys : List Piece) (ones others : List Outcome) (heard also : List Hearing)
+    → AreFilms old.session.films → GoesAll old xs one → GoesAll old ys other → IsDone one → IsDone other
+    → AreSameAnswers (pieces_answers xs ++ ones) (pieces_answers ys ++ others)
+    → AllLackAlike (pieces_hearings xs ++ heard) (pieces_hearings ys ++ also)
+    → SameEnds one other (pieces_bytes xs) (pieces_bytes ys) ones others heard also
+ends_same old one other [] [] ones others heard also films goes too done stops answers memory =
+    record { last = too ∙ sym goes; bytes = refl; answers = answers; memory = memory }
+ends_same old one other [] (y ∷ ys) ones others heard also films goes too done stops answers memory =
+    absurd (done_goes old too.0 y (subst IsDone goes done) too.1.0)
+ends_same old one other (x ∷ xs) [] ones others heard also films goes too done stops answers memory =
+    absurd (done_goes old goes.0 x (subst IsDone too stops) goes.1.0)
+ends_same old one other (Over n ∷ xs) (Over m ∷ ys) ones others heard also films goes too done stops answers memory =
+    let mid : Stage = goes.0 in
+    let size : m ≡ n = piece_once old.input m n (over_piece old.input m too.1.0.over) (over_piece old.input n goes.1.0.over) in
+    let same : too.0 ≡ mid = too.1.0.new_is ∙ ap (λ k. stage old.session (drop k old.input)) size ∙ sym goes.1.0.new_is in
+    let kept : AreFilms mid.session.films = subst AreFilms (sym (ap (λ (s : Stage). s.session.films) goes.1.0.new_is)) films in
+    ends_same mid one other xs ys ones others heard also kept goes.1.1 (subst (λ s. GoesAll s ys other) same too.1.1) done stops answers memory
+ends_same old one other (Over n ∷ xs) (Taken turn ∷ ys) ones others heard also films goes too done stops answers memory =
+    absurd (over_no_request old.input n goes.1.0.over too.1.0.next.first.0)
+ends_same old one other (Taken turn ∷ xs) (Over m ∷ ys) ones others heard also films goes too done stops answers memory =
+    absurd (over_no_request old.input m too.1.0.over goes.1.0.next.first.0)
+ends_same old one other (Taken turn ∷ xs) (Taken again ∷ ys) ones others heard also films goes too done stops answers memory =
+    let mid : Stage = goes.0 in
+    let split : AreSameAnswers (answer_in turn.outcome ++ (pieces_answers xs ++ ones)) (answer_in again.outcome ++ (pieces_answers ys ++ others)) =
+    subst (λ os. AreSameAnswers os (answer_in again.outcome ++ (pieces_answers ys ++ others))) (append_assoc (answer_in turn.outcome) (pieces_answers xs) ones)
+    (subst (λ os. AreSameAnswers ((answer_in turn.outcome ++ pieces_answers xs) ++ ones) os) (append_assoc (answer_in again.outcome) (pieces_answers ys) others) answers) in
+    let both = turns_same old mid too.0 turn again (pieces_answers xs ++ ones) (pieces_answers ys ++ others) films goes.1.0 too.1.0 memory.0 split in
+    let kept : AreFilms mid.session.films = subst AreFilms (sym (taken_films old mid turn goes.1.0)) films in
+    let rest = ends_same mid one other xs ys ones others heard also kept goes.1.1 (subst (λ s. GoesAll s ys other) both.0 too.1.1) done stops both.2 memory.1 in
+    record {
+      last = rest.last;
+      bytes = ap (λ bs. bs ++ pieces_bytes ys) both.1 ∙ ap (λ bs. parts_bytes (reply_parts turn.answered) ++ bs) rest.bytes;
+      answers = rest.answers;
+      memory = rest.memory;
+    }

@@ -1,0 +1,369 @@
+-- Each reply of a connection stands at the first boundary from what was due when its request was taken up.
+use Rattle.std.proofs.Common.{◌≡◌, ℕ, ◌+◌, ◌-◌, ◌<◌, ◌≤◌, ◌++◌, ◌&&◌, if◌then◌else◌, Bool, true, false, min, List, [], ◌∷◌, Option, Some, None, length, refl, ap, sym, ◌∙◌, subst, inl, arith}
+use Rattle.std.proofs.lemmas.Bool.{true≢false}
+use Rattle.film_frames.specs.Runs.{run_pieces}
+use Rattle.film_frames.specs.Tracks.{IsBoundary, framed}
+use Rattle.pacer.proofs.PacingLemmas.{boundary-from}
+use Rattle.plan_cert.specs.declared.Segment.{Segment}
+use Rattle.plan_cert.specs.Slots.{total_bytes}
+use Rattle.pacer.specs.Pacings.{IsPacing, Pacing, first_slots, next_boundary, stands_at_boundary, stepped}
+use Rattle.session.specs.declared.states.Awaited.{Awaited}
+use Rattle.session.specs.declared.states.Awaited.TheVariants.{Play}
+use Rattle.session.specs.declared.states.Prepared.{Prepared}
+use Rattle.session.specs.declared.states.State.{State}
+use Rattle.session.specs.declared.states.State.TheVariants.{Init, Ready, Playing, Stopping}
+use Rattle.session.specs.Sendings.{is_between, is_sending}
+use Rattle.session.specs.Standings.{Standing}
+use Rattle.session.specs.Steps.{settled}
+use Rattle.conn.specs.Turns.{Outcome, Part, Text}
+use Rattle.conn.proofs.Filming.{sent_through, slot_is}
+use Rattle.transcript.specs.Places.{AreSentAt, IsSentAt}
+use Rattle.transcript.specs.Plays.{Asking, Asks, FilmPlay, admitted, begun, due_by as all_due, due_of, kept_by, kept_in, kept_with, plays_of}
+use Rattle.transcript.specs.Replies.{placed_text, placed_texts}
+use Rattle.transcript.proofs.Films.{IsOnTime, IsSound, play_with, through_time}
+use Rattle.transcript.proofs.Places.{AreLater, StandAt, from_lower, later_lower, none_due, over_at, text_at}
+use Rattle.transcript.proofs.Slots.{ended_at, ending_cases, going_cases, parts_of, stands_here, state_after, stopped_is, waits_after}
+use Rattle.transcript.proofs.Turning.{Begins, Ends, Ending, Going, Halts, Idle, IsStill, Sends, Starts, Stays, TurnsAs, pacing_for, sends_in}
+use Rattle.transcript.proofs.Waits.{Fits, GoesTo, IsHeld, Stand, after_slot, at_here, due_far, due_going, due_here, goes_same, held_here, parts_in, slot_at, still_held}
+
+-- ---- a request is answered
+
+still_stand : (sends : Sends) (pending : Option ℕ) (asked : Awaited) (outcome : Outcome) (askings : List Asking) (end : ℕ) (slots : List ℕ)
+    (parts : List Part) → IsStill asked outcome → Stand sends pending askings end slots parts → Stand sends pending (Asks asked outcome ∷ askings) end slots parts
+still_stand Idle None asked outcome askings end slots parts still stand =
+    subst (λ ps. AreSentAt end (ps ++ plays_of askings) slots (placed_texts 0 parts)) (sym (still.none askings)) stand
+still_stand Idle (Some slot) asked outcome askings end slots parts still stand =
+    subst (λ ps. AreSentAt end (ps ++ plays_of askings) (slot ∷ slots) (placed_texts 0 parts)) (sym (still.none askings)) stand
+still_stand (Going p) pending asked outcome askings end slots parts still stand =
+    subst (λ ps. StandAt p (kept_with outcome (kept_in askings (total_bytes p.plan))) pending (ps ++ plays_of askings) end slots parts) (sym (still.none askings))
+    (subst (λ k. StandAt p k pending (plays_of askings) end slots parts) (sym (still.kept (kept_in askings (total_bytes p.plan)))) stand)
+still_stand (Ending p) pending asked outcome askings end slots parts still stand =
+    subst (λ ps. StandAt p p.keep pending (ps ++ plays_of askings) end slots parts) (sym (still.none askings)) stand
+
+pub still_fits : (sends : Sends) (heard : ℕ) (pending : Option ℕ) (asked : Awaited) (outcome : Outcome) (askings : List Asking) (end : ℕ)
+    (slots : List ℕ) (parts : List Part) → IsStill asked outcome → Fits sends heard pending askings end slots parts
+    → Fits sends heard pending (Asks asked outcome ∷ askings) end slots parts
+still_fits sends heard pending asked outcome askings end slots parts still fits = record {
+  from = fits.from;
+  later = subst (λ ps. AreLater heard (ps ++ plays_of askings)) (sym (still.none askings)) fits.later;
+  stand = still_stand sends pending asked outcome askings end slots parts still fits.stand;
+}
+
+-- its reply is in hand
+in_hand : (p : Pacing) (keep slot : ℕ) (plays : List FilmPlay) (end : ℕ) (slots : List ℕ) (parts : List Part)
+    → StandAt p keep (Some slot) plays end slots parts → StandAt p keep None plays end (slot ∷ slots) parts
+in_hand p keep slot plays end slots parts stand = record { holds = stand.holds; sent = stand.sent }
+
+in_hand_of : (sends : Sends) (slot : ℕ) (askings : List Asking) (end : ℕ) (slots : List ℕ) (parts : List Part)
+    → Stand sends (Some slot) askings end slots parts → Stand sends None askings end (slot ∷ slots) parts
+in_hand_of Idle slot askings end slots parts stand = stand
+in_hand_of (Going p) slot askings end slots parts stand = in_hand p (kept_in askings (total_bytes p.plan)) slot (plays_of askings) end slots parts stand
+in_hand_of (Ending p) slot askings end slots parts stand = in_hand p p.keep slot (plays_of askings) end slots parts stand
+
+taken_fits : (sends : Sends) (heard : ℕ) (askings : List Asking) (end : ℕ) (slots : List ℕ) (parts : List Part)
+    → Fits sends heard (Some heard) askings end slots parts → Fits sends heard None askings end (heard ∷ slots) parts
+taken_fits sends heard askings end slots parts fits = record {
+  from = (omega arith, fits.from);
+  later = fits.later;
+  stand = in_hand_of sends heard askings end slots parts fits.stand;
+}
+
+abbrev play_for : Prepared → ℕ → List Segment → ℕ → FilmPlay
+play_for prepared start plan keep = record {
+  start = start;
+  plan = plan;
+  keep = keep;
+  before = prepared.run.sent;
+  pieces = run_pieces prepared.frames;
+}
+
+begin_stand : (prepared : Prepared) (start : ℕ) (plan : List Segment) (askings : List Asking) (end : ℕ) (slots : List ℕ) (parts : List Part)
+    → prepared.paced ≡ plan → AreSentAt end (play_for prepared start prepared.paced (kept_in askings (total_bytes prepared.paced)) ∷ plays_of askings) slots (placed_texts 0 parts)
+    → AreSentAt end (play_for prepared start plan (kept_in askings (total_bytes plan)) ∷ plays_of askings) slots (placed_texts 0 parts)
+begin_stand prepared start plan askings end slots parts same sent =
+    subst (λ pl. AreSentAt end (play_for prepared start pl (kept_in askings (total_bytes pl)) ∷ plays_of askings) slots (placed_texts 0 parts)) same sent
+
+begun_is : (old new : Standing) (asked : Awaited) (outcome : Outcome) (begins : Begins old asked outcome new) (askings : List Asking)
+    → begun asked outcome askings ≡ play_for begins.prepared begins.start begins.prepared.plan (kept_in askings (total_bytes begins.prepared.plan)) ∷ []
+begun_is old new asked outcome begins askings =
+    ap (λ o. begun asked o askings) begins.outcome_is ∙ ap (λ a. admitted a begins.placed.entry.answer askings) begins.asked_is
+    ∙ ap (λ a. admitted (Play begins.prepared) a askings) begins.answer
+
+begin_fits : (old new : Standing) (asked : Awaited) (outcome : Outcome) (begins : Begins old asked outcome new) (askings : List Asking) (end : ℕ)
+    (slots : List ℕ) (parts : List Part) → Fits (Going (pacing_for begins.prepared begins.start)) old.heard (Some old.heard) askings end slots parts
+    → Fits Idle old.heard None (Asks asked outcome ∷ askings) end (old.heard ∷ slots) parts
+begin_fits old new asked outcome begins askings end slots parts fits =
+    let p : Pacing = pacing_for begins.prepared begins.start in
+    let plan : List Segment = begins.prepared.plan in
+    let made = begun_is old new asked outcome begins askings in
+    let play : FilmPlay = play_for begins.prepared begins.start plan (kept_in askings (total_bytes plan)) in
+    let starts : IsBoundary p.pieces (p.before + 0) = subst (IsBoundary p.pieces) (omega arith) begins.pacing.begins in
+    record {
+      from = (omega arith, fits.from);
+      later = subst (λ ps. AreLater old.heard (ps ++ plays_of askings)) (sym made)
+          (record { starts = (begins.later, fits.later.starts); begins = inl (omega arith, starts) });
+      stand = subst (λ ps. AreSentAt end (ps ++ plays_of askings) (old.heard ∷ slots) (placed_texts 0 parts)) (sym made)
+          (begin_stand begins.prepared begins.start plan askings end (old.heard ∷ slots) parts begins.paced fits.stand.sent);
+    }
+
+halt_fits : (old new : Standing) (asked : Awaited) (outcome : Outcome) (halts : Halts old asked outcome new) (askings : List Asking) (end : ℕ)
+    (slots : List ℕ) (parts : List Part)
+    → Fits (Ending (record halts.pacing { keep = next_boundary halts.pacing })) old.heard (Some old.heard) askings end slots parts
+    → Fits (Going halts.pacing) old.heard None (Asks asked outcome ∷ askings) end (old.heard ∷ slots) parts
+halt_fits old new asked outcome halts askings end slots parts fits =
+    let p : Pacing = halts.pacing in
+    let kept : kept_with outcome (kept_in askings (total_bytes p.plan)) ≡ next_boundary p =
+    ap (λ o. kept_with o (kept_in askings (total_bytes p.plan))) halts.outcome_is
+    ∙ ap (λ c. kept_by c (kept_in askings (total_bytes p.plan))) halts.command in
+    let stand : StandAt p (next_boundary p) None (plays_of askings) end (old.heard ∷ slots) parts =
+    record { holds = fits.stand.holds; sent = fits.stand.sent } in
+    record {
+      from = (omega arith, fits.from);
+      later = subst (λ ps. AreLater old.heard (ps ++ plays_of askings)) (sym (halts.none askings)) fits.later;
+      stand = subst (λ k. StandAt p k None (begun asked outcome askings ++ plays_of askings) end (old.heard ∷ slots) parts) (sym kept)
+          (subst (λ ps. StandAt p (next_boundary p) None (ps ++ plays_of askings) end (old.heard ∷ slots) parts) (sym (halts.none askings)) stand);
+    }
+
+pub turn_fits : (old new : Standing) (asked : Awaited) (outcome : Outcome) → TurnsAs old asked outcome new
+    → GoesTo (sends_in old.state) (sends_in new.state) old.heard old.heard None (Some old.heard) (Asks asked outcome ∷ []) (old.heard ∷ []) []
+turn_fits old new asked outcome (Stays same after still) = record {
+  later = omega arith;
+  rest = λ askings end more rest on fits.
+      still_fits (sends_in old.state) old.heard None asked outcome askings end (old.heard ∷ more) rest still
+      (taken_fits (sends_in old.state) old.heard askings end more rest (subst (λ s. Fits s old.heard (Some old.heard) askings end more rest) same fits));
+}
+turn_fits old new asked outcome (Starts after begins) = record {
+  later = omega arith;
+  rest = λ askings end more rest on fits.
+      subst (λ s. Fits s old.heard None (Asks asked outcome ∷ askings) end (old.heard ∷ more) rest) (sym begins.idle)
+      (begin_fits old new asked outcome begins askings end more rest (subst (λ s. Fits s old.heard (Some old.heard) askings end more rest) begins.sends fits));
+}
+turn_fits old new asked outcome (Ends after halts) = record {
+  later = omega arith;
+  rest = λ askings end more rest on fits.
+      subst (λ s. Fits s old.heard None (Asks asked outcome ∷ askings) end (old.heard ∷ more) rest) (sym halts.going)
+      (halt_fits old new asked outcome halts askings end more rest (subst (λ s. Fits s old.heard (Some old.heard) askings end more rest) halts.sends fits));
+}
+
+-- ---- a reply goes out at once, or is held up
+
+kept_due : (p : Pacing) (heard keep : ℕ) → IsSound (Going p) true heard → p.sent ≤ keep
+    → due_of heard (play_with p keep) ≡ min (first_slots p.plan (heard + 1 - p.start)) p.keep
+kept_due p heard keep sound holds =
+    let here = due_here p heard sound.0 in due_going p heard keep sound.0.pacing sound.1 (omega (arith, here, holds))
+
+idle_reply : (heard : ℕ) (text : List ℕ) (askings : List Asking) (end : ℕ) (slots : List ℕ) (parts : List Part) → Fits Idle heard None askings end slots parts
+    → Fits Idle heard (Some heard) askings end slots (Text text ∷ parts)
+idle_reply heard text askings end slots parts fits =
+    let none : all_due heard (plays_of askings) ≡ 0 = none_due heard (plays_of askings) fits.later.starts in
+    let sent : IsSentAt end (plays_of askings) heard (placed_text 0 text) = record {
+      next = record { boundary = fits.later.begins; after = omega (arith, none); least = λ other boundary from. omega arith };
+      reached = omega arith;
+    } in
+    record { from = fits.from; later = fits.later; stand = (sent, fits.stand) }
+
+going_reply : (p : Pacing) (heard : ℕ) (text : List ℕ) (askings : List Asking) (end : ℕ) (slots : List ℕ) (parts : List Part) → IsSound (Going p) true heard
+    → stands_at_boundary p ≡ true → heard ≤ end → Fits (Going p) heard None askings end slots parts
+    → Fits (Going p) heard (Some heard) askings end slots (Text text ∷ parts)
+going_reply p heard text askings end slots parts sound stands on fits = record {
+  from = fits.from;
+  later = fits.later;
+  stand = text_at p (kept_in askings (total_bytes p.plan)) heard (min (first_slots p.plan (heard + 1 - p.start)) p.keep) (plays_of askings) end slots text parts
+      (at_here p heard sound.0 stands) (kept_due p heard (kept_in askings (total_bytes p.plan)) sound fits.stand.holds) fits.later.starts
+      (due_far p heard end sound.0 on) fits.stand;
+}
+
+over_fits : (p : Pacing) (heard : ℕ) (askings : List Asking) (end : ℕ) (slots : List ℕ) (parts : List Part) → IsOnTime p heard → p.sent ≡ p.keep
+    → heard ≤ end → Fits Idle heard None askings end slots parts → Fits (Ending p) heard None askings end slots parts
+over_fits p heard askings end slots parts on ended ends fits = record {
+  from = fits.from;
+  later = fits.later;
+  stand = over_at p heard p.keep (plays_of askings) end slots parts on ended ends fits.from fits.later fits.stand;
+}
+
+ending_reply : (p : Pacing) (heard : ℕ) (text : List ℕ) (askings : List Asking) (end : ℕ) (slots : List ℕ) (parts : List Part) → IsSound (Ending p) true heard
+    → stands_at_boundary p ≡ true → heard ≤ end → Fits Idle heard None askings end slots parts
+    → Fits (Ending p) heard (Some heard) askings end slots (Text text ∷ parts)
+ending_reply p heard text askings end slots parts sound stands on fits =
+    let ended = ended_at p heard (p.before + p.sent) sound.0 sound.2 (stands_here p sound.0.pacing stands) refl in
+    let over = over_fits p heard askings end slots parts sound.0 ended on fits in
+    record {
+      from = fits.from;
+      later = fits.later;
+      stand = text_at p p.keep heard (min (first_slots p.plan (heard + 1 - p.start)) p.keep) (plays_of askings) end slots text parts
+          (at_here p heard sound.0 stands) refl fits.later.starts (due_far p heard end sound.0 on) over.stand;
+    }
+
+-- where a reply goes, and what of it is held up then
+pub record Replying (state : State) (goes : Bool) (heard : ℕ) (text : List ℕ) : Type 0 where
+  pub after : Option ℕ
+  pub held : IsHeld after (sends_in (if goes then settled state else state)) (if goes then false else true) heard
+  pub goes_on : GoesTo (sends_in state) (sends_in (if goes then settled state else state)) heard heard (Some heard) after [] []
+      (if goes then Text text ∷ [] else [])
+
+pub replying : (state : State) (goes : Bool) (heard : ℕ) (text : List ℕ) → IsSound (sends_in state) true heard → is_between state ≡ goes
+    → Replying state goes heard text
+replying Init true heard text sound is = record {
+  after = None;
+  held = refl;
+  goes_on = record { later = omega arith; rest = λ askings end more rest on fits. idle_reply heard text askings end more rest fits };
+}
+replying (Ready setup paused) true heard text sound is = record {
+  after = None;
+  held = refl;
+  goes_on = record { later = omega arith; rest = λ askings end more rest on fits. idle_reply heard text askings end more rest fits };
+}
+replying (Playing setup play) true heard text sound is = record {
+  after = None;
+  held = refl;
+  goes_on = record { later = omega arith; rest = λ askings end more rest on fits. going_reply play.pacer heard text askings end more rest sound is on fits };
+}
+replying (Stopping setup stop) true heard text sound is = record {
+  after = None;
+  held = refl;
+  goes_on = record { later = omega arith; rest = λ askings end more rest on fits. ending_reply stop.pacer heard text askings end more rest sound is on fits };
+}
+replying Init false heard text sound is = absurd (true≢false is)
+replying (Ready setup paused) false heard text sound is = absurd (true≢false is)
+replying (Playing setup play) false heard text sound is = record {
+  after = Some heard;
+  held = (refl, held_here play.pacer heard sound.0 is);
+  goes_on = goes_same (Going play.pacer) heard (Some heard);
+}
+replying (Stopping setup stop) false heard text sound is = record {
+  after = Some heard;
+  held = (refl, held_here stop.pacer heard sound.0 is);
+  goes_on = goes_same (Ending stop.pacer) heard (Some heard);
+}
+
+-- ---- a slot
+
+pub record SlotMoves (state : State) (waits : Bool) (heard slot : ℕ) (text : List ℕ) (pending : Option ℕ) : Type 0 where
+  pub after : Option ℕ
+  pub held : IsHeld after (sends_in (state_after waits state slot)) (waits_after waits state slot) slot
+  pub goes_on : GoesTo (sends_in state) (sends_in (state_after waits state slot)) heard slot pending after [] [] (parts_of waits state text slot)
+
+going_slot : (p : Pacing) (heard slot : ℕ) (waits : Bool) (text : List ℕ) (pending : Option ℕ) → IsSound (Going p) waits heard → heard < slot
+    → IsHeld pending (Going p) waits heard
+    → GoesTo (Going p) (Going (sent_through slot p)) heard slot pending (after_slot (stands_at_boundary (stepped true slot p)) pending) [] []
+    (parts_in waits (stands_at_boundary (stepped true slot p)) p slot text)
+going_slot p heard slot waits text pending sound later held = record {
+  later = omega (arith, later);
+  rest = λ askings end more rest on fits. record {
+    from = from_lower heard slot more (omega (arith, later)) fits.from;
+    later = later_lower heard slot (plays_of askings) (omega (arith, later)) fits.later;
+    stand = slot_at p (kept_in askings (total_bytes p.plan)) pending heard slot waits (stands_at_boundary (stepped true slot p)) text (plays_of askings) end more rest
+        sound.0 later on refl held (λ taken less. due_going p taken (kept_in askings (total_bytes p.plan)) sound.0.pacing sound.1 less) fits.later fits.stand;
+  };
+}
+
+going_held : (p : Pacing) (heard slot : ℕ) (waits between : Bool) (pending : Option ℕ) → IsOnTime p heard → heard < slot
+    → stands_at_boundary (stepped true slot p) ≡ between → IsHeld pending (Going p) waits heard
+    → IsHeld (after_slot between pending) (Going (sent_through slot p)) (if waits && between then false else waits) slot
+going_held p heard slot true between None on later stands held = absurd (true≢false held)
+going_held p heard slot false between None on later stands held = refl
+going_held p heard slot false between (Some taken) on later stands held = absurd (true≢false (sym held.0))
+going_held p heard slot true true (Some taken) on later stands held = refl
+going_held p heard slot true false (Some taken) on later stands held = (refl, still_held p taken heard slot on.pacing later held.1 stands)
+
+-- the rest of a play that was halted
+abbrev ends_in : Bool → Pacing → Sends
+ends_in between p = if between then Idle else Ending p
+
+ending_held : (p : Pacing) (heard slot : ℕ) (between : Bool) (pending : Option ℕ) → IsOnTime p heard → heard < slot
+    → stands_at_boundary (stepped true slot p) ≡ between → IsHeld pending (Ending p) true heard
+    → IsHeld (after_slot between pending) (ends_in between (sent_through slot p)) (if between then false else true) slot
+ending_held p heard slot between None on later stands held = absurd (true≢false held)
+ending_held p heard slot true (Some taken) on later stands held = refl
+ending_held p heard slot false (Some taken) on later stands held = (refl, still_held p taken heard slot on.pacing later held.1 stands)
+
+sent_after : (p : Pacing) (slot : ℕ) → IsPacing p → p.before + p.sent ≤ p.before + (stepped true slot p).sent
+sent_after p slot is =
+    let inside : p.before + p.sent ≤ length (framed p.pieces) = omega (arith, is.whole, is.most, is.due, is.sent) in
+    let next = boundary-from p.pieces (p.before + p.sent) inside in
+    omega (arith, next.after, is.sent)
+
+as_going : (p : Pacing) (heard : ℕ) (pending : Option ℕ) → IsHeld pending (Ending p) true heard → IsHeld pending (Going p) true heard
+as_going p heard None held = held
+as_going p heard (Some taken) held = held
+
+ends_same : (between : Bool) (slot : ℕ) (p : Pacing) → IsPacing p → stands_at_boundary (stepped true slot p) ≡ between
+    → (if between then Idle else Ending (stepped true slot p)) ≡ ends_in between (sent_through slot p)
+ends_same true slot p is stands = refl
+ends_same false slot p is stands = ap Ending (slot_is true false slot p is stands)
+
+-- it ends at the boundary that it reaches
+ended_through : (p : Pacing) (heard slot : ℕ) → IsSound (Ending p) true heard → heard < slot → stands_at_boundary (stepped true slot p) ≡ true
+    → (sent_through slot p).sent ≡ (sent_through slot p).keep
+ended_through p heard slot sound later stands =
+    let on : IsOnTime p heard = sound.0 in
+    let through : IsOnTime (sent_through slot p) slot = through_time p heard slot on later in
+    let one : Pacing = stepped true slot p in
+    let boundary : IsBoundary p.pieces (p.before + one.sent) = stands_here one (stopped_is slot p on.pacing) stands in
+    let least : p.before + p.keep ≤ p.before + one.sent = sound.2 (p.before + one.sent) boundary (sent_after p slot on.pacing) in
+    omega (arith, least, through.pacing.due)
+
+ending_stand : (p : Pacing) (heard slot : ℕ) (between : Bool) (askings : List Asking) (end : ℕ) (more : List ℕ) (rest : List Part) (after : Option ℕ)
+    → IsSound (Ending p) true heard → heard < slot → stands_at_boundary (stepped true slot p) ≡ between → slot ≤ end
+    → (between ≡ true → after ≡ None)
+    → Fits (ends_in between (sent_through slot p)) slot after askings end more rest → Fits (Ending (sent_through slot p)) slot after askings end more rest
+ending_stand p heard slot false askings end more rest after sound later stands ends none fits = fits
+ending_stand p heard slot true askings end more rest after sound later stands ends none fits =
+    subst (λ a. Fits (Ending (sent_through slot p)) slot a askings end more rest) (sym (none refl))
+    (over_fits (sent_through slot p) slot askings end more rest (through_time p heard slot sound.0 later) (ended_through p heard slot sound later stands) ends
+    (subst (λ a. Fits Idle slot a askings end more rest) (none refl) fits))
+
+after_none : (between : Bool) (pending : Option ℕ) → between ≡ true → after_slot between pending ≡ None
+after_none between None is = refl
+after_none between (Some slot) is = ap (λ b. if b then None else Some slot) is
+
+ending_slot : (p : Pacing) (heard slot : ℕ) (text : List ℕ) (pending : Option ℕ) → IsSound (Ending p) true heard → heard < slot
+    → IsHeld pending (Ending p) true heard
+    → GoesTo (Ending p) (ends_in (stands_at_boundary (stepped true slot p)) (sent_through slot p)) heard slot pending
+    (after_slot (stands_at_boundary (stepped true slot p)) pending) [] [] (parts_in true (stands_at_boundary (stepped true slot p)) p slot text)
+ending_slot p heard slot text pending sound later held =
+    let between : Bool = stands_at_boundary (stepped true slot p) in
+    let after : Option ℕ = after_slot between pending in
+    record {
+      later = omega (arith, later);
+      rest = λ askings end more rest on fits.
+          let whole = ending_stand p heard slot between askings end more rest after sound later refl on (after_none between pending) fits in
+          record {
+            from = from_lower heard slot more (omega (arith, later)) fits.from;
+            later = later_lower heard slot (plays_of askings) (omega (arith, later)) fits.later;
+            stand = slot_at p p.keep pending heard slot true between text (plays_of askings) end more rest sound.0 later on refl (as_going p heard pending held)
+                (λ taken less. refl) fits.later whole.stand;
+          };
+    }
+
+pub slot_moves : (state : State) (waits : Bool) (heard slot : ℕ) (text : List ℕ) (pending : Option ℕ) → is_sending state ≡ true
+    → IsSound (sends_in state) waits heard → heard < slot → IsHeld pending (sends_in state) waits heard → SlotMoves state waits heard slot text pending
+slot_moves Init waits heard slot text pending sending sound later held = absurd (true≢false (sym sending))
+slot_moves (Ready setup paused) waits heard slot text pending sending sound later held = absurd (true≢false (sym sending))
+slot_moves (Playing setup play) waits heard slot text pending sending sound later held =
+    let p : Pacing = play.pacer in
+    let one : Pacing = stepped true slot p in
+    let between : Bool = stands_at_boundary one in
+    let sends : sends_in (state_after waits (Playing setup play) slot) ≡ Going (sent_through slot p) =
+    going_cases waits between setup play (stepped false slot one) one (stepped false slot p) ∙ ap Going (slot_is waits between slot p sound.0.pacing refl) in
+    record {
+      after = after_slot between pending;
+      held = subst (λ s. IsHeld (after_slot between pending) s (waits_after waits (Playing setup play) slot) slot) (sym sends)
+          (going_held p heard slot waits between pending sound.0 later refl held);
+      goes_on = subst (λ s. GoesTo (Going p) s heard slot pending (after_slot between pending) [] [] (parts_of waits (Playing setup play) text slot)) (sym sends)
+          (going_slot p heard slot waits text pending sound later held);
+    }
+slot_moves (Stopping setup stop) false heard slot text pending sending sound later held = absurd (true≢false (sym sound.1))
+slot_moves (Stopping setup stop) true heard slot text pending sending sound later held =
+    let p : Pacing = stop.pacer in
+    let one : Pacing = stepped true slot p in
+    let between : Bool = stands_at_boundary one in
+    let sends : sends_in (state_after true (Stopping setup stop) slot) ≡ ends_in between (sent_through slot p) =
+    ending_cases between setup stop (stepped false slot one) one ∙ ends_same between slot p sound.0.pacing refl in
+    record {
+      after = after_slot between pending;
+      held = subst (λ s. IsHeld (after_slot between pending) s (waits_after true (Stopping setup stop) slot) slot) (sym sends)
+          (ending_held p heard slot between pending sound.0 later refl held);
+      goes_on = subst (λ s. GoesTo (Ending p) s heard slot pending (after_slot between pending) [] [] (parts_of true (Stopping setup stop) text slot)) (sym sends)
+          (ending_slot p heard slot text pending sound later held);
+    }

@@ -1,0 +1,175 @@
+-- The requests that were taken up are those of the input, in order.
+use Rattle.std.proofs.Common.{◌≡◌, ◌⊎◌, ℕ, ◌<◌, ◌++◌, ◌||◌, ◌==◌, if◌then◌else◌, Bool, true, false, List, [], ◌∷◌, Ok, Err, length, take, drop, map, get_or, refl, ap, sym, ◌∙◌, subst, inl, inr, arith}
+use Rattle.std.proofs.lemmas.List.{append-nil, append_assoc, get_or-take}
+use Rattle.vod_base.specs.Links.{Doing, HeardBytes, HeardEnd, HeardSlot, Sent}
+use Rattle.interleave.specs.Heads.{is_line_end}
+use Rattle.interleave.specs.Pieces.{IsFirst, StartsRequest}
+use Rattle.interleave.specs.Streams.{AreCut, IsPieceLength, WholeRequest}
+use Rattle.interleave.specs.declared.pieces.Step.TheVariants.{More, Request}
+use Rattle.interleave.specs.declared.pieces.DemuxFault.TheVariants.{HeadTooLong as LongHead, BodyTooLong as LongBody}
+use Rattle.interleave.proofs.Streams.{cut_grows, tells_none}
+use Rattle.conn.specs.Rounds.{Comes, IsStopped, Round}
+use Rattle.conn.specs.Turns.{Outcome, Part, Stage, stage}
+use Rattle.conn.specs.declared.reports.ConnEnd.{ConnEnd}
+use Rattle.conn.specs.declared.reports.ConnEnd.TheVariants.{Ended, TornDown, LinkFault, TooMuchInput, HeadTooLong, BodyTooLong, TurnsSpent, NoMemory}
+use Rattle.transcript.specs.Courses.{first_stage}
+use Rattle.transcript.specs.Cuttings.{Beginning, Cutting, Hearing, IsDone, TakesUp, hearings_in, takings_hearings}
+use Rattle.transcript.specs.Requests.{AreTaken, AwaitsReply, bytes_in, is_other, message_of, requests_in, rounds_input}
+use Rattle.transcript.proofs.Paths.{GoesAll, IsOver, AnEnd, ABlock, Over, Piece, Taken, over_piece, path_of, pieces_hearings}
+
+append_by : (other : Bool) (x : List ℕ) (all xs ys : List (List ℕ)) → all ≡ xs ++ ys → (if other then all else x ∷ all) ≡ (if other then xs else x ∷ xs) ++ ys
+append_by true x all xs ys same = same
+append_by false x all xs ys same = ap (λ rs. x ∷ rs) same
+
+requests-append : (xs ys : List (List ℕ)) → requests_in (xs ++ ys) ≡ requests_in xs ++ requests_in ys
+requests-append [] ys = refl
+requests-append (x ∷ xs) ys = append_by (is_other x) x (requests_in (xs ++ ys)) (requests_in xs) (requests_in ys) (requests-append xs ys)
+
+-- a request begins with another byte than CR, LF and `$`
+starts_request : (input : List ℕ) (n : ℕ) → StartsRequest input → 0 < n → is_other (take n input) ≡ false
+starts_request input n starts some =
+    let same : get_or (take n input) 0 0 ≡ get_or input 0 0 = get_or-take n input 0 0 some in
+    ap (λ b. is_line_end b || (b == 36)) same ∙ ap (λ b. b || (get_or input 0 0 == 36)) starts.1 ∙ starts.2
+
+over_other : (input : List ℕ) (n : ℕ) → IsOver input n → is_other (take n input) ≡ true
+over_other input n (AnEnd one some end) =
+    let same : get_or (take n input) 0 0 ≡ get_or input 0 0 = get_or-take n input 0 0 (omega (arith, one)) in
+    ap (λ b. is_line_end b || (b == 36)) same ∙ ap (λ b. b || (get_or input 0 0 == 36)) end
+over_other input n (ABlock starts four size inside) =
+    let same : get_or (take n input) 0 0 ≡ 36 = get_or-take n input 0 0 (omega (arith, size)) ∙ starts.1 in
+    ap (λ b. is_line_end b || (b == 36)) same
+
+-- pieces that are taken up are those of the input
+record Cuts (old new : Stage) (messages : List (List ℕ)) : Type 0 where
+  pieces : List (List ℕ)
+  cut : AreCut old.input pieces new.input
+  requests : requests_in pieces ≡ messages
+
+goes_cut : (old new : Stage) (pieces : List Piece) → GoesAll old pieces new → Cuts old new (map message_of (pieces_hearings pieces))
+goes_cut old new [] goes = record { pieces = []; cut = ap (λ (s : Stage). s.input) (sym goes); requests = refl }
+goes_cut old new (Over n ∷ pieces) goes =
+    let mid : Stage = goes.0 in
+    let rest = goes_cut mid new pieces goes.1.1 in
+    let passing = goes.1.0 in
+    record {
+      pieces = take n old.input ∷ rest.pieces;
+      cut = (
+        n,
+        (
+          over_piece old.input n passing.over,
+          refl,
+          subst (λ input. AreCut input rest.pieces new.input) (ap (λ (s : Stage). s.input) passing.new_is) rest.cut,
+        ),
+      );
+      requests = ap (λ b. if b then requests_in rest.pieces else take n old.input ∷ requests_in rest.pieces) (over_other old.input n passing.over) ∙ rest.requests;
+    }
+goes_cut old new (Taken turn ∷ pieces) goes =
+    let mid : Stage = goes.0 in
+    let rest = goes_cut mid new pieces goes.1.1 in
+    let taken = goes.1.0 in
+    let n : ℕ = length turn.message in
+    let some : 0 < n = omega (arith, taken.next.first.1.total_is, taken.next.first.1.is_head.some) in
+    record {
+      pieces = take n old.input ∷ rest.pieces;
+      cut = (
+        n,
+        (
+          WholeRequest taken.next.first.0 taken.next.first.1 taken.next.first.2,
+          refl,
+          subst (λ input. AreCut input rest.pieces new.input) (ap (λ (s : Stage). s.input) taken.new_is) rest.cut,
+        ),
+      );
+      requests = ap (λ b. if b then requests_in rest.pieces else take n old.input ∷ requests_in rest.pieces)
+          (starts_request old.input n taken.next.first.0 some)
+          ∙ ap (λ rs. take n old.input ∷ rs) rest.requests ∙ ap (λ m. m ∷ map message_of (pieces_hearings pieces)) (sym taken.next.message_is);
+    }
+
+cut_then : (input : List ℕ) (ps qs : List (List ℕ)) (rest end : List ℕ) → AreCut input ps rest → AreCut rest qs end → AreCut input (ps ++ qs) end
+cut_then input [] qs rest end cut after = subst (λ w. AreCut w qs end) (sym cut) after
+cut_then input (p ∷ ps) qs rest end cut after = (cut.0, (cut.1.0, cut.1.1, cut_then (drop cut.0 input) ps qs rest end cut.1.2 after))
+
+comes_input : (old opened : Stage) (event : Doing) (due : List Part) (halt : Outcome) → Comes old event due halt opened
+    → opened.input ≡ old.input ++ bytes_in event
+comes_input old opened (HeardBytes bytes) due halt comes = ap (λ (s : Stage). s.input) comes.3
+comes_input old opened (HeardSlot slot) due halt comes = comes.0 ∙ sym (append-nil old.input)
+comes_input old opened HeardEnd due halt comes = absurd comes
+comes_input old opened (Sent byte) due halt comes = absurd comes
+
+hearings_map : (xs ys : List Hearing) → map message_of (xs ++ ys) ≡ map message_of xs ++ map message_of ys
+hearings_map [] ys = refl
+hearings_map (x ∷ xs) ys = ap (λ ms. x.message ∷ ms) (hearings_map xs ys)
+
+record CutsAll (heard : List ℕ) (new : Stage) (messages : List (List ℕ)) : Type 0 where
+  pieces : List (List ℕ)
+  cut : AreCut heard pieces new.input
+  requests : requests_in pieces ≡ messages
+
+rounds_cut : (old new : Stage) (rounds : List Round) (takes : TakesUp old rounds new) (heard : List ℕ) (pieces : List (List ℕ)) (messages : List (List ℕ))
+    → AreCut heard pieces old.input → requests_in pieces ≡ messages
+    → CutsAll (heard ++ rounds_input rounds) new (messages ++ map message_of (hearings_in old rounds new takes))
+rounds_cut old new [] takes heard pieces messages cut requests = record {
+  pieces = pieces;
+  cut = subst (λ w. AreCut w pieces new.input) (sym (append-nil heard)) (subst (AreCut heard pieces) (ap (λ (s : Stage). s.input) (sym takes)) cut);
+  requests = requests ∙ sym (append-nil messages);
+}
+rounds_cut old new (round ∷ rounds) takes heard pieces messages cut requests =
+    let mid : Stage = takes.0 in
+    let runs = takes.1.0 in
+    let opened : Stage = runs.opened in
+    let bytes : List ℕ = bytes_in round.event in
+    let grown : AreCut (heard ++ bytes) pieces opened.input =
+    subst (AreCut (heard ++ bytes) pieces) (sym (comes_input old opened round.event round.due round.halt runs.comes)) (cut_grows heard bytes pieces old.input cut) in
+    let path = path_of opened mid round.takings runs.takes in
+    let cuts = goes_cut opened mid path.pieces path.goes in
+    let more : List (List ℕ) = map message_of (takings_hearings opened round.takings mid runs.takes) in
+    let these : requests_in (pieces ++ cuts.pieces) ≡ messages ++ more =
+    requests-append pieces cuts.pieces ∙ ap (λ rs. rs ++ requests_in cuts.pieces) requests
+    ∙ ap (λ rs. messages ++ rs) (cuts.requests ∙ ap (λ hs. map message_of hs) path.hearings_are) in
+    let rest = rounds_cut mid new rounds takes.1.2 (heard ++ bytes) (pieces ++ cuts.pieces) (messages ++ more)
+    (cut_then (heard ++ bytes) pieces cuts.pieces opened.input mid.input grown cuts.cut) these in
+    record {
+      pieces = rest.pieces;
+      cut = subst (λ w. AreCut w rest.pieces new.input) (append_assoc heard bytes (rounds_input rounds)) rest.cut;
+      requests = rest.requests ∙ append_assoc messages more (map message_of (hearings_in mid rounds new takes.1.2))
+          ∙ ap (λ rs. messages ++ rs)
+          (sym (hearings_map (takings_hearings opened round.takings mid runs.takes) (hearings_in mid rounds new takes.1.2)));
+    }
+
+-- what isn't taken up isn't whole, or waits for a reply
+abbrev IsRest : Stage → Type 0
+IsRest stage = ((n : ℕ) → IsPieceLength stage.input n → ⊥) ⊎ (AwaitsReply stage ⊎ (stage.session.torn ≡ true))
+
+idle_rest : (stage : Stage) → (IsFirst stage.input (Ok More) ⊎ ((n : ℕ) × (IsFirst stage.input (Ok (Request n)) × (stage.session.waits ≡ true))))
+    → IsRest stage
+idle_rest stage (inl more) = inl (tells_none stage.input (Ok More) more)
+idle_rest stage (inr request) = inr (inl (record { length = request.0; first = request.1.0; waits = request.1.1 }))
+
+stopped_rest : (stage : Stage) (end : ConnEnd) → IsStopped end stage → IsRest stage
+stopped_rest stage Ended stopped = absurd stopped
+stopped_rest stage TornDown stopped = inr (inr stopped)
+stopped_rest stage LinkFault stopped = absurd stopped
+stopped_rest stage TooMuchInput stopped = absurd stopped
+stopped_rest stage HeadTooLong stopped = inl (tells_none stage.input (Err LongHead) stopped.1)
+stopped_rest stage BodyTooLong stopped = inl (tells_none stage.input (Err LongBody) stopped.1)
+stopped_rest stage TurnsSpent stopped = absurd stopped
+stopped_rest stage NoMemory stopped = absurd stopped
+
+done_rest : (stage : Stage) → IsDone stage → IsRest stage
+done_rest stage (inl idle) = idle_rest stage idle.waits
+done_rest stage (inr stopped) = stopped_rest stage stopped.0 stopped.1
+
+last_done : (old new : Stage) (rounds : List Round) → IsDone old → TakesUp old rounds new → IsDone new
+last_done old new [] done takes = subst IsDone (sym takes) done
+last_done old new (round ∷ rounds) done takes = last_done takes.0 new rounds takes.1.1 takes.1.2
+
+pub requests_taken : (beginning : Beginning) (cutting : Cutting beginning) → AreTaken beginning cutting
+requests_taken beginning cutting =
+    let first : Stage = first_stage beginning.films beginning.settings beginning.words in
+    let cuts = rounds_cut first cutting.last cutting.rounds cutting.takes [] [] [] refl refl in
+    let begins : IsDone first = inl (record { torn = refl; waits = inl (inl refl) }) in
+    record {
+      pieces = cuts.pieces;
+      cut = cuts.cut;
+      requests = cuts.requests;
+      rest = done_rest cutting.last (last_done first cutting.last cutting.rounds begins cutting.takes);
+    }

@@ -1,0 +1,356 @@
+-- However the same bytes between the same slots are cut, a connection sends the same.
+use Rattle.std.proofs.Common.{◌≡◌, ℕ, ◌++◌, Bool, true, false, List, [], ◌∷◌, map, refl, ap, sym, ◌∙◌, subst, inl, inr}
+use Rattle.std.proofs.lemmas.Bool.{true≢false}
+use Rattle.std.proofs.lemmas.List.{append-nil, append_assoc}
+use Rattle.vod_base.specs.Links.{Doing, HeardBytes, HeardEnd, HeardSlot, Sent}
+use Rattle.session.specs.Ranges.{AreFilms}
+use Rattle.conn.specs.Rounds.{Comes, Round, Runs, RunsAll, IsStopped, rounds_outcomes, takings_bytes, takings_outcomes}
+use Rattle.conn.specs.Turns.{HasStepped, Outcome, Part, Stage, parts_bytes, stage}
+use Rattle.conn.specs.declared.reports.ConnEnd.{ConnEnd}
+use Rattle.transcript.specs.Courses.{first_stage, rounds_bytes}
+use Rattle.transcript.specs.Cuttings.{AllLackAlike, AreCutsOfOne, AreSame, AreSameAnswers, Beginning, Cutting, Hearing, IsDone, TakesUp, all_heard, answer_in, answers_in, heard_in, hearings_in, takings_hearings}
+use Rattle.transcript.proofs.Once.{stepped_films, steps_same}
+use Rattle.transcript.proofs.Paths.{GoesAll, Path, Piece, ends_same, goes_films, goes_grow, join_answers, join_bytes, join_goes, join_hearings, longer, path_of, pieces_answers, pieces_bytes, pieces_hearings}
+
+-- a slot, and the bytes that came after it
+record Leg : Type 0 where
+  slot : ℕ
+  due : List Part
+  halt : Outcome
+  opened : Stage
+  bytes : List ℕ
+  pieces : List Piece
+  until : Stage
+
+record IsLeg (old : Stage) (leg : Leg) : Type 0 where
+  stepped : HasStepped old.session leg.slot leg.due leg.halt leg.opened.session
+  input : leg.opened.input ≡ old.input
+  goes : GoesAll (longer leg.opened leg.bytes) leg.pieces leg.until
+  done : IsDone leg.until
+
+abbrev LegsAll : Stage → List Leg → Stage → Type 0
+LegsAll old [] new = new ≡ old
+LegsAll old (leg ∷ legs) new = IsLeg old leg × LegsAll leg.until legs new
+
+abbrev bytes_heard : List ℕ → List Doing
+bytes_heard bytes = map (λ byte. HeardBytes (byte ∷ [])) bytes
+
+abbrev legs_heard : List Leg → List Doing
+legs_heard [] = []
+legs_heard (leg ∷ legs) = HeardSlot leg.slot ∷ (bytes_heard leg.bytes ++ legs_heard legs)
+
+abbrev legs_bytes : List Leg → List ℕ
+legs_bytes [] = []
+legs_bytes (leg ∷ legs) = parts_bytes leg.due ++ (pieces_bytes leg.pieces ++ legs_bytes legs)
+
+abbrev legs_answers : List Leg → List Outcome
+legs_answers [] = []
+legs_answers (leg ∷ legs) = answer_in leg.halt ++ (pieces_answers leg.pieces ++ legs_answers legs)
+
+abbrev legs_hearings : List Leg → List Hearing
+legs_hearings [] = []
+legs_hearings (leg ∷ legs) = pieces_hearings leg.pieces ++ legs_hearings legs
+
+-- a course from a place on: the bytes that came before the next slot, and then slot after slot
+record Split (base new : Stage) (heard : List Doing) (bytes : List ℕ) (answers : List Outcome) (hearings : List Hearing) : Type 0 where
+  first : List ℕ
+  pieces : List Piece
+  until : Stage
+  legs : List Leg
+  goes : GoesAll (longer base first) pieces until
+  done : IsDone until
+  legs_are : LegsAll until legs new
+  heard_is : heard ≡ bytes_heard first ++ legs_heard legs
+  bytes_are : bytes ≡ pieces_bytes pieces ++ legs_bytes legs
+  answers_are : answers ≡ pieces_answers pieces ++ legs_answers legs
+  hearings_are : hearings ≡ pieces_hearings pieces ++ legs_hearings legs
+
+split_as : (base new : Stage) (heard heard' : List Doing) (bytes bytes' : List ℕ) (answers answers' : List Outcome) (hearings hearings' : List Hearing)
+    → heard' ≡ heard → bytes' ≡ bytes → answers' ≡ answers → hearings' ≡ hearings → Split base new heard bytes answers hearings
+    → Split base new heard' bytes' answers' hearings'
+split_as base new heard heard' bytes bytes' answers answers' hearings hearings' one two three four split = record {
+  first = split.first;
+  pieces = split.pieces;
+  until = split.until;
+  legs = split.legs;
+  goes = split.goes;
+  done = split.done;
+  legs_are = split.legs_are;
+  heard_is = one ∙ split.heard_is;
+  bytes_are = two ∙ split.bytes_are;
+  answers_are = three ∙ split.answers_are;
+  hearings_are = four ∙ split.hearings_are;
+}
+
+heard-append : (xs ys : List ℕ) → bytes_heard (xs ++ ys) ≡ bytes_heard xs ++ bytes_heard ys
+heard-append [] ys = refl
+heard-append (x ∷ xs) ys = ap (λ ds. HeardBytes (x ∷ []) ∷ ds) (heard-append xs ys)
+
+answers-append : (xs ys : List Outcome) → answers_in (xs ++ ys) ≡ answers_in xs ++ answers_in ys
+answers-append [] ys = refl
+answers-append (x ∷ xs) ys =
+    ap (λ os. answer_in x ++ os) (answers-append xs ys) ∙ sym (append_assoc (answer_in x) (answers_in xs) (answers_in ys))
+
+-- what comes after an event: the course from there, for each place that it begins at
+record Later (mid new : Stage) (heard : List Doing) (bytes : List ℕ) (answers : List Outcome) (hearings : List Hearing) : Type 0 where
+  each : (base : Stage) (first : List ℕ) (pieces : List Piece) → GoesAll (longer base first) pieces mid
+      → Split base new (bytes_heard first ++ heard) (pieces_bytes pieces ++ bytes) (pieces_answers pieces ++ answers) (pieces_hearings pieces ++ hearings)
+
+-- bytes came
+bytes_split : (base cur opened mid new : Stage) (first bytes : List ℕ) (pieces : List Piece) (heard : List Doing) (sent taken : List ℕ)
+    (answers more : List Outcome) (hearings also : List Hearing) → GoesAll (longer base first) pieces cur → opened ≡ longer cur bytes
+    → Path opened mid taken more also → Later mid new heard sent answers hearings
+    → Split base new (bytes_heard first ++ (bytes_heard bytes ++ heard)) (pieces_bytes pieces ++ (taken ++ sent))
+    (pieces_answers pieces ++ (more ++ answers)) (pieces_hearings pieces ++ (also ++ hearings))
+bytes_split base cur opened mid new first bytes pieces heard sent taken answers more hearings also goes comes path later =
+    let ps : List Piece = path.pieces in
+    let front : GoesAll (longer base (first ++ bytes)) pieces opened =
+    subst (λ s. GoesAll s pieces opened) (ap (λ input. stage base.session input) (append_assoc base.input first bytes))
+    (subst (GoesAll (longer (longer base first) bytes) pieces) (sym comes) (goes_grow (longer base first) cur pieces bytes goes)) in
+    let all : GoesAll (longer base (first ++ bytes)) (pieces ++ ps) mid = join_goes (longer base (first ++ bytes)) opened mid pieces ps front path.goes in
+    split_as base new (bytes_heard (first ++ bytes) ++ heard) (bytes_heard first ++ (bytes_heard bytes ++ heard))
+    (pieces_bytes (pieces ++ ps) ++ sent) (pieces_bytes pieces ++ (taken ++ sent))
+    (pieces_answers (pieces ++ ps) ++ answers) (pieces_answers pieces ++ (more ++ answers))
+    (pieces_hearings (pieces ++ ps) ++ hearings) (pieces_hearings pieces ++ (also ++ hearings))
+    (sym (append_assoc (bytes_heard first) (bytes_heard bytes) heard) ∙ ap (λ ds. ds ++ heard) (sym (heard-append first bytes)))
+    (sym (append_assoc (pieces_bytes pieces) taken sent) ∙ ap (λ bs. (pieces_bytes pieces ++ bs) ++ sent) (sym path.bytes_are)
+    ∙ ap (λ bs. bs ++ sent) (sym (join_bytes pieces ps)))
+    (sym (append_assoc (pieces_answers pieces) more answers) ∙ ap (λ os. (pieces_answers pieces ++ os) ++ answers) (sym path.answers_are)
+    ∙ ap (λ os. os ++ answers) (sym (join_answers pieces ps)))
+    (sym (append_assoc (pieces_hearings pieces) also hearings) ∙ ap (λ hs. (pieces_hearings pieces ++ hs) ++ hearings) (sym path.hearings_are)
+    ∙ ap (λ hs. hs ++ hearings) (sym (join_hearings pieces ps)))
+    (later.each base (first ++ bytes) (pieces ++ ps) all)
+
+-- a slot came
+slot_split : (base cur opened mid new : Stage) (first : List ℕ) (slot : ℕ) (due : List Part) (halt : Outcome) (pieces : List Piece) (heard : List Doing)
+    (sent taken : List ℕ) (answers more : List Outcome) (hearings also : List Hearing) → GoesAll (longer base first) pieces cur → IsDone cur
+    → opened.input ≡ cur.input → HasStepped cur.session slot due halt opened.session → Path opened mid taken more also
+    → Later mid new heard sent answers hearings
+    → Split base new (bytes_heard first ++ (HeardSlot slot ∷ heard)) (pieces_bytes pieces ++ (parts_bytes due ++ (taken ++ sent)))
+    (pieces_answers pieces ++ (answer_in halt ++ (more ++ answers))) (pieces_hearings pieces ++ (also ++ hearings))
+slot_split base cur opened mid new first slot due halt pieces heard sent taken answers more hearings also goes done input stepped path later =
+    let ps : List Piece = path.pieces in
+    let there : GoesAll (longer opened []) ps mid =
+    subst (λ s. GoesAll s ps mid) (ap (λ i. stage opened.session i) (sym (append-nil opened.input))) path.goes in
+    let rest = later.each opened [] ps there in
+    let leg : Leg = record { slot = slot; due = due; halt = halt; opened = opened; bytes = rest.first; pieces = rest.pieces; until = rest.until } in
+    record {
+      first = first;
+      pieces = pieces;
+      until = cur;
+      legs = leg ∷ rest.legs;
+      goes = goes;
+      done = done;
+      legs_are = (record { stepped = stepped; input = input; goes = rest.goes; done = rest.done }, rest.legs_are);
+      heard_is = ap (λ ds. bytes_heard first ++ (HeardSlot slot ∷ ds)) rest.heard_is;
+      bytes_are = ap (λ bs. pieces_bytes pieces ++ (parts_bytes due ++ bs)) (ap (λ bs. bs ++ sent) (sym path.bytes_are) ∙ rest.bytes_are);
+      answers_are = ap (λ os. pieces_answers pieces ++ (answer_in halt ++ os)) (ap (λ os. os ++ answers) (sym path.answers_are) ∙ rest.answers_are);
+      hearings_are = ap (λ hs. pieces_hearings pieces ++ hs) (ap (λ hs. hs ++ hearings) (sym path.hearings_are) ∙ rest.hearings_are);
+    }
+
+event_split : (base cur opened mid new : Stage) (first : List ℕ) (event : Doing) (due : List Part) (halt : Outcome) (pieces : List Piece)
+    (heard : List Doing) (sent taken : List ℕ) (answers more : List Outcome) (hearings also : List Hearing) → GoesAll (longer base first) pieces cur
+    → IsDone cur → Comes cur event due halt opened → Path opened mid taken more also → Later mid new heard sent answers hearings
+    → Split base new (bytes_heard first ++ (heard_in event ++ heard)) (pieces_bytes pieces ++ (parts_bytes due ++ (taken ++ sent)))
+    (pieces_answers pieces ++ (answer_in halt ++ (more ++ answers))) (pieces_hearings pieces ++ (also ++ hearings))
+event_split base cur opened mid new first (HeardBytes bytes) due halt pieces heard sent taken answers more hearings also goes done comes path later =
+    subst (λ ps. Split base new (bytes_heard first ++ (bytes_heard bytes ++ heard)) (pieces_bytes pieces ++ (parts_bytes ps ++ (taken ++ sent)))
+    (pieces_answers pieces ++ (answer_in halt ++ (more ++ answers))) (pieces_hearings pieces ++ (also ++ hearings))) (sym comes.0)
+    (subst (λ h. Split base new (bytes_heard first ++ (bytes_heard bytes ++ heard)) (pieces_bytes pieces ++ (taken ++ sent))
+    (pieces_answers pieces ++ (answer_in h ++ (more ++ answers))) (pieces_hearings pieces ++ (also ++ hearings))) (sym comes.1)
+    (bytes_split base cur opened mid new first bytes pieces heard sent taken answers more hearings also goes comes.3 path later))
+event_split base cur opened mid new first (HeardSlot slot) due halt pieces heard sent taken answers more hearings also goes done comes path later =
+    slot_split base cur opened mid new first slot due halt pieces heard sent taken answers more hearings also goes done comes.0 comes.1 path later
+event_split base cur opened mid new first HeardEnd due halt pieces heard sent taken answers more hearings also goes done comes path later = absurd comes
+event_split base cur opened mid new first (Sent byte) due halt pieces heard sent taken answers more hearings also goes done comes path later = absurd comes
+
+-- event after event
+rounds_split : (cur new : Stage) (rounds : List Round) (takes : TakesUp cur rounds new) → IsDone cur
+    → Later cur new (all_heard rounds) (rounds_bytes rounds) (answers_in (rounds_outcomes rounds)) (hearings_in cur rounds new takes)
+rounds_split cur new [] takes done = record {
+  each = λ base first pieces goes. record {
+    first = first;
+    pieces = pieces;
+    until = cur;
+    legs = [];
+    goes = goes;
+    done = done;
+    legs_are = takes;
+    heard_is = refl;
+    bytes_are = refl;
+    answers_are = refl;
+    hearings_are = refl;
+  };
+}
+rounds_split cur new (round ∷ rounds) takes done =
+    let mid : Stage = takes.0 in
+    let runs = takes.1.0 in
+    let later = rounds_split mid new rounds takes.1.2 takes.1.1 in
+    let path = path_of runs.opened mid round.takings runs.takes in
+    let tb : List ℕ = takings_bytes round.takings in
+    let rb : List ℕ = rounds_bytes rounds in
+    let ta : List Outcome = answers_in (takings_outcomes round.takings) in
+    let ra : List Outcome = answers_in (rounds_outcomes rounds) in
+    let th : List Hearing = takings_hearings runs.opened round.takings mid runs.takes in
+    let rh : List Hearing = hearings_in mid rounds new takes.1.2 in
+    record {
+      each = λ base first pieces goes.
+          split_as base new (bytes_heard first ++ (heard_in round.event ++ all_heard rounds)) (bytes_heard first ++ (heard_in round.event ++ all_heard rounds))
+          (pieces_bytes pieces ++ (parts_bytes round.due ++ (tb ++ rb))) (pieces_bytes pieces ++ ((parts_bytes round.due ++ tb) ++ rb))
+          (pieces_answers pieces ++ (answer_in round.halt ++ (ta ++ ra)))
+          (pieces_answers pieces ++ (answer_in round.halt ++ answers_in (takings_outcomes round.takings ++ rounds_outcomes rounds)))
+          (pieces_hearings pieces ++ (th ++ rh)) (pieces_hearings pieces ++ (th ++ rh)) refl
+          (ap (λ bs. pieces_bytes pieces ++ bs) (append_assoc (parts_bytes round.due) tb rb))
+          (ap (λ os. pieces_answers pieces ++ (answer_in round.halt ++ os)) (answers-append (takings_outcomes round.takings) (rounds_outcomes rounds))) refl
+          (event_split base cur runs.opened mid new first round.event round.due round.halt pieces (all_heard rounds) rb tb ra ta rh th goes done runs.comes path later);
+    }
+
+-- ---- what was heard has one split
+
+abbrev is_slot : List Doing → Bool
+is_slot [] = false
+is_slot (HeardBytes bytes ∷ doings) = false
+is_slot (HeardSlot slot ∷ doings) = true
+is_slot (HeardEnd ∷ doings) = false
+is_slot (Sent byte ∷ doings) = false
+
+abbrev is_some : List Doing → Bool
+is_some [] = false
+is_some (doing ∷ doings) = true
+
+abbrev is_bytes : List Doing → Bool
+is_bytes [] = false
+is_bytes (HeardBytes bytes ∷ doings) = true
+is_bytes (HeardSlot slot ∷ doings) = false
+is_bytes (HeardEnd ∷ doings) = false
+is_bytes (Sent byte ∷ doings) = false
+
+abbrev slot_of : List Doing → ℕ
+slot_of [] = 0
+slot_of (HeardBytes bytes ∷ doings) = 0
+slot_of (HeardSlot slot ∷ doings) = slot
+slot_of (HeardEnd ∷ doings) = 0
+slot_of (Sent byte ∷ doings) = 0
+
+abbrev first_in : List ℕ → ℕ
+first_in [] = 0
+first_in (byte ∷ bytes) = byte
+
+abbrev byte_of : List Doing → ℕ
+byte_of [] = 0
+byte_of (HeardBytes bytes ∷ doings) = first_in bytes
+byte_of (HeardSlot slot ∷ doings) = 0
+byte_of (HeardEnd ∷ doings) = 0
+byte_of (Sent byte ∷ doings) = 0
+
+abbrev tail_of : List Doing → List Doing
+tail_of [] = []
+tail_of (doing ∷ doings) = doings
+
+no_bytes : (legs : List Leg) → is_bytes (legs_heard legs) ≡ false
+no_bytes [] = refl
+no_bytes (leg ∷ legs) = refl
+
+heard_split : (xs ys : List ℕ) (one other : List Leg) → bytes_heard xs ++ legs_heard one ≡ bytes_heard ys ++ legs_heard other
+    → (xs ≡ ys) × (legs_heard one ≡ legs_heard other)
+heard_split [] [] one other same = (refl, same)
+heard_split [] (y ∷ ys) one other same = absurd (true≢false (sym (ap is_bytes same) ∙ no_bytes one))
+heard_split (x ∷ xs) [] one other same = absurd (true≢false (ap is_bytes same ∙ no_bytes other))
+heard_split (x ∷ xs) (y ∷ ys) one other same =
+    let rest = heard_split xs ys one other (ap tail_of same) in
+    (ap (λ b. b ∷ xs) (ap byte_of same) ∙ ap (λ bs. y ∷ bs) rest.0, rest.1)
+
+-- ---- leg by leg
+
+record SameLegs (one other : Stage) (sent again : List ℕ) : Type 0 where
+  last : other ≡ one
+  bytes : again ≡ sent
+
+opened_same : (a b : Stage) → b.session ≡ a.session → b.input ≡ a.input → b ≡ a
+opened_same a b session input = ap (λ s. stage s b.input) session ∙ ap (λ i. stage a.session i) input
+
+legs_same : (old one other : Stage) (xs ys : List Leg) → AreFilms old.session.films → LegsAll old xs one → LegsAll old ys other
+    → legs_heard xs ≡ legs_heard ys → AreSameAnswers (legs_answers xs) (legs_answers ys) → AllLackAlike (legs_hearings xs) (legs_hearings ys)
+    → SameLegs one other (legs_bytes xs) (legs_bytes ys)
+legs_same old one other [] [] films legs too heard answers memory = record { last = too ∙ sym legs; bytes = refl }
+legs_same old one other [] (y ∷ ys) films legs too heard answers memory = absurd (true≢false (sym (ap is_some heard)))
+legs_same old one other (x ∷ xs) [] films legs too heard answers memory = absurd (true≢false (ap is_some heard))
+legs_same old one other (x ∷ xs) (y ∷ ys) films legs too heard answers memory =
+    let leg : IsLeg old x = legs.0 in
+    let again : IsLeg old y = too.0 in
+    let slots : y.slot ≡ x.slot = sym (ap slot_of heard) in
+    let cut = heard_split x.bytes y.bytes xs ys (ap tail_of heard) in
+    let step = steps_same old.session x.slot x.due y.due x.halt y.halt x.opened.session y.opened.session (pieces_answers x.pieces ++ legs_answers xs)
+    (pieces_answers y.pieces ++ legs_answers ys) leg.stepped (subst (λ t. HasStepped old.session t y.due y.halt y.opened.session) slots again.stepped) answers in
+    let opened : y.opened ≡ x.opened = opened_same x.opened y.opened step.1 (again.input ∙ sym leg.input) in
+    let place : longer y.opened y.bytes ≡ longer x.opened x.bytes =
+    ap (λ s. longer s y.bytes) opened ∙ ap (λ bs. longer x.opened bs) (sym cut.0) in
+    let kept : AreFilms x.opened.session.films =
+    subst AreFilms (sym (stepped_films old.session x.slot x.due x.halt x.opened.session leg.stepped)) films in
+    let ends = ends_same (longer x.opened x.bytes) x.until y.until x.pieces y.pieces (legs_answers xs) (legs_answers ys) (legs_hearings xs) (legs_hearings ys)
+    kept leg.goes (subst (λ s. GoesAll s y.pieces y.until) place again.goes) leg.done again.done step.2 memory in
+    let there : AreFilms x.until.session.films =
+    subst AreFilms (sym (goes_films (longer x.opened x.bytes) x.until x.pieces leg.goes)) kept in
+    let rest = legs_same x.until one other xs ys there legs.1 (subst (λ s. LegsAll s ys other) ends.last too.1) cut.1 ends.answers ends.memory in
+    record {
+      last = rest.last;
+      bytes = ap (λ ps. parts_bytes ps ++ (pieces_bytes y.pieces ++ legs_bytes ys)) step.0
+          ∙ ap (λ bs. parts_bytes x.due ++ (bs ++ legs_bytes ys)) ends.bytes
+          ∙ ap (λ bs. parts_bytes x.due ++ (pieces_bytes x.pieces ++ bs)) rest.bytes;
+    }
+
+-- ---- from a connection's beginning on
+
+splits_same : (base one other : Stage) (heard also : List Doing) (sent again : List ℕ) (ones others : List Outcome) (hearings too : List Hearing)
+    → AreFilms base.session.films → Split base one heard sent ones hearings → Split base other also again others too
+    → heard ≡ also → AreSameAnswers ones others → AllLackAlike hearings too → SameLegs one other sent again
+splits_same base one other heard also sent again ones others hearings too films x y same answers memory =
+    let cut = heard_split x.first y.first x.legs y.legs (sym x.heard_is ∙ same ∙ y.heard_is) in
+    let ends = ends_same (longer base x.first) x.until y.until x.pieces y.pieces (legs_answers x.legs) (legs_answers y.legs) (legs_hearings x.legs)
+    (legs_hearings y.legs) films x.goes (subst (λ bs. GoesAll (longer base bs) y.pieces y.until) (sym cut.0) y.goes) x.done y.done
+    (subst (λ os. AreSameAnswers os (pieces_answers y.pieces ++ legs_answers y.legs)) x.answers_are (subst (AreSameAnswers ones) y.answers_are answers))
+    (subst (λ hs. AllLackAlike hs (pieces_hearings y.pieces ++ legs_hearings y.legs)) x.hearings_are (subst (AllLackAlike hearings) y.hearings_are memory)) in
+    let there : AreFilms x.until.session.films = subst AreFilms (sym (goes_films (longer base x.first) x.until x.pieces x.goes)) films in
+    let rest = legs_same x.until one other x.legs y.legs there x.legs_are (subst (λ s. LegsAll s y.legs other) ends.last y.legs_are) cut.1
+    ends.answers ends.memory in
+    record {
+      last = rest.last;
+      bytes = y.bytes_are ∙ ap (λ bs. bs ++ legs_bytes y.legs) ends.bytes ∙ ap (λ bs. pieces_bytes x.pieces ++ bs) rest.bytes ∙ sym x.bytes_are;
+    }
+
+abbrev first_of : Beginning → Stage
+first_of beginning = first_stage beginning.films beginning.settings beginning.words
+
+whole_split : (beginning : Beginning) (cutting : Cutting beginning)
+    → Split (first_of beginning) cutting.last (all_heard cutting.rounds) (rounds_bytes cutting.rounds) (answers_in (rounds_outcomes cutting.rounds))
+    (hearings_in (first_of beginning) cutting.rounds cutting.last cutting.takes)
+whole_split beginning cutting =
+    let first : Stage = first_of beginning in
+    (rounds_split first cutting.last cutting.rounds cutting.takes (inl (record { torn = refl; waits = inl (inl refl) }))).each first [] [] refl
+
+pub two_cuttings : (beginning : Beginning) (one other : Cutting beginning) → AreFilms beginning.films → AreCutsOfOne beginning one other
+    → AreSame beginning one other
+two_cuttings beginning one other films cuts =
+    let first : Stage = first_of beginning in
+    let same = splits_same first one.last other.last (all_heard one.rounds) (all_heard other.rounds) (rounds_bytes one.rounds) (rounds_bytes other.rounds)
+    (answers_in (rounds_outcomes one.rounds)) (answers_in (rounds_outcomes other.rounds)) (hearings_in first one.rounds one.last one.takes)
+    (hearings_in first other.rounds other.last other.takes) films (whole_split beginning one) (whole_split beginning other) cuts.heard cuts.answers cuts.memory in
+    record { bytes = sym same.bytes; last = sym same.last }
+
+-- ---- a connection's course is such a cutting, and so is each front of it
+
+pub takes_all : (old new : Stage) (rounds : List Round) → RunsAll old rounds new → TakesUp old rounds new
+takes_all old new [] runs = runs
+takes_all old new (round ∷ rounds) runs = (runs.0, (runs.1.0, inl runs.1.1, takes_all runs.0 new rounds runs.1.2))
+
+pub takes_last : (old mid new : Stage) (rounds : List Round) (round : Round) (end : ConnEnd) → RunsAll old rounds mid → Runs mid round new
+    → IsStopped end new → TakesUp old (rounds ++ round ∷ []) new
+takes_last old mid new [] round end runs last stopped = (new, (subst (λ s. Runs s round new) runs last, inr (end, stopped), refl))
+takes_last old mid new (first ∷ rounds) round end runs last stopped =
+    (runs.0, (runs.1.0, inl runs.1.1, takes_last runs.0 mid new rounds round end runs.1.2 last stopped))
+
+pub takes_part : (old new : Stage) (first rest : List Round) → TakesUp old (first ++ rest) new → (mid : Stage) × (TakesUp old first mid × TakesUp mid rest new)
+takes_part old new [] rest takes = (old, (refl, takes))
+takes_part old new (round ∷ first) rest takes =
+    let parted = takes_part takes.0 new first rest takes.1.2 in
+    (parted.0, ((takes.0, (takes.1.0, takes.1.1, parted.1.0)), parted.1.1))

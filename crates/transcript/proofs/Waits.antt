@@ -1,0 +1,228 @@
+-- A reply that waits, and where it is sent: what each doing of a connection makes of it.
+use Rattle.std.proofs.Common.{◌≡◌, ℕ, ◌+◌, ◌-◌, ◌<◌, ◌≤◌, ◌++◌, if◌then◌else◌, Bool, true, false, min, List, [], ◌∷◌, Option, Some, None, length, drop, refl, ap, sym, ◌∙◌, subst, inl, inr, arith, eq-eqb}
+use Rattle.std.proofs.lemmas.Bool.{cases_lt, true≢false}
+use Rattle.std.proofs.lemmas.List.{append_assoc, length-take, length-drop}
+use Rattle.film_frames.specs.Tracks.{IsBoundary, IsBoundaryAfter, framed}
+use Rattle.pacer.specs.Boundaries.{boundary_from}
+use Rattle.pacer.specs.Pacings.{IsPacing, Pacing, due_by, first_slots, next_boundary, plan_bytes, raised, stands_at_boundary, step_end, stepped}
+use Rattle.pacer.proofs.PacingLemmas.{boundary-from, boundary-is, first-slots-rise}
+use Rattle.plan_cert.specs.Slots.{total_bytes}
+use Rattle.conn.specs.Turns.{Part, Film, Text}
+use Rattle.conn.proofs.Filming.{few_slots, sent_through, slot_is}
+use Rattle.transcript.specs.Places.{AreSentAt}
+use Rattle.transcript.specs.Plays.{Asking, FilmPlay, due_of, kept_in, plays_of}
+use Rattle.transcript.specs.Replies.{placed_texts}
+use Rattle.transcript.proofs.Films.{IsOnTime, play_with, through_time}
+use Rattle.transcript.proofs.Places.{AreFrom, AreLater, IsAtNext, StandAt, film_at, later_lower, text_at, with_pending}
+use Rattle.transcript.proofs.Slots.{stands_here, stopped_is}
+use Rattle.transcript.proofs.Turning.{Ending, Going, Idle, Sends}
+
+-- what was sent and what is sent from here on, with the slots in which the requests were taken up whose replies come
+abbrev pub Stand : Sends → Option ℕ → List Asking → ℕ → List ℕ → List Part → Type 0
+Stand Idle pending askings end slots parts = AreSentAt end (plays_of askings) (with_pending pending slots) (placed_texts 0 parts)
+Stand (Going p) pending askings end slots parts = StandAt p (kept_in askings (total_bytes p.plan)) pending (plays_of askings) end slots parts
+Stand (Ending p) pending askings end slots parts = StandAt p p.keep pending (plays_of askings) end slots parts
+
+pub record Fits (sends : Sends) (heard : ℕ) (pending : Option ℕ) (askings : List Asking) (end : ℕ) (slots : List ℕ) (parts : List Part) : Type 0 where
+  pub from : AreFrom heard slots
+  pub later : AreLater heard (plays_of askings)
+  pub stand : Stand sends pending askings end slots parts
+
+pub record GoesTo (old new : Sends) (from to : ℕ) (pending after : Option ℕ) (made : List Asking) (slots : List ℕ) (parts : List Part) : Type 0 where
+  pub later : from ≤ to
+  pub rest : (askings : List Asking) (end : ℕ) (more : List ℕ) (rest : List Part) → to ≤ end → Fits new to after askings end more rest
+      → Fits old from pending (made ++ askings) end (slots ++ more) (parts ++ rest)
+
+pub goes_then : (a b c : Sends) (x y z : ℕ) (first mid last : Option ℕ) (made asked : List Asking) (slots taken : List ℕ) (parts sent : List Part)
+    → GoesTo a b x y first mid made slots parts → GoesTo b c y z mid last asked taken sent
+    → GoesTo a c x z first last (made ++ asked) (slots ++ taken) (parts ++ sent)
+goes_then a b c x y z first mid last made asked slots taken parts sent one two = record {
+  later = omega (arith, one.later, two.later);
+  rest = λ askings end more rest on fits.
+      let there = one.rest (asked ++ askings) end (taken ++ more) (sent ++ rest) (omega (arith, two.later, on)) (two.rest askings end more rest on fits) in
+      subst (λ all. Fits a x first all end ((slots ++ taken) ++ more) ((parts ++ sent) ++ rest)) (sym (append_assoc made asked askings))
+      (subst (λ ss. Fits a x first (made ++ (asked ++ askings)) end ss ((parts ++ sent) ++ rest)) (sym (append_assoc slots taken more))
+      (subst (λ ps. Fits a x first (made ++ (asked ++ askings)) end (slots ++ (taken ++ more)) ps) (sym (append_assoc parts sent rest)) there));
+}
+
+pub goes_same : (sends : Sends) (heard : ℕ) (pending : Option ℕ) → GoesTo sends sends heard heard pending pending [] [] []
+goes_same sends heard pending = record { later = omega arith; rest = λ askings end more rest on fits. fits }
+
+-- ---- a reply is held up: of the film no boundary was reached since its request was taken up
+
+pub record IsHeldUp (p : Pacing) (slot heard : ℕ) : Type 0 where
+  pub before : slot ≤ heard
+  pub due : min (first_slots p.plan (slot + 1 - p.start)) p.keep ≤ p.sent
+  pub none : (place : ℕ) → IsBoundary p.pieces place → p.before + min (first_slots p.plan (slot + 1 - p.start)) p.keep ≤ place → p.before + p.sent < place
+
+abbrev pub IsHeld : Option ℕ → Sends → Bool → ℕ → Type 0
+IsHeld None sends waits heard = waits ≡ false
+IsHeld (Some slot) Idle waits heard = ⊥
+IsHeld (Some slot) (Going p) waits heard = (waits ≡ true) × IsHeldUp p slot heard
+IsHeld (Some slot) (Ending p) waits heard = (waits ≡ true) × IsHeldUp p slot heard
+
+-- what was due of the play in hand in a slot, where so much is kept of it in the end
+pub due_going : (p : Pacing) (slot keep : ℕ) → IsPacing p → p.keep ≡ total_bytes p.plan → min (first_slots p.plan (slot + 1 - p.start)) p.keep ≤ keep
+    → due_of slot (play_with p keep) ≡ min (first_slots p.plan (slot + 1 - p.start)) p.keep
+due_going p slot keep is whole holds =
+    let few : first_slots p.plan (slot + 1 - p.start) ≤ total_bytes p.plan = few_slots p.plan (slot + 1 - p.start) is.plan in
+    omega (arith, few, whole, holds)
+
+-- what was sent is due by the end of each later slot
+pub due_far : (p : Pacing) (heard end : ℕ) → IsOnTime p heard → heard ≤ end → p.sent ≤ first_slots p.plan (end + 1 - p.start)
+due_far p heard end on later =
+    let rise : first_slots p.plan (heard + 1 - p.start) ≤ first_slots p.plan (end + 1 - p.start) =
+    first-slots-rise p.plan (heard + 1 - p.start) (end + 1 - p.start) (omega (arith, later)) in
+    let now : p.sent ≡ min (first_slots p.plan (heard + 1 - p.start)) p.keep =
+    on.even ∙ on.pacing.due ∙ ap (λ n. min (first_slots p.plan n) p.keep) on.passed in
+    omega (arith, rise, now)
+
+pub due_here : (p : Pacing) (heard : ℕ) → IsOnTime p heard → min (first_slots p.plan (heard + 1 - p.start)) p.keep ≡ p.sent
+due_here p heard on = sym (on.even ∙ on.pacing.due ∙ ap (λ n. min (first_slots p.plan n) p.keep) on.passed)
+
+inside_of : (p : Pacing) → IsPacing p → p.before + p.sent ≤ length (framed p.pieces)
+inside_of p is = omega (arith, is.whole, is.most, is.due, is.sent)
+
+-- what was sent up to a boundary ends at one
+pub boundary_stands : (p : Pacing) → IsPacing p → IsBoundary p.pieces (p.before + p.sent) → stands_at_boundary p ≡ true
+boundary_stands p is boundary =
+    let place : ℕ = p.before + p.sent in
+    let itself : IsBoundaryAfter p.pieces place place = record { boundary = boundary; after = omega arith; least = λ other b order. order } in
+    let stays : place ≡ boundary_from p.pieces place = boundary-is p.pieces place place (inside_of p is) itself in
+    eq-eqb (next_boundary p) p.sent (omega (arith, stays))
+
+-- where what was sent doesn't end at a boundary, a reply is held up
+past_here : (p : Pacing) (heard place : ℕ) → IsOnTime p heard → stands_at_boundary p ≡ false → IsBoundary p.pieces place
+    → p.before + min (first_slots p.plan (heard + 1 - p.start)) p.keep ≤ place → p.before + p.sent < place
+past_here p heard place on stands boundary from =
+    let here = due_here p heard on in
+    elim (cases_lt (p.before + p.sent) place) [
+      | inl less ↦ less
+      | inr more ↦
+          let same : place ≡ p.before + p.sent = omega (arith, here, from, more) in
+          absurd (true≢false (sym (boundary_stands p on.pacing (subst (IsBoundary p.pieces) same boundary)) ∙ stands))
+    ]
+
+pub held_here : (p : Pacing) (heard : ℕ) → IsOnTime p heard → stands_at_boundary p ≡ false → IsHeldUp p heard heard
+held_here p heard on stands =
+    let here = due_here p heard on in
+    record {
+      before = omega arith;
+      due = omega (arith, here);
+      none = λ place boundary from. past_here p heard place on stands boundary from;
+    }
+
+pub at_here : (p : Pacing) (heard : ℕ) → IsOnTime p heard → stands_at_boundary p ≡ true → IsAtNext p (min (first_slots p.plan (heard + 1 - p.start)) p.keep)
+at_here p heard on stands =
+    let here = due_here p heard on in
+    record {
+      boundary = stands_here p on.pacing stands;
+      after = omega (arith, here);
+      least = λ place boundary from. omega (arith, here, from);
+    }
+
+-- ---- a slot
+
+-- how many bytes are sent up to a place
+size_to : (p : Pacing) (to : ℕ) → IsPacing p → p.sent ≤ to → to ≤ p.keep → p.sent + length (plan_bytes p p.sent to) ≡ to
+size_to p to is from most =
+    let rest : List ℕ = drop (p.before + p.sent) (framed p.pieces) in
+    omega (
+      arith,
+      length-take (p.before + to - (p.before + p.sent)) rest,
+      length-drop (p.before + p.sent) (framed p.pieces),
+      is.whole,
+      is.most,
+      from,
+      most,
+    )
+
+-- the parts of a slot
+abbrev pub parts_in : Bool → Bool → Pacing → ℕ → List ℕ → List Part
+parts_in waits between p slot text =
+    if waits then Film (plan_bytes p p.sent (step_end true (raised slot p)))
+    ∷ (if between
+    then Text text ∷ Film (plan_bytes (stepped true slot p) (stepped true slot p).sent (step_end false (raised slot (stepped true slot p)))) ∷ [] else [])
+    else Film (plan_bytes p p.sent (step_end false (raised slot p))) ∷ []
+
+abbrev pub after_slot : Bool → Option ℕ → Option ℕ
+after_slot between None = None
+after_slot between (Some slot) = if between then None else Some slot
+
+due_most : (p : Pacing) (slot : ℕ) → IsPacing p → due_by p slot ≤ p.keep
+due_most p slot is = omega (arith, is.due)
+
+-- the first boundary from what was due on is reached
+next_reached : (p : Pacing) (taken heard slot : ℕ) → IsPacing p → IsHeldUp p taken heard → stands_at_boundary (stepped true slot p) ≡ true
+    → IsAtNext (stepped true slot p) (min (first_slots p.plan (taken + 1 - p.start)) p.keep)
+next_reached p taken heard slot is held stands =
+    let q : Pacing = stepped true slot p in
+    let next = boundary-from p.pieces (p.before + p.sent) (inside_of p is) in
+    record {
+      boundary = stands_here q (stopped_is slot p is) stands;
+      after = omega (arith, held.due, next.after, is.sent);
+      least = λ place boundary from.
+          let past = held.none place boundary from in
+          let least = next.least place boundary (omega (arith, past)) in
+          omega (arith, least, next.after);
+    }
+
+-- or it isn't
+pub still_held : (p : Pacing) (taken heard slot : ℕ) → IsPacing p → heard < slot → IsHeldUp p taken heard → stands_at_boundary (stepped true slot p) ≡ false
+    → IsHeldUp (sent_through slot p) taken slot
+still_held p taken heard slot is later held stands =
+    let q : Pacing = stepped true slot p in
+    let all : step_end true (raised slot p) ≡ due_by p slot = ap (λ (r : Pacing). r.sent) (slot_is true false slot p is stands) in
+    let next = boundary-from p.pieces (p.before + p.sent) (inside_of p is) in
+    let nearest : ℕ = boundary_from p.pieces (p.before + p.sent) in
+    record {
+      before = omega (arith, held.before, later);
+      due = omega (arith, held.due, is.sent);
+      none = λ place boundary from.
+          let past = held.none place boundary from in
+          let least : nearest ≤ place = next.least place boundary (omega (arith, past)) in
+          elim (cases_lt (p.before + due_by p slot) place) [
+            | inl less ↦ less
+            | inr more ↦
+                let there : nearest ≡ p.before + q.sent = omega (arith, all, least, more, next.after) in
+                absurd (true≢false (sym (boundary_stands q (stopped_is slot p is) (subst (IsBoundary p.pieces) there next.boundary)) ∙ stands))
+          ];
+    }
+
+-- the bytes of a slot, with the reply that waits
+pub slot_at : (p : Pacing) (keep : ℕ) (pending : Option ℕ) (heard slot : ℕ) (waits between : Bool) (text : List ℕ) (plays : List FilmPlay) (end : ℕ)
+    (slots : List ℕ) (parts : List Part) → IsOnTime p heard → heard < slot → slot ≤ end → stands_at_boundary (stepped true slot p) ≡ between
+    → IsHeld pending (Going p) waits heard
+    → ((taken : ℕ) → min (first_slots p.plan (taken + 1 - p.start)) p.keep ≤ keep → due_of taken (play_with p keep) ≡ min (first_slots p.plan (taken + 1 - p.start)) p.keep)
+    → AreLater slot plays → StandAt (sent_through slot p) keep (after_slot between pending) plays end slots parts
+    → StandAt p keep pending plays end slots (parts_in waits between p slot text ++ parts)
+slot_at p keep None heard slot true between text plays end slots parts on later ends stands held due are stand = absurd (true≢false held)
+slot_at p keep None heard slot false between text plays end slots parts on later ends stands held due are stand =
+    film_at p (sent_through slot p) keep None plays end slots (plan_bytes p p.sent (due_by p slot)) parts refl
+    (size_to p (due_by p slot) on.pacing (omega (arith, on.pacing.sent)) (due_most p slot on.pacing)) stand
+slot_at p keep (Some taken) heard slot false between text plays end slots parts on later ends stands held due are stand = absurd (true≢false (sym held.0))
+slot_at p keep (Some taken) heard slot true false text plays end slots parts on later ends stands held due are stand =
+    let all : step_end true (raised slot p) ≡ due_by p slot = ap (λ (r : Pacing). r.sent) (slot_is true false slot p on.pacing stands) in
+    subst (λ to. StandAt p keep (Some taken) plays end slots (Film (plan_bytes p p.sent to) ∷ parts)) (sym all)
+    (film_at p (sent_through slot p) keep (Some taken) plays end slots (plan_bytes p p.sent (due_by p slot)) parts refl
+    (size_to p (due_by p slot) on.pacing (omega (arith, on.pacing.sent)) (due_most p slot on.pacing)) stand)
+slot_at p keep (Some taken) heard slot true true text plays end slots parts on later ends stands held due are stand =
+    let q : Pacing = stepped true slot p in
+    let is = on.pacing in
+    let most : due_by p slot ≤ p.keep = due_most p slot is in
+    let last : step_end false (raised slot q) ≡ due_by p slot = ap (λ (r : Pacing). r.sent) (slot_is true true slot p is stands) in
+    let next = boundary-from p.pieces (p.before + p.sent) (inside_of p is) in
+    let from : p.sent ≤ q.sent = omega (arith, next.after, is.sent) in
+    let to : q.sent ≤ due_by p slot = omega arith in
+    let rest : StandAt q keep None plays end slots (Film (plan_bytes q q.sent (step_end false (raised slot q))) ∷ parts) =
+    subst (λ n. StandAt q keep None plays end slots (Film (plan_bytes q q.sent n) ∷ parts)) (sym last)
+    (film_at q (sent_through slot p) keep None plays end slots (plan_bytes q q.sent (due_by p slot)) parts refl
+    (size_to q (due_by p slot) (stopped_is slot p is) to most) stand) in
+    let at = next_reached p taken heard slot is held.1 stands in
+    let far : (sent_through slot p).sent ≤ first_slots p.plan (end + 1 - p.start) = due_far (sent_through slot p) slot end (through_time p heard slot on later) ends in
+    let reply = text_at q keep taken (min (first_slots p.plan (taken + 1 - p.start)) p.keep) plays end slots text
+    (Film (plan_bytes q q.sent (step_end false (raised slot q))) ∷ parts) at (due taken (omega (arith, at.after, rest.holds)))
+    (later_lower taken slot plays (omega (arith, held.1.before, later)) are).starts (omega (arith, to, far)) rest in
+    film_at p q keep (Some taken) plays end slots (plan_bytes p p.sent (step_end true (raised slot p)))
+    (Text text ∷ Film (plan_bytes q q.sent (step_end false (raised slot q))) ∷ parts) refl
+    (size_to p q.sent is from (omega (arith, to, most))) reply

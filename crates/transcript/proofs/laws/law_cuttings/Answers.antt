@@ -1,0 +1,11 @@
+use Rattle.transcript.proofs.TwoCuttings.{takes_all, takes_last, takes_part}
+use Rattle.transcript.proofs.laws.law_cuttings.Goals as goal
+
+pub returns-clause-all : goal.returns-clause-all
+returns-clause-all c = takes_all
+
+pub returns-clause-last : goal.returns-clause-last
+returns-clause-last c = takes_last
+
+pub returns-clause-fronts : goal.returns-clause-fronts
+returns-clause-fronts c = takes_part
