@@ -8,7 +8,7 @@ use Rattle.turnstile.specs.contracts.turn.Turn.{the_row}
 abbrev pub turn_with : {B : Type 0} → Turning B → B → Turning B
 turn_with turn value = record turn { value = value }
 
--- the turn ends with the last value behind r
+-- the turn ends with the last value that r refers to
 abbrev pub LendsValue : (B : RattleType) → (kept : Ghosts B.Denot) → MutBor (Turning B.Denot) →
     MutBor B.Denot → Fml
 LendsValue B kept turn r = Lends (the_row B kept) B turn r (turn_with turn.now)

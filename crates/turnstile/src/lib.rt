@@ -18,3 +18,6 @@ pub use pass::Pass;
 pub use turn::Turn;
 pub use turnstile::Turnstile;
 pub use view::{Joined, Made, Stage, Terms, View};
+
+#[cfg(test)]
+mod tests;

@@ -15,10 +15,12 @@ use crossbeam_utils::sync::EventCount;
 use std::hint;
 use std::sync::Wait;
 
-/// How often a pass looks before it sleeps.
+/// How often the pass that is next looks before it sleeps.
 const SPINS: u32 = 64;
 
-/// Waits until it is the turn of the ticket: at first without sleep, then asleep at its bell.
+/// Waits until it is the turn of the ticket, asleep at its bell. The pass that is next stays awake
+/// for a short time; one that has others before it sleeps at once, since one of them may need the
+/// processor that it runs on.
 fn wait<B: Kept, R: Wait>(
     rt: &R,
     top: &Top<B>,
@@ -44,11 +46,17 @@ fn wait<B: Kept, R: Wait>(
         if serving == ticket {
             return;
         }
-        match sleep {
-            Some(key) => key.wait(rt),
-            None => hint::spin_loop(),
-        }
-        tries = (tries + 1).min(SPINS);
+        tries = match sleep {
+            Some(key) => {
+                key.wait(rt);
+                0
+            }
+            None if serving.wrapping_add(1) == ticket => {
+                hint::spin_loop();
+                (tries + 1).min(SPINS)
+            }
+            None => SPINS,
+        };
     }
     unreachable!()
 }
