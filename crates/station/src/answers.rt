@@ -1,4 +1,5 @@
 use plan_cert::Plan;
+use thiserror::Error;
 
 /// A play that was admitted and not halted. It must be spent, by `Station::halt`.
 pub struct Booking {
@@ -9,9 +10,10 @@ pub struct Booking {
 }
 
 /// Why a play was refused.
-#[derive(Debug, Drop)]
+#[derive(Debug, Drop, Error)]
 pub enum PlayRefused {
     /// The journal has no room for the play's entry and its halt's; no entry was made.
+    #[error("the journal is full: {entries} entries, {live} open plays")]
     JournalFull {
         /// The plan that was asked for.
         plan: Plan,
@@ -21,6 +23,7 @@ pub enum PlayRefused {
         live: u64,
     },
     /// A slot has no room for the plan; the answer is an entry.
+    #[error("slot {slot} has no room: {booked} bytes are booked and {asked} asked")]
     Overflow {
         /// The place of the entry.
         place: u64,

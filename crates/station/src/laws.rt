@@ -8,7 +8,7 @@ ghost use Rattle.admission.specs.Makers.{IsOpenAmong, Placed, made_by};
 ghost use Rattle.station.specs.Answers.{Made};
 ghost use Rattle.station.specs.Seats.{Sitting};
 
-/// What was seen of a journal stays: each entry at its place, the state after each front, and what
+/// What was seen of a journal stays: each entry at its place, the state after each prefix, and what
 /// each maker had made, in order.
 pub fn law_longer_journal()
     ensures entries { (seen journal : List Entry) → IsPrefix seen journal →

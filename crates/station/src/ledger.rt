@@ -6,7 +6,9 @@ ghost use Rattle.admission.specs.Makers.{AreHaltsOwn, IsOpenAmong, made_by};
 ghost use Rattle.station.specs.Ledgers.{IsEntered, IsFullFor, IsOffered, IsPlayRefused, look_at, play_of};
 
 use crate::answers::{Booking, Looked, Offered, PlayRefused};
-use admission::{Answer, Book, Full, LATEST_SLOT, PlayFull, law_never_overbooked, law_own_play};
+use admission::{
+    Answer, Book, Full, LATEST_SLOT, Noted, PlayFull, law_never_overbooked, law_own_play,
+};
 use early_start::{Offers, law_offer_of_plays};
 use plan_cert::Plan;
 use std::marker::Model;
@@ -55,7 +57,18 @@ impl Ledger {
         let _entries = self.book.entries();
     }
 
-    /// As `Book::play`.
+    /// As `Book::play`: it halts nothing.
+    fn note_play(&mut self, maker: u32, heard: u64, plan: Plan) -> Result<Noted, PlayFull>
+        ensures made { IfOk result (λ noted.
+            IsEntered self.old self.new maker 2 (play_of heard plan) noted.place noted.answer) }
+        ensures full { IfErr result (λ refused.
+            IsFullFor self.old self.new 2 refused.full.entries refused.full.live) }
+        ensures plan { IfErr result (λ refused. refused.plan ≡ plan) }
+    {
+        self.book.play(maker, heard, plan)
+    }
+
+    /// Books a play where it is admitted, or tells why it is refused.
     pub(crate) fn play(
         &mut self,
         maker: u32,
@@ -67,7 +80,7 @@ impl Ledger {
             (Answer.Admitted booking.start)) }
         ensures refused { IfErr result (IsPlayRefused self.old self.new maker heard plan) }
     {
-        match self.book.play(maker, heard, plan) {
+        match self.note_play(maker, heard, plan) {
             Ok(noted) => match noted.answer {
                 Answer::Admitted { start } => Ok(Booking {
                     number: noted.place,

@@ -195,3 +195,30 @@ fn threads_share_one_book(rt: HostRuntime) -> Result<(), Fail> {
     four(&rt, alloc, station, seat);
     Ok(())
 }
+
+#[test]
+fn tells_refusals(rt: HostRuntime) -> Result<(), Fail> {
+    let alloc = rt.alloc();
+    let full = PlayRefused::JournalFull {
+        plan: plan(&rt, alloc),
+        entries: 3,
+        live: 1,
+    };
+    let text = format!(in alloc; "{full}")?;
+    assert_eq!(rt;
+        text.as_str(),
+        "the journal is full: 3 entries, 1 open plays"
+    );
+    let overflow = PlayRefused::Overflow {
+        place: 2,
+        slot: 1,
+        booked: 22,
+        asked: 23,
+    };
+    let text = format!(in alloc; "{overflow}")?;
+    assert_eq!(rt;
+        text.as_str(),
+        "slot 1 has no room: 22 bytes are booked and 23 asked"
+    );
+    Ok(())
+}
