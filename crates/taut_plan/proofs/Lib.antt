@@ -10,3 +10,4 @@ pub mod BandLaws
 pub mod WholeLaws
 pub mod Existence
 pub mod FitLaws
+pub mod QueueLaws

@@ -35,6 +35,11 @@ pub record IsLastEdge (o : Point) (chain : List Point) (first second : Point) : 
   pub is : chain ≡ front ++ second ∷ []
   pub begins : first ≡ last_point o front
 
+-- a chain's first point
+pub record IsFirstPoint (chain : List Point) (first : Point) : Type 0 where
+  pub rest : List Point
+  pub is : chain ≡ first ∷ rest
+
 -- the chain's last point no longer stands out: seen from the one before it, it is within the new
 -- point
 pub record IsPassed (side : Side) (o : Point) (chain : List Point) (point : Point) : Type 0 where

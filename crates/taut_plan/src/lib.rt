@@ -7,6 +7,7 @@ mod laws;
 mod paths;
 mod plans;
 mod points;
+mod queues;
 
 pub use laws::law_one_taut_list;
 pub use plans::plan;

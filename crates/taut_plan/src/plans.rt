@@ -12,22 +12,22 @@ ghost use Rattle.taut_plan.specs.Sides.{lower_of, upper_of, side_of};
 use crate::chains::join;
 use crate::paths::Path;
 use crate::points::{Point, Side, is_inside, point_at};
+use crate::queues::Queue;
 use plan_cert::{Plan, Segment};
 use std::alloc::{AllocError, Global};
-use std::collections::VecDeque;
 use vod_base::NoMemory;
 use wire_curve::Curves;
 
 /// The front of the other chain, where `point` stands outside of it.
 #[inline(always)]
-fn crossed(side: Side, apex: Point, others: &VecDeque<Point>, point: Point) -> Option<Point>
-    requires between { FirstIsBetween apex others.now.items point }
-    requires fit { FirstFits apex others.now.items point }
+fn crossed(side: Side, apex: Point, others: &Queue, point: Point) -> Option<Point>
+    requires between { FirstIsBetween apex others.now point }
+    requires fit { FirstFits apex others.now point }
     ensures { MatchOption result
-        (IsUncrossed side apex others.now.items point)
-        (λ corner. IsCrossed side apex others.now.items point corner) }
+        (IsUncrossed side apex others.now point)
+        (λ corner. IsCrossed side apex others.now point corner) }
 {
-    let corner = *others.front()?;
+    let corner = others.first()?;
     if is_inside(side, apex, corner, point) {
         Some(corner)
     } else {
@@ -42,8 +42,8 @@ fn extend(
     curves: &Curves,
     side: Side,
     path: &mut Path,
-    own: &mut VecDeque<Point>,
-    others: &mut VecDeque<Point>,
+    own: &mut Queue,
+    others: &mut Queue,
     slot: usize,
 ) -> Result<(), AllocError>
     requires sound { IsSound curves.now.from curves.now.low.items curves.now.up.items }
@@ -51,17 +51,17 @@ fn extend(
     requires path { IsPath (lower_of curves.now) (upper_of curves.now) curves.now.from
         path.old.apex path.old.segments.items }
     requires funnel { IsFunnel side (side_of curves.now side) (side_of curves.now (other_side side))
-        slot (others_known side slot) path.old.apex own.old.items others.old.items }
+        slot (others_known side slot) path.old.apex own.old others.old }
     ensures path { OnOk result (IsPath (lower_of curves.now) (upper_of curves.now) curves.now.from
         path.new.apex path.new.segments.items) }
     ensures funnel { OnOk result
         (IsFunnel side (side_of curves.now side) (side_of curves.now (other_side side))
-        (slot + 1) (others_known side slot) path.new.apex own.new.items others.new.items) }
+        (slot + 1) (others_known side slot) path.new.apex own.new others.new) }
     ensures beyond { OnOk result (path.new.apex.place ≤ slot) }
 {
     let point = join(curves, side, path.apex, own, slot)?;
     while let Some(corner) = crossed(side, path.apex, others, point) {
-        others.pop_front();
+        others.pop_first();
         path.bend_at(corner)?;
     }
     Ok(())
@@ -82,8 +82,8 @@ fn taut_segments(alloc: Global, curves: &Curves) -> Result<Vec<Segment>, AllocEr
             height: curves.from,
         },
     );
-    let mut lower = VecDeque::new(alloc);
-    let mut upper = VecDeque::new(alloc);
+    let mut lower = Queue::new(alloc);
+    let mut upper = Queue::new(alloc);
     for slot in 0..slots {
         extend(curves, Side::Lower, &mut path, &mut lower, &mut upper, slot)?;
         extend(curves, Side::Upper, &mut path, &mut upper, &mut lower, slot)?;

@@ -1,4 +1,4 @@
-use Rattle.std.proofs.Common.{arith, ◌+◌, ◌-◌, ap, sym, ◌∙◌, take, rules, subst}
+use Rattle.std.proofs.Common.{arith, ◌+◌, sym, subst}
 use Rattle.taut_plan.specs.Chain.{IsChain}
 use Rattle.taut_plan.specs.Sides.{side_of}
 use Rattle.taut_plan.proofs.ChainLaws.{chain_opens}
@@ -11,22 +11,22 @@ loop-side-init c = chain_opens c.args.side (side_of c.args.curves.now c.args.sid
 
 pub is_passed-requires-clause-ascend : goal.is_passed-requires-clause-ascend
 is_passed-requires-clause-ascend c =
-    edges_ascend c.args.side (side_of c.args.curves.now c.args.side) c.args.slot c.args.apex c.loop-side.chain.items c.point_at-point.result c.point_at-point.ensures c.loop-side.invariant
+    edges_ascend c.args.side (side_of c.args.curves.now c.args.side) c.args.slot c.args.apex c.loop-side.chain c.point_at-point.result c.point_at-point.ensures c.loop-side.invariant
 
 pub is_passed-requires-clause-fit : goal.is_passed-requires-clause-fit
 is_passed-requires-clause-fit c =
     let curves = c.args.curves.now in
-    edges_fit c.args.side (side_of curves c.args.side) c.args.slot c.args.apex c.loop-side.chain.items c.point_at-point.result c.point_at-point.ensures c.loop-side.invariant c.requires.apex
+    edges_fit c.args.side (side_of curves c.args.side) c.args.slot c.args.apex c.loop-side.chain c.point_at-point.result c.point_at-point.ensures c.loop-side.invariant c.requires.apex
     (λ j le. point_fits c.args.side curves.from curves.low.items curves.up.items c.requires.sound j (let slot = c.requires.low in omega (arith, le, slot)))
 
 pub loop-side-preserved : goal.loop-side-preserved
 loop-side-preserved c =
-    let old = c.loop-side.chain.items in
+    let old = c.loop-side.chain in
     pop_step c.args.side (side_of c.args.curves.now c.args.side) c.args.slot c.args.apex old _ c.point_at-point.result c.point_at-point.ensures c.loop-side.invariant
-    c.loop-side-test.ensures (c.pop_back.ensures.rest ∙ ap (λ n. take (n - 1) old) (search rules))
+    c.loop-side-test.ensures c.pop_last.ensures
 
 pub returns-clause-chain : goal.returns-clause-chain
 returns-clause-chain c =
     let curve = side_of c.args.curves.now c.args.side in
-    subst (IsChain c.args.side curve (c.args.slot + 1) c.args.apex) (sym c.in_ok-push_back.ensures.items)
-    (join_step c.args.side curve c.args.slot c.args.apex c.loop-side.chain.items c.point_at-point.result c.point_at-point.ensures c.loop-side.invariant c.loop-side-test.ensures)
+    subst (IsChain c.args.side curve (c.args.slot + 1) c.args.apex) (sym c.in_ok-join.ensures)
+    (join_step c.args.side curve c.args.slot c.args.apex c.loop-side.chain c.point_at-point.result c.point_at-point.ensures c.loop-side.invariant c.loop-side-test.ensures)

@@ -1,10 +1,10 @@
-use Rattle.std.specs.VecDeque.{deque_len}
+use Rattle.std.proofs.Common.{length}
 use Rattle.taut_plan.specs.Sides.{side_of}
 use Rattle.taut_plan.proofs.ChainLaws.{IsOpen}
 use Rattle.taut_plan.proofs.chains.join.Given as goal
 
 abbrev pub invariant-loop-side : goal.invariant-loop-side
-invariant-loop-side l = IsOpen l.side (side_of l.curves l.side) l.slot l.apex l.chain.items
+invariant-loop-side l = IsOpen l.side (side_of l.curves l.side) l.slot l.apex l.chain
 
 abbrev pub decreases-loop-side : goal.decreases-loop-side
-decreases-loop-side l = deque_len l.chain
+decreases-loop-side l = length l.chain

@@ -13,7 +13,7 @@ loop-corner-init c =
     let curves = c.args.curves.now in
     record {
       path = c.requires.path;
-      crossing = crossing_starts c.args.side (side_of curves c.args.side) (side_of curves (other_side c.args.side)) c.args.slot c.args.path.now.apex c.args.own.now.items _ c.args.others.now.items
+      crossing = crossing_starts c.args.side (side_of curves c.args.side) (side_of curves (other_side c.args.side)) c.args.slot c.args.path.now.apex c.args.own.now _ c.args.others.now
           c.requires.funnel c.in_ok-point.ensures.chain;
     }
 
@@ -21,7 +21,7 @@ pub join-requires-clause-apex : goal.join-requires-clause-apex
 join-requires-clause-apex c =
     let curves = c.args.curves.now in
     let slot = c.requires.slot in
-    let beyond = chain_beyond c.args.side (side_of curves c.args.side) c.args.slot c.args.path.now.apex c.args.own.now.items c.requires.funnel.own in
+    let beyond = chain_beyond c.args.side (side_of curves c.args.side) c.args.slot c.args.path.now.apex c.args.own.now c.requires.funnel.own in
     corner_fits curves.from curves.low.items curves.up.items c.args.path.now.apex c.requires.sound (omega (arith, beyond, slot)) c.requires.path.below
 
 pub crossed-requires-clause-fit : goal.crossed-requires-clause-fit
@@ -31,7 +31,7 @@ crossed-requires-clause-fit c =
     let beyond = c.loop-corner.invariant.crossing.beyond in
     let fits : c.args.slot + 1 ≤ length curves.low.items = omega (arith, slot) in
     first_fits c.args.side (side_of curves c.args.side) (side_of curves (other_side c.args.side)) (c.args.slot + 1) (others_known c.args.side c.args.slot) (length curves.low.items)
-    c.loop-corner.path.apex _ c.loop-corner.others.items c.in_ok-point.point c.in_ok-point.ensures.point c.loop-corner.invariant.crossing fits
+    c.loop-corner.path.apex _ c.loop-corner.others c.in_ok-point.point c.in_ok-point.ensures.point c.loop-corner.invariant.crossing fits
     (corner_fits curves.from curves.low.items curves.up.items c.loop-corner.path.apex c.requires.sound (omega (arith, beyond, fits)) c.loop-corner.invariant.path.below)
     (point_fits c.args.side curves.from curves.low.items curves.up.items c.requires.sound)
     (point_fits (other_side c.args.side) curves.from curves.low.items curves.up.items c.requires.sound)
@@ -40,22 +40,22 @@ pub bend_at-requires-clause-higher : goal.bend_at-requires-clause-higher
 bend_at-requires-clause-higher c =
     let curves = c.args.curves.now in
     let bent = bends_at c.args.side (lower_of curves) (upper_of curves) curves.from _ (c.args.slot + 1) (others_known c.args.side c.args.slot) c.loop-corner.path.apex c.in-Some.corner
-    c.loop-corner.path.segments.items _ c.loop-corner.others.items _ c.in_ok-point.point (band_of_sound curves.from curves.low.items curves.up.items c.requires.sound) (omega arith)
-    c.in_ok-point.ensures.point c.loop-corner.invariant.path c.loop-corner.invariant.crossing c.in-Some.ensures c.pop_front.ensures.rest in
+    c.loop-corner.path.segments.items _ c.loop-corner.others _ c.in_ok-point.point (band_of_sound curves.from curves.low.items curves.up.items c.requires.sound) (omega arith)
+    c.in_ok-point.ensures.point c.loop-corner.invariant.path c.loop-corner.invariant.crossing c.in-Some.ensures c.pop_first.ensures in
     bent.higher
 
 pub loop-corner-preserved : goal.loop-corner-preserved
 loop-corner-preserved c =
     let curves = c.args.curves.now in
     let bent = bends_at c.args.side (lower_of curves) (upper_of curves) curves.from _ (c.args.slot + 1) (others_known c.args.side c.args.slot) c.loop-corner.path.apex c.in-Some.corner
-    c.loop-corner.path.segments.items _ c.loop-corner.others.items _ c.in_ok-point.point (band_of_sound curves.from curves.low.items curves.up.items c.requires.sound) (omega arith)
-    c.in_ok-point.ensures.point c.loop-corner.invariant.path c.loop-corner.invariant.crossing c.in-Some.ensures c.pop_front.ensures.rest in
+    c.loop-corner.path.segments.items _ c.loop-corner.others _ c.in_ok-point.point (band_of_sound curves.from curves.low.items curves.up.items c.requires.sound) (omega arith)
+    c.in_ok-point.ensures.point c.loop-corner.invariant.path c.loop-corner.invariant.crossing c.in-Some.ensures c.pop_first.ensures in
     let corner = c.in-Some.corner in
     let known = others_known c.args.side c.args.slot in
     record {
       path = subst (λ o. IsPath (lower_of curves) (upper_of curves) curves.from o c.bend_at.new.self.segments.items) (sym c.in_ok-bend_at.ensures.apex)
           (subst (λ segments. IsPath (lower_of curves) (upper_of curves) curves.from corner segments) (sym c.in_ok-bend_at.ensures.segments) bent.path);
-      crossing = subst (λ o. IsCrossing c.args.side (side_of curves c.args.side) (side_of curves (other_side c.args.side)) (c.args.slot + 1) known o c.join.new.chain.items c.pop_front.new.self.items)
+      crossing = subst (λ o. IsCrossing c.args.side (side_of curves c.args.side) (side_of curves (other_side c.args.side)) (c.args.slot + 1) known o c.join.new.chain c.pop_first.new.self)
           (sym c.in_ok-bend_at.ensures.apex) bent.crossing;
     }
 

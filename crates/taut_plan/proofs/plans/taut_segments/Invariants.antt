@@ -8,6 +8,6 @@ use Rattle.taut_plan.proofs.plans.taut_segments.Given as goal
 abbrev pub invariant-loop-slot : goal.invariant-loop-slot
 invariant-loop-slot l = record {
   path : IsPath (lower_of l.curves) (upper_of l.curves) l.curves.from l.path.apex l.path.segments.items;
-  funnel : IsFunnel Lower (lower_of l.curves) (upper_of l.curves) l.slot l.slot l.path.apex l.lower.items l.upper.items;
+  funnel : IsFunnel Lower (lower_of l.curves) (upper_of l.curves) l.slot l.slot l.path.apex l.lower l.upper;
   beyond : 0 < l.slot → l.path.apex.place < l.slot;
 }

@@ -1,0 +1,8 @@
+use Rattle.std.proofs.Common.{drop, length, ap, ◌<◌, ◌∙◌, sym, subst}
+use Rattle.taut_plan.proofs.QueueLaws.{without_first}
+use Rattle.taut_plan.proofs.queues.Queue.pop_first.Goals as goal
+
+pub returns-else-self-len : goal.returns-else-self-len
+returns-else-self-len c =
+    without_first c.self.inside.points.items c.self.inside.passed (subst (λ q. 0 < length q) (sym c.self.view_is) c.requires)
+    ∙ ap (drop 1) c.self.view_is
