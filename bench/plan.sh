@@ -3,7 +3,7 @@
 #
 # PROGRAM is the built vodserve (default: ../crates/vodserve/out/vodserve). Both programs read the same trace file and
 # must print the same bytes. Then `plan` and `check` are timed on the first eighth, quarter and half of the sizes and on
-# all of them. Needs rustc and python3; all files are made in a folder that is removed again.
+# all of them. Needs rustc and python3, and valgrind to count instructions; all files are made in a folder that is removed again.
 set -eu
 here=$(cd "$(dirname "$0")" && pwd)
 program=$(realpath "${1:-$here/../crates/vodserve/out/vodserve}")
@@ -29,6 +29,10 @@ print("\n".join(map(str, lines)))
 PYTHON
 # Falling sizes: each one ends a segment, and each slot stays in the lower chain to the end.
 seq 100000 -1 1 >falling.txt
+
+instructions() { # COMMAND..: how many it takes, as valgrind counts them
+    valgrind --tool=callgrind --callgrind-out-file=/dev/null "$@" 2>&1 >/dev/null | awk '/Collected/ { print $NF }'
+}
 
 compare() { # TITLE TRACE BUFFER STARTUP, and WORDS with which the trace is read and then refused
     echo "$1: $(wc -l <"$2") sizes, buffer=$3 startup=$4, best of $rounds"
@@ -61,6 +65,11 @@ compare() { # TITLE TRACE BUFFER STARTUP, and WORDS with which the trace is read
                 clock["plain-reading"], 100 * clock["plain-reading"] / clock["plain"],
                 clock["plain-plan"] - clock["plain-reading"], clock["plain"] - clock["plain-plan"]
         }' times.txt
+    if command -v valgrind >/dev/null; then
+        awk -v proved="$(instructions "$program" $words)" -v plain="$(instructions ./plain $words)" 'BEGIN {
+            printf "  ratio   %7.2f by instructions: %.1f and %.1f million\n", proved / plain, proved / 1e6, plain / 1e6
+        }'
+    fi
 }
 
 # A million sizes and one slot before them are too many slots; the first of the falling sizes is more than one byte.
