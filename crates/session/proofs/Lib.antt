@@ -18,3 +18,4 @@ pub mod Shapes
 pub mod OneVerdict
 pub mod OnePlan
 pub mod OneHearing
+pub mod Results

@@ -1,139 +1,203 @@
--- No reply of the session's own is 453 or 503.
-use Rattle.std.proofs.Common.{◌≡◌, ℕ, ◌++◌, Bool, true, false, List, [], ◌∷◌, get_or, Option, Some, Result, Ok, Err, sym, ap, subst, inl, inr, arith}
+-- The codes of replies: none of the session's own is 453 or 503, and 500 is want of memory.
+use Rattle.std.proofs.Common.{◌≡◌, ◌≢◌, ℕ, ◌^◌, ◌<◌, ◌++◌, List, [], Option, Some, refl, sym, ap, subst, ◌∙◌, inl, inr, arith}
+use Rattle.std.proofs.lemmas.Fmt.{decimal_injective}
 use Rattle.std.specs.Fmt.{digits}
 use Rattle.rtsp_text.specs.Replies.{Field, reply_front, reply_text, status_line}
-use Rattle.rtsp_text.specs.declared.requests.Request.{Request}
 use Rattle.session.specs.declared.asks.Ask.{Ask}
-use Rattle.session.specs.declared.methods.Topic.{Topic}
-use Rattle.session.specs.declared.methods.Topic.TheVariants.{Nothing as NoTopic, Booked, Offer as OfferTopic, Unknown}
-use Rattle.session.specs.declared.plans.Planned.{Planned}
+use Rattle.session.specs.declared.asks.Ask.TheVariants.{Reply, Play as AskPlay, Halt as AskHalt, Look as AskLook, Offer as AskOffer}
 use Rattle.session.specs.declared.refusals.Refusal.{Refusal}
 use Rattle.session.specs.declared.refusals.Refusal.TheVariants.{BadRequest, Version, Method, Option as Required, Session, Film, State as NotNow, Transport, Parameter, Buffer, Range, Memory}
-use Rattle.session.specs.declared.refusals.Task.{Task}
-use Rattle.session.specs.declared.refusals.Task.TheVariants.{Options as ToOptions, Describe as ToDescribe, Setup as ToSetup, Play as ToPlay, Pause as ToPause, Teardown as ToTeardown, GetParameter as ToGetParameter}
-use Rattle.session.specs.declared.states.Next.{Next}
-use Rattle.session.specs.declared.states.Next.TheVariants.{Paused, Torn}
-use Rattle.session.specs.declared.states.Play.{Play as Played}
-use Rattle.session.specs.declared.states.Setup.{Setup}
-use Rattle.session.specs.declared.states.State.{State}
-use Rattle.session.specs.declared.states.State.TheVariants.{Init, Ready, Playing, Stopping}
-use Rattle.session.specs.Changes.{IsNoRefusal, RefusesNone}
-use Rattle.session.specs.Hearings.{Hears, HearsOn}
-use Rattle.session.specs.Methods.{AsksHalt, AsksOfferOr, AsksPlayOr, Ends, Gets, GetsOffer, IsReplied, IsSetUp, Looks, Pauses, Plays, Takes, TearsDown}
-use Rattle.session.specs.Replies.{refusal_text}
+use Rattle.session.specs.Changes.{HasCode, IsNoRefusal, RefusesNone}
+use Rattle.session.specs.Hearings.{Hears}
+use Rattle.session.specs.Laws.{Is500, IsOneHearing, IsWanting, NeverLacks}
+use Rattle.session.specs.Methods.{IsRefused, IsReplied}
+use Rattle.session.specs.Ranges.{AreFilms}
+use Rattle.session.specs.Replies.{code_of, refusal_text}
 use Rattle.session.specs.Standings.{Standing}
+use Rattle.session.proofs.OneHearing.{hears_once}
+use Rattle.session.proofs.Results.{ComesTo, Lacks, Refuses, Says, SettlesSetup, AsksForPlay, AsksForHalt, AsksForLook, AsksForOffer, comes_to}
 
--- three digits differ where one does
-other : (a b c x y z : ℕ) → (a ≡ x → b ≡ y → c ≡ z → ⊥) → (a ∷ b ∷ c ∷ []) ≡ (x ∷ y ∷ z ∷ []) → ⊥
-other a b c x y z differ same = differ (ap (λ l. get_or l 0 0) same) (ap (λ l. get_or l 1 0) same) (ap (λ l. get_or l 2 0) same)
+-- a reply has one code
+one_code : (c d : ℕ) (text : List ℕ) → c < 1000 → d < 1000 → HasCode c text → HasCode d text → c ≡ d
+one_code c d text small short is its = decimal_injective c d (omega (arith, small)) (omega (arith, short)) (sym is ∙ its)
+
+ok_code : (sequence : Option ℕ) (fields : List Field) (rest : List ℕ) → HasCode 200 (reply_front 200 sequence fields ++ rest)
+unfolding reply_front status_line digits
+ok_code sequence fields rest = refl
+
+ok_text_code : (sequence : Option ℕ) (fields : List Field) (body : List ℕ) → HasCode 200 (reply_text 200 sequence fields body)
+unfolding reply_text reply_front status_line digits
+ok_text_code sequence fields body = refl
+
+refusal_code : (sequence : Option ℕ) (refusal : Refusal) (option : List ℕ) → HasCode (code_of refusal) (refusal_text sequence refusal option)
+unfolding reply_text reply_front status_line digits
+refusal_code sequence BadRequest option = refl
+refusal_code sequence Version option = refl
+refusal_code sequence Method option = refl
+refusal_code sequence Required option = refl
+refusal_code sequence Session option = refl
+refusal_code sequence Film option = refl
+refusal_code sequence NotNow option = refl
+refusal_code sequence Transport option = refl
+refusal_code sequence Parameter option = refl
+refusal_code sequence (Buffer least) option = refl
+refusal_code sequence Range option = refl
+refusal_code sequence Memory option = refl
+
+-- the code of a refusal
+record IsOwnCode (refusal : Refusal) : Type 0 where
+  small : code_of refusal < 1000
+  no_overflow : code_of refusal ≡ 453 → ⊥
+  not_full : code_of refusal ≡ 503 → ⊥
+  memory : code_of refusal ≡ 500 → refusal ≡ Memory
+
+own_code : (refusal : Refusal) → IsOwnCode refusal
+own_code BadRequest = record { small = omega arith; no_overflow = λ is. omega (arith, is); not_full = λ is. omega (arith, is); memory = λ is. absurd (omega (arith, is)) }
+own_code Version = record { small = omega arith; no_overflow = λ is. omega (arith, is); not_full = λ is. omega (arith, is); memory = λ is. absurd (omega (arith, is)) }
+own_code Method = record { small = omega arith; no_overflow = λ is. omega (arith, is); not_full = λ is. omega (arith, is); memory = λ is. absurd (omega (arith, is)) }
+own_code Required = record { small = omega arith; no_overflow = λ is. omega (arith, is); not_full = λ is. omega (arith, is); memory = λ is. absurd (omega (arith, is)) }
+own_code Session = record { small = omega arith; no_overflow = λ is. omega (arith, is); not_full = λ is. omega (arith, is); memory = λ is. absurd (omega (arith, is)) }
+own_code Film = record { small = omega arith; no_overflow = λ is. omega (arith, is); not_full = λ is. omega (arith, is); memory = λ is. absurd (omega (arith, is)) }
+own_code NotNow = record { small = omega arith; no_overflow = λ is. omega (arith, is); not_full = λ is. omega (arith, is); memory = λ is. absurd (omega (arith, is)) }
+own_code Transport = record { small = omega arith; no_overflow = λ is. omega (arith, is); not_full = λ is. omega (arith, is); memory = λ is. absurd (omega (arith, is)) }
+own_code Parameter = record { small = omega arith; no_overflow = λ is. omega (arith, is); not_full = λ is. omega (arith, is); memory = λ is. absurd (omega (arith, is)) }
+own_code (Buffer least) = record { small = omega arith; no_overflow = λ is. omega (arith, is); not_full = λ is. omega (arith, is); memory = λ is. absurd (omega (arith, is)) }
+own_code Range = record { small = omega arith; no_overflow = λ is. omega (arith, is); not_full = λ is. omega (arith, is); memory = λ is. absurd (omega (arith, is)) }
+own_code Memory = record { small = omega arith; no_overflow = λ is. omega (arith, is); not_full = λ is. omega (arith, is); memory = λ is. refl }
+
+plain : (text : List ℕ) → HasCode 200 text → IsNoRefusal text
+plain text ok = record {
+  no_overflow = λ is. let same = one_code 200 453 text (omega arith) (omega arith) ok is in omega (arith, same);
+  not_full = λ is. let same = one_code 200 503 text (omega arith) (omega arith) ok is in omega (arith, same);
+}
 
 pub ok_plain : (sequence : Option ℕ) (fields : List Field) (body : List ℕ) → IsNoRefusal (reply_text 200 sequence fields body)
-unfolding reply_text reply_front status_line digits
-ok_plain sequence fields body = record { no_overflow = λ is. other 50 48 48 52 53 51 (λ p q r. absurd (omega (arith, p))) is; not_full = λ is. other 50 48 48 53 48 51 (λ p q r. absurd (omega (arith, p))) is }
+ok_plain sequence fields body = plain (reply_text 200 sequence fields body) (ok_text_code sequence fields body)
 
-front_plain : (sequence : Option ℕ) (fields : List Field) (rest : List ℕ) → IsNoRefusal (reply_front 200 sequence fields ++ rest)
-unfolding reply_front status_line digits
-front_plain sequence fields rest = record { no_overflow = λ is. other 50 48 48 52 53 51 (λ p q r. absurd (omega (arith, p))) is; not_full = λ is. other 50 48 48 53 48 51 (λ p q r. absurd (omega (arith, p))) is }
+plain_front : (sequence : Option ℕ) (fields : List Field) (rest : List ℕ) → IsNoRefusal (reply_front 200 sequence fields ++ rest)
+plain_front sequence fields rest = plain (reply_front 200 sequence fields ++ rest) (ok_code sequence fields rest)
 
 refusal_plain : (sequence : Option ℕ) (refusal : Refusal) (option : List ℕ) → IsNoRefusal (refusal_text sequence refusal option)
-unfolding reply_text reply_front status_line digits
-refusal_plain sequence BadRequest option = record { no_overflow = λ is. other 52 48 48 52 53 51 (λ p q r. absurd (omega (arith, q))) is; not_full = λ is. other 52 48 48 53 48 51 (λ p q r. absurd (omega (arith, p))) is }
-refusal_plain sequence Version option = record { no_overflow = λ is. other 53 48 53 52 53 51 (λ p q r. absurd (omega (arith, p))) is; not_full = λ is. other 53 48 53 53 48 51 (λ p q r. absurd (omega (arith, r))) is }
-refusal_plain sequence Method option = record { no_overflow = λ is. other 53 48 49 52 53 51 (λ p q r. absurd (omega (arith, p))) is; not_full = λ is. other 53 48 49 53 48 51 (λ p q r. absurd (omega (arith, r))) is }
-refusal_plain sequence Required option = record { no_overflow = λ is. other 53 53 49 52 53 51 (λ p q r. absurd (omega (arith, p))) is; not_full = λ is. other 53 53 49 53 48 51 (λ p q r. absurd (omega (arith, q))) is }
-refusal_plain sequence Session option = record { no_overflow = λ is. other 52 53 52 52 53 51 (λ p q r. absurd (omega (arith, r))) is; not_full = λ is. other 52 53 52 53 48 51 (λ p q r. absurd (omega (arith, p))) is }
-refusal_plain sequence Film option = record { no_overflow = λ is. other 52 48 52 52 53 51 (λ p q r. absurd (omega (arith, q))) is; not_full = λ is. other 52 48 52 53 48 51 (λ p q r. absurd (omega (arith, p))) is }
-refusal_plain sequence NotNow option = record { no_overflow = λ is. other 52 53 53 52 53 51 (λ p q r. absurd (omega (arith, r))) is; not_full = λ is. other 52 53 53 53 48 51 (λ p q r. absurd (omega (arith, p))) is }
-refusal_plain sequence Transport option = record { no_overflow = λ is. other 52 54 49 52 53 51 (λ p q r. absurd (omega (arith, q))) is; not_full = λ is. other 52 54 49 53 48 51 (λ p q r. absurd (omega (arith, p))) is }
-refusal_plain sequence Parameter option = record { no_overflow = λ is. other 52 53 49 52 53 51 (λ p q r. absurd (omega (arith, r))) is; not_full = λ is. other 52 53 49 53 48 51 (λ p q r. absurd (omega (arith, p))) is }
-refusal_plain sequence (Buffer least) option = record { no_overflow = λ is. other 52 53 49 52 53 51 (λ p q r. absurd (omega (arith, r))) is; not_full = λ is. other 52 53 49 53 48 51 (λ p q r. absurd (omega (arith, p))) is }
-refusal_plain sequence Range option = record { no_overflow = λ is. other 52 53 55 52 53 51 (λ p q r. absurd (omega (arith, r))) is; not_full = λ is. other 52 53 55 53 48 51 (λ p q r. absurd (omega (arith, p))) is }
-refusal_plain sequence Memory option = record { no_overflow = λ is. other 53 48 48 52 53 51 (λ p q r. absurd (omega (arith, p))) is; not_full = λ is. other 53 48 48 53 48 51 (λ p q r. absurd (omega (arith, r))) is }
+refusal_plain sequence refusal option =
+    let text = refusal_text sequence refusal option in
+    let own = own_code refusal in
+    let code = refusal_code sequence refusal option in
+    record {
+      no_overflow = λ is. own.no_overflow (one_code (code_of refusal) 453 text own.small (omega arith) code is);
+      not_full = λ is. own.not_full (one_code (code_of refusal) 503 text own.small (omega arith) code is);
+    }
 
-replied_text : (old : Standing) (text : List ℕ) (ask : Ask) (new : Standing) → IsReplied old text ask new → IsNoRefusal text → RefusesNone ask new
-replied_text old text ask new is plain =
-    subst (λ a. RefusesNone a new) (sym is.0) (subst IsNoRefusal (sym (ap (λ (s : Standing). s.text) is.1)) plain)
+-- a 200 tells no want of memory
+record IsFound (text : List ℕ) : Type 0 where
+  found : ¬ HasCode 500 text
 
-looks_text : (old : Standing) (sequence : ℕ) (ask : Ask) (new : Standing) → Looks old sequence ask new → RefusesNone ask new
-looks_text old sequence ask new (inl look) = subst (λ a. RefusesNone a new) (sym look.command) tt
-looks_text old sequence ask new (inr lacks) = replied_text old _ ask new lacks.refused (refusal_plain (Some sequence) Memory [])
+found_text : (sequence : Option ℕ) (fields : List Field) (body : List ℕ) → IsFound (reply_text 200 sequence fields body)
+found_text sequence fields body = record {
+  found = λ is.
+      let text = reply_text 200 sequence fields body in
+      let same = one_code 200 500 text (omega arith) (omega arith) (ok_text_code sequence fields body) is in
+      omega (arith, same);
+}
 
-asks_offer_text : (old : Standing) (sequence wait : ℕ) (planned : Result Planned Refusal) (ask : Ask) (new : Standing) →
-    AsksOfferOr old sequence wait planned ask new → RefusesNone ask new
-asks_offer_text old sequence wait (Ok planned) ask new (inl asks) = subst (λ a. RefusesNone a new) (sym asks.command) tt
-asks_offer_text old sequence wait (Ok planned) ask new (inr refused) = replied_text old _ ask new refused (refusal_plain (Some sequence) Memory [])
-asks_offer_text old sequence wait (Err refusal) ask new refused = replied_text old _ ask new refused (refusal_plain (Some sequence) refusal [])
+found_front : (sequence : Option ℕ) (fields : List Field) (rest : List ℕ) → IsFound (reply_front 200 sequence fields ++ rest)
+found_front sequence fields rest = record {
+  found = λ is.
+      let text = reply_front 200 sequence fields ++ rest in
+      let same = one_code 200 500 text (omega arith) (omega arith) (ok_code sequence fields rest) is in
+      omega (arith, same);
+}
 
-gets_offer_text : (state : State) (old : Standing) (request : Request) (ask : Ask) (new : Standing) → GetsOffer state old request ask new → RefusesNone ask new
-gets_offer_text Init old request ask new is = replied_text old _ ask new is (refusal_plain (Some request.sequence) Session [])
-gets_offer_text (Ready setup paused) old request ask new (inl lacks) = replied_text old _ ask new lacks.refused (refusal_plain (Some request.sequence) Parameter [])
-gets_offer_text (Ready setup paused) old request ask new (inr offers) =
-    asks_offer_text old request.sequence offers.wait offers.offers.planned ask new offers.offers.asks
-gets_offer_text (Playing setup play) old request ask new is = replied_text old _ ask new is (refusal_plain (Some request.sequence) NotNow [])
-gets_offer_text (Stopping setup stop) old request ask new is = replied_text old _ ask new is (refusal_plain (Some request.sequence) NotNow [])
+-- what is shown of a reply's text
+of_text : (old : Standing) (text : List ℕ) (ask : Ask) (new : Standing) → ask ≡ Reply → new.text ≡ text → IsNoRefusal text → RefusesNone ask new
+of_text old text ask new reply is refuses = subst (λ a. RefusesNone a new) (sym reply) (subst IsNoRefusal (sym is) refuses)
 
-gets_text : (old : Standing) (request : Request) (topic : Topic) (ask : Ask) (new : Standing) → Gets old request topic ask new → RefusesNone ask new
-gets_text old request NoTopic ask new is = replied_text old _ ask new is (ok_plain (Some request.sequence) [] [])
-gets_text old request Booked ask new is = looks_text old request.sequence ask new is
-gets_text old request OfferTopic ask new is = gets_offer_text old.state old request ask new is
-gets_text old request Unknown ask new is = replied_text old _ ask new is (refusal_plain (Some request.sequence) Parameter [])
-
-set_up_text : (old : Standing) (sequence : ℕ) (read : Result Setup Refusal) (ask : Ask) (new : Standing) → IsSetUp old sequence read ask new → RefusesNone ask new
-set_up_text old sequence (Ok setup) ask new is =
-    subst (λ a. RefusesNone a new) (sym is.0) (subst IsNoRefusal (sym (ap (λ (s : Standing). s.text) is.1)) (ok_plain (Some sequence) _ []))
-set_up_text old sequence (Err refusal) ask new is = replied_text old _ ask new is (refusal_plain (Some sequence) refusal [])
-
-asks_play_text : (old : Standing) (sequence : ℕ) (authority : List ℕ) (setup : Setup) (planned : Result Planned Refusal) (ask : Ask) (new : Standing) →
-    AsksPlayOr old sequence authority setup planned ask new → RefusesNone ask new
-asks_play_text old sequence authority setup (Ok planned) ask new (inl asks) =
-    subst (λ a. RefusesNone a new) (sym asks.command)
-    (λ rest. subst (λ (t : List ℕ). IsNoRefusal (t ++ rest)) (sym (ap (λ (s : Standing). s.text) asks.state)) (front_plain (Some sequence) _ rest))
-asks_play_text old sequence authority setup (Ok planned) ask new (inr refused) = replied_text old _ ask new refused (refusal_plain (Some sequence) Memory [])
-asks_play_text old sequence authority setup (Err refusal) ask new refused = replied_text old _ ask new refused (refusal_plain (Some sequence) refusal [])
-
-plays_text : (state : State) (old : Standing) (request : Request) (authority : List ℕ) (ask : Ask) (new : Standing) →
-    Plays state old request authority ask new → RefusesNone ask new
-plays_text Init old request authority ask new is = absurd is
-plays_text (Ready setup paused) old request authority ask new is = asks_play_text old request.sequence authority setup is.planned ask new is.asks
-plays_text (Playing setup play) old request authority ask new is = replied_text old _ ask new is (ok_plain (Some request.sequence) _ [])
-plays_text (Stopping setup stop) old request authority ask new is = replied_text old _ ask new is (ok_plain (Some request.sequence) _ [])
-
-halts_text : (old : Standing) (sequence : ℕ) (setup : Setup) (play : Played) (next : Next) (ask : Ask) (new : Standing) →
-    AsksHalt old sequence setup play next ask new → RefusesNone ask new
-halts_text old sequence setup play next ask new asks =
-    subst (λ a. RefusesNone a new) (sym asks.command) (subst IsNoRefusal (sym (ap (λ (s : Standing). s.text) asks.state)) (ok_plain (Some sequence) _ []))
-
-pauses_text : (state : State) (old : Standing) (sequence : ℕ) (ask : Ask) (new : Standing) → Pauses state old sequence ask new → RefusesNone ask new
-pauses_text Init old sequence ask new is = absurd is
-pauses_text (Ready setup paused) old sequence ask new is = absurd is
-pauses_text (Playing setup play) old sequence ask new is = halts_text old sequence setup play (Paused is.left) ask new is.asks
-pauses_text (Stopping setup stop) old sequence ask new is = absurd is
-
-ends_text : (old : Standing) (sequence : ℕ) (ask : Ask) (new : Standing) → Ends old sequence ask new → RefusesNone ask new
-ends_text old sequence ask new is =
-    subst (λ a. RefusesNone a new) (sym is.0) (subst IsNoRefusal (sym (ap (λ (s : Standing). s.text) is.1)) (ok_plain (Some sequence) _ []))
-
-tears_text : (state : State) (old : Standing) (sequence : ℕ) (ask : Ask) (new : Standing) → TearsDown state old sequence ask new → RefusesNone ask new
-tears_text Init old sequence ask new is = ends_text old sequence ask new is
-tears_text (Ready setup paused) old sequence ask new is = ends_text old sequence ask new is
-tears_text (Playing setup play) old sequence ask new is = halts_text old sequence setup play Torn ask new is
-tears_text (Stopping setup stop) old sequence ask new is = ends_text old sequence ask new is
-
-takes_text : (old : Standing) (request : Request) (judgement : Result Task Refusal) (ask : Ask) (new : Standing) →
-    Takes old request judgement ask new → RefusesNone ask new
-takes_text old request (Ok ToOptions) ask new takes = replied_text old _ ask new takes (ok_plain (Some request.sequence) _ [])
-takes_text old request (Ok (ToDescribe asked)) ask new takes = replied_text old _ ask new takes.reply (ok_plain (Some request.sequence) _ _)
-takes_text old request (Ok (ToSetup film)) ask new takes = set_up_text old request.sequence takes.read ask new takes.done
-takes_text old request (Ok (ToPlay asked)) ask new takes = plays_text old.state old request asked.authority.now ask new takes
-takes_text old request (Ok ToPause) ask new takes = pauses_text old.state old request.sequence ask new takes
-takes_text old request (Ok ToTeardown) ask new takes = tears_text old.state old request.sequence ask new takes
-takes_text old request (Ok ToGetParameter) ask new takes = gets_text old request takes.topic ask new takes.gets
-takes_text old request (Err refusal) ask new takes = replied_text old _ ask new takes (refusal_plain (Some request.sequence) refusal _)
-
-hears_on_text : (lost : Bool) (old : Standing) (message : List ℕ) (ask : Ask) (new : Standing) → HearsOn lost old message ask new → RefusesNone ask new
-hears_on_text true old message ask new refused = replied_text old _ ask new refused (refusal_plain _ Memory [])
-hears_on_text false old message ask new (inl fault) = replied_text old _ ask new fault.refused (refusal_plain _ _ [])
-hears_on_text false old message ask new (inr whole) = takes_text old whole.request whole.hears.judgement ask new whole.hears.takes
+comes_text : (old new : Standing) (message : List ℕ) (ask : Ask) → ComesTo old message ask new → RefusesNone ask new
+comes_text old new message ask (Lacks is) =
+    of_text old _ ask new is.0 (ap (λ (s : Standing). s.text) is.1) (refusal_plain _ Memory [])
+comes_text old new message ask (Refuses sequence refusal option other is) =
+    of_text old _ ask new is.0 (ap (λ (s : Standing). s.text) is.1) (refusal_plain sequence refusal option)
+comes_text old new message ask (Says sequence fields body tearing command is) =
+    of_text old _ ask new command (ap (λ (s : Standing). s.text) is) (ok_plain (Some sequence) fields body)
+comes_text old new message ask (SettlesSetup sequence setup init ranges command is) =
+    of_text old _ ask new command (ap (λ (s : Standing). s.text) is) (ok_plain (Some sequence) _ [])
+comes_text old new message ask (AsksForPlay stored setup paused range planned sequence authority ready planned_is command is) =
+    subst (λ a. RefusesNone a new) (sym command)
+    (λ rest. subst (λ (t : List ℕ). IsNoRefusal (t ++ rest)) (sym (ap (λ (s : Standing). s.text) is))
+    (plain_front (Some sequence) _ rest))
+comes_text old new message ask (AsksForHalt sequence setup play next playing told halts) =
+    subst (λ a. RefusesNone a new) (sym halts.command)
+    (subst IsNoRefusal (sym (ap (λ (s : Standing). s.text) halts.state)) (ok_plain (Some sequence) _ []))
+comes_text old new message ask (AsksForLook sequence look) = subst (λ a. RefusesNone a new) (sym look.command) tt
+comes_text old new message ask (AsksForOffer sequence wait planned asks) = subst (λ a. RefusesNone a new) (sym asks.command) tt
 
 pub hears_text : (old new : Standing) (message : List ℕ) (ask : Ask) → Hears old message ask new → RefusesNone ask new
-hears_text old new message ask hears = hears_on_text old.lost old message ask new hears
+hears_text old new message ask hears = comes_text old new message ask (comes_to old message ask new hears)
+
+-- a reply of 500 is that to a message for which memory is wanting
+comes_500 : (old new : Standing) (message : List ℕ) → ComesTo old message Reply new → HasCode 500 new.text → IsWanting old message Reply new
+comes_500 old new message (Lacks is) code = is
+comes_500 old new message (Refuses sequence refusal option other is) code =
+    let text = refusal_text sequence refusal option in
+    let own = own_code refusal in
+    let its = subst (λ (t : List ℕ). HasCode 500 t) (ap (λ (s : Standing). s.text) is.1) code in
+    absurd (other (own.memory (one_code (code_of refusal) 500 text own.small (omega arith) (refusal_code sequence refusal option) its)))
+comes_500 old new message (Says sequence fields body tearing command is) code =
+    absurd ((subst IsFound (sym (ap (λ (s : Standing). s.text) is)) (found_text (Some sequence) fields body)).found code)
+comes_500 old new message (SettlesSetup sequence setup init ranges command is) code =
+    absurd ((subst IsFound (sym (ap (λ (s : Standing). s.text) is)) (found_text (Some sequence) _ [])).found code)
+comes_500 old new message (AsksForPlay stored setup paused range planned sequence authority ready planned_is command is) code =
+    absurd (let no : ⊥ = cc in no)
+comes_500 old new message (AsksForHalt sequence setup play next playing told halts) code = absurd (let no : ⊥ = cc (halts.command) in no)
+comes_500 old new message (AsksForLook sequence look) code = absurd (let no : ⊥ = cc (look.command) in no)
+comes_500 old new message (AsksForOffer sequence wait planned asks) code = absurd (let no : ⊥ = cc (asks.command) in no)
+
+pub hears_500 : (old new : Standing) (message : List ℕ) (ask : Ask) → Hears old message ask new → Is500 ask new → IsWanting old message ask new
+hears_500 old new message Reply hears code = comes_500 old new message (comes_to old message Reply new hears) code
+hears_500 old new message (AskPlay plan) hears code = absurd code
+hears_500 old new message (AskHalt keep) hears code = absurd code
+hears_500 old new message (AskLook slot) hears code = absurd code
+hears_500 old new message (AskOffer plan offers) hears code = absurd code
+
+-- and the other way round
+wanting_500 : (old new : Standing) (message : List ℕ) (ask : Ask) → IsWanting old message ask new → Is500 ask new
+wanting_500 old new message ask is =
+    subst (λ a. Is500 a new) (sym is.0)
+    (subst (λ (t : List ℕ). HasCode 500 t) (sym (ap (λ (s : Standing). s.text) is.1)) (refusal_code _ Memory []))
+
+same_wanting : (old one other : Standing) (message : List ℕ) (ask again : Ask) → IsWanting old message ask one → IsWanting old message again other
+    → (ask ≡ again) × (one ≡ other)
+same_wanting old one other message ask again is its = (is.0 ∙ sym its.0, is.1 ∙ sym its.1)
+
+-- where memory is found for both hearings of a message, or for none, they come to the same
+pub hears_same : (old one other : Standing) (message : List ℕ) (ask again : Ask) → AreFilms old.films → Hears old message ask one
+    → Hears old message again other → (Is500 ask one → Is500 again other) → (Is500 again other → Is500 ask one) → (ask ≡ again) × (one ≡ other)
+hears_same old one other message ask again films is its there back =
+    elim (hears_once old one other message ask again films is its) [
+      | inl same ↦ (sym same.ask_is, sym same.session_is)
+      | inr lacks ↦
+          elim lacks [
+            | inl first ↦ same_wanting old one other message ask again first
+                (hears_500 old other message again its (there (wanting_500 old one message ask first)))
+            | inr second ↦ same_wanting old one other message ask again
+                (hears_500 old one message ask is (back (wanting_500 old other message again second))) second
+          ]
+    ]
+
+-- what is begun with the station is no want of memory
+comes_never : (old new : Standing) (message : List ℕ) (ask : Ask) → ComesTo old message ask new → NeverLacks ask new
+comes_never old new message ask (Lacks is) = subst (λ a. NeverLacks a new) (sym is.0) tt
+comes_never old new message ask (Refuses sequence refusal option other is) = subst (λ a. NeverLacks a new) (sym is.0) tt
+comes_never old new message ask (Says sequence fields body tearing command is) = subst (λ a. NeverLacks a new) (sym command) tt
+comes_never old new message ask (SettlesSetup sequence setup init ranges command is) = subst (λ a. NeverLacks a new) (sym command) tt
+comes_never old new message ask (AsksForPlay stored setup paused range planned sequence authority ready planned_is command is) =
+    subst (λ a. NeverLacks a new) (sym command)
+    (λ rest. (subst (λ (t : List ℕ). IsFound (t ++ rest)) (sym (ap (λ (s : Standing). s.text) is))
+    (found_front (Some sequence) _ rest)).found)
+comes_never old new message ask (AsksForHalt sequence setup play next playing told halts) =
+    subst (λ a. NeverLacks a new) (sym halts.command)
+    (subst IsFound (sym (ap (λ (s : Standing). s.text) halts.state)) (found_text (Some sequence) _ [])).found
+comes_never old new message ask (AsksForLook sequence look) = subst (λ a. NeverLacks a new) (sym look.command) tt
+comes_never old new message ask (AsksForOffer sequence wait planned asks) = subst (λ a. NeverLacks a new) (sym asks.command) tt
+
+pub hears_never : (old new : Standing) (message : List ℕ) (ask : Ask) → Hears old message ask new → NeverLacks ask new
+hears_never old new message ask hears = comes_never old new message ask (comes_to old message ask new hears)

@@ -1,5 +1,5 @@
 -- Laws of a session, in RFC 2326's words.
-use Rattle.std.specs.Prelude.{ℕ, ◌≡◌, ◌+◌, ◌%◌, ◌^◌, ◌⊎◌, ⊤, List, [], Option}
+use Rattle.std.specs.Prelude.{ℕ, ◌≡◌, ◌+◌, ◌%◌, ◌^◌, ◌++◌, ◌⊎◌, ⊤, List, [], Option}
 use Rattle.rtp_pack.specs.declared.reports.Identity.{Identity}
 use Rattle.film_run.specs.declared.runs.Run.{Run}
 use Rattle.rtsp_text.specs.Replies.{Field, reply_text}
@@ -10,6 +10,7 @@ use Rattle.session.specs.declared.states.State.{State}
 use Rattle.session.specs.declared.states.State.TheVariants.{Init, Ready, Playing, Stopping}
 use Rattle.rtsp_text.specs.Fields.{first_sequence}
 use Rattle.session.specs.declared.refusals.Refusal.TheVariants.{Memory}
+use Rattle.session.specs.Changes.{HasCode}
 use Rattle.session.specs.Methods.{IsRefused}
 use Rattle.session.specs.Standings.{Standing, replied}
 
@@ -83,3 +84,19 @@ pub record IsSameHearing (ask again : Ask) (one other : Standing) : Type 0 where
 abbrev pub IsOneHearing : Standing → List ℕ → Ask → Standing → Ask → Standing → Type 0
 IsOneHearing old message ask one again other = IsSameHearing ask again one other
     ⊎ (IsWanting old message ask one ⊎ IsWanting old message again other)
+
+-- a message for which memory is wanting, by its reply
+abbrev pub Is500 : Ask → Standing → Type 0
+Is500 Reply new = HasCode 500 new.text
+Is500 (AskPlay plan) new = ⊥
+Is500 (AskHalt keep) new = ⊥
+Is500 (AskLook slot) new = ⊥
+Is500 (AskOffer plan offers) new = ⊥
+
+-- once a play or a halt is asked of the station, no reply to its request is 500
+abbrev pub NeverLacks : Ask → Standing → Type 0
+NeverLacks Reply new = ⊤
+NeverLacks (AskPlay plan) new = (rest : List ℕ) → ¬ HasCode 500 (new.text ++ rest)
+NeverLacks (AskHalt keep) new = ¬ HasCode 500 new.text
+NeverLacks (AskLook slot) new = ⊤
+NeverLacks (AskOffer plan offers) new = ⊤

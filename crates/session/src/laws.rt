@@ -14,7 +14,7 @@ ghost use Rattle.session.specs.declared.states.State.TheVariants.{Playing};
 ghost use Rattle.session.specs.Films.{counts_after, identity_of};
 ghost use Rattle.session.specs.Changes.{AsksOrLacks, CanBePlayed, ChangesState, IsSameGround, RefusesNone};
 ghost use Rattle.session.specs.Hearings.{Hears, after_admission, after_halt};
-ghost use Rattle.session.specs.Laws.{GoesOn, InitStage, IsNoHalt, IsOneHearing, LeavesOr, PlayingStage, PlaysOn, ReadyStage, Resumes, StaysOr};
+ghost use Rattle.session.specs.Laws.{GoesOn, InitStage, Is500, IsNoHalt, IsOneHearing, IsWanting, LeavesOr, NeverLacks, PlayingStage, PlaysOn, ReadyStage, Resumes, StaysOr};
 ghost use Rattle.session.specs.Planning.{IsPlannedRun};
 ghost use Rattle.session.specs.Ranges.{AreFilms};
 ghost use Rattle.session.specs.Standings.{Standing};
@@ -81,9 +81,15 @@ pub fn law_play_is_asked()
 {}
 
 /// A message is heard in one way, where memory is found for it: one command to the station, and one
-/// session after it, with its state and its reply. Where memory is wanting, it is answered 500.
+/// session after it, with its state and its reply. Where memory is wanting, it is answered 500, as
+/// for no other reason, and nothing else changes.
 pub fn law_one_hearing()
-    ensures { (old one other : Standing) (message : List ℕ) (ask again : Ask) → AreFilms old.films
+    ensures one { (old one other : Standing) (message : List ℕ) (ask again : Ask) → AreFilms old.films
         → Hears old message ask one → Hears old message again other
         → IsOneHearing old message ask one again other }
+    ensures memory { (old new : Standing) (message : List ℕ) (ask : Ask) →
+        Hears old message ask new
+        → Is500 ask new → IsWanting old message ask new }
+    ensures begun { (old new : Standing) (message : List ℕ) (ask : Ask) →
+        Hears old message ask new → NeverLacks ask new }
 {}
