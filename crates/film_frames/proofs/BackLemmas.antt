@@ -48,7 +48,7 @@ unfolding carried
 reports-carry film unit true = refl
 reports-carry film unit false = refl
 
--- two ranges, one behind the other
+-- two ranges, one after the other
 ranges-join : (film : List ℕ) (a b c : ℕ) → a ≤ b → b ≤ c → take (b - a) (drop a film) ++ take (c - b) (drop b film) ≡ take (c - a) (drop a film)
 ranges-join film a b c ab bc =
     let all : c - a ≡ (b - a) + (c - b) = omega (arith, ab, bc) in

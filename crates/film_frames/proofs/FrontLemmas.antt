@@ -47,7 +47,7 @@ room units pieces table is most =
       places = omega (arith, place, wire, most);
     }
 
--- ---- the frames of a unit, one behind another
+-- ---- the frames of a unit, one after another
 
 -- what goes before the packet of that number
 abbrev pub before_packet : Film → ℕ → PictureUnit → List Packet → ℕ → List Piece

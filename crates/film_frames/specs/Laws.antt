@@ -1,5 +1,6 @@
 -- What a reader expects of the bytes of a run.
-use Rattle.std.specs.Prelude.{ℕ, ◌+◌, ◌%◌, ◌^◌, ◌<◌, ◌≤◌, ◌≡◌, List, [], ◌∷◌, length, drop, flat_map, get_or, slice_get, slice_index, take, Ok, Some}
+use Rattle.std.specs.Prelude.{ℕ, ◌+◌, ◌%◌, ◌^◌, ◌<◌, ◌≤◌, ◌≡◌, List, [], ◌∷◌, length, drop}
+use Rattle.std.specs.Prelude.{flat_map, get_or, slice_get, slice_index, take, Ok, Some}
 use Rattle.mpeg_scan.specs.declared.units.Unit.{Unit as PictureUnit}
 use Rattle.mpeg_scan.specs.Rates.{picture_time}
 use Rattle.rtp_pack.specs.declared.heads.Head.{Head}
@@ -10,7 +11,8 @@ use Rattle.interleave.specs.Pieces.{StartsBlock, block_length}
 use Rattle.film_frames.specs.declared.pieces.Piece.{Piece}
 use Rattle.film_frames.specs.declared.pieces.Piece.TheVariants.{Report, Frame}
 use Rattle.film_frames.specs.Pieces.{frames_in, octets_of}
-use Rattle.film_frames.specs.Runs.{Run, frames_before, interleaved, octets_before, run_pieces, pieces_in}
+use Rattle.film_frames.specs.Runs.{Run, frames_before, interleaved, octets_before, run_pieces}
+use Rattle.film_frames.specs.Runs.{pieces_in}
 use Rattle.film_frames.specs.Tracks.{begin_of}
 
 -- the bytes of the frames, among those of pieces

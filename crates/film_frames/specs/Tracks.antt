@@ -1,6 +1,7 @@
 -- What a track is: the pieces that it is sent by, in order, and the boundaries between them. A
 -- piece is the bytes of one frame or one report.
-use Rattle.std.specs.Prelude.{ℕ, ◌+◌, ◌-◌, ◌<◌, ◌≤◌, ◌≡◌, ◌^◌, List, [], ◌∷◌, length, take, drop, map, flat_map, replicate, get_or}
+use Rattle.std.specs.Prelude.{ℕ, ◌+◌, ◌-◌, ◌<◌, ◌≤◌, ◌≡◌, ◌^◌, List, [], ◌∷◌, length, take, drop}
+use Rattle.std.specs.Prelude.{map, flat_map, replicate, get_or}
 
 -- all bytes of pieces, one piece after another
 abbrev pub framed : List (List ℕ) → List ℕ

@@ -1,8 +1,10 @@
 ghost use Rattle.mpeg_scan.specs.declared.units.Unit.{Unit as PictureUnit};
 ghost use Rattle.mpeg_scan.specs.Rates.{picture_time};
-ghost use Rattle.std.specs.Prelude.{◌≡◌, ◌+◌, ◌-◌, ◌^◌, ◌++◌, ◌<◌, ◌≤◌, ℕ, [], length, take, drop, slice_get, slice_range, Some};
+ghost use Rattle.std.specs.Prelude.{◌≡◌, ◌+◌, ◌-◌, ◌^◌, ◌++◌, ◌<◌, ◌≤◌, ℕ, [], length, take, drop};
+ghost use Rattle.std.specs.Prelude.{slice_get, slice_range, Some};
 ghost use Rattle.film_frames.specs.Pieces.{frames_in, octets_in, wire_in};
-ghost use Rattle.film_frames.specs.Runs.{HaveEnded, count_ended, frames_before, octets_before, payload, piece_bytes};
+ghost use Rattle.film_frames.specs.Runs.{HaveEnded, count_ended, frames_before, octets_before};
+ghost use Rattle.film_frames.specs.Runs.{payload, piece_bytes};
 ghost use Rattle.film_frames.specs.Runs.{run_of, run_pieces, pieces_in};
 ghost use Rattle.film_frames.specs.Tables.{IsCut, IsSound};
 ghost use Rattle.film_frames.specs.declared.pieces.Piece.TheVariants.{Frame, Report};

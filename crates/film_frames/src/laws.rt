@@ -1,8 +1,10 @@
 ghost use Rattle.std.specs.Prelude.{◌≡◌, ◌+◌, ◌-◌, ◌^◌, ◌<◌, ◌≤◌, ℕ, length, map, sum, take, drop};
 ghost use Rattle.rtp_pack.specs.Packets.{OfUnit};
-ghost use Rattle.film_frames.specs.Laws.{AreBlocks, AreOnChannels, DoCountOn, DoHeadsReadBack, DoReportsCount, HaveSizes, payloads, run_frames};
+ghost use Rattle.film_frames.specs.Laws.{AreBlocks, AreOnChannels, DoCountOn, DoHeadsReadBack};
+ghost use Rattle.film_frames.specs.Laws.{DoReportsCount, HaveSizes, payloads, run_frames};
 ghost use Rattle.film_frames.specs.Pieces.{frames_in, wire_size};
-ghost use Rattle.film_frames.specs.Runs.{HaveEnded, Run, count_ended, run_of, run_pieces, pieces_in};
+ghost use Rattle.film_frames.specs.Runs.{HaveEnded, Run, count_ended, run_of, run_pieces};
+ghost use Rattle.film_frames.specs.Runs.{pieces_in};
 ghost use Rattle.film_frames.specs.Tracks.{framed};
 
 use mpeg_scan::Film;

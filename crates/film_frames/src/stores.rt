@@ -20,9 +20,11 @@ pub struct Stored {
 }
 
 impl Stored {
-    ghost use Rattle.std.specs.Prelude.{◌≡◌, ◌+◌, ◌-◌, ◌*◌, ◌<◌, ◌≤◌, ℕ, length, take, get_or, slice_get, string_bytes, Some, IfOk};
+    ghost use Rattle.std.specs.Prelude.{◌≡◌, ◌+◌, ◌-◌, ◌*◌, ◌<◌, ◌≤◌, ℕ, length, take, get_or};
+    ghost use Rattle.std.specs.Prelude.{slice_get, string_bytes, Some, IfOk};
     ghost use Rattle.rtp_pack.specs.Packets.{OfUnit};
-    ghost use Rattle.film_frames.specs.Pieces.{OfPiece, film_pieces, frames_in, from_of, front_pieces, wire_in, wire_size};
+    ghost use Rattle.film_frames.specs.Pieces.{OfPiece, film_pieces, frames_in, from_of};
+    ghost use Rattle.film_frames.specs.Pieces.{front_pieces, wire_in, wire_size};
 
     /// A film under a name, with its table.
     pub fn new(alloc: Global, name: String, film: Film) -> Result<Stored, NoMemory>

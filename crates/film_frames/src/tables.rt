@@ -1,11 +1,14 @@
-ghost use Rattle.std.specs.Prelude.{◌≡◌, ◌+◌, ◌-◌, ◌*◌, ◌^◌, ◌<◌, ◌≤◌, ◌++◌, ℕ, List, [], ◌∷◌, length, take, drop, get_or};
+ghost use Rattle.std.specs.Prelude.{◌≡◌, ◌+◌, ◌-◌, ◌*◌, ◌^◌, ◌<◌, ◌≤◌, ◌++◌, ℕ, List, [], ◌∷◌};
+ghost use Rattle.std.specs.Prelude.{length, take, drop, get_or};
 ghost use Rattle.std.specs.Prelude.{slice_get, Some, IfOk, OnOk};
 ghost use Rattle.mpeg_scan.specs.declared.units.Unit.{Unit as PictureUnit};
 ghost use Rattle.mpeg_scan.specs.declared.films.Film.{Film};
 ghost use Rattle.rtp_pack.specs.Packets.{OfUnit, unit_packets};
 ghost use Rattle.film_frames.specs.declared.pieces.Piece.{Piece};
-ghost use Rattle.film_frames.specs.Pieces.{film_pieces, front_pieces, unit_of, unit_reports, wire_size};
-ghost use Rattle.film_frames.specs.Tables.{AreFirsts, HasPieces, HasRoom, HasUnit, IsSound, IsTable, IsTableOf};
+ghost use Rattle.film_frames.specs.Pieces.{film_pieces, front_pieces, unit_of, unit_reports};
+ghost use Rattle.film_frames.specs.Pieces.{wire_size};
+ghost use Rattle.film_frames.specs.Tables.{AreFirsts, HasPieces, HasRoom, HasUnit, IsSound};
+ghost use Rattle.film_frames.specs.Tables.{IsTable, IsTableOf};
 ghost use Rattle.film_frames.specs.Tables.{with_report};
 
 use crate::pieces::{Piece, wire_of};

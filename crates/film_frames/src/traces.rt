@@ -1,4 +1,5 @@
-ghost use Rattle.std.specs.Prelude.{◌≡◌, ◌++◌, ◌+◌, ◌-◌, ◌^◌, ◌<◌, ◌≤◌, List, ℕ, length, min, replicate, slice_range, sum, Ok};
+ghost use Rattle.std.specs.Prelude.{◌≡◌, ◌++◌, ◌+◌, ◌-◌, ◌^◌, ◌<◌, ◌≤◌, List, ℕ, length, min};
+ghost use Rattle.std.specs.Prelude.{replicate, slice_range, sum, Ok};
 ghost use Rattle.film_frames.specs.Tracks.{IsBoundaryAfter, IsNext, framed, zero_frames};
 
 use crate::searches::ends_below;

@@ -1,6 +1,7 @@
 -- The run that a PLAY's times ask for. A decoder can begin only at a group of pictures, so the
 -- range that is played is aligned to groups, as RFC 2326 section 10.5 lets a server do.
-use Rattle.std.specs.Prelude.{ℕ, ◌≡◌, ◌*◌, ◌^◌, ◌<◌, ◌≤◌, ◌⊎◌, true, List, length, Option, Some, None}
+use Rattle.std.specs.Prelude.{ℕ, ◌≡◌, ◌*◌, ◌^◌, ◌<◌, ◌≤◌, ◌⊎◌, true, List, length, Option, Some}
+use Rattle.std.specs.Prelude.{None}
 use Rattle.mpeg_scan.specs.declared.units.Unit.{Unit as PictureUnit}
 use Rattle.mpeg_scan.specs.declared.films.Film.{Film}
 use Rattle.mpeg_scan.specs.Layout.{OfUnit}

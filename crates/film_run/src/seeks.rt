@@ -1,10 +1,12 @@
 //! The run that a PLAY's times ask for, aligned to groups of pictures (RFC 2326 sections 10.5 and
 //! 12.29).
 
-ghost use Rattle.std.specs.Prelude.{◌≡◌, ◌^◌, ◌<◌, ◌≤◌, ℕ, ◌⊎◌, length, IfSome, MatchBool, MatchOption};
+ghost use Rattle.std.specs.Prelude.{◌≡◌, ◌^◌, ◌<◌, ◌≤◌, ℕ, ◌⊎◌, length, IfSome, MatchBool};
+ghost use Rattle.std.specs.Prelude.{MatchOption};
 ghost use Rattle.mpeg_scan.specs.Rates.{picture_time};
 ghost use Rattle.film_run.specs.Runs.{IsFilmRun};
-ghost use Rattle.film_run.specs.Seeks.{BeginsBy, HasNothing, IsAfter, IsAsked, IsBefore, IsEnd, IsGroupBy};
+ghost use Rattle.film_run.specs.Seeks.{BeginsBy, HasNothing, IsAfter, IsAsked, IsBefore, IsEnd};
+ghost use Rattle.film_run.specs.Seeks.{IsGroupBy};
 ghost use Rattle.film_run.specs.Seeks.{IsGroupFrom, IsPlaceAfter, IsReversed, StartsGroup};
 
 use crate::runs::{Run, new_run};

@@ -1,6 +1,7 @@
 -- The head of an RTSP message (RFC 2326 sections 4, 6 and 7): a first line, header lines and an
 -- empty line. A line ends with LF or with CR LF.
-use Rattle.std.specs.Prelude.{◌≡◌, ℕ, ◌+◌, ◌-◌, ◌<◌, ◌≤◌, ◌&&◌, ◌||◌, ◌==◌, Bool, true, false, nat_lt, List, length, slice_index}
+use Rattle.std.specs.Prelude.{◌≡◌, ℕ, ◌+◌, ◌-◌, ◌<◌, ◌≤◌, ◌&&◌, ◌||◌, ◌==◌, Bool, true, false}
+use Rattle.std.specs.Prelude.{nat_lt, List, length, slice_index}
 
 -- CR or LF, which may stand before a request
 abbrev pub is_line_end : ℕ → Bool

@@ -1,6 +1,7 @@
 -- The length of a message's body (RFC 2326 sections 4.4 and 12.14): the value of the head's first
 -- Content-Length, 0 where there is none.
-use Rattle.std.specs.Prelude.{◌≡◌, ℕ, ◌+◌, ◌-◌, ◌<◌, ◌⊎◌, if◌then◌else◌, List, map, slice_index, slice_range, codes}
+use Rattle.std.specs.Prelude.{◌≡◌, ℕ, ◌+◌, ◌-◌, ◌<◌, ◌⊎◌, if◌then◌else◌, List, map, slice_index}
+use Rattle.std.specs.Prelude.{slice_range, codes}
 use Rattle.std.specs.Char.{to_ascii_lowercase}
 use Rattle.std.specs.Str.Parse.{digits_value}
 use Rattle.vod_base.specs.Blanks.{trimmed}

@@ -1,6 +1,7 @@
 -- The first piece of a connection's input (RFC 2326 sections 4, 6 and 10.12): bytes CR and LF
 -- before a request, an interleaved block, or a request.
-use Rattle.std.specs.Prelude.{◌≡◌, ℕ, ◌+◌, ◌*◌, ◌<◌, ◌≤◌, ◌==◌, ◌⊎◌, true, false, List, length, take, slice_index, Result, Ok, Err}
+use Rattle.std.specs.Prelude.{◌≡◌, ℕ, ◌+◌, ◌*◌, ◌<◌, ◌≤◌, ◌==◌, ◌⊎◌, true, false, List, length}
+use Rattle.std.specs.Prelude.{take, slice_index, Result, Ok, Err}
 use Rattle.interleave.specs.Heads.{is_line_end, HasNoHead, IsHead}
 use Rattle.interleave.specs.Lengths.{IsBodyLength, IsLongBody}
 use Rattle.interleave.specs.declared.pieces.Step.{Step}

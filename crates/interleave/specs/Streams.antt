@@ -1,6 +1,7 @@
 -- A connection's input as its pieces in order and a rest: each byte CR or LF that stands before a
 -- block or a request, each interleaved block, each request.
-use Rattle.std.specs.Prelude.{◌≡◌, ℕ, ◌<◌, ◌≤◌, ◌⊎◌, ◌++◌, true, List, [], ◌∷◌, length, take, drop, map, slice_index, Result, Ok, Err}
+use Rattle.std.specs.Prelude.{◌≡◌, ℕ, ◌<◌, ◌≤◌, ◌⊎◌, ◌++◌, true, List, [], ◌∷◌, length, take, drop}
+use Rattle.std.specs.Prelude.{map, slice_index, Result, Ok, Err}
 use Rattle.interleave.specs.Heads.{is_line_end}
 use Rattle.interleave.specs.Pieces.{StartsBlock, StartsRequest, IsRequestLength, block_length}
 use Rattle.interleave.specs.declared.pieces.Step.{Step}

@@ -1,5 +1,8 @@
-ghost use Rattle.std.specs.Prelude.{◌≡◌, ◌+◌, ◌-◌, ◌*◌, ◌<◌, ◌≤◌, ◌++◌, [], length, drop, nat_lt, slice_index, if◌then◌else◌, vec_capacity, IfOk, MatchResult, is_err, Ok, Err};
-ghost use Rattle.interleave.specs.Pieces.{IsFirst, AreLineEnds, StartsBlock, StartsRequest, block_length};
+ghost use Rattle.std.specs.Prelude.{◌≡◌, ◌+◌, ◌-◌, ◌*◌, ◌<◌, ◌≤◌, ◌++◌, [], length, drop, nat_lt};
+ghost use Rattle.std.specs.Prelude.{slice_index, if◌then◌else◌, vec_capacity, IfOk, MatchResult};
+ghost use Rattle.std.specs.Prelude.{is_err, Ok, Err};
+ghost use Rattle.interleave.specs.Pieces.{IsFirst, AreLineEnds, StartsBlock, StartsRequest};
+ghost use Rattle.interleave.specs.Pieces.{block_length};
 ghost use Rattle.interleave.specs.Heads.{is_line_end};
 
 use crate::pieces::{DemuxFault, Step, is_line_end};

@@ -1,5 +1,6 @@
 ghost use Rattle.std.specs.Prelude.{◌≡◌, ℕ, ◌++◌, List, drop, Ok, Result};
-ghost use Rattle.interleave.specs.Streams.{AreCut, DoAgree, HasStream, IsStream, TellsNone, told_length, told_pieces};
+ghost use Rattle.interleave.specs.Streams.{AreCut, DoAgree, HasStream, IsStream, TellsNone};
+ghost use Rattle.interleave.specs.Streams.{told_length, told_pieces};
 ghost use Rattle.interleave.specs.declared.pieces.DemuxFault.{DemuxFault};
 ghost use Rattle.interleave.specs.declared.pieces.Step.{Step};
 ghost use Rattle.interleave.specs.Pieces.{IsFirst, IsLongerSkip, IsWhole};

@@ -1,5 +1,6 @@
 ghost use Rattle.std.specs.Prelude.{◌≡◌, ◌<◌, ◌≤◌, ◌↔◌, IsTrue, length, MatchOption};
-ghost use Rattle.interleave.specs.Lengths.{written_length, IsLengthLine, IsWrittenAt, IsLongAt, IsBodyLength, IsLongBody};
+ghost use Rattle.interleave.specs.Lengths.{written_length, IsLengthLine, IsWrittenAt, IsLongAt};
+ghost use Rattle.interleave.specs.Lengths.{IsBodyLength, IsLongBody};
 
 use vod_base::{NumberFault, line_end, read_number, trimmed};
 

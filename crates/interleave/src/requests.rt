@@ -1,4 +1,5 @@
-ghost use Rattle.std.specs.Prelude.{◌≡◌, ◌+◌, ◌<◌, ◌≤◌, true, false, ℕ, length, MatchOption, MatchResult, Ok, Err};
+ghost use Rattle.std.specs.Prelude.{◌≡◌, ◌+◌, ◌<◌, ◌≤◌, true, false, ℕ, length, MatchOption};
+ghost use Rattle.std.specs.Prelude.{MatchResult, Ok, Err};
 ghost use Rattle.interleave.specs.declared.pieces.DemuxFault.{DemuxFault};
 ghost use Rattle.interleave.specs.Heads.{empty_line_ends, HasNoHead, IsHead};
 ghost use Rattle.interleave.specs.Pieces.{IsFirst, StartsRequest};

@@ -27,7 +27,7 @@ in_order-more [] head at b order least = (sym order, (omega (arith, order, least
 in_order-more (s ∷ []) head at b order least = (order.0, (order.1.0, (refl, (least, refl))))
 in_order-more (s ∷ (next ∷ cur)) head at b order least = (order.0, (order.1.0, in_order-more (next ∷ cur) next at b order.1.1 least))
 
--- the slices of a unit, behind those before it
+-- the slices of a unit, after those before it
 own-slices : (before cur rest : List ℕ) (first n : ℕ) → first ≡ length before → n ≡ length cur → take n (drop first ((before ++ cur) ++ rest)) ≡ cur
 own-slices before cur rest first n f m =
     ap (λ (l : List ℕ). take n (drop first l)) (append_assoc before cur rest)

@@ -13,6 +13,7 @@ pub mod FirstLemmas
 pub mod RoomLemmas
 pub mod OpenLemmas
 pub mod StandardLemmas
+pub mod OrderLemmas
 pub mod SliceLemmas
 pub mod OnlyLemmas
 pub mod DecideLemmas

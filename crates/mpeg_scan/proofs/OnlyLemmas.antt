@@ -13,7 +13,8 @@ use Rattle.mpeg_scan.specs.Standard.{AnyKind, ArePresented, AreUnitsOf, Counts, 
 use Rattle.mpeg_scan.specs.Tiles.{first_of}
 use Rattle.mpeg_scan.proofs.FirstLemmas.{film-first}
 use Rattle.mpeg_scan.proofs.LaidLemmas.{film-chained}
-use Rattle.mpeg_scan.proofs.StandardLemmas.{film-presented, film-standard}
+use Rattle.mpeg_scan.proofs.OrderLemmas.{film-presented}
+use Rattle.mpeg_scan.proofs.StandardLemmas.{film-standard}
 
 -- ---- one unit
 

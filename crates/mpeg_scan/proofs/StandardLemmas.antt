@@ -1,5 +1,5 @@
 -- The units of an accepted film are those of the standard's words.
-use Rattle.std.proofs.Common.{ℕ, zero, suc, Bool, true, false, cond, eqb, ltb, leb, ◌&&◌, ◌||◌, ◌+◌, ◌-◌, ◌*◌, ◌/◌, ◌%◌, ◌<◌, ◌≤◌, ◌≡◌, ◌⊎◌, ◌↔◌, List, [], ◌∷◌, ◌++◌, Option, Some, None, IsSome, length, get_or, slice_get, sym, ◌∙◌, ap, refl, subst, inl, inr, arith}
+use Rattle.std.proofs.Common.{ℕ, zero, suc, Bool, true, false, cond, eqb, ltb, leb, ◌&&◌, ◌||◌, ◌+◌, ◌-◌, ◌*◌, ◌/◌, ◌%◌, ◌<◌, ◌≤◌, ◌≡◌, ◌⊎◌, ◌↔◌, List, [], ◌∷◌, ◌++◌, Option, Some, None, length, get_or, slice_get, sym, ◌∙◌, ap, refl, subst, inl, inr, arith}
 use Rattle.std.specs.Prelude.{unwrap_or}
 use Rattle.std.proofs.lemmas.Bool.{cases_lt, eqb-true, eq-eqb, ne_eqb, leb-true, ltb-true, ltb-false, or_parts, and_parts, true≢false, false≢true}
 use Rattle.mpeg_scan.specs.declared.codes.Code.{Code}
@@ -11,14 +11,13 @@ use Rattle.mpeg_scan.specs.declared.units.Unit.{Unit as PictureUnit}
 use Rattle.mpeg_scan.specs.Codes.{read, codes_of}
 use Rattle.mpeg_scan.specs.Words.{all_slices_of, backward_of, forward_of, has_sequence, head_end_of, header_of, is_head, is_slice, picture_of, slices_of, starts_group, tally_of, temporal_of, type_of, unit_of, rate_of, vectors_of}
 use Rattle.mpeg_scan.specs.Faults.{end_fault, first_fault, header_fault, last_fault, latest_fault, picture_fault, rate_fault}
-use Rattle.mpeg_scan.specs.Calls.{Call, head_call, slice_call, unit_call, calls_at, kind_of, no_header, told, all_told, unit_at, unit_end}
-use Rattle.mpeg_scan.specs.Counts.{Count, counts_after, group_of, no_count}
+use Rattle.mpeg_scan.specs.Calls.{Call, head_call, slice_call, unit_call, calls_at, kind_of, no_header, told, unit_at, unit_end}
 use Rattle.mpeg_scan.specs.Films.{IsFilm, units_in}
 use Rattle.mpeg_scan.specs.Places.{HasCode, StandsAt}
-use Rattle.mpeg_scan.specs.Standard.{AreFalling, ArePresented, Counts, HasFields, HasPicture, IsFirstCode, IsHeadKind, IsSliceKind, IsUnitOf, NoneIn, StandsIn, StandsThere, UnitIs, type_number, vector_fields}
+use Rattle.mpeg_scan.specs.Standard.{Counts, HasFields, HasPicture, IsFirstCode, IsHeadKind, IsSliceKind, IsUnitOf, NoneIn, StandsIn, StandsThere, UnitIs, type_number, vector_fields}
 use Rattle.mpeg_scan.proofs.StepLemmas.{accepted-older, code-accepted, otherwise-first, otherwise-second}
 use Rattle.mpeg_scan.proofs.TileLemmas.{After, Spaced, accepted-whole, all-below, ended-none, first-is, first_slice-accepted, placed-codes, room-after, slice-apart, told-cons, told-nil}
-use Rattle.mpeg_scan.proofs.CountLemmas.{empty-count, film-numbered, first-some, second-accepted, second-none}
+use Rattle.mpeg_scan.proofs.CountLemmas.{empty-count, first-some, second-accepted, second-none}
 use Rattle.mpeg_scan.proofs.BoundLemmas.{older-judged, some-cond-none}
 use Rattle.mpeg_scan.proofs.FilmLemmas.{length-read, units_in-append}
 use Rattle.mpeg_scan.proofs.PlaceLemmas.{at as at_byte, at-bytes, codes-stand}
@@ -471,32 +470,3 @@ film-standard bytes rate units starts film k unit is =
     let all = whole-closed past (length r) accepted ended placed.spaced (room-after past (matched r) (length r) placed.room) in
     let mine : AllClosed past (length r) units = subst (λ (l : List PictureUnit). AllClosed past (length r) l) (sym film.units) all in
     unit-bytes bytes past unit (codes-stand bytes) (whole-texts r past (length r) accepted ended (codes-texts r)) (all-at past (length r) units k unit is mine)
-
--- ---- units and codes in their order
-
-codes-fall : (past : List Code) (at : ℕ) → Spaced past → AreFalling past
-codes-fall [] at spaced = tt
-codes-fall (c ∷ past) at spaced = (all-below past c.place spaced.1 spaced.0, codes-fall past c.place spaced.1)
-
-pub codes-falling : (r : List ℕ) → AreFalling (codes_of r)
-codes-falling r = codes-fall (codes_of r) (length r) (placed-codes r).spaced
-
-count-fits : (b : Bool) (k : Count) (calls : List Call) → IsSome (counts_after (cond b (Some k) None) calls) → (b ≡ true) × IsSome (counts_after (Some k) calls)
-count-fits true k calls e = (refl, e)
-count-fits false k [] e = cc
-count-fits false k (call ∷ calls) e = cc
-
-counts-present : (calls : List Call) (k : Count) → IsSome (counts_after (Some k) calls) → ArePresented k.units k.before_group (units_in calls)
-counts-present [] k some = tt
-counts-present (head_call from to ∷ calls) k some = counts-present calls k some
-counts-present (slice_call from to ∷ calls) k some = counts-present calls (record k { slices = k.slices + 1 }) some
-counts-present (unit_call unit ∷ calls) k some =
-    let next : Count = record { units = k.units + 1; slices = k.slices; before_group = group_of k unit } in
-    let fits = count-fits (eqb (unit.first_slice + unit.slices) k.slices && eqb unit.presentation (group_of k unit + unit.temporal)) next calls some in
-    let shown = (and_parts (eqb (unit.first_slice + unit.slices) k.slices) (eqb unit.presentation (group_of k unit + unit.temporal)) fits.0).1 in
-    (eqb-true unit.presentation (group_of k unit + unit.temporal) shown, counts-present calls next fits.1)
-
-pub film-presented : (bytes : List ℕ) (rate : ℕ) (units : List PictureUnit) (starts : List ℕ) → IsFilm bytes rate units starts → ArePresented 0 0 units
-film-presented bytes rate units starts film =
-    let r = read [] bytes in
-    subst (λ (l : List PictureUnit). ArePresented 0 0 l) (sym film.units) (counts-present (all_told r) no_count (film-numbered r film.accepted))

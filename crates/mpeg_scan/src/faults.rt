@@ -1,5 +1,7 @@
 ghost use Rattle.std.specs.Prelude.{◌≡◌};
-ghost use Rattle.mpeg_scan.specs.Faults.{header_fault, kind_fault, second_fault, first_slice_fault, count_fault, code_fault, last_fault, picture_fault, rate_fault};
+ghost use Rattle.mpeg_scan.specs.Faults.{header_fault, kind_fault, second_fault, first_slice_fault};
+ghost use Rattle.mpeg_scan.specs.Faults.{count_fault, code_fault, last_fault, picture_fault};
+ghost use Rattle.mpeg_scan.specs.Faults.{rate_fault};
 
 use crate::codes::Code;
 use crate::tallies::{

@@ -1,7 +1,8 @@
 ghost use Rattle.std.specs.Prelude.{◌≡◌, ◌+◌, ◌^◌, ◌<◌, ◌≤◌, ◌++◌, ◌∷◌, ℕ, [], List, OnOk, true};
 ghost use Rattle.mpeg_scan.specs.Room.{AwaitsSlice, AwaitsSliceAfter};
 ghost use Rattle.mpeg_scan.specs.Words.{is_slice};
-ghost use Rattle.mpeg_scan.specs.Calls.{Call, calls_at, head_call, slice_call, unit_at, unit_call, unit_end, kind_of};
+ghost use Rattle.mpeg_scan.specs.Calls.{Call, calls_at, head_call, slice_call, unit_at, unit_call};
+ghost use Rattle.mpeg_scan.specs.Calls.{unit_end, kind_of};
 
 use crate::tallies::{Header, Tally, is_head, is_slice};
 use crate::units::{Kind, Unit};

@@ -1,4 +1,5 @@
-ghost use Rattle.std.specs.Prelude.{◌≡◌, ◌↔◌, ℕ, ◌+◌, ◌^◌, ◌<◌, ◌≤◌, ◌++◌, [], List, None, Some, length, true};
+ghost use Rattle.std.specs.Prelude.{◌≡◌, ◌↔◌, ℕ, ◌+◌, ◌^◌, ◌<◌, ◌≤◌, ◌++◌, [], List, None, Some};
+ghost use Rattle.std.specs.Prelude.{length, true};
 ghost use Rattle.mpeg_scan.specs.declared.units.Unit.{Unit as PictureUnit};
 ghost use Rattle.mpeg_scan.specs.Codes.{codes_of, read};
 ghost use Rattle.mpeg_scan.specs.Counts.{AreNumbered};
@@ -7,7 +8,8 @@ ghost use Rattle.mpeg_scan.specs.Films.{refusal, told_of};
 ghost use Rattle.mpeg_scan.specs.Grammar.{IsGrammatical};
 ghost use Rattle.mpeg_scan.specs.Layout.{AreInFilm, BeginsSequence, IsLaid, OfUnit};
 ghost use Rattle.mpeg_scan.specs.Places.{StandsAt};
-ghost use Rattle.mpeg_scan.specs.Standard.{AreFalling, ArePresented, AreUnitsOf, IsAmong, IsSliceKind, IsUnitOf};
+ghost use Rattle.mpeg_scan.specs.Standard.{AreFalling, ArePresented, AreUnitsOf, IsAmong};
+ghost use Rattle.mpeg_scan.specs.Standard.{IsSliceKind, IsUnitOf};
 ghost use Rattle.mpeg_scan.specs.Standard.{StandsThere, slice_places};
 ghost use Rattle.mpeg_scan.specs.Refusals.{IsRefusedFor};
 ghost use Rattle.mpeg_scan.specs.Tiles.{Tiles};
@@ -18,7 +20,7 @@ use crate::films::Film;
 
 /// What holds of every film: its rate code is one of the eight of ISO/IEC 11172-2, 2.4.3.2; it has
 /// at most 2^40 bytes and 4,194,304 units, one for each of its pictures; its start codes stand in
-/// their order, and its units are numbered as they come and lie one behind another to its end.
+/// their order, and its units are numbered as they come and lie one after another to its end.
 pub fn law_film(film: &Film)
     ensures slowest { 1 ≤ film.now.rate }
     ensures fastest { film.now.rate ≤ 8 }

@@ -1,11 +1,14 @@
-ghost use Rattle.std.specs.Prelude.{◌≡◌, ℕ, ◌+◌, ◌^◌, ◌<◌, ◌≤◌, List, [], ◌∷◌, ◌++◌, Some, None, length, take, slice_index, IsTrue, true, IfOk, IfErr, OnOk, MatchResult, ◌≢◌};
+ghost use Rattle.std.specs.Prelude.{◌≡◌, ℕ, ◌+◌, ◌^◌, ◌<◌, ◌≤◌, List, [], ◌∷◌, ◌++◌, Some, None};
+ghost use Rattle.std.specs.Prelude.{length, take, slice_index, IsTrue, true, IfOk, IfErr, OnOk};
+ghost use Rattle.std.specs.Prelude.{MatchResult, ◌≢◌};
 ghost use Rattle.mpeg_scan.specs.Calls.{Call, calls_at, told};
 ghost use Rattle.mpeg_scan.specs.Codes.{codes_of, read};
 ghost use Rattle.mpeg_scan.specs.Faults.{first_fault, refusal_of};
 ghost use Rattle.mpeg_scan.specs.Room.{AwaitsSlice, AwaitsSliceAfter, HasRoom, HasRoomAhead};
 ghost use Rattle.mpeg_scan.specs.Steps.{ended, judged, latest_header_fault, tally_with};
 ghost use Rattle.mpeg_scan.specs.Words.{tally_of};
-ghost use Rattle.mpeg_scan.specs.Scans.{HasRead, IsRefusedInPiece, coded_scan, is_text_full, noted_scan};
+ghost use Rattle.mpeg_scan.specs.Scans.{HasRead, IsRefusedInPiece, coded_scan, is_text_full};
+ghost use Rattle.mpeg_scan.specs.Scans.{noted_scan};
 
 use crate::codes::{Code, Prefix};
 use crate::faults::{FilmFault, ScanRefused, code_fault, header_fault, last_fault};

@@ -15,13 +15,15 @@ pub struct Scanner {
 }
 
 impl Scanner {
-    ghost use Rattle.std.specs.Prelude.{◌+◌, ◌^◌, ◌≤◌, ◌++◌, ℕ, List, [], Some, Err, IfOk, OnOk, length};
+    ghost use Rattle.std.specs.Prelude.{◌+◌, ◌^◌, ◌≤◌, ◌++◌, ℕ, List, [], Some, Err, IfOk, OnOk};
+    ghost use Rattle.std.specs.Prelude.{length};
     ghost use Rattle.mpeg_scan.specs.Calls.{Call, all_told, told};
     ghost use Rattle.mpeg_scan.specs.Codes.{codes_of, read};
     ghost use Rattle.mpeg_scan.specs.Counts.{AreNumbered};
     ghost use Rattle.mpeg_scan.specs.Faults.{first_fault, refusal_of};
     ghost use Rattle.mpeg_scan.specs.Grammar.{IsGrammatical};
-    ghost use Rattle.mpeg_scan.specs.Scans.{Fed, IsReady, IsRefusedInPiece, bytes_fed, open_slices, refused_by};
+    ghost use Rattle.mpeg_scan.specs.Scans.{Fed, IsReady, IsRefusedInPiece, bytes_fed, open_slices};
+    ghost use Rattle.mpeg_scan.specs.Scans.{refused_by};
     ghost use Rattle.mpeg_scan.specs.Tiles.{Tiles};
     ghost use Rattle.mpeg_scan.specs.Words.{rate_of};
 

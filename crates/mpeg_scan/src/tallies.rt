@@ -1,6 +1,9 @@
 ghost use Rattle.std.specs.Prelude.{◌≡◌, ℕ, List, []};
 ghost use Rattle.mpeg_scan.specs.Words.{header_of, is_head, is_slice, rate_code, tally_of, type_of};
-ghost use Rattle.mpeg_scan.specs.Steps.{next, next_all_slices, next_before_group, next_begins, next_has_sequence, next_head_end, next_picture, next_pictures, next_rate, next_slice, next_slices, next_starts_group, next_unit};
+ghost use Rattle.mpeg_scan.specs.Steps.{next, next_all_slices, next_before_group, next_begins};
+ghost use Rattle.mpeg_scan.specs.Steps.{next_has_sequence, next_head_end, next_picture};
+ghost use Rattle.mpeg_scan.specs.Steps.{next_pictures, next_rate, next_slice, next_slices};
+ghost use Rattle.mpeg_scan.specs.Steps.{next_starts_group, next_unit};
 
 use crate::codes::Code;
 

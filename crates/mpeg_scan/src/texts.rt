@@ -1,4 +1,5 @@
-ghost use Rattle.std.specs.Prelude.{◌≡◌, ℕ, ◌<◌, ◌≤◌, List, [], length, take, slice_index, not, nat_lt};
+ghost use Rattle.std.specs.Prelude.{◌≡◌, ℕ, ◌<◌, ◌≤◌, List, [], length, take, slice_index, not};
+ghost use Rattle.std.specs.Prelude.{nat_lt};
 ghost use Rattle.mpeg_scan.specs.Texts.{noted};
 
 use std::marker::Model;

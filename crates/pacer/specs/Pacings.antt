@@ -1,5 +1,6 @@
 -- Sending by a plan: what is due through each slot, and what was sent.
-use Rattle.std.specs.Prelude.{ℕ, ◌≡◌, ◌+◌, ◌-◌, ◌^◌, ◌≤◌, min, max, nat_lt, ◌==◌, ◌&&◌, Bool, if◌then◌else◌, List, length, take, sum, Option, Some, None}
+use Rattle.std.specs.Prelude.{ℕ, ◌≡◌, ◌+◌, ◌-◌, ◌^◌, ◌≤◌, min, max, nat_lt, ◌==◌, ◌&&◌, Bool}
+use Rattle.std.specs.Prelude.{if◌then◌else◌, List, length, take, sum, Option, Some, None}
 use Rattle.film_frames.specs.Tracks.{framed, IsBoundary}
 use Rattle.plan_cert.specs.declared.Segment.{Segment}
 use Rattle.plan_cert.specs.Slots.{plan_slots, total_bytes}

@@ -1,4 +1,5 @@
-ghost use Rattle.std.specs.Prelude.{◌≡◌, ◌+◌, ◌-◌, ◌*◌, ◌^◌, ◌≤◌, ◌<◌, ◌↔◌, Some, None, IsTrue, length, take, min, max, OnOk, OnErr, IfOk, true, false};
+ghost use Rattle.std.specs.Prelude.{◌≡◌, ◌+◌, ◌-◌, ◌*◌, ◌^◌, ◌≤◌, ◌<◌, ◌↔◌, Some, None, IsTrue};
+ghost use Rattle.std.specs.Prelude.{length, take, min, max, OnOk, OnErr, IfOk, true, false};
 ghost use Rattle.vod_base.specs.Outside.{HasRisen};
 ghost use Rattle.vod_base.specs.Links.{told_more, sends};
 ghost use Rattle.film_frames.specs.Tracks.{framed, IsBoundary, IsBoundaryAfter};
@@ -66,7 +67,8 @@ fn later(last: Option<u64>, slot: u64) -> Option<u64>
 
 impl<T: Track> Pacer<T> {
     ghost use Rattle.pacer.specs.Pacings.{whole_pacing, IsPacing, next_boundary, raised};
-    ghost use Rattle.pacer.specs.Pacings.{plan_bytes, step_end, stepped, stands_at_boundary, is_done};
+    ghost use Rattle.pacer.specs.Pacings.{plan_bytes, step_end, stepped, stands_at_boundary};
+    ghost use Rattle.pacer.specs.Pacings.{is_done};
     ghost use Rattle.pacer.specs.Steps.{IsStepped, HasFailed};
 
     /// A pacer of a plan that begins in slot `start`. The plan's first byte stands at the boundary

@@ -1,4 +1,5 @@
-ghost use Rattle.std.specs.Prelude.{◌≡◌, ◌++◌, ◌+◌, ◌≤◌, ◌<◌, length, take, min, MatchResult, IfOk, IfErr, OnErr, OnOk};
+ghost use Rattle.std.specs.Prelude.{◌≡◌, ◌++◌, ◌+◌, ◌≤◌, ◌<◌, length, take, min, MatchResult, IfOk};
+ghost use Rattle.std.specs.Prelude.{IfErr, OnErr, OnOk};
 ghost use Rattle.vod_base.specs.Outside.{HasRisen};
 ghost use Rattle.film_frames.specs.Tracks.{framed};
 ghost use Rattle.vod_base.specs.Links.{told_more, sends, IsFrontTold};

@@ -1,17 +1,19 @@
 -- The fields of heads and reports, each read at its place.
-use Rattle.std.specs.Prelude.{ℕ, ◌+◌, ◌*◌, ◌/◌, ◌%◌, ◌^◌, ◌<◌, ◌≤◌, ◌≡◌, List, codes, drop, length, slice_index, take}
+use Rattle.std.specs.Prelude.{ℕ, ◌+◌, ◌*◌, ◌/◌, ◌%◌, ◌^◌, ◌<◌, ◌≤◌, ◌≡◌, List, codes, drop, length}
+use Rattle.std.specs.Prelude.{slice_index, take}
 use Rattle.byteorder.specs.Endian.{big_number}
 use Rattle.mpeg_scan.specs.declared.units.Unit.{Unit as PictureUnit}
+use Rattle.mpeg_scan.specs.Standard.{type_number}
 use Rattle.rtp_pack.specs.declared.payloads.Packet.{Packet}
 use Rattle.rtp_pack.specs.declared.reports.Report.{Report}
-use Rattle.rtp_pack.specs.Heads.{bit, coding_type}
+use Rattle.rtp_pack.specs.Heads.{bit}
 
 -- so many bits of a word, and the number of bits after them
 abbrev pub bits : ℕ → ℕ → ℕ → ℕ
 bits count after word = word / 2 ^ after % 2 ^ count
 
--- the fields of a video header (RFC 2250 section 3.4), the highest first: 5 unused bits and T, which
--- are 0 for MPEG-1; TR; AN and N, which are 0; S, B, E; P; then FBV, BFC, FFV and FFC together
+-- the fields of a video header (RFC 2250 section 3.4), the highest first: 5 unused bits and T, both
+-- 0 for MPEG-1; TR; AN and N, which are 0; S, B, E; P; then FBV, BFC, FFV and FFC together
 pub record HasVideoFields (word : ℕ) (unit : PictureUnit) (packet : Packet) : Type 0 where
   pub fits : word < 2 ^ 32
   pub unused : bits 5 27 word ≡ 0
@@ -21,7 +23,7 @@ pub record HasVideoFields (word : ℕ) (unit : PictureUnit) (packet : Packet) : 
   pub sequence_header : bits 1 13 word ≡ bit packet.sequence_header
   pub begin : bits 1 12 word ≡ bit packet.begin
   pub end : bits 1 11 word ≡ bit packet.end
-  pub coding : bits 3 8 word ≡ coding_type unit.kind
+  pub coding : bits 3 8 word ≡ type_number unit.kind
   pub vectors : bits 8 0 word ≡ unit.vectors
 
 -- the fields of a sender report without report blocks, of 28 bytes (RFC 3550 section 6.4.1), and of

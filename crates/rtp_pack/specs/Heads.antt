@@ -1,6 +1,8 @@
 -- The heads of a packet of MPEG-1 video: the RTP header (RFC 3550 section 5.1) and the video header
 -- (RFC 2250 section 3.4).
-use Rattle.std.specs.Prelude.{ℕ, ◌+◌, ◌*◌, ◌/◌, ◌%◌, ◌^◌, ◌==◌, Bool, not, nat_le, nat_lt, if◌then◌else◌, List, ◌∷◌, ◌++◌, drop, length, slice_index, Result, Ok, Err}
+use Rattle.std.specs.Prelude.{ℕ, ◌+◌, ◌*◌, ◌/◌, ◌%◌, ◌^◌, ◌==◌, Bool, not, nat_le, nat_lt}
+use Rattle.std.specs.Prelude.{if◌then◌else◌, List, ◌∷◌, ◌++◌, drop, length, slice_index, Result, Ok}
+use Rattle.std.specs.Prelude.{Err}
 use Rattle.byteorder.specs.Endian.{big_bytes, big_number}
 use Rattle.mpeg_scan.specs.declared.units.Kind.{Kind}
 use Rattle.mpeg_scan.specs.declared.units.Kind.TheVariants.{I, P, B, D}

@@ -1,5 +1,6 @@
 ghost use Rattle.std.specs.Prelude.{◌≡◌, ◌+◌, ◌%◌, ◌^◌, ◌<◌};
-ghost use Rattle.rtp_pack.specs.Heads.{coding_type, head_bytes, head_of, packet_head, unit_timestamp, video_word};
+ghost use Rattle.rtp_pack.specs.Heads.{coding_type, head_bytes, head_of, packet_head};
+ghost use Rattle.rtp_pack.specs.Heads.{unit_timestamp, video_word};
 
 use crate::payloads::Packet;
 use crate::reports::Identity;

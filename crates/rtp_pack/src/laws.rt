@@ -1,8 +1,10 @@
-ghost use Rattle.std.specs.Prelude.{◌≡◌, ◌+◌, ◌*◌, ◌%◌, ◌^◌, ◌<◌, ◌≤◌, ◌++◌, ℕ, List, length, sum, Ok};
+ghost use Rattle.std.specs.Prelude.{◌≡◌, ◌+◌, ◌*◌, ◌%◌, ◌^◌, ◌<◌, ◌≤◌, ◌++◌, ℕ, List, length, sum};
+ghost use Rattle.std.specs.Prelude.{Ok};
 ghost use Rattle.rtp_pack.specs.Cutting.{IsCutting};
 ghost use Rattle.rtp_pack.specs.Fields.{HasReportFields, HasVideoFields, IsTickOf};
 ghost use Rattle.rtp_pack.specs.Heads.{head_bytes, head_of, unit_timestamp, video_word};
-ghost use Rattle.rtp_pack.specs.Laws.{ArePieces, AreShortUncut, DoLongEndPieces, IsLastMarked, IsUncut};
+ghost use Rattle.rtp_pack.specs.Laws.{ArePieces, AreShortUncut, DoLongEndPieces, IsLastMarked};
+ghost use Rattle.rtp_pack.specs.Laws.{IsUncut};
 ghost use Rattle.rtp_pack.specs.Reports.{report_bytes, unit_time};
 ghost use Rattle.rtp_pack.specs.Rules.{HaveBytes, MeetsRules};
 ghost use Rattle.rtp_pack.specs.Packets.{ArePackets, DoCover, IsLaid, OfUnit};
@@ -96,8 +98,8 @@ pub fn law_report_fields(report: Report)
     let _read = report;
 }
 
-/// A report's time, in seconds with 32 bits after the point, and a packet's timestamp, on a clock of
-/// 90,000 Hz, are those of a unit's place in its film, which counts in 1/360,000 second.
+/// A report's time, in seconds with 32 bits after the point, and a packet's timestamp, on a clock
+/// of 90,000 Hz, are those of a unit's place in its film, which counts in 1/360,000 second.
 pub fn law_media_times(identity: &Identity, picture_time: u32, unit: &Unit)
     requires { unit.now.presentation * picture_time < 360000 * 2 ^ 32 }
     ensures time { IsTickOf (unit.now.presentation * picture_time) (2 ^ 32)

@@ -1,6 +1,9 @@
-ghost use Rattle.std.specs.Prelude.{◌≡◌, ◌+◌, ◌-◌, ◌*◌, ◌<◌, ◌≤◌, ◌++◌, [], ◌∷◌, true, drop, length, IfOk, OnOk};
+ghost use Rattle.std.specs.Prelude.{◌≡◌, ◌+◌, ◌-◌, ◌*◌, ◌<◌, ◌≤◌, ◌++◌, [], ◌∷◌, true, drop};
+ghost use Rattle.std.specs.Prelude.{length, IfOk, OnOk};
 ghost use Rattle.rtp_pack.specs.Cutting.{full_before, goes_in, last_start, next_filling, start_of};
-ghost use Rattle.rtp_pack.specs.Packets.{ArePackets, DoCover, IsLaid, before_slice, closed, frames_size, full_packets, next_place, packet, slice_packets, unit_packets};
+ghost use Rattle.rtp_pack.specs.Packets.{ArePackets, DoCover, IsLaid, before_slice, closed};
+ghost use Rattle.rtp_pack.specs.Packets.{frames_size, full_packets, next_place, packet};
+ghost use Rattle.rtp_pack.specs.Packets.{slice_packets, unit_packets};
 ghost use Rattle.rtp_pack.specs.Sizes.{unit_size};
 
 use crate::filling::{Filling, Holds, PAYLOAD, full_before, goes_in, held};

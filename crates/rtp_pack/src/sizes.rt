@@ -1,5 +1,6 @@
 ghost use Rattle.std.specs.Prelude.{◌≡◌, ◌+◌, ◌*◌, ◌^◌, ◌≤◌, []};
-ghost use Rattle.rtp_pack.specs.Sizes.{HasSlice, IsSize, begun, bytes_of, frames_of, measured, with_slice};
+ghost use Rattle.rtp_pack.specs.Sizes.{HasSlice, IsSize, begun, bytes_of, frames_of, measured};
+ghost use Rattle.rtp_pack.specs.Sizes.{with_slice};
 
 use crate::filling::{Filling, Holds, PAYLOAD, full_before, goes_in, held};
 use std::marker::Model;

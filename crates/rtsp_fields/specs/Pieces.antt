@@ -1,5 +1,6 @@
 -- Texts that a separator cuts into pieces, and words in any case.
-use Rattle.std.specs.Prelude.{◌≡◌, ◌≢◌, ℕ, ◌-◌, ◌<◌, ◌≤◌, ◌⊎◌, List, length, take, map, slice_index, slice_range}
+use Rattle.std.specs.Prelude.{◌≡◌, ◌≢◌, ℕ, ◌-◌, ◌<◌, ◌≤◌, ◌⊎◌, List, length, take, map, slice_index}
+use Rattle.std.specs.Prelude.{slice_range}
 use Rattle.std.specs.Char.{to_ascii_lowercase}
 
 -- none of the bytes from `from` up to `to` is `c`

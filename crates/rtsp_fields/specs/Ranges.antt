@@ -1,6 +1,7 @@
 -- The Range header in normal play time (RFC 2326 sections 3.6 and 12.29): `npt=FROM-` or
 -- `npt=FROM-TO`.
-use Rattle.std.specs.Prelude.{◌≡◌, ℕ, ◌+◌, ◌<◌, List, [], length, codes, slice_range, Option, Some, None}
+use Rattle.std.specs.Prelude.{◌≡◌, ℕ, ◌+◌, ◌<◌, List, [], length, codes, slice_range, Option, Some}
+use Rattle.std.specs.Prelude.{None}
 use Rattle.rtsp_fields.specs.Pieces.{IsEnd, Begins, lower}
 use Rattle.rtsp_fields.specs.Times.{IsTime}
 use Rattle.rtsp_fields.specs.declared.ranges.Origin.{Origin}

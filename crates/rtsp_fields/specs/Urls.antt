@@ -1,5 +1,6 @@
 -- RTSP URLs (RFC 2326 section 3.2), and the film that a URL's path names.
-use Rattle.std.specs.Prelude.{◌≡◌, ℕ, ◌<◌, ◌⊎◌, List, [], codes, true, length, slice_index, slice_range, Option, MatchOption}
+use Rattle.std.specs.Prelude.{◌≡◌, ℕ, ◌<◌, ◌⊎◌, List, [], codes, true, length, slice_index}
+use Rattle.std.specs.Prelude.{slice_range, Option, MatchOption}
 use Rattle.std.specs.List.{list_all}
 use Rattle.vod_base.specs.Names.{is_good_name}
 use Rattle.rtsp_text.specs.Grammar.{is_url_byte}

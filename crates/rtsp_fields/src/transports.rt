@@ -1,7 +1,8 @@
 ghost use Rattle.std.specs.Prelude.{◌≡◌, ◌↔◌, IsTrue, ◌⊎◌, MatchOption};
 ghost use Rattle.rtsp_fields.specs.Pieces.{NoPiece, NoneBefore};
 ghost use Rattle.rtsp_fields.specs.declared.transports.Channels.{Channels};
-ghost use Rattle.rtsp_fields.specs.Transports.{AreChannels, HasChannels, IsOther, IsPair, IsSingle, IsTaken, IsTransport, NamesChannels};
+ghost use Rattle.rtsp_fields.specs.Transports.{AreChannels, HasChannels, IsOther, IsPair, IsSingle};
+ghost use Rattle.rtsp_fields.specs.Transports.{IsTaken, IsTransport, NamesChannels};
 
 use crate::pieces::{piece_end, starts_with};
 use crate::values::number_within;

@@ -1,6 +1,7 @@
 -- The header fields of a head (RFC 2326 section 12): names in any case, and the first line of a
 -- name counts.
-use Rattle.std.specs.Prelude.{◌≡◌, ℕ, ◌<◌, ◌&&◌, ◌==◌, Bool, if◌then◌else◌, List, [], length, map, slice_index_or, Option, Some, None, option_and_then, codes, slice_get}
+use Rattle.std.specs.Prelude.{◌≡◌, ℕ, ◌<◌, ◌&&◌, ◌==◌, Bool, if◌then◌else◌, List, [], length, map}
+use Rattle.std.specs.Prelude.{slice_index_or, Option, Some, None, option_and_then, codes, slice_get}
 use Rattle.std.specs.List.{list_any, filter_map, before_first, after_first}
 use Rattle.std.specs.Char.{to_ascii_lowercase}
 use Rattle.std.specs.Str.{str_eq_ignore_ascii_case}

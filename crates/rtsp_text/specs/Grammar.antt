@@ -1,5 +1,6 @@
 -- The grammar of a request's head (RFC 2326 sections 4, 6 and 15.1), line by line.
-use Rattle.std.specs.Prelude.{◌≡◌, ℕ, ◌<◌, ◌⊎◌, ◌++◌, ◌&&◌, ◌||◌, ◌==◌, Bool, true, not, List, ◌∷◌, length, map, nat_lt, nat_le, codes, slice_index}
+use Rattle.std.specs.Prelude.{◌≡◌, ℕ, ◌<◌, ◌⊎◌, ◌++◌, ◌&&◌, ◌||◌, ◌==◌, Bool, true, not, List, ◌∷◌}
+use Rattle.std.specs.Prelude.{length, map, nat_lt, nat_le, codes, slice_index}
 use Rattle.std.specs.List.{list_all}
 use Rattle.std.specs.Char.{is_ascii_alphanumeric, to_ascii_lowercase}
 use Rattle.vod_base.specs.Numbers.{is_decimal}

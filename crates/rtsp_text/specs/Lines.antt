@@ -1,6 +1,7 @@
 -- The lines of a message's head (RFC 2326 sections 4, 6 and 7): a first line, header lines and an
 -- empty line. Each ends with LF or CR LF; a CR alone ends none.
-use Rattle.std.specs.Prelude.{◌≡◌, ℕ, ◌<◌, ◌++◌, ◌==◌, Bool, not, List, [], ◌∷◌, length, drop, nat_lt, take_while, slice_index_or}
+use Rattle.std.specs.Prelude.{◌≡◌, ℕ, ◌<◌, ◌++◌, ◌==◌, Bool, not, List, [], ◌∷◌, length, drop}
+use Rattle.std.specs.Prelude.{nat_lt, take_while, slice_index_or}
 use Rattle.std.specs.List.{list_all}
 use Rattle.std.specs.Str.Lines.{lines}
 use Rattle.interleave.specs.Heads.{IsHead}

@@ -1,12 +1,15 @@
 -- What a message asks for, and why it is refused (RFC 2326 section 6).
-use Rattle.std.specs.Prelude.{◌≡◌, ◌≢◌, ℕ, ◌+◌, ◌<◌, List, [], length, All, true, Some, None, IfSome, codes, slice_index_or}
+use Rattle.std.specs.Prelude.{◌≡◌, ◌≢◌, ℕ, ◌+◌, ◌<◌, List, [], length, All, true, Some, None}
+use Rattle.std.specs.Prelude.{IfSome, codes, slice_index_or}
 use Rattle.vod_base.specs.Numbers.{is_decimal}
 use Rattle.interleave.specs.Lengths.{IsBodyLength}
 use Rattle.rtsp_text.specs.Lines.{first_line, header_lines, IsSplit}
 use Rattle.rtsp_text.specs.Grammar.{IsRequestLine, IsHeaderLine}
 use Rattle.rtsp_text.specs.Fields.{header_value, sequence_number}
 use Rattle.rtsp_text.specs.declared.requests.RequestFault.{RequestFault}
-use Rattle.rtsp_text.specs.declared.requests.RequestFault.TheVariants.{BadLine, BadVersion, BadHeader, NoSequenceNumber, BadLength}
+use Rattle.rtsp_text.specs.declared.requests.RequestFault.TheVariants.{BadLine, BadVersion}
+use Rattle.rtsp_text.specs.declared.requests.RequestFault.TheVariants.{BadHeader, NoSequenceNumber}
+use Rattle.rtsp_text.specs.declared.requests.RequestFault.TheVariants.{BadLength}
 
 -- the first Content-Length, where there is one, is all digits
 abbrev pub HasLength : List ℕ → Type 0

@@ -1,8 +1,11 @@
-ghost use Rattle.std.specs.Prelude.{◌≡◌, ◌≢◌, ◌++◌, ◌==◌, ◌↔◌, ℕ, List, IsTrue, true, codes, map, not, MatchOption};
+ghost use Rattle.std.specs.Prelude.{◌≡◌, ◌≢◌, ◌++◌, ◌==◌, ◌↔◌, ℕ, List, IsTrue, true, codes, map};
+ghost use Rattle.std.specs.Prelude.{not, MatchOption};
 ghost use Rattle.std.specs.List.{list_all};
 ghost use Rattle.std.specs.Char.{is_ascii_digit, to_ascii_lowercase};
 ghost use Rattle.vod_base.specs.Numbers.{is_decimal};
-ghost use Rattle.rtsp_text.specs.Grammar.{is_token_byte, is_token, is_url_byte, is_value_byte, IsRtspUrl, IsUrl, IsVersion, AreVersionNumbers, IsRequestLine, IsHeaderLine, IsCut};
+ghost use Rattle.rtsp_text.specs.Grammar.{is_token_byte, is_token, is_url_byte, is_value_byte};
+ghost use Rattle.rtsp_text.specs.Grammar.{IsRtspUrl, IsUrl, IsVersion, AreVersionNumbers};
+ghost use Rattle.rtsp_text.specs.Grammar.{IsRequestLine, IsHeaderLine, IsCut};
 
 /// The part before the first byte `c`, and the part after that byte.
 pub(crate) fn cut(text: &[u8], c: u8) -> Option<(&[u8], &[u8])>

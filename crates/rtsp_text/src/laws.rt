@@ -1,6 +1,8 @@
-ghost use Rattle.std.specs.Prelude.{◌≡◌, ◌^◌, ◌<◌, ℕ, IsTrue, Option, List, All, Ok, length, take, IfSome};
+ghost use Rattle.std.specs.Prelude.{◌≡◌, ◌^◌, ◌<◌, ℕ, IsTrue, Option, List, All, Ok, length, take};
+ghost use Rattle.std.specs.Prelude.{IfSome};
 ghost use Rattle.interleave.specs.Pieces.{IsFirst, IsRequestLength};
-ghost use Rattle.rtsp_text.specs.Replies.{is_code, Field, reply_text, all_fields, IsPlain, IsReadBack};
+ghost use Rattle.rtsp_text.specs.Replies.{is_code, Field, reply_text, all_fields, IsPlain};
+ghost use Rattle.rtsp_text.specs.Replies.{IsReadBack};
 
 use interleave::Step;
 

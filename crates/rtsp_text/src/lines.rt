@@ -1,6 +1,7 @@
 ghost use Rattle.std.specs.Prelude.{◌≡◌, ◌≤◌, [], length, take, drop, MatchOption};
 ghost use Rattle.interleave.specs.Pieces.{IsRequestLength};
-ghost use Rattle.rtsp_text.specs.Lines.{first_line, lines_before_empty, header_lines, IsNextLine, IsNextHeaderLine, IsSplit};
+ghost use Rattle.rtsp_text.specs.Lines.{first_line, lines_before_empty, header_lines, IsNextLine};
+ghost use Rattle.rtsp_text.specs.Lines.{IsNextHeaderLine, IsSplit};
 
 use vod_base::line_end;
 

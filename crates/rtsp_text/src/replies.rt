@@ -1,7 +1,9 @@
-ghost use Rattle.std.specs.Prelude.{◌≡◌, ◌+◌, ◌≤◌, ◌++◌, ℕ, IsTrue, true, Option, List, [], ◌∷◌, length, decimal, codes, IfOk, sum_by, flat_map};
+ghost use Rattle.std.specs.Prelude.{◌≡◌, ◌+◌, ◌≤◌, ◌++◌, ℕ, IsTrue, true, Option, List, [], ◌∷◌};
+ghost use Rattle.std.specs.Prelude.{length, decimal, codes, IfOk, sum_by, flat_map};
 ghost use Rattle.std.specs.List.{list_all};
 ghost use Rattle.rtsp_text.specs.Lines.{is_one_line};
-ghost use Rattle.rtsp_text.specs.Replies.{is_code, reason, Field, field_line, sequence_line, status_line, reply_front, reply_text};
+ghost use Rattle.rtsp_text.specs.Replies.{is_code, reason, Field, field_line, sequence_line};
+ghost use Rattle.rtsp_text.specs.Replies.{status_line, reply_front, reply_text};
 
 use itoa::Buffer;
 use std::alloc::Global;

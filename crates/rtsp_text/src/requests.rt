@@ -1,10 +1,13 @@
-ghost use Rattle.std.specs.Prelude.{◌≡◌, ◌<◌, ◌≤◌, ℕ, List, All, true, length, codes, option_map, MatchOption, IsTrue, ◌↔◌, IfOk, IfErr, IfSome, IfNone, IsOkAnd, Err};
+ghost use Rattle.std.specs.Prelude.{◌≡◌, ◌<◌, ◌≤◌, ℕ, List, All, true, length, codes, option_map};
+ghost use Rattle.std.specs.Prelude.{MatchOption, IsTrue, ◌↔◌, IfOk, IfErr, IfSome, IfNone, IsOkAnd};
+ghost use Rattle.std.specs.Prelude.{Err};
 ghost use Rattle.interleave.specs.Pieces.{IsRequestLength};
 ghost use Rattle.rtsp_text.specs.Lines.{is_one_line, lines_before_empty, header_lines};
 ghost use Rattle.rtsp_text.specs.Grammar.{IsHeaderLine};
 ghost use Rattle.rtsp_text.specs.Requests.{HasLength, IsRequest, IsFirstBad, IsFault};
 ghost use Rattle.rtsp_text.specs.declared.requests.RequestFault.{RequestFault};
-ghost use Rattle.rtsp_text.specs.Fields.{header_value, first_sequence, IsFirstField, HasNoField, IsFirstNumber, HasNoNumber};
+ghost use Rattle.rtsp_text.specs.Fields.{header_value, first_sequence, IsFirstField, HasNoField};
+ghost use Rattle.rtsp_text.specs.Fields.{IsFirstNumber, HasNoNumber};
 
 use crate::fields;
 use crate::grammar::{is_decimal, is_header_line, is_rtsp_1_0, request_line};

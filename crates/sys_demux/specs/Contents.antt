@@ -1,6 +1,7 @@
 -- The content of a packet of video (ISO/IEC 11172-1, section 2.4.3.3): stuffing, a buffer size, a
 -- time stamp and the video bytes.
-use Rattle.std.specs.Prelude.{ℕ, ◌/◌, ◌==◌, if◌then◌else◌, nat_le, List, [], ◌∷◌, length, drop, Option, Some, None, zero, suc}
+use Rattle.std.specs.Prelude.{ℕ, ◌/◌, ◌==◌, if◌then◌else◌, nat_le, List, [], ◌∷◌, length, drop}
+use Rattle.std.specs.Prelude.{Option, Some, None, zero, suc}
 
 -- the bytes after these `count`, where there are as many
 abbrev pub after_bytes : ℕ → List ℕ → Option (List ℕ)

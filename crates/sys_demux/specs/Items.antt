@@ -1,6 +1,8 @@
 -- The items of an MPEG-1 system stream (ISO/IEC 11172-1, section 2.4.3): packs and packets, each
 -- with any number of bytes 00 in front.
-use Rattle.std.specs.Prelude.{◌≡◌, ℕ, ◌+◌, ◌*◌, ◌/◌, ◌≤◌, ◌==◌, ◌&&◌, Bool, true, false, if◌then◌else◌, nat_le, List, [], ◌∷◌, ◌++◌, length, slice_index, replicate, flat_map, Option, Some, None, IsSome, unwrap_or}
+use Rattle.std.specs.Prelude.{◌≡◌, ℕ, ◌+◌, ◌*◌, ◌/◌, ◌≤◌, ◌==◌, ◌&&◌, Bool, true, false}
+use Rattle.std.specs.Prelude.{if◌then◌else◌, nat_le, List, [], ◌∷◌, ◌++◌, length, slice_index}
+use Rattle.std.specs.Prelude.{replicate, flat_map, Option, Some, None, IsSome, unwrap_or}
 use Rattle.sys_demux.specs.Contents.{video_in}
 
 -- a pack has 8 bytes after its prefix and kind; a packet its kind, a length in two bytes, and its

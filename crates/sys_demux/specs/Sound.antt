@@ -3,7 +3,8 @@ use Rattle.std.specs.Prelude.{ℕ, ◌&&◌, Bool, true, nat_lt, nat_le}
 use Rattle.sys_demux.specs.declared.headers.Header.{Header}
 use Rattle.sys_demux.specs.declared.headers.Header.TheVariants.{Stuffing, Second, Stamp, Rest}
 use Rattle.sys_demux.specs.declared.places.Place.{Place}
-use Rattle.sys_demux.specs.declared.places.Place.TheVariants.{Zeros, Kind, Mark, High, Low, InHeader, Pass, Video, End, Failed}
+use Rattle.sys_demux.specs.declared.places.Place.TheVariants.{Zeros, Kind, Mark, High, Low}
+use Rattle.sys_demux.specs.declared.places.Place.TheVariants.{InHeader, Pass, Video, End, Failed}
 
 -- the fewest bytes that the rest of a content has there
 abbrev pub least_rest : Header → ℕ

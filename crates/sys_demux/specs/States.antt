@@ -1,14 +1,19 @@
 -- What an unwrapper knows of the bytes that it was fed.
-use Rattle.std.specs.Prelude.{◌≡◌, ℕ, ◌+◌, ◌-◌, ◌*◌, ◌<◌, ◌≤◌, ◌==◌, if◌then◌else◌, true, List, [], ◌∷◌, ◌++◌, length, drop, replicate, min, ◌⊎◌, Option, Some, None}
+use Rattle.std.specs.Prelude.{◌≡◌, ℕ, ◌+◌, ◌-◌, ◌*◌, ◌<◌, ◌≤◌, ◌==◌, if◌then◌else◌, true, List, []}
+use Rattle.std.specs.Prelude.{◌∷◌, ◌++◌, length, drop, replicate, min, ◌⊎◌, Option, Some, None}
 use Rattle.sys_demux.specs.Contents.{video_in, from_stuffing, from_stamp, after_bytes}
-use Rattle.sys_demux.specs.Items.{Item, prefixed, item_bytes, zeros_of, choose, is_chosen, chosen_next, chosen_after, IsItem, AreItems, item_video, video_of, bytes_of}
+use Rattle.sys_demux.specs.Items.{Item, prefixed, item_bytes, zeros_of, choose, is_chosen}
+use Rattle.sys_demux.specs.Items.{chosen_next, chosen_after, IsItem, AreItems, item_video, video_of}
+use Rattle.sys_demux.specs.Items.{bytes_of}
 use Rattle.sys_demux.specs.Streams.{IsFault}
 use Rattle.sys_demux.specs.declared.faults.SystemFault.{SystemFault}
-use Rattle.sys_demux.specs.declared.faults.SystemFault.TheVariants.{NotPack, BadCode, BadPacket, Truncated}
+use Rattle.sys_demux.specs.declared.faults.SystemFault.TheVariants.{NotPack, BadCode, BadPacket}
+use Rattle.sys_demux.specs.declared.faults.SystemFault.TheVariants.{Truncated}
 use Rattle.sys_demux.specs.declared.headers.Header.{Header}
 use Rattle.sys_demux.specs.declared.headers.Header.TheVariants.{Stuffing, Second, Stamp, Rest}
 use Rattle.sys_demux.specs.declared.places.Place.{Place}
-use Rattle.sys_demux.specs.declared.places.Place.TheVariants.{Zeros, Kind, Mark, High, Low, InHeader, Pass, Video, End, Failed}
+use Rattle.sys_demux.specs.declared.places.Place.TheVariants.{Zeros, Kind, Mark, High, Low}
+use Rattle.sys_demux.specs.declared.places.Place.TheVariants.{InHeader, Pass, Video, End, Failed}
 use Rattle.sys_demux.specs.declared.unwrapper.Unwrapper.{Unwrapper}
 
 -- the video in the rest of a content, by where in its header that begins

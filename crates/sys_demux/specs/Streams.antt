@@ -1,9 +1,12 @@
 -- A system stream as a list of items and what stands after them: its video, or why it is refused.
-use Rattle.std.specs.Prelude.{◌≡◌, ◌≢◌, ℕ, ◌+◌, ◌*◌, ◌/◌, ◌<◌, ◌≤◌, ◌⊎◌, true, List, ◌∷◌, ◌++◌, length, replicate, Option, None}
+use Rattle.std.specs.Prelude.{◌≡◌, ◌≢◌, ℕ, ◌+◌, ◌*◌, ◌/◌, ◌<◌, ◌≤◌, ◌⊎◌, true, List, ◌∷◌, ◌++◌}
+use Rattle.std.specs.Prelude.{length, replicate, Option, None}
 use Rattle.sys_demux.specs.Contents.{video_in}
-use Rattle.sys_demux.specs.Items.{Item, prefixed, item_bytes, zeros_of, choose, is_chosen, chosen_after, IsItem, AreItems, video_of, bytes_of}
+use Rattle.sys_demux.specs.Items.{Item, prefixed, item_bytes, zeros_of, choose, is_chosen}
+use Rattle.sys_demux.specs.Items.{chosen_after, IsItem, AreItems, video_of, bytes_of}
 use Rattle.sys_demux.specs.declared.faults.SystemFault.{SystemFault}
-use Rattle.sys_demux.specs.declared.faults.SystemFault.TheVariants.{NotPack, BadCode, BadPacket, Truncated}
+use Rattle.sys_demux.specs.declared.faults.SystemFault.TheVariants.{NotPack, BadCode, BadPacket}
+use Rattle.sys_demux.specs.declared.faults.SystemFault.TheVariants.{Truncated}
 
 -- bytes 00 alone
 pub record AreZeros (tail : List ℕ) : Type 0 where

@@ -1,4 +1,5 @@
-ghost use Rattle.std.specs.Prelude.{◌≡◌, ℕ, ◌+◌, ◌^◌, ◌<◌, ◌≤◌, ◌⊎◌, IsTrue, List, [], ◌∷◌, ◌++◌, length, take, Option, Some, Err, IfOk, IfErr, MatchResult};
+ghost use Rattle.std.specs.Prelude.{◌≡◌, ℕ, ◌+◌, ◌^◌, ◌<◌, ◌≤◌, ◌⊎◌, IsTrue, List, [], ◌∷◌, ◌++◌};
+ghost use Rattle.std.specs.Prelude.{length, take, Option, Some, Err, IfOk, IfErr, MatchResult};
 ghost use Rattle.sys_demux.specs.Items.{choose};
 ghost use Rattle.sys_demux.specs.Streams.{IsSystem, IsRefused};
 ghost use Rattle.sys_demux.specs.Sound.{is_sound};

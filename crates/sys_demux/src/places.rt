@@ -1,7 +1,9 @@
-ghost use Rattle.std.specs.Prelude.{◌≡◌, ℕ, ◌+◌, ◌-◌, ◌≤◌, ◌<◌, ◌==◌, if◌then◌else◌, IsTrue, List, [], ◌∷◌, ◌++◌, length, Option};
+ghost use Rattle.std.specs.Prelude.{◌≡◌, ℕ, ◌+◌, ◌-◌, ◌≤◌, ◌<◌, ◌==◌, if◌then◌else◌, IsTrue, List};
+ghost use Rattle.std.specs.Prelude.{[], ◌∷◌, ◌++◌, length, Option};
 ghost use Rattle.sys_demux.specs.Items.{choose, is_chosen};
 ghost use Rattle.sys_demux.specs.Sound.{least_rest, is_sound};
-ghost use Rattle.sys_demux.specs.States.{IsAtZeros, IsAtPrefix, IsAtHeader, IsPart, LeadsTo, place_in, end_fault};
+ghost use Rattle.sys_demux.specs.States.{IsAtZeros, IsAtPrefix, IsAtHeader, IsPart, LeadsTo};
+ghost use Rattle.sys_demux.specs.States.{place_in, end_fault};
 
 use crate::faults::SystemFault;
 use crate::headers::{Header, header_next};

@@ -1,6 +1,7 @@
 -- What a gate tells: how it was opened, its parts, and of each part the connections that it gave
 -- and that came back.
-use Rattle.std.specs.Prelude.{◌≡◌, ℕ, ◌+◌, ◌<◌, List, [], ◌∷◌, ◌++◌, length, slice_index_or, slice_set, Option, Some, None, IsSome}
+use Rattle.std.specs.Prelude.{◌≡◌, ℕ, ◌+◌, ◌<◌, List, [], ◌∷◌, ◌++◌, length, slice_index_or}
+use Rattle.std.specs.Prelude.{slice_set, Option, Some, None, IsSome}
 use Rattle.vod_base.specs.Links.{Doing}
 use Rattle.vod_base.specs.declared.gates.Opening.{Opening}
 

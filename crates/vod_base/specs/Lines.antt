@@ -1,5 +1,6 @@
 -- Lines of a text: each ends with LF or with CR LF; a CR alone ends none.
-use Rattle.std.specs.Prelude.{◌≡◌, ◌≢◌, ℕ, ◌+◌, ◌-◌, ◌<◌, ◌≤◌, ◌&&◌, ◌==◌, if◌then◌else◌, nat_lt, List, length, slice_index}
+use Rattle.std.specs.Prelude.{◌≡◌, ◌≢◌, ℕ, ◌+◌, ◌-◌, ◌<◌, ◌≤◌, ◌&&◌, ◌==◌, if◌then◌else◌, nat_lt}
+use Rattle.std.specs.Prelude.{List, length, slice_index}
 
 -- the line that begins at `at`: its LF is the first from there on, and a CR directly before the LF
 -- is no part of its text

@@ -1,4 +1,5 @@
-ghost use Rattle.std.specs.Prelude.{◌≡◌, ◌≤◌, ℕ, List, Option, Some, length, option_map, IfOk, OnErr};
+ghost use Rattle.std.specs.Prelude.{◌≡◌, ◌≤◌, ℕ, List, Option, Some, length, option_map, IfOk};
+ghost use Rattle.std.specs.Prelude.{OnErr};
 ghost use Rattle.vod_base.specs.Outside.{File, HasRisen, file_named, bytes_named, IsRead};
 
 use crate::outside::StoreFault;

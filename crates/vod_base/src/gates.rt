@@ -1,6 +1,9 @@
-ghost use Rattle.std.specs.Prelude.{◌≡◌, ◌<◌, ◌≤◌, ℕ, Option, Some, None, [], option_map, IfSome, IfOk, OnOk, OnErr};
+ghost use Rattle.std.specs.Prelude.{◌≡◌, ◌<◌, ◌≤◌, ℕ, Option, Some, None, [], option_map, IfSome};
+ghost use Rattle.std.specs.Prelude.{IfOk, OnOk, OnErr};
 ghost use Rattle.vod_base.specs.Outside.{HasRisen};
-ghost use Rattle.vod_base.specs.Gates.{Content, NoMore, Failed, MaySplit, IsOut, HasOut, opened, split_off, new_part, gave, gave_none, got_back, told_rejoined};
+ghost use Rattle.vod_base.specs.Gates.{Content, NoMore, Failed, MaySplit, IsOut, HasOut, opened};
+ghost use Rattle.vod_base.specs.Gates.{split_off, new_part, gave, gave_none, got_back};
+ghost use Rattle.vod_base.specs.Gates.{told_rejoined};
 
 use crate::links::Link;
 use crate::outside::GateFault;

@@ -1,4 +1,5 @@
-ghost use Rattle.std.specs.Prelude.{◌≡◌, ◌<◌, ◌^◌, ◌++◌, ◌↔◌, ℕ, true, List, Some, replicate, decimal};
+ghost use Rattle.std.specs.Prelude.{◌≡◌, ◌<◌, ◌^◌, ◌++◌, ◌↔◌, ℕ, true, List, Some, replicate};
+ghost use Rattle.std.specs.Prelude.{decimal};
 ghost use Rattle.vod_base.specs.Blanks.{IsTrimmed, trimmed};
 ghost use Rattle.vod_base.specs.Links.{Doing, sends};
 ghost use Rattle.vod_base.specs.MemoryLinks.{sent_of};
@@ -33,5 +34,6 @@ pub fn law_trimmed(text: &[u8])
 /// The bytes sent among what a link tells are those of its sends, in order.
 pub fn law_sent()
     ensures bytes { (bytes : List ℕ) → sent_of (sends bytes) ≡ bytes }
-    ensures order { (one other : List Doing) → sent_of (one ++ other) ≡ sent_of one ++ sent_of other }
+    ensures order { (one other : List Doing) →
+        sent_of (one ++ other) ≡ sent_of one ++ sent_of other }
 {}

@@ -1,7 +1,11 @@
-ghost use Rattle.std.specs.Prelude.{◌≡◌, ◌-◌, ◌↔◌, ◌||◌, false, Some, None, [], if◌then◌else◌, nat_lt, map, IfSome, IfOk, IsNone, OnOk, OnErr, is_err, vec_len};
+ghost use Rattle.std.specs.Prelude.{◌≡◌, ◌-◌, ◌↔◌, ◌||◌, false, Some, None, [], if◌then◌else◌};
+ghost use Rattle.std.specs.Prelude.{nat_lt, map, IfSome, IfOk, IsNone, OnOk, OnErr, is_err};
+ghost use Rattle.std.specs.Prelude.{vec_len};
 ghost use Rattle.vod_base.specs.Memory.{one_more};
-ghost use Rattle.vod_base.specs.Gates.{NoMore, Failed, MaySplit, IsOut, HasOut, opened, split_off, new_part, gave, gave_none, got_back, rejoined, fresh_part};
-ghost use Rattle.vod_base.specs.MemoryGates.{returned, part_of, back_of, gate_fails, gate_called, gate_failed};
+ghost use Rattle.vod_base.specs.Gates.{NoMore, Failed, MaySplit, IsOut, HasOut, opened, split_off};
+ghost use Rattle.vod_base.specs.Gates.{new_part, gave, gave_none, got_back, rejoined, fresh_part};
+ghost use Rattle.vod_base.specs.MemoryGates.{returned, part_of, back_of, gate_fails, gate_called};
+ghost use Rattle.vod_base.specs.MemoryGates.{gate_failed};
 
 use crate::gates::{Gate, Opening};
 use crate::memory_libraries::is_listed;
@@ -42,7 +46,8 @@ pub struct MemoryGate {
 }
 
 impl Model for MemoryGate {
-    ghost use Rattle.std.specs.Prelude.{◌≡◌, ◌+◌, ◌-◌, ◌≤◌, true, false, None, map, option_map, vec_len, vec_capacity};
+    ghost use Rattle.std.specs.Prelude.{◌≡◌, ◌+◌, ◌-◌, ◌≤◌, true, false, None, map, option_map};
+    ghost use Rattle.std.specs.Prelude.{vec_len, vec_capacity};
     ghost use Rattle.vod_base.specs.MemoryGates.{GateState, part_of};
 
     ghost Value = { GateState };

@@ -1,4 +1,5 @@
-ghost use Rattle.std.specs.Prelude.{◌≡◌, ◌+◌, ◌<◌, ◌≤◌, ◌++◌, ◌∷◌, [], ◌||◌, length, map, nat_lt, vec_len, vec_capacity, IfOk, OnOk, OnErr, is_err};
+ghost use Rattle.std.specs.Prelude.{◌≡◌, ◌+◌, ◌<◌, ◌≤◌, ◌++◌, ◌∷◌, [], ◌||◌, length, map, nat_lt};
+ghost use Rattle.std.specs.Prelude.{vec_len, vec_capacity, IfOk, OnOk, OnErr, is_err};
 ghost use Rattle.vod_base.specs.Links.{Sent, doing_of, IsWithin, sends};
 ghost use Rattle.vod_base.specs.Memory.{one_more, fails};
 ghost use Rattle.vod_base.specs.declared.memory_links.Noted.TheVariants.{Gone};

@@ -1,4 +1,5 @@
-ghost use Rattle.std.specs.Prelude.{◌≡◌, ◌+◌, ◌<◌, ◌++◌, ◌||◌, [], length, nat_lt, if◌then◌else◌, IfOk, is_err};
+ghost use Rattle.std.specs.Prelude.{◌≡◌, ◌+◌, ◌<◌, ◌++◌, ◌||◌, [], length, nat_lt, if◌then◌else◌};
+ghost use Rattle.std.specs.Prelude.{IfOk, is_err};
 ghost use Rattle.vod_base.specs.Memory.{SinkState, one_more, fails};
 
 use crate::memory_libraries::is_listed;

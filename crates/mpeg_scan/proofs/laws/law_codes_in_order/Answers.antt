@@ -1,6 +1,6 @@
 use Rattle.std.proofs.Common.{[]}
 use Rattle.mpeg_scan.specs.Codes.{read}
-use Rattle.mpeg_scan.proofs.StandardLemmas.{codes-falling}
+use Rattle.mpeg_scan.proofs.OrderLemmas.{codes-falling}
 use Rattle.mpeg_scan.proofs.laws.law_codes_in_order.Goals as goal
 
 pub returns : goal.returns

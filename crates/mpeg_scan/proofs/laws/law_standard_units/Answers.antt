@@ -1,4 +1,5 @@
-use Rattle.mpeg_scan.proofs.StandardLemmas.{film-presented, film-standard}
+use Rattle.mpeg_scan.proofs.OrderLemmas.{film-presented}
+use Rattle.mpeg_scan.proofs.StandardLemmas.{film-standard}
 use Rattle.mpeg_scan.proofs.OnlyLemmas.{film-units_of}
 use Rattle.mpeg_scan.proofs.laws.law_standard_units.Goals as goal
 
