@@ -6,6 +6,7 @@
 
 ghost use Rattle.std.specs.Prelude.{◌≡◌, ◌<◌, ◌≤◌, ◌⊎◌, ◌↔◌};
 ghost use Rattle.std.specs.Ordering.{MatchOrdering};
+ghost use Rattle.slope_frac.specs.declared.Slope.{Slope as Steepness};
 ghost use Rattle.slope_frac.specs.Order.{IsBelow, IsLevel};
 
 use std::cmp::Ordering;
@@ -58,6 +59,15 @@ pub fn law_level(a: Slope, b: Slope, c: Slope)
     let _slopes = (a, b, c);
 }
 
+/// Over equally many slots the slope with fewer bytes is below, and of equally many bytes the one
+/// over more slots.
+pub fn law_steeper()
+    ensures bytes { (a b : Steepness) → 1 ≤ a.slots → a.slots ≡ b.slots →
+        (IsBelow a b ↔ (a.bytes < b.bytes)) }
+    ensures slots { (a b : Steepness) → 1 ≤ a.bytes → a.bytes ≡ b.bytes →
+        (IsBelow a b ↔ (b.slots < a.slots)) }
+{}
+
 #[cfg(test)]
 mod tests {
     use super::*;
@@ -99,5 +109,6 @@ mod tests {
         let whole = Slope { bytes: 1, slots: 1 };
         law_transitive(half, same, whole);
         law_level(half, same, whole);
+        law_steeper();
     }
 }
