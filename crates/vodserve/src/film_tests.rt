@@ -1,206 +1,116 @@
-//! Films through `run`: their plans, verdicts on those, and system streams.
+//! Films and system streams through `run`.
 
-use crate::run::run;
-use crate::tests::{Outcome, hex, no_failing, ran, sink};
-use command_words::{command_named, keys_of};
-use std::alloc::Global;
-use std::sync::Wait;
+use crate::scenes::passes;
 use std::test::Fail;
-use std::thread::Threads;
-use vod_base::{MemoryGate, MemoryLibrary, NoMemory};
 
-/// A film of one picture, and the second picture of another.
-const FILM: &str = "000001b316012013ffffe0a0 000001b800080040 00000100000ffff8 000001011234";
+/// Films of one picture and of two, their plans, and streams that carry them.
+const FILMS: &str = "\
+bytes sequence 000001b316012013ffffe0a0
+bytes group 000001b800080040
+bytes intra 00000100000ffff8 000001011234
+bytes second 000001000057fff880 000001011234
+bytes a.mpg sequence group intra
+bytes b.mpg a.mpg second
+> scan film=a.mpg
+0 film bytes=34 rate=3 pictures=1|0 I show=0 from=0 head=28 to=34 slices=1 sequence group|end|
+> scan film=b.mpg
+out film bytes=49 rate=3 pictures=2|0 I show=0 from=0 head=28 to=34 slices=1 sequence group|\
+1 P show=1 from=34 head=43 to=49 slices=1|end|
+ends 0
+> plan film=b.mpg startup=2
+0 smooth 1|slots 4|bytes 141|segment 3 106|segment 1 35|end|
+> plan film=b.mpg startup=0 slot=7200
+0 smooth 1|slots 3|bytes 141|segment 1 106|segment 2 35|end|
+file c smooth 1|slots 4|bytes 141|segment 3 106|segment 1 35|end|
+> check film=b.mpg startup=2 cert=c
+0 least|
+> check film=b.mpg startup=3 cert=c
+1 refused WrongLength|
 
-const SECOND: &str = "000001000057fff880 000001011234";
+bytes pack 000001ba2100010001800003
+bytes ends 000001b9
+bytes stream pack 000001e000230f a.mpg ends
+> scan film=stream
+0 film bytes=34 rate=3 pictures=1|0 I show=0 from=0 head=28 to=34 slices=1 sequence group|end|
+bytes stuffed pack 000001e0002bffff60002100010001 a.mpg ends
+> scan film=stuffed
+0 film bytes=34 rate=3 pictures=1|0 I show=0 from=0 head=28 to=34 slices=1 sequence group|end|
+bytes later 123400 pack 000001e000230f a.mpg
+> scan film=later
+0 film bytes=34 rate=3 pictures=1|0 I show=0 from=0 head=28 to=34 slices=1 sequence group|end|
+bytes two pack 000001e000320f b.mpg ends
+> plan film=two startup=2
+0 smooth 1|slots 4|bytes 141|segment 3 106|segment 1 35|end|
+> check film=two startup=2 cert=c
+0 least|
+";
 
-/// The header of a pack.
-const PACK: &str = "000001ba 2100010001 800003";
+/// Films and system streams that are refused, each with its fault.
+const REFUSED: &str = "\
+bytes 0.mpg 
+> scan film=0.mpg
+3 vodserve: 0.mpg: Empty|
+bytes 1.mpg 000001b316012013ffffe0a0000001b80008004000000100000ffff8
+> scan film=1.mpg
+3 vodserve: 1.mpg: PictureWithoutSlices 20|
+bytes 2.mpg 000001b316012013ffffe0a0000001b80008004000000100000f
+> scan film=2.mpg
+3 vodserve: 2.mpg: ShortHeader 20|
+bytes 3.mpg 000001b316012013ffffe0a0
+> scan film=3.mpg
+3 vodserve: 3.mpg: HeadWithoutPicture 0|
+bytes 4.mpg 000001b316012013ffffe0a0000001b5
+> scan film=4.mpg
+3 vodserve: 4.mpg: Mpeg2 12|
+bytes 5.mpg 000001b316012013ffffe0a0000001ba
+> scan film=5.mpg
+3 vodserve: 5.mpg: SystemCode 12|
+bytes 6.mpg 000001b316012010ffffe0a0000001b8
+> scan film=6.mpg
+3 vodserve: 6.mpg: BadRate 0 0|
+bytes 7.mpg 000001b80008004000000100000ffff8000001011234
+> scan film=7.mpg
+3 vodserve: 7.mpg: NoSequence|
+bytes 8.mpg 000001ba
+> scan film=8.mpg
+3 vodserve: 8.mpg: Truncated 0|
+bytes 9.mpg 000001ba4400010001800003
+> scan film=9.mpg
+3 vodserve: 9.mpg: NotPack 0|
+bytes 10.mpg 12000001ba4400010001800003
+> scan film=10.mpg
+3 vodserve: 10.mpg: NotPack 1|
+bytes 11.mpg 000001ba2100010001800003 000001e0000100
+> scan film=11.mpg
+3 vodserve: 11.mpg: BadPacket 12|
+bytes 12.mpg 000001ba2100010001800003 41
+> scan film=12.mpg
+3 vodserve: 12.mpg: BadCode 12|
+bytes 13.mpg 000001ba2100010001800003 000001e000230f
+> scan film=13.mpg
+3 vodserve: 13.mpg: Truncated 12|
+bytes 14.mpg 000001ba2100010001800003
+> scan film=14.mpg
+3 vodserve: 14.mpg: Empty|
+bytes 15.mpg 000001ba2100010001800003 000001e000050f000001b9
+> scan film=15.mpg
+3 vodserve: 15.mpg: SystemCode 0|
+bytes 16.mpg 000001ba2100010001800003 000001e000050f000001b941
+> scan film=16.mpg
+3 vodserve: 16.mpg: BadCode 23|
+bytes 17.mpg 000001ba2100010001800003 000001e00034ffffffffffffffffffffffffffffffffff0f 000001b316012013ffffe0a0000001b80008004000000100000ffff8000001011234
+> scan film=17.mpg
+3 vodserve: 17.mpg: BadPacket 12|
+> plan film=0.mpg
+3 vodserve: 0.mpg: Empty|
+";
 
-const PLAN: &str = "smooth 1\nslots 4\nbytes 141\nsegment 3 106\nsegment 1 35\nend\n";
-
-const SCAN: &str =
-    "film bytes=34 rate=3 pictures=1\n0 I show=0 from=0 head=28 to=34 slices=1 sequence group\nend\n";
-
-/// What the words come to, over a library with a file `a.mpg` of these bytes, and a certificate `c`.
-fn answer<R: Threads + Wait + Sync>(
-    rt: &R,
-    alloc: Global,
-    line: &str,
-    film: Vec<u8>,
-    cert: &str,
-) -> Result<Outcome, Fail> {
-    let mut held = Vec::new(alloc);
-    held.push((String::from_str(alloc, "a.mpg")?, film))?;
-    held.push((
-        String::from_str(alloc, "c")?,
-        Vec::from_slice(alloc, cert.as_bytes())?,
-    ))?;
-    let mut words = Vec::new(alloc);
-    for word in line.split_whitespace() {
-        words.push(String::from_str(alloc, word)?)?;
-    }
-    let mut library = MemoryLibrary::new(held, Vec::new(alloc));
-    let mut out = sink(alloc, Vec::new(alloc))?;
-    let mut err = sink(alloc, Vec::new(alloc))?;
-    let mut gate = match MemoryGate::new(alloc, Vec::new(alloc), Vec::new(alloc)) {
-        Ok(gate) => gate,
-        Err(NoMemory) => return Err(Fail::from(std::alloc::AllocError)),
-    };
-    let ended = run(
-        rt,
-        alloc,
-        &words,
-        &mut library,
-        &mut out,
-        &mut err,
-        &mut gate,
-        [0; 32],
-    );
-    Ok(Outcome {
-        status: ended.status,
-        planned: ended.plan.is_some(),
-        out: Vec::from_slice(alloc, out.bytes())?,
-        err: Vec::from_slice(alloc, err.bytes())?,
-    })
+#[test]
+fn scans_and_plans_films(rt: HostRuntime) -> Result<(), Fail> {
+    passes(&rt, rt.alloc(), FILMS)
 }
 
 #[test]
-fn plans_and_checks_films(rt: HostRuntime) -> Result<(), Fail> {
-    let alloc = rt.alloc();
-    for (line, status, out) in [
-        ("plan film=a.mpg startup=2", 0, PLAN),
-        (
-            "plan film=a.mpg startup=0 slot=7200",
-            0,
-            "smooth 1\nslots 3\nbytes 141\nsegment 1 106\nsegment 2 35\nend\n",
-        ),
-        ("check film=a.mpg startup=2 cert=c", 0, "least\n"),
-        (
-            "check film=a.mpg startup=3 cert=c",
-            1,
-            "refused WrongLength\n",
-        ),
-    ] {
-        let film = hex(alloc, &format!(in alloc; "{FILM}{SECOND}")?)?;
-        let got = answer(&rt, alloc, line, film, PLAN)?;
-        assert_eq!(rt; got.out.as_slice(), out.as_bytes(), "at {line}");
-        assert_eq!(rt; got.status, status, "at {line}");
-    }
-    let got = answer(&rt, alloc, "plan film=a.mpg", Vec::new(alloc), "")?;
-    assert_eq!(rt; got.err.as_slice(), b"vodserve: a.mpg: Empty\n".as_slice());
-    assert!(rt; got.status == 3 && !got.planned);
-    Ok(())
-}
-
-#[test]
-fn reads_system_streams(rt: HostRuntime) -> Result<(), Fail> {
-    let alloc = rt.alloc();
-    let one = format!(in alloc; "{PACK} 000001e0 0023 0f {FILM} 000001b9")?;
-    let stuffed = format!(in alloc; "{PACK} 000001e0 002b ffff 6000 2100010001 {FILM} 000001b9")?;
-    let two = format!(in alloc; "{PACK} 000001e0 0032 0f {FILM} {SECOND} 000001b9")?;
-    let later = format!(in alloc; "1234 00 {PACK} 000001e0 0023 0f {FILM}")?;
-    for (line, film, out) in [
-        ("scan film=a.mpg", one.as_str(), SCAN),
-        ("scan film=a.mpg", stuffed.as_str(), SCAN),
-        ("scan film=a.mpg", later.as_str(), SCAN),
-        ("plan film=a.mpg startup=2", two.as_str(), PLAN),
-        ("check film=a.mpg startup=2 cert=c", two.as_str(), "least\n"),
-    ] {
-        let got = answer(&rt, alloc, line, hex(alloc, film)?, PLAN)?;
-        assert_eq!(rt; got.out.as_slice(), out.as_bytes(), "at {film}");
-        assert_eq!(rt; got.status, 0, "at {film}");
-    }
-    Ok(())
-}
-
-#[test]
-fn names_a_stream_s_refusal(rt: HostRuntime) -> Result<(), Fail> {
-    let alloc = rt.alloc();
-    let stuffed = "ff".repeat(alloc, 17)?;
-    for (film, err) in [
-        ("000001ba", "Truncated 0"),
-        ("000001ba 4400010001 800003", "NotPack 0"),
-        ("12 000001ba 4400010001 800003", "NotPack 1"),
-        (
-            "000001ba 2100010001 800003 000001e0 0001 00",
-            "BadPacket 12",
-        ),
-        ("000001ba 2100010001 800003 41", "BadCode 12"),
-        (
-            "000001ba 2100010001 800003 000001e0 0023 0f",
-            "Truncated 12",
-        ),
-        ("000001ba 2100010001 800003", "Empty"),
-        (
-            "000001ba 2100010001 800003 000001e0 0005 0f 000001b9",
-            "SystemCode 0",
-        ),
-        (
-            "000001ba 2100010001 800003 000001e0 0005 0f 000001b9 41",
-            "BadCode 23",
-        ),
-    ] {
-        let got = answer(&rt, alloc, "scan film=a.mpg", hex(alloc, film)?, "")?;
-        let want = format!(in alloc; "vodserve: a.mpg: {err}\n")?;
-        assert_eq!(rt; got.err.as_slice(), want.as_bytes(), "at {film}");
-        assert_eq!(rt; got.status, 3, "at {film}");
-    }
-    let film = format!(in alloc; "{PACK} 000001e0 0034 {stuffed} 0f {FILM}")?;
-    let got = answer(&rt, alloc, "scan film=a.mpg", hex(alloc, &film)?, "")?;
-    assert_eq!(rt;
-        got.err.as_slice(),
-        b"vodserve: a.mpg: BadPacket 12\n".as_slice()
-    );
-    Ok(())
-}
-
-#[test]
-fn scans_a_stream_as_its_film(rt: HostRuntime) -> Result<(), Fail> {
-    let alloc = rt.alloc();
-    for line in ["scan film=a.mpg", "plan film=a.mpg slot=7200"] {
-        let film = ran(
-            &rt,
-            alloc,
-            "make kind=film seed=1 pictures=250",
-            &[],
-            no_failing(alloc),
-        )?;
-        let stream = ran(
-            &rt,
-            alloc,
-            "make kind=system seed=1 pictures=250",
-            &[],
-            no_failing(alloc),
-        )?;
-        let one = answer(&rt, alloc, line, film.out, "")?;
-        let other = answer(&rt, alloc, line, stream.out, "")?;
-        assert_eq!(rt; one.status, 0);
-        assert!(rt; one.out.as_slice() == other.out.as_slice());
-    }
-    Ok(())
-}
-
-#[test]
-fn helps_with_every_key(rt: HostRuntime) -> Result<(), Fail> {
-    let alloc = rt.alloc();
-    let help = ran(&rt, alloc, "--help", &[], no_failing(alloc))?;
-    let Ok(text) = str::from_utf8(&help.out) else {
-        return Err(Fail::from("no text"));
-    };
-    for name in [
-        "plan", "check", "scan", "make", "day", "fair", "serve", "watch",
-    ] {
-        let Some(command) = command_named(name) else {
-            return Err(Fail::from("no command"));
-        };
-        let Some((_, after)) = text.split_once(&format!(in alloc; "\n  {name} ")?) else {
-            return Err(Fail::from("no help"));
-        };
-        for key in keys_of(command) {
-            let word = format!(in alloc; "{key}=")?;
-            assert!(rt; after.contains(word.as_str()), "{name} {key}");
-        }
-    }
-    Ok(())
+fn names_a_film_s_refusal(rt: HostRuntime) -> Result<(), Fail> {
+    passes(&rt, rt.alloc(), REFUSED)
 }

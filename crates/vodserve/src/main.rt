@@ -17,6 +17,8 @@ mod run;
 mod scan_text;
 mod scans;
 #[cfg(test)]
+mod scenes;
+#[cfg(test)]
 mod serve_tests;
 mod served;
 mod serving;
@@ -24,6 +26,8 @@ mod serving;
 mod tests;
 mod texts;
 mod traces;
+#[cfg(test)]
+mod watch_tests;
 mod watches;
 mod workers;
 

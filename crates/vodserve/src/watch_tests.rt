@@ -1,0 +1,50 @@
+//! `watch` through `run`, over a gate in memory.
+
+use crate::scenes::passes;
+use std::test::Fail;
+
+/// A film of two pictures, slot by slot as its plan has it, and what keeps a client from it.
+const WATCHED: &str = "\
+bytes b.mpg 000001b316012013ffffe0a0000001b80008004000000100000ffff8000001011234 000001000057fff880000001011234
+hears RTSP/1.0 200 OK|CSeq: 1|Transport: RTP/AVP/TCP;unicast;interleaved=0-1;ssrc=01020304|Session: 0123456789abcdef||
+hears RTSP/1.0 200 OK|CSeq: 2|Session: 0123456789abcdef|Range: npt=0.000-0.080|x-Start: 1||
+gets 2401003080c8000601020304000000000000000000000000000000000000000081ca00
+slots 1 1
+gets 04010203040108766f64736572766500002400003280a0000100000000010203040000
+slots 2 2
+gets 3900000001b316012013ffffe0a0000001b80008004000000100000ffff8000001011234
+slots 3 3
+gets 2400001f80a0000200000e100102030400011a01000001000057fff880000001011234
+slots 4 4
+hears RTSP/1.0 200 OK|CSeq: 3|Session: 0123456789abcdef||
+part
+> watch film=b.mpg startup=2
+says SETUP rtsp://127.0.0.1:8554/b.mpg/video RTSP/1.0|CSeq: 1|Transport: RTP/AVP/TCP;unicast;interleaved=0-1|\
+x-Buffer: 1048576|x-Startup: 2||
+says PLAY rtsp://127.0.0.1:8554/b.mpg RTSP/1.0|CSeq: 2|Session: 0123456789abcdef|Range: npt=0-||
+says TEARDOWN rtsp://127.0.0.1:8554/b.mpg RTSP/1.0|CSeq: 3|Session: 0123456789abcdef||
+is b.mpg
+err watched units=2 bytes=49 frames=2 reports=1 most=106 over=0 under=0|
+ends 0
+
+> watch film=b.mpg
+3 vodserve: b.mpg: NoConnection|
+fails gate 1
+> watch film=b.mpg
+7 vodserve: GateFault|
+part 1
+> watch film=b.mpg
+7 vodserve: GateFault|
+part
+> watch film=b.mpg
+3 vodserve: b.mpg: EndedEarly 0|
+hears RTSP/1.0 404 Not Found|CSeq: 1||
+part
+> watch film=b.mpg
+3 vodserve: b.mpg: Refused 404|
+";
+
+#[test]
+fn watches_a_film(rt: HostRuntime) -> Result<(), Fail> {
+    passes(&rt, rt.alloc(), WATCHED)
+}
