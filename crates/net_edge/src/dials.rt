@@ -3,6 +3,7 @@
 ghost use Rattle.std.specs.Prelude.{◌≡◌, ◌≤◌, None, IfOk, IfSome};
 ghost use Rattle.vod_base.specs.Outside.{HasRisen};
 
+use crate::faults::Faults;
 use crate::links::{SlotClock, TcpLink};
 use std::alloc::Global;
 use std::net::{Ipv4Addr, Net, SocketAddr, TcpListener, TcpStream};
@@ -20,7 +21,7 @@ pub struct DialGate<'a, R: Net<Listener = TcpListener, Stream = TcpStream> + Clo
     is_open: bool,
     /// The connection that is to be given.
     dialed: Option<Dialed>,
-    faults: u64,
+    faults: Faults,
 }
 
 /// A connection that was made.
@@ -53,14 +54,14 @@ impl<'a, R: Net<Listener = TcpListener, Stream = TcpStream> + Clock> DialGate<'a
             alloc,
             is_open: false,
             dialed: None,
-            faults: 0,
+            faults: Faults::none(),
         }
     }
 
     /// The connection, where it wasn't given yet.
     fn next_link(&mut self) -> io::Result<Option<TcpLink<'a, R>>>
         ensures faults { self.new.faults ≡ self.old.faults }
-        ensures fresh { IfOk result (λ next. IfSome next (λ link. link.faults ≡ 0)) }
+        ensures fresh { IfOk result (λ next. IfSome next (λ link. link.faults.count ≡ 0)) }
     {
         match mem::replace(&mut self.dialed, None) {
             None => Ok(None),
@@ -73,10 +74,10 @@ impl<'a, R: Net<Listener = TcpListener, Stream = TcpStream> + Clock> DialGate<'a
 
     /// Counts a fault.
     fn fault(&mut self) -> GateFault
-        ensures count { self.old.faults ≤ self.new.faults }
-        ensures risen { HasRisen self.old.faults self.new.faults }
+        ensures count { self.old.faults.count ≤ self.new.faults.count }
+        ensures risen { HasRisen self.old.faults.count self.new.faults.count }
     {
-        self.faults = self.faults.saturating_add(1);
+        self.faults.add();
         GateFault
     }
 }
@@ -84,7 +85,7 @@ impl<'a, R: Net<Listener = TcpListener, Stream = TcpStream> + Clock> DialGate<'a
 impl<'a, R: Net<Listener = TcpListener, Stream = TcpStream> + Clock> Gate for DialGate<'a, R> {
     type Conn = TcpLink<'a, R>;
 
-    ghost faults = { λ g. g.faults };
+    ghost faults = { λ g. g.faults.count };
 
     ghost told = { λ _. None };
 
@@ -110,7 +111,7 @@ impl<'a, R: Net<Listener = TcpListener, Stream = TcpStream> + Clock> Gate for Di
             alloc: self.alloc,
             is_open: true,
             dialed: mem::replace(&mut self.dialed, None),
-            faults: 0,
+            faults: Faults::none(),
         })
     }
 
@@ -126,6 +127,6 @@ impl<'a, R: Net<Listener = TcpListener, Stream = TcpStream> + Clock> Gate for Di
     }
 
     fn rejoin(&mut self, part: Self) {
-        self.faults = self.faults.saturating_add(part.faults);
+        self.faults.join(part.faults);
     }
 }

@@ -1,5 +1,6 @@
 ghost use Rattle.std.specs.Prelude.{◌≡◌, None};
 
+use crate::faults::Faults;
 use std::alloc::Global;
 use std::io::{ErrorKind, Read, Seek, SeekFrom};
 use std::rt::Files;
@@ -12,7 +13,7 @@ pub struct FileLibrary<'a, R: Files> {
     rt: &'a R,
     alloc: Global,
     open: Option<Open<R::File>>,
-    faults: u64,
+    faults: Faults,
 }
 
 /// A file that was read, and the place of its next byte.
@@ -30,7 +31,7 @@ impl<'a, R: Files> FileLibrary<'a, R> {
             rt,
             alloc,
             open: None,
-            faults: 0,
+            faults: Faults::none(),
         }
     }
 
@@ -76,7 +77,7 @@ fn read_some<F: Read>(file: &mut F, into: &mut [u8]) -> io::Result<usize> {
 }
 
 impl<R: Files> Library for FileLibrary<'_, R> {
-    ghost faults = { λ l. l.faults };
+    ghost faults = { λ l. l.faults.count };
 
     ghost files = { λ _. None };
 
@@ -85,7 +86,7 @@ impl<R: Files> Library for FileLibrary<'_, R> {
             Ok(metadata) => Ok(Some(metadata.len())),
             Err(error) if error.kind() == ErrorKind::NotFound => Ok(None),
             Err(_) => {
-                self.faults = self.faults.saturating_add(1);
+                self.faults.add();
                 Err(StoreFault)
             }
         }
@@ -95,7 +96,7 @@ impl<R: Files> Library for FileLibrary<'_, R> {
         match self.read_at(name, at, into) {
             Ok(count) if count <= into.len() => Ok(count),
             _ => {
-                self.faults = self.faults.saturating_add(1);
+                self.faults.add();
                 Err(StoreFault)
             }
         }

@@ -1,6 +1,7 @@
 ghost use Rattle.std.specs.Prelude.{◌≡◌, ◌≤◌, None, IfOk, IfSome};
 ghost use Rattle.vod_base.specs.Outside.{HasRisen};
 
+use crate::faults::Faults;
 use crate::links::{SlotClock, TcpLink};
 use std::alloc::Global;
 use std::io;
@@ -17,7 +18,7 @@ pub struct TcpGate<'a, R: Net<Listener = TcpListener, Stream = TcpStream> + Cloc
     door: Option<Door>,
     /// The connections that were given.
     given: u64,
-    faults: u64,
+    faults: Faults,
 }
 
 /// An open port.
@@ -89,7 +90,7 @@ impl<'a, R: Net<Listener = TcpListener, Stream = TcpStream> + Clock> TcpGate<'a,
             alloc,
             door: None,
             given: 0,
-            faults: 0,
+            faults: Faults::none(),
         }
     }
 
@@ -110,7 +111,7 @@ impl<'a, R: Net<Listener = TcpListener, Stream = TcpStream> + Clock> TcpGate<'a,
     /// The next connection, or None where all were given.
     fn next_link(&mut self) -> io::Result<Option<TcpLink<'a, R>>>
         ensures faults { self.new.faults ≡ self.old.faults }
-        ensures fresh { IfOk result (λ next. IfSome next (λ link. link.faults ≡ 0)) }
+        ensures fresh { IfOk result (λ next. IfSome next (λ link. link.faults.count ≡ 0)) }
     {
         let Some(door) = &self.door else {
             return Err(io::Error::from(ErrorKind::NotConnected));
@@ -125,10 +126,10 @@ impl<'a, R: Net<Listener = TcpListener, Stream = TcpStream> + Clock> TcpGate<'a,
 
     /// Counts a fault.
     fn fault(&mut self) -> GateFault
-        ensures count { self.old.faults ≤ self.new.faults }
-        ensures risen { HasRisen self.old.faults self.new.faults }
+        ensures count { self.old.faults.count ≤ self.new.faults.count }
+        ensures risen { HasRisen self.old.faults.count self.new.faults.count }
     {
-        self.faults = self.faults.saturating_add(1);
+        self.faults.add();
         GateFault
     }
 }
@@ -136,7 +137,7 @@ impl<'a, R: Net<Listener = TcpListener, Stream = TcpStream> + Clock> TcpGate<'a,
 impl<'a, R: Net<Listener = TcpListener, Stream = TcpStream> + Clock> Gate for TcpGate<'a, R> {
     type Conn = TcpLink<'a, R>;
 
-    ghost faults = { λ g. g.faults };
+    ghost faults = { λ g. g.faults.count };
 
     ghost told = { λ _. None };
 
@@ -159,7 +160,7 @@ impl<'a, R: Net<Listener = TcpListener, Stream = TcpStream> + Clock> Gate for Tc
                 alloc: self.alloc,
                 door: Some(door),
                 given: 0,
-                faults: 0,
+                faults: Faults::none(),
             }),
             Err(_) => Err(self.fault()),
         }
@@ -177,6 +178,6 @@ impl<'a, R: Net<Listener = TcpListener, Stream = TcpStream> + Clock> Gate for Tc
     }
 
     fn rejoin(&mut self, part: Self) {
-        self.faults = self.faults.saturating_add(part.faults);
+        self.faults.join(part.faults);
     }
 }

@@ -10,8 +10,9 @@ pub(crate) struct Gathered {
     start: usize,
 }
 
-/// The most bytes that wait.
-const ROOM: usize = 65_536;
+/// The most bytes that wait: a step of a film of 3 Mbit a second leaves in one write, and a late
+/// session, which sends several slots at once, touches no more memory.
+const ROOM: usize = 16_384;
 
 impl Model for Gathered {
     ghost use Rattle.std.specs.Prelude.{◌≤◌, ℕ, List, length, drop, vec_capacity};
@@ -20,7 +21,7 @@ impl Model for Gathered {
 
     ghost view = { λ g. drop g.start g.bytes.items };
 
-    ghost invariant = { λ g. (g.start ≤ length g.bytes.items) × (length g.bytes.items ≤ 65536) × (65536 ≤ vec_capacity g.bytes) };
+    ghost invariant = { λ g. (g.start ≤ length g.bytes.items) × (length g.bytes.items ≤ 16384) × (16384 ≤ vec_capacity g.bytes) };
 }
 
 /// Moves what stands from `start` on to the front, and leaves nothing else.
@@ -54,7 +55,7 @@ impl Gathered {
 
     /// Appends as many of the bytes as there is room for, and answers how many.
     pub(crate) fn put(&mut self, bytes: &[u8]) -> usize
-        ensures count { result ≡ min (length bytes.now) (65536 - length self.old) }
+        ensures count { result ≡ min (length bytes.now) (16384 - length self.old) }
         ensures waiting { self.new ≡ self.old ++ take result bytes.now }
     {
         let count = bytes.len().min(ROOM - (self.bytes.len() - self.start));

@@ -3,6 +3,7 @@
 #![tactic(auto)]
 
 mod dials;
+mod faults;
 mod files;
 mod gates;
 mod gathers;

@@ -2,6 +2,7 @@ ghost use Rattle.std.specs.Prelude.{◌≡◌, ◌<◌, ◌≤◌, None, length,
 ghost use Rattle.vod_base.specs.Outside.{HasRisen};
 ghost use Rattle.vod_base.specs.Links.{IsWithin};
 
+use crate::faults::Faults;
 use crate::gathers::Gathered;
 use crate::slots::{rest_of_slot, slot_at};
 use mio::net::TcpStream;
@@ -44,7 +45,7 @@ pub struct TcpLink<'a, R: Clock> {
     readable: bool,
     /// Since when the peer takes nothing of the bytes that wait.
     stuck: Option<Instant>,
-    faults: u64,
+    faults: Faults,
 }
 
 impl<'a, R: Net + Clock> TcpLink<'a, R> {
@@ -55,7 +56,7 @@ impl<'a, R: Net + Clock> TcpLink<'a, R> {
         stream: net::TcpStream,
         clock: SlotClock,
     ) -> io::Result<TcpLink<'a, R>>
-        ensures { IfOk result (λ link. link.faults ≡ 0) }
+        ensures { IfOk result (λ link. link.faults.count ≡ 0) }
     {
         stream.set_nonblocking(true)?;
         let _ = stream.set_nodelay(true);
@@ -76,7 +77,7 @@ impl<'a, R: Net + Clock> TcpLink<'a, R> {
             slot: None,
             readable: true,
             stuck: None,
-            faults: 0,
+            faults: Faults::none(),
         })
     }
 }
@@ -257,23 +258,23 @@ impl<R: Clock> TcpLink<'_, R> {
 
     /// Ends the connection. A fault is no matter any more.
     pub(crate) fn end(mut self) {
-        if self.faults == 0 {
+        if self.faults.count == 0 {
             let _ = self.close();
         }
     }
 
     /// Counts a fault.
     fn fault(&mut self) -> LinkFault
-        ensures count { self.old.faults ≤ self.new.faults }
-        ensures risen { HasRisen self.old.faults self.new.faults }
+        ensures count { self.old.faults.count ≤ self.new.faults.count }
+        ensures risen { HasRisen self.old.faults.count self.new.faults.count }
     {
-        self.faults = self.faults.saturating_add(1);
+        self.faults.add();
         LinkFault
     }
 }
 
 impl<R: Clock> Link for TcpLink<'_, R> {
-    ghost faults = { λ l. l.faults };
+    ghost faults = { λ l. l.faults.count };
 
     ghost told = { λ _. None };
 

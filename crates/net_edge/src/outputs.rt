@@ -1,5 +1,6 @@
 ghost use Rattle.std.specs.Prelude.{None};
 
+use crate::faults::Faults;
 use std::io::Write;
 use vod_base::{Sink, SinkFault};
 
@@ -7,18 +8,21 @@ use vod_base::{Sink, SinkFault};
 #[derive(Drop)]
 pub struct OutSink<W: Write + Drop> {
     stream: W,
-    faults: u64,
+    faults: Faults,
 }
 
 impl<W: Write + Drop> OutSink<W> {
     /// A sink over a stream.
     pub fn new(stream: W) -> OutSink<W> {
-        OutSink { stream, faults: 0 }
+        OutSink {
+            stream,
+            faults: Faults::none(),
+        }
     }
 }
 
 impl<W: Write + Drop> Sink for OutSink<W> {
-    ghost faults = { λ s. s.faults };
+    ghost faults = { λ s. s.faults.count };
 
     ghost written = { λ _. None };
 
@@ -26,7 +30,7 @@ impl<W: Write + Drop> Sink for OutSink<W> {
         if self.stream.write_all(bytes).is_ok() && self.stream.flush().is_ok() {
             return Ok(());
         }
-        self.faults = self.faults.saturating_add(1);
+        self.faults.add();
         Err(SinkFault)
     }
 }

@@ -1,0 +1,35 @@
+//! Counts of faults.
+
+ghost use Rattle.std.specs.Prelude.{◌≡◌, ◌≤◌, ◌<◌};
+ghost use Rattle.vod_base.specs.Outside.{HasRisen};
+
+/// How many faults an object has counted, at most 2^64 - 1.
+#[derive(Clone, Copy)]
+pub(crate) struct Faults {
+    pub(crate) count: u64,
+}
+
+impl Faults {
+    /// None yet.
+    pub(crate) fn none() -> Faults
+        ensures { result.count ≡ 0 }
+    {
+        Faults { count: 0 }
+    }
+
+    /// Counts a fault.
+    pub(crate) fn add(&mut self)
+        ensures count { self.old.count ≤ self.new.count }
+        ensures risen { HasRisen self.old.count self.new.count }
+    {
+        self.count = self.count.saturating_add(1);
+    }
+
+    /// Counts the faults of a part, too.
+    pub(crate) fn join(&mut self, part: Faults)
+        ensures count { self.old.count ≤ self.new.count }
+        ensures risen { 0 < part.count → HasRisen self.old.count self.new.count }
+    {
+        self.count = self.count.saturating_add(part.count);
+    }
+}
