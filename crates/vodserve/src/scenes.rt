@@ -277,7 +277,8 @@ impl Stage {
             self.events
                 .push(Event::Bytes(bytes_of(alloc, rest, b"\r\n")?))?;
         } else if word == "gets" {
-            self.events.push(Event::Bytes(self.joined(alloc, rest)?))?;
+            let bytes = self.joined(alloc, rest)?;
+            self.events.push(Event::Bytes(bytes))?;
         } else if word == "slots" {
             for slot in number_of(first)..=number_of(more) {
                 self.events.push(Event::Slot(slot))?;
@@ -307,16 +308,15 @@ impl Stage {
 
     /// Lets the call of that number fail.
     fn fail(&mut self, object: &str, number: u64) -> Result<(), NoMemory> {
-        let calls = if object == "library" {
-            &mut self.failing.library
+        if object == "library" {
+            self.failing.library.push(number)?;
         } else if object == "out" {
-            &mut self.failing.out
+            self.failing.out.push(number)?;
         } else if object == "err" {
-            &mut self.failing.err
+            self.failing.err.push(number)?;
         } else {
-            &mut self.failing.gate
-        };
-        calls.push(number)?;
+            self.failing.gate.push(number)?;
+        }
         Ok(())
     }
 
@@ -387,9 +387,9 @@ impl Stage {
             );
         } else if word == "said" {
             let want = bytes_of(alloc, more, b"\r\n")?;
-            let mut count = 0;
+            let mut count = 0u64;
             for sent in &self.left.sent {
-                count += u64::from(has(sent, &want));
+                count = count.saturating_add(u64::from(has(sent, &want)));
             }
             assert_eq!(rt; count, number_of(first), "at {more}");
         } else {
@@ -408,12 +408,11 @@ impl Stage {
         text: &str,
     ) -> Result<(), NoMemory> {
         let want = bytes_of(alloc, text, b"\n")?;
-        let read = if is_out {
-            &mut self.left.out
+        let got = if is_out {
+            std::mem::replace(&mut self.left.out, Vec::new(alloc))
         } else {
-            &mut self.left.err
+            std::mem::replace(&mut self.left.err, Vec::new(alloc))
         };
-        let got = std::mem::replace(read, Vec::new(alloc));
         assert!(rt;
             got.as_slice() == want.as_slice(),
             "not {text} but {}",
