@@ -10,3 +10,4 @@ pub mod SecondsTexts
 pub mod HexTexts
 pub mod Names
 pub mod Described
+pub mod ClockTexts

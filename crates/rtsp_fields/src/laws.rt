@@ -1,4 +1,5 @@
-ghost use Rattle.std.specs.Prelude.{◌≡◌, ◌≢◌, ◌*◌, ◌^◌, ◌<◌, ◌++◌, ◌↔◌, ℕ, codes, true};
+ghost use Rattle.std.specs.Prelude.{◌≡◌, ◌≢◌, ◌+◌, ◌*◌, ◌^◌, ◌<◌, ◌≤◌, ◌∷◌, ◌++◌, ◌↔◌, ℕ};
+ghost use Rattle.std.specs.Prelude.{codes, decimal, true};
 ghost use Rattle.vod_base.specs.Names.{is_good_name};
 ghost use Rattle.rtsp_text.specs.Grammar.{IsUrl};
 ghost use Rattle.rtsp_fields.specs.Laws.{IsDescription};
@@ -83,4 +84,16 @@ pub fn law_description(name: &[u8], end_ms: u64)
     ensures { IsDescription (description_text name.now end_ms) name.now (end_ms * 1000000) }
 {
     let _read = (name.len(), end_ms);
+}
+
+/// Hours, minutes and seconds, with `:` between them, are read as that time, in nanoseconds (RFC
+/// 2326 section 3.6).
+pub fn law_clock_read(hours: u64, minutes: u64, seconds: u64)
+    requires hours { hours < 10 ^ 5 }
+    requires minutes { minutes ≤ 59 }
+    requires seconds { seconds ≤ 59 }
+    ensures { IsTime (decimal hours ++ 58 ∷ (decimal minutes ++ 58 ∷ decimal seconds))
+        ((hours * 3600 + minutes * 60 + seconds) * 1000000000) }
+{
+    let _read = (hours, minutes, seconds);
 }
