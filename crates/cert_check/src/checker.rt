@@ -1,6 +1,10 @@
-ghost use Rattle.std.specs.Prelude.{MatchResult, OnOk};
+ghost use Rattle.std.specs.Prelude.{◌≡◌, ◌∷◌, [], ℕ, map, MatchResult, OnOk};
 ghost use Rattle.wire_curve.specs.Sound.{IsSound};
-ghost use Rattle.cert_check.specs.Fault.{IsTaut, IsFirstFault};
+ghost use Rattle.cert_check.specs.declared.CertFault.TheVariants.{EmptySegment, WrongLength};
+ghost use Rattle.cert_check.specs.declared.CertFault.TheVariants.{WrongTotal, BelowLow, AboveUp};
+ghost use Rattle.cert_check.specs.declared.CertFault.TheVariants.{EqualSlopes, RiseOffUpper};
+ghost use Rattle.cert_check.specs.declared.CertFault.TheVariants.{FallOffLower};
+ghost use Rattle.cert_check.specs.Fault.{IsTaut, IsFirstFault, kind_of};
 ghost use Rattle.cert_check.specs.Whole.{StaysWithin};
 ghost use Rattle.cert_check.specs.Best.{IsBestPlan};
 
@@ -80,3 +84,11 @@ pub fn law_best(curves: &Curves, segments: &[Segment])
     let _first = segments.first();
     let _from = curves.from;
 }
+
+/// The law: the kinds of faults are looked for in this order.
+pub fn law_order()
+    ensures { (i : ℕ) → map kind_of
+        (EmptySegment i ∷ WrongLength ∷ WrongTotal ∷ BelowLow i ∷ AboveUp i ∷ EqualSlopes i
+        ∷ RiseOffUpper i ∷ FallOffLower i ∷ [])
+        ≡ 0 ∷ 1 ∷ 2 ∷ 3 ∷ 4 ∷ 5 ∷ 6 ∷ 7 ∷ [] }
+{}

@@ -11,7 +11,7 @@ mod checker;
 mod sums;
 mod walk;
 
-pub use checker::{check, law_best};
+pub use checker::{check, law_best, law_order};
 use std::error::Error;
 use std::fmt;
 
