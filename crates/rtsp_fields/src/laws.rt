@@ -1,5 +1,5 @@
 ghost use Rattle.std.specs.Prelude.{◌≡◌, ◌≢◌, ◌+◌, ◌*◌, ◌^◌, ◌<◌, ◌≤◌, ◌∷◌, ◌++◌, ◌↔◌, ℕ};
-ghost use Rattle.std.specs.Prelude.{codes, decimal, true};
+ghost use Rattle.std.specs.Prelude.{List, codes, decimal, true};
 ghost use Rattle.vod_base.specs.Names.{is_good_name};
 ghost use Rattle.rtsp_text.specs.Grammar.{IsUrl};
 ghost use Rattle.rtsp_fields.specs.Laws.{IsDescription};
@@ -78,22 +78,15 @@ pub fn law_seconds_read(ms: u64)
 /// The description of a film that lasts less than 10^12 milliseconds has the lines that RFC 4566
 /// asks for, in their order. A player that reads them finds the whole film's time in it, and the
 /// control URL of the film's one stream.
-pub fn law_description(name: &[u8], end_ms: u64)
-    requires name { is_good_name name.now ≡ true }
-    requires end { end_ms < 10 ^ 12 }
-    ensures { IsDescription (description_text name.now end_ms) name.now (end_ms * 1000000) }
-{
-    let _read = (name.len(), end_ms);
-}
+pub fn law_description()
+    ensures { (name : List ℕ) (end_ms : ℕ) → is_good_name name ≡ true → end_ms < 10 ^ 12
+        → IsDescription (description_text name end_ms) name (end_ms * 1000000) }
+{}
 
 /// Hours, minutes and seconds, with `:` between them, are read as that time, in nanoseconds (RFC
 /// 2326 section 3.6).
-pub fn law_clock_read(hours: u64, minutes: u64, seconds: u64)
-    requires hours { hours < 10 ^ 5 }
-    requires minutes { minutes ≤ 59 }
-    requires seconds { seconds ≤ 59 }
-    ensures { IsTime (decimal hours ++ 58 ∷ (decimal minutes ++ 58 ∷ decimal seconds))
+pub fn law_clock_read()
+    ensures { (hours minutes seconds : ℕ) → hours < 10 ^ 5 → minutes ≤ 59 → seconds ≤ 59 →
+        IsTime (decimal hours ++ 58 ∷ (decimal minutes ++ 58 ∷ decimal seconds))
         ((hours * 3600 + minutes * 60 + seconds) * 1000000000) }
-{
-    let _read = (hours, minutes, seconds);
-}
+{}

@@ -8,28 +8,20 @@ ghost use Rattle.vod_base.specs.Numbers.{number_of};
 
 /// A text is read as a number of 64 bits exactly where it is the number's decimal text, with zeros
 /// in front or none.
-pub fn law_number_read(text: &[u8], number: u64)
-    requires { number < 2 ^ 64 }
-    ensures { (number_of text.now ≡ Some number)
-        ↔ ((zeros : ℕ) × (text.now ≡ replicate zeros 48 ++ decimal number)) }
-{
-    let _read = (text.len(), number);
-}
+pub fn law_number_read()
+    ensures { (text : List ℕ) (number : ℕ) → number < 2 ^ 64 → (number_of text ≡ Some number)
+        ↔ ((zeros : ℕ) × (text ≡ replicate zeros 48 ++ decimal number)) }
+{}
 
 /// A good name is one that is safe as the name of a file in a folder.
-pub fn law_file_name(name: &[u8])
-    requires { is_good_name name.now ≡ true }
-    ensures { IsPlainFileName name.now }
-{
-    let _read = name.len();
-}
+pub fn law_file_name()
+    ensures { (name : List ℕ) → is_good_name name ≡ true → IsPlainFileName name }
+{}
 
 /// A trimmed text is the text without the spaces and tabs around it, and loses nothing else.
-pub fn law_trimmed(text: &[u8])
-    ensures { IsTrimmed text.now (trimmed text.now) }
-{
-    let _read = text.len();
-}
+pub fn law_trimmed()
+    ensures { (text : List ℕ) → IsTrimmed text (trimmed text) }
+{}
 
 /// The bytes sent among what a link tells are those of its sends, in order.
 pub fn law_sent()

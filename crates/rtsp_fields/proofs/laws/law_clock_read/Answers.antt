@@ -2,4 +2,4 @@ use Rattle.rtsp_fields.proofs.ClockTexts.{clock_read}
 use Rattle.rtsp_fields.proofs.laws.law_clock_read.Goals as goal
 
 pub returns : goal.returns
-returns c = clock_read c.args.hours c.args.minutes c.args.seconds c.requires.hours c.requires.minutes c.requires.seconds
+returns c = clock_read

@@ -2,4 +2,4 @@ use Rattle.rtsp_fields.proofs.Described.{description_is}
 use Rattle.rtsp_fields.proofs.laws.law_description.Goals as goal
 
 pub returns : goal.returns
-returns c = description_is c.args.name.now c.args.end_ms c.requires.name c.requires.end
+returns c = description_is

@@ -4,7 +4,5 @@ use Rattle.vod_base.specs.Numbers.{number_of}
 use Rattle.vod_base.proofs.laws.law_number_read.Goals as goal
 
 pub returns : goal.returns
-returns c = (
-  λ read. read_written c.args.text.now c.args.number read,
-  λ written. ap number_of written.1 ∙ written_read written.0 c.args.number c.requires,
-)
+returns c = λ text number small.
+    (λ read. read_written text number read, λ written. ap number_of written.1 ∙ written_read written.0 number small)

@@ -2,4 +2,4 @@ use Rattle.vod_base.proofs.Written.{trimmed_is}
 use Rattle.vod_base.proofs.laws.law_trimmed.Goals as goal
 
 pub returns : goal.returns
-returns c = trimmed_is c.args.text.now
+returns c = trimmed_is
