@@ -22,7 +22,8 @@ pub fn check(curves: &Curves, segments: &[Segment]) -> Result<(), CertFault>
     requires { IsSound curves.now.from curves.now.low.items curves.now.up.items }
     ensures verdict { MatchResult result
         (λ _. IsTaut curves.now.from curves.now.low.items curves.now.up.items segments.now)
-        (λ fault. IsFirstFault curves.now.from curves.now.low.items curves.now.up.items segments.now fault) }
+        (λ fault. IsFirstFault curves.now.from curves.now.low.items curves.now.up.items
+        segments.now fault) }
     ensures best { OnOk result
         (IsBestPlan curves.now.from curves.now.low.items curves.now.up.items segments.now) }
 {
@@ -34,7 +35,8 @@ fn find_fault(curves: &Curves, segments: &[Segment]) -> Result<(), CertFault>
     requires { IsSound curves.now.from curves.now.low.items curves.now.up.items }
     ensures { MatchResult result
         (λ _. IsTaut curves.now.from curves.now.low.items curves.now.up.items segments.now)
-        (λ fault. IsFirstFault curves.now.from curves.now.low.items curves.now.up.items segments.now fault) }
+        (λ fault. IsFirstFault curves.now.from curves.now.low.items curves.now.up.items
+        segments.now fault) }
 {
     if let Some(i) = first_empty(segments) {
         return Err(CertFault::EmptySegment(i));
@@ -59,7 +61,8 @@ fn check_bends(curves: &Curves, segments: &[Segment]) -> Result<(), CertFault>
     requires { StaysWithin curves.now.from curves.now.low.items curves.now.up.items segments.now }
     ensures { MatchResult result
         (λ _. IsTaut curves.now.from curves.now.low.items curves.now.up.items segments.now)
-        (λ fault. IsFirstFault curves.now.from curves.now.low.items curves.now.up.items segments.now fault) }
+        (λ fault. IsFirstFault curves.now.from curves.now.low.items curves.now.up.items
+        segments.now fault) }
 {
     if let Some(i) = first_equal(segments) {
         return Err(CertFault::EqualSlopes(i));

@@ -1,6 +1,9 @@
-ghost use Rattle.std.specs.Prelude.{◌≡◌, ◌+◌, ◌-◌, ◌*◌, ◌/◌, ◌<◌, ◌≤◌, ◌⊎◌, ◌↔◌, ◌∷◌, ◌++◌, [], ℕ, All, List, codes, decimal, flat_map, length, map, min, take, sum, sum_by, slice_index, slice_index_or};
+ghost use Rattle.std.specs.Prelude.{◌≡◌, ◌+◌, ◌-◌, ◌*◌, ◌/◌, ◌<◌, ◌≤◌, ◌⊎◌, ◌↔◌, ◌∷◌, ◌++◌, [], ℕ};
+ghost use Rattle.std.specs.Prelude.{All, List, codes, decimal, flat_map, length, map, min, take};
+ghost use Rattle.std.specs.Prelude.{sum, sum_by, slice_index, slice_index_or};
 ghost use Rattle.plan_cert.specs.declared.Segment.{Segment};
-ghost use Rattle.plan_cert.specs.Slots.{slot_of, slots_of, plan_slots, total_slots, total_bytes, sum_through};
+ghost use Rattle.plan_cert.specs.Slots.{slot_of, slots_of, plan_slots, total_slots, total_bytes};
+ghost use Rattle.plan_cert.specs.Slots.{sum_through};
 ghost use Rattle.plan_cert.specs.Plan.{IsPlan};
 ghost use Rattle.plan_cert.specs.Text.{cert_text};
 ghost use Rattle.plan_cert.specs.Reading.{IsNamed};
@@ -30,7 +33,8 @@ pub fn law_running_sum()
     ensures first { (segments : List Segment) →
         sum_through segments 0 ≡ slice_index (plan_slots segments) 0 }
     ensures next { (segments : List Segment) (t : ℕ) →
-        sum_through segments (t + 1) ≡ sum_through segments t + slice_index (plan_slots segments) (t + 1) }
+        sum_through segments (t + 1)
+        ≡ sum_through segments t + slice_index (plan_slots segments) (t + 1) }
     ensures rises { (segments : List Segment) (t u : ℕ) → t ≤ u →
         sum_through segments t ≤ sum_through segments u }
     ensures end { (segments : List Segment) (t : ℕ) → IsPlan segments →

@@ -1,7 +1,11 @@
-ghost use Rattle.std.specs.Prelude.{ℕ, ◌≡◌, ◌≢◌, ◌+◌, ◌^◌, ◌<◌, ◌≤◌, ◌++◌, ◌↔◌, List, IsTrue, length, slice_index, codes, decimal, flat_map, All, IfOk, IfErr, MatchOption, MatchResult};
+ghost use Rattle.std.specs.Prelude.{ℕ, ◌≡◌, ◌≢◌, ◌+◌, ◌^◌, ◌<◌, ◌≤◌, ◌++◌, ◌↔◌, List, IsTrue};
+ghost use Rattle.std.specs.Prelude.{length, slice_index, codes, decimal, flat_map, All, IfOk};
+ghost use Rattle.std.specs.Prelude.{IfErr, MatchOption, MatchResult};
 ghost use Rattle.plan_cert.specs.declared.Segment.{Segment};
 ghost use Rattle.plan_cert.specs.Slots.{total_slots, total_bytes};
-ghost use Rattle.plan_cert.specs.Reading.{IsCut, IsNumberLine, IsSegmentLine, AreNumbers, IsCertificate, IsRefused, IsBadLine, HasRead, IsHead, IsBody};
+ghost use Rattle.plan_cert.specs.Reading.{IsCut, IsNumberLine, IsSegmentLine, AreNumbers};
+ghost use Rattle.plan_cert.specs.Reading.{IsCertificate, IsRefused, IsBadLine, HasRead, IsHead};
+ghost use Rattle.plan_cert.specs.Reading.{IsBody};
 
 use crate::Segment;
 use std::alloc::Global;

@@ -1,8 +1,10 @@
 //! The chain along one curve, and how it takes in the next place.
 
-ghost use Rattle.std.specs.Prelude.{◌≡◌, ◌+◌, ◌<◌, ◌≤◌, [], length, MatchBool, MatchOption, IfOk, OnOk};
+ghost use Rattle.std.specs.Prelude.{◌≡◌, ◌+◌, ◌<◌, ◌≤◌, [], length, MatchBool, MatchOption, IfOk};
+ghost use Rattle.std.specs.Prelude.{OnOk};
 ghost use Rattle.wire_curve.specs.Sound.{IsSound};
-ghost use Rattle.taut_plan.specs.Chain.{on_curve, IsChain, IsPassed, IsReady, EdgesAscend, EdgesFit};
+ghost use Rattle.taut_plan.specs.Chain.{on_curve, IsChain, IsPassed, IsReady, EdgesAscend};
+ghost use Rattle.taut_plan.specs.Chain.{EdgesFit};
 ghost use Rattle.taut_plan.specs.Slopes.{Fits};
 ghost use Rattle.taut_plan.specs.Sides.{side_of};
 

@@ -32,7 +32,8 @@ impl Path {
         requires higher { self.old.apex.height ≤ corner.height }
         ensures apex { OnOk result (self.new.apex ≡ corner) }
         ensures segments { OnOk result
-            (self.new.segments.items ≡ self.old.segments.items ++ segment_to self.old.apex corner ∷ []) }
+            (self.new.segments.items
+            ≡ self.old.segments.items ++ segment_to self.old.apex corner ∷ []) }
     {
         self.segments.push(Segment {
             slots: corner.place - self.apex.place,

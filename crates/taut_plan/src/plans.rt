@@ -1,11 +1,13 @@
 //! The planner: the funnel between the two curves.
 
-ghost use Rattle.std.specs.Prelude.{◌≡◌, ℕ, ◌+◌, ◌<◌, ◌≤◌, ◌∷◌, length, MatchBool, MatchOption, IfOk, OnOk};
+ghost use Rattle.std.specs.Prelude.{◌≡◌, ℕ, ◌+◌, ◌<◌, ◌≤◌, ◌∷◌, length, MatchBool, MatchOption};
+ghost use Rattle.std.specs.Prelude.{IfOk, OnOk};
 ghost use Rattle.wire_curve.specs.Sound.{IsSound};
 ghost use Rattle.cert_check.specs.Fault.{IsTaut};
 ghost use Rattle.cert_check.specs.Best.{IsBestPlan};
 ghost use Rattle.taut_plan.specs.Slopes.{other_side};
-ghost use Rattle.taut_plan.specs.Funnel.{IsFunnel, IsCrossed, IsUncrossed, FirstIsBetween, FirstFits, others_known};
+ghost use Rattle.taut_plan.specs.Funnel.{IsFunnel, IsCrossed, IsUncrossed, FirstIsBetween};
+ghost use Rattle.taut_plan.specs.Funnel.{FirstFits, others_known};
 ghost use Rattle.taut_plan.specs.Path.{IsPath, IsWhole};
 ghost use Rattle.taut_plan.specs.Sides.{lower_of, upper_of, side_of};
 

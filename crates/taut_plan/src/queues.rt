@@ -1,6 +1,7 @@
 //! Points in a row that join at the back and leave at both ends.
 
-ghost use Rattle.std.specs.Prelude.{◌≡◌, ◌-◌, ◌<◌, [], ◌∷◌, ◌++◌, length, take, drop, MatchOption, OnOk};
+ghost use Rattle.std.specs.Prelude.{◌≡◌, ◌-◌, ◌<◌, [], ◌∷◌, ◌++◌, length, take, drop, MatchOption};
+ghost use Rattle.std.specs.Prelude.{OnOk};
 ghost use Rattle.taut_plan.specs.Chain.{IsFirstPoint, IsLastEdge};
 
 use crate::points::Point;

@@ -1,9 +1,12 @@
 //! The curves of a film, from the sizes of its pictures and the times at which they are used.
 
-ghost use Rattle.std.specs.Prelude.{◌≡◌, ℕ, ◌+◌, ◌-◌, ◌<◌, ◌≤◌, ◌^◌, length, sum, slice_index, vec_len, IfOk, IfErr, IfSome, IfNone, OnOk, All, max, min};
+ghost use Rattle.std.specs.Prelude.{◌≡◌, ℕ, ◌+◌, ◌-◌, ◌<◌, ◌≤◌, ◌^◌, length, sum, slice_index};
+ghost use Rattle.std.specs.Prelude.{vec_len, IfOk, IfErr, IfSome, IfNone, OnOk, All, max, min};
 ghost use Rattle.wire_curve.specs.Sound.{IsSound};
-ghost use Rattle.wire_curve.specs.FilmCurves.{due, used_in, total_of, slot_count, IsWithinLimits, AreFilmCurves};
-ghost use Rattle.wire_curve.specs.Uses.{AreUses, IsFaultOfUses, AreCurvesOfUses, IsLowerOfUses, IsUpperOfUses};
+ghost use Rattle.wire_curve.specs.FilmCurves.{due, used_in, total_of, slot_count, IsWithinLimits};
+ghost use Rattle.wire_curve.specs.FilmCurves.{AreFilmCurves};
+ghost use Rattle.wire_curve.specs.Uses.{AreUses, IsFaultOfUses, AreCurvesOfUses, IsLowerOfUses};
+ghost use Rattle.wire_curve.specs.Uses.{IsUpperOfUses};
 ghost use Rattle.wire_curve.specs.Refusal.{IsAccepted, IsOverfull, HasFault, IsRefused};
 
 use crate::curves::Curves;
@@ -179,7 +182,8 @@ fn buffer_fault(in_slot: &[u64], buffer: u64) -> Option<CurveFault>
     })
 }
 
-/// The curves of pictures that use so much in each slot. The list of the uses becomes the lower one.
+/// The curves of pictures that use so much in each slot. The list of the uses becomes the lower
+/// one.
 fn curves_of_uses(alloc: Global, timing: &Timing, uses: SlotUses) -> Result<Curves, AllocError>
     requires total { timing.now.played + sum uses.in_slot.items ≤ 2 ^ 42 }
     requires buffer { timing.now.buffer ≤ 2 ^ 42 }

@@ -1,5 +1,6 @@
-//! The plain planner, kept as a program to compare with: from each corner it looks for the next one by the greatest slope
-//! that the lower curve asks for and the least slope that the upper curve allows.
+//! The plain planner, kept as a program to compare with: from each corner it looks for the next one
+//! by the greatest slope that the lower curve asks for and the least slope that the upper curve
+//! allows.
 
 use plan_cert::Segment;
 use std::alloc::{AllocError, Global};
@@ -8,7 +9,8 @@ use wire_curve::Curves;
 /// A place and a height.
 type At = (u64, u64);
 
-/// Whether, seen from `from`, the point `a` stands steeper than the point `b`. Meant for small numbers.
+/// Whether, seen from `from`, the point `a` stands steeper than the point `b`. Meant for small
+/// numbers.
 fn is_steeper(from: At, a: At, b: At) -> bool {
     let run_a = a.0.wrapping_sub(from.0);
     let run_b = b.0.wrapping_sub(from.0);
