@@ -1,5 +1,9 @@
 ghost use Rattle.std.specs.Prelude.{◌≡◌, ◌+◌, ◌*◌, ◌%◌, ◌^◌, ◌<◌, ◌≤◌, ◌++◌, ℕ, List, length, sum};
 ghost use Rattle.std.specs.Prelude.{Ok};
+ghost use Rattle.mpeg_scan.specs.declared.units.Unit.{Unit as PictureUnit};
+ghost use Rattle.rtp_pack.specs.declared.payloads.Packet.{Packet};
+ghost use Rattle.rtp_pack.specs.declared.reports.Identity.{Identity};
+ghost use Rattle.rtp_pack.specs.declared.reports.Report.{Report};
 ghost use Rattle.rtp_pack.specs.Cutting.{IsCutting};
 ghost use Rattle.rtp_pack.specs.Fields.{HasReportFields, HasVideoFields, IsTickOf};
 ghost use Rattle.rtp_pack.specs.Heads.{head_bytes, head_of, unit_timestamp, video_word};
@@ -11,7 +15,6 @@ ghost use Rattle.rtp_pack.specs.Packets.{ArePackets, DoCover, IsLaid, OfUnit};
 
 use crate::heads::Head;
 use crate::payloads::Packet;
-use crate::reports::{Identity, Report};
 use mpeg_scan::{Film, Unit};
 
 /// The rules for cutting leave one list: two lists of cut points that meet them for one unit are
@@ -83,30 +86,25 @@ pub fn law_rules()
 
 /// The fields of a video header, each read at its bits (RFC 2250 section 3.4). Film units keep both
 /// premises.
-pub fn law_video_header(unit: &Unit, packet: &Packet)
-    requires temporal { unit.now.temporal < 2 ^ 10 }
-    requires vectors { unit.now.vectors < 2 ^ 8 }
-    ensures { HasVideoFields (video_word unit.now packet.now) unit.now packet.now }
-{
-    let _read = (unit.to, packet.to);
-}
+pub fn law_video_header()
+    ensures { (unit : PictureUnit) (packet : Packet) → unit.temporal < 2 ^ 10 →
+        unit.vectors < 2 ^ 8 → HasVideoFields (video_word unit packet) unit packet }
+{}
 
 /// The fields of a report, each read at its bytes (RFC 3550 sections 6.4.1 and 6.5).
-pub fn law_report_fields(report: Report)
-    ensures { HasReportFields (report_bytes report) report }
-{
-    let _read = report;
-}
+pub fn law_report_fields()
+    ensures { (report : Report) → report.ssrc < 2 ^ 32 → report.time < 2 ^ 64 →
+        report.timestamp < 2 ^ 32 → report.packets < 2 ^ 32 → report.octets < 2 ^ 32
+        → HasReportFields (report_bytes report) report }
+{}
 
 /// A report's time, in seconds with 32 bits after the point, and a packet's timestamp, on a clock
 /// of 90,000 Hz, are those of a unit's place in its film, which counts in 1/360,000 second.
-pub fn law_media_times(identity: &Identity, picture_time: u32, unit: &Unit)
-    requires { unit.now.presentation * picture_time < 360000 * 2 ^ 32 }
-    ensures time { IsTickOf (unit.now.presentation * picture_time) (2 ^ 32)
-        (unit_time picture_time unit.now) }
-    ensures timestamp { (tick : ℕ) × (IsTickOf (unit.now.presentation * picture_time) 90000 tick
-        × (unit_timestamp identity.now picture_time unit.now ≡
-        (identity.now.timestamp + tick) % 2 ^ 32)) }
-{
-    let _read = (identity.ssrc, picture_time, unit.to);
-}
+pub fn law_media_times()
+    ensures time { (picture_time : ℕ) (unit : PictureUnit) →
+        unit.presentation * picture_time < 360000 * 2 ^ 32
+        → IsTickOf (unit.presentation * picture_time) (2 ^ 32) (unit_time picture_time unit) }
+    ensures timestamp { (identity : Identity) (picture_time : ℕ) (unit : PictureUnit) →
+        (tick : ℕ) × (IsTickOf (unit.presentation * picture_time) 90000 tick
+        × (unit_timestamp identity picture_time unit ≡ (identity.timestamp + tick) % 2 ^ 32)) }
+{}
