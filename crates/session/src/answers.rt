@@ -19,6 +19,7 @@ use crate::sessions::Session;
 use crate::states::{Awaited, Next, Play, Prepared, Setup, State, Stop};
 use admission::Answer;
 use early_start::Offers;
+use film_frames::Frames;
 use film_run::Run;
 use pacer::Pacer;
 use plan_cert::Plan;
@@ -162,26 +163,12 @@ impl<'a> Session<'a> {
                 self.state = State::Ready(setup, None);
             }
             Next::Paused(rest) => {
-                self.state = State::Stopping(
-                    setup,
-                    Stop {
-                        paused: Some(rest),
-                        start,
-                        pacer,
-                    },
-                );
+                self.state = State::Stopping(setup, stop_of(Some(rest), start, pacer));
                 self.waits = true;
             }
             Next::Torn => {
+                self.state = State::Stopping(setup, stop_of(None, start, pacer));
                 self.tearing = true;
-                self.state = State::Stopping(
-                    setup,
-                    Stop {
-                        paused: None,
-                        start,
-                        pacer,
-                    },
-                );
                 self.waits = true;
             }
         }
@@ -245,6 +232,17 @@ impl<'a> Session<'a> {
             offers,
         });
         self.waits = true;
+    }
+}
+
+/// What is left of a play that was halted.
+fn stop_of<'a>(paused: Option<Run>, start: u64, pacer: Pacer<Frames<'a>>) -> Stop<'a>
+    ensures { result ≡ record { paused = paused; start = start; pacer = pacer.entry } }
+{
+    Stop {
+        paused,
+        start,
+        pacer,
     }
 }
 

@@ -58,6 +58,11 @@ hears PAUSE rtsp://h/b.mpg RTSP/1.0|CSeq: 10|Session: 0123456789ABCDEF||
 says RTSP/1.0 455 Method Not Valid In This State|CSeq: 10||
 hears GET_PARAMETER rtsp://h/b.mpg RTSP/1.0|CSeq: 11|Session: 0123456789abcdef||
 says RTSP/1.0 200 OK|CSeq: 11||
+told looked 5 3 3 77
+hears GET_PARAMETER rtsp://h/b.mpg RTSP/1.0|CSeq: 11|Session: 0123456789abcdef|Content-Length: 9||x-Booked|
+says RTSP/1.0 200 OK|CSeq: 11|Content-Type: text/parameters|Content-Length: 35||x-Now: 3|x-Slot: 3|x-Booked: 77|
+hears GET_PARAMETER rtsp://h/b.mpg RTSP/1.0|CSeq: 11|Session: 0123456789abcdef|Content-Length: 10||x-Booked: |
+says RTSP/1.0 451 Parameter Not Understood|CSeq: 11||
 told offered 3 1
 hears GET_PARAMETER rtsp://h/b.mpg RTSP/1.0|CSeq: 12|Session: 0123456789abcdef|x-Wait: 1|Content-Length: 9||x-Offer|
 says RTSP/1.0 200 OK|CSeq: 12|Content-Type: text/parameters|Content-Length: 51||x-Start: none|x-Over: 1 1 0 35|x-Over: 2 2 0 35|
@@ -96,6 +101,8 @@ says RTSP/1.0 455 Method Not Valid In This State|CSeq: 13||
 told looked 1 0 0 0
 hears GET_PARAMETER rtsp://h/b.mpg RTSP/1.0|CSeq: 14|Content-Length: 8||x-Booked
 says RTSP/1.0 200 OK|CSeq: 14|Content-Type: text/parameters|Content-Length: 34||x-Now: 0|x-Slot: 0|x-Booked: 0|
+hears GET_PARAMETER rtsp://h/b.mpg RTSP/1.0|CSeq: 14|Content-Length: 3||x-o
+says RTSP/1.0 451 Parameter Not Understood|CSeq: 14||
 hears REDIRECT rtsp://h/b.mpg RTSP/1.0|CSeq: 15||
 says RTSP/1.0 501 Not Implemented|CSeq: 15||
 told halted 1 0
@@ -118,6 +125,13 @@ says RTSP/1.0 505 RTSP Version Not Supported|CSeq: 21||
 hears RECORD rtsp://h/none.mpg RTSP/1.0|CSeq: 22| x: y|Require: x|Session: 1||
 says RTSP/1.0 400 Bad Request|CSeq: 22||
 hears RECORD rtsp://h/none.mpg RTSP/1.0|CSeq: 1a|Content-Length: x|Require: x|Session: 1||
+says RTSP/1.0 400 Bad Request||
+# the same without a number
+hears RECORD  rtsp://h/none.mpg RTSP/2.0| x: y|Content-Length: x|Require: x|Session: 1||
+says RTSP/1.0 400 Bad Request||
+hears RECORD rtsp://h/none.mpg RTSP/2.0| x: y|Content-Length: x|Require: x|Session: 1||
+says RTSP/1.0 505 RTSP Version Not Supported||
+hears RECORD rtsp://h/none.mpg RTSP/1.0| x: y|Content-Length: x|Require: x|Session: 1||
 says RTSP/1.0 400 Bad Request||
 hears RECORD rtsp://h/none.mpg RTSP/1.0|CSeq: 24|Content-Length: x|Require: x|Session: 1||
 says RTSP/1.0 400 Bad Request|CSeq: 24||
@@ -208,7 +222,73 @@ says RTSP/1.0 400 Bad Request|CSeq: 35||
 hears PLAY rtsp://h/news.mpg RTSP/1.0|CSeq: 1a|Session: 0123456789abcdef||
 says RTSP/1.0 400 Bad Request||
 hears PLAY rtsp://h/news.mpg RTSP/1.0|CSeq: 36|Session: 0123456789abcdee||
-says RTSP/1.0 454 Session Not Found|CSeq: 36||";
+says RTSP/1.0 454 Session Not Found|CSeq: 36||
+hears PLAY rtsp://h/news.mpg RTSP/1.0|CSeq: 37||
+says RTSP/1.0 454 Session Not Found|CSeq: 37||
+hears PLAY rtsp://h/news.mpg RTSP/2.0|CSeq: 38|Session: 0123456789abcdef||
+says RTSP/1.0 505 RTSP Version Not Supported|CSeq: 38||";
+
+/// An ordinary session, with the whole texts of its replies.
+const ORDINARY: &str = "\
+in Init
+hears OPTIONS * RTSP/1.0|CSeq: 1||
+says RTSP/1.0 200 OK|CSeq: 1|Public: OPTIONS, DESCRIBE, SETUP, PLAY, PAUSE, TEARDOWN, GET_PARAMETER||
+hears DESCRIBE rtsp://127.0.0.1:8554/news.mpg RTSP/1.0|CSeq: 2||
+says RTSP/1.0 200 OK|CSeq: 2|Content-Base: rtsp://127.0.0.1:8554/news.mpg/|Content-Type: application/sdp|Content-Length: 142||\
+v=0|o=- 0 0 IN IP4 127.0.0.1|s=news.mpg|c=IN IP4 0.0.0.0|t=0 0|a=control:*|a=range:npt=0-10.000|m=video 0 RTP/AVP 32|a=control:video|
+hears SETUP rtsp://127.0.0.1:8554/news.mpg/video RTSP/1.0|CSeq: 3|Transport: RTP/AVP;unicast;client_port=5000-5001||
+says RTSP/1.0 461 Unsupported Transport|CSeq: 3||
+hears SETUP rtsp://127.0.0.1:8554/news.mpg/video RTSP/1.0|CSeq: 4|Transport: RTP/AVP/TCP;unicast;interleaved=0-1||
+says RTSP/1.0 200 OK|CSeq: 4|Transport: RTP/AVP/TCP;unicast;interleaved=0-1;ssrc=01020304|Session: 0123456789abcdef||
+told admitted 0 1
+hears PLAY rtsp://127.0.0.1:8554/news.mpg/ RTSP/1.0|CSeq: 5|Session: 0123456789abcdef|Range: npt=0.000-||
+says RTSP/1.0 200 OK|CSeq: 5|Session: 0123456789abcdef|Range: npt=0.000-10.000|\
+RTP-Info: url=rtsp://127.0.0.1:8554/news.mpg/video;seq=1;rtptime=0|x-Start: 1||
+hears GET_PARAMETER rtsp://127.0.0.1:8554/news.mpg/ RTSP/1.0|CSeq: 6|Session: 0123456789abcdef||
+says RTSP/1.0 200 OK|CSeq: 6||
+told halted 1 0
+hears TEARDOWN rtsp://127.0.0.1:8554/news.mpg/ RTSP/1.0|CSeq: 7|Session: 0123456789abcdef||
+says RTSP/1.0 200 OK|CSeq: 7|Session: 0123456789abcdef||";
+
+/// Each request that takes memory: a look, offers before a play and in a pause, a play, and a play
+/// that goes on. A look's reply waits for the end of a frame.
+const MEMORY: &str = "\
+in Ready
+told looked 1 0 0 0
+hears GET_PARAMETER rtsp://h/b.mpg RTSP/1.0|CSeq: 3|Content-Length: 8||x-Booked
+says RTSP/1.0 200 OK|CSeq: 3|Content-Type: text/parameters|Content-Length: 34||x-Now: 0|x-Slot: 0|x-Booked: 0|
+told offered 2 1
+hears GET_PARAMETER rtsp://h/b.mpg RTSP/1.0|CSeq: 4|x-Wait: 1|Content-Length: 7||x-Offer
+says RTSP/1.0 200 OK|CSeq: 4|Content-Type: text/parameters|Content-Length: 51||x-Start: none|x-Over: 1 1 0 35|x-Over: 2 2 0 35|
+told admitted 2 1 4 141
+hears PLAY rtsp://h/b.mpg RTSP/1.0|CSeq: 5|Session: 0123456789abcdef||
+says RTSP/1.0 200 OK|CSeq: 5|Session: 0123456789abcdef|Range: npt=0.000-0.080|RTP-Info: url=rtsp://h/b.mpg/video;seq=1;rtptime=0|x-Start: 1||
+slot 1
+sends 24010030 80c80006 01020304 00000000 00000000 00000000 00000000 00000000 81ca00
+told halted 3 52
+hears PAUSE rtsp://h/b.mpg RTSP/1.0|CSeq: 6|Session: 0123456789abcdef||
+slot 2
+sends 04 01020304 0108766f 64736572 76650000
+says RTSP/1.0 200 OK|CSeq: 6|Session: 0123456789abcdef||
+told offered 4 3
+hears GET_PARAMETER rtsp://h/b.mpg RTSP/1.0|CSeq: 7|x-Wait: 0|Content-Length: 7||x-Offer
+says RTSP/1.0 200 OK|CSeq: 7|Content-Type: text/parameters|Content-Length: 12||x-Start: 3|
+told admitted 4 3 4 89
+hears PLAY rtsp://h/b.mpg RTSP/1.0|CSeq: 8|Session: 0123456789abcdef||
+says RTSP/1.0 200 OK|CSeq: 8|Session: 0123456789abcdef|Range: npt=0.000-0.080|RTP-Info: url=rtsp://h/b.mpg/video;seq=1;rtptime=0|x-Start: 1||
+slot 3
+sends 24000032 80a00001 00000000 01020304 00003900 0000
+told looked 5 3 3 22
+hears GET_PARAMETER rtsp://h/b.mpg RTSP/1.0|CSeq: 9|Content-Length: 8||x-Booked
+slot 5
+sends 01b316012013ffffe0a0 000001b800080040 00000100000ffff8 000001011234
+says RTSP/1.0 200 OK|CSeq: 9|Content-Type: text/parameters|Content-Length: 35||x-Now: 3|x-Slot: 3|x-Booked: 22|
+sends 2400001f 80a00002 00000e10
+told halted 6 89
+hears TEARDOWN rtsp://h/b.mpg RTSP/1.0|CSeq: 10|Session: 0123456789abcdef||
+slot 6
+sends 01020304 00011a01 000001000057fff880 000001011234
+says RTSP/1.0 200 OK|CSeq: 10|Session: 0123456789abcdef||";
 
 /// Plays, pauses, resumes, seeks and plays that are done: every byte that is sent.
 const PLAYS: &str = "\
@@ -346,6 +426,16 @@ says RTSP/1.0 200 OK|CSeq: 7|Session: 0123456789abcdef||";
 #[test]
 fn answers_each_method_in_each_state(rt: HostRuntime) -> Result<(), Fail> {
     passes(&rt, rt.alloc(), METHODS)
+}
+
+#[test]
+fn answers_an_ordinary_session(rt: HostRuntime) -> Result<(), Fail> {
+    passes(&rt, rt.alloc(), ORDINARY)
+}
+
+#[test]
+fn takes_memory_and_goes_on(rt: HostRuntime) -> Result<(), Fail> {
+    passes(&rt, rt.alloc(), MEMORY)
 }
 
 #[test]

@@ -8,6 +8,7 @@ use Rattle.session.specs.declared.states.Awaited.TheVariants.{Nothing}
 use Rattle.session.specs.declared.states.Next.{Next}
 use Rattle.session.specs.declared.states.Next.TheVariants.{Paused}
 use Rattle.session.specs.declared.states.State.{State}
+use Rattle.session.specs.declared.states.Stop.{Stop}
 use Rattle.session.specs.declared.states.State.TheVariants.{Playing, Stopping}
 use Rattle.session.proofs.Askings.{next_in}
 use Rattle.session.proofs.Halts.{halted_plays}
@@ -81,9 +82,10 @@ invariant_of-self-in-Paused c =
       films = c.self.invariant.films;
       settings = c.self.invariant.settings;
       id = c.self.invariant.id;
-      state = (kept.0, kept.1.pacing, left);
+      state = subst (λ (s : Stop). IsStateKept films inside.source inside.settings inside.counts (Stopping setup s))
+          (sym c.stop_of.ensures) (kept.0, kept.1.pacing, left);
       awaited = subst (λ (a : Awaited). IsAwaitedKept films inside.source inside.settings inside.counts inside.lost
-          (Stopping setup (record { paused = Some c.in-Paused.rest; start = play.start; pacer = play.pacer })) a) (sym none) tt;
+          (Stopping setup c.stop_of.result) a) (sym none) tt;
       stop = refl;
       receipt_room = omega (arith, c.self.invariant.receipt_room);
       play_room = omega arith;
