@@ -19,3 +19,4 @@ pub mod OneVerdict
 pub mod OnePlan
 pub mod OneHearing
 pub mod Results
+pub mod Tellings

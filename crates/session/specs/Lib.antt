@@ -16,3 +16,4 @@ pub mod Methods
 pub mod Hearings
 pub mod Laws
 pub mod Changes
+pub mod Telling

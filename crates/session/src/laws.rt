@@ -1,23 +1,31 @@
 //! Laws of a session, in RFC 2326's words.
 
-ghost use Rattle.std.specs.Prelude.{◌≡◌, ℕ, List, Some, None};
+ghost use Rattle.std.specs.Prelude.{◌≡◌, ℕ, true, List, Option, Some, None, string_bytes};
+ghost use Rattle.vod_base.specs.Names.{is_good_name};
+ghost use Rattle.mpeg_scan.specs.declared.films.Film.{Film};
+ghost use Rattle.rtsp_fields.specs.Urls.{IsRead};
+ghost use Rattle.rtsp_text.specs.Replies.{reason};
 ghost use Rattle.film_frames.specs.declared.stores.Stored.{Stored};
 ghost use Rattle.film_frames.specs.Runs.{Run as Sending, frames_before, octets_before};
 ghost use Rattle.film_run.specs.declared.runs.Run.{Run};
 ghost use Rattle.session.specs.declared.asks.Ask.{Ask};
 ghost use Rattle.session.specs.declared.plans.Planned.{Planned};
+ghost use Rattle.session.specs.declared.refusals.Refusal.{Refusal};
 ghost use Rattle.session.specs.declared.states.Counts.{Counts};
 ghost use Rattle.session.specs.declared.states.Play.{Play as Played};
 ghost use Rattle.session.specs.declared.states.Setup.{Setup};
 ghost use Rattle.session.specs.declared.states.Source.{Source};
 ghost use Rattle.session.specs.declared.states.State.TheVariants.{Playing};
-ghost use Rattle.session.specs.Films.{counts_after, identity_of};
+ghost use Rattle.session.specs.Films.{counts_after, identity_of, length_ms};
 ghost use Rattle.session.specs.Changes.{AsksOrLacks, CanBePlayed, ChangesState, IsSameGround, RefusesNone};
 ghost use Rattle.session.specs.Hearings.{Hears, after_admission, after_halt};
 ghost use Rattle.session.specs.Laws.{GoesOn, InitStage, Is500, IsNoHalt, IsOneHearing, IsWanting, LeavesOr, NeverLacks, PlayingStage, PlaysOn, ReadyStage, Resumes, StaysOr};
+ghost use Rattle.session.specs.Methods.{play_front};
 ghost use Rattle.session.specs.Planning.{IsPlannedRun};
 ghost use Rattle.session.specs.Ranges.{AreFilms};
+ghost use Rattle.session.specs.Replies.{code_of, describe_text};
 ghost use Rattle.session.specs.Standings.{Standing};
+ghost use Rattle.session.specs.Telling.{IsFilmTold, IsPlayTold, IsShort, phrase_of};
 
 /// A reply other than 200 leaves all of the session but the reply (RFC 2326 section 7.1.1).
 pub fn law_refusal_leaves()
@@ -92,4 +100,28 @@ pub fn law_one_hearing()
         → Is500 ask new → IsWanting old message ask new }
     ensures begun { (old new : Standing) (message : List ℕ) (ask : Ask) →
         Hears old message ask new → NeverLacks ask new }
+{}
+
+/// Each refusal has the phrase that RFC 2326 section 7.1.1 has for its cause.
+pub fn law_phrases()
+    ensures { (refusal : Refusal) → reason (code_of refusal) ≡ phrase_of refusal }
+{}
+
+/// The reply to a PLAY tells, up to its start, the session, the time of the film from the run's
+/// first unplayed picture to its end, and how the stream goes on: the URL of the film, the number
+/// of the next frame, and the first unplayed picture's time (RFC 2326 sections 12.29 and 12.33).
+pub fn law_play_told()
+    ensures { (old : Standing) (stored : Stored) (setup : Setup) (paused : Option Run)
+        (range : Option (List ℕ)) (planned : Planned) (sequence : ℕ) (url authority : List ℕ)
+        (name : Option (List ℕ)) → IsPlannedRun old stored setup paused range planned
+        → IsRead url authority name → is_good_name (string_bytes stored.name) ≡ true
+        → IsPlayTold old stored setup planned sequence authority (play_front old stored setup planned sequence authority) }
+{}
+
+/// The reply to a DESCRIBE tells the film's base URL, under the authority of the request's URL, and
+/// describes the film, with its whole time (RFC 2326 section 10.2 and appendix C).
+pub fn law_film_told()
+    ensures { (sequence : ℕ) (url authority name : List ℕ) (asked : Option (List ℕ)) (film : Film)
+        → IsRead url authority asked → is_good_name name ≡ true → IsShort film
+        → IsFilmTold sequence authority name film (describe_text sequence authority name (length_ms film)) }
 {}

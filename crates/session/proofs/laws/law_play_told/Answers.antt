@@ -1,0 +1,5 @@
+use Rattle.session.proofs.Tellings.{play_told}
+use Rattle.session.proofs.laws.law_play_told.Goals as goal
+
+pub returns : goal.returns
+returns c = play_told

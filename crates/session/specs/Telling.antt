@@ -1,0 +1,105 @@
+-- What replies tell, as a reader of RFC 2326's grammars finds it in their fields.
+use Rattle.std.specs.Prelude.{ℕ, ◌≡◌, ◌+◌, ◌*◌, ◌%◌, ◌^◌, ◌<◌, ◌≤◌, ◌++◌, List, Option, Some, codes, decimal, string_bytes, length}
+use Rattle.mpeg_scan.specs.Rates.{picture_time}
+use Rattle.mpeg_scan.specs.declared.films.Film.{Film}
+use Rattle.film_frames.specs.declared.stores.Stored.{Stored}
+use Rattle.film_frames.specs.Runs.{frames_before}
+use Rattle.rtsp_fields.specs.Laws.{IsDescription}
+use Rattle.rtsp_fields.specs.Ranges.{IsSpan}
+use Rattle.rtsp_fields.specs.Urls.{IsRead}
+use Rattle.rtsp_fields.specs.declared.ranges.Origin.TheVariants.{At}
+use Rattle.rtsp_text.specs.Replies.{Field, reply_front, reply_text, value_named}
+use Rattle.session.specs.declared.plans.Planned.{Planned}
+use Rattle.session.specs.declared.refusals.Refusal.{Refusal}
+use Rattle.session.specs.declared.refusals.Refusal.TheVariants.{BadRequest, Version, Method, Option as Required, Session, Film as NoFilm, State, Transport, Parameter, Buffer, Range, Memory}
+use Rattle.session.specs.declared.states.Setup.{Setup}
+use Rattle.session.specs.declared.states.Source.{Source}
+use Rattle.session.specs.Films.{sending_of}
+use Rattle.session.specs.Standings.{Standing}
+
+-- the phrase of RFC 2326 section 7.1.1 for each cause
+abbrev pub phrase_of : Refusal → List ℕ
+phrase_of BadRequest = codes "Bad Request"
+phrase_of Version = codes "RTSP Version Not Supported"
+phrase_of Method = codes "Not Implemented"
+phrase_of Required = codes "Option Not Supported"
+phrase_of Session = codes "Session Not Found"
+phrase_of NoFilm = codes "Not Found"
+phrase_of State = codes "Method Not Valid In This State"
+phrase_of Transport = codes "Unsupported Transport"
+phrase_of Parameter = codes "Parameter Not Understood"
+phrase_of (Buffer least) = codes "Parameter Not Understood"
+phrase_of Range = codes "Invalid Range"
+phrase_of Memory = codes "Internal Server Error"
+
+-- so many whole ticks, of `each` units, are in a time of so many units
+pub record AreTicks (ticks each units : ℕ) : Type 0 where
+  pub passed : ticks * each ≤ units
+  pub no_more : units < (ticks + 1) * each
+
+-- a Range value is read as the time from one unit of a film to another, in whole milliseconds (RFC
+-- 2326 sections 3.6 and 12.29); units begin a picture time after one another
+pub record TellsSpan (film : Film) (first end : ℕ) (value : List ℕ) : Type 0 where
+  pub from : ℕ
+  pub to : ℕ
+  pub from_is : AreTicks from 360 (first * picture_time film.rate)
+  pub to_is : AreTicks to 360 (end * picture_time film.rate)
+  pub read : IsSpan value (record { from = At (from * 1000000); to = Some (to * 1000000) })
+
+-- an RTP-Info value (RFC 2326 section 12.33): a URL that names the film, under this authority; the
+-- number of the frame that is next after so many; and the time at which a unit begins, as a
+-- timestamp of 90,000 a second (RFC 2250 section 3.3)
+pub record TellsInfo (stored : Stored) (source : Source) (authority : List ℕ) (frames unit : ℕ)
+    (value : List ℕ) : Type 0 where
+  pub url : List ℕ
+  pub number : ℕ
+  pub ticks : ℕ
+  pub time : ℕ
+  pub names_film : IsRead url authority (Some (string_bytes stored.name))
+  pub number_is : number ≡ (source.sequence + frames) % 2 ^ 16
+  pub ticks_are : AreTicks ticks 4 (unit * picture_time stored.film.rate)
+  pub time_is : time ≡ (source.timestamp + ticks) % 2 ^ 32
+  pub value_is : value ≡ codes "url=" ++ url ++ codes ";seq=" ++ decimal number
+      ++ codes ";rtptime=" ++ decimal time
+
+-- the fields of a play's reply: the session, the time from the run's first unplayed unit to its
+-- end, and how the stream goes on from what was sent
+pub record TellsPlay (old : Standing) (stored : Stored) (setup : Setup) (planned : Planned)
+    (authority : List ℕ) (fields : List Field) : Type 0 where
+  pub session : value_named (codes "Session") fields ≡ Some old.id
+  pub range : List ℕ
+  pub range_is : value_named (codes "Range") fields ≡ Some range
+  pub span : TellsSpan stored.film planned.run.from_unit planned.run.end_unit range
+  pub info : List ℕ
+  pub info_is : value_named (codes "RTP-Info") fields ≡ Some info
+  pub told : TellsInfo stored old.source authority
+      (planned.counts.frames
+      + frames_before (sending_of stored.film old.source setup planned.counts planned.run) planned.run.sent)
+      planned.run.from_unit info
+
+pub record IsPlayTold (old : Standing) (stored : Stored) (setup : Setup) (planned : Planned)
+    (sequence : ℕ) (authority text : List ℕ) : Type 0 where
+  pub fields : List Field
+  pub text_is : text ≡ reply_front 200 (Some sequence) fields
+  pub told : TellsPlay old stored setup planned authority fields
+
+-- a reply with the description of a film: its base is a URL of the film, and its length that of the
+-- description, which tells the film's whole time in milliseconds (RFC 2326 appendix C)
+pub record IsFilmTold (sequence : ℕ) (authority name : List ℕ) (film : Film) (text : List ℕ)
+    : Type 0 where
+  pub fields : List Field
+  pub body : List ℕ
+  pub end : ℕ
+  pub base : List ℕ
+  pub text_is : text ≡ reply_text 200 (Some sequence) fields body
+  pub base_is : value_named (codes "Content-Base") fields ≡ Some base
+  pub names_film : IsRead base authority (Some name)
+  pub kind : value_named (codes "Content-Type") fields ≡ Some (codes "application/sdp")
+  pub size : value_named (codes "Content-Length") fields ≡ Some (decimal (length body))
+  pub end_is : AreTicks end 360 (length film.units.items * picture_time film.rate)
+  pub described : IsDescription body name (end * 1000000)
+
+-- a film of which a description is told: of few units, each as long as a rate has it
+pub record IsShort (film : Film) : Type 0 where
+  pub few : length film.units.items ≤ 4194304
+  pub brief : picture_time film.rate ≤ 360000
