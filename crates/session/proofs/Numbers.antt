@@ -1,5 +1,5 @@
 -- Numbers go on from what was sent before.
-use Rattle.std.proofs.Common.{◌≡◌, ℕ, ◌+◌, ◌*◌, ◌/◌, ◌%◌, Option, Some, None, add_comm, refl, sym, ap, subst, ◌∙◌, arith}
+use Rattle.std.proofs.Common.{◌≡◌, ℕ, ◌+◌, ◌*◌, ◌/◌, ◌%◌, List, Option, Some, None, add_comm, refl, sym, ap, subst, ◌∙◌, arith}
 use Rattle.std.proofs.Math.Nat.{add-mul-mod_self_left, mod-add-div}
 use Rattle.film_frames.specs.declared.stores.Stored.{Stored}
 use Rattle.film_frames.specs.Runs.{Run as Sending, frames_before, octets_before}
@@ -13,7 +13,7 @@ use Rattle.session.specs.declared.states.Setup.{Setup}
 use Rattle.session.specs.declared.states.Source.{Source}
 use Rattle.session.specs.declared.wanted.Wanted.{Wanted}
 use Rattle.session.specs.declared.wanted.Wanted.TheVariants.{Resumed, New}
-use Rattle.session.specs.Films.{counts_after, identity_of}
+use Rattle.session.specs.Films.{counts_after, identity_of, sending_of}
 use Rattle.session.specs.Laws.{GoesOn, Resumes}
 use Rattle.session.specs.Planning.{IsPlannedRun}
 use Rattle.session.specs.Playing.{IsWanted, counts_for, run_of}
@@ -62,3 +62,17 @@ resumes old stored setup paused planned is =
       run = is.run_is ∙ wanted_resumes stored.film paused None is.wanted now;
       counts = is.counts_is ∙ counts_resume stored.film old.source setup old.counts paused None is.wanted now;
     }
+
+-- a new run goes on from what was sent of the paused one
+pub dropped_goes_on : (old : Standing) (stored : Stored) (setup : Setup) (paused run : Run) (range : Option (List ℕ)) (planned : Planned)
+    → (is : IsPlannedRun old stored setup (Some paused) range planned) → is.wanted ≡ New run
+    → GoesOn (identity_of old.source setup old.counts) (identity_of old.source setup planned.counts)
+    (frames_before (sending_of stored.film old.source setup old.counts paused) paused.sent)
+    (octets_before (sending_of stored.film old.source setup old.counts paused) paused.sent)
+dropped_goes_on old stored setup paused run range planned is new =
+    let sending = sending_of stored.film old.source setup old.counts paused in
+    let counts : planned.counts ≡ counts_after old.counts sending paused.sent =
+    is.counts_is ∙ ap (λ w. counts_for stored.film old.source setup old.counts (Some paused) w) new in
+    subst (λ (c : Counts). GoesOn (identity_of old.source setup old.counts) (identity_of old.source setup c)
+    (frames_before sending paused.sent) (octets_before sending paused.sent)) (sym counts)
+    (identity_goes_on old.source setup old.counts sending paused.sent)

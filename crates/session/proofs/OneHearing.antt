@@ -1,5 +1,5 @@
 -- A message is heard in one way, if memory is found for it.
-use Rattle.std.proofs.Common.{◌≡◌, ℕ, ◌+◌, ◌^◌, string_bytes, ◌⊎◌, Bool, true, false, List, [], ◌∷◌, get_or, slice_get, slice_range, length, filter_map, option_and_then, Option, Some, None, Result, Ok, Err, codes, refl, sym, ap, subst, ◌∙◌, inl, inr, arith}
+use Rattle.std.proofs.Common.{◌≡◌, ℕ, ◌^◌, string_bytes, ◌⊎◌, Bool, true, false, List, [], ◌∷◌, get_or, slice_get, slice_range, filter_map, option_and_then, Option, Some, None, Result, Ok, Err, codes, refl, sym, ap, subst, ◌∙◌, inl, inr, arith}
 use Rattle.vod_base.specs.Numbers.{number_of}
 use Rattle.film_frames.specs.declared.stores.Stored.{Stored}
 use Rattle.film_run.specs.declared.runs.Run.{Run}
@@ -9,7 +9,6 @@ use Rattle.film_run.specs.Units.{stored_sizes}
 use Rattle.early_start.specs.Offered.{Found}
 use Rattle.early_start.specs.declared.Tried.{Tried}
 use Rattle.pacer.specs.Pacings.{next_boundary, slots_through}
-use Rattle.rtsp_fields.specs.Urls.{IsRead}
 use Rattle.rtsp_fields.specs.declared.transports.Channels.{Channels}
 use Rattle.rtsp_fields.proofs.Once.{transport_once}
 use Rattle.rtsp_fields.proofs.Parts.{within_once}
@@ -19,7 +18,7 @@ use Rattle.rtsp_text.specs.Lines.{header_lines}
 use Rattle.rtsp_text.specs.declared.requests.Request.{Request}
 use Rattle.rtsp_text.proofs.Once.{fault_once, no_fault, request_once}
 use Rattle.session.specs.declared.asks.Ask.{Ask}
-use Rattle.session.specs.declared.asks.Ask.TheVariants.{Reply, Halt as AskHalt, Offer as AskOffer}
+use Rattle.session.specs.declared.asks.Ask.TheVariants.{Halt as AskHalt, Offer as AskOffer}
 use Rattle.session.specs.declared.methods.Method.{Method}
 use Rattle.session.specs.declared.methods.Method.TheVariants.{Options, Describe, Setup as SetupMethod, Play as PlayMethod, Pause, Teardown, GetParameter}
 use Rattle.session.specs.declared.methods.Topic.{Topic}
@@ -38,16 +37,16 @@ use Rattle.session.specs.declared.states.Setup.{Setup}
 use Rattle.session.specs.declared.states.State.{State}
 use Rattle.session.specs.declared.states.State.TheVariants.{Init, Ready, Playing, Stopping}
 use Rattle.session.specs.declared.settings.Settings.{Settings}
-use Rattle.session.specs.Films.{IsFilmAt, Names, length_ms}
+use Rattle.session.specs.Films.{Names, length_ms}
 use Rattle.session.specs.Hearings.{Hears, HearsOn, HearsWhole}
 use Rattle.session.specs.Judging.{IsJudged, IsTaskOf, IsTopic, IsWord, fault_refusal, method_of, option_of, place_of}
-use Rattle.session.specs.Laws.{IsOneHearing, IsWanting}
-use Rattle.session.specs.Methods.{AsksHalt, AsksOffer, AsksOfferOr, AsksPlay, AsksPlayOr, Describes, Ends, Gets, GetsOffer, GetsParameter, HasWait, IsWaitOf, IsRefused, IsReplied, IsSetUp, Looks, OffersReady, Pauses, PausesPlay, Plays, PlaysReady, SetsUp, Takes, TearsDown, prepared_of, play_front}
+use Rattle.session.specs.Laws.{IsOneHearing}
+use Rattle.session.specs.Methods.{AsksHalt, AsksOffer, AsksOfferOr, AsksPlay, AsksPlayOr, Describes, Gets, GetsOffer, GetsParameter, HasWait, IsWaitOf, IsRefused, IsReplied, IsSetUp, Looks, OffersReady, Pauses, PausesPlay, Plays, SetsUp, Takes, TearsDown, prepared_of, play_front}
 use Rattle.session.specs.Planning.{IsPlanned}
 use Rattle.session.specs.Playing.{playback_of}
 use Rattle.session.specs.Ranges.{AreFilms}
 use Rattle.session.specs.Replies.{describe_text, plain_text, public_text, refusal_text, session_text}
-use Rattle.session.specs.Setups.{AreChannelsOf, AsksForSetup, HasChannels, IsBuffer, IsChosen, HasNoMeaning, IsDelay, IsSetupRead}
+use Rattle.session.specs.Setups.{AreChannelsOf, AsksForSetup, HasChannels, IsChosen, HasNoMeaning, IsSetupRead}
 use Rattle.session.specs.Standings.{Standing, replied}
 use Rattle.session.proofs.Namings.{film_once, named_once}
 use Rattle.session.proofs.OnePlan.{film_at_once, planned_once}

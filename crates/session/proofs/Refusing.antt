@@ -1,5 +1,5 @@
 -- The codes of replies: none of the session's own is 453 or 503, and 500 is want of memory.
-use Rattle.std.proofs.Common.{◌≡◌, ◌≢◌, ℕ, ◌^◌, ◌<◌, ◌++◌, List, [], Option, Some, refl, sym, ap, subst, ◌∙◌, inl, inr, arith}
+use Rattle.std.proofs.Common.{◌≡◌, ℕ, ◌<◌, ◌++◌, List, [], Option, Some, refl, sym, ap, subst, ◌∙◌, inl, inr, arith}
 use Rattle.std.proofs.lemmas.Fmt.{decimal_injective}
 use Rattle.std.specs.Fmt.{digits}
 use Rattle.rtsp_text.specs.Replies.{Field, reply_front, reply_text, status_line}
@@ -9,8 +9,7 @@ use Rattle.session.specs.declared.refusals.Refusal.{Refusal}
 use Rattle.session.specs.declared.refusals.Refusal.TheVariants.{BadRequest, Version, Method, Option as Required, Session, Film, State as NotNow, Transport, Parameter, Buffer, Range, Memory}
 use Rattle.session.specs.Changes.{HasCode, IsNoRefusal, RefusesNone}
 use Rattle.session.specs.Hearings.{Hears}
-use Rattle.session.specs.Laws.{Is500, IsOneHearing, IsWanting, NeverLacks}
-use Rattle.session.specs.Methods.{IsRefused, IsReplied}
+use Rattle.session.specs.Laws.{Is500, IsWanting, NeverLacks}
 use Rattle.session.specs.Ranges.{AreFilms}
 use Rattle.session.specs.Replies.{code_of, refusal_text}
 use Rattle.session.specs.Standings.{Standing}

@@ -11,7 +11,6 @@ use Rattle.session.specs.declared.states.Next.{Next}
 use Rattle.session.specs.declared.states.Play.{Play as Played}
 use Rattle.session.specs.declared.states.Prepared.{Prepared}
 use Rattle.session.specs.declared.states.Setup.{Setup}
-use Rattle.session.specs.declared.states.State.{State}
 use Rattle.session.specs.declared.states.State.TheVariants.{Init, Ready, Playing}
 use Rattle.session.specs.Hearings.{Hears, is_answered}
 use Rattle.session.specs.Methods.{prepared_of}

@@ -1,6 +1,6 @@
 -- What replies tell is read in their fields.
 use Rattle.std.proofs.Common.{◌≡◌, ◌≢◌, ℕ, ◌+◌, ◌-◌, ◌*◌, ◌/◌, ◌%◌, ◌^◌, ◌<◌, ◌≤◌, ◌&&◌, ◌==◌, not, nat_lt, nat_le, true, false, List, [], ◌∷◌, ◌++◌, length, take, drop, get_or, slice_range, slice_index, codes, decimal, string_bytes, Option, Some, add_comm, refl, sym, ap, subst, ◌∙◌, inl, inr, arith}
-use Rattle.std.proofs.Math.Nat.{div-mul-le_self, lt-div-mul-add, mul-le-mul}
+use Rattle.std.proofs.Math.Nat.{div-mul-le_self, mul-le-mul}
 use Rattle.std.specs.List.{list_all}
 use Rattle.std.specs.Char.{is_ascii_digit}
 use Rattle.std.proofs.lemmas.Bool.{and_from, and_parts}
@@ -15,7 +15,6 @@ use Rattle.film_frames.specs.declared.stores.Stored.{Stored}
 use Rattle.film_frames.specs.Runs.{frames_before}
 use Rattle.film_run.specs.declared.runs.Run.{Run}
 use Rattle.rtsp_fields.specs.Descriptions.{description_text, seconds_text}
-use Rattle.rtsp_fields.specs.Pieces.{IsEnd}
 use Rattle.rtsp_fields.specs.Ranges.{IsSpan}
 use Rattle.rtsp_fields.specs.Times.{IsTime}
 use Rattle.rtsp_fields.specs.Urls.{IsRead, IsTail, NamesFilm}
@@ -25,19 +24,22 @@ use Rattle.rtsp_fields.proofs.Digits.{own}
 use Rattle.rtsp_fields.proofs.Paths.{film_path}
 use Rattle.rtsp_fields.proofs.SecondsTexts.{seconds_read}
 use Rattle.rtsp_text.specs.Grammar.{is_url_byte}
-use Rattle.rtsp_text.specs.Replies.{reason, value_named}
+use Rattle.rtsp_text.specs.Replies.{Field, field_line, reason, reply_front, value_named}
 use Rattle.rtsp_text.proofs.Cuts.{all_other}
 use Rattle.rtsp_text.proofs.Inside.{all-drop, all-take}
+use Rattle.rtsp_text.proofs.Texts.{front_field, whole_reply}
+use Rattle.session.specs.declared.asks.Ask.{Ask}
 use Rattle.session.specs.declared.plans.Planned.{Planned}
 use Rattle.session.specs.declared.refusals.Refusal.{Refusal}
 use Rattle.session.specs.declared.refusals.Refusal.TheVariants.{BadRequest, Version, Method, Option as Required, Session, Film as NoFilm, State, Transport, Parameter, Buffer, Range, Memory}
 use Rattle.session.specs.declared.states.Setup.{Setup}
 use Rattle.session.specs.Films.{begins_at, length_ms, ms_at, sending_of, timestamp_at}
-use Rattle.session.specs.Methods.{first_number, play_front}
+use Rattle.session.specs.Hearings.{after_admission, started_text}
+use Rattle.session.specs.Methods.{Describes, first_number, play_front}
 use Rattle.session.specs.Planning.{IsPlannedRun}
-use Rattle.session.specs.Replies.{code_of, describe_text, joined, play_fields}
+use Rattle.session.specs.Replies.{code_of, describe_text, field, joined, play_fields}
 use Rattle.session.specs.Standings.{Standing}
-use Rattle.session.specs.Telling.{AreTicks, IsFilmTold, IsPlayTold, IsShort, TellsInfo, TellsPlay, TellsSpan, phrase_of}
+use Rattle.session.specs.Telling.{AreTicks, IsFilmTold, IsPlayTold, IsShort, IsStartTold, TellsInfo, TellsSpan, phrase_of}
 use Rattle.session.proofs.Numbers.{number_goes_on}
 use Rattle.session.proofs.Sums.{sum_mod}
 
@@ -315,10 +317,10 @@ play_told old stored setup paused range planned sequence url authority name is r
     }
 
 -- the reply of a DESCRIBE
-pub film_told : (sequence : ℕ) (url authority name : List ℕ) (asked : Option (List ℕ)) (film : Film) → IsRead url authority asked
+film_text : (sequence : ℕ) (url authority name : List ℕ) (asked : Option (List ℕ)) (film : Film) → IsRead url authority asked
     → is_good_name name ≡ true → IsShort film → IsFilmTold sequence authority name film (describe_text sequence authority name (length_ms film))
 unfolding value_named
-film_told sequence url authority name asked film read good short =
+film_text sequence url authority name asked film read good short =
     let base : codes "rtsp://" ++ (authority ++ (47 ∷ name ++ codes "/")) ≡ joined (codes "rtsp://" ∷ authority ∷ codes "/" ∷ name ∷ codes "/" ∷ []) =
     base_is authority name in
     record {
@@ -339,3 +341,27 @@ film_told sequence url authority name asked film read good short =
   where
     base_is : (a n : List ℕ) → codes "rtsp://" ++ (a ++ (47 ∷ n ++ codes "/")) ≡ joined (codes "rtsp://" ∷ a ∷ codes "/" ∷ n ∷ codes "/" ∷ [])
     base_is a n = refl
+
+pub film_told : (old new : Standing) (sequence number : ℕ) (url authority : List ℕ) (asked : Option (List ℕ)) (ask : Ask)
+    → (is : Describes old sequence number authority ask new) → IsRead url authority asked
+    → is_good_name (string_bytes is.stored.name) ≡ true → IsShort is.stored.film
+    → IsFilmTold sequence authority (string_bytes is.stored.name) is.stored.film new.text
+film_told old new sequence number url authority asked ask is read good short =
+    subst (λ (t : List ℕ). IsFilmTold sequence authority (string_bytes is.stored.name) is.stored.film t)
+    (sym (ap (λ (s : Standing). s.text) is.reply.1))
+    (film_text sequence url authority (string_bytes is.stored.name) asked is.stored.film read good short)
+
+-- the start of an admitted play
+pub start_told : (old : Standing) (place start sequence : ℕ) (fields : List Field) → old.heard < start
+    → old.text ≡ reply_front 200 (Some sequence) fields → IsStartTold old start sequence fields (after_admission old place start).text
+start_told old place start sequence fields later front =
+    let slots : ℕ = start - old.heard in
+    let own = field (codes "x-Start") (decimal (start - old.heard)) in
+    let more : old.text ++ field_line own ≡ reply_front 200 (Some sequence) (fields ++ own ∷ []) =
+    front_field 200 (Some sequence) fields own old.text (old.text ++ field_line own) refl front in
+    record {
+      slots = start - old.heard;
+      slots_are = omega (arith, later);
+      text_is = whole_reply 200 (Some sequence) (fields ++ own ∷ []) [] (old.text ++ field_line own)
+          (started_text old.text (start - old.heard)) refl more;
+    }

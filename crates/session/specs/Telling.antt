@@ -1,5 +1,5 @@
 -- What replies tell, as a reader of RFC 2326's grammars finds it in their fields.
-use Rattle.std.specs.Prelude.{ℕ, ◌≡◌, ◌+◌, ◌*◌, ◌%◌, ◌^◌, ◌<◌, ◌≤◌, ◌++◌, List, Option, Some, codes, decimal, string_bytes, length}
+use Rattle.std.specs.Prelude.{ℕ, ◌≡◌, ◌+◌, ◌*◌, ◌%◌, ◌^◌, ◌<◌, ◌≤◌, ◌++◌, List, [], ◌∷◌, Some, codes, decimal, string_bytes, length}
 use Rattle.mpeg_scan.specs.Rates.{picture_time}
 use Rattle.mpeg_scan.specs.declared.films.Film.{Film}
 use Rattle.film_frames.specs.declared.stores.Stored.{Stored}
@@ -103,3 +103,11 @@ pub record IsFilmTold (sequence : ℕ) (authority name : List ℕ) (film : Film)
 pub record IsShort (film : Film) : Type 0 where
   pub few : length film.units.items ≤ 4194304
   pub brief : picture_time film.rate ≤ 360000
+
+-- the reply of an admitted play ends with its start, counted from the heard slot
+pub record IsStartTold (old : Standing) (start sequence : ℕ) (fields : List Field) (text : List ℕ)
+    : Type 0 where
+  pub slots : ℕ
+  pub slots_are : old.heard + slots ≡ start
+  pub text_is : text ≡ reply_text 200 (Some sequence)
+      (fields ++ record { name = codes "x-Start"; value = decimal slots } ∷ []) []

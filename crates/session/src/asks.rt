@@ -17,7 +17,7 @@ pub enum Ask {
     /// Look at this slot, and hand the answer to [`crate::Session::looked`] or
     /// [`crate::Session::full`].
     Look(u64),
-    /// Ask from which slot on this plan fits, from the slot behind the heard one on, and hand the
+    /// Ask from which slot on this plan fits, from the slot after the heard one on, and hand the
     /// answer to [`crate::Session::offered`].
     Offer(Plan, Offers),
 }

@@ -1,10 +1,10 @@
 //! Laws of a session, in RFC 2326's words.
 
-ghost use Rattle.std.specs.Prelude.{◌≡◌, ℕ, true, List, Option, Some, None, string_bytes};
+ghost use Rattle.std.specs.Prelude.{◌≡◌, ◌<◌, ℕ, true, List, Option, Some, None, string_bytes};
 ghost use Rattle.vod_base.specs.Names.{is_good_name};
 ghost use Rattle.mpeg_scan.specs.declared.films.Film.{Film};
 ghost use Rattle.rtsp_fields.specs.Urls.{IsRead};
-ghost use Rattle.rtsp_text.specs.Replies.{reason};
+ghost use Rattle.rtsp_text.specs.Replies.{Field, reason, reply_front};
 ghost use Rattle.film_frames.specs.declared.stores.Stored.{Stored};
 ghost use Rattle.film_frames.specs.Runs.{Run as Sending, frames_before, octets_before};
 ghost use Rattle.film_run.specs.declared.runs.Run.{Run};
@@ -16,16 +16,17 @@ ghost use Rattle.session.specs.declared.states.Play.{Play as Played};
 ghost use Rattle.session.specs.declared.states.Setup.{Setup};
 ghost use Rattle.session.specs.declared.states.Source.{Source};
 ghost use Rattle.session.specs.declared.states.State.TheVariants.{Playing};
-ghost use Rattle.session.specs.Films.{counts_after, identity_of, length_ms};
+ghost use Rattle.session.specs.declared.wanted.Wanted.TheVariants.{New};
+ghost use Rattle.session.specs.Films.{counts_after, identity_of, sending_of};
 ghost use Rattle.session.specs.Changes.{AsksOrLacks, CanBePlayed, ChangesState, IsSameGround, RefusesNone};
 ghost use Rattle.session.specs.Hearings.{Hears, after_admission, after_halt};
 ghost use Rattle.session.specs.Laws.{GoesOn, InitStage, Is500, IsNoHalt, IsOneHearing, IsWanting, LeavesOr, NeverLacks, PlayingStage, PlaysOn, ReadyStage, Resumes, StaysOr};
-ghost use Rattle.session.specs.Methods.{play_front};
+ghost use Rattle.session.specs.Methods.{Describes, play_front};
 ghost use Rattle.session.specs.Planning.{IsPlannedRun};
 ghost use Rattle.session.specs.Ranges.{AreFilms};
-ghost use Rattle.session.specs.Replies.{code_of, describe_text};
+ghost use Rattle.session.specs.Replies.{code_of};
 ghost use Rattle.session.specs.Standings.{Standing};
-ghost use Rattle.session.specs.Telling.{IsFilmTold, IsPlayTold, IsShort, phrase_of};
+ghost use Rattle.session.specs.Telling.{IsFilmTold, IsPlayTold, IsShort, IsStartTold, phrase_of};
 
 /// A reply other than 200 leaves all of the session but the reply (RFC 2326 section 7.1.1).
 pub fn law_refusal_leaves()
@@ -42,11 +43,17 @@ pub fn law_play_goes_on()
 
 /// What is sent after so many bytes of a run goes on from it: the next frame's sequence number
 /// modulo 2^16, and the packets and octets that reports count modulo 2^32 (RFC 3550 sections 5.1
-/// and 6.4.1).
+/// and 6.4.1). So does a new run from what was sent of a paused one that it takes the place of.
 pub fn law_numbers_go_on()
-    ensures { (source : Source) (setup : Setup) (counts : Counts) (sending : Sending) (bytes : ℕ)
+    ensures run { (source : Source) (setup : Setup) (counts : Counts) (sending : Sending) (bytes : ℕ)
         → GoesOn (identity_of source setup counts) (identity_of source setup (counts_after counts sending bytes))
         (frames_before sending bytes) (octets_before sending bytes) }
+    ensures dropped { (old : Standing) (stored : Stored) (setup : Setup) (paused run : Run)
+        (range : Option (List ℕ)) (planned : Planned)
+        → (is : IsPlannedRun old stored setup (Some paused) range planned) → is.wanted ≡ New run
+        → GoesOn (identity_of old.source setup old.counts) (identity_of old.source setup planned.counts)
+        (frames_before (sending_of stored.film old.source setup old.counts paused) paused.sent)
+        (octets_before (sending_of stored.film old.source setup old.counts paused) paused.sent) }
 {}
 
 /// A PLAY without a Range sends a paused run on, from the byte after the last that was sent (RFC
@@ -121,7 +128,16 @@ pub fn law_play_told()
 /// The reply to a DESCRIBE tells the film's base URL, under the authority of the request's URL, and
 /// describes the film, with its whole time (RFC 2326 section 10.2 and appendix C).
 pub fn law_film_told()
-    ensures { (sequence : ℕ) (url authority name : List ℕ) (asked : Option (List ℕ)) (film : Film)
-        → IsRead url authority asked → is_good_name name ≡ true → IsShort film
-        → IsFilmTold sequence authority name film (describe_text sequence authority name (length_ms film)) }
+    ensures { (old new : Standing) (sequence number : ℕ) (url authority : List ℕ)
+        (asked : Option (List ℕ)) (ask : Ask) → (is : Describes old sequence number authority ask new)
+        → IsRead url authority asked → is_good_name (string_bytes is.stored.name) ≡ true
+        → IsShort is.stored.film
+        → IsFilmTold sequence authority (string_bytes is.stored.name) is.stored.film new.text }
+{}
+
+/// The reply to a play that was admitted ends with its start, counted from the heard slot.
+pub fn law_start_told()
+    ensures { (old : Standing) (place start sequence : ℕ) (fields : List Field) → old.heard < start
+        → old.text ≡ reply_front 200 (Some sequence) fields
+        → IsStartTold old start sequence fields (after_admission old place start).text }
 {}

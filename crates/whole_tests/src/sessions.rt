@@ -59,9 +59,9 @@ says RTSP/1.0 455 Method Not Valid In This State|CSeq: 10||
 hears GET_PARAMETER rtsp://h/b.mpg RTSP/1.0|CSeq: 11|Session: 0123456789abcdef||
 says RTSP/1.0 200 OK|CSeq: 11||
 told looked 5 3 3 77
-hears GET_PARAMETER rtsp://h/b.mpg RTSP/1.0|CSeq: 11|Session: 0123456789abcdef|Content-Length: 9||x-Booked|
+hears GET_PARAMETER rtsp://h/b.mpg RTSP/1.0|CSeq: 11|Session: 0123456789abcdef|Content-Length: 10||x-Booked|
 says RTSP/1.0 200 OK|CSeq: 11|Content-Type: text/parameters|Content-Length: 35||x-Now: 3|x-Slot: 3|x-Booked: 77|
-hears GET_PARAMETER rtsp://h/b.mpg RTSP/1.0|CSeq: 11|Session: 0123456789abcdef|Content-Length: 10||x-Booked: |
+hears GET_PARAMETER rtsp://h/b.mpg RTSP/1.0|CSeq: 11|Session: 0123456789abcdef|Content-Length: 12||x-Booked: |
 says RTSP/1.0 451 Parameter Not Understood|CSeq: 11||
 told offered 3 1
 hears GET_PARAMETER rtsp://h/b.mpg RTSP/1.0|CSeq: 12|Session: 0123456789abcdef|x-Wait: 1|Content-Length: 9||x-Offer|

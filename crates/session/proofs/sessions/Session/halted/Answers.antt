@@ -1,4 +1,4 @@
-use Rattle.std.proofs.Common.{◌≡◌, ◌-◌, [], ◌∷◌, ◌++◌, Some, refl, sym, ap, subst, ◌∙◌, arith}
+use Rattle.std.proofs.Common.{◌≡◌, ◌-◌, [], ◌∷◌, ◌++◌, refl, sym, ap, subst, ◌∙◌, arith}
 use Rattle.session.specs.Logs.{Logged}
 use Rattle.session.specs.Standings.{Standing}
 use Rattle.session.specs.Inside.{IsAwaitedKept, IsNextIn, IsStateKept, awaited_offers, awaited_plays, awaited_receipts, open_receipts}
