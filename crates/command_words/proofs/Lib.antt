@@ -1,2 +1,5 @@
 pub mod WordLemmas
 pub mod CapacityLemmas
+pub mod SettingLemmas
+pub mod SpellingLemmas
+pub mod ReadBack

@@ -6,3 +6,4 @@ pub mod Words
 pub mod Orders
 pub mod Ranges
 pub mod Given
+pub mod Spelling

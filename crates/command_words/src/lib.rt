@@ -18,7 +18,7 @@ pub use orders::{
     FairRun, Listening, Made, Order, Pace, ScriptRun, Serving, Source, Viewer, Watching,
 };
 pub use steps::Steps;
-pub use words::read_words;
+pub use words::{law_words_read_back, read_words};
 
 #[cfg(test)]
 mod tests;

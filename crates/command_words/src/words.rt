@@ -1,8 +1,9 @@
-ghost use Rattle.std.specs.Prelude.{◌≡◌, option_map, codes, IfSome};
+ghost use Rattle.std.specs.Prelude.{◌≡◌, Some, option_map, codes, IfSome};
 ghost use Rattle.command_words.specs.Settings.{texts, values_of};
 ghost use Rattle.command_words.specs.Ranges.{IsOrderInRange};
-ghost use Rattle.command_words.specs.Words.{check_given, make_given, order_given, command_order, lone_order, meaning};
+ghost use Rattle.command_words.specs.Words.{Order as Asked, check_given, make_given, order_given, command_order, lone_order, meaning};
 ghost use Rattle.command_words.specs.Orders.{order_of};
+ghost use Rattle.command_words.specs.Spelling.{MayBeAsked, words_of};
 
 use crate::commands::{Command, are_words_of, command_named};
 use crate::keys::{cert_given, film_given, one_kind, pictures_given, seed_given};
@@ -90,3 +91,8 @@ pub fn read_words<'a>(words: &'a [String]) -> Option<Order<'a>>
     let command = command_named(command)?;
     command_order(command, rest)
 }
+
+/// A law: an order that may be asked is what its words mean, in which each key has its value.
+pub fn law_words_read_back()
+    ensures { (order : Asked) → MayBeAsked order → meaning (words_of order) ≡ Some order }
+{}

@@ -1,0 +1,174 @@
+-- How an order is written: a command, and each of its settings with its key; and what may be asked.
+use Rattle.std.specs.Prelude.{ℕ, ◌≡◌, ◌^◌, ◌<◌, ◌≤◌, Bool, true, false, List, [], ◌∷◌, ◌++◌, All}
+use Rattle.std.specs.Prelude.{map, codes, decimal}
+use Rattle.vod_base.specs.Names.{is_good_name}
+use Rattle.slot_calendar.specs.declared.profiles.CapStep.{CapStep}
+use Rattle.slot_calendar.specs.Profiles.{IsProfile}
+use Rattle.command_words.specs.Keys.{Made, made_film, made_trace, made_system}
+use Rattle.command_words.specs.Words.{Source, trace_source, film_source, Viewer, Listening, Pace}
+use Rattle.command_words.specs.Words.{Serving, ScriptRun, FairRun, Watching, Order, help, version}
+use Rattle.command_words.specs.Words.{plan_of, check_of, scan_of, make_of, day_of, fair_of}
+use Rattle.command_words.specs.Words.{serve_of, watch_of, are_films}
+
+-- a key and the value that it is given
+pub record Setting : Type 0 where
+  pub key : List ℕ
+  pub value : List ℕ
+
+abbrev pub text_setting : List ℕ → List ℕ → Setting
+text_setting key value = record { key = key; value = value }
+
+abbrev pub number_setting : List ℕ → ℕ → Setting
+number_setting key number = record { key = key; value = decimal number }
+
+-- `key=value`
+abbrev pub word_of : Setting → List ℕ
+word_of setting = setting.key ++ (codes "=" ++ setting.value)
+
+-- `SLOT:BYTES`, and such steps with a comma between two
+abbrev pub step_text : CapStep → List ℕ
+step_text step = decimal step.from ++ codes ":" ++ decimal step.bytes
+
+abbrev pub steps_text : List CapStep → List ℕ
+steps_text [] = []
+steps_text (step ∷ []) = step_text step
+steps_text (step ∷ next ∷ steps) = step_text step ++ codes "," ++ steps_text (next ∷ steps)
+
+abbrev pub made_text : Made → List ℕ
+made_text made_film = codes "film"
+made_text made_trace = codes "trace"
+made_text made_system = codes "system"
+
+abbrev pub bind_text : Bool → List ℕ
+bind_text true = codes "all"
+bind_text false = codes "local"
+
+abbrev pub film_setting : List ℕ → Setting
+film_setting name = text_setting (codes "film") name
+
+abbrev pub source_settings : Source → List Setting
+source_settings (trace_source name) = text_setting (codes "trace") name ∷ []
+source_settings (film_source name slot) =
+    film_setting name ∷ number_setting (codes "slot") slot ∷ []
+
+abbrev pub viewer_settings : Viewer → List Setting
+viewer_settings viewer =
+    number_setting (codes "buffer") viewer.buffer ∷ number_setting (codes "startup") viewer.startup
+    ∷ source_settings viewer.source
+
+abbrev pub pace_settings : Pace → List Setting
+pace_settings pace =
+    number_setting (codes "buffer") pace.buffer ∷ number_setting (codes "startup") pace.startup
+    ∷ number_setting (codes "slot") pace.slot ∷ []
+
+abbrev pub listening_settings : Listening → List Setting
+listening_settings listening =
+    number_setting (codes "port") listening.port
+    ∷ text_setting (codes "bind") (bind_text listening.all)
+    ∷ number_setting (codes "workers") listening.workers
+    ∷ number_setting (codes "connections") listening.connections ∷ []
+
+-- a server's settings, but for its films
+abbrev pub server_settings : Serving → List Setting
+server_settings serving =
+    text_setting (codes "capacity") (steps_text serving.capacity)
+    ∷ number_setting (codes "journal") serving.journal
+    ∷ listening_settings serving.listening ++ pace_settings serving.pace
+
+abbrev pub settings_of : Order → List Setting
+settings_of help = []
+settings_of version = []
+settings_of (plan_of viewer) = viewer_settings viewer
+settings_of (check_of viewer cert) = text_setting (codes "cert") cert ∷ viewer_settings viewer
+settings_of (scan_of film) = film_setting film ∷ []
+settings_of (make_of kind seed pictures) =
+    text_setting (codes "kind") (made_text kind) ∷ number_setting (codes "seed") seed
+    ∷ number_setting (codes "pictures") pictures ∷ []
+settings_of (day_of run) =
+    text_setting (codes "script") run.script
+    ∷ text_setting (codes "capacity") (steps_text run.capacity)
+    ∷ number_setting (codes "journal") run.journal ∷ number_setting (codes "slot") run.slot ∷ []
+settings_of (fair_of run) =
+    number_setting (codes "seed") run.seed ∷ number_setting (codes "plays") run.plays
+    ∷ text_setting (codes "capacity") (steps_text run.capacity) ∷ []
+settings_of (serve_of serving) = map film_setting serving.films ++ server_settings serving
+settings_of (watch_of watching) =
+    film_setting watching.film ∷ number_setting (codes "port") watching.port
+    ∷ pace_settings watching.pace
+
+abbrev pub name_of : Order → List ℕ
+name_of help = codes "--help"
+name_of version = codes "--version"
+name_of (plan_of viewer) = codes "plan"
+name_of (check_of viewer cert) = codes "check"
+name_of (scan_of film) = codes "scan"
+name_of (make_of kind seed pictures) = codes "make"
+name_of (day_of run) = codes "day"
+name_of (fair_of run) = codes "fair"
+name_of (serve_of serving) = codes "serve"
+name_of (watch_of watching) = codes "watch"
+
+-- an order in words, with a value for each key
+abbrev pub words_of : Order → List (List ℕ)
+words_of order = name_of order ∷ map word_of (settings_of order)
+
+-- what may be asked: good names, and each number in its range
+abbrev pub IsWithin : ℕ → ℕ → ℕ → Type 0
+IsWithin least most number = (least ≤ number) × (number ≤ most)
+
+abbrev pub IsCapacity : List CapStep → Type 0
+IsCapacity steps = IsProfile steps × All (λ step. step.from ≤ 2 ^ 62) steps
+
+abbrev pub MayBeSource : Source → Type 0
+MayBeSource (trace_source name) = is_good_name name ≡ true
+MayBeSource (film_source name slot) = (is_good_name name ≡ true) × IsWithin 360 360000 slot
+
+pub record MayBeViewer (viewer : Viewer) : Type 0 where
+  pub source : MayBeSource viewer.source
+  pub buffer : IsWithin 1 (2 ^ 42) viewer.buffer
+  pub startup : IsWithin 0 10000 viewer.startup
+
+pub record MayBePace (pace : Pace) : Type 0 where
+  pub buffer : IsWithin 1 (2 ^ 42) pace.buffer
+  pub startup : IsWithin 0 10000 pace.startup
+  pub slot : IsWithin 360 360000 pace.slot
+
+pub record MayListen (listening : Listening) : Type 0 where
+  pub port : IsWithin 1 65535 listening.port
+  pub workers : IsWithin 1 256 listening.workers
+  pub connections : listening.connections < 2 ^ 64
+
+pub record MayServe (serving : Serving) : Type 0 where
+  pub films : are_films serving.films ≡ true
+  pub capacity : IsCapacity serving.capacity
+  pub journal : IsWithin 2 1048576 serving.journal
+  pub listening : MayListen serving.listening
+  pub pace : MayBePace serving.pace
+
+pub record MayRun (run : ScriptRun) : Type 0 where
+  pub script : is_good_name run.script ≡ true
+  pub capacity : IsCapacity run.capacity
+  pub journal : IsWithin 2 1048576 run.journal
+  pub slot : IsWithin 360 360000 run.slot
+
+pub record MayDraw (run : FairRun) : Type 0 where
+  pub seed : run.seed < 2 ^ 64
+  pub plays : IsWithin 1 100000 run.plays
+  pub capacity : IsCapacity run.capacity
+
+pub record MayWatch (watching : Watching) : Type 0 where
+  pub film : is_good_name watching.film ≡ true
+  pub port : IsWithin 1 65535 watching.port
+  pub pace : MayBePace watching.pace
+
+abbrev pub MayBeAsked : Order → Type 0
+MayBeAsked help = Unit {0}
+MayBeAsked version = Unit {0}
+MayBeAsked (plan_of viewer) = MayBeViewer viewer
+MayBeAsked (check_of viewer cert) = MayBeViewer viewer × (is_good_name cert ≡ true)
+MayBeAsked (scan_of film) = is_good_name film ≡ true
+MayBeAsked (make_of kind seed pictures) = (seed < 2 ^ 64) × IsWithin 1 100000 pictures
+MayBeAsked (day_of run) = MayRun run
+MayBeAsked (fair_of run) = MayDraw run
+MayBeAsked (serve_of serving) = MayServe serving
+MayBeAsked (watch_of watching) = MayWatch watching
