@@ -1,33 +1,28 @@
 -- What the lines of a script leave of the balance between what is sent and what is booked.
-use Rattle.std.proofs.Common.{◌≡◌, ◌<◌, ◌≤◌, ◌+◌, ◌-◌, ℕ, zero, suc, true, false, Bool, cond, ◌==◌, List, [], ◌∷◌, ◌++◌, All, length, map, take, set, get_or, sum, replicate, arith, refl, sym, ap, subst, ◌∙◌, inl, inr}
+use Rattle.std.proofs.Common.{◌≡◌, ◌<◌, ◌≤◌, ℕ, zero, suc, true, false, Bool, cond, ◌==◌, List, [], ◌∷◌, ◌++◌, length, map, take, set, get_or, replicate, arith, refl, sym, ap, subst, ◌∙◌, inl, inr}
 use Rattle.std.specs.Prelude.{sum_by}
 use Rattle.std.proofs.lemmas.List.{get_or-replicate, length-map, length-set, length-replicate}
 use Rattle.std.proofs.lemmas.List.Elements.{All-nil}
 use Rattle.std.proofs.lemmas.List.Sums.{sum_by-cons}
 use Rattle.std.specs.List.{fold}
 use Rattle.plan_cert.specs.declared.Segment.{Segment}
-use Rattle.slot_calendar.specs.Plays.{Play as Booked, cut_play, share_at}
+use Rattle.slot_calendar.specs.Plays.{Play as Booked, cut_play}
 use Rattle.admission.specs.declared.entries.Answer.{Answer}
 use Rattle.admission.specs.declared.entries.Answer.TheVariants.{Admitted, Overflow, Halted, Looked}
 use Rattle.admission.specs.declared.entries.Command.TheVariants as commands
 use Rattle.admission.specs.declared.entries.Entry.{Entry}
-use Rattle.admission.specs.Histories.{state_after}
-use Rattle.admission.specs.Machine.{Held, State, admitted_play}
+use Rattle.admission.specs.Machine.{Held, State}
 use Rattle.admission.proofs.Runs.{state-push}
 use Rattle.day_run.specs.declared.scripts.Line.{Line}
 use Rattle.day_run.specs.declared.scripts.Line.TheVariants as lines
-use Rattle.day_run.specs.Days.{AreRun, IsAnsweredLook, IsAnsweredPlay, IsAsked, IsHaltedPlay, IsLine, IsLookLine, IsOfferLine, IsPauseLine, IsPlanned, IsPlayLine, IsResumeLine, IsTold, Link, Moment, at_slot, booked_up_to, entry_by, morning, rest_at, seat_at, sent_up_to, with_play}
+use Rattle.day_run.specs.Days.{AreRun, IsAsked, IsHaltedPlay, IsLine, IsLookLine, IsOfferLine, IsPauseLine, IsPlayLine, IsResumeLine, Link, Moment, at_slot, booked_up_to, entry_by, morning, rest_at, seat_at, sent_up_to, with_play}
 use Rattle.day_run.specs.DayLaws.{AreClients, IsClient}
 use Rattle.day_run.specs.Scripts.{AreLines, StandsAfter, slot_after}
-use Rattle.day_run.specs.Seats.{Idle, Playing, Pausing, Paused, Play, Rest, Seat, after_play, after_sending, pausing, sent_by}
-use Rattle.day_run.proofs.Balances.{AreHeldOf, IsBalanced, IsShut, balanced-halt, balanced-play, balanced-same, balanced-sent, balanced-slot, pausing-share, share_of}
+use Rattle.day_run.specs.Seats.{Idle, Playing, Pausing, Paused, Play, Rest, Seat, after_play, after_sending, sent_by}
+use Rattle.day_run.specs.Balanced.{AreHeldOf, IsBalanced, IsReady, share_of}
+use Rattle.day_run.proofs.Balances.{IsShut, balanced-halt, balanced-play, balanced-same, balanced-sent, balanced-slot, pausing-share}
 
--- the clients and what they book, at a moment
-pub record IsReady (m : Moment) : Type 0 where
-  pub count : length m.seats ≡ 256
-  pub balanced : IsBalanced m.entries m.seats m.heard
-
-ready-kept : (old new : Moment) → new ≡ old → IsReady old → IsReady new
+pub ready-kept : (old new : Moment) → new ≡ old → IsReady old → IsReady new
 ready-kept old new kept ready =
     let R : Moment → Type 0 = λ m. IsReady m in
     subst R (sym kept) ready
@@ -71,14 +66,14 @@ asked link c rest old new text client free (inr planned) ready = elim planned.do
   | inr made ↦ answered made.answer link c rest planned.plan old new client free made.noted.new_is ready
 ]
 
-play-ready : (link : Link) (c : ℕ) (rest : Rest) (seat : Seat) (old new : Moment) (text : List ℕ) → c < 256 → get_or old.seats c Idle ≡ seat
+pub play-ready : (link : Link) (c : ℕ) (rest : Rest) (seat : Seat) (old new : Moment) (text : List ℕ) → c < 256 → get_or old.seats c Idle ≡ seat
     → IsPlayLine link c rest seat old new text → IsReady old → IsReady new
 play-ready link c rest Idle old new text client at is ready = asked link c rest old new text client (λ t. ap (share_of t) at) is ready
 play-ready link c rest (Playing play) old new text client at is ready = ready-kept old new is.kept ready
 play-ready link c rest (Pausing stop left) old new text client at is ready = ready-kept old new is.kept ready
 play-ready link c rest (Paused left) old new text client at is ready = asked link c rest old new text client (λ t. ap (share_of t) at) is ready
 
-resume-ready : (link : Link) (c : ℕ) (seat : Seat) (old new : Moment) (text : List ℕ) → c < 256 → get_or old.seats c Idle ≡ seat
+pub resume-ready : (link : Link) (c : ℕ) (seat : Seat) (old new : Moment) (text : List ℕ) → c < 256 → get_or old.seats c Idle ≡ seat
     → IsResumeLine link c seat old new text → IsReady old → IsReady new
 resume-ready link c Idle old new text client at is ready = ready-kept old new is.kept ready
 resume-ready link c (Playing play) old new text client at is ready = ready-kept old new is.kept ready
@@ -101,7 +96,7 @@ paused link c play old new text client at is ready =
     (balanced-halt old.entries old.seats old.heard c is.keep play is.seat (omega (arith, client, ready.count)) at shut
     (λ t later. ap (share_of t) is.pause.seat_is ∙ pausing-share t old.heard stop rest later) ready.balanced)
 
-pause-ready : (link : Link) (c : ℕ) (seat : Seat) (old new : Moment) (text : List ℕ) → c < 256 → get_or old.seats c Idle ≡ seat
+pub pause-ready : (link : Link) (c : ℕ) (seat : Seat) (old new : Moment) (text : List ℕ) → c < 256 → get_or old.seats c Idle ≡ seat
     → IsPauseLine link c seat old new text → IsReady old → IsReady new
 pause-ready link c Idle old new text client at is ready = ready-kept old new is.kept ready
 pause-ready link c (Playing play) old new text client at is ready = paused link c play old new text client at is ready
@@ -123,7 +118,7 @@ offer-ready : (link : Link) (rest : Rest) (wait : ℕ) (old new : Moment) (text 
 offer-ready link rest wait old new text (inl faulty) ready = ready-kept old new faulty.told.kept ready
 offer-ready link rest wait old new text (inr offered) ready = ready-kept old new offered.told.kept ready
 
-slot-ready : (old new : Moment) (slot : ℕ) → old.heard ≤ slot → new ≡ at_slot old slot → IsReady old → IsReady new
+pub slot-ready : (old new : Moment) (slot : ℕ) → old.heard ≤ slot → new ≡ at_slot old slot → IsReady old → IsReady new
 slot-ready old new slot le is ready =
     let R : Moment → Type 0 = λ m. IsReady m in
     subst R (sym is) (record {
@@ -165,7 +160,7 @@ pub ready-sent : (m : Moment) (slot : ℕ) → m.heard ≤ slot → IsReady m �
 ready-sent m slot le ready = balanced-sent m.entries m.seats m.heard slot le ready.balanced
 
 -- lines that may stand after a slot, one after the other
-stands-rest : (n heard : ℕ) (line : Line) (lines : List Line)
+pub stands-rest : (n heard : ℕ) (line : Line) (lines : List Line)
     → ((i : ℕ) (none : Line) → i < length (line ∷ lines) → StandsAfter (fold slot_after heard (take i (line ∷ lines))) n (get_or (line ∷ lines) i none))
     → (i : ℕ) (none : Line) → i < length lines → StandsAfter (fold slot_after (slot_after heard line) (take i lines)) n (get_or lines i none)
 stands-rest n heard line lines each i none inside = each (suc i) none (omega (arith, inside))
@@ -177,19 +172,19 @@ asked-heard link c rest old new text (inr planned) = elim planned.done [
   | inr made ↦ ap (λ (m : Moment). m.heard) made.noted.new_is
 ]
 
-play-heard : (link : Link) (c : ℕ) (rest : Rest) (seat : Seat) (old new : Moment) (text : List ℕ) → IsPlayLine link c rest seat old new text → new.heard ≡ old.heard
+pub play-heard : (link : Link) (c : ℕ) (rest : Rest) (seat : Seat) (old new : Moment) (text : List ℕ) → IsPlayLine link c rest seat old new text → new.heard ≡ old.heard
 play-heard link c rest Idle old new text is = asked-heard link c rest old new text is
 play-heard link c rest (Playing play) old new text is = ap (λ (m : Moment). m.heard) is.kept
 play-heard link c rest (Pausing stop left) old new text is = ap (λ (m : Moment). m.heard) is.kept
 play-heard link c rest (Paused left) old new text is = asked-heard link c rest old new text is
 
-resume-heard : (link : Link) (c : ℕ) (seat : Seat) (old new : Moment) (text : List ℕ) → IsResumeLine link c seat old new text → new.heard ≡ old.heard
+pub resume-heard : (link : Link) (c : ℕ) (seat : Seat) (old new : Moment) (text : List ℕ) → IsResumeLine link c seat old new text → new.heard ≡ old.heard
 resume-heard link c Idle old new text is = ap (λ (m : Moment). m.heard) is.kept
 resume-heard link c (Playing play) old new text is = ap (λ (m : Moment). m.heard) is.kept
 resume-heard link c (Pausing stop rest) old new text is = ap (λ (m : Moment). m.heard) is.kept
 resume-heard link c (Paused rest) old new text is = asked-heard link c rest old new text is
 
-pause-heard : (link : Link) (c : ℕ) (seat : Seat) (old new : Moment) (text : List ℕ) → IsPauseLine link c seat old new text → new.heard ≡ old.heard
+pub pause-heard : (link : Link) (c : ℕ) (seat : Seat) (old new : Moment) (text : List ℕ) → IsPauseLine link c seat old new text → new.heard ≡ old.heard
 pause-heard link c Idle old new text is = ap (λ (m : Moment). m.heard) is.kept
 pause-heard link c (Playing play) old new text is = ap (λ (m : Moment). m.heard) is.noted.new_is
 pause-heard link c (Pausing stop rest) old new text is = ap (λ (m : Moment). m.heard) is.kept
@@ -203,7 +198,7 @@ offer-heard : (link : Link) (rest : Rest) (wait : ℕ) (old new : Moment) (text 
 offer-heard link rest wait old new text (inl faulty) = ap (λ (m : Moment). m.heard) faulty.told.kept
 offer-heard link rest wait old new text (inr offered) = ap (λ (m : Moment). m.heard) offered.told.kept
 
-heard-after : (link : Link) (line : Line) (old new : Moment) (text : List ℕ) → IsLine link line old new text → new.heard ≡ slot_after old.heard line
+pub heard-after : (link : Link) (line : Line) (old new : Moment) (text : List ℕ) → IsLine link line old new text → new.heard ≡ slot_after old.heard line
 heard-after link (lines.Play c source buffer delay) old new text is = play-heard link c (rest_at link source buffer delay) (seat_at old c) old new text is
 heard-after link (lines.Pause c) old new text is = pause-heard link c (seat_at old c) old new text is
 heard-after link (lines.Resume c) old new text is = resume-heard link c (seat_at old c) old new text is

@@ -1,34 +1,28 @@
 -- What is sent in a day's slots is what is booked there.
-use Rattle.std.proofs.Common.{◌≡◌, ◌<◌, ◌≤◌, ◌+◌, ◌-◌, ◌==◌, ◌&&◌, ◌^◌, ℕ, zero, suc, min, max, true, false, Bool, cond, nat_le, List, [], ◌∷◌, ◌++◌, All, length, map, take, drop, set, get_or, sum, replicate, Option, Some, None, arith, refl, sym, ap, subst, ◌∙◌, inl, inr}
+use Rattle.std.proofs.Common.{◌≡◌, ◌<◌, ◌≤◌, ◌+◌, ◌-◌, ◌==◌, ◌&&◌, ℕ, zero, suc, true, false, Bool, cond, nat_le, List, [], ◌∷◌, ◌++◌, All, length, map, take, set, get_or, sum, Some, arith, refl, sym, ap, subst, ◌∙◌, inl, inr}
 use Rattle.std.specs.Prelude.{sum_by}
 use Rattle.std.specs.List.{range_with_len}
-use Rattle.std.proofs.lemmas.Bool.{cases_Bool, cases_eq, cases_lt, cond-true, cond-false, eqb-true}
-use Rattle.std.proofs.lemmas.List.{append_assoc, append-nil, get_or-set_other, get_or-set_same, get_or_append_left, get_or-append_right, get_or-map, length-append, length-map, length-set, map-append, set-get_or, take-take, take_all}
+use Rattle.std.proofs.lemmas.Bool.{cases_Bool, cases_eq, cond-true, cond-false, eqb-true}
+use Rattle.std.proofs.lemmas.List.{append-nil, get_or-set_other, get_or-set_same, get_or_append_left, get_or-append_right, get_or-map, length-append, length-map, length-set, map-append, set-get_or, take-take, take_all}
 use Rattle.std.proofs.lemmas.List.Elements.{All-cons, All-head, All-push, All-tail, All-weaker}
 use Rattle.std.proofs.lemmas.List.Sums.{sum_by-append, sum_by-cons, sum_by-set, sum_by-take-le, sum_by_push}
 use Rattle.plan_cert.specs.declared.Segment.{Segment}
 use Rattle.plan_cert.specs.Slots.{plan_slots, total_bytes}
-use Rattle.slot_calendar.specs.Plays.{Play as Booked, booked_by, cut_play, sent_before, share_at, whole_play}
+use Rattle.slot_calendar.specs.Plays.{Play as Booked, cut_play, sent_before, share_at, whole_play}
 use Rattle.admission.specs.declared.entries.Entry.{Entry}
 use Rattle.admission.specs.declared.entries.Answer.TheVariants.{Halted}
 use Rattle.admission.specs.declared.entries.Command.TheVariants as commands
 use Rattle.admission.specs.Histories.{state_after}
-use Rattle.admission.specs.Machine.{Held, State, admitted_play, booked_in, halted_play, held_as, plays_of, with_halted}
+use Rattle.admission.specs.Machine.{Held, State, admitted_play, booked_in, halted_play, held_as, with_halted}
 use Rattle.admission.proofs.Finds.{found-new, found-other, found-push}
 use Rattle.admission.proofs.Halts.{plays-split, split}
 use Rattle.admission.proofs.Runs.{state-push}
+use Rattle.day_run.specs.Balanced.{AreHeldOf, IsBalanced, IsHeld, share_of}
 use Rattle.day_run.specs.Days.{Moment, at_slot, done_halt, entry_by, halt_by, halts}
 use Rattle.day_run.specs.Seats.{Idle, Playing, Pausing, Paused, Play, Rest, Seat, after_play, after_sending, booking_of, growth, is_done, pausing, sent_between, sent_by}
 use Rattle.day_run.proofs.LineSteps.{halts-sent}
 use Rattle.day_run.proofs.SlotSums.{sum-slots}
 use Rattle.day_run.proofs.Sweeps.{IsSwept, entries-more, swept-all, swept-none, swept-set}
-
--- the bytes that a client books in a slot
-abbrev pub share_of : ℕ → Seat → ℕ
-share_of t Idle = 0
-share_of t (Playing play) = share_at t (booking_of play)
-share_of t (Pausing stop rest) = share_at t stop
-share_of t (Paused rest) = 0
 
 -- ---- plays slot by slot
 sent-rises : (segments : List Segment) (start t u : ℕ) → t ≤ u → sent_before segments start t ≤ sent_before segments start u
@@ -82,7 +76,7 @@ sum-between heard slot (seat ∷ seats) le =
       sum_by-cons (share_of (slot + 1)) seat seats,
     )
 
-sum-none : (heard : ℕ) (seats : List Seat) → sum_by (sent_between heard heard) seats ≡ 0
+pub sum-none : (heard : ℕ) (seats : List Seat) → sum_by (sent_between heard heard) seats ≡ 0
 sum-none heard [] = refl
 sum-none heard (seat ∷ seats) = omega (arith, between-none heard seat, sum-none heard seats, sum_by-cons (sent_between heard heard) seat seats)
 
@@ -104,24 +98,6 @@ sent-booked booked heard (suc n) seats each =
     let whole : sum_by (sent_between heard (heard + n + 1)) seats ≡ sum_by booked (range_with_len (heard + 1) (n + 1)) =
     omega (arith, s, b, here, sent-booked booked heard n seats each) in
     ap (λ k. sum_by (sent_between heard k) seats) e ∙ whole ∙ sym (ap (λ k. sum_by booked (range_with_len (heard + 1) k)) f)
-
--- ---- the plays that the machine has open for the clients
-pub record IsHeld (entries : List Entry) (client : ℕ) (play : Play) : Type 0 where
-  pub inside : play.number < length entries
-  pub maker : (none : Entry) → (get_or entries play.number none).maker ≡ client
-  pub held : held_as play.number (state_after entries).held ≡ Some (admitted_play play.number play.start play.plan)
-
-abbrev pub AreHeldOf : List Entry → ℕ → Seat → Type 0
-AreHeldOf entries client Idle = Unit {0}
-AreHeldOf entries client (Playing play) = IsHeld entries client play
-AreHeldOf entries client (Pausing stop rest) = Unit {0}
-AreHeldOf entries client (Paused rest) = Unit {0}
-
--- the clients book all that is booked in the slots to come
-pub record IsBalanced (entries : List Entry) (seats : List Seat) (heard : ℕ) : Type 0 where
-  pub each : (t : ℕ) → heard < t → booked_in (state_after entries) t ≡ sum_by (share_of t) seats
-  pub held : (c : ℕ) → c < length seats → AreHeldOf entries c (get_or seats c Idle)
-  pub fresh : All (λ (h : Held). h.number < length entries) (state_after entries).held
 
 pub balanced-sent : (entries : List Entry) (seats : List Seat) (heard slot : ℕ) → heard ≤ slot → IsBalanced entries seats heard
     → sum_by (sent_between heard slot) seats ≡ sum_by (booked_in (state_after entries)) (range_with_len (heard + 1) (slot - heard))

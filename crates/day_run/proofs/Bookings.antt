@@ -1,6 +1,6 @@
 -- The plays that a book has open for the clients of a day, after one more entry.
-use Rattle.std.proofs.Common.{◌≡◌, ◌<◌, ◌≤◌, ◌+◌, ℕ, true, List, [], ◌∷◌, ◌++◌, length, get_or, set, Option, Some, IsSomeAnd, arith, refl, sym, ap, subst, ◌∙◌, inl, inr}
-use Rattle.std.proofs.lemmas.Bool.{cases_eq, cases_lt}
+use Rattle.std.proofs.Common.{◌≡◌, ◌<◌, ◌≤◌, ℕ, true, List, [], ◌∷◌, ◌++◌, length, get_or, set, Option, Some, IsSomeAnd, arith, sym, ap, subst, ◌∙◌, inl, inr}
+use Rattle.std.proofs.lemmas.Bool.{cases_eq}
 use Rattle.std.proofs.lemmas.List.{length-append, get_or_append_left, length-set, get_or-set_same, get_or-set_other}
 use Rattle.plan_cert.specs.Slots.{total_bytes}
 use Rattle.admission.specs.declared.entries.Command.{Command}

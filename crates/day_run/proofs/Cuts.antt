@@ -1,7 +1,7 @@
 -- Texts that are cut at a byte, against their lines and words.
-use Rattle.std.proofs.Common.{◌≡◌, ◌≢◌, ◌<◌, ◌+◌, ◌-◌, ℕ, false, true, ◌==◌, cond, List, [], ◌∷◌, ◌++◌, All, length, map, arith, refl, sym, ap, ◌∙◌, ne_eqb, Bor}
-use Rattle.std.proofs.lemmas.Bool.{cond-true, cond-false}
-use Rattle.std.proofs.lemmas.List.{append-nil, append_assoc, length-append, map-append}
+use Rattle.std.proofs.Common.{◌≡◌, ◌≢◌, ◌<◌, ℕ, false, List, [], ◌∷◌, ◌++◌, All, length, map, arith, refl, sym, ap, ◌∙◌, ne_eqb, Bor}
+use Rattle.std.proofs.lemmas.Bool.{cond-false}
+use Rattle.std.proofs.lemmas.List.{append_assoc, length-append, map-append}
 use Rattle.std.proofs.lemmas.List.Elements.{All-head, All-tail}
 use Rattle.std.specs.List.{slice_split, onto_first}
 use Rattle.plan_cert.specs.Reading.{lines_of, IsCut}

@@ -1,5 +1,5 @@
 -- A day after one more entry of its journal.
-use Rattle.std.proofs.Common.{◌≡◌, ◌<◌, ◌≤◌, ◌+◌, ◌^◌, ℕ, max, List, [], ◌∷◌, ◌++◌, length, get_or, set, ◌-◌, true, Option, IsSomeAnd, arith, refl, sym, ap, subst, ◌∙◌}
+use Rattle.std.proofs.Common.{◌≡◌, ◌<◌, ◌≤◌, ℕ, max, List, [], ◌∷◌, ◌++◌, length, get_or, set, ◌-◌, true, Option, IsSomeAnd, arith, refl, sym, ap, subst, ◌∙◌}
 use Rattle.std.proofs.lemmas.List.{length-set, length-append, get_or-append_right}
 use Rattle.plan_cert.specs.declared.Segment.{Segment}
 use Rattle.plan_cert.specs.Slots.{total_bytes}
@@ -11,15 +11,15 @@ use Rattle.admission.specs.declared.entries.Entry.{Entry}
 use Rattle.admission.specs.Histories.{Halts, state_after}
 use Rattle.admission.specs.Machine.{CanHalt, Held, State, next_state}
 use Rattle.admission.proofs.Halts.{halting}
-use Rattle.admission.proofs.Runs.{next_of, state-push}
+use Rattle.admission.proofs.Runs.{state-push}
 use Rattle.day_run.specs.declared.clients.Client.{Client}
 use Rattle.day_run.specs.declared.clients.Client.TheVariants as clients
 use Rattle.day_run.specs.declared.clients.Halt.{Halt as ClientHalt}
 use Rattle.day_run.specs.declared.clients.Play.{Play as ClientPlay}
-use Rattle.day_run.specs.Clients.{AreBooked, AreGoing, AreUndone, IsBooked, IsGoing, IsHaltOf, IsOpenOf, IsPlaying, IsQuiet, IsTimed, IsUndone}
+use Rattle.day_run.specs.Clients.{AreUndone, IsBooked, IsGoing, IsHaltOf, IsOpenOf, IsPlaying, IsQuiet, IsTimed, IsUndone}
 use Rattle.day_run.specs.Runners.{IsSoundDay}
 use Rattle.day_run.proofs.Sweeps.{timed-set}
-use Rattle.day_run.proofs.Bookings.{booked-halt, booked-more, booked-set, HaltsNone, going-set, undone-set}
+use Rattle.day_run.proofs.Bookings.{booked-halt, booked-more, booked-set, going-set, undone-set}
 
 now-halt : (state : State) (place number keep : ℕ) (answer : Answer) → (next_state state place (Halt number keep) answer).now ≡ state.now
 now-halt state place number keep (Admitted start) = refl

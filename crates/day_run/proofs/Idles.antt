@@ -1,10 +1,10 @@
 -- Clients that play nothing.
-use Rattle.std.proofs.Common.{◌≡◌, ◌<◌, ◌≤◌, ◌+◌, ◌-◌, ℕ, List, [], ◌∷◌, ◌++◌, length, get_or, arith, refl, sym, ap, subst, ◌∙◌, inl, inr}
+use Rattle.std.proofs.Common.{◌≡◌, ◌≤◌, ◌-◌, ℕ, List, [], ◌∷◌, ◌++◌, length, get_or, arith, sym, ap, subst, ◌∙◌, inl, inr}
 use Rattle.std.proofs.lemmas.Bool.{cases_lt}
 use Rattle.std.proofs.lemmas.List.{length-append, get_or_append_left, get_or-append_right}
 use Rattle.day_run.specs.declared.clients.Client.{Client}
 use Rattle.day_run.specs.declared.clients.Client.TheVariants.{Idle}
-use Rattle.day_run.specs.Clients.{AreBooked, AreGoing, AreIdle, AreUndone, IsBooked, IsGoing, IsTimed, IsUndone}
+use Rattle.day_run.specs.Clients.{AreIdle, IsBooked, IsGoing, IsTimed, IsUndone}
 use Rattle.day_run.specs.Runners.{IsSoundDay}
 
 pub idle-none : AreIdle []

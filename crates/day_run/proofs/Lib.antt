@@ -10,6 +10,12 @@ pub mod Sweeps
 pub mod Timings
 pub mod LineSteps
 pub mod DayRuns
+pub mod Peaks
+pub mod FullLines
+pub mod FairDraws
+pub mod FairTurns
+pub mod FairLaws
+pub mod OneDay
 pub mod Balances
 pub mod BalancedLines
 pub mod SourceTracks

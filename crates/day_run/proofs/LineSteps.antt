@@ -1,7 +1,7 @@
 -- What the lines of a script make of a day.
-use Rattle.std.proofs.Common.{◌≡◌, ◌<◌, ◌≤◌, ◌+◌, ◌-◌, ◌^◌, ℕ, min, max, true, false, List, [], ◌∷◌, ◌++◌, length, map, take, drop, set, get_or, replicate, Result, Ok, Err, IfOk, arith, refl, sym, ap, subst, ◌∙◌, inl, inr}
+use Rattle.std.proofs.Common.{◌≡◌, ◌<◌, ◌+◌, ◌-◌, ℕ, true, false, List, [], ◌∷◌, ◌++◌, length, map, drop, set, replicate, Result, Ok, Err, IfOk, arith, refl, sym, ap, subst, ◌∙◌}
 use Rattle.std.specs.Prelude.{OnOk}
-use Rattle.std.proofs.lemmas.List.{append-nil, append_assoc, drop_at, ext_get_or, get_or-replicate, length-drop, length-map, length-take}
+use Rattle.std.proofs.lemmas.List.{append-nil, drop_at, ext_get_or, get_or-replicate, length-drop, length-map, length-take}
 use Rattle.plan_cert.specs.declared.Segment.{Segment}
 use Rattle.film_run.specs.Runs.{sizes_between}
 use Rattle.admission.specs.declared.entries.Answer.{Answer}
@@ -23,10 +23,10 @@ use Rattle.day_run.specs.declared.runners.Told.{Told}
 use Rattle.day_run.specs.declared.runners.Told.TheVariants as tolds
 use Rattle.vod_base.specs.declared.outside.NoMemory.{NoMemory}
 use Rattle.day_run.specs.Clients.{AreIdle, IsPauseOf, IsQuiet, IsTimed, play_of, rest_of, seat_of}
-use Rattle.day_run.specs.Days.{IsAsked, IsFull, IsHaltedPlay, IsNoted, IsPauseLine, IsPlayLine, IsResumeLine, IsTold, Link, Moment, done_halt, entry_by, entry_lines, full_of, halts, with_play}
+use Rattle.day_run.specs.Days.{IsAsked, IsFull, IsNoted, IsPauseLine, IsPlayLine, IsTold, Link, Moment, done_halt, entry_by, entry_lines, halts, with_play}
 use Rattle.day_run.specs.Prints.{full_text, state_text}
 use Rattle.day_run.specs.Runners.{IsPrinted, told_text}
-use Rattle.day_run.specs.Seats.{Idle, Playing, Pausing, Paused, IsPause, Rest, Seat, after_sending, is_busy}
+use Rattle.day_run.specs.Seats.{Idle, Playing, Pausing, Paused, Rest, Seat, after_sending, is_busy}
 use Rattle.day_run.proofs.Sweeps.{seat-at, seats-set}
 use Rattle.day_run.proofs.Timings.{done-sent}
 

@@ -1,21 +1,17 @@
 -- What a pause keeps of a play.
-use Rattle.std.proofs.Common.{◌≡◌, ◌^◌, ◌<◌, ◌≤◌, ◌+◌, ◌-◌, ◌&&◌, ◌==◌, ℕ, min, true, false, T, nat_lt, List, length, take, sum, Option, None, Some, arith, refl, sym, ap, subst, ◌∙◌, inl, inr}
+use Rattle.std.proofs.Common.{◌≡◌, ◌^◌, ◌<◌, ◌≤◌, ◌+◌, ◌-◌, ◌&&◌, ◌==◌, ℕ, min, false, T, List, Option, None, Some, arith, sym, ap, subst, ◌∙◌, inl, inr}
 use Rattle.std.proofs.lemmas.Bool.{cases_lt, lt-ltb}
 use Rattle.std.proofs.Math.Dec.{eqb_refl}
 use Rattle.plan_cert.specs.declared.Segment.{Segment}
 use Rattle.plan_cert.specs.Plan.{IsPlan}
-use Rattle.plan_cert.specs.Slots.{plan_slots, sum_through, total_bytes, total_slots}
+use Rattle.plan_cert.specs.Slots.{sum_through, total_slots}
 use Rattle.plan_cert.proofs.SlotSums.{sum_through-past}
 use Rattle.film_frames.specs.Tracks.{IsBoundaryAfter}
-use Rattle.film_run.specs.declared.runs.Run.{Run}
-use Rattle.film_run.specs.Pauses.{IsHalt, IsLeft}
-use Rattle.film_run.specs.Runs.{Fits, IsRun}
+use Rattle.film_run.specs.Pauses.{IsHalt}
 use Rattle.pacer.specs.Pacings.{IsPacing, Pacing, first_slots, is_done, slots_through, stepped}
 use Rattle.day_run.specs.declared.clients.Play.{Play}
-use Rattle.day_run.specs.declared.clients.Rest.{Rest}
 use Rattle.day_run.specs.declared.clients.Stop.{Stop}
-use Rattle.day_run.specs.Clients.{IsPlaying, IsRest, IsStopping}
-use Rattle.day_run.specs.Reels.{reel_pieces, reel_sizes}
+use Rattle.day_run.specs.Clients.{IsPlaying, IsStopping}
 
 -- a slot was stepped, and what was due in it was sent
 pub playing-stepped : (slot : ℕ) (play : Play) (p : Pacing) → p ≡ stepped false slot play.pacer → IsPacing p → IsPlaying play → IsPlaying (record play { pacer = p })

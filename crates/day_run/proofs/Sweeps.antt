@@ -1,8 +1,8 @@
 -- Clients that are passed over one after the other.
-use Rattle.std.proofs.Common.{◌≡◌, ◌<◌, ◌≤◌, ◌+◌, ℕ, suc, List, [], ◌∷◌, ◌++◌, length, map, take, drop, set, get_or, Option, Some, None, arith, refl, sym, ap, subst, ◌∙◌, inl, inr}
+use Rattle.std.proofs.Common.{◌≡◌, ◌<◌, ◌≤◌, ◌+◌, ℕ, List, [], ◌∷◌, ◌++◌, length, map, take, drop, set, get_or, Option, Some, None, arith, refl, sym, ap, subst, ◌∙◌, inl, inr}
 use Rattle.std.specs.Prelude.{sum_by}
-use Rattle.std.proofs.lemmas.Bool.{cases_eq, cases_lt}
-use Rattle.std.proofs.lemmas.List.{append_assoc, append-nil, ext_get_or, get_or-map, get_or-set_other, get_or-set_same, length-append, length-map, length-set, length-take, map-set, set-get_or, take_all, take_at, take_more}
+use Rattle.std.proofs.lemmas.Bool.{cases_eq}
+use Rattle.std.proofs.lemmas.List.{append_assoc, append-nil, ext_get_or, get_or-map, get_or-set_other, get_or-set_same, length-map, length-set, length-take, map-set, set-get_or, take_all, take_at, take_more}
 use Rattle.std.proofs.lemmas.List.Sums.{sum_by_push}
 use Rattle.admission.specs.declared.entries.Entry.{Entry}
 use Rattle.day_run.specs.declared.clients.Client.{Client}
@@ -10,7 +10,7 @@ use Rattle.day_run.specs.declared.clients.Client.TheVariants as clients
 use Rattle.day_run.specs.declared.clients.Halt.{Halt}
 use Rattle.std.specs.Prelude.{OnSome, IfNone}
 use Rattle.day_run.specs.Clients.{AreSteps, AreTimed, AreUndone, IsStep, IsTimed, IsUndone, halts_of, seat_after, seat_of}
-use Rattle.day_run.specs.Days.{Moment, at_slot, done_halt, halts}
+use Rattle.day_run.specs.Days.{at_slot, done_halt, halts}
 use Rattle.day_run.specs.Seats.{Seat, Idle, after_play, after_sending, sent_between}
 
 -- the clients before a place were changed so, and those from it on weren't

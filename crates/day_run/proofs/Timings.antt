@@ -1,20 +1,17 @@
 -- What a client's pacer has sent, in the words of a day.
-use Rattle.std.proofs.Common.{◌≡◌, ◌<◌, ◌≤◌, ◌+◌, ◌-◌, ◌==◌, ◌&&◌, ℕ, min, max, nat_lt, nat_le, true, false, Bool, cond, List, [], ◌∷◌, length, take, sum, Option, Some, None, IfSome, arith, refl, sym, ap, subst, ◌∙◌, inl, inr}
+use Rattle.std.proofs.Common.{◌≡◌, ◌<◌, ◌≤◌, ◌+◌, ◌-◌, ◌==◌, ◌&&◌, ℕ, min, nat_lt, nat_le, true, false, Bool, cond, List, [], Option, Some, None, arith, refl, sym, ap, subst, ◌∙◌, inl, inr}
 use Rattle.std.proofs.lemmas.Bool.{cases_lt, cond-true, cond-false, lt-ltb}
-use Rattle.plan_cert.specs.declared.Segment.{Segment}
-use Rattle.plan_cert.specs.Slots.{plan_slots, total_bytes}
+use Rattle.plan_cert.specs.Slots.{total_bytes}
 use Rattle.pacer.specs.Pacings.{IsPacing, Pacing, first_slots, stepped, slots_through, is_done as is_pacing_done}
 use Rattle.film_frames.specs.Tracks.{IsBoundaryAfter}
 use Rattle.film_run.specs.declared.runs.Run.{Run}
 use Rattle.film_run.specs.Pauses.{IsLeft}
-use Rattle.admission.specs.declared.entries.Entry.{Entry}
-use Rattle.slot_calendar.specs.Plays.{Play as Booked, cut_play, sent_before, whole_play}
-use Rattle.day_run.specs.declared.clients.Client.{Client}
+use Rattle.slot_calendar.specs.Plays.{Play as Booked, cut_play}
 use Rattle.day_run.specs.declared.clients.Client.TheVariants as clients
 use Rattle.day_run.specs.declared.clients.Play.{Play}
 use Rattle.day_run.specs.declared.clients.Stop.{Stop}
 use Rattle.day_run.specs.declared.clients.Halt.{Halt}
-use Rattle.day_run.specs.Clients.{IsGoing, IsPlaying, IsStopping, IsTimed, IsStep, halts_of, play_of, rest_of, seat_after, seat_of}
+use Rattle.day_run.specs.Clients.{IsPlaying, IsStopping, IsStep, halts_of, play_of, rest_of, seat_of}
 use Rattle.day_run.specs.Days.{done_halt, open_halt, halt_by}
 use Rattle.day_run.specs.Reels.{reel_pieces, reel_sizes}
 use Rattle.day_run.specs.Seats.{Idle, Playing, Pausing, Paused, IsPause, Rest, Seat, after_play, after_sending, booking_of, growth, is_done, pausing, sent_between, sent_by, slot_sent}

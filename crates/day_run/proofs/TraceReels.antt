@@ -1,5 +1,5 @@
 -- A trace as it is played.
-use Rattle.std.proofs.Common.{◌≡◌, ℕ, length, sum, subst, sym}
+use Rattle.std.proofs.Common.{◌≡◌, length, sum, subst, sym}
 use Rattle.film_frames.specs.Tracks.{framed}
 use Rattle.film_frames.proofs.TraceLemmas.{length-zeros}
 use Rattle.day_run.specs.declared.reels.Reel.{Reel}

@@ -1,13 +1,13 @@
 -- What holds of the clients of a day: what they send and how far they have come, and that the book
 -- has their plays open.
-use Rattle.std.specs.Prelude.{ℕ, ◌≡◌, ◌+◌, ◌-◌, ◌<◌, ◌≤◌, Bool, false, List, [], length, map, sum, sum_by, slice_index_or, Option, Some, None}
+use Rattle.std.specs.Prelude.{ℕ, ◌≡◌, ◌+◌, ◌-◌, ◌<◌, ◌≤◌, false, List, [], length, map, sum, sum_by, slice_index_or, Option, Some, None}
 use Rattle.plan_cert.specs.declared.Segment.{Segment}
 use Rattle.plan_cert.specs.Slots.{total_bytes}
 use Rattle.slot_calendar.specs.Plays.{cut_play}
 use Rattle.film_frames.specs.Tracks.{IsBoundary}
 use Rattle.film_run.specs.Runs.{Fits, IsRun}
 use Rattle.film_run.specs.Plans.{IsPlanOf, IsPlayback}
-use Rattle.pacer.specs.Pacings.{IsPacing, Pacing, is_done}
+use Rattle.pacer.specs.Pacings.{IsPacing, is_done}
 use Rattle.admission.specs.declared.entries.Entry.{Entry}
 use Rattle.admission.specs.Histories.{state_after}
 use Rattle.admission.specs.Machine.{CanHalt}

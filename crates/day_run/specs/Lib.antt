@@ -11,4 +11,6 @@ pub mod DayLaws
 pub mod Clients
 pub mod Runners
 pub mod Prints
+pub mod Balanced
+pub mod FairDays
 pub mod Fairs

@@ -1,6 +1,6 @@
 -- The printed lines of a day that are no entries of the journal. Numbers are decimal, and each line
 -- ends with LF.
-use Rattle.std.specs.Prelude.{ℕ, List, [], ◌∷◌, ◌++◌, Option, Some, None, codes, decimal, length, flat_map}
+use Rattle.std.specs.Prelude.{ℕ, List, ◌++◌, Option, Some, None, codes, length, flat_map}
 use Rattle.admission.specs.declared.entries.Full.{Full}
 use Rattle.early_start.specs.Offered.{Found}
 use Rattle.early_start.specs.declared.Tried.{Tried}

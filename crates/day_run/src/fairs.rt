@@ -1,16 +1,23 @@
 //! A large day from a number.
 
-ghost use Rattle.std.specs.Prelude.{◌≡◌, ◌+◌, ◌^◌, ◌≤◌, ◌<◌, length, IfOk, OnOk};
+ghost use Rattle.std.specs.Prelude.{◌≡◌, ◌+◌, ◌*◌, ◌^◌, ◌≤◌, ◌<◌, ◌%◌, List, false, if◌then◌else◌, length, map, IfOk, OnOk};
+ghost use Rattle.film_make.specs.Generator.{after, words_left};
 ghost use Rattle.film_run.specs.Units.{IsTrace};
+ghost use Rattle.admission.specs.declared.entries.Entry.{Entry};
 ghost use Rattle.admission.specs.Histories.{IsLegal};
-ghost use Rattle.day_run.specs.Runners.{IsKept, IsRunner};
-ghost use Rattle.day_run.specs.Fairs.{AreTraces};
+ghost use Rattle.day_run.specs.Balanced.{IsReady};
+ghost use Rattle.day_run.specs.Days.{IsPlayLine, entry_lines, morning, rest_at, seat_at};
+ghost use Rattle.day_run.specs.FairDays.{IsDone, IsFair, after_traces, at_later, is_full_line, made_of, traces_drawn, words_for};
+ghost use Rattle.day_run.specs.Fairs.{AreTraces, HasCome, HasTurned, IsFitting, said, sizes_in, with_slot};
+ghost use Rattle.day_run.specs.Runners.{IsKept, IsRunner, link_on, moment_of, told_text};
+ghost use Rattle.day_run.specs.Seats.{trace_track};
+ghost use Rattle.day_run.specs.Tracks.{reel_track};
 
 use crate::clients::Client;
 use crate::counts::{Counts, Made};
 use crate::days::Day;
 use crate::reels::Reel;
-use crate::runners::{Passed, Runner, Told};
+use crate::runners::{Runner, Told};
 use crate::texts::push_fair;
 use admission::{Answer, Book, Entry, MAX_ENTRIES};
 use film_make::{Draws, draw_sizes};
@@ -28,6 +35,9 @@ const SLOT_UNITS: u32 = 14_400;
 fn draw_traces(alloc: Global, draws: &mut Draws) -> Result<Vec<Vec<u64>>, NoMemory>
     ensures count { IfOk result (λ traces. length traces.items ≡ 16) }
     ensures traces { IfOk result (λ traces. AreTraces traces.items) }
+    ensures sizes { IfOk result (λ traces.
+        sizes_in traces.items ≡ traces_drawn 16 (words_left draws.old)) }
+    ensures left { OnOk result (words_left draws.new ≡ after_traces 16 (words_left draws.old)) }
 {
     let mut traces = Vec::with_capacity(alloc, TRACES)?;
     for trace in 0..TRACES {
@@ -40,7 +50,9 @@ fn draw_traces(alloc: Global, draws: &mut Draws) -> Result<Vec<Vec<u64>>, NoMemo
 /// The traces as they are played.
 fn reels_of<'s>(alloc: Global, traces: &'s [Vec<u64>]) -> Result<Vec<Reel<'s>>, NoMemory>
     requires { AreTraces traces.now }
-    ensures { IfOk result (λ reels. length reels.items ≡ length traces.entry.now) }
+    ensures count { IfOk result (λ reels. length reels.items ≡ length traces.entry.now) }
+    ensures tracks { IfOk result (λ reels. map (reel_track 14400) reels.items
+        ≡ map (trace_track 14400) (sizes_in traces.entry.now)) }
 {
     let mut reels = Vec::with_capacity(alloc, traces.len())?;
     for trace in traces {
@@ -49,41 +61,126 @@ fn reels_of<'s>(alloc: Global, traces: &'s [Vec<u64>]) -> Result<Vec<Reel<'s>>, 
     Ok(reels)
 }
 
+/// A client asks for a drawn play.
+fn play_drawn(
+    alloc: Global,
+    draws: &mut Draws,
+    runner: &mut Runner<'_>,
+    client: u8,
+) -> Result<Told, NoMemory>
+    requires runner { IsRunner runner.old }
+    requires reels { length runner.old.reels.now ≡ 16 }
+    ensures runner { OnOk result (IsRunner runner.new) }
+    ensures kept { OnOk result (IsKept runner.old runner.new) }
+    ensures heard { OnOk result (runner.new.heard ≡ runner.old.heard) }
+    ensures line { IfOk result (λ told.
+        IsPlayLine (link_on runner.old) client (rest_at (link_on runner.old)
+        (words_left draws.old 0 % 16) (16384 + words_left draws.old 1 % 16384)
+        (words_left draws.old 2 % 26)) (seat_at (moment_of runner.old) client)
+        (moment_of runner.old) (moment_of runner.new) (told_text runner.new.book.entries told)) }
+    ensures left { OnOk result (words_left draws.new ≡ after 3 (words_left draws.old)) }
+{
+    let source = draws.draw(TRACES as u32) as usize;
+    let buffer = 16_384 + u64::from(draws.draw(16_384));
+    let delay = u64::from(draws.draw(26));
+    runner.play(alloc, client, source, buffer, delay)
+}
+
 /// What the drawn client does, by its state.
 fn turn_client(
     alloc: Global,
     draws: &mut Draws,
     runner: &mut Runner<'_>,
+    client: u8,
 ) -> Result<Option<Told>, NoMemory>
     requires runner { IsRunner runner.old }
     requires reels { length runner.old.reels.now ≡ 16 }
     ensures runner { OnOk result (IsRunner runner.new) }
     ensures kept { OnOk result (IsKept runner.old runner.new) }
     ensures heard { OnOk result (runner.new.heard ≡ runner.old.heard) }
+    ensures done { IfOk result (λ told.
+        IsDone (link_on runner.old) (words_left draws.old) client
+        (seat_at (moment_of runner.old) client) (moment_of runner.old) (moment_of runner.new)
+        (said runner.new.book.entries told)) }
+    ensures left { OnOk result (words_left draws.new
+        ≡ after (words_for (seat_at (moment_of runner.old) client)) (words_left draws.old)) }
 {
-    let client = draws.draw(256) as u8;
     match &runner.clients[client as usize] {
         Client::Playing(_) => Ok(Some(runner.pause(client))),
         Client::Pausing(_) => Ok(None),
         Client::Paused(_) => Ok(Some(runner.resume(alloc, client)?)),
-        Client::Idle => {
-            let source = draws.draw(TRACES as u32) as usize;
-            let buffer = 16_384 + u64::from(draws.draw(16_384));
-            let delay = u64::from(draws.draw(26));
-            Ok(Some(runner.play(alloc, client, source, buffer, delay)?))
-        }
+        Client::Idle => Ok(Some(play_drawn(alloc, draws, runner, client)?)),
     }
 }
 
-/// Adds what a slot brought.
-fn pass(counts: &mut Counts, slot: u64, passed: Passed)
-    ensures turns { counts.new.turns ≡ counts.old.turns }
-    ensures full { counts.new.full ≡ counts.old.full }
+/// Comes to a slot that is so many later, if it is.
+fn go_on(runner: &mut Runner<'_>, later: u64, counts: &mut Counts)
+    requires runner { IsRunner runner.old }
+    requires ready { IsReady (moment_of runner.old) }
+    requires few { later ≤ 3 }
+    requires early { runner.old.heard ≤ 2 ^ 20 }
+    requires fitting { IsFitting runner.old.heard counts.old }
+    ensures runner { IsRunner runner.new }
+    ensures ready { IsReady (moment_of runner.new) }
+    ensures kept { IsKept runner.old runner.new }
+    ensures heard { runner.new.heard ≡ runner.old.heard + later }
+    ensures moment { moment_of runner.new ≡ at_later (moment_of runner.old) later }
+    ensures counts { counts.new ≡ with_slot counts.old (moment_of runner.old) runner.new.heard }
+    ensures fitting { IsFitting runner.new.heard counts.new }
 {
-    counts.last = slot;
-    counts.sent = counts.sent.saturating_add(passed.sent);
-    counts.booked = counts.booked.saturating_add(passed.booked);
-    counts.peak = counts.peak.max(passed.peak);
+    if later > 0 {
+        let slot = runner.heard + later;
+        let passed = runner.slot(slot);
+        counts.last = slot;
+        counts.sent += passed.sent;
+        counts.booked += passed.booked;
+        counts.peak = counts.peak.max(passed.peak);
+    }
+}
+
+/// The lines of entries tell of no full journal: they begin with a digit.
+fn law_entries_other(place: u64)
+    ensures { (entries : List Entry) → is_full_line (entry_lines place entries) ≡ false }
+{}
+
+/// Whether it is told that the journal is full.
+fn is_full(told: Told) -> bool
+    ensures { (entries : List Entry) → is_full_line (told_text entries told) ≡ result }
+{
+    match told {
+        Told::Full(_) => true,
+        Told::Entry(place) => {
+            law_entries_other(place);
+            false
+        }
+        Told::State => false,
+        Told::Fault(_) => false,
+    }
+}
+
+/// Whether a client was told so, if it was asked at all.
+fn is_refused(told: Option<Told>) -> bool
+    ensures { (entries : List Entry) → is_full_line (said entries told) ≡ result }
+{
+    match told {
+        Some(told) => is_full(told),
+        None => false,
+    }
+}
+
+/// Counts a turn.
+fn count_turn(counts: &mut Counts, full: bool)
+    requires turns { counts.old.turns < 2 ^ 32 }
+    requires full { counts.old.full ≤ counts.old.turns }
+    ensures { counts.new ≡ record counts.old {
+      turns = counts.old.turns + 1;
+      full = counts.old.full + (if full then 1 else 0);
+    } }
+{
+    counts.turns += 1;
+    if full {
+        counts.full += 1;
+    }
 }
 
 /// Runs a turn.
@@ -94,32 +191,31 @@ fn run_turn(
     counts: &mut Counts,
 ) -> Result<(), NoMemory>
     requires runner { IsRunner runner.old }
+    requires ready { IsReady (moment_of runner.old) }
     requires reels { length runner.old.reels.now ≡ 16 }
-    requires early { runner.old.heard ≤ 2 ^ 61 }
+    requires early { runner.old.heard ≤ 2 ^ 20 }
     requires turns { counts.old.turns < 2 ^ 32 }
-    requires full { counts.old.full ≤ counts.old.turns }
+    requires fitting { IsFitting runner.old.heard counts.old }
     ensures runner { OnOk result (IsRunner runner.new) }
+    ensures ready { OnOk result (IsReady (moment_of runner.new)) }
     ensures kept { OnOk result (IsKept runner.old runner.new) }
     ensures heard { OnOk result (runner.new.heard ≤ runner.old.heard + 3) }
-    ensures turns { OnOk result (counts.new.turns ≡ counts.old.turns + 1) }
-    ensures full { OnOk result (counts.new.full ≤ counts.new.turns) }
+    ensures fitting { OnOk result (IsFitting runner.new.heard counts.new) }
+    ensures turned { OnOk result (HasTurned (link_on runner.old) (words_left draws.old)
+        (words_left draws.new) counts.old counts.new (moment_of runner.old) (moment_of runner.new)) }
 {
     let later = u64::from(draws.draw(4));
-    if later > 0 {
-        let slot = runner.heard + later;
-        let passed = runner.slot(slot);
-        pass(counts, slot, passed);
-    }
-    if let Some(Told::Full(_)) = turn_client(alloc, draws, runner)? {
-        counts.full += 1;
-    }
-    counts.turns += 1;
+    go_on(runner, later, counts);
+    let client = draws.draw(256) as u8;
+    let told = turn_client(alloc, draws, runner, client)?;
+    count_turn(counts, is_refused(told));
     Ok(())
 }
 
 /// Counts the entries of a journal by their answers.
 fn count_entries(entries: &[Entry]) -> Made
     requires { length entries.now ≤ 1048576 }
+    ensures { result ≡ made_of entries.now }
 {
     let mut made = Made {
         admitted: 0,
@@ -145,11 +241,13 @@ fn run_turns(
     turns: u32,
 ) -> Result<Counts, NoMemory>
     requires runner { IsRunner runner.old }
+    requires morning { moment_of runner.old ≡ morning }
     requires reels { length runner.old.reels.now ≡ 16 }
-    requires begun { runner.old.heard ≡ 0 }
     requires few { turns ≤ 100000 }
     ensures runner { OnOk result (IsRunner runner.new) }
     ensures kept { OnOk result (IsKept runner.old runner.new) }
+    ensures come { IfOk result (λ counts. HasCome (link_on runner.old) (words_left draws.old)
+        (words_left draws.new) turns counts (moment_of runner.new)) }
 {
     let mut counts = Counts {
         turns: 0,
@@ -169,6 +267,8 @@ fn run_turns(
 /// book, 1 to 100,000.
 pub fn fair(alloc: Global, seed: u64, plays: u32, profile: Profile) -> Result<Day, NoMemory>
     requires { plays ≤ 100000 }
+    ensures fair { IfOk result (λ day.
+        IsFair profile seed plays day.text.items day.journal.items) }
     ensures legal { IfOk result (λ day. IsLegal profile day.journal.items) }
 {
     let mut draws = Draws::new(seed);

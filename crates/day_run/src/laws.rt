@@ -1,7 +1,11 @@
-ghost use Rattle.std.specs.Prelude.{ℕ, List, ◌≡◌, ◌≤◌, length};
+ghost use Rattle.std.specs.Prelude.{ℕ, List, ◌≡◌, ◌≤◌, ◌<◌, length};
 ghost use Rattle.day_run.specs.declared.scripts.Line.{Line};
-ghost use Rattle.day_run.specs.DayLaws.{AreClients};
-ghost use Rattle.day_run.specs.Days.{AreRun, Link, Moment, booked_up_to, morning, sent_up_to};
+ghost use Rattle.slot_calendar.specs.declared.profiles.CapStep.{CapStep};
+ghost use Rattle.admission.specs.declared.entries.Entry.{Entry};
+ghost use Rattle.admission.specs.Histories.{IsLegal};
+ghost use Rattle.day_run.specs.DayLaws.{AreClients, IsFairLine, IsLink, IsSoundSeat};
+ghost use Rattle.day_run.specs.Days.{AreRun, IsDay, Link, Moment, booked_up_to, morning, seat_at, sent_up_to};
+ghost use Rattle.day_run.specs.FairDays.{IsFair};
 ghost use Rattle.day_run.specs.Scripts.{AreLines};
 
 /// After lines of a script, what the clients are sent in the slots up to any later one, after the
@@ -17,4 +21,30 @@ pub fn law_sent()
 pub fn law_texts()
     ensures { (link : Link) (lines : List Line) (texts : List (List ℕ)) (old new : Moment) →
         AreRun link lines texts old new → length texts ≡ length lines }
+{}
+
+/// What the line of a large day says holds: what was sent is what is booked, and no slot has more
+/// than the capacity.
+pub fn law_fair()
+    ensures { (steps : List CapStep) (number plays : ℕ) (text : List ℕ) (journal : List Entry) →
+        IsFair steps number plays text journal → IsLegal steps journal →
+        IsFairLine steps plays text journal }
+{}
+
+/// After lines of a script each client goes on soundly: a play is sent by the plan of what was left
+/// as it began, and isn't done; what a pause leaves can be played, and what was sent before it are
+/// whole frames and reports.
+pub fn law_clients()
+    ensures { (link : Link) (lines : List Line) (texts : List (List ℕ)) (moment : Moment)
+        (client : ℕ) → IsLink link → AreClients lines → AreLines (length link.tracks) lines →
+        AreRun link lines texts morning moment → client < 256 →
+        IsSoundSeat moment.heard (seat_at moment client) }
+{}
+
+/// A script has one text and one journal.
+pub fn law_one_day()
+    ensures { (link : Link) (lines : List Line) (text other : List ℕ)
+        (journal others : List Entry) → IsLink link → AreClients lines →
+        AreLines (length link.tracks) lines → IsDay link lines text journal →
+        IsDay link lines other others → (text ≡ other) × (journal ≡ others) }
 {}

@@ -1,6 +1,6 @@
 //! A day as it runs: what clients ask and slots, one after the other, on one book.
 
-ghost use Rattle.std.specs.Prelude.{◌≡◌, ◌+◌, ◌-◌, ◌*◌, ◌^◌, ◌≤◌, ◌<◌, ◌++◌, ℕ, List, false, length, map, min, sum, sum_by, slice_set, slice_index_or, IfSome, IfNone, IfOk, OnOk, OnSome, IfErr};
+ghost use Rattle.std.specs.Prelude.{◌≡◌, ◌+◌, ◌-◌, ◌*◌, ◌^◌, ◌≤◌, ◌<◌, ◌++◌, ℕ, List, false, fold, length, map, max, min, sum, sum_by, slice_set, slice_index_or, IfSome, IfNone, IfOk, OnOk, OnSome, IfErr};
 ghost use Rattle.plan_cert.specs.Slots.{total_bytes};
 ghost use Rattle.film_run.specs.Plans.{IsPlayback};
 ghost use Rattle.pacer.specs.Pacings.{is_done};
@@ -15,6 +15,7 @@ ghost use Rattle.day_run.specs.Clients.{IsHaltOf, IsPlanFor, IsPlaying, IsRest, 
 ghost use Rattle.day_run.specs.Clients.{halts_of, play_of, rest_of, seat_of};
 ghost use Rattle.day_run.specs.Days.{at_slot, booked_up_to, done_halt, halts, last_journal, morning, open_halt, rest_at, seat_at, sent_up_to};
 ghost use Rattle.day_run.specs.Days.{IsAsked as IsAskedFor, IsLookLine, IsOfferLine, IsPauseLine, IsPlanned, IsPlayLine, IsResumeLine};
+ghost use Rattle.day_run.specs.FairDays.{most_up_to};
 ghost use Rattle.day_run.specs.Runners.{IsAsked, IsKept, IsRunner, link_on, moment_of, offer_lines, told_text};
 ghost use Rattle.day_run.specs.Seats.{Track, after_play, whole_rest};
 ghost use Rattle.day_run.specs.Tracks.{reel_track};
@@ -251,13 +252,23 @@ fn end_open(book: &mut Book, clients: &mut [Client<'_>])
     }
 }
 
+/// The greater of two numbers of bytes.
+fn greater(one: u64, other: u64) -> u64
+    ensures { result ≡ max one other }
+{
+    one.max(other)
+}
+
 /// The bytes booked in the slots after `from` up to `to`, and the most in one of them.
 fn booked_between(book: &Book, from: u64, to: u64) -> (u64, u64)
     requires from_now { (state_after book.now.entries).now ≤ from }
     requires small { from ≤ 2 ^ 62 }
     requires order { from ≤ to }
-    ensures { result.0 ≡
+    ensures booked { result.0 ≡
         sum_by (booked_in (state_after book.now.entries)) (range_with_len (from + 1) (to - from)) }
+    ensures peak { result.1 ≡ fold max 0
+        (map (booked_in (state_after book.now.entries)) (range_with_len (from + 1) (to - from))) }
+    ensures few { result.0 ≤ (to - from) * 2 ^ 42 }
 {
     let calendar = book.calendar();
     let end = to.min(calendar.now() + RING_SLOTS);
@@ -266,7 +277,7 @@ fn booked_between(book: &Book, from: u64, to: u64) -> (u64, u64)
     for slot in from + 1..end + 1 {
         let here = calendar.booked(slot);
         booked += here;
-        peak = peak.max(here);
+        peak = greater(peak, here);
     }
     (booked, peak)
 }
@@ -478,6 +489,8 @@ impl<'r> Runner<'r> {
         ensures moment { moment_of self.new ≡ at_slot (moment_of self.old) slot }
         ensures sent { result.sent ≡ sent_up_to (moment_of self.old) slot }
         ensures booked { result.booked ≡ booked_up_to (moment_of self.old) slot }
+        ensures peak { result.peak ≡ most_up_to (moment_of self.old) slot }
+        ensures few { result.booked ≤ (slot - self.old.heard) * 2 ^ 42 }
     {
         let sent = step_clients(&mut self.clients, slot);
         let (booked, peak) = booked_between(&self.book, self.heard, slot);

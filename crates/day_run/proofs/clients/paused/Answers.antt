@@ -1,4 +1,4 @@
-use Rattle.std.proofs.Common.{◌≡◌, ◌≤◌, ◌+◌, ◌-◌, ◌==◌, ℕ, true, false, eq-eqb, ne_eqb, sym, ap, subst, ◌∙◌, arith}
+use Rattle.std.proofs.Common.{◌≡◌, ◌≤◌, ◌==◌, true, false, eq-eqb, ne_eqb, sym, ap, ◌∙◌, arith}
 use Rattle.day_run.proofs.Pausing.{halts}
 use Rattle.day_run.proofs.Timings.{pause-of, paused-seat, pausing-seat}
 use Rattle.day_run.specs.Clients.{rest_of}

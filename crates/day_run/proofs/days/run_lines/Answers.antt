@@ -1,4 +1,4 @@
-use Rattle.std.proofs.Common.{◌≡◌, ◌<◌, ◌≤◌, ◌+◌, length, take, ◌∙◌, arith}
+use Rattle.std.proofs.Common.{◌<◌, length, ◌∙◌, arith}
 use Rattle.day_run.specs.Runners.{link_on, moment_of}
 use Rattle.day_run.proofs.DayRuns.{run-next}
 use Rattle.day_run.proofs.SourceTracks.{heard-next}

@@ -1,17 +1,41 @@
-use Rattle.std.proofs.Common.{◌≡◌, ◌≤◌, ◌+◌, ◌∷◌, [], List, ℕ, length, ap, sym, subst, arith}
+use Rattle.std.proofs.Common.{◌≤◌, ◌+◌, ◌∷◌, [], List, ℕ, length, ap, sym, subst, ◌∙◌, arith}
 use Rattle.std.proofs.lemmas.List.{length-append}
+use Rattle.std.specs.Global.{Vec}
+use Rattle.day_run.specs.Fairs.{AreTraces, sizes_in}
 use Rattle.film_run.specs.Units.{IsTrace}
-use Rattle.day_run.proofs.Drawn.{drawn-trace, traces-push}
+use Rattle.film_make.specs.Generator.{words_left}
+use Rattle.film_make.specs.Trace.{sizes_of}
+use Rattle.day_run.proofs.Drawn.{drawn-trace, traces-none, traces-push}
+use Rattle.day_run.proofs.FairDraws.{left-next, left-none, sizes-next}
 use Rattle.day_run.proofs.fairs.draw_traces.Goals as goal
+
+pub loop-trace-init : goal.loop-trace-init
+loop-trace-init c = record {
+  count = omega (arith, ap length c.in_ok-traces.ensures.items);
+  traces =
+      let A : List (Vec ℕ) → Type 0 = λ l. AreTraces l in
+      subst A (sym c.in_ok-traces.ensures.items) traces-none;
+  sizes = ap sizes_in c.in_ok-traces.ensures.items;
+  left = left-none (words_left c.args.draws.now);
+}
 
 pub loop-trace-preserved : goal.loop-trace-preserved
 loop-trace-preserved c =
     let inv = c.loop-trace.invariant in
+    let words = words_left c.args.draws.now in
     let trace = c.in_ok-draw_sizes.field-0 in
     let e = c.in_ok-push.ensures.items in
     let I : List ℕ → Type 0 = λ l. IsTrace l in
-    let own = subst I (sym c.in_ok-draw_sizes.ensures.sizes) (drawn-trace _ (100 + c.draw-pictures.result) (omega (arith, c.draw-pictures.ensures.value))) in
+    let few : 100 + c.draw-pictures.result ≤ 200 = omega (arith, c.draw-pictures.ensures.value) in
+    let own = subst I (sym c.in_ok-draw_sizes.ensures.sizes) (drawn-trace _ (100 + c.draw-pictures.result) few) in
     record {
       count = omega (arith, inv.count, ap length e, length-append c.loop-trace.traces.items (trace ∷ []));
       traces = traces-push c.loop-trace.traces.items c.push.new.self.items trace e own inv.traces;
+      sizes =
+          sizes-next words (words_left c.loop-trace.draws) c.loop-trace.trace (100 + c.draw-pictures.result) c.loop-trace.traces.items c.push.new.self.items trace e inv.left
+          (ap (λ n. 100 + n) c.draw-pictures.ensures.value)
+          (c.in_ok-draw_sizes.ensures.sizes ∙ ap (λ (w : ℕ → ℕ). sizes_of w (100 + c.draw-pictures.result)) c.draw-pictures.ensures.left) inv.sizes;
+      left =
+          left-next words (words_left c.loop-trace.draws) _ _ c.loop-trace.trace (100 + c.draw-pictures.result) inv.left c.draw-pictures.ensures.left
+          (ap (λ n. 100 + n) c.draw-pictures.ensures.value) c.in_ok-draw_sizes.ensures.left;
     }

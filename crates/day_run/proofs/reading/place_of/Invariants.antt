@@ -1,4 +1,4 @@
-use Rattle.std.proofs.Common.{◌≡◌, ◌+◌, length, drop}
+use Rattle.std.proofs.Common.{◌≡◌, ◌+◌, drop}
 use Rattle.day_run.specs.Readings.{name_as, names_of, source_in}
 use Rattle.day_run.proofs.reading.place_of.Given as goal
 

@@ -1,4 +1,4 @@
-use Rattle.std.proofs.Common.{◌≡◌, ◌+◌, ◌≤◌, ◌∷◌, [], length, take, drop, Some, ◌∙◌, arith, sym, ap, inl, inr}
+use Rattle.std.proofs.Common.{◌≡◌, ◌≤◌, [], length, drop, ◌∙◌, arith, sym, ap, inl, inr}
 use Rattle.std.proofs.lemmas.List.{length-drop, take_all}
 use Rattle.day_run.specs.Lines.{lines_of_script}
 use Rattle.day_run.specs.Readings.{lines_read, nothing_read, reading_of}

@@ -1,11 +1,12 @@
-use Rattle.std.proofs.Common.{◌≡◌, ◌≤◌, ◌+◌, ◌^◌, ◌-◌, ◌<◌, ◌∙◌, ap, sym, inl, inr, arith}
+use Rattle.std.proofs.Common.{◌≡◌, ◌≤◌, ◌+◌, ◌^◌, ◌-◌, ◌∙◌, ℕ, map, max, ap, sym, inl, inr, arith}
 use Rattle.std.specs.Prelude.{sum_by}
-use Rattle.std.specs.List.{range_with_len}
+use Rattle.std.specs.List.{fold, range_with_len}
 use Rattle.std.proofs.lemmas.Bool.{cases_lt}
 use Rattle.slot_calendar.specs.Calendars.{booked_at}
 use Rattle.admission.specs.Histories.{state_after}
 use Rattle.admission.specs.Machine.{booked_in}
 use Rattle.slot_calendar.proofs.Capacities.{capacity-most}
+use Rattle.day_run.proofs.Peaks.{peak-next, peak-past}
 use Rattle.day_run.proofs.SlotSums.{booked-fits, booked-more, booked-next, sum-past}
 use Rattle.day_run.proofs.runners.booked_between.Goals as goal
 
@@ -28,6 +29,9 @@ loop-slot-preserved c =
     record {
       few = booked-more c.loop-slot.booked c.booked-here.result c.loop-slot.slot c.args.from begun c.loop-slot.invariant.few small;
       late = omega arith;
+      peak =
+          c.greater-peak.ensures ∙ peak-next (booked_in state) c.args.from c.loop-slot.slot c.loop-slot.peak c.booked-here.result begun c.loop-slot.invariant.peak
+          (c.booked-here.ensures.value ∙ c.calendar-calendar.ensures.stands.each c.loop-slot.slot known);
       sum =
           booked-next (booked_in state) c.args.from c.loop-slot.slot c.loop-slot.booked c.booked-here.result begun c.loop-slot.invariant.sum
           (c.booked-here.ensures.value ∙ c.calendar-calendar.ensures.stands.each c.loop-slot.slot known);
@@ -41,13 +45,21 @@ returns c =
     let from = c.args.from in
     let to = c.args.to in
     let known : calendar.first ≤ from = omega (arith, c.calendar-calendar.ensures.now, c.requires.from_now) in
-    let rest : sum_by f (range_with_len (from + 1) (slot - (from + 1))) ≡ sum_by f (range_with_len (from + 1) (to - from)) = elim (cases_lt (calendar.first + 1048576) to) [
-      | inl short ↦ sum-past f (from + 1) (slot - (from + 1)) (to - from) (omega (arith, short, c.loop-slot.invariant.late))
-          (λ t late.
-          let none : booked_at calendar t ≡ 0 = c.now.ensures.past t (omega (arith, late, short)) in
-          sym (c.calendar-calendar.ensures.stands.each t (omega (arith, late, known))) ∙ none)
+    let le : slot - (from + 1) ≤ to - from = omega (arith, c.loop-slot.invariant.late) in
+    let whole : (sum_by f (range_with_len (from + 1) (slot - (from + 1))) ≡ sum_by f (range_with_len (from + 1) (to - from)))
+    × (fold max 0 (map f (range_with_len (from + 1) (slot - (from + 1)))) ≡ fold max 0 (map f (range_with_len (from + 1) (to - from)))) =
+    elim (cases_lt (calendar.first + 1048576) to) [
+      | inl short ↦
+          let none : (t : ℕ) → from + 1 + (slot - (from + 1)) ≤ t → f t ≡ 0 = λ t late.
+          let empty : booked_at calendar t ≡ 0 = c.now.ensures.past t (omega (arith, late, short)) in
+          sym (c.calendar-calendar.ensures.stands.each t (omega (arith, late, known))) ∙ empty in
+          (sum-past f (from + 1) (slot - (from + 1)) (to - from) le none, peak-past f (from + 1) (slot - (from + 1)) (to - from) le none)
       | inr long ↦
           let e : slot - (from + 1) ≡ to - from = omega (arith, long, c.loop-slot.invariant.late) in
-          ap (λ n. sum_by f (range_with_len (from + 1) n)) e
+          (ap (λ n. sum_by f (range_with_len (from + 1) n)) e, ap (λ n. fold max 0 (map f (range_with_len (from + 1) n))) e)
     ] in
-    c.loop-slot.invariant.sum ∙ rest
+    record {
+      booked = c.loop-slot.invariant.sum ∙ whole.0;
+      peak = c.loop-slot.invariant.peak ∙ whole.1;
+      few = omega (arith, c.loop-slot.invariant.few, le);
+    }

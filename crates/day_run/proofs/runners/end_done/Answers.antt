@@ -1,5 +1,4 @@
-use Rattle.std.proofs.Common.{◌≡◌, ◌<◌, ◌≤◌, ◌+◌, ℕ, List, length, map, get_or, ◌∙◌, arith}
-use Rattle.day_run.specs.Clients.{AreTimed, seat_of}
+use Rattle.std.proofs.Common.{◌<◌, length, ◌∙◌, arith}
 use Rattle.day_run.specs.Days.{done_halt}
 use Rattle.day_run.specs.Seats.{after_play}
 use Rattle.day_run.proofs.Sweeps.{ended-next, ended-seats, undone-next}

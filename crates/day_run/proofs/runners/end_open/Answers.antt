@@ -1,5 +1,5 @@
-use Rattle.std.proofs.Common.{◌≡◌, ◌<◌, ◌≤◌, ◌+◌, ℕ, List, length, map, get_or, ◌∙◌, arith}
-use Rattle.day_run.specs.Clients.{AreTimed, after_open, seat_of}
+use Rattle.std.proofs.Common.{◌<◌, length, ◌∙◌, arith}
+use Rattle.day_run.specs.Clients.{after_open}
 use Rattle.day_run.specs.Days.{open_halt}
 use Rattle.day_run.proofs.Sweeps.{ended-next}
 use Rattle.day_run.proofs.runners.end_open.Goals as goal

@@ -1,9 +1,8 @@
-use Rattle.std.proofs.Common.{◌≡◌, ◌<◌, List, length, sym, subst, arith}
+use Rattle.std.proofs.Common.{◌<◌, List, length, arith}
 use Rattle.admission.specs.declared.entries.Entry.{Entry}
-use Rattle.day_run.specs.declared.clients.Client.{Client}
-use Rattle.day_run.specs.Clients.{AreBooked, IsBooked}
+use Rattle.day_run.specs.Clients.{AreBooked}
 use Rattle.day_run.proofs.Bookings.{booked-same, going-set}
-use Rattle.day_run.proofs.Sweeps.{steps-all, steps-next, steps-none}
+use Rattle.day_run.proofs.Sweeps.{steps-all, steps-next}
 use Rattle.day_run.proofs.runners.step_clients.Goals as goal
 
 pub loop-client-preserved : goal.loop-client-preserved

@@ -1,4 +1,4 @@
-use Rattle.std.proofs.Common.{rules, ◌≡◌, length, arith, Bor, List, [], ℕ}
+use Rattle.std.proofs.Common.{◌≡◌, length, arith, Bor, List, [], ℕ}
 use Rattle.std.proofs.lemmas.List.{length-map}
 use Rattle.day_run.specs.Lines.{shown}
 use Rattle.day_run.proofs.Quiet.{quiet, seven}

@@ -1,7 +1,6 @@
-use Rattle.std.proofs.Common.{◌≡◌, ◌<◌, ◌≤◌, ◌+◌, ◌++◌, ◌∷◌, [], ℕ, length, map, take, ap, ◌∙◌, arith}
+use Rattle.std.proofs.Common.{◌<◌, ◌∷◌, [], length, map, ap, ◌∙◌, arith}
 use Rattle.std.proofs.lemmas.List.{length-append, take_all}
 use Rattle.day_run.specs.Seats.{track_of}
-use Rattle.day_run.specs.Tracks.{reel_track}
 use Rattle.day_run.proofs.SourceTracks.{tracks-next}
 use Rattle.day_run.proofs.sources.reels_of.Goals as goal
 

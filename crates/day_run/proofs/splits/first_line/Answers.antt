@@ -1,6 +1,6 @@
-use Rattle.std.proofs.Common.{◌≡◌, ◌≢◌, ◌==◌, ◌∷◌, [], length, sym, ap, ◌∙◌}
+use Rattle.std.proofs.Common.{◌==◌, ◌∷◌, length, sym, ap, ◌∙◌}
 use Rattle.day_run.specs.Lines.{lines_of_script}
-use Rattle.day_run.proofs.Cuts.{script-cut, script-rest, cut-shorter}
+use Rattle.day_run.proofs.Cuts.{script-cut, script-rest}
 use Rattle.day_run.proofs.splits.first_line.Goals as goal
 
 pub returns-in-Some-clause-some : goal.returns-in-Some-clause-some

@@ -1,4 +1,3 @@
-use Rattle.std.proofs.Common.{◌≡◌}
 use Rattle.day_run.proofs.Cuts.{words-more, words-last}
 use Rattle.day_run.proofs.splits.split_words.Goals as goal
 

@@ -1,4 +1,4 @@
-use Rattle.std.proofs.Common.{◌≡◌, ◌<◌, length, arith}
+use Rattle.std.proofs.Common.{◌<◌, length, arith}
 use Rattle.day_run.proofs.TriedTexts.{tried-step}
 use Rattle.day_run.proofs.texts.push_all_tried.Goals as goal
 

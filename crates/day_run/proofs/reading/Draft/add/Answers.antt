@@ -1,4 +1,4 @@
-use Rattle.std.proofs.Common.{◌≡◌, ◌≤◌, arith, sym, subst, ap, ◌∙◌, List, length}
+use Rattle.std.proofs.Common.{arith, sym, subst, ap, ◌∙◌, List, length}
 use Rattle.day_run.specs.declared.scripts.Line.{Line}
 use Rattle.day_run.specs.Scripts.{AreLines, latest_slot}
 use Rattle.day_run.proofs.ScriptLines.{latest-push, lines-more}

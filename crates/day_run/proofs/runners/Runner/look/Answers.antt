@@ -1,4 +1,4 @@
-use Rattle.std.proofs.Common.{◌≡◌, ◌≤◌, ◌^◌, min, ap, refl, sym, inl, inr, arith}
+use Rattle.std.proofs.Common.{◌^◌, min, ap, refl, inl, inr, arith}
 use Rattle.admission.specs.declared.entries.Command.TheVariants.{Look}
 use Rattle.admission.specs.declared.entries.Entry.{Entry}
 use Rattle.admission.specs.Books.{Journal}

@@ -1,4 +1,4 @@
-use Rattle.std.proofs.Common.{◌≡◌, [], map, ap, ◌∙◌}
+use Rattle.std.proofs.Common.{[], map, ap, ◌∙◌}
 use Rattle.admission.specs.Books.{Journal}
 use Rattle.day_run.specs.Clients.{seat_of}
 use Rattle.day_run.specs.Days.{Moment}

@@ -1,4 +1,4 @@
-use Rattle.std.proofs.Common.{◌≡◌, ◌<◌, false, length, map, ap, sym, ◌∙◌, arith}
+use Rattle.std.proofs.Common.{◌≡◌, ◌<◌, false, length, ap, sym, ◌∙◌, arith}
 use Rattle.day_run.specs.Clients.{rest_of, seat_of}
 use Rattle.day_run.specs.Days.{rest_at, seat_at}
 use Rattle.day_run.specs.Runners.{link_on, moment_of}

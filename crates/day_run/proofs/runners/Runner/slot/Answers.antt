@@ -1,4 +1,4 @@
-use Rattle.std.proofs.Common.{◌≡◌, ◌≤◌, map, arith}
+use Rattle.std.proofs.Common.{map, arith}
 use Rattle.day_run.specs.Clients.{seat_of}
 use Rattle.day_run.proofs.LineSteps.{halts-sent}
 use Rattle.day_run.proofs.Sweeps.{slot-moment}

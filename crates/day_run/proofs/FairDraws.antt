@@ -1,0 +1,48 @@
+-- Traces that are drawn one after the other.
+use Rattle.std.proofs.Common.{◌≡◌, ◌<◌, ◌+◌, ◌%◌, ℕ, List, [], ◌∷◌, ◌++◌, length, map, take, get_or, add-one, arith, refl, sym, ap, ◌∙◌}
+use Rattle.std.specs.Global.{Vec}
+use Rattle.std.proofs.lemmas.List.{map-append, map_more}
+use Rattle.std.proofs.lemmas.List.FromFn.{map-range_with_len_more}
+use Rattle.film_make.specs.Generator.{after}
+use Rattle.film_make.specs.Trace.{sizes_of}
+use Rattle.day_run.specs.declared.reels.Reel.{Reel}
+use Rattle.day_run.specs.FairDays.{after_traces, picture_count, trace_drawn, traces_drawn}
+use Rattle.day_run.specs.Fairs.{sizes_in}
+use Rattle.day_run.specs.Seats.{trace_track}
+use Rattle.day_run.specs.Tracks.{reel_track}
+
+-- one trace more
+pub sizes-next : (words left : ℕ → ℕ) (k pictures : ℕ) (traces more : List (Vec ℕ)) (trace : Vec ℕ) → more ≡ traces ++ trace ∷ [] → left ≡ after_traces k words
+    → pictures ≡ 100 + left 0 % 101 → trace.items ≡ sizes_of (after 1 left) pictures → sizes_in traces ≡ traces_drawn k words
+    → sizes_in more ≡ traces_drawn (k + 1) words
+sizes-next words left k pictures traces more trace m l p t before =
+    let own : trace.items ≡ trace_drawn (after_traces k words) =
+    t ∙ ap (sizes_of (after 1 left)) p ∙ ap (λ (w : ℕ → ℕ). sizes_of (after 1 w) (100 + w 0 % 101)) l in
+    let at : 0 + k ≡ k = omega arith in
+    ap sizes_in m ∙ map-append (λ (v : Vec ℕ). v.items) traces (trace ∷ []) ∙ ap (λ ts. ts ++ trace.items ∷ []) before
+    ∙ ap (λ x. traces_drawn k words ++ x ∷ []) own
+    ∙ sym (map-range_with_len_more (λ i. trace_drawn (after_traces i words)) 0 k k at)
+
+after-more : (words : ℕ → ℕ) (k : ℕ) → after_traces (k + 1) words ≡ after (picture_count (after_traces k words)) (after 1 (after_traces k words))
+unfolding after_traces
+after-more words k = ap (λ n. after_traces n words) (add-one k)
+
+pub left-next : (words left mid next : ℕ → ℕ) (k pictures : ℕ) → left ≡ after_traces k words → mid ≡ after 1 left → pictures ≡ 100 + left 0 % 101 → next ≡ after pictures mid
+    → next ≡ after_traces (k + 1) words
+left-next words left mid next k pictures l m p n =
+    n ∙ ap (after pictures) m ∙ ap (λ c. after c (after 1 left)) p ∙ ap (λ (w : ℕ → ℕ). after (100 + w 0 % 101) (after 1 w)) l ∙ sym (after-more words k)
+
+pub left-none : (words : ℕ → ℕ) → words ≡ after_traces 0 words
+unfolding after_traces
+left-none words = refl
+
+-- one reel more
+pub reels-next : (reels more : List Reel) (reel : Reel) (traces : List (Vec ℕ)) (i : ℕ) (none : Vec ℕ) → i < length traces → more ≡ reels ++ reel ∷ []
+    → reel_track 14400 reel ≡ trace_track 14400 (get_or traces i none).items
+    → map (reel_track 14400) reels ≡ map (trace_track 14400) (sizes_in (take i traces))
+    → map (reel_track 14400) more ≡ map (trace_track 14400) (sizes_in (take (i + 1) traces))
+reels-next reels more reel traces i none inside m own before =
+    ap (map (reel_track 14400)) m ∙ map-append (reel_track 14400) reels (reel ∷ []) ∙ ap (λ ts. ts ++ reel_track 14400 reel ∷ []) before
+    ∙ ap (λ t. map (trace_track 14400) (sizes_in (take i traces)) ++ t ∷ []) own
+    ∙ sym (map-append (trace_track 14400) (sizes_in (take i traces)) ((get_or traces i none).items ∷ []))
+    ∙ ap (map (trace_track 14400)) (sym (map_more (λ (v : Vec ℕ). v.items) traces i none inside))

@@ -1,0 +1,198 @@
+-- What holds of every large day.
+use Rattle.std.proofs.Common.{◌≡◌, ◌≤◌, ◌+◌, ◌-◌, ◌*◌, ◌%◌, ◌==◌, ℕ, max, Bool, true, false, cond, List, [], ◌∷◌, ◌++◌, length, map, take, arith, refl, sym, ap, subst, ◌∙◌, inl, inr}
+use Rattle.std.specs.Prelude.{sum_by}
+use Rattle.std.specs.List.{fold, range_with_len}
+use Rattle.std.proofs.lemmas.List.{append-nil, append_assoc, take_at}
+use Rattle.std.proofs.lemmas.List.Sums.{sum_by-cons}
+use Rattle.film_make.specs.Generator.{after, words_of}
+use Rattle.slot_calendar.specs.declared.profiles.CapStep.{CapStep}
+use Rattle.slot_calendar.specs.Profiles.{capacity_at}
+use Rattle.admission.specs.declared.entries.Entry.{Entry}
+use Rattle.admission.specs.Histories.{IsLegal, booked_after, state_after}
+use Rattle.admission.specs.Machine.{booked_in}
+use Rattle.admission.proofs.Runs.{legal-take}
+use Rattle.admission.proofs.Within.{sound-after}
+use Rattle.day_run.specs.Balanced.{IsReady}
+use Rattle.day_run.specs.Days.{IsAsked, IsPauseLine, IsPlayLine, IsResumeLine, Link, Moment, at_slot, halts_at, last_halts, last_journal, morning, rest_at, seat_at}
+use Rattle.day_run.specs.DayLaws.{IsFairLine}
+use Rattle.day_run.specs.FairDays.{AreTurns, IsDone, IsTurn, Turn, after_traces, after_turn, at_later, client_of, counts_of, IsFair, fair_link, most_up_to, turn_booked, turn_peak, turn_sent}
+use Rattle.day_run.specs.Seats.{Rest, Seat, Idle, Playing, Pausing, Paused}
+use Rattle.day_run.proofs.BalancedLines.{morning-ready, pause-heard, play-heard, ready-sent, resume-heard, slot-ready}
+use Rattle.day_run.proofs.FairTurns.{done-ready}
+
+-- ---- what is sent is what is booked
+later-ready : (old : Moment) (later : ℕ) → IsReady old → IsReady (at_later old later)
+later-ready old later ready = ready-if (later == 0)
+  where
+    ready-if : (b : Bool) → IsReady (cond b old (at_slot old (old.heard + later)))
+    ready-if true = ready
+    ready-if false = slot-ready old (at_slot old (old.heard + later)) (old.heard + later) (omega arith) refl ready
+
+later-heard : (old : Moment) (later : ℕ) → old.heard ≤ (at_later old later).heard
+later-heard old later = heard-if (later == 0)
+  where
+    heard-if : (b : Bool) → old.heard ≤ (cond b old (at_slot old (old.heard + later))).heard
+    heard-if true = omega arith
+    heard-if false = omega arith
+
+turn-ready : (link : Link) (words : ℕ → ℕ) (turn : Turn) → IsTurn link words turn → IsReady turn.old → IsReady turn.new
+turn-ready link words turn is ready =
+    let R : Moment → Type 0 = λ m. IsReady m in
+    let mid : IsReady turn.mid = subst R (sym is.slot) (later-ready turn.old (words 0 % 4) ready) in
+    done-ready link (after 2 words) (client_of words) _ turn.mid turn.new turn.text (omega arith) refl is.done mid
+
+turn-balanced : (link : Link) (words : ℕ → ℕ) (turn : Turn) → IsTurn link words turn → IsReady turn.old → turn_sent turn ≡ turn_booked turn
+turn-balanced link words turn is ready =
+    let M : Moment → Type 0 = λ m. turn.old.heard ≤ m.heard in
+    ready-sent turn.old turn.mid.heard (subst M (sym is.slot) (later-heard turn.old (words 0 % 4))) ready
+
+pub turns-balanced : (link : Link) (words : ℕ → ℕ) (turns : List Turn) (old new : Moment) → AreTurns link words turns old new → IsReady old
+    → sum_by turn_sent turns ≡ sum_by turn_booked turns
+turns-balanced link words [] old new run ready = refl
+turns-balanced link words (turn ∷ turns) old new run ready =
+    let R : Moment → Type 0 = λ m. IsReady m in
+    let begun : IsReady turn.old = subst R (sym run.0) ready in
+    omega (
+      arith,
+      turn-balanced link words turn run.1.0 begun,
+      turns-balanced link (after_turn words turn) turns turn.new new run.1.1 (turn-ready link words turn run.1.0 begun),
+      sum_by-cons turn_sent turn turns,
+      sum_by-cons turn_booked turn turns,
+    )
+
+-- ---- a journal only grows
+pub record HasGrown (old new : List Entry) : Type 0 where
+  pub made : List Entry
+  pub new_is : new ≡ old ++ made
+
+kept-grown : (old new : Moment) → new ≡ old → HasGrown old.entries new.entries
+kept-grown old new kept = record { made = []; new_is = ap (λ (m : Moment). m.entries) kept ∙ sym (append-nil old.entries) }
+
+grown-on : (a b c : List Entry) → HasGrown a b → HasGrown b c → HasGrown a c
+grown-on a b c one two =
+    record { made = one.made ++ two.made; new_is = two.new_is ∙ ap (λ l. l ++ two.made) one.new_is ∙ append_assoc a one.made two.made }
+
+asked-grown : (link : Link) (c : ℕ) (rest : Rest) (old new : Moment) (text : List ℕ) → IsAsked link c rest old new text → HasGrown old.entries new.entries
+asked-grown link c rest old new text (inl faulty) = kept-grown old new faulty.told.kept
+asked-grown link c rest old new text (inr planned) = elim planned.done [
+  | inl full ↦ kept-grown old new full.told.kept
+  | inr made ↦ record { made = _; new_is = ap (λ (m : Moment). m.entries) made.noted.new_is }
+]
+
+play-grown : (link : Link) (c : ℕ) (rest : Rest) (seat : Seat) (old new : Moment) (text : List ℕ) → IsPlayLine link c rest seat old new text → HasGrown old.entries new.entries
+play-grown link c rest Idle old new text is = asked-grown link c rest old new text is
+play-grown link c rest (Playing play) old new text is = kept-grown old new is.kept
+play-grown link c rest (Pausing stop left) old new text is = kept-grown old new is.kept
+play-grown link c rest (Paused left) old new text is = asked-grown link c rest old new text is
+
+resume-grown : (link : Link) (c : ℕ) (seat : Seat) (old new : Moment) (text : List ℕ) → IsResumeLine link c seat old new text → HasGrown old.entries new.entries
+resume-grown link c Idle old new text is = kept-grown old new is.kept
+resume-grown link c (Playing play) old new text is = kept-grown old new is.kept
+resume-grown link c (Pausing stop rest) old new text is = kept-grown old new is.kept
+resume-grown link c (Paused rest) old new text is = asked-grown link c rest old new text is
+
+pause-grown : (link : Link) (c : ℕ) (seat : Seat) (old new : Moment) (text : List ℕ) → IsPauseLine link c seat old new text → HasGrown old.entries new.entries
+pause-grown link c Idle old new text is = kept-grown old new is.kept
+pause-grown link c (Playing play) old new text is = record { made = _; new_is = ap (λ (m : Moment). m.entries) is.noted.new_is }
+pause-grown link c (Pausing stop rest) old new text is = kept-grown old new is.kept
+pause-grown link c (Paused rest) old new text is = kept-grown old new is.kept
+
+done-grown : (link : Link) (words : ℕ → ℕ) (c : ℕ) (seat : Seat) (old new : Moment) (text : List ℕ) → IsDone link words c seat old new text → HasGrown old.entries new.entries
+done-grown link words c Idle old new text is =
+    play-grown link c (rest_at link (words 0 % 16) (16384 + words 1 % 16384) (words 2 % 26)) (seat_at old c) old new text is
+done-grown link words c (Playing play) old new text is = pause-grown link c (seat_at old c) old new text is
+done-grown link words c (Pausing stop rest) old new text is = kept-grown old new is.kept
+done-grown link words c (Paused rest) old new text is = resume-grown link c (seat_at old c) old new text is
+
+later-grown : (old : Moment) (later : ℕ) → HasGrown old.entries (at_later old later).entries
+later-grown old later = grown-if (later == 0)
+  where
+    grown-if : (b : Bool) → HasGrown old.entries (cond b old (at_slot old (old.heard + later))).entries
+    grown-if true = kept-grown old old refl
+    grown-if false = record { made = halts_at old (old.heard + later); new_is = refl }
+
+turn-grown : (link : Link) (words : ℕ → ℕ) (turn : Turn) → IsTurn link words turn → HasGrown turn.old.entries turn.new.entries
+turn-grown link words turn is =
+    let G : Moment → Type 0 = λ m. HasGrown turn.old.entries m.entries in
+    grown-on turn.old.entries turn.mid.entries turn.new.entries (subst G (sym is.slot) (later-grown turn.old (words 0 % 4)))
+    (done-grown link (after 2 words) (client_of words) _ turn.mid turn.new turn.text is.done)
+
+turns-grown : (link : Link) (words : ℕ → ℕ) (turns : List Turn) (old new : Moment) → AreTurns link words turns old new → HasGrown old.entries new.entries
+turns-grown link words [] old new run = kept-grown old new run
+turns-grown link words (turn ∷ turns) old new run =
+    let G : Moment → Type 0 = λ m. HasGrown m.entries new.entries in
+    subst G run.0 (grown-on turn.old.entries turn.new.entries new.entries (turn-grown link words turn run.1.0)
+    (turns-grown link (after_turn words turn) turns turn.new new run.1.1))
+
+-- ---- no slot has more than the capacity
+most-of : (f : ℕ → ℕ) (most top : ℕ) (ts : List ℕ) → top ≤ most → ((t : ℕ) → f t ≤ most) → fold max top (map f ts) ≤ most
+most-of f most top [] small each = small
+most-of f most top (t ∷ ts) small each = most-of f most (max top (f t)) ts (omega (arith, small, each t)) each
+
+moment-within : (steps : List CapStep) (journal : List Entry) (m : Moment) (most slot : ℕ) → IsLegal steps journal → HasGrown m.entries journal
+    → ((t : ℕ) → capacity_at steps t ≤ most) → most_up_to m slot ≤ most
+moment-within steps journal m most slot legal grown capacity =
+    most-of (booked_in (state_after m.entries)) most 0 (range_with_len (m.heard + 1) (slot - m.heard)) (omega arith)
+    (λ t.
+    let front : take (length m.entries) journal ≡ m.entries = ap (take (length m.entries)) grown.new_is ∙ take_at m.entries grown.made (length m.entries) refl in
+    let E : List Entry → Type 0 = λ es. booked_after es t ≤ capacity_at steps t in
+    omega (arith, subst E front ((sound-after steps (take (length m.entries) journal) (legal-take steps journal (length m.entries) legal)).within.each t), capacity t))
+
+pub turns-within : (link : Link) (words : ℕ → ℕ) (turns : List Turn) (old new : Moment) (steps : List CapStep) (journal : List Entry) (most top : ℕ)
+    → AreTurns link words turns old new → IsLegal steps journal → HasGrown new.entries journal → ((t : ℕ) → capacity_at steps t ≤ most) → top ≤ most
+    → fold max top (map turn_peak turns) ≤ most
+turns-within link words [] old new steps journal most top run legal grown capacity small = small
+turns-within link words (turn ∷ turns) old new steps journal most top run legal grown capacity small =
+    let later = turns-grown link (after_turn words turn) turns turn.new new run.1.1 in
+    let from-old = grown-on turn.old.entries turn.new.entries journal (turn-grown link words turn run.1.0) (grown-on turn.new.entries new.entries journal later grown) in
+    let here : turn_peak turn ≤ most = moment-within steps journal turn.old most turn.mid.heard legal from-old capacity in
+    turns-within link (after_turn words turn) turns turn.new new steps journal most (max top (turn_peak turn)) run.1.1 legal grown capacity (omega (arith, small, here))
+
+pub evening-grown : (evening : Moment) (journal : List Entry) → journal ≡ last_journal evening → HasGrown evening.entries journal
+evening-grown evening journal is = record { made = last_halts evening; new_is = is }
+
+-- ---- a turn brings at most three slots
+done-heard : (link : Link) (words : ℕ → ℕ) (c : ℕ) (seat : Seat) (old new : Moment) (text : List ℕ) → IsDone link words c seat old new text → new.heard ≡ old.heard
+done-heard link words c Idle old new text is =
+    play-heard link c (rest_at link (words 0 % 16) (16384 + words 1 % 16384) (words 2 % 26)) (seat_at old c) old new text is
+done-heard link words c (Playing play) old new text is = pause-heard link c (seat_at old c) old new text is
+done-heard link words c (Pausing stop rest) old new text is = ap (λ (m : Moment). m.heard) is.kept
+done-heard link words c (Paused rest) old new text is = resume-heard link c (seat_at old c) old new text is
+
+later-most : (old : Moment) (later : ℕ) → (at_later old later).heard ≤ old.heard + later
+later-most old later = most-if (later == 0)
+  where
+    most-if : (b : Bool) → (cond b old (at_slot old (old.heard + later))).heard ≤ old.heard + later
+    most-if true = omega arith
+    most-if false = omega arith
+
+turns-heard : (link : Link) (words : ℕ → ℕ) (turns : List Turn) (old new : Moment) → AreTurns link words turns old new → new.heard ≤ old.heard + 3 * length turns
+turns-heard link words [] old new run = omega (arith, ap (λ (m : Moment). m.heard) run)
+turns-heard link words (turn ∷ turns) old new run =
+    let is = run.1.0 in
+    let M : Moment → Type 0 = λ m. m.heard ≤ turn.old.heard + words 0 % 4 in
+    omega (
+      arith,
+      ap (λ (m : Moment). m.heard) run.0,
+      subst M (sym is.slot) (later-most turn.old (words 0 % 4)),
+      done-heard link (after 2 words) (client_of words) _ turn.mid turn.new turn.text is.done,
+      turns-heard link (after_turn words turn) turns turn.new new run.1.1,
+    )
+
+-- ---- the line of a large day
+pub fair-line : (steps : List CapStep) (number plays : ℕ) (text : List ℕ) (journal : List Entry) → IsFair steps number plays text journal → IsLegal steps journal
+    → IsFairLine steps plays text journal
+fair-line steps number plays text journal fair legal =
+    let link = fair_link steps (words_of number) in
+    let words = after_traces 16 (words_of number) in
+    let turns = fair.turns in
+    let none : morning.heard ≡ 0 = refl in
+    record {
+      counts = counts_of turns fair.evening;
+      text_is = fair.text_is;
+      turns_are = fair.count;
+      last = omega (arith, turns-heard link words turns morning fair.evening fair.run, fair.count, none);
+      balanced = turns-balanced link words turns morning fair.evening fair.run morning-ready;
+      within = λ most capacity.
+          turns-within link words turns morning fair.evening steps journal most 0 fair.run legal (evening-grown fair.evening journal fair.journal_is) capacity (omega arith);
+    }

@@ -1,0 +1,197 @@
+-- Turns of a large day, one after the other.
+use Rattle.std.proofs.Common.{◌≡◌, ◌<◌, ◌+◌, ◌-◌, ◌%◌, ◌==◌, ℕ, max, Bool, false, cond, List, [], ◌∷◌, ◌++◌, length, map, get_or, arith, Result, Ok, Err, IfOk, refl, sym, ap, subst, ◌∙◌, inl, inr}
+use Rattle.std.specs.Prelude.{OnOk, count_by, sum_by}
+use Rattle.std.specs.List.{fold, range_with_len}
+use Rattle.std.proofs.lemmas.Bool.{cases_Bool, cond-false, eqb-true}
+use Rattle.std.proofs.lemmas.List.{length-append, map-append}
+use Rattle.std.proofs.lemmas.List.Sums.{sum_by_push}
+use Rattle.film_make.proofs.GeneratorLemmas.{after-after, after-at, after-zero}
+use Rattle.film_make.specs.Generator.{after, words_of}
+use Rattle.slot_calendar.specs.declared.profiles.CapStep.{CapStep}
+use Rattle.admission.specs.declared.entries.Entry.{Entry}
+use Rattle.admission.specs.Histories.{state_after}
+use Rattle.admission.specs.Machine.{booked_in}
+use Rattle.day_run.specs.declared.counts.Counts.{Counts}
+use Rattle.day_run.specs.declared.counts.Made.{Made}
+use Rattle.day_run.specs.declared.clients.Client.{Client}
+use Rattle.day_run.specs.Clients.{seat_of}
+use Rattle.day_run.specs.Balanced.{IsReady}
+use Rattle.day_run.specs.Days.{Link, Moment, at_slot, booked_up_to, last_journal, IsPlayLine, morning, rest_at, seat_at, sent_up_to}
+use Rattle.day_run.specs.FairDays.{AreTurns, IsDone, IsTurn, Turn, after_traces, after_turn, at_later, counts_of, fair_link, IsFair, is_full_line, is_refused, made_of, most_up_to, turn_booked, turn_peak, turn_sent, words_for}
+use Rattle.day_run.specs.Fairs.{HasCome, HasTurned, after_turns, with_slot, with_turn}
+use Rattle.day_run.specs.Prints.{fair_text}
+use Rattle.day_run.specs.declared.runners.Told.{Told}
+use Rattle.day_run.specs.Runners.{told_text}
+use Rattle.vod_base.specs.declared.outside.NoMemory.{NoMemory}
+use Rattle.day_run.specs.Seats.{Rest, Seat, Idle, Playing, Pausing, Paused}
+use Rattle.day_run.proofs.Balances.{sum-none}
+use Rattle.day_run.proofs.BalancedLines.{morning-ready, pause-ready, play-ready, ready-kept, resume-ready}
+use Rattle.day_run.proofs.Sweeps.{seat-at}
+use Rattle.day_run.proofs.Peaks.{peak-push}
+
+-- ---- what a client does keeps the balance
+pub done-ready : (link : Link) (words : ℕ → ℕ) (c : ℕ) (seat : Seat) (old new : Moment) (text : List ℕ) → c < 256 → get_or old.seats c Idle ≡ seat
+    → IsDone link words c seat old new text → IsReady old → IsReady new
+done-ready link words c Idle old new text client at is ready =
+    play-ready link c (rest_at link (words 0 % 16) (16384 + words 1 % 16384) (words 2 % 26)) (seat_at old c) old new text client refl is ready
+done-ready link words c (Playing play) old new text client at is ready = pause-ready link c (seat_at old c) old new text client refl is ready
+done-ready link words c (Pausing stop rest) old new text client at is ready = ready-kept old new is.kept ready
+done-ready link words c (Paused rest) old new text client at is ready = resume-ready link c (seat_at old c) old new text client refl is ready
+
+-- ---- a slot, or none
+pub later-none : (old new : Moment) (later : ℕ) → later ≡ 0 → new ≡ old → new ≡ at_later old later
+later-none old new later none kept =
+    let P : ℕ → Type 0 = λ n. new ≡ at_later old n in
+    subst P (sym none) kept
+
+pub later-some : (old new : Moment) (later : ℕ) → 0 < later → new ≡ at_slot old (old.heard + later) → new ≡ at_later old later
+later-some old new later some is =
+    let other : (later == 0) ≡ false = elim (cases_Bool (later == 0)) [
+      | inl same ↦ absurd (omega (arith, eqb-true later 0 same, some))
+      | inr other ↦ other
+    ] in
+    is ∙ sym (cond-false (later == 0) old (at_slot old (old.heard + later)) other)
+
+plain-counts : (c : Counts) (last s b p : ℕ) → c.last ≡ last → s ≡ 0 → b ≡ 0 → p ≡ 0
+    → c ≡ record { turns = c.turns; full = c.full; last = last; sent = c.sent + s; booked = c.booked + b; peak = max c.peak p }
+plain-counts c last s b p l none-sent none-booked none-peak =
+    let sent : c.sent ≡ c.sent + s = omega (arith, none-sent) in
+    let booked : c.booked ≡ c.booked + b = omega (arith, none-booked) in
+    let peak : c.peak ≡ max c.peak p = omega (arith, none-peak) in
+    ap (λ n. record { turns = c.turns; full = c.full; last = n; sent = c.sent; booked = c.booked; peak = c.peak }) l
+    ∙ ap (λ n. record { turns = c.turns; full = c.full; last = last; sent = n; booked = c.booked; peak = c.peak }) sent
+    ∙ ap (λ n. record { turns = c.turns; full = c.full; last = last; sent = c.sent + s; booked = n; peak = c.peak }) booked
+    ∙ ap (λ n. record { turns = c.turns; full = c.full; last = last; sent = c.sent + s; booked = c.booked + b; peak = n }) peak
+
+pub same-counts : (counts : Counts) (moment : Moment) → counts.last ≡ moment.heard → counts ≡ with_slot counts moment moment.heard
+same-counts counts moment last =
+    let f = booked_in (state_after moment.entries) in
+    let none : moment.heard - moment.heard ≡ 0 = omega arith in
+    plain-counts counts moment.heard (sent_up_to moment moment.heard) (booked_up_to moment moment.heard) (most_up_to moment moment.heard) last
+    (sum-none moment.heard moment.seats) (ap (λ n. sum_by f (range_with_len (moment.heard + 1) n)) none)
+    (ap (λ n. fold max 0 (map f (range_with_len (moment.heard + 1) n))) none)
+
+-- ---- one turn
+pub turn-of : (link here : Link) (w w1 w2 w3 : ℕ → ℕ) (later client : ℕ) (turn : Turn) (c c1 c2 : Counts) (full : Bool) → here ≡ link → w1 ≡ after 1 w
+    → w2 ≡ after 1 w1 → later ≡ w 0 % 4 → client ≡ w1 0 % 256 → turn.mid ≡ at_later turn.old later
+    → IsDone here w2 client (seat_at turn.mid client) turn.mid turn.new turn.text → w3 ≡ after (words_for (seat_at turn.mid client)) w2
+    → c1 ≡ with_slot c turn.old turn.mid.heard → is_full_line turn.text ≡ full
+    → c2 ≡ record { turns = c1.turns + 1; full = c1.full + cond full 1 0; last = c1.last; sent = c1.sent; booked = c1.booked; peak = c1.peak }
+    → HasTurned link w w3 c c2 turn.old turn.new
+turn-of link here w w1 w2 w3 later client turn c c1 c2 full same one two l who slot done left n told m =
+    let who-is : client ≡ w 1 % 256 = who ∙ ap (λ (f : ℕ → ℕ). f 0 % 256) one ∙ ap (λ k. k % 256) (after-at 1 w 0) in
+    let second : w2 ≡ after 2 w = two ∙ ap (after 1) one ∙ after-after 1 1 w in
+    let D : ℕ → Type 0 = λ k. IsDone here w2 k (seat_at turn.mid k) turn.mid turn.new turn.text in
+    let W : (ℕ → ℕ) → Type 0 = λ f. IsDone here f (w 1 % 256) (seat_at turn.mid (w 1 % 256)) turn.mid turn.new turn.text in
+    let L : Link → Type 0 = λ x. IsDone x (after 2 w) (w 1 % 256) (seat_at turn.mid (w 1 % 256)) turn.mid turn.new turn.text in
+    record {
+      turn = turn;
+      old_is = refl;
+      new_is = refl;
+      turn_is = record { slot = slot ∙ ap (at_later turn.old) l; done = subst L same (subst W second (subst D who-is done)) };
+      left_is =
+          left ∙ ap (λ k. after (words_for (seat_at turn.mid k)) w2) who-is ∙ ap (after (words_for (seat_at turn.mid (w 1 % 256)))) second
+          ∙ after-after (words_for (seat_at turn.mid (w 1 % 256))) 2 w;
+      counts_are =
+          m ∙ ap (λ (x : Counts). record { turns = x.turns + 1; full = x.full + cond full 1 0; last = x.last; sent = x.sent; booked = x.booked; peak = x.peak }) n
+          ∙ ap (λ b. record (with_turn c turn) { full = c.full + cond b 1 0 }) (sym told);
+    }
+
+-- ---- turns
+turns-more : (link : Link) (words : ℕ → ℕ) (turns : List Turn) (turn : Turn) (old mid : Moment) → AreTurns link words turns old mid → turn.old ≡ mid
+    → IsTurn link (after_turns words turns) turn → AreTurns link words (turns ++ turn ∷ []) old turn.new
+turns-more link words [] turn old mid run at is = (at ∙ run, (is, refl))
+turns-more link words (t ∷ turns) turn old mid run at is =
+    (run.0, (run.1.0, turns-more link (after_turn words t) turns turn t.new mid run.1.1 at is))
+
+after-more : (words : ℕ → ℕ) (turns : List Turn) (turn : Turn) → after_turns words (turns ++ turn ∷ []) ≡ after_turn (after_turns words turns) turn
+after-more words [] turn = refl
+after-more words (t ∷ turns) turn = after-more (after_turn words t) turns turn
+
+counts-more : (turns : List Turn) (turn : Turn) (old new : Moment) → turn.mid.heard ≡ new.heard → with_turn (counts_of turns old) turn ≡ counts_of (turns ++ turn ∷ []) new
+counts-more turns turn old new heard =
+    let all = turns ++ turn ∷ [] in
+    let n : length turns + 1 ≡ length all = sym (length-append turns (turn ∷ [])) in
+    let full = sym (sum_by_push (λ t. cond (is_refused t) 1 0) turns turn) in
+    let peak = sym (ap (fold max 0) (map-append turn_peak turns (turn ∷ [])) ∙ peak-push (map turn_peak turns) (turn_peak turn)) in
+    let c = with_turn (counts_of turns old) turn in
+    ap (λ k. record { turns = k; full = c.full; last = c.last; sent = c.sent; booked = c.booked; peak = c.peak }) n
+    ∙ ap (λ k. record { turns = length all; full = k; last = c.last; sent = c.sent; booked = c.booked; peak = c.peak }) full
+    ∙ ap (λ k. record { turns = length all; full = count_by is_refused all; last = k; sent = c.sent; booked = c.booked; peak = c.peak }) heard
+    ∙ ap (λ k. record { turns = length all; full = count_by is_refused all; last = new.heard; sent = k; booked = c.booked; peak = c.peak }) (sym (sum_by_push turn_sent turns turn))
+    ∙ ap (λ k. record { turns = length all; full = count_by is_refused all; last = new.heard; sent = sum_by turn_sent all; booked = k; peak = c.peak }) (sym (sum_by_push turn_booked turns turn))
+    ∙ ap (λ k. record { turns = length all; full = count_by is_refused all; last = new.heard; sent = sum_by turn_sent all; booked = sum_by turn_booked all; peak = k }) peak
+
+pub come-none : (link : Link) (words : ℕ → ℕ) (counts : Counts) (moment : Moment) → moment ≡ morning
+    → counts ≡ record { turns = 0; full = 0; last = 0; sent = 0; booked = 0; peak = 0 } → HasCome link words words 0 counts moment
+come-none link words counts moment is c =
+    record { turns = []; count = refl; run = is; left_is = refl; counts_are = c ∙ ap (counts_of []) (sym is) }
+
+pub come-next : (link here : Link) (words left next : ℕ → ℕ) (n : ℕ) (counts more : Counts) (old new : Moment) → here ≡ link → HasCome link words left n counts old
+    → HasTurned here left next counts more old new → more.last ≡ new.heard → HasCome link words next (n + 1) more new
+come-next link here words left next n counts more old new same come turned last =
+    let turn = turned.turn in
+    let all = come.turns ++ turn ∷ [] in
+    let heard : turn.mid.heard ≡ new.heard = sym (ap (λ (c : Counts). c.last) turned.counts_are) ∙ last in
+    let L : Link → Type 0 = λ x. IsTurn x left turn in
+    let W : (ℕ → ℕ) → Type 0 = λ w. IsTurn link w turn in
+    let M : Moment → Type 0 = λ m. AreTurns link words all morning m in
+    let is : IsTurn link (after_turns words come.turns) turn = subst W come.left_is (subst L same turned.turn_is) in
+    record {
+      turns = all;
+      count = length-append come.turns (turn ∷ []) ∙ ap (λ k. k + 1) come.count;
+      run = subst M turned.new_is (turns-more link words come.turns turn morning old come.run turned.old_is is);
+      left_is = turned.left_is ∙ ap (λ (w : ℕ → ℕ). after_turn w turn) come.left_is ∙ sym (after-more words come.turns turn);
+      counts_are = turned.counts_are ∙ ap (λ (c : Counts). with_turn c turn) come.counts_are ∙ counts-more come.turns turn old new heard;
+    }
+
+-- a day of turns
+pub fair-of : (here : Link) (steps : List CapStep) (number plays : ℕ) (words left : ℕ → ℕ) (counts : Counts) (made : Made) (evening : Moment) (text : List ℕ)
+    (journal : List Entry) → here ≡ fair_link steps (words_of number) → words ≡ after_traces 16 (words_of number) → HasCome here words left plays counts evening
+    → journal ≡ last_journal evening → made ≡ made_of journal → text ≡ fair_text counts made → IsFair steps number plays text journal
+fair-of here steps number plays words left counts made evening text journal same w come j m t =
+    let L : Link → Type 0 = λ x. AreTurns x words come.turns morning evening in
+    let W : (ℕ → ℕ) → Type 0 = λ x. AreTurns (fair_link steps (words_of number)) x come.turns morning evening in
+    record {
+      turns = come.turns;
+      evening = evening;
+      count = come.count;
+      run = subst W w (subst L same come.run);
+      journal_is = j;
+      text_is = t ∙ ap (λ c. fair_text c made) come.counts_are ∙ ap (fair_text (counts_of come.turns evening)) m;
+    }
+
+-- ---- words that are drawn one after the other
+pub second-word : (w w1 : ℕ → ℕ) → w1 ≡ after 1 w → w1 0 ≡ w 1
+second-word w w1 one = ap (λ (f : ℕ → ℕ). f 0) one ∙ after-at 1 w 0
+
+pub third-word : (w w1 w2 : ℕ → ℕ) → w1 ≡ after 1 w → w2 ≡ after 1 w1 → w2 0 ≡ w 2
+third-word w w1 w2 one two = ap (λ (f : ℕ → ℕ). f 0) (two ∙ ap (after 1) one ∙ after-after 1 1 w) ∙ after-at 2 w 0
+
+pub three-left : (w w1 w2 w3 : ℕ → ℕ) → w1 ≡ after 1 w → w2 ≡ after 1 w1 → w3 ≡ after 1 w2 → w3 ≡ after 3 w
+three-left w w1 w2 w3 one two three = three ∙ ap (after 1) (two ∙ ap (after 1) one ∙ after-after 1 1 w) ∙ after-after 1 2 w
+
+pub ok-of : {A E : Type 0} (r : Result A E) (X : Type 0) → X → OnOk r X
+ok-of (Ok a) X x = x
+ok-of (Err e) X x = tt
+
+pub line-drawn : (r : Result Told NoMemory) (link : Link) (client : ℕ) (seat : Seat) (old new : Moment) (entries : List Entry) (s b d source buffer delay : ℕ)
+    → s ≡ source → b ≡ buffer → d ≡ delay
+    → IfOk r (λ told. IsPlayLine link client (rest_at link s b d) seat old new (told_text entries told))
+    → IfOk r (λ told. IsPlayLine link client (rest_at link source buffer delay) seat old new (told_text entries told))
+line-drawn r link client seat old new entries s b d source buffer delay es eb ed is =
+    let P : Rest → Type 0 = λ rest. IfOk r (λ told. IsPlayLine link client rest seat old new (told_text entries told)) in
+    let e : rest_at link s b d ≡ rest_at link source buffer delay =
+    ap (λ k. rest_at link k b d) es ∙ ap (λ k. rest_at link source k d) eb ∙ ap (rest_at link source buffer) ed in
+    subst P e is
+
+-- no words are drawn
+pub none-left : (w : ℕ → ℕ) (n : ℕ) → n ≡ 0 → w ≡ after n w
+none-left w n none = sym (ap (λ k. after k w) none ∙ after-zero w)
+
+pub no-words : (clients : List Client) (c : ℕ) (client : Client) → c < length clients → client ≡ get_or clients c client → words_for (seat_of client) ≡ 0
+    → words_for (get_or (map seat_of clients) c Idle) ≡ 0
+no-words clients c client inside at none = ap words_for (seat-at clients c client inside ∙ sym (ap seat_of at)) ∙ none
+
+pub ready-morning : (m : Moment) → m ≡ morning → IsReady m
+ready-morning m is = ready-kept morning m is morning-ready

@@ -1,0 +1,49 @@
+-- Which of the texts that clients are told say that the journal is full.
+use Rattle.std.proofs.Common.{◌≡◌, ◌<◌, ◌+◌, ◌^◌, ℕ, true, false, ◌&&◌, ◌==◌, List, [], ◌∷◌, ◌++◌, take, length, arith, refl, ap, inl, inr}
+use Rattle.std.specs.Prelude.{codes, decimal}
+use Rattle.std.specs.Str.{bytes_eq}
+use Rattle.std.proofs.lemmas.Bool.{cases_Bool, eqb-true}
+use Rattle.std.proofs.lemmas.Fmt.{decimal_is_IsNumeral}
+use Rattle.std.proofs.lemmas.Str.Parse.{digit_from_value}
+use Rattle.std.specs.Str.Parse.{AllDigits}
+use Rattle.admission.specs.declared.entries.Entry.{Entry}
+use Rattle.admission.specs.declared.entries.Full.{Full}
+use Rattle.wire_curve.specs.declared.film.CurveFault.{CurveFault}
+use Rattle.wire_curve.specs.declared.film.CurveFault.TheVariants.{NoPictures, TooManySlots, BufferTooSmall}
+use Rattle.report.specs.EntryLines.{answer_words, command_words, entry_line}
+use Rattle.report.specs.Fields.{field}
+use Rattle.day_run.specs.Days.{entry_lines}
+use Rattle.day_run.specs.FairDays.{is_full_line}
+use Rattle.day_run.specs.Prints.{fault_text, full_text, state_text}
+
+digit-other : (c : ℕ) → c < 58 → (c == 114) ≡ false
+digit-other c digit = elim (cases_Bool (c == 114)) [
+  | inl same ↦ absurd (omega (arith, eqb-true c 114 same, digit))
+  | inr other ↦ other
+]
+
+digits-other : (ds a b c d e : List ℕ) → 0 < length ds → AllDigits 10 ds → is_full_line (((((ds ++ a) ++ b) ++ c) ++ d) ++ e) ≡ false
+digits-other [] a b c d e some digits = absurd (omega (arith, some))
+digits-other (x ∷ ds) a b c d e some digits =
+    let digit = digit_from_value x digits.0 in
+    ap (λ r. r && bytes_eq (take 14 (((((ds ++ a) ++ b) ++ c) ++ d) ++ e)) (codes "efused journal")) (digit-other x (omega (arith, digit)))
+
+pub entry-other : (place : ℕ) (entry : Entry) (rest : List ℕ) → place < 2 ^ 64 → is_full_line (entry_line place entry ++ rest) ≡ false
+entry-other place entry rest small =
+    let numeral = (decimal_is_IsNumeral place small).0 in
+    digits-other (decimal place) (field (codes " seat=") entry.maker) (command_words entry.command) (answer_words entry.answer) (codes "\n") rest numeral.0 numeral.1
+
+pub entries-other : (place : ℕ) (entries : List Entry) → place < 2 ^ 64 → is_full_line (entry_lines place entries) ≡ false
+entries-other place [] small = refl
+entries-other place (e ∷ es) small = entry-other place e (entry_lines (place + 1) es) small
+
+pub fault-other : (fault : CurveFault) → is_full_line (fault_text fault) ≡ false
+fault-other NoPictures = refl
+fault-other (TooManySlots slots) = refl
+fault-other (BufferTooSmall slot used least) = refl
+
+pub state-other : is_full_line state_text ≡ false
+state-other = refl
+
+pub full-told : (full : Full) → is_full_line (full_text full) ≡ true
+full-told full = refl

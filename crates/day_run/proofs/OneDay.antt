@@ -1,0 +1,530 @@
+-- A script has one day.
+use Rattle.std.proofs.Common.{◌≡◌, ◌<◌, ◌≤◌, ◌+◌, ◌-◌, ◌==◌, ◌&&◌, ℕ, zero, suc, max, true, false, Bool, cond, nat_le, nat_lt, List, [], ◌∷◌, ◌++◌, All, length, map, take, drop, set, get_or, sum, replicate, Option, Some, None, arith, refl, sym, ap, subst, ◌∙◌, inl, inr}
+use Rattle.std.specs.Prelude.{flat_map, IsSomeAnd, IsTrue, ◌⊎◌}
+use Rattle.std.proofs.lemmas.Bool.{cases_Bool, cases_eq, cases_lt, eqb-false, le-leb, leb-true, ltb-false, ltb-true}
+use Rattle.std.proofs.lemmas.List.{get_or-map, get_or-replicate, get_or-set_other, get_or-set_same, length-map, length-take, take_all}
+use Rattle.std.proofs.lemmas.List.Elements.{All-from_get_or}
+use Rattle.plan_cert.specs.declared.Segment.{Segment}
+use Rattle.plan_cert.specs.Slots.{plan_slots, sum_through, total_bytes, total_slots}
+use Rattle.plan_cert.proofs.SlotSums.{length-plan_slots, sum-plan_slots}
+use Rattle.wire_curve.specs.declared.film.CurveFault.{CurveFault}
+use Rattle.wire_curve.specs.declared.film.CurveFault.TheVariants.{NoPictures, TooManySlots, BufferTooSmall}
+use Rattle.wire_curve.specs.declared.film.Timing.{Timing}
+use Rattle.wire_curve.specs.FilmCurves.{used_in}
+use Rattle.wire_curve.specs.Refusal.{HasFault, IsAccepted}
+use Rattle.film_frames.specs.Tracks.{IsBoundary}
+use Rattle.film_run.specs.Laws.{IsSending}
+use Rattle.film_run.specs.Pauses.{IsHalt, IsLeft}
+use Rattle.film_run.specs.Plans.{IsPlanOf, IsTautFor, rest_sizes, timing_of}
+use Rattle.film_run.specs.Runs.{bytes_between}
+use Rattle.film_run.proofs.SumLaws.{bytes-none}
+use Rattle.film_run.proofs.LeftLaws.{halted-plays, left-one}
+use Rattle.film_run.proofs.PlayLaws.{sending-one}
+use Rattle.slot_calendar.specs.Plays.{Play as Booked, cut_play, sent_before}
+use Rattle.slot_calendar.specs.Profiles.{capacity_at}
+use Rattle.early_start.specs.Offered.{Found, IsOffer}
+use Rattle.early_start.proofs.Refusals.{same_start, same_tried}
+use Rattle.admission.specs.declared.entries.Answer.{Answer}
+use Rattle.admission.specs.declared.entries.Answer.TheVariants.{Admitted, Overflow, Halted, Looked}
+use Rattle.admission.specs.declared.entries.Command.TheVariants as commands
+use Rattle.admission.specs.declared.entries.Entry.{Entry}
+use Rattle.admission.specs.Histories.{IsAnswered, state_after}
+use Rattle.admission.specs.Machine.{CanHalt, Held, admitted_play, booked_in, held_as}
+use Rattle.admission.proofs.Once.{answer-once}
+use Rattle.day_run.specs.declared.scripts.Line.{Line}
+use Rattle.day_run.specs.declared.scripts.Line.TheVariants as lines
+use Rattle.day_run.specs.Balanced.{AreHeldOf, IsHeld, IsReady}
+use Rattle.day_run.specs.DayLaws.{AreClients, IsClient, IsLink, IsSoundPlay, IsSoundRest, IsSoundSeat}
+use Rattle.day_run.specs.Days.{AreRun, IsAnsweredPlay, IsAsked, IsDay, IsFull, IsHaltedPlay, IsLine, IsLookLine, IsNoted, IsOfferLine, IsPauseLine, IsPlayLine, IsResumeLine, IsTold, Link, Moment, at_slot, entry_by, last_journal, last_lines, morning, rest_at, seat_at, with_play}
+use Rattle.day_run.specs.Prints.{fault_text, offer_text}
+use Rattle.report.specs.EntryLines.{entry_line}
+use Rattle.day_run.specs.Scripts.{AreLines, IsWish, StandsAfter, slot_after}
+use Rattle.day_run.specs.Seats.{Idle, Playing, Pausing, Paused, IsPause, Play, Rest, Seat, after_play, after_sending, booking_of, is_done, no_track, pausing, sent_by, slot_sent}
+use Rattle.day_run.proofs.BalancedLines.{heard-after, line-ready, morning-ready, stands-rest}
+use Rattle.std.specs.List.{fold}
+
+-- ---- one fault, one plan
+fault-once : (sizes : List ℕ) (timing : Timing) (one other : CurveFault) → HasFault sizes timing one → HasFault sizes timing other → one ≡ other
+fault-once sizes timing NoPictures NoPictures a b = refl
+fault-once sizes timing NoPictures (TooManySlots n) a b = absurd (omega (arith, a, b.0))
+fault-once sizes timing NoPictures (BufferTooSmall slot used least) a b = absurd (omega (arith, a, b.0))
+fault-once sizes timing (TooManySlots n) NoPictures a b = absurd (omega (arith, a.0, b))
+fault-once sizes timing (TooManySlots n) (TooManySlots m) a b = ap TooManySlots (a.1 ∙ sym b.1)
+fault-once sizes timing (TooManySlots n) (BufferTooSmall slot used least) a b = absurd (omega (arith, a.1, a.2, b.1))
+fault-once sizes timing (BufferTooSmall slot used least) NoPictures a b = absurd (omega (arith, a.0, b))
+fault-once sizes timing (BufferTooSmall slot used least) (TooManySlots n) a b = absurd (omega (arith, a.1, b.1, b.2))
+fault-once sizes timing (BufferTooSmall slot used least) (BufferTooSmall slot' used' least') a b =
+    let x = a.2 in
+    let y = b.2 in
+    let at-x : timing.buffer < used_in sizes timing slot = omega (arith, x.above_buffer, x.used_is) in
+    let at-y : timing.buffer < used_in sizes timing slot' = omega (arith, y.above_buffer, y.used_is) in
+    let same : slot ≡ slot' = elim (cases_lt slot slot') [
+      | inl earlier ↦ absurd (omega (arith, y.first slot earlier, at-x))
+      | inr past ↦ elim (cases_lt slot' slot) [
+        | inl later ↦ absurd (omega (arith, x.first slot' later, at-y))
+        | inr not-past ↦ omega (arith, past, not-past)
+      ]
+    ] in
+    let uses : used ≡ used' = x.used_is ∙ ap (used_in sizes timing) same ∙ sym y.used_is in
+    let le : least ≤ least' = omega (arith, y.greatest x.reached.0 x.reached.1, x.reached.2) in
+    let ge : least' ≤ least = omega (arith, x.greatest y.reached.0 y.reached.1, y.reached.2) in
+    let both : least ≡ least' = omega (arith, le, ge) in
+    ap (λ n. BufferTooSmall n used least) same ∙ ap (λ n. BufferTooSmall slot' n least) uses ∙ ap (BufferTooSmall slot' used') both
+
+fault-apart : (sizes : List ℕ) (timing : Timing) (fault : CurveFault) → HasFault sizes timing fault → IsAccepted sizes timing → ⊥
+fault-apart sizes timing NoPictures has accepted = omega (arith, has, accepted.some_picture)
+fault-apart sizes timing (TooManySlots n) has accepted = omega (arith, has.1, has.2, accepted.few_slots)
+fault-apart sizes timing (BufferTooSmall slot used least) has accepted =
+    let x = has.2 in
+    omega (arith, x.used_is, x.above_buffer, accepted.buffer_holds slot x.in_range)
+
+-- ---- what holds of the clients
+pub record IsSound (m : Moment) : Type 0 where
+  pub ready : IsReady m
+  pub each : (c : ℕ) → c < 256 → IsSoundSeat m.heard (get_or m.seats c Idle)
+
+-- the seats but one stay
+set-sound : (heard c : ℕ) (seats : List Seat) (seat : Seat) → length seats ≡ 256 → c < 256 → IsSoundSeat heard seat
+    → ((d : ℕ) → d < 256 → IsSoundSeat heard (get_or seats d Idle)) → (d : ℕ) → d < 256 → IsSoundSeat heard (get_or (set seats c seat) d Idle)
+set-sound heard c seats seat count client own each d inside = elim (cases_eq d c) [
+  | inl same ↦
+      let N : ℕ → Type 0 = λ n. IsSoundSeat heard (get_or (set seats c seat) n Idle) in
+      let S : Seat → Type 0 = λ s. IsSoundSeat heard s in
+      subst N (sym same) (subst S (sym (get_or-set_same seats c seat Idle (omega (arith, client, count)))) own)
+  | inr other ↦
+      let S : Seat → Type 0 = λ s. IsSoundSeat heard s in
+      subst S (sym (get_or-set_other seats c d seat Idle other)) (each d inside)
+]
+
+abbrev AreSeats : ℕ → List Seat → Type 0
+AreSeats heard seats = (c : ℕ) → c < 256 → IsSoundSeat heard (get_or seats c Idle)
+
+kept-seats : (old new : Moment) → new ≡ old → AreSeats old.heard old.seats → AreSeats new.heard new.seats
+kept-seats old new kept each =
+    let M : Moment → Type 0 = λ m. AreSeats m.heard m.seats in
+    subst M (sym kept) each
+
+-- ---- a play that begins
+undone-early : (heard start : ℕ) (b : Bool) → heard < start → (nat_le start heard && b) ≡ false
+undone-early heard start b early = elim (cases_Bool (nat_le start heard)) [
+  | inl le ↦ absurd (omega (arith, leb-true start heard le, early))
+  | inr not-le ↦ ap (λ x. x && b) not-le
+]
+
+answered-seats : (answer : Answer) (link : Link) (c : ℕ) (rest : Rest) (plan : List Segment) (old : Moment) → c < 256 → IsSoundRest rest
+    → IsPlanOf rest.sizes rest.playback rest.run plan → IsSound old
+    → IsAnswered link.steps (state_after old.entries) (entry_by c (commands.Play old.heard plan) answer) → AreSeats old.heard (with_play c rest plan (length old.entries) answer old.seats)
+answered-seats (Admitted start) link c rest plan old client own plan-is sound answer =
+    let play : Play = record { number = length old.entries; rest = rest; plan = plan; start = start } in
+    let early : old.heard < start = omega (arith, answer.0) in
+    set-sound old.heard c old.seats (Playing play) sound.ready.count client
+    (record { rest = own; plan = plan-is; undone = undone-early old.heard start _ early }) sound.each
+answered-seats (Overflow over booked asked) link c rest plan old client own plan-is sound answer = sound.each
+answered-seats Halted link c rest plan old client own plan-is sound answer = sound.each
+answered-seats (Looked now at booked) link c rest plan old client own plan-is sound answer = sound.each
+
+asked-seats : (link : Link) (c : ℕ) (rest : Rest) (old new : Moment) (text : List ℕ) → c < 256 → (0 < length (rest_sizes rest.sizes rest.run) → IsSoundRest rest)
+    → IsSound old → IsAsked link c rest old new text → AreSeats new.heard new.seats
+asked-seats link c rest old new text client own sound (inl faulty) = kept-seats old new faulty.told.kept sound.each
+asked-seats link c rest old new text client own sound (inr planned) = elim planned.done [
+  | inl full ↦ kept-seats old new full.told.kept sound.each
+  | inr made ↦
+      let M : Moment → Type 0 = λ m. AreSeats m.heard m.seats in
+      subst M (sym made.noted.new_is)
+      (answered-seats made.answer link c rest planned.plan old client (own planned.plan_is.accepted.some_picture) planned.plan_is sound made.noted.answered)
+]
+
+-- ---- a play that is halted
+none-sent : (play : Play) (heard : ℕ) → heard < play.start → sent_by (booking_of play) heard ≡ 0
+none-sent play heard early =
+    let none : heard + 1 - play.start ≡ 0 = omega (arith, early) in
+    let sent : sent_before play.plan play.start (heard + 1) ≡ 0 = ap (λ n. sum (take n (plan_slots play.plan))) none in
+    omega (arith, sent)
+
+no-empty : (plan : List Segment) (sizes : List ℕ) (timing : Timing) → IsTautFor sizes timing plan → All (λ (s : Segment). 1 ≤ s.slots) plan
+no-empty plan sizes timing is =
+    All-from_get_or (λ (s : Segment). 1 ≤ s.slots) plan (record { slots = 0; bytes = 0 })
+    (λ i inside. elim (cases_lt 0 (get_or plan i (record { slots = 0; bytes = 0 })).slots) [
+      | inl some ↦ omega (arith, some)
+      | inr none ↦ absurd (is.taut.no_empty i (inside, omega (arith, none)))
+    ])
+
+both-sides : (a b : Bool) → a ≡ true → (a && b) ≡ false → b ≡ false
+both-sides true b is left = left
+both-sides false b is left = cc is
+
+-- a play that isn't done has bytes to send
+some-left : (play : Play) (heard : ℕ) → play.start ≤ heard → is_done heard play ≡ false
+    → sum_through play.plan (heard - play.start) < total_bytes play.plan × (sent_by (booking_of play) heard ≡ sum_through play.plan (heard - play.start))
+some-left play heard begun undone =
+    let e : heard + 1 - play.start ≡ heard - play.start + 1 = omega (arith, begun) in
+    let sent : sent_before play.plan play.start (heard + 1) ≡ sum_through play.plan (heard - play.start) = ap (λ n. sum (take n (plan_slots play.plan))) e in
+    let other : (sent_by (booking_of play) heard == total_bytes play.plan) ≡ false =
+    both-sides (nat_le play.start heard) (sent_by (booking_of play) heard == total_bytes play.plan) (le-leb play.start heard begun) undone in
+    let apart : sent_by (booking_of play) heard ≡ total_bytes play.plan → ⊥ = eqb-false (sent_by (booking_of play) heard) (total_bytes play.plan) other in
+    elim (cases_lt (sum_through play.plan (heard - play.start)) (total_bytes play.plan)) [
+      | inl below ↦ (below, omega (arith, below, sent))
+      | inr reached ↦ absurd (apart (omega (arith, reached, sent)))
+    ]
+
+halt-if : (b : Bool) (play : Play) (heard keep : ℕ) (seat : Seat) → nat_lt heard play.start ≡ b → IsSoundPlay heard play → IsPause play heard keep seat
+    → keep ≤ total_bytes play.plan → IsHalt play.plan (cond b None (Some (heard - play.start))) keep
+halt-if true play heard keep seat early sound pause most =
+    let before : heard < play.start = ltb-true heard play.start early in
+    let le : play.rest.run.sent + keep ≤ play.rest.run.sent = pause.boundary.least play.rest.run.sent sound.rest.boundary (omega (arith, none-sent play heard before)) in
+    omega (arith, le)
+halt-if false play heard keep seat late sound pause most =
+    let begun : play.start ≤ heard = ltb-false heard play.start late in
+    let last = heard - play.start in
+    let left = some-left play heard begun sound.undone in
+    let inside : last < total_slots play.plan = elim (cases_lt last (total_slots play.plan)) [
+      | inl within ↦ within
+      | inr past ↦
+          let short : length (plan_slots play.plan) ≤ last + 1 = omega (arith, length-plan_slots play.plan, past) in
+          let all : sum_through play.plan last ≡ total_bytes play.plan =
+          ap sum (take_all (last + 1) (plan_slots play.plan) short)
+          ∙ sum-plan_slots play.plan (no-empty play.plan (rest_sizes play.rest.sizes play.rest.run) (timing_of play.rest.playback play.rest.run) sound.plan) in
+          absurd (omega (arith, all, left.0))
+    ] in
+    (inside, omega (arith, left.1, pause.boundary.after), most)
+
+-- the bytes that are kept are those of the plan at most
+kept-most : (entries : List Entry) (play : Play) (keep : ℕ)
+    → held_as play.number (state_after entries).held ≡ Some (admitted_play play.number play.start play.plan)
+    → CanHalt (state_after entries) play.number keep → keep ≤ total_bytes play.plan
+kept-most entries play keep held can =
+    let P : Option Held → Type 0 = λ o. IsSomeAnd o (λ (h : Held). IsTrue h.is_open × (keep ≤ total_bytes h.play.segments)) in
+    (subst P held can).1
+
+left-sound : (play : Play) (heard keep : ℕ) (seat : Seat) → IsSoundPlay heard play → (pause : IsPause play heard keep seat) → keep ≤ total_bytes play.plan
+    → IsSoundRest (record play.rest { run = pause.left })
+left-sound play heard keep seat sound pause most =
+    let sending : IsSending play.rest.sizes play.rest.playback play.rest.run play.plan = record { can_play = sound.rest.can; plan_is = sound.plan } in
+    let B : ℕ → Type 0 = λ n. IsBoundary play.rest.pieces n in
+    record {
+      can =
+          halted-plays play.rest.sizes play.rest.playback play.rest.run play.plan sending (slot_sent play.start heard) keep pause.left
+          (halt-if (nat_lt heard play.start) play heard keep seat refl sound pause most) pause.left_is;
+      boundary = subst B (sym pause.left_is.sent_is) pause.boundary.boundary;
+    }
+
+pausing-sound : (heard slot : ℕ) (b : Bool) (stop : Booked) (rest : Rest) → IsSoundRest rest → IsSoundSeat heard (cond b (Paused rest) (Pausing stop rest))
+pausing-sound heard slot true stop rest own = own
+pausing-sound heard slot false stop rest own = own
+
+halted-seats : (link : Link) (c : ℕ) (play : Play) (old new : Moment) (text : List ℕ) → c < 256 → get_or old.seats c Idle ≡ Playing play → IsSound old
+    → IsHaltedPlay link c play old new text → AreSeats new.heard new.seats
+halted-seats link c play old new text client at sound is =
+    let P : Seat → Type 0 = λ s. IsSoundSeat old.heard s in
+    let own : IsSoundPlay old.heard play = subst P at (sound.each c client) in
+    let H : Seat → Type 0 = λ s. AreHeldOf old.entries c s in
+    let its : IsHeld old.entries c play = subst H at (sound.ready.balanced.held c (omega (arith, client, sound.ready.count))) in
+    let most = kept-most old.entries play is.keep its.held is.noted.answered in
+    let rest = left-sound play old.heard is.keep is.seat own is.pause most in
+    let seat : IsSoundSeat old.heard is.seat = subst P (sym is.pause.seat_is) (pausing-sound old.heard old.heard _ _ _ rest) in
+    let M : Moment → Type 0 = λ m. AreSeats m.heard m.seats in
+    subst M (sym is.noted.new_is) (set-sound old.heard c old.seats is.seat sound.ready.count client seat sound.each)
+
+-- ---- a slot comes
+done-if : (slot : ℕ) (play : Play) (b : Bool) → is_done slot play ≡ b → IsSoundRest play.rest → IsPlanOf play.rest.sizes play.rest.playback play.rest.run play.plan
+    → IsSoundSeat slot (cond b Idle (Playing play))
+done-if slot play true done rest plan = tt
+done-if slot play false undone rest plan = record { rest = rest; plan = plan; undone = undone }
+
+pause-if : (slot : ℕ) (b : Bool) (stop : Booked) (rest : Rest) → IsSoundRest rest → IsSoundSeat slot (after_play slot (cond b (Paused rest) (Pausing stop rest)))
+pause-if slot true stop rest own = own
+pause-if slot false stop rest own = own
+
+seat-slot : (heard slot : ℕ) (seat : Seat) → IsSoundSeat heard seat → IsSoundSeat slot (after_play slot (after_sending slot seat))
+seat-slot heard slot Idle own = tt
+seat-slot heard slot (Playing play) own = done-if slot play (is_done slot play) refl own.rest own.plan
+seat-slot heard slot (Pausing stop rest) own = pause-if slot (sent_by stop slot == stop.keep) stop rest own
+seat-slot heard slot (Paused rest) own = own
+
+slot-seats : (old : Moment) (slot : ℕ) → IsSound old → AreSeats slot (at_slot old slot).seats
+slot-seats old slot sound c client =
+    let inside : c < length old.seats = omega (arith, client, sound.ready.count) in
+    let within : c < length (map (after_sending slot) old.seats) = omega (arith, inside, length-map old.seats (after_sending slot)) in
+    let S : Seat → Type 0 = λ s. IsSoundSeat slot s in
+    subst S (sym (get_or-map (after_play slot) (map (after_sending slot) old.seats) c Idle Idle within
+    ∙ ap (after_play slot) (get_or-map (after_sending slot) old.seats c Idle Idle inside)))
+    (seat-slot old.heard slot (get_or old.seats c Idle) (sound.each c client))
+
+-- ---- all of a track
+whole-sound : (link : Link) (source buffer delay : ℕ) → IsLink link → IsWish (length link.tracks) source buffer delay
+    → 0 < length (rest_sizes (rest_at link source buffer delay).sizes (rest_at link source buffer delay).run) → IsSoundRest (rest_at link source buffer delay)
+whole-sound link source buffer delay link-is wish some =
+    let rest = rest_at link source buffer delay in
+    let track = link-is.tracks source no_track wish.inside in
+    let count : 0 < length rest.sizes = omega (arith, some, length-take (length rest.sizes - 0) (drop 0 rest.sizes)) in
+    let none : bytes_between rest.sizes 0 0 ≡ 0 = bytes-none rest.sizes 0 in
+    record {
+      can = record {
+        sizes_are = track.sizes;
+        playback_is = record {
+          some_picture_units = track.some_picture_units;
+          picture_units_fit = track.picture_units_fit;
+          some_slot_units = link-is.some_slot_units;
+          slot_units_fit = link-is.slot_units_fit;
+          some_buffer = wish.some_buffer;
+          buffer_fits = wish.buffer_fits;
+          delay_fits = wish.delay_fits;
+        };
+        run_is = record {
+          order = omega arith;
+          rest = count;
+          within = omega arith;
+          played_is = sym none;
+          ahead = omega arith;
+          whole = omega arith;
+        };
+        fits = omega arith;
+      };
+      boundary = record { number = 0; among = omega arith; place_is = refl };
+    }
+
+-- ---- each kind of line leaves the clients sound
+play-seats : (link : Link) (c : ℕ) (rest : Rest) (seat : Seat) (old new : Moment) (text : List ℕ) → c < 256
+    → (0 < length (rest_sizes rest.sizes rest.run) → IsSoundRest rest) → IsSound old → IsPlayLine link c rest seat old new text → AreSeats new.heard new.seats
+play-seats link c rest Idle old new text client own sound is = asked-seats link c rest old new text client own sound is
+play-seats link c rest (Playing play) old new text client own sound is = kept-seats old new is.kept sound.each
+play-seats link c rest (Pausing stop left) old new text client own sound is = kept-seats old new is.kept sound.each
+play-seats link c rest (Paused left) old new text client own sound is = asked-seats link c rest old new text client own sound is
+
+resume-seats : (link : Link) (c : ℕ) (seat : Seat) (old new : Moment) (text : List ℕ) → c < 256 → get_or old.seats c Idle ≡ seat → IsSound old
+    → IsResumeLine link c seat old new text → AreSeats new.heard new.seats
+resume-seats link c Idle old new text client at sound is = kept-seats old new is.kept sound.each
+resume-seats link c (Playing play) old new text client at sound is = kept-seats old new is.kept sound.each
+resume-seats link c (Pausing stop rest) old new text client at sound is = kept-seats old new is.kept sound.each
+resume-seats link c (Paused rest) old new text client at sound is =
+    let P : Seat → Type 0 = λ s. IsSoundSeat old.heard s in
+    let own : IsSoundRest rest = subst P at (sound.each c client) in
+    asked-seats link c rest old new text client (λ some. own) sound is
+
+pause-seats : (link : Link) (c : ℕ) (seat : Seat) (old new : Moment) (text : List ℕ) → c < 256 → get_or old.seats c Idle ≡ seat → IsSound old
+    → IsPauseLine link c seat old new text → AreSeats new.heard new.seats
+pause-seats link c Idle old new text client at sound is = kept-seats old new is.kept sound.each
+pause-seats link c (Playing play) old new text client at sound is = halted-seats link c play old new text client at sound is
+pause-seats link c (Pausing stop rest) old new text client at sound is = kept-seats old new is.kept sound.each
+pause-seats link c (Paused rest) old new text client at sound is = kept-seats old new is.kept sound.each
+
+look-seats : (link : Link) (slot : ℕ) (old new : Moment) (text : List ℕ) → IsSound old → IsLookLine link slot old new text → AreSeats new.heard new.seats
+look-seats link slot old new text sound (inl full) = kept-seats old new full.told.kept sound.each
+look-seats link slot old new text sound (inr made) =
+    let M : Moment → Type 0 = λ m. AreSeats m.heard m.seats in
+    subst M (sym made.noted.new_is) sound.each
+
+offer-seats : (link : Link) (rest : Rest) (wait : ℕ) (old new : Moment) (text : List ℕ) → IsSound old → IsOfferLine link rest wait old new text → AreSeats new.heard new.seats
+offer-seats link rest wait old new text sound (inl faulty) = kept-seats old new faulty.told.kept sound.each
+offer-seats link rest wait old new text sound (inr offered) = kept-seats old new offered.told.kept sound.each
+
+-- ---- lines leave the clients sound
+line-seats : (link : Link) (line : Line) (old new : Moment) (text : List ℕ) → IsLink link → IsClient line → StandsAfter old.heard (length link.tracks) line
+    → IsSound old → IsLine link line old new text → AreSeats new.heard new.seats
+line-seats link (lines.Play c source buffer delay) old new text link-is client stands sound is =
+    play-seats link c (rest_at link source buffer delay) (seat_at old c) old new text client (whole-sound link source buffer delay link-is stands) sound is
+line-seats link (lines.Pause c) old new text link-is client stands sound is = pause-seats link c (seat_at old c) old new text client refl sound is
+line-seats link (lines.Resume c) old new text link-is client stands sound is = resume-seats link c (seat_at old c) old new text client refl sound is
+line-seats link (lines.Look slot) old new text link-is client stands sound is = look-seats link _ old new text sound is
+line-seats link (lines.Slot slot) old new text link-is client stands sound is =
+    let M : Moment → Type 0 = λ m. AreSeats m.heard m.seats in
+    subst M (sym is.0) (slot-seats old slot sound)
+line-seats link (lines.Offer c source buffer delay wait) old new text link-is client stands sound is =
+    offer-seats link (rest_at link source buffer delay) wait old new text sound is
+
+line-sound : (link : Link) (line : Line) (old new : Moment) (text : List ℕ) → IsLink link → IsClient line → StandsAfter old.heard (length link.tracks) line
+    → IsSound old → IsLine link line old new text → IsSound new
+line-sound link line old new text link-is client stands sound is = record {
+  ready = line-ready link line (length link.tracks) old new text client stands is sound.ready;
+  each = line-seats link line old new text link-is client stands sound is;
+}
+
+-- after lines, all clients are sound
+run-sound : (link : Link) (ls : List Line) (texts : List (List ℕ)) (old new : Moment) → IsLink link
+    → ((i : ℕ) (none : Line) → i < length ls → IsClient (get_or ls i none))
+    → ((i : ℕ) (none : Line) → i < length ls → StandsAfter (fold slot_after old.heard (take i ls)) (length link.tracks) (get_or ls i none))
+    → IsSound old → AreRun link ls texts old new → IsSound new
+run-sound link [] [] old new link-is clients stands sound run =
+    let S : Moment → Type 0 = λ m. IsSound m in
+    subst S (sym run) sound
+run-sound link [] (t ∷ ts) old new link-is clients stands sound run = absurd run
+run-sound link (l ∷ ls) [] old new link-is clients stands sound run = absurd run
+run-sound link (l ∷ ls) (t ∷ ts) old new link-is clients stands sound run =
+    let next = line-sound link l old run.0 t link-is (clients zero l (omega arith)) (stands zero l (omega arith)) sound run.1.0 in
+    let H : ℕ → Type 0 = λ h. (i : ℕ) (none : Line) → i < length ls → StandsAfter (fold slot_after h (take i ls)) (length link.tracks) (get_or ls i none) in
+    let after : H run.0.heard = subst H (sym (heard-after link l old run.0 t run.1.0)) (stands-rest (length link.tracks) old.heard l ls stands) in
+    run-sound link ls ts run.0 new link-is (λ i none inside. clients (suc i) none (omega (arith, inside))) after next run.1.1
+
+idle-sound : AreSeats 0 (replicate 256 Idle)
+idle-sound c client =
+    let S : Seat → Type 0 = λ s. IsSoundSeat 0 s in
+    subst S (sym (get_or-replicate 256 c Idle Idle client)) tt
+
+pub day-sound : (link : Link) (ls : List Line) (texts : List (List ℕ)) (m : Moment) (c : ℕ) → IsLink link → AreClients ls → AreLines (length link.tracks) ls
+    → AreRun link ls texts morning m → c < 256 → IsSoundSeat m.heard (seat_at m c)
+day-sound link ls texts m c link-is clients are run inside =
+    (run-sound link ls texts morning m link-is clients.each are.each (record { ready = morning-ready; each = idle-sound }) run).each c inside
+
+-- ---- a line has one outcome
+pub record IsOne (new new' : Moment) (text text' : List ℕ) : Type 0 where
+  pub new_is : new ≡ new'
+  pub text_is : text ≡ text'
+
+one-told : (told : List ℕ) (old new new' : Moment) (text text' : List ℕ) → IsTold told old new text → IsTold told old new' text' → IsOne new new' text text'
+one-told told old new new' text text' a b = record { new_is = a.kept ∙ sym b.kept; text_is = a.text_is ∙ sym b.text_is }
+
+one-noted : (link : Link) (one other : Entry) (seats seats' : List Seat) (old new new' : Moment) (text text' : List ℕ) → one ≡ other → seats ≡ seats'
+    → IsNoted link one seats old new text → IsNoted link other seats' old new' text' → IsOne new new' text text'
+one-noted link one other seats seats' old new new' text text' e s a b = record {
+  new_is =
+      a.new_is ∙ ap (λ x. record { entries = old.entries ++ x ∷ []; seats = seats; heard = old.heard }) e
+      ∙ ap (λ l. record { entries = old.entries ++ other ∷ []; seats = l; heard = old.heard }) s ∙ sym b.new_is;
+  text_is = a.text_is ∙ ap (entry_line (length old.entries)) e ∙ sym b.text_is;
+}
+
+one-planned : (link : Link) (c : ℕ) (rest : Rest) (plan : List Segment) (old new new' : Moment) (text text' : List ℕ)
+    → (IsFull link 2 old new text ⊎ IsAnsweredPlay link c rest plan old new text) → (IsFull link 2 old new' text' ⊎ IsAnsweredPlay link c rest plan old new' text')
+    → IsOne new new' text text'
+one-planned link c rest plan old new new' text text' (inl a) (inl b) = one-told _ old new new' text text' a.told b.told
+one-planned link c rest plan old new new' text text' (inl a) (inr b) = absurd (omega (arith, a.full, b.room))
+one-planned link c rest plan old new new' text text' (inr a) (inl b) = absurd (omega (arith, a.room, b.full))
+one-planned link c rest plan old new new' text text' (inr a) (inr b) =
+    let same : a.answer ≡ b.answer =
+    answer-once link.steps (state_after old.entries) (commands.Play old.heard plan) a.answer b.answer a.noted.answered b.noted.answered in
+    one-noted link _ _ _ _ old new new' text text' (ap (entry_by c (commands.Play old.heard plan)) same)
+    (ap (λ x. with_play c rest plan (length old.entries) x old.seats) same) a.noted b.noted
+
+one-asked : (link : Link) (c : ℕ) (rest : Rest) (old new new' : Moment) (text text' : List ℕ) → (0 < length (rest_sizes rest.sizes rest.run) → IsSoundRest rest)
+    → IsAsked link c rest old new text → IsAsked link c rest old new' text' → IsOne new new' text text'
+one-asked link c rest old new new' text text' own (inl a) (inl b) =
+    let same = fault-once (rest_sizes rest.sizes rest.run) (timing_of rest.playback rest.run) a.fault b.fault a.fault_is b.fault_is in
+    let T : CurveFault → Type 0 = λ f. IsTold (fault_text f) old new text in
+    one-told (fault_text b.fault) old new new' text text' (subst T same a.told) b.told
+one-asked link c rest old new new' text text' own (inl a) (inr b) =
+    absurd (fault-apart (rest_sizes rest.sizes rest.run) (timing_of rest.playback rest.run) a.fault a.fault_is b.plan_is.accepted)
+one-asked link c rest old new new' text text' own (inr a) (inl b) =
+    absurd (fault-apart (rest_sizes rest.sizes rest.run) (timing_of rest.playback rest.run) b.fault b.fault_is a.plan_is.accepted)
+one-asked link c rest old new new' text text' own (inr a) (inr b) =
+    let can = (own b.plan_is.accepted.some_picture).can in
+    let same : a.plan ≡ b.plan = sending-one rest.sizes rest.playback rest.run b.plan (record { can_play = can; plan_is = b.plan_is }) a.plan a.plan_is in
+    let D : List Segment → Type 0 = λ p. IsFull link 2 old new text ⊎ IsAnsweredPlay link c rest p old new text in
+    one-planned link c rest b.plan old new new' text text' (subst D same a.done) b.done
+
+one-play : (link : Link) (c : ℕ) (rest : Rest) (seat : Seat) (old new new' : Moment) (text text' : List ℕ) → (0 < length (rest_sizes rest.sizes rest.run) → IsSoundRest rest)
+    → IsPlayLine link c rest seat old new text → IsPlayLine link c rest seat old new' text' → IsOne new new' text text'
+one-play link c rest Idle old new new' text text' own a b = one-asked link c rest old new new' text text' own a b
+one-play link c rest (Playing play) old new new' text text' own a b = one-told _ old new new' text text' a b
+one-play link c rest (Pausing stop left) old new new' text text' own a b = one-told _ old new new' text text' a b
+one-play link c rest (Paused left) old new new' text text' own a b = one-asked link c rest old new new' text text' own a b
+
+one-resume : (link : Link) (c : ℕ) (seat : Seat) (old new new' : Moment) (text text' : List ℕ) → IsSoundSeat old.heard seat
+    → IsResumeLine link c seat old new text → IsResumeLine link c seat old new' text' → IsOne new new' text text'
+one-resume link c Idle old new new' text text' own a b = one-told _ old new new' text text' a b
+one-resume link c (Playing play) old new new' text text' own a b = one-told _ old new new' text text' a b
+one-resume link c (Pausing stop rest) old new new' text text' own a b = one-told _ old new new' text text' a b
+one-resume link c (Paused rest) old new new' text text' own a b = one-asked link c rest old new new' text text' (λ some. own) a b
+
+one-halted : (link : Link) (c : ℕ) (play : Play) (old new new' : Moment) (text text' : List ℕ) → IsHaltedPlay link c play old new text
+    → IsHaltedPlay link c play old new' text' → IsOne new new' text text'
+one-halted link c play old new new' text text' a b =
+    let x = a.pause.boundary in
+    let y = b.pause.boundary in
+    let keep : a.keep ≡ b.keep = omega (arith, x.least _ y.boundary y.after, y.least _ x.boundary x.after) in
+    let L : ℕ → Type 0 = λ k. IsLeft play.rest.sizes play.rest.playback play.rest.run play.plan (slot_sent play.start old.heard) k a.pause.left in
+    let left : a.pause.left ≡ b.pause.left =
+    left-one play.rest.sizes play.rest.playback play.rest.run b.pause.left a.pause.left play.plan (slot_sent play.start old.heard) b.keep b.pause.left_is (subst L keep a.pause.left_is) in
+    let seat : a.seat ≡ b.seat =
+    a.pause.seat_is ∙ ap (λ k. pausing old.heard (cut_play play.start play.plan k) (record play.rest { run = a.pause.left })) keep
+    ∙ ap (λ r. pausing old.heard (cut_play play.start play.plan b.keep) (record play.rest { run = r })) left ∙ sym b.pause.seat_is in
+    one-noted link _ _ _ _ old new new' text text' (ap (λ k. entry_by c (commands.Halt play.number k) Halted) keep) (ap (set old.seats c) seat) a.noted b.noted
+
+one-pause : (link : Link) (c : ℕ) (seat : Seat) (old new new' : Moment) (text text' : List ℕ) → IsPauseLine link c seat old new text
+    → IsPauseLine link c seat old new' text' → IsOne new new' text text'
+one-pause link c Idle old new new' text text' a b = one-told _ old new new' text text' a b
+one-pause link c (Playing play) old new new' text text' a b = one-halted link c play old new new' text text' a b
+one-pause link c (Pausing stop rest) old new new' text text' a b = one-told _ old new new' text text' a b
+one-pause link c (Paused rest) old new new' text text' a b = one-told _ old new new' text text' a b
+
+one-look : (link : Link) (slot : ℕ) (old new new' : Moment) (text text' : List ℕ) → IsLookLine link slot old new text → IsLookLine link slot old new' text'
+    → IsOne new new' text text'
+one-look link slot old new new' text text' (inl a) (inl b) = one-told _ old new new' text text' a.told b.told
+one-look link slot old new new' text text' (inl a) (inr b) = absurd (omega (arith, a.full, b.room))
+one-look link slot old new new' text text' (inr a) (inl b) = absurd (omega (arith, a.room, b.full))
+one-look link slot old new new' text text' (inr a) (inr b) =
+    let same = answer-once link.steps (state_after old.entries) (commands.Look slot) a.answer b.answer a.noted.answered b.noted.answered in
+    one-noted link _ _ _ _ old new new' text text' (ap (entry_by 0 (commands.Look slot)) same) refl a.noted b.noted
+
+one-found : (one other : Found) → one.wait ≡ other.wait → one.start ≡ other.start → one.tried ≡ other.tried → one ≡ other
+one-found one other w s t =
+    ap (λ n. record { wait = n; start = one.start; tried = one.tried }) w ∙ ap (λ n. record { wait = other.wait; start = n; tried = one.tried }) s
+    ∙ ap (λ l. record { wait = other.wait; start = other.start; tried = l }) t
+
+one-offer : (link : Link) (rest : Rest) (wait : ℕ) (old new new' : Moment) (text text' : List ℕ) → (0 < length (rest_sizes rest.sizes rest.run) → IsSoundRest rest)
+    → IsOfferLine link rest wait old new text → IsOfferLine link rest wait old new' text' → IsOne new new' text text'
+one-offer link rest wait old new new' text text' own (inl a) (inl b) =
+    let same = fault-once (rest_sizes rest.sizes rest.run) (timing_of rest.playback rest.run) a.fault b.fault a.fault_is b.fault_is in
+    let T : CurveFault → Type 0 = λ f. IsTold (fault_text f) old new text in
+    one-told (fault_text b.fault) old new new' text text' (subst T same a.told) b.told
+one-offer link rest wait old new new' text text' own (inl a) (inr b) =
+    absurd (fault-apart (rest_sizes rest.sizes rest.run) (timing_of rest.playback rest.run) a.fault a.fault_is b.plan_is.accepted)
+one-offer link rest wait old new new' text text' own (inr a) (inl b) =
+    absurd (fault-apart (rest_sizes rest.sizes rest.run) (timing_of rest.playback rest.run) b.fault b.fault_is a.plan_is.accepted)
+one-offer link rest wait old new new' text text' own (inr a) (inr b) =
+    let can = (own b.plan_is.accepted.some_picture).can in
+    let same : a.plan ≡ b.plan = sending-one rest.sizes rest.playback rest.run b.plan (record { can_play = can; plan_is = b.plan_is }) a.plan a.plan_is in
+    let booked = booked_in (state_after old.entries) in
+    let first = max (state_after old.entries).now old.heard + 1 in
+    let O : List Segment → Type 0 = λ p. IsOffer 0 booked (capacity_at link.steps) p first a.found in
+    let mine : IsOffer 0 booked (capacity_at link.steps) b.plan first a.found = subst O same a.found_is in
+    let waits = a.wait_is ∙ sym b.wait_is in
+    let found : a.found ≡ b.found =
+    one-found a.found b.found waits (same_start 0 booked (capacity_at link.steps) b.plan first a.found b.found waits mine b.found_is)
+    (same_tried 0 booked (capacity_at link.steps) b.plan first a.found b.found waits mine b.found_is) in
+    let T : Found → Type 0 = λ f. IsTold (offer_text f) old new text in
+    one-told (offer_text b.found) old new new' text text' (subst T found a.told) b.told
+
+one-line : (link : Link) (line : Line) (old new new' : Moment) (text text' : List ℕ) → IsLink link → IsClient line → StandsAfter old.heard (length link.tracks) line
+    → IsSound old → IsLine link line old new text → IsLine link line old new' text' → IsOne new new' text text'
+one-line link (lines.Play c source buffer delay) old new new' text text' link-is client stands sound a b =
+    one-play link c (rest_at link source buffer delay) (seat_at old c) old new new' text text' (whole-sound link source buffer delay link-is stands) a b
+one-line link (lines.Pause c) old new new' text text' link-is client stands sound a b = one-pause link c (seat_at old c) old new new' text text' a b
+one-line link (lines.Resume c) old new new' text text' link-is client stands sound a b =
+    one-resume link c (seat_at old c) old new new' text text' (sound.each c client) a b
+one-line link (lines.Look slot) old new new' text text' link-is client stands sound a b = one-look link _ old new new' text text' a b
+one-line link (lines.Slot slot) old new new' text text' link-is client stands sound a b = record { new_is = a.0 ∙ sym b.0; text_is = a.1 ∙ sym b.1 }
+one-line link (lines.Offer c source buffer delay wait) old new new' text text' link-is client stands sound a b =
+    one-offer link (rest_at link source buffer delay) wait old new new' text text' (whole-sound link source buffer delay link-is stands.0) a b
+
+-- ---- a run of lines has one outcome
+pub record IsOneRun (new new' : Moment) (texts texts' : List (List ℕ)) : Type 0 where
+  pub new_is : new ≡ new'
+  pub texts_are : texts ≡ texts'
+
+one-run : (link : Link) (ls : List Line) (texts texts' : List (List ℕ)) (old new new' : Moment) → IsLink link
+    → ((i : ℕ) (none : Line) → i < length ls → IsClient (get_or ls i none))
+    → ((i : ℕ) (none : Line) → i < length ls → StandsAfter (fold slot_after old.heard (take i ls)) (length link.tracks) (get_or ls i none))
+    → IsSound old → AreRun link ls texts old new → AreRun link ls texts' old new' → IsOneRun new new' texts texts'
+one-run link [] [] [] old new new' link-is clients stands sound a b = record { new_is = a ∙ sym b; texts_are = refl }
+one-run link [] (t ∷ ts) texts' old new new' link-is clients stands sound a b = absurd a
+one-run link [] [] (t ∷ ts) old new new' link-is clients stands sound a b = absurd b
+one-run link (l ∷ ls) [] texts' old new new' link-is clients stands sound a b = absurd a
+one-run link (l ∷ ls) (t ∷ ts) [] old new new' link-is clients stands sound a b = absurd b
+one-run link (l ∷ ls) (t ∷ ts) (t' ∷ ts') old new new' link-is clients stands sound a b =
+    let client = clients zero l (omega arith) in
+    let stand = stands zero l (omega arith) in
+    let one = one-line link l old a.0 b.0 t t' link-is client stand sound a.1.0 b.1.0 in
+    let next = line-sound link l old a.0 t link-is client stand sound a.1.0 in
+    let H : ℕ → Type 0 = λ h. (i : ℕ) (none : Line) → i < length ls → StandsAfter (fold slot_after h (take i ls)) (length link.tracks) (get_or ls i none) in
+    let after : H a.0.heard = subst H (sym (heard-after link l old a.0 t a.1.0)) (stands-rest (length link.tracks) old.heard l ls stands) in
+    let R : Moment → Type 0 = λ m. AreRun link ls ts' m new' in
+    let rest = one-run link ls ts ts' a.0 new new' link-is (λ i none inside. clients (suc i) none (omega (arith, inside))) after next a.1.1 (subst R (sym one.new_is) b.1.1) in
+    record { new_is = rest.new_is; texts_are = ap (λ x. x ∷ ts) one.text_is ∙ ap (λ xs. t' ∷ xs) rest.texts_are }
+
+pub one-day : (link : Link) (ls : List Line) (text text' : List ℕ) (journal journal' : List Entry) → IsLink link → AreClients ls → AreLines (length link.tracks) ls
+    → IsDay link ls text journal → IsDay link ls text' journal' → (text ≡ text') × (journal ≡ journal')
+one-day link ls text text' journal journal' link-is clients are a b =
+    let one = one-run link ls a.texts b.texts morning a.evening b.evening link-is clients.each are.each (record { ready = morning-ready; each = idle-sound }) a.run b.run in (
+      a.text_is ∙ ap (λ ts. flat_map (λ (t : List ℕ). t) ts ++ last_lines a.evening) one.texts_are
+          ∙ ap (λ m. flat_map (λ (t : List ℕ). t) b.texts ++ last_lines m) one.new_is ∙ sym b.text_is,
+      a.journal_is ∙ ap last_journal one.new_is ∙ sym b.journal_is,
+    )

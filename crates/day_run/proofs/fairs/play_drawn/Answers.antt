@@ -1,0 +1,20 @@
+use Rattle.std.proofs.Common.{◌+◌, ◌%◌, ap, ◌∙◌}
+use Rattle.film_make.specs.Generator.{words_left}
+use Rattle.day_run.specs.Days.{seat_at}
+use Rattle.day_run.specs.Runners.{link_on, moment_of}
+use Rattle.day_run.proofs.FairTurns.{line-drawn, ok-of, second-word, third-word, three-left}
+use Rattle.day_run.proofs.fairs.play_drawn.Goals as goal
+
+pub returns-clause-line : goal.returns-clause-line
+returns-clause-line c =
+    let w = words_left c.args.draws.now in
+    let one = c.draw-source.ensures.left in
+    let two = c.draw.ensures.left in
+    line-drawn c.play.result (link_on c.args.runner.now) c.args.client (seat_at (moment_of c.args.runner.now) c.args.client) (moment_of c.args.runner.now) _ _ _ _ _ _ _ _
+    c.draw-source.ensures.value
+    (ap (λ n. 16384 + n) (c.from-buffer.ensures ∙ c.draw.ensures.value ∙ ap (λ n. n % 16384) (second-word w _ one)))
+    (c.from-delay.ensures ∙ c.draw-2.ensures.value ∙ ap (λ n. n % 26) (third-word w _ _ one two)) c.play.ensures.line
+
+pub returns-clause-left : goal.returns-clause-left
+returns-clause-left c =
+    ok-of c.play.result _ (three-left (words_left c.args.draws.now) _ _ _ c.draw-source.ensures.left c.draw.ensures.left c.draw-2.ensures.left)

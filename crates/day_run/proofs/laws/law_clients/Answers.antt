@@ -1,0 +1,5 @@
+use Rattle.day_run.proofs.OneDay.{day-sound}
+use Rattle.day_run.proofs.laws.law_clients.Goals as goal
+
+pub returns : goal.returns
+returns c = day-sound
