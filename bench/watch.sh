@@ -1,0 +1,24 @@
+#!/bin/sh
+# Films watched over loopback, and the meter beside the plan: bench/watch.sh [PROGRAM] [PICTURES]
+#
+# PROGRAM is the built vodserve (default: ../crates/vodserve/out/vodserve); PICTURES the film's length at 25 pictures a
+# second (default 15000, ten minutes). Needs python3 and ffmpeg (Debian package ffmpeg). One server serves the film, and
+# `watch` plays it at several buffers, start delays and slots, all at once. Each copy is compared with the film, and the
+# meter's greatest level stands beside the one that the plan has. Prints one line for each; ends with status 1 where a copy
+# differs, and 2 where nothing could be tried. It takes twice the film's time. All files are made in a folder that is
+# removed again, and the server is stopped in any case.
+set -u
+here=$(cd "$(dirname "$0")" && pwd)
+program=$(realpath "${1:-$here/../crates/vodserve/out/vodserve}")
+pictures=${2:-15000}
+for tool in python3 ffmpeg; do
+    command -v "$tool" >/dev/null || { echo "watch.sh: $tool is missing; nothing is watched"; exit 2; }
+done
+[ -x "$program" ] || { echo "watch.sh: no program $program"; exit 2; }
+
+folder=$(mktemp -d)
+trap 'rm -rf "$folder"' EXIT
+trap 'exit 130' INT TERM
+ffmpeg -v error -f lavfi -i testsrc2=size=352x288:rate=25 -frames:v "$pictures" -c:v mpeg1video -bf 2 -b:v 800k \
+    -f mpeg1video "$folder/film.mpg" || { echo "watch.sh: no film was encoded"; exit 2; }
+python3 "$here/watch/play.py" "$program" "$folder" film.mpg

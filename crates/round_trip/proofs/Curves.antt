@@ -1,0 +1,57 @@
+-- The two curves of a film, as a server's plan and a client's meter have them.
+use Rattle.std.proofs.Common.{◌≡◌, ℕ, zero, suc, ◌+◌, ◌*◌, ◌/◌, ◌≤◌, nat_lt, cond, List, [], ◌∷◌, ◌++◌, length, take, sum_by, get_or, refl, sym, ap, ◌∙◌, arith}
+use Rattle.std.specs.List.{range_with_len}
+use Rattle.std.proofs.lemmas.List.{length-take-le, take_all, take_more}
+use Rattle.wire_curve.specs.declared.film.Timing.{Timing}
+use Rattle.wire_curve.specs.FilmCurves.{due, low_at, up_at, used_before as wire_used}
+use Rattle.wire_curve.proofs.Sums.{sum_by-range_more}
+use Rattle.rtsp_client.specs.declared.wishes.Wish.{Wish}
+use Rattle.rtsp_client.specs.Meters.{use_slot, used_before}
+use Rattle.rtsp_client.specs.Promises.{IsBetween}
+
+-- one unit more
+used-snoc : (wish : Wish) (time slot unit : ℕ) (sizes : List ℕ) (x : ℕ)
+    → used_before wish time slot unit (sizes ++ x ∷ []) ≡ used_before wish time slot unit sizes + cond (nat_lt (use_slot wish time (unit + length sizes)) slot) x 0
+used-snoc wish time slot unit [] x =
+    let here : unit ≡ unit + 0 = omega arith in
+    let same = ap (λ n. cond (nat_lt (use_slot wish time n) slot) x 0) here in
+    omega (arith, same)
+used-snoc wish time slot unit (size ∷ sizes) x =
+    let rest = used-snoc wish time slot (unit + 1) sizes x in
+    let here : unit + 1 + length sizes ≡ unit + suc (length sizes) = omega arith in
+    let same = ap (λ n. cond (nat_lt (use_slot wish time n) slot) x 0) here in
+    omega (arith, rest, same)
+
+used-range : (wish : Wish) (timing : Timing) (slot : ℕ) (sizes : List ℕ) (n : ℕ) → timing.slot_units ≡ wish.slot_units → timing.delay ≡ wish.startup → n ≤ length sizes
+    → used_before wish timing.picture_units slot 0 (take n sizes)
+    ≡ sum_by (λ k. cond (nat_lt (due timing k) slot) (get_or sizes k 0) 0) (range_with_len 0 n)
+used-range wish timing slot sizes zero units delay few = refl
+used-range wish timing slot sizes (suc n) units delay few =
+    let time = timing.picture_units in
+    let f : ℕ → ℕ = λ k. cond (nat_lt (due timing k) slot) (get_or sizes k 0) 0 in
+    let next : suc n ≡ n + 1 = omega arith in
+    let more : take (suc n) sizes ≡ take n sizes ++ get_or sizes n 0 ∷ [] = ap (λ m. take m sizes) next ∙ take_more sizes n 0 (omega (arith, few)) in
+    let rest = used-range wish timing slot sizes n units delay (omega (arith, few)) in
+    let front = used-snoc wish time slot 0 (take n sizes) (get_or sizes n 0) in
+    let place : 0 + length (take n sizes) ≡ n = omega (arith, length-take-le n sizes (omega (arith, few))) in
+    let used : use_slot wish time (0 + length (take n sizes)) ≡ due timing n =
+    ap (use_slot wish time) place ∙ (ap (λ u. n * time / u + wish.startup) (sym units) ∙ ap (λ d. n * time / timing.slot_units + d) (sym delay)) in
+    let last = ap (λ u. cond (nat_lt u slot) (get_or sizes n 0) 0) used in
+    let sums = sum_by-range_more f n in
+    let range = ap (λ m. sum_by f (range_with_len 0 m)) next in
+    omega (arith, ap (used_before wish time slot 0) more, front, rest, last, sums, range)
+
+used-same : (wish : Wish) (timing : Timing) (slot : ℕ) (sizes : List ℕ) → timing.slot_units ≡ wish.slot_units → timing.delay ≡ wish.startup → timing.played ≡ 0
+    → used_before wish timing.picture_units slot 0 sizes ≡ wire_used sizes timing slot
+used-same wish timing slot sizes units delay none =
+    let all = used-range wish timing slot sizes (length sizes) units delay (omega arith) in
+    omega (arith, ap (used_before wish timing.picture_units slot 0) (take_all (length sizes) sizes (omega arith)), all, none)
+
+-- between the curves of a plan is between those of the meter
+pub curves-same : (wish : Wish) (timing : Timing) (sizes : List ℕ) (slot came : ℕ) → timing.slot_units ≡ wish.slot_units → timing.delay ≡ wish.startup
+    → timing.buffer ≡ wish.buffer → timing.played ≡ 0 → low_at sizes timing slot ≤ came → came ≤ up_at sizes timing slot
+    → IsBetween wish sizes timing.picture_units slot came
+curves-same wish timing sizes slot came units delay buffer none above below =
+    let low = used-same wish timing (slot + 1) sizes units delay none in
+    let up = used-same wish timing slot sizes units delay none in
+    record { low = omega (arith, low, above); up = omega (arith, up, below, buffer) }

@@ -1,0 +1,16 @@
+pub mod Streaming
+pub mod Counting
+pub mod Sums
+pub mod Blocks
+pub mod Units
+pub mod Firsts
+pub mod Hearing
+pub mod Reading
+pub mod Film
+pub mod Finishing
+pub mod Readings
+pub mod Watching
+pub mod Serving
+pub mod Curves
+pub mod Woven
+pub mod Promised

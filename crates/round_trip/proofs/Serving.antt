@@ -1,0 +1,273 @@
+-- What a server's connection sent of its one play by the step of a slot.
+use Rattle.std.specs.Prelude.{⊤}
+use Rattle.std.proofs.Common.{◌≡◌, ℕ, ◌<◌, ◌≤◌, ◌⊎◌, List, [], ◌∷◌, ◌++◌, refl, sym, ap, subst, ◌∙◌, append_assoc, arith, inl, inr}
+use Rattle.vod_base.specs.Links.{Doing, HeardBytes, HeardEnd, HeardSlot, Sent}
+use Rattle.plan_cert.specs.Plan.{IsPlan}
+use Rattle.plan_cert.specs.Slots.{total_bytes}
+use Rattle.film_frames.specs.Runs.{run_pieces}
+use Rattle.admission.specs.declared.entries.Answer.{Answer}
+use Rattle.admission.specs.declared.entries.Answer.TheVariants.{Admitted, Halted, Looked, Overflow}
+use Rattle.admission.specs.declared.entries.Command.{Command}
+use Rattle.admission.specs.declared.entries.Command.TheVariants.{Play as PlayCommand, Halt as HaltCommand, Look as LookCommand}
+use Rattle.admission.specs.Makers.{Placed}
+use Rattle.session.specs.declared.states.Awaited.{Awaited}
+use Rattle.session.specs.declared.states.Awaited.TheVariants.{Nothing, Play, Halt, Look, Offer}
+use Rattle.session.specs.declared.states.Prepared.{Prepared}
+use Rattle.session.specs.Sendings.{slotted}
+use Rattle.session.specs.Standings.{Standing, awaits_of}
+use Rattle.conn.specs.Rounds.{Comes, Round, Runs}
+use Rattle.conn.specs.Turns.{Outcome, Unasked, Entered, WasFull, Offered, Part, Stage, Taking, Passed, Answered, IsFinished, TakesAll, film_bytes}
+use Rattle.transcript.specs.Courses.{Follows, IsParted, asked_by, askings_of, round_askings, takings_askings}
+use Rattle.transcript.specs.Plays.{Asking, Asks, FilmPlay, admitted, begun, kept_by, kept_in, kept_with, plays_of}
+use Rattle.transcript.proofs.Filming.{Stands, opened_stands, round_step, stands_by, taken_stands, takes_step}
+use Rattle.transcript.proofs.Turning.{Begins, Ends, Starts, Stays, TurnsAs, turns_as}
+
+-- ---- askings in two parts
+
+abbrev pub parted : (old new : Stage) (first rest : List Round) → Follows old (first ++ rest) new → IsParted old first rest new
+parted old new [] rest follows = (old, (refl, follows))
+parted old new (round ∷ first) rest follows =
+    let parts : IsParted follows.0 first rest new = parted follows.0 new first rest follows.1.1 in
+    (parts.0, ((follows.0, (follows.1.0, parts.1.0)), parts.1.1))
+
+pub askings-parts : (old new : Stage) (first rest : List Round) (follows : Follows old (first ++ rest) new)
+    → let parts : IsParted old first rest new = parted old new first rest follows in
+    askings_of old (first ++ rest) new follows ≡ askings_of old first parts.0 parts.1.0 ++ askings_of parts.0 rest new parts.1.1
+askings-parts old new [] rest follows = refl
+askings-parts old new (round ∷ first) rest follows =
+    let made = round_askings old round follows.0 follows.1.0 in
+    let parts = parted follows.0 new first rest follows.1.1 in
+    ap (λ l. made ++ l) (askings-parts follows.0 new first rest follows.1.1)
+    ∙ sym (append_assoc made (askings_of follows.0 first parts.0 parts.1.0) (askings_of parts.0 rest new parts.1.1))
+
+-- ---- what is kept, and which plays begin
+
+kept-append : (a b : List Asking) (all : ℕ) → kept_in (a ++ b) all ≡ kept_in a (kept_in b all)
+kept-append [] b all = refl
+kept-append (Asks asked outcome ∷ a) b all = ap (kept_with outcome) (kept-append a b all)
+
+-- what is kept is what is kept later, or a number
+abbrev IsKeptSome : (ℕ → ℕ) → Type 0
+IsKeptSome keep = ((later : ℕ) → keep later ≡ later) ⊎ ((n : ℕ) × ((later : ℕ) → keep later ≡ n))
+
+kept-command : (command : Command) → IsKeptSome (kept_by command)
+kept-command (PlayCommand slot plan) = inl (λ later. refl)
+kept-command (HaltCommand number keep) = inr (keep, λ later. refl)
+kept-command (LookCommand slot) = inl (λ later. refl)
+
+kept-outcome : (outcome : Outcome) → IsKeptSome (kept_with outcome)
+kept-outcome Unasked = inl (λ later. refl)
+kept-outcome (Entered placed) = kept-command placed.entry.command
+kept-outcome (WasFull entries live) = inl (λ later. refl)
+kept-outcome (Offered note) = inl (λ later. refl)
+
+kept-both : (one two : ℕ → ℕ) → IsKeptSome one → IsKeptSome two → IsKeptSome (λ later. one (two later))
+kept-both one two (inl same) (inl other) = inl (λ later. same (two later) ∙ other later)
+kept-both one two (inl same) (inr (n, is)) = inr (n, λ later. same (two later) ∙ is later)
+kept-both one two (inr (n, is)) other = inr (n, λ later. is (two later))
+
+kept-some : (a : List Asking) → IsKeptSome (kept_in a)
+kept-some [] = inl (λ later. refl)
+kept-some (Asks asked outcome ∷ a) = kept-both (kept_with outcome) (kept_in a) (kept-outcome outcome) (kept-some a)
+
+-- where all is kept in the end, all is kept so far
+kept-all : (a : List Asking) (rest all : ℕ) → IsKeptSome (kept_in a) → kept_in a rest ≡ all → kept_in a all ≡ all
+kept-all a rest all (inl same) is = same all
+kept-all a rest all (inr (n, const)) is = const all ∙ (sym (const rest) ∙ is)
+
+abbrev begun_play : Prepared → ℕ → List Asking → FilmPlay
+begun_play prepared start askings = record {
+  start = start;
+  plan = prepared.plan;
+  keep = kept_in askings (total_bytes prepared.plan);
+  before = prepared.run.sent;
+  pieces = run_pieces prepared.frames;
+}
+
+-- an asking begins no play, or one
+data Beginning (asked : Awaited) (outcome : Outcome) : Type 0 where
+  BeginsNone : ((askings : List Asking) → begun asked outcome askings ≡ []) → Beginning asked outcome
+  BeginsOne : (prepared : Prepared) (start : ℕ) → ((askings : List Asking) → begun asked outcome askings ≡ begun_play prepared start askings ∷ [])
+      → Beginning asked outcome
+
+entered-either : (asked : Awaited) (placed : Placed) (answer : Answer) → placed.entry.answer ≡ answer → Beginning asked (Entered placed)
+entered-either (Play prepared) placed (Admitted start) is = BeginsOne prepared start (λ askings. ap (λ a. admitted (Play prepared) a askings) is)
+entered-either (Play prepared) placed (Overflow slot booked asks) is = BeginsNone (λ askings. ap (λ a. admitted (Play prepared) a askings) is)
+entered-either (Play prepared) placed Halted is = BeginsNone (λ askings. ap (λ a. admitted (Play prepared) a askings) is)
+entered-either (Play prepared) placed (Looked now at booked) is = BeginsNone (λ askings. ap (λ a. admitted (Play prepared) a askings) is)
+entered-either Nothing placed answer is = BeginsNone (λ askings. refl)
+entered-either (Halt keep next) placed answer is = BeginsNone (λ askings. refl)
+entered-either (Look sequence) placed answer is = BeginsNone (λ askings. refl)
+entered-either (Offer sequence) placed answer is = BeginsNone (λ askings. refl)
+
+either : (asked : Awaited) (outcome : Outcome) → Beginning asked outcome
+either asked Unasked = BeginsNone (λ askings. refl)
+either asked (Entered placed) = entered-either asked placed placed.entry.answer refl
+either asked (WasFull entries live) = BeginsNone (λ askings. refl)
+either asked (Offered note) = BeginsNone (λ askings. refl)
+
+-- no play so far: all come later
+none-by : (asked : Awaited) (outcome : Outcome) (a b : List Asking) → (plays_of a ≡ [] → plays_of (a ++ b) ≡ plays_of b) → Beginning asked outcome → plays_of (Asks asked outcome ∷ a) ≡ []
+    → plays_of (Asks asked outcome ∷ (a ++ b)) ≡ plays_of b
+none-by asked outcome a b rest (BeginsNone is) none =
+    ap (λ l. l ++ plays_of (a ++ b)) (is (a ++ b)) ∙ rest (sym (ap (λ l. l ++ plays_of a) (is a)) ∙ none)
+none-by asked outcome a b rest (BeginsOne prepared start is) none =
+    let some : begun_play prepared start a ∷ plays_of a ≡ [] = sym (ap (λ l. l ++ plays_of a) (is a)) ∙ none in absurd (let no : ⊥ = cc in no)
+
+none-so-far : (a b : List Asking) → plays_of a ≡ [] → plays_of (a ++ b) ≡ plays_of b
+none-so-far [] b none = refl
+none-so-far (Asks asked outcome ∷ a) b none = none-by asked outcome a b (none-so-far a b) (either asked outcome) none
+
+-- none at all, none so far
+before-by : (asked : Awaited) (outcome : Outcome) (a b : List Asking) → (plays_of (a ++ b) ≡ [] → plays_of a ≡ []) → Beginning asked outcome → plays_of (Asks asked outcome ∷ (a ++ b)) ≡ []
+    → plays_of (Asks asked outcome ∷ a) ≡ []
+before-by asked outcome a b rest (BeginsNone is) none =
+    ap (λ l. l ++ plays_of a) (is a) ∙ rest (sym (ap (λ l. l ++ plays_of (a ++ b)) (is (a ++ b))) ∙ none)
+before-by asked outcome a b rest (BeginsOne prepared start is) none =
+    let some : begun_play prepared start (a ++ b) ∷ plays_of (a ++ b) ≡ [] = sym (ap (λ l. l ++ plays_of (a ++ b)) (is (a ++ b))) ∙ none in
+    absurd (let no : ⊥ = cc in no)
+
+none-before : (a b : List Asking) → plays_of (a ++ b) ≡ [] → plays_of a ≡ []
+none-before [] b none = refl
+none-before (Asks asked outcome ∷ a) b none = before-by asked outcome a b (none-before a b) (either asked outcome) none
+
+-- one play that is kept whole: it began already, and is the same, or it begins later
+abbrev pub IsSoFar : List Asking → List Asking → FilmPlay → Type 0
+IsSoFar a b play = (plays_of a ≡ play ∷ []) ⊎ ((plays_of a ≡ []) × (plays_of b ≡ play ∷ []))
+
+one-by : (asked : Awaited) (outcome : Outcome) (a b : List Asking) (play : FilmPlay) → (plays_of (a ++ b) ≡ play ∷ [] → IsSoFar a b play) → Beginning asked outcome
+    → plays_of (Asks asked outcome ∷ (a ++ b)) ≡ play ∷ [] → play.keep ≡ total_bytes play.plan → IsSoFar (Asks asked outcome ∷ a) b play
+one-by asked outcome a b play rest (BeginsNone is) one whole =
+    let P : List FilmPlay → Type 0 = λ l. (l ++ plays_of a ≡ play ∷ []) ⊎ ((l ++ plays_of a ≡ []) × (plays_of b ≡ play ∷ [])) in
+    subst P (sym (is a)) (rest (sym (ap (λ l. l ++ plays_of (a ++ b)) (is (a ++ b))) ∙ one))
+one-by asked outcome a b play rest (BeginsOne prepared start is) one whole =
+    let there : begun_play prepared start (a ++ b) ∷ plays_of (a ++ b) ≡ play ∷ [] = sym (ap (λ l. l ++ plays_of (a ++ b)) (is (a ++ b))) ∙ one in
+    let same : begun_play prepared start (a ++ b) ≡ play = cc in
+    let none : plays_of (a ++ b) ≡ [] = cc in
+    let all : kept_in (a ++ b) (total_bytes prepared.plan) ≡ total_bytes prepared.plan =
+    ap (λ (p : FilmPlay). p.keep) same ∙ (whole ∙ sym (ap (λ (p : FilmPlay). total_bytes p.plan) same)) in
+    let kept : kept_in a (total_bytes prepared.plan) ≡ kept_in (a ++ b) (total_bytes prepared.plan) =
+    kept-all a (kept_in b (total_bytes prepared.plan)) (total_bytes prepared.plan) (kept-some a) (sym (kept-append a b (total_bytes prepared.plan)) ∙ all) ∙ sym all in
+    let mine : begun_play prepared start a ≡ begun_play prepared start (a ++ b) =
+    ap (λ k. record (begun_play prepared start a) { keep = k }) kept in
+    inl (ap (λ l. l ++ plays_of a) (is a) ∙ (ap (λ l. begun_play prepared start a ∷ l) (none-before a b none) ∙ ap (λ p. p ∷ []) (mine ∙ same)))
+
+pub one-so-far : (a b : List Asking) (play : FilmPlay) → plays_of (a ++ b) ≡ play ∷ [] → play.keep ≡ total_bytes play.plan → IsSoFar a b play
+one-so-far [] b play one whole = inr (refl, one)
+one-so-far (Asks asked outcome ∷ a) b play one whole = one-by asked outcome a b play (λ is. one-so-far a b play is whole) (either asked outcome) one whole
+
+-- ---- a play begins after the slot that was heard, with a plan of segments
+
+pub record IsLatePlay (heard : ℕ) (play : FilmPlay) : Type 0 where
+  pub late : heard < play.start
+  pub plan : IsPlan play.plan
+
+abbrev IsLate : ℕ → Awaited → Outcome → Type 0
+IsLate heard asked outcome = (askings : List Asking) (play : FilmPlay) (rest : List FilmPlay) → begun asked outcome askings ≡ play ∷ rest → IsLatePlay heard play
+
+abbrev pub AreLate : ℕ → List Asking → Type 0
+AreLate heard [] = ⊤
+AreLate heard (Asks asked outcome ∷ askings) = IsLate heard asked outcome × AreLate heard askings
+
+late-append : (heard : ℕ) (a b : List Asking) → AreLate heard a → AreLate heard b → AreLate heard (a ++ b)
+late-append heard [] b one two = two
+late-append heard (Asks asked outcome ∷ a) b one two = (one.0, late-append heard a b one.1 two)
+
+late-lower : (low heard : ℕ) (a : List Asking) → low ≤ heard → AreLate heard a → AreLate low a
+late-lower low heard [] less are = tt
+late-lower low heard (Asks asked outcome ∷ a) less are = (
+  λ askings play rest is. let its = are.0 askings play rest is in record { late = omega (arith, less, its.late); plan = its.plan },
+  late-lower low heard a less are.1,
+)
+
+late-by : (heard : ℕ) (asked : Awaited) (outcome : Outcome) (a : List Asking) (play : FilmPlay) (rest : List FilmPlay)
+    → (plays_of a ≡ play ∷ rest → IsLatePlay heard play) → Beginning asked outcome → AreLate heard (Asks asked outcome ∷ a) → plays_of (Asks asked outcome ∷ a) ≡ play ∷ rest → IsLatePlay heard play
+late-by heard asked outcome a play rest next (BeginsNone none) are is =
+    next (sym (ap (λ l. l ++ plays_of a) (none a)) ∙ is)
+late-by heard asked outcome a play rest next (BeginsOne prepared start one) are is =
+    let all : begun_play prepared start a ∷ plays_of a ≡ play ∷ rest = sym (ap (λ l. l ++ plays_of a) (one a)) ∙ is in
+    let same : begun_play prepared start a ≡ play = cc in
+    are.0 a play [] (one a ∙ ap (λ p. p ∷ []) same)
+
+pub late-play : (heard : ℕ) (a : List Asking) (play : FilmPlay) (rest : List FilmPlay) → AreLate heard a → plays_of a ≡ play ∷ rest → IsLatePlay heard play
+late-play heard [] play rest are is = absurd (let no : ⊥ = cc in no)
+late-play heard (Asks asked outcome ∷ a) play rest are is = late-by heard asked outcome a play rest (λ same. late-play heard a play rest are.1 same) (either asked outcome) are is
+
+-- by what was asked
+none-late : (heard : ℕ) (asked : Awaited) (outcome : Outcome) → ((askings : List Asking) → begun asked outcome askings ≡ []) → IsLate heard asked outcome
+none-late heard asked outcome none = λ askings play rest is.
+    let clash : [] ≡ play ∷ rest = sym (none askings) ∙ is in absurd (let no : ⊥ = cc in no)
+
+begins-late : (old new : Standing) (asked : Awaited) (outcome : Outcome) → Begins old asked outcome new → IsLate old.heard asked outcome
+begins-late old new asked outcome begins = λ askings play rest is.
+    let mine : begun asked outcome askings ≡ begun_play begins.prepared begins.start askings ∷ [] =
+    ap (λ o. begun asked o askings) begins.outcome_is
+    ∙ (ap (λ a. admitted a begins.placed.entry.answer askings) begins.asked_is ∙ ap (λ a. admitted (Play begins.prepared) a askings) begins.answer) in
+    let all : begun_play begins.prepared begins.start askings ∷ [] ≡ play ∷ rest = sym mine ∙ is in
+    let same : begun_play begins.prepared begins.start askings ≡ play = cc in
+    let L : FilmPlay → Type 0 = λ p. IsLatePlay old.heard p in
+    subst L same (record { late = begins.later; plan = subst IsPlan begins.paced begins.pacing.plan })
+
+turn-late : (old new : Standing) (asked : Awaited) (outcome : Outcome) → TurnsAs old asked outcome new → IsLate old.heard asked outcome
+turn-late old new asked outcome (Stays same after still) = none-late old.heard asked outcome still.none
+turn-late old new asked outcome (Starts after begins) = begins-late old new asked outcome begins
+turn-late old new asked outcome (Ends after halts) = none-late old.heard asked outcome halts.none
+
+takes-late : (old new : Stage) (takings : List Taking) (takes : TakesAll old takings new) → Stands old.session
+    → AreLate old.session.heard (takings_askings old takings new takes)
+takes-late old new [] takes stands = tt
+takes-late old new (Passed n ∷ takings) takes stands =
+    let same : takes.0.session ≡ old.session = ap (λ (s : Stage). s.session) takes.1.0.2 in
+    let P : Standing → Type 0 = λ s. AreLate s.heard (takings_askings takes.0 takings new takes.1.1) in
+    subst P same (takes-late takes.0 new takings takes.1.1 (taken_stands old takes.0 (Passed n) takes.1.0 stands))
+takes-late old new (Answered message outcome parts ∷ takings) takes stands =
+    let replied = takes.1.0 in
+    let mid = taken_stands old takes.0 (Answered message outcome parts) takes.1.0 stands in
+    let one = takes_step old takes.0 (Answered message outcome parts ∷ []) (takes.0, (takes.1.0, refl)) stands in (
+      turn-late old.session replied.answered replied.heard.asking.awaited outcome (turns_as old.session message outcome replied.answered replied.heard stands.rest),
+      late-lower old.session.heard takes.0.session.heard (takings_askings takes.0 takings new takes.1.1) one.on.later (takes-late takes.0 new takings takes.1.1 mid),
+    )
+
+-- the halt of a play that is done begins none
+halt-none : (asked : Awaited) (halt : Outcome) (s new : Standing) → IsFinished (awaits_of asked) s halt new → (askings : List Asking) → begun asked halt askings ≡ []
+halt-none Nothing Unasked s new is = λ askings. refl
+halt-none Nothing (Entered placed) s new is = absurd is
+halt-none Nothing (WasFull entries live) s new is = λ askings. refl
+halt-none Nothing (Offered note) s new is = λ askings. refl
+halt-none (Play prepared) halt s new is = absurd is
+halt-none (Halt keep next) Unasked s new is = λ askings. refl
+halt-none (Halt keep next) (Entered placed) s new is = λ askings. refl
+halt-none (Halt keep next) (WasFull entries live) s new is = λ askings. refl
+halt-none (Halt keep next) (Offered note) s new is = λ askings. refl
+halt-none (Look sequence) halt s new is = absurd is
+halt-none (Offer sequence) halt s new is = absurd is
+
+comes-none : (old opened : Stage) (event : Doing) (due : List Part) (halt : Outcome) → Comes old event due halt opened
+    → (askings : List Asking) → begun (asked_by old.session event) halt askings ≡ []
+comes-none old opened (HeardBytes bytes) due halt comes = λ askings. ap (λ h. begun Nothing h askings) comes.1
+comes-none old opened (HeardSlot slot) due halt comes =
+    halt-none (slotted old.session slot).awaited halt (slotted old.session slot) opened.session comes.1.finished
+comes-none old opened HeardEnd due halt comes = absurd comes
+comes-none old opened (Sent byte) due halt comes = absurd comes
+
+-- an event leaves the heard slot, or raises it
+opened-heard : (old new : Stage) (round : Round) (runs : Runs old round new) → Stands old.session → old.session.heard ≤ runs.opened.session.heard
+opened-heard old new round runs stands =
+    let alone : Runs old (record round { takings = [] }) runs.opened = record { opened = runs.opened; comes = runs.comes; takes = refl } in
+    (round_step old runs.opened (record round { takings = [] }) alone stands).on.later
+
+pub course-late : (old new : Stage) (rounds : List Round) (follows : Follows old rounds new) → Stands old.session
+    → AreLate old.session.heard (askings_of old rounds new follows)
+course-late old new [] follows stands = tt
+course-late old new (round ∷ rounds) follows stands =
+    let runs = follows.1.0 in
+    let step = round_step old follows.0 round runs stands in
+    let mid : Stands follows.0.session = stands_by old.session follows.0.session (round_askings old round follows.0 runs) (film_bytes round.due) step in
+    let opened = opened_stands old follows.0 round runs stands in
+    let grown : old.session.heard ≤ runs.opened.session.heard = opened-heard old follows.0 round runs stands in
+    late-append old.session.heard (round_askings old round follows.0 runs) (askings_of follows.0 rounds new follows.1.1) (
+      none-late old.session.heard (asked_by old.session round.event) round.halt (comes-none old runs.opened round.event round.due round.halt runs.comes),
+      late-lower old.session.heard runs.opened.session.heard (takings_askings runs.opened round.takings follows.0 runs.takes) grown
+          (takes-late runs.opened follows.0 round.takings runs.takes opened),
+    )
+    (late-lower old.session.heard follows.0.session.heard (askings_of follows.0 rounds new follows.1.1) step.on.later (course-late follows.0 new rounds follows.1.1 mid))

@@ -1,0 +1,96 @@
+-- A stream of whole pieces, cut at any place.
+use Rattle.std.proofs.Common.{◌≡◌, ℕ, suc, ◌+◌, ◌-◌, ◌<◌, nat_le, cond, List, [], ◌∷◌, ◌++◌, length, take, drop, refl, sym, ap, subst, ◌∙◌, arith, inl, inr}
+use Rattle.std.proofs.lemmas.Bool.{cases_lt, le-leb, lt-leb}
+use Rattle.std.proofs.lemmas.List.{append-nil, length-take-le, take-append-le, take-append-drop, take_all}
+use Rattle.std.proofs.Math.Seq.{drop-append-add, take-append-add}
+use Rattle.film_frames.specs.Runs.{count_ended}
+use Rattle.film_frames.specs.Tracks.{framed}
+use Rattle.interleave.specs.Streams.{AreCut, IsPieceLength, IsStream, LineEnd, WholeBlock, WholeRequest}
+use Rattle.interleave.proofs.Streams.{cut_more, cuts_agree, piece_once, piece_stays, piece_within}
+
+-- a piece by itself, whatever comes after it
+pub record IsAlone (piece : List ℕ) : Type 0 where
+  pub some : 0 < length piece
+  pub whole : IsPieceLength piece (length piece)
+
+abbrev pub AreAlone : List (List ℕ) → Type 0
+AreAlone [] = Unit {0}
+AreAlone (piece ∷ pieces) = IsAlone piece × AreAlone pieces
+
+pub alone-append : (xs ys : List (List ℕ)) → AreAlone xs → AreAlone ys → AreAlone (xs ++ ys)
+alone-append [] ys one two = two
+alone-append (x ∷ xs) ys one two = (one.0, alone-append xs ys one.1 two)
+
+-- the front of a piece at which a stream is cut
+abbrev pub rest_at : ℕ → List (List ℕ) → List ℕ
+rest_at c [] = []
+rest_at c (piece ∷ pieces) = cond (nat_le (length piece) c) (rest_at (c - length piece) pieces) (take c piece)
+
+no-piece : (n : ℕ) → IsPieceLength [] n → ⊥
+no-piece n (LineEnd one some end) = omega (arith, some)
+no-piece n (WholeBlock starts four size inside) = omega (arith, four)
+no-piece n (WholeRequest starts size inside) = omega (arith, starts.0)
+
+take-none : (c : ℕ) (xs : List ℕ) → xs ≡ [] → take c xs ≡ []
+take-none c xs is = ap (λ l. take c l) is ∙ take_all c [] (omega arith)
+
+stream-cons : (p t : List ℕ) (ps : List (List ℕ)) (r : List ℕ) → IsAlone p → IsStream t ps r → IsStream (p ++ t) (p ∷ ps) r
+stream-cons p t ps r alone stream =
+    let zero_ : length p ≡ length p + 0 = omega arith in
+    let front : p ≡ take (length p) (p ++ t) = sym (take-append-le (length p) p t (omega arith) ∙ take_all (length p) p (omega arith)) in
+    let after : t ≡ drop (length p) (p ++ t) = sym (ap (λ n. drop n (p ++ t)) zero_ ∙ drop-append-add p t 0) in
+    let P : List ℕ → Type 0 = λ xs. AreCut xs ps r in
+    ((length p, (piece_stays p t (length p) alone.whole, front, subst P after stream.0)), stream.1)
+
+stream-short : (p t : List ℕ) (c : ℕ) → IsAlone p → c < length p → IsStream (take c (p ++ t)) [] (take c p)
+stream-short p t c alone less =
+    let same : take c (p ++ t) ≡ take c p = take-append-le c p t (omega (arith, less)) in
+    let none : (n : ℕ) → IsPieceLength (take c p) n → ⊥ = λ n is.
+    let stays : IsPieceLength (take c p ++ drop c p) n = piece_stays (take c p) (drop c p) n is in
+    let P : List ℕ → Type 0 = λ xs. IsPieceLength xs n in
+    let there : IsPieceLength p n = subst P (take-append-drop c p) stays in
+    omega (arith, piece_once p n (length p) there alone.whole, piece_within (take c p) n is, length-take-le c p (omega (arith, less)), less) in
+    (same, none)
+
+-- a front of a stream is its whole pieces in front, and the front of the next one
+pub cut-at : (ps : List (List ℕ)) (c : ℕ) → AreAlone ps → IsStream (take c (framed ps)) (take (count_ended c ps) ps) (rest_at c ps)
+cut-at [] c alone = let P : List ℕ → Type 0 = λ xs. IsStream xs [] [] in subst P (sym (take-none c [] refl)) (refl, no-piece)
+cut-at (p ∷ ps) c alone =
+    elim (cases_lt c (length p)) [
+      | inl less ↦
+          let count : count_ended c (p ∷ ps) ≡ 0 = ap (λ b. cond b (count_ended (c - length p) ps + 1) 0) (lt-leb (length p) c less) in
+          let rest : rest_at c (p ∷ ps) ≡ take c p = ap (λ b. cond b (rest_at (c - length p) ps) (take c p)) (lt-leb (length p) c less) in
+          let P : ℕ → Type 0 = λ k. IsStream (take c (p ++ framed ps)) (take k (p ∷ ps)) (rest_at c (p ∷ ps)) in
+          let Q : List ℕ → Type 0 = λ r. IsStream (take c (p ++ framed ps)) [] r in
+          subst P (sym count) (subst Q (sym rest) (stream-short p (framed ps) c alone.0 less))
+      | inr more ↦
+          let d = c - length p in
+          let sum : c ≡ length p + d = omega (arith, more) in
+          let count : count_ended c (p ∷ ps) ≡ suc (count_ended d ps) =
+          ap (λ b. cond b (count_ended d ps + 1) 0) (le-leb (length p) c more) ∙ omega arith in
+          let rest : rest_at c (p ∷ ps) ≡ rest_at d ps = ap (λ b. cond b (rest_at d ps) (take c p)) (le-leb (length p) c more) in
+          let bytes : take c (p ++ framed ps) ≡ p ++ take d (framed ps) = ap (λ n. take n (p ++ framed ps)) sum ∙ take-append-add p (framed ps) d in
+          let P : ℕ → Type 0 = λ k. IsStream (take c (p ++ framed ps)) (take k (p ∷ ps)) (rest_at c (p ∷ ps)) in
+          let Q : List ℕ → Type 0 = λ r. IsStream (take c (p ++ framed ps)) (p ∷ take (count_ended d ps) ps) r in
+          let R : List ℕ → Type 0 = λ xs. IsStream xs (p ∷ take (count_ended d ps) ps) (rest_at d ps) in
+          subst P (sym count) (subst Q (sym rest) (subst R (sym bytes)
+          (stream-cons p (take d (framed ps)) (take (count_ended d ps) ps) (rest_at d ps) alone.0 (cut-at ps d alone.1))))
+    ]
+
+front-is : (rest end : List ℕ) (all cut more : List (List ℕ)) → cut ≡ all ++ more → AreCut rest more end → ((n : ℕ) → IsPieceLength rest n → ⊥)
+    → ((later : List (List ℕ)) × (all ≡ cut ++ later))
+front-is rest end all cut [] is are none = ([], sym (append-nil cut ∙ is ∙ append-nil all))
+front-is rest end all cut (piece ∷ more) is are none = absurd (none are.0 are.1.0)
+
+-- whatever was cut is a front of the pieces
+pub cut-front : (ps : List (List ℕ)) (c : ℕ) (bytes : List ℕ) (cut : List (List ℕ)) (rest : List ℕ) (n : ℕ) → AreAlone ps → bytes ≡ take c (framed ps)
+    → AreCut bytes cut rest → IsPieceLength rest n → ((more : List (List ℕ)) × (take (count_ended c ps) ps ≡ (cut ++ take n rest ∷ []) ++ more))
+cut-front ps c bytes cut rest n alone is are next =
+    let all = take (count_ended c ps) ps in
+    let P : List ℕ → Type 0 = λ xs. IsStream xs all (rest_at c ps) in
+    let stream : IsStream bytes all (rest_at c ps) = subst P (sym is) (cut-at ps c alone) in
+    let longer : AreCut bytes (cut ++ take n rest ∷ []) (drop n rest) = cut_more bytes cut rest n are next in
+    elim (cuts_agree bytes (cut ++ take n rest ∷ []) all (drop n rest) (rest_at c ps) longer stream.0) [
+      | inl more ↦ (more.0, more.1.0)
+      | inr more ↦ front-is (rest_at c ps) (drop n rest) all (cut ++ take n rest ∷ []) more.0 more.1.0 more.1.1 stream.1
+    ]

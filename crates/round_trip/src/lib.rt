@@ -1,0 +1,7 @@
+//! The promise from a server to its client's meter: a film comes back whole, and the buffer runs
+//! neither over nor empty. Laws over what the two ends' links tell.
+#![tactic(auto)]
+
+mod laws;
+
+pub use laws::law_watched_whole;
