@@ -14,3 +14,4 @@ pub mod Serving
 pub mod Curves
 pub mod Woven
 pub mod Promised
+pub mod OneFilm

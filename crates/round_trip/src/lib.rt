@@ -5,3 +5,6 @@
 mod laws;
 
 pub use laws::law_watched_whole;
+
+#[cfg(test)]
+mod tests;

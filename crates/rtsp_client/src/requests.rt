@@ -67,17 +67,41 @@ pub(crate) fn setup_request(alloc: Global, wish: &Wish) -> Result<Vec<u8>, NoMem
     Ok(text)
 }
 
+/// A request on the film, in this session: its method, the head's text between URL and session, and
+/// what follows the session.
+fn session_request(
+    alloc: Global,
+    wish: &Wish,
+    session: &[u8],
+    method: &[u8],
+    fields: &[u8],
+    end: &[u8],
+) -> Result<Vec<u8>, NoMemory>
+    ensures { IfOk result (λ text. text.items
+        ≡ (((method.now ++ film_url wish.now) ++ fields.now) ++ session.now) ++ end.now) }
+{
+    let mut text = Vec::new(alloc);
+    put(&mut text, method)?;
+    put_url(&mut text, wish)?;
+    put(&mut text, fields)?;
+    put(&mut text, session)?;
+    put(&mut text, end)?;
+    Ok(text)
+}
+
 /// PLAY of the whole film, in this session.
 pub(crate) fn play_request(alloc: Global, wish: &Wish, session: &[u8]) -> Result<Vec<u8>, NoMemory>
     ensures { IfOk result (λ text. text.items ≡ play_text wish.now session.now) }
 {
-    let mut text = Vec::new(alloc);
-    put(&mut text, b"PLAY ")?;
-    put_url(&mut text, wish)?;
-    put(&mut text, b" RTSP/1.0\r\nCSeq: 2\r\nSession: ")?;
-    put(&mut text, session)?;
-    put(&mut text, b"\r\nRange: npt=0-\r\n\r\n")?;
-    Ok(text)
+    let fields = b" RTSP/1.0\r\nCSeq: 2\r\nSession: ";
+    session_request(
+        alloc,
+        wish,
+        session,
+        b"PLAY ",
+        fields,
+        b"\r\nRange: npt=0-\r\n\r\n",
+    )
 }
 
 /// TEARDOWN of this session.
@@ -88,11 +112,6 @@ pub(crate) fn teardown_request(
 ) -> Result<Vec<u8>, NoMemory>
     ensures { IfOk result (λ text. text.items ≡ teardown_text wish.now session.now) }
 {
-    let mut text = Vec::new(alloc);
-    put(&mut text, b"TEARDOWN ")?;
-    put_url(&mut text, wish)?;
-    put(&mut text, b" RTSP/1.0\r\nCSeq: 3\r\nSession: ")?;
-    put(&mut text, session)?;
-    put(&mut text, b"\r\n\r\n")?;
-    Ok(text)
+    let fields = b" RTSP/1.0\r\nCSeq: 3\r\nSession: ";
+    session_request(alloc, wish, session, b"TEARDOWN ", fields, b"\r\n\r\n")
 }
