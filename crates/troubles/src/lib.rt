@@ -9,7 +9,7 @@ mod words;
 
 pub use faults::{Fault, Trouble};
 pub use lines::{add, add_count, say};
-pub use statuses::status_of;
+pub use statuses::{law_status_tells_cause, status_of};
 
 #[cfg(test)]
 mod tests;

@@ -1,5 +1,6 @@
 ghost use Rattle.std.specs.Prelude.{◌≡◌};
-ghost use Rattle.troubles.specs.Statuses.{status_of};
+ghost use Rattle.troubles.specs.Statuses.{TellsCause, status_of};
+ghost use Rattle.troubles.specs.declared.faults.Trouble.{Trouble as Cause};
 
 use crate::faults::Trouble;
 
@@ -18,3 +19,8 @@ pub fn status_of(trouble: &Trouble<'_>) -> u8
         Trouble::LinkFault => 8,
     }
 }
+
+/// A law: each status tells one cause.
+pub fn law_status_tells_cause()
+    ensures { (trouble : Cause) → TellsCause (status_of trouble) trouble }
+{}

@@ -1,0 +1,77 @@
+-- Each status is that of one cause.
+use Rattle.std.proofs.Common.{refl, arith}
+use Rattle.troubles.specs.Statuses.{TellsCause, status_of}
+use Rattle.troubles.specs.declared.faults.Trouble.{Trouble}
+use Rattle.troubles.specs.declared.faults.Trouble.TheVariants.{Usage, Refused, StoreFault, SinkFault, NoMemory, GateFault, LinkFault}
+
+pub cause_told : (trouble : Trouble) → TellsCause (status_of trouble) trouble
+cause_told Usage = record {
+  usage = λ is. refl;
+  refused = λ is. absurd (omega (arith, is));
+  store = λ is. absurd (omega (arith, is));
+  sink = λ is. absurd (omega (arith, is));
+  memory = λ is. absurd (omega (arith, is));
+  gate = λ is. absurd (omega (arith, is));
+  link = λ is. absurd (omega (arith, is));
+  no_other = (omega arith, omega arith);
+}
+cause_told (Refused name fault) = record {
+  usage = λ is. absurd (omega (arith, is));
+  refused = λ is. (name, (fault, refl));
+  store = λ is. absurd (omega (arith, is));
+  sink = λ is. absurd (omega (arith, is));
+  memory = λ is. absurd (omega (arith, is));
+  gate = λ is. absurd (omega (arith, is));
+  link = λ is. absurd (omega (arith, is));
+  no_other = (omega arith, omega arith);
+}
+cause_told (StoreFault name) = record {
+  usage = λ is. absurd (omega (arith, is));
+  refused = λ is. absurd (omega (arith, is));
+  store = λ is. (name, refl);
+  sink = λ is. absurd (omega (arith, is));
+  memory = λ is. absurd (omega (arith, is));
+  gate = λ is. absurd (omega (arith, is));
+  link = λ is. absurd (omega (arith, is));
+  no_other = (omega arith, omega arith);
+}
+cause_told SinkFault = record {
+  usage = λ is. absurd (omega (arith, is));
+  refused = λ is. absurd (omega (arith, is));
+  store = λ is. absurd (omega (arith, is));
+  sink = λ is. refl;
+  memory = λ is. absurd (omega (arith, is));
+  gate = λ is. absurd (omega (arith, is));
+  link = λ is. absurd (omega (arith, is));
+  no_other = (omega arith, omega arith);
+}
+cause_told NoMemory = record {
+  usage = λ is. absurd (omega (arith, is));
+  refused = λ is. absurd (omega (arith, is));
+  store = λ is. absurd (omega (arith, is));
+  sink = λ is. absurd (omega (arith, is));
+  memory = λ is. refl;
+  gate = λ is. absurd (omega (arith, is));
+  link = λ is. absurd (omega (arith, is));
+  no_other = (omega arith, omega arith);
+}
+cause_told GateFault = record {
+  usage = λ is. absurd (omega (arith, is));
+  refused = λ is. absurd (omega (arith, is));
+  store = λ is. absurd (omega (arith, is));
+  sink = λ is. absurd (omega (arith, is));
+  memory = λ is. absurd (omega (arith, is));
+  gate = λ is. refl;
+  link = λ is. absurd (omega (arith, is));
+  no_other = (omega arith, omega arith);
+}
+cause_told LinkFault = record {
+  usage = λ is. absurd (omega (arith, is));
+  refused = λ is. absurd (omega (arith, is));
+  store = λ is. absurd (omega (arith, is));
+  sink = λ is. absurd (omega (arith, is));
+  memory = λ is. absurd (omega (arith, is));
+  gate = λ is. absurd (omega (arith, is));
+  link = λ is. refl;
+  no_other = (omega arith, omega arith);
+}
