@@ -200,7 +200,6 @@ impl Station {
         let Station { turns } = self;
         let Seat { pass } = seat;
         let ledger = turns.close(pass);
-        ledger.holds();
         ledger.into_book()
     }
 }
