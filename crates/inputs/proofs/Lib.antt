@@ -7,3 +7,4 @@ pub mod VideoLemmas
 pub mod Tokens
 pub mod TokenLaws
 pub mod LoadLemmas
+pub mod SmallNumbers

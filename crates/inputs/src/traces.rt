@@ -1,5 +1,6 @@
-ghost use Rattle.std.specs.Prelude.{◌≡◌, ◌<◌, ◌≤◌, ◌+◌, ◌^◌, ◌∷◌, ℕ, List, [], Some, not, true, false, length, take, drop, slice_range, MatchOption, IfOk, IfErr};
+ghost use Rattle.std.specs.Prelude.{◌≡◌, ◌<◌, ◌≤◌, ◌+◌, ◌^◌, ◌∷◌, ℕ, List, [], Some, not, true, false, length, take, drop, slice_range, MatchOption, IfOk, IfErr, IfSome};
 ghost use Rattle.std.specs.List.{list_all};
+ghost use Rattle.vod_base.specs.Numbers.{number_of};
 ghost use Rattle.inputs.specs.Traces.{is_blank, begins_token, tokens_from, AreSeparated, IsTraceText, AddsSize, Token as TextToken};
 ghost use Rattle.inputs.specs.TraceRefusals.{IsTraceRefused};
 
@@ -90,13 +91,36 @@ fn next_token(text: &[u8], at: usize) -> Option<Token>
     Some(Token { from, to })
 }
 
+#[tactic(auto, using(crate::proofs::SmallNumbers::small_steps))]
+/// The number of a token, as [`read_number`] answers it, in one pass over its digits; None for most
+/// tokens that write none, or one above [`MOST_SIZE`].
+fn small_number(token: &[u8]) -> Option<u64>
+    ensures { IfSome result (λ number. number_of token.now ≡ Some number) }
+{
+    if token.is_empty() {
+        return None;
+    }
+    let mut number = 0u64;
+    for digit in token {
+        if !digit.is_ascii_digit() || number > MOST_SIZE {
+            return None;
+        }
+        number = number * 10 + u64::from(*digit - b'0');
+    }
+    Some(number)
+}
+
 /// The size that a token adds to a trace of `count` sizes with `total` bytes, where it may.
 fn next_size(token: &[u8], count: usize, total: u64) -> Option<u64>
     requires { total ≤ 2 ^ 40 }
     ensures { MatchOption result ((size : ℕ) → AddsSize token.now count total size →
         ⊥) (AddsSize token.now count total) }
 {
-    match read_number(token) {
+    let number = match small_number(token) {
+        Some(number) => Ok(number),
+        None => read_number(token),
+    };
+    match number {
         Ok(size) if count < MOST_PICTURES && size <= MOST_SIZE && total + size <= MOST_TOTAL =>
             Some(size),
         _ => None,
