@@ -1,6 +1,6 @@
 #!/bin/sh
-# Plays and halts by 1, 2, 4, 16 and 64 threads, at a station and at a plain book under a mutex; and the processor time of 63 threads
-# that wait while one has the turn, or the lock, for a second: bench/station.sh
+# Plays and halts by 1, 2, 4, 16 and 64 threads, at a station and at a plain book under a mutex, with what both cost in processor time
+# and sleeps; and the processor time of 63 threads that wait while one has the turn, or the lock, for a second: bench/station.sh
 #
 # Needs rt and rustc. The programs are proved and built (`rt run`), so that both run at full speed; the first run takes minutes.
 set -eu
@@ -30,6 +30,8 @@ echo "station"
 (cd $program && rt run) | grep 'ns a call'
 echo "plain book under a mutex"
 ./plain
+echo "both again, three times: seconds of processor time and how often threads slept"
+python3 "$here/station/switches.py" 3 station "$program/out/bench_station" mutex ./plain
 (cd $hold && rt run) >/dev/null
 echo "63 that wait for a second: seconds by the clock, and of processor time"
 python3 "$here/measure.py" 3 turn "$hold/out/bench_hold" lock "./plain hold"
