@@ -56,16 +56,16 @@ asked_replied : (old asking : Standing) (is : IsPlayAsked old asking) (outcome :
 asked_replied old asking is Unasked new same heard answered = absurd answered
 asked_replied old asking is (Entered placed) new same heard answered =
     entry_replied old asking is placed placed.entry.answer new same (answered.0 ∙ ap (λ h. play_of h is.planned.plan) heard) answered.1
-asked_replied old asking is (WasFull entries live) new same heard answered = (sequence_of asking.awaited, ap (λ (s : Standing). s.text) answered)
-asked_replied old asking is (Offered note) new same heard answered = absurd answered
+asked_replied old asking is (WasFull more entries live) new same heard answered = (sequence_of asking.awaited, ap (λ (s : Standing). s.text) answered.0)
+asked_replied old asking is (Offered at_slot note) new same heard answered = absurd answered
 
 lacks_replied : (old : Standing) (ask : Ask) (asking : Standing) (outcome : Outcome) (new : Standing) → LacksMemory old ask asking →
     IsAnswered asking AskReply outcome new → IsPlayReplied old outcome new
 lacks_replied old ask asking Unasked new lacks answered =
     subst (HasCode 500) (sym (ap (λ (s : Standing). s.text) answered)) (memory_code old ask asking lacks)
 lacks_replied old ask asking (Entered placed) new lacks answered = absurd answered
-lacks_replied old ask asking (WasFull entries live) new lacks answered = absurd answered
-lacks_replied old ask asking (Offered note) new lacks answered = absurd answered
+lacks_replied old ask asking (WasFull more entries live) new lacks answered = absurd answered
+lacks_replied old ask asking (Offered at_slot note) new lacks answered = absurd answered
 
 either_replied : (old : Standing) (ask : Ask) (asking : Standing) (outcome : Outcome) (new : Standing) → AsksOrLacks old ask asking →
     ChangesState ask old asking → asking.heard ≡ old.heard → IsAnswered asking ask outcome new → IsPlayReplied old outcome new

@@ -18,3 +18,4 @@ pub mod Staying
 pub mod Taking
 pub mod Telling
 pub mod Workers
+pub mod Journals

@@ -29,14 +29,14 @@ use Rattle.conn.proofs.Filming.{sent_slot as sent_by, sent_through, slot_film, s
 no_halt : (old : Standing) (keep : ℕ) (outcome : Outcome) (new : Standing) → IsHalted old keep outcome new → IsUnhalted outcome → ⊥
 no_halt old keep Unasked new halted free = halted
 no_halt old keep (Entered placed) new halted free = subst IsNoHaltMade halted.command free
-no_halt old keep (WasFull entries live) new halted free = halted
-no_halt old keep (Offered note) new halted free = halted
+no_halt old keep (WasFull more entries live) new halted free = halted
+no_halt old keep (Offered at_slot note) new halted free = halted
 
 finished_same : (asks : Awaits) (old : Standing) (halt : Outcome) (new : Standing) → IsFinished asks old halt new → IsUnhalted halt → new ≡ old
 finished_same NoAnswer old Unasked new is free = is
 finished_same NoAnswer old (Entered placed) new is free = absurd is
-finished_same NoAnswer old (WasFull entries live) new is free = absurd is
-finished_same NoAnswer old (Offered note) new is free = absurd is
+finished_same NoAnswer old (WasFull more entries live) new is free = absurd is
+finished_same NoAnswer old (Offered at_slot note) new is free = absurd is
 finished_same (PlayAnswer plan) old halt new is free = absurd is
 finished_same (HaltAnswer keep) old halt new is free = absurd (no_halt old keep halt new is free)
 finished_same LookAnswer old halt new is free = absurd is
@@ -213,21 +213,21 @@ answer_left : (old : Standing) (ask : Ask) (outcome : Outcome) (new : Standing) 
     IsAnswered old ask outcome new → IsUnhalted outcome → IsLeft old new
 answer_left old AskReply Unasked new setup play is answered free = subst (IsLeft old) (sym answered) (refl, refl)
 answer_left old AskReply (Entered placed) new setup play is answered free = absurd answered
-answer_left old AskReply (WasFull entries live) new setup play is answered free = absurd answered
-answer_left old AskReply (Offered note) new setup play is answered free = absurd answered
+answer_left old AskReply (WasFull more entries live) new setup play is answered free = absurd answered
+answer_left old AskReply (Offered at_slot note) new setup play is answered free = absurd answered
 answer_left old (AskPlay plan) Unasked new setup play is answered free = absurd answered
 answer_left old (AskPlay plan) (Entered placed) new setup play is answered free = play_left old placed placed.entry.answer new setup play is answered.1
-answer_left old (AskPlay plan) (WasFull entries live) new setup play is answered free = subst (IsLeft old) (sym answered) (refl, refl)
-answer_left old (AskPlay plan) (Offered note) new setup play is answered free = absurd answered
+answer_left old (AskPlay plan) (WasFull more entries live) new setup play is answered free = subst (IsLeft old) (sym answered.0) (refl, refl)
+answer_left old (AskPlay plan) (Offered at_slot note) new setup play is answered free = absurd answered
 answer_left old (AskHalt keep) outcome new setup play is answered free = absurd (no_halt old keep outcome new answered free)
 answer_left old (AskLook slot) Unasked new setup play is answered free = absurd answered
 answer_left old (AskLook slot) (Entered placed) new setup play is answered free = look_left old placed placed.entry.answer new answered.1
-answer_left old (AskLook slot) (WasFull entries live) new setup play is answered free = subst (IsLeft old) (sym answered) (refl, refl)
-answer_left old (AskLook slot) (Offered note) new setup play is answered free = absurd answered
+answer_left old (AskLook slot) (WasFull more entries live) new setup play is answered free = subst (IsLeft old) (sym answered.0) (refl, refl)
+answer_left old (AskLook slot) (Offered at_slot note) new setup play is answered free = absurd answered
 answer_left old (AskOffer plan offers) Unasked new setup play is answered free = absurd answered
 answer_left old (AskOffer plan offers) (Entered placed) new setup play is answered free = absurd answered
-answer_left old (AskOffer plan offers) (WasFull entries live) new setup play is answered free = absurd answered
-answer_left old (AskOffer plan offers) (Offered note) new setup play is answered free = subst (IsLeft old) (sym answered.2) (refl, refl)
+answer_left old (AskOffer plan offers) (WasFull more entries live) new setup play is answered free = absurd answered
+answer_left old (AskOffer plan offers) (Offered at_slot note) new setup play is answered free = subst (IsLeft old) (sym answered.2) (refl, refl)
 
 left_on : (a b c : Standing) → IsLeft a b → IsLeft b c → IsLeft a c
 left_on a b c first second = (second.0 ∙ first.0, second.1 ∙ first.1)

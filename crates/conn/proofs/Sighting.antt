@@ -1,15 +1,24 @@
 -- Lemmas on the course of a connection, one doing after another.
 use Rattle.std.specs.Prelude.{⊤}
-use Rattle.std.proofs.Common.{◌≡◌, ℕ, ◌+◌, ◌<◌, ◌≤◌, ◌&&◌, Bool, true, false, if◌then◌else◌, List, [], ◌∷◌, ◌++◌, length, take, drop, Option, Some, None, Ok, refl, ap, sym, ◌∙◌, subst, inl, inr}
+use Rattle.std.proofs.Common.{◌≡◌, ℕ, ◌+◌, ◌<◌, ◌≤◌, ◌&&◌, Bool, true, false, if◌then◌else◌, List, [], ◌∷◌, ◌++◌, length, take, drop, Option, Some, None, Ok, Err, refl, ap, sym, ◌∙◌, subst, inl, inr, arith}
 use Rattle.std.proofs.lemmas.List.{append-nil, append_assoc, map-append, length-append, length-take-le}
 use Rattle.interleave.specs.Pieces.{IsFirst}
 use Rattle.interleave.specs.declared.pieces.Step.TheVariants.{Request}
+use Rattle.interleave.specs.declared.pieces.DemuxFault.{DemuxFault}
+use Rattle.interleave.specs.declared.pieces.DemuxFault.TheVariants.{HeadTooLong as LongHead, BodyTooLong as LongBody}
 use Rattle.vod_base.specs.Links.{Doing, IsFrontTold, Sent, HeardBytes, HeardEnd, HeardSlot, sends, told_more}
 use Rattle.vod_base.specs.declared.links.Heard.{Heard}
 use Rattle.vod_base.specs.declared.links.Heard.TheVariants.{Bytes, Slot, End}
-use Rattle.station.specs.Seats.{Sitting}
+use Rattle.station.specs.Answers.{IsFull, Made}
+use Rattle.station.specs.Ledgers.{IsOffered}
+use Rattle.station.specs.declared.answers.Offered.{Offered as Told}
+use Rattle.station.specs.Seats.{IsSameSeat, IsSeat, Sitting}
+use Rattle.early_start.specs.Offered.{Found}
+use Rattle.plan_cert.specs.declared.Segment.{Segment}
 use Rattle.admission.specs.Makers.{Placed}
+use Rattle.admission.specs.declared.entries.Answer.{Answer}
 use Rattle.admission.specs.declared.entries.Answer.TheVariants.{Halted}
+use Rattle.admission.specs.declared.entries.Command.{Command}
 use Rattle.admission.specs.declared.entries.Command.TheVariants.{Halt}
 use Rattle.conn.specs.declared.reports.ConnEnd.{ConnEnd}
 use Rattle.conn.specs.declared.reports.ConnEnd.TheVariants.{Ended, LinkFault, TooMuchInput}
@@ -20,7 +29,10 @@ use Rattle.session.specs.declared.notes.OfferNote.{OfferNote}
 use Rattle.session.specs.Sendings.{IsTold, can_reply, due_bytes, is_between, is_sending, is_taken, step_bytes, stepped_in}
 use Rattle.session.specs.Standings.{IsDue, Open, Standing, open_of}
 use Rattle.conn.specs.declared.connections.Connection.{Connection}
-use Rattle.conn.specs.Events.{HasHeard}
+use Rattle.conn.specs.Events.{HasHeard, IsEndOf}
+use Rattle.conn.specs.Journals.{AgreeWith, terms_of}
+use Rattle.conn.proofs.Cutting.{seat_none, seat_on}
+use Rattle.conn.proofs.Journals.{agree_then, entry_agrees, full_agrees, offer_agrees, terms_same}
 use Rattle.conn.specs.Served.{HasClosed}
 use Rattle.conn.specs.Turns.{Outcome, Unasked, Entered, WasFull, Offered, Part, Film, Text, Stage, Taking, Passed, Answered, IsAnswered, IsClosed, IsHalted, IsNext, IsPassed, Takes, TakesAll, after_reply, due_parts, entry_in, parts_bytes, reply_parts, slot_parts, stage}
 use Rattle.conn.specs.Rounds.{Comes, Ends, Unheard, PeerEnded, Overfull, AtPiece, InSlot, InReply, IsIdle, IsStopped, IsUnheard, Round, Runs, RunsAll, ending_bytes, ending_doings, ending_outcomes, entries_in, round_bytes, round_outcomes, rounds_doings, rounds_outcomes, taking_bytes, taking_outcomes, takings_bytes, takings_outcomes}
@@ -49,15 +61,18 @@ entries_in-append (x ∷ xs) ys =
     ap (λ es. entry_in x ++ es) (entries_in-append xs ys) ∙ sym (append_assoc (entry_in x) (entries_in xs) (entries_in ys))
 
 pub noted_none : (seat : Sitting) → AreNoted seat seat []
-noted_none seat = record { mine = sym (append-nil seat.mine) }
+noted_none seat = record { mine = sym (append-nil seat.mine); seat = seat_none seat; agree = omega arith }
 
 pub noted_unasked : (seat : Sitting) → AreNoted seat seat (Unasked ∷ [])
-noted_unasked seat = record { mine = sym (append-nil seat.mine) }
+noted_unasked seat = record { mine = sym (append-nil seat.mine); seat = seat_none seat; agree = omega arith }
 
 pub noted_on : (a b c : Sitting) (xs ys : List Outcome) → AreNoted a b xs → AreNoted b c ys → AreNoted a c (xs ++ ys)
 noted_on a b c xs ys first second = record {
   mine = second.mine ∙ ap (λ m. m ++ entries_in ys) first.mine ∙ append_assoc a.mine (entries_in xs) (entries_in ys)
       ∙ ap (λ es. a.mine ++ es) (sym (entries_in-append xs ys));
+  seat = seat_on a b c first.seat second.seat;
+  agree = agree_then (terms_of a) b.seen c.seen (length a.seen) xs ys second.seat.longer first.agree
+      (subst (λ terms. AgreeWith terms c.seen (length b.seen) ys) (terms_same a b first.seat) second.agree);
 }
 
 -- pieces
@@ -297,38 +312,49 @@ run_over count end a b c run unheard is =
       noted = subst (λ os. AreNoted a.seat b.seat os) (sym (append-nil (rounds_outcomes run.rounds))) run.noted;
     })
 
+-- a piece in front that is too long: what was taken up before it stands, and the connection ends
+pub taken_fault : (a b : Sight) (fault : DemuxFault) (end : ConnEnd) → b ≡ a → a.stage.session.torn ≡ false → IsFirst a.stage.input (Err fault)
+    → IsEndOf fault end → HasTaken a b × IsStopped end b.stage
+taken_fault a b LongHead end same torn first is =
+    subst (λ (s : Sight). HasTaken a s × IsStopped end s.stage) (sym same) (taken_none a, subst (λ e. IsStopped e a.stage) (sym is) (torn, first))
+taken_fault a b LongBody end same torn first is =
+    subst (λ (s : Sight). HasTaken a s × IsStopped end s.stage) (sym same) (taken_none a, subst (λ e. IsStopped e a.stage) (sym is) (torn, first))
+
 -- the station's answers
-pub answered_entry : (old : Standing) (ask : Ask) (new : Standing) (seat next : Sitting) (placed : Placed) → IsAnswered old ask (Entered placed) new →
-    next.mine ≡ seat.mine ++ placed ∷ [] → HasAnswered old ask new seat next
-answered_entry old ask new seat next placed answered mine = record {
-  outcome = Entered placed;
+pub answered_entry : (old : Standing) (ask : Ask) (new : Standing) (seat next : Sitting) (more : ℕ) (command : Command) (place : ℕ) (answer : Answer)
+    → IsSeat seat → IsSeat next → IsSameSeat seat next → Made seat next more command place answer
+    → IsAnswered old ask (Entered (record { place = place; entry = record { maker = seat.number; command = command; answer = answer } })) new
+    → HasAnswered old ask new seat next
+answered_entry old ask new seat next more command place answer kept also same made answered = record {
+  outcome = Entered (record { place = place; entry = record { maker = seat.number; command = command; answer = answer } });
   answered = answered;
-  noted = record { mine = mine };
+  noted = record { mine = made.mine; seat = same; agree = entry_agrees seat next more command place answer kept also same made };
 }
 
-pub answered_full : (old : Standing) (ask : Ask) (new : Standing) (seat next : Sitting) (entries live : ℕ) → IsAnswered old ask (WasFull entries live) new →
-    next.mine ≡ seat.mine → HasAnswered old ask new seat next
-answered_full old ask new seat next entries live answered mine = record {
-  outcome = WasFull entries live;
+pub answered_full : (old : Standing) (ask : Ask) (new : Standing) (seat next : Sitting) (more entries live : ℕ) → IsSameSeat seat next
+    → IsFull seat next more entries live → IsAnswered old ask (WasFull more entries live) new → HasAnswered old ask new seat next
+answered_full old ask new seat next more entries live same full answered = record {
+  outcome = WasFull more entries live;
   answered = answered;
-  noted = record { mine = mine ∙ sym (append-nil seat.mine) };
+  noted = record { mine = full.mine ∙ sym (append-nil seat.mine); seat = same; agree = full_agrees seat next more entries live same full };
 }
 
-pub answered_offer : (old : Standing) (ask : Ask) (new : Standing) (seat next : Sitting) (note : OfferNote) → IsAnswered old ask (Offered note) new →
-    next.mine ≡ seat.mine → HasAnswered old ask new seat next
-answered_offer old ask new seat next note answered mine = record {
-  outcome = Offered note;
+pub answered_offer : (old : Standing) (ask : Ask) (new : Standing) (seat next : Sitting) (heard : ℕ) (plan : List Segment) (told : Told) (found : Found)
+    → IsSameSeat seat next → next.mine ≡ seat.mine → IsOffered next.steps next.seen heard plan told found
+    → IsAnswered old ask (Offered heard (record { seen = told.seen; first = told.first; plan = plan; offers = found })) new
+    → HasAnswered old ask new seat next
+answered_offer old ask new seat next heard plan told found same mine offered answered = record {
+  outcome = Offered heard (record { seen = told.seen; first = told.first; plan = plan; offers = found });
   answered = answered;
-  noted = record { mine = mine ∙ sym (append-nil seat.mine) };
+  noted = record { mine = mine ∙ sym (append-nil seat.mine); seat = same; agree = offer_agrees seat next heard plan told found same offered };
 }
 
-pub halted_entry : (old : Standing) (keep : ℕ) (new : Standing) (seat next : Sitting) (number place maker : ℕ) → Halts old place new →
-    next.mine ≡ seat.mine ++ record { place = place; entry = record { maker = maker; command = Halt number keep; answer = Halted } } ∷ [] →
-    HasHalted old keep new seat next
-halted_entry old keep new seat next number place maker halts mine = record {
-  outcome = Entered (record { place = place; entry = record { maker = maker; command = Halt number keep; answer = Halted } });
+pub halted_entry : (old : Standing) (keep : ℕ) (new : Standing) (seat next : Sitting) (number place : ℕ) → IsSeat seat → IsSeat next → IsSameSeat seat next
+    → Made seat next 0 (Halt number keep) place Halted → Halts old place new → HasHalted old keep new seat next
+halted_entry old keep new seat next number place kept also same made halts = record {
+  outcome = Entered (record { place = place; entry = record { maker = seat.number; command = Halt number keep; answer = Halted } });
   halted = record { number = number; command = refl; answer = refl; halts = halts };
-  noted = record { mine = mine };
+  noted = record { mine = made.mine; seat = same; agree = entry_agrees seat next 0 (Halt number keep) place Halted kept also same made };
 }
 
 -- a request, by what it asks for

@@ -110,8 +110,8 @@ halted_well old keep (Entered placed) new film well halted =
       settings = well.settings;
       state = halted_values made.films made.source made.settings made.counts made.heard film old.state old.awaited well.values;
     })
-halted_well old keep (WasFull entries live) new film well halted = absurd halted
-halted_well old keep (Offered note) new film well halted = absurd halted
+halted_well old keep (WasFull more entries live) new film well halted = absurd halted
+halted_well old keep (Offered at_slot note) new film well halted = absurd halted
 
 values_in : (films : List Stored) (source : Source) (settings : Settings) (counts : Counts) (heard : ℕ) (film : List ℕ) (state : State) →
     IsStateOf films source settings counts heard film state → IsSetUpIn (length films) state
@@ -132,23 +132,23 @@ answered_well : (old : Standing) (ask : Ask) (outcome : Outcome) (new : Standing
     IsAnswered old ask outcome new → IsWell new (film_since film outcome)
 answered_well old AskReply Unasked new film well answered = subst (λ s. IsWell s film) (sym answered) well
 answered_well old AskReply (Entered placed) new film well answered = absurd answered
-answered_well old AskReply (WasFull entries live) new film well answered = absurd answered
-answered_well old AskReply (Offered note) new film well answered = absurd answered
+answered_well old AskReply (WasFull more entries live) new film well answered = absurd answered
+answered_well old AskReply (Offered at_slot note) new film well answered = absurd answered
 answered_well old (AskPlay plan) Unasked new film well answered = absurd answered
 answered_well old (AskPlay plan) (Entered placed) new film well answered = play_answered old placed placed.entry.answer new plan film well answered.1
-answered_well old (AskPlay plan) (WasFull entries live) new film well answered =
-    subst (λ s. IsWell s film) (sym answered) (record { films = well.0.films; settings = well.0.settings; state = well.0.state })
-answered_well old (AskPlay plan) (Offered note) new film well answered = absurd answered
+answered_well old (AskPlay plan) (WasFull more entries live) new film well answered =
+    subst (λ s. IsWell s film) (sym answered.0) (record { films = well.0.films; settings = well.0.settings; state = well.0.state })
+answered_well old (AskPlay plan) (Offered at_slot note) new film well answered = absurd answered
 answered_well old (AskHalt keep) outcome new film well answered = halted_well old keep outcome new (film_since film outcome) well answered
 answered_well old (AskLook slot) Unasked new film well answered = absurd answered
 answered_well old (AskLook slot) (Entered placed) new film well answered = look_answered old placed placed.entry.answer new film well answered.1
-answered_well old (AskLook slot) (WasFull entries live) new film well answered =
-    subst (λ s. IsWell s film) (sym answered) (record { films = well.films; settings = well.settings; state = well.state })
-answered_well old (AskLook slot) (Offered note) new film well answered = absurd answered
+answered_well old (AskLook slot) (WasFull more entries live) new film well answered =
+    subst (λ s. IsWell s film) (sym answered.0) (record { films = well.films; settings = well.settings; state = well.state })
+answered_well old (AskLook slot) (Offered at_slot note) new film well answered = absurd answered
 answered_well old (AskOffer plan offers) Unasked new film well answered = absurd answered
 answered_well old (AskOffer plan offers) (Entered placed) new film well answered = absurd answered
-answered_well old (AskOffer plan offers) (WasFull entries live) new film well answered = absurd answered
-answered_well old (AskOffer plan offers) (Offered note) new film well answered =
+answered_well old (AskOffer plan offers) (WasFull more entries live) new film well answered = absurd answered
+answered_well old (AskOffer plan offers) (Offered at_slot note) new film well answered =
     subst (λ s. IsWell s film) (sym answered.2) (record { films = well.films; settings = well.settings; state = well.state })
 
 pub heard_well : (old : Standing) (message : List ℕ) (outcome : Outcome) (new : Standing) (film : List ℕ) → IsWell old film →
@@ -333,8 +333,8 @@ slot_state (Stopping setup stop) old slot film is well =
 finish_well : (asks : Awaits) (old : Standing) (halt : Outcome) (new : Standing) (film : List ℕ) → IsWell old film → IsFinished asks old halt new → IsWell new film
 finish_well NoAnswer old Unasked new film well is = subst (λ s. IsWell s film) (sym is) well
 finish_well NoAnswer old (Entered placed) new film well is = absurd is
-finish_well NoAnswer old (WasFull entries live) new film well is = absurd is
-finish_well NoAnswer old (Offered note) new film well is = absurd is
+finish_well NoAnswer old (WasFull more entries live) new film well is = absurd is
+finish_well NoAnswer old (Offered at_slot note) new film well is = absurd is
 finish_well (PlayAnswer plan) old halt new film well is = absurd is
 finish_well (HaltAnswer keep) old halt new film well is = halted_well old keep halt new film (halting_of old film well) is
 finish_well LookAnswer old halt new film well is = absurd is

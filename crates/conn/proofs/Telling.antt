@@ -98,9 +98,10 @@ refusal_more mine mine' made made' text told = record {
   full = λ is.
       let its = told.full is in
       record {
+        more = its.more;
         entries = its.entries;
         live = its.live;
-        full = Contains-append_left made made' (WasFull its.entries its.live) its.full;
+        full = Contains-append_left made made' (WasFull its.more its.entries its.live) its.full;
         sequence = its.sequence;
         text_is = its.text_is;
       };
@@ -138,13 +139,14 @@ told_overflow made placed slot booked asked sequence answer = record {
   full = λ is. absurd (overflow_not_full sequence slot booked asked is);
 }
 
-told_full : (made : List Outcome) (entries live sequence : ℕ) → IsTold (made ++ WasFull entries live ∷ []) (full_text sequence entries live)
-told_full made entries live sequence = record {
+told_full : (made : List Outcome) (more entries live sequence : ℕ) → IsTold (made ++ WasFull more entries live ∷ []) (full_text sequence entries live)
+told_full made more entries live sequence = record {
   overflow = λ is. absurd (full_not_overflow sequence entries live is);
   full = λ is. record {
+    more = more;
     entries = entries;
     live = live;
-    full = Contains-push made (WasFull entries live);
+    full = Contains-push made (WasFull more entries live);
     sequence = sequence;
     text_is = refl;
   };
@@ -172,40 +174,40 @@ look_told made old placed (Looked now at booked) new answered =
     subst (IsTold (made ++ Entered placed ∷ [])) (sym (ap (λ (s : Standing). s.text) answered))
     (told_plain (made ++ Entered placed ∷ []) _ (ok_plain _ _ _))
 
-full_told : (made : List Outcome) (old : Standing) (entries live : ℕ) (new : Standing) → new ≡ after_full old entries live →
-    IsTold (made ++ WasFull entries live ∷ []) new.text
-full_told made old entries live new is =
-    subst (IsTold (made ++ WasFull entries live ∷ [])) (sym (ap (λ (s : Standing). s.text) is)) (told_full made entries live _)
+full_told : (made : List Outcome) (old : Standing) (more entries live : ℕ) (new : Standing) → new ≡ after_full old entries live →
+    IsTold (made ++ WasFull more entries live ∷ []) new.text
+full_told made old more entries live new is =
+    subst (IsTold (made ++ WasFull more entries live ∷ [])) (sym (ap (λ (s : Standing). s.text) is)) (told_full made more entries live _)
 
 -- a halt leaves the reply
 halted_text : (old : Standing) (keep : ℕ) (outcome : Outcome) (new : Standing) → IsHalted old keep outcome new → new.text ≡ old.text
 halted_text old keep Unasked new halted = absurd halted
 halted_text old keep (Entered placed) new halted = ap (λ (s : Standing). s.text) halted.halts
-halted_text old keep (WasFull entries live) new halted = absurd halted
-halted_text old keep (Offered note) new halted = absurd halted
+halted_text old keep (WasFull more entries live) new halted = absurd halted
+halted_text old keep (Offered at_slot note) new halted = absurd halted
 
 answered_told : (made : List Outcome) (old : Standing) (ask : Ask) (outcome : Outcome) (new : Standing) → RefusesNone ask old → IsAnswered old ask outcome new →
     IsTold (made ++ outcome ∷ []) new.text
 answered_told made old AskReply Unasked new heard answered =
     subst (IsTold (made ++ Unasked ∷ [])) (sym (ap (λ (s : Standing). s.text) answered)) (told_plain (made ++ Unasked ∷ []) old.text heard)
 answered_told made old AskReply (Entered placed) new heard answered = absurd answered
-answered_told made old AskReply (WasFull entries live) new heard answered = absurd answered
-answered_told made old AskReply (Offered note) new heard answered = absurd answered
+answered_told made old AskReply (WasFull more entries live) new heard answered = absurd answered
+answered_told made old AskReply (Offered at_slot note) new heard answered = absurd answered
 answered_told made old (AskPlay plan) Unasked new heard answered = absurd answered
 answered_told made old (AskPlay plan) (Entered placed) new heard answered = play_told made old placed placed.entry.answer new refl heard answered.1
-answered_told made old (AskPlay plan) (WasFull entries live) new heard answered = full_told made old entries live new answered
-answered_told made old (AskPlay plan) (Offered note) new heard answered = absurd answered
+answered_told made old (AskPlay plan) (WasFull more entries live) new heard answered = full_told made old more entries live new answered.0
+answered_told made old (AskPlay plan) (Offered at_slot note) new heard answered = absurd answered
 answered_told made old (AskHalt keep) outcome new heard answered =
     subst (IsTold (made ++ outcome ∷ [])) (sym (halted_text old keep outcome new answered)) (told_plain (made ++ outcome ∷ []) old.text heard)
 answered_told made old (AskLook slot) Unasked new heard answered = absurd answered
 answered_told made old (AskLook slot) (Entered placed) new heard answered = look_told made old placed placed.entry.answer new answered.1
-answered_told made old (AskLook slot) (WasFull entries live) new heard answered = full_told made old entries live new answered
-answered_told made old (AskLook slot) (Offered note) new heard answered = absurd answered
+answered_told made old (AskLook slot) (WasFull more entries live) new heard answered = full_told made old more entries live new answered.0
+answered_told made old (AskLook slot) (Offered at_slot note) new heard answered = absurd answered
 answered_told made old (AskOffer plan offers) Unasked new heard answered = absurd answered
 answered_told made old (AskOffer plan offers) (Entered placed) new heard answered = absurd answered
-answered_told made old (AskOffer plan offers) (WasFull entries live) new heard answered = absurd answered
-answered_told made old (AskOffer plan offers) (Offered note) new heard answered =
-    subst (IsTold (made ++ Offered note ∷ [])) (sym (ap (λ (s : Standing). s.text) answered.2)) (told_plain (made ++ Offered note ∷ []) _ (ok_plain _ _ _))
+answered_told made old (AskOffer plan offers) (WasFull more entries live) new heard answered = absurd answered
+answered_told made old (AskOffer plan offers) (Offered at_slot note) new heard answered =
+    subst (IsTold (made ++ Offered at_slot note ∷ [])) (sym (ap (λ (s : Standing). s.text) answered.2)) (told_plain (made ++ Offered at_slot note ∷ []) _ (ok_plain _ _ _))
 
 heard_told : (made : List Outcome) (old : Standing) (message : List ℕ) (outcome : Outcome) (new : Standing) → HasHeard old message outcome new →
     IsTold (made ++ outcome ∷ []) new.text
@@ -285,8 +287,8 @@ slot_tells made old slot told =
 finished_text : (asks : Awaits) (old : Standing) (halt : Outcome) (new : Standing) → IsFinished asks old halt new → new.text ≡ old.text
 finished_text NoAnswer old Unasked new is = ap (λ (s : Standing). s.text) is
 finished_text NoAnswer old (Entered placed) new is = absurd is
-finished_text NoAnswer old (WasFull entries live) new is = absurd is
-finished_text NoAnswer old (Offered note) new is = absurd is
+finished_text NoAnswer old (WasFull more entries live) new is = absurd is
+finished_text NoAnswer old (Offered at_slot note) new is = absurd is
 finished_text (PlayAnswer plan) old halt new is = absurd is
 finished_text (HaltAnswer keep) old halt new is = halted_text old keep halt new is
 finished_text LookAnswer old halt new is = absurd is

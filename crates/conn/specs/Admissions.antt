@@ -41,6 +41,6 @@ IsEntryReplied old placed (Looked now at booked) new = ⊥
 abbrev pub IsPlayReplied : Standing → Outcome → Standing → Type 0
 IsPlayReplied old Unasked new = HasCode 500 new.text
 IsPlayReplied old (Entered placed) new = IsEntryReplied old placed placed.entry.answer new
-IsPlayReplied old (WasFull entries live) new = (sequence : ℕ)
+IsPlayReplied old (WasFull more entries live) new = (sequence : ℕ)
     × (new.text ≡ full_text sequence entries live)
-IsPlayReplied old (Offered note) new = ⊥
+IsPlayReplied old (Offered at_slot note) new = ⊥

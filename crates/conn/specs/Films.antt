@@ -49,8 +49,8 @@ IsNoHalt (Look slot) = ⊤
 abbrev pub IsUnhalted : Outcome → Type 0
 IsUnhalted Unasked = ⊤
 IsUnhalted (Entered placed) = IsNoHalt placed.entry.command
-IsUnhalted (WasFull entries live) = ⊤
-IsUnhalted (Offered note) = ⊤
+IsUnhalted (WasFull more entries live) = ⊤
+IsUnhalted (Offered at_slot note) = ⊤
 
 abbrev pub AreUnhalted : List Outcome → Type 0
 AreUnhalted [] = ⊤

@@ -10,3 +10,4 @@ pub mod Words
 pub mod Plays
 pub mod Promises
 pub mod Admissions
+pub mod Journals

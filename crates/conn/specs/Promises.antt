@@ -50,9 +50,10 @@ pub record TellsOverflowOf (seat : Sitting) (text : List ℕ) : Type 0 where
 
 -- one of the station's answers was that its journal is full: the text has its two numbers
 pub record TellsFullOf (outcomes : List Outcome) (text : List ℕ) : Type 0 where
+  pub more : ℕ
   pub entries : ℕ
   pub live : ℕ
-  pub full : Contains outcomes (WasFull entries live)
+  pub full : Contains outcomes (WasFull more entries live)
   pub sequence : ℕ
   pub text_is : text ≡ full_text sequence entries live
 

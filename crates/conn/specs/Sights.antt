@@ -1,7 +1,7 @@
 -- What is seen of a connection as it goes on, and what each of its doings adds.
 use Rattle.std.specs.Prelude.{◌≡◌, ℕ, ◌⊎◌, ◌++◌, List, [], ◌∷◌, length, Option, Some, None}
 use Rattle.vod_base.specs.Links.{Doing, sends, told_more}
-use Rattle.station.specs.Seats.{Sitting}
+use Rattle.station.specs.Seats.{IsSameSeat, Sitting}
 use Rattle.session.specs.declared.asks.Ask.{Ask}
 use Rattle.session.specs.Standings.{Standing}
 use Rattle.conn.specs.declared.connections.Connection.{Connection}
@@ -9,6 +9,7 @@ use Rattle.conn.specs.declared.connections.Taken.{Taken}
 use Rattle.conn.specs.declared.connections.Taken.TheVariants.{Gone, Waits, End}
 use Rattle.conn.specs.declared.reports.ConnEnd.{ConnEnd}
 use Rattle.conn.specs.declared.reports.ConnEnd.TheVariants.{LinkFault}
+use Rattle.conn.specs.Journals.{AgreeWith, terms_of}
 use Rattle.conn.specs.Turns.{HasHeard, HasStepped, IsAnswered, IsHalted, Outcome, Part, Stage, Taking, TakesAll, parts_bytes, stage}
 use Rattle.conn.specs.Rounds.{Ending, Ends, HasFailedInReply, HasFailedInSlot, IsIdle, IsStopped, Round, Runs, RunsAll, ending_bytes, ending_doings, ending_events, ending_outcomes, entries_in, round_bytes, round_outcomes, rounds_doings, rounds_outcomes, takings_bytes, takings_outcomes}
 
@@ -22,9 +23,12 @@ abbrev pub sight : Connection → Option (List Doing) → Sitting → Sight
 sight connection told seat =
     record { stage = stage connection.session connection.input; told = told; seat = seat }
 
--- what the station answered is what the seat made
+-- what the station answered is what the seat made, and agrees with the journal that it has seen
+-- then, after all that it had seen before
 pub record AreNoted (old new : Sitting) (outcomes : List Outcome) : Type 0 where
   pub mine : new.mine ≡ old.mine ++ entries_in outcomes
+  pub seat : IsSameSeat old new
+  pub agree : AgreeWith (terms_of old) new.seen (length old.seen) outcomes
 
 -- these bytes were sent
 abbrev pub IsSent : Option (List Doing) → List ℕ → Option (List Doing) → Type 0

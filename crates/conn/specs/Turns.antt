@@ -42,13 +42,13 @@ film_bytes [] = []
 film_bytes (Film bytes ∷ parts) = bytes ++ film_bytes parts
 film_bytes (Text bytes ∷ parts) = film_bytes parts
 
--- what the station answered: it wasn't asked; it made an entry; its journal was full; it made an
--- offer
+-- what the station answered: it wasn't asked; it made an entry; its journal had no room for so many
+-- more, by its two numbers; or, asked by a heard slot, it made an offer
 pub data Outcome : Type 0 where
   Unasked : Outcome
   Entered : Placed → Outcome
-  WasFull : ℕ → ℕ → Outcome
-  Offered : OfferNote → Outcome
+  WasFull : ℕ → ℕ → ℕ → Outcome
+  Offered : ℕ → OfferNote → Outcome
 
 -- a play's entry has the heard slot and the plan that was asked for; an admitted play begins in a
 -- later slot
@@ -78,8 +78,8 @@ pub record IsHaltAnswered (old : Standing) (keep : ℕ) (placed : Placed) (new :
 abbrev pub IsHalted : Standing → ℕ → Outcome → Standing → Type 0
 IsHalted old keep Unasked new = ⊥
 IsHalted old keep (Entered placed) new = IsHaltAnswered old keep placed new
-IsHalted old keep (WasFull entries live) new = ⊥
-IsHalted old keep (Offered note) new = ⊥
+IsHalted old keep (WasFull more entries live) new = ⊥
+IsHalted old keep (Offered at_slot note) new = ⊥
 
 -- what the session asked, what came of it, and the session after it
 abbrev pub IsAnswered : Standing → Ask → Outcome → Standing → Type 0
@@ -87,13 +87,16 @@ IsAnswered old AskReply Unasked new = new ≡ old
 IsAnswered old (AskPlay plan) (Entered placed) new =
     (placed.entry.command ≡ play_of old.heard plan)
     × IsPlayAnswered old placed placed.entry.answer new
-IsAnswered old (AskPlay plan) (WasFull entries live) new = new ≡ after_full old entries live
+IsAnswered old (AskPlay plan) (WasFull more entries live) new =
+    (new ≡ after_full old entries live) × (more ≡ 2)
 IsAnswered old (AskHalt keep) outcome new = IsHalted old keep outcome new
 IsAnswered old (AskLook slot) (Entered placed) new =
     (placed.entry.command ≡ look_at slot) × IsLookAnswered old placed placed.entry.answer new
-IsAnswered old (AskLook slot) (WasFull entries live) new = new ≡ after_full old entries live
-IsAnswered old (AskOffer plan offers) (Offered note) new =
+IsAnswered old (AskLook slot) (WasFull more entries live) new =
+    (new ≡ after_full old entries live) × (more ≡ 1)
+IsAnswered old (AskOffer plan offers) (Offered at_slot note) new =
     (note.plan ≡ plan) × (note.offers.wait ≡ offers.wait) × (new ≡ after_offer old note)
+    × (at_slot ≡ old.heard)
 IsAnswered _ _ _ _ = ⊥
 
 -- a request was heard and answered, with what the station answered on the way
@@ -182,5 +185,5 @@ IsClosed _ _ _ _ = ⊥
 abbrev pub entry_in : Outcome → List Placed
 entry_in Unasked = []
 entry_in (Entered placed) = placed ∷ []
-entry_in (WasFull entries live) = []
-entry_in (Offered note) = []
+entry_in (WasFull more entries live) = []
+entry_in (Offered at_slot note) = []

@@ -259,6 +259,7 @@ impl<'a> Connection<'a> {
         ensures input { self.new.input ≡ self.old.input }
         ensures lost { self.new.session.lost ≡ self.old.session.lost }
     {
+        seat.holds();
         match station.play(rt, seat, self.session.heard_slot(), plan) {
             Ok(booking) => {
                 self.session.admitted(booking.number, booking.start);
@@ -294,6 +295,7 @@ impl<'a> Connection<'a> {
         ensures booking { self.new.booking ≡ None }
         ensures lost { self.new.session.lost ≡ self.old.session.lost }
     {
+        seat.holds();
         let Some(booking) = mem::replace(&mut self.booking, None) else {
             unreachable!()
         };
@@ -316,6 +318,7 @@ impl<'a> Connection<'a> {
         ensures input { self.new.input ≡ self.old.input }
         ensures lost { self.new.session.lost ≡ self.old.session.lost }
     {
+        seat.holds();
         match station.look(rt, seat, slot) {
             Ok(looked) => {
                 self.session

@@ -39,14 +39,14 @@ outcomes_in (Asks asked outcome ∷ askings) = outcome ∷ outcomes_in askings
 kept_more : (outcome : Outcome) (made : List Placed) (all : ℕ) → kept_with outcome (kept_among made all) ≡ kept_among (entry_in outcome ++ made) all
 kept_more Unasked made all = refl
 kept_more (Entered placed) made all = refl
-kept_more (WasFull entries live) made all = refl
-kept_more (Offered note) made all = refl
+kept_more (WasFull more entries live) made all = refl
+kept_more (Offered at_slot note) made all = refl
 
 told_more : (outcome : Outcome) (made : List Placed) → told_by outcome made ++ booked_plays made ≡ booked_plays (entry_in outcome ++ made)
 told_more Unasked made = refl
 told_more (Entered placed) made = refl
-told_more (WasFull entries live) made = refl
-told_more (Offered note) made = refl
+told_more (WasFull more entries live) made = refl
+told_more (Offered at_slot note) made = refl
 
 kept_same : (askings : List Asking) (all : ℕ) → kept_in askings all ≡ kept_among (entries_in (outcomes_in askings)) all
 kept_same [] all = refl
@@ -112,14 +112,14 @@ halt_told asked s keep Unasked new none halted = absurd halted
 halt_told asked s keep (Entered placed) new none halted = λ askings made keeps.
     ap (map booking_of) (none placed.entry.answer askings)
     ∙ sym (ap (λ c. booked_by (play_admitted c placed.entry.answer) made) halted.command)
-halt_told asked s keep (WasFull entries live) new none halted = absurd halted
-halt_told asked s keep (Offered note) new none halted = absurd halted
+halt_told asked s keep (WasFull more entries live) new none halted = absurd halted
+halt_told asked s keep (Offered at_slot note) new none halted = absurd halted
 
 unasked_told : (asked : Awaited) (s : Standing) (halt : Outcome) (new : Standing) → IsFinished NoAnswer s halt new → IsToldBy asked halt
 unasked_told asked s Unasked new is = λ askings made keeps. refl
 unasked_told asked s (Entered placed) new is = absurd is
-unasked_told asked s (WasFull entries live) new is = absurd is
-unasked_told asked s (Offered note) new is = absurd is
+unasked_told asked s (WasFull more entries live) new is = absurd is
+unasked_told asked s (Offered at_slot note) new is = absurd is
 
 finished_told : (asked : Awaited) (s : Standing) (halt : Outcome) (new : Standing) → IsFinished (awaits_of asked) s halt new → IsToldBy asked halt
 finished_told Nothing s halt new is = unasked_told Nothing s halt new is

@@ -156,8 +156,8 @@ halted_step : (s : Standing) (setup : Setup) (play : Played) (halt : Outcome) (k
     → IsHalted s keep halt new → Step s new (Asks s.awaited halt ∷ []) []
 halted_step s setup play Unasked keep new is sound done sent asks halted = absurd halted
 halted_step s setup play (Entered placed) keep new is sound done sent asks halted = done_step s setup play placed keep new is sound done sent asks halted
-halted_step s setup play (WasFull entries live) keep new is sound done sent asks halted = absurd halted
-halted_step s setup play (Offered note) keep new is sound done sent asks halted = absurd halted
+halted_step s setup play (WasFull more entries live) keep new is sound done sent asks halted = absurd halted
+halted_step s setup play (Offered at_slot note) keep new is sound done sent asks halted = absurd halted
 
 finishes : (s : Standing) (state : State) (halt : Outcome) (new : Standing) → s.state ≡ state → IsSound (sends_in s.state) s.waits s.heard
     → is_done_in state ≡ true → s.awaited ≡ Halt (sent_in state) Done → IsFinished (awaits s) s halt new → Step s new (Asks s.awaited halt ∷ []) []
@@ -182,8 +182,8 @@ same_step s new stands same = subst (λ n. Step s n (Asks s.awaited Unasked ∷ 
 unasked_same : (s : Standing) (halt : Outcome) (new : Standing) → Stands s → IsFinished NoAnswer s halt new → Step s new (Asks s.awaited halt ∷ []) []
 unasked_same s Unasked new stands finished = same_step s new stands finished
 unasked_same s (Entered placed) new stands finished = absurd finished
-unasked_same s (WasFull entries live) new stands finished = absurd finished
-unasked_same s (Offered note) new stands finished = absurd finished
+unasked_same s (WasFull more entries live) new stands finished = absurd finished
+unasked_same s (Offered at_slot note) new stands finished = absurd finished
 
 unasked_step : (s : Standing) (halt : Outcome) (new : Standing) → Stands s → IsFinished (awaits s) s halt new → Step s new (Asks s.awaited halt ∷ []) []
 unasked_step s halt new stands finished =

@@ -41,14 +41,14 @@ hears_same old one other message ask again films hears also alike =
 abbrev IsAnswer : Outcome → Type 0
 IsAnswer Unasked = ⊥
 IsAnswer (Entered placed) = ⊤
-IsAnswer (WasFull entries live) = ⊤
-IsAnswer (Offered note) = ⊤
+IsAnswer (WasFull more entries live) = ⊤
+IsAnswer (Offered at_slot note) = ⊤
 
 answer_one : (outcome : Outcome) → IsAnswer outcome → answer_in outcome ≡ outcome ∷ []
 answer_one Unasked is = absurd is
 answer_one (Entered placed) is = refl
-answer_one (WasFull entries live) is = refl
-answer_one (Offered note) is = refl
+answer_one (WasFull more entries live) is = refl
+answer_one (Offered at_slot note) is = refl
 
 heads_same : (one other : Outcome) (ones others : List Outcome) → IsAnswer one → IsAnswer other
     → AreSameAnswers (answer_in one ++ ones) (answer_in other ++ others) → (other ≡ one) × AreSameAnswers ones others
@@ -68,27 +68,27 @@ IsOutcomeOf (AskOffer plan offers) outcome = IsAnswer outcome
 halted_answer : (old : Standing) (keep : ℕ) (outcome : Outcome) (new : Standing) → IsHalted old keep outcome new → IsAnswer outcome
 halted_answer old keep Unasked new halted = absurd halted
 halted_answer old keep (Entered placed) new halted = tt
-halted_answer old keep (WasFull entries live) new halted = absurd halted
-halted_answer old keep (Offered note) new halted = absurd halted
+halted_answer old keep (WasFull more entries live) new halted = absurd halted
+halted_answer old keep (Offered at_slot note) new halted = absurd halted
 
 outcome_of : (old : Standing) (ask : Ask) (outcome : Outcome) (new : Standing) → IsAnswered old ask outcome new → IsOutcomeOf ask outcome
 outcome_of old AskReply Unasked new is = refl
 outcome_of old AskReply (Entered placed) new is = absurd is
-outcome_of old AskReply (WasFull entries live) new is = absurd is
-outcome_of old AskReply (Offered note) new is = absurd is
+outcome_of old AskReply (WasFull more entries live) new is = absurd is
+outcome_of old AskReply (Offered at_slot note) new is = absurd is
 outcome_of old (AskPlay plan) Unasked new is = absurd is
 outcome_of old (AskPlay plan) (Entered placed) new is = tt
-outcome_of old (AskPlay plan) (WasFull entries live) new is = tt
-outcome_of old (AskPlay plan) (Offered note) new is = absurd is
+outcome_of old (AskPlay plan) (WasFull more entries live) new is = tt
+outcome_of old (AskPlay plan) (Offered at_slot note) new is = absurd is
 outcome_of old (AskHalt keep) outcome new is = halted_answer old keep outcome new is
 outcome_of old (AskLook slot) Unasked new is = absurd is
 outcome_of old (AskLook slot) (Entered placed) new is = tt
-outcome_of old (AskLook slot) (WasFull entries live) new is = tt
-outcome_of old (AskLook slot) (Offered note) new is = absurd is
+outcome_of old (AskLook slot) (WasFull more entries live) new is = tt
+outcome_of old (AskLook slot) (Offered at_slot note) new is = absurd is
 outcome_of old (AskOffer plan offers) Unasked new is = absurd is
 outcome_of old (AskOffer plan offers) (Entered placed) new is = absurd is
-outcome_of old (AskOffer plan offers) (WasFull entries live) new is = absurd is
-outcome_of old (AskOffer plan offers) (Offered note) new is = tt
+outcome_of old (AskOffer plan offers) (WasFull more entries live) new is = absurd is
+outcome_of old (AskOffer plan offers) (Offered at_slot note) new is = tt
 
 outcomes_same : (ask : Ask) (one other : Outcome) (ones others : List Outcome) → IsOutcomeOf ask one → IsOutcomeOf ask other
     → AreSameAnswers (answer_in one ++ ones) (answer_in other ++ others) → (other ≡ one) × AreSameAnswers ones others
@@ -119,28 +119,28 @@ halted_once : (old : Standing) (keep : ℕ) (outcome : Outcome) (one other : Sta
     → other ≡ one
 halted_once old keep Unasked one other is also = absurd is
 halted_once old keep (Entered placed) one other is also = also.halts ∙ sym is.halts
-halted_once old keep (WasFull entries live) one other is also = absurd is
-halted_once old keep (Offered note) one other is also = absurd is
+halted_once old keep (WasFull more entries live) one other is also = absurd is
+halted_once old keep (Offered at_slot note) one other is also = absurd is
 
 answered_once : (old : Standing) (ask : Ask) (outcome : Outcome) (one other : Standing) → IsAnswered old ask outcome one
     → IsAnswered old ask outcome other → other ≡ one
 answered_once old AskReply Unasked one other is also = also ∙ sym is
 answered_once old AskReply (Entered placed) one other is also = absurd is
-answered_once old AskReply (WasFull entries live) one other is also = absurd is
-answered_once old AskReply (Offered note) one other is also = absurd is
+answered_once old AskReply (WasFull more entries live) one other is also = absurd is
+answered_once old AskReply (Offered at_slot note) one other is also = absurd is
 answered_once old (AskPlay plan) Unasked one other is also = absurd is
 answered_once old (AskPlay plan) (Entered placed) one other is also = play_once old placed placed.entry.answer one other is.1 also.1
-answered_once old (AskPlay plan) (WasFull entries live) one other is also = also ∙ sym is
-answered_once old (AskPlay plan) (Offered note) one other is also = absurd is
+answered_once old (AskPlay plan) (WasFull more entries live) one other is also = also.0 ∙ sym is.0
+answered_once old (AskPlay plan) (Offered at_slot note) one other is also = absurd is
 answered_once old (AskHalt keep) outcome one other is also = halted_once old keep outcome one other is also
 answered_once old (AskLook slot) Unasked one other is also = absurd is
 answered_once old (AskLook slot) (Entered placed) one other is also = look_once old placed placed.entry.answer one other is.1 also.1
-answered_once old (AskLook slot) (WasFull entries live) one other is also = also ∙ sym is
-answered_once old (AskLook slot) (Offered note) one other is also = absurd is
+answered_once old (AskLook slot) (WasFull more entries live) one other is also = also.0 ∙ sym is.0
+answered_once old (AskLook slot) (Offered at_slot note) one other is also = absurd is
 answered_once old (AskOffer plan offers) Unasked one other is also = absurd is
 answered_once old (AskOffer plan offers) (Entered placed) one other is also = absurd is
-answered_once old (AskOffer plan offers) (WasFull entries live) one other is also = absurd is
-answered_once old (AskOffer plan offers) (Offered note) one other is also = also.2 ∙ sym is.2
+answered_once old (AskOffer plan offers) (WasFull more entries live) one other is also = absurd is
+answered_once old (AskOffer plan offers) (Offered at_slot note) one other is also = also.2 ∙ sym is.2
 
 -- the same answer, and the same session after it
 pub answers_same : (old : Standing) (ask : Ask) (one other : Outcome) (new again : Standing) (ones others : List Outcome) → IsAnswered old ask one new
@@ -155,8 +155,8 @@ answers_same old ask one other new again ones others is also same =
 unasked : (old : Standing) (outcome : Outcome) (new : Standing) → IsFinished NoAnswer old outcome new → (outcome ≡ Unasked) × (new ≡ old)
 unasked old Unasked new is = (refl, is)
 unasked old (Entered placed) new is = absurd is
-unasked old (WasFull entries live) new is = absurd is
-unasked old (Offered note) new is = absurd is
+unasked old (WasFull more entries live) new is = absurd is
+unasked old (Offered at_slot note) new is = absurd is
 
 finished_same : (asks : Awaits) (old : Standing) (one other : Outcome) (new again : Standing) (ones others : List Outcome)
     → IsFinished asks old one new → IsFinished asks old other again → AreSameAnswers (answer_in one ++ ones) (answer_in other ++ others)
@@ -199,27 +199,27 @@ look_films old placed (Looked now at booked) new is = ap (λ (s : Standing). s.f
 halted_films : (old : Standing) (keep : ℕ) (outcome : Outcome) (new : Standing) → IsHalted old keep outcome new → new.films ≡ old.films
 halted_films old keep Unasked new is = absurd is
 halted_films old keep (Entered placed) new is = ap (λ (s : Standing). s.films) is.halts
-halted_films old keep (WasFull entries live) new is = absurd is
-halted_films old keep (Offered note) new is = absurd is
+halted_films old keep (WasFull more entries live) new is = absurd is
+halted_films old keep (Offered at_slot note) new is = absurd is
 
 pub answered_films : (old : Standing) (ask : Ask) (outcome : Outcome) (new : Standing) → IsAnswered old ask outcome new → new.films ≡ old.films
 answered_films old AskReply Unasked new is = ap (λ (s : Standing). s.films) is
 answered_films old AskReply (Entered placed) new is = absurd is
-answered_films old AskReply (WasFull entries live) new is = absurd is
-answered_films old AskReply (Offered note) new is = absurd is
+answered_films old AskReply (WasFull more entries live) new is = absurd is
+answered_films old AskReply (Offered at_slot note) new is = absurd is
 answered_films old (AskPlay plan) Unasked new is = absurd is
 answered_films old (AskPlay plan) (Entered placed) new is = play_films old placed placed.entry.answer new is.1
-answered_films old (AskPlay plan) (WasFull entries live) new is = ap (λ (s : Standing). s.films) is
-answered_films old (AskPlay plan) (Offered note) new is = absurd is
+answered_films old (AskPlay plan) (WasFull more entries live) new is = ap (λ (s : Standing). s.films) is.0
+answered_films old (AskPlay plan) (Offered at_slot note) new is = absurd is
 answered_films old (AskHalt keep) outcome new is = halted_films old keep outcome new is
 answered_films old (AskLook slot) Unasked new is = absurd is
 answered_films old (AskLook slot) (Entered placed) new is = look_films old placed placed.entry.answer new is.1
-answered_films old (AskLook slot) (WasFull entries live) new is = ap (λ (s : Standing). s.films) is
-answered_films old (AskLook slot) (Offered note) new is = absurd is
+answered_films old (AskLook slot) (WasFull more entries live) new is = ap (λ (s : Standing). s.films) is.0
+answered_films old (AskLook slot) (Offered at_slot note) new is = absurd is
 answered_films old (AskOffer plan offers) Unasked new is = absurd is
 answered_films old (AskOffer plan offers) (Entered placed) new is = absurd is
-answered_films old (AskOffer plan offers) (WasFull entries live) new is = absurd is
-answered_films old (AskOffer plan offers) (Offered note) new is = ap (λ (s : Standing). s.films) is.2
+answered_films old (AskOffer plan offers) (WasFull more entries live) new is = absurd is
+answered_films old (AskOffer plan offers) (Offered at_slot note) new is = ap (λ (s : Standing). s.films) is.2
 
 reply_films : (goes : Bool) (s : Standing) → (if goes then sent_reply s else s).films ≡ s.films
 reply_films true s = refl

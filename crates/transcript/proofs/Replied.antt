@@ -147,8 +147,8 @@ unasked_move : (s : Standing) (halt : Outcome) (new : Standing) (pending : Optio
     → Move s new pending (Asks s.awaited halt ∷ []) [] []
 unasked_move s Unasked new pending held finishing = still_move s new s.awaited Unasked pending finishing (unasked_still s.awaited) held
 unasked_move s (Entered placed) new pending held finishing = absurd finishing
-unasked_move s (WasFull entries live) new pending held finishing = absurd finishing
-unasked_move s (Offered note) new pending held finishing = absurd finishing
+unasked_move s (WasFull more entries live) new pending held finishing = absurd finishing
+unasked_move s (Offered at_slot note) new pending held finishing = absurd finishing
 
 rest_move : (s : Standing) (halt : Outcome) (new : Standing) (pending : Option ℕ) → s.awaited ≡ Nothing → HeldIn pending s → IsFinished (awaits s) s halt new
     → Move s new pending (Asks s.awaited halt ∷ []) [] []
@@ -211,8 +211,8 @@ halted_move : (s : Standing) (setup : Setup) (play : Played) (halt : Outcome) (k
 halted_move s setup play Unasked keep new pending is sound done sent asks halted held = absurd halted
 halted_move s setup play (Entered placed) keep new pending is sound done sent asks halted held =
     done_move s setup play placed keep new pending is sound done sent asks halted held
-halted_move s setup play (WasFull entries live) keep new pending is sound done sent asks halted held = absurd halted
-halted_move s setup play (Offered note) keep new pending is sound done sent asks halted held = absurd halted
+halted_move s setup play (WasFull more entries live) keep new pending is sound done sent asks halted held = absurd halted
+halted_move s setup play (Offered at_slot note) keep new pending is sound done sent asks halted held = absurd halted
 
 finishes_move : (s : Standing) (state : State) (halt : Outcome) (new : Standing) (pending : Option ℕ) → s.state ≡ state
     → IsSound (sends_in s.state) s.waits s.heard → is_done_in state ≡ true → s.awaited ≡ Halt (sent_in state) Done → IsFinished (awaits s) s halt new

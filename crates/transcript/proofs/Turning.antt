@@ -53,8 +53,8 @@ pub record IsAfter (old new : Standing) : Type 0 where
 abbrev pub told_by : Outcome → List Placed → List Booked
 told_by Unasked made = []
 told_by (Entered placed) made = booked_by (play_admitted placed.entry.command placed.entry.answer) made
-told_by (WasFull entries live) made = []
-told_by (Offered note) made = []
+told_by (WasFull more entries live) made = []
+told_by (Offered at_slot note) made = []
 
 -- neither begins nor halts a play
 pub record IsStill (asked : Awaited) (outcome : Outcome) : Type 0 where
@@ -108,8 +108,8 @@ reply_turns old Unasked asked new answered rest sends heard awaited waits =
     subst (λ (s : Standing). TurnsAs old asked.awaited Unasked s) (sym answered)
     (Stays sends (record { heard = heard; awaited = awaited ∙ rest; waits = waits }) (unasked_still asked.awaited))
 reply_turns old (Entered placed) asked new answered rest sends heard awaited waits = absurd answered
-reply_turns old (WasFull entries live) asked new answered rest sends heard awaited waits = absurd answered
-reply_turns old (Offered note) asked new answered rest sends heard awaited waits = absurd answered
+reply_turns old (WasFull more entries live) asked new answered rest sends heard awaited waits = absurd answered
+reply_turns old (Offered at_slot note) asked new answered rest sends heard awaited waits = absurd answered
 
 -- a play's answer
 idle_in : (state : State) (setup : Setup) (paused : Option Run) → state ≡ Ready setup paused → sends_in state ≡ Idle
@@ -177,13 +177,13 @@ asked_play : (old : Standing) (setup : Setup) (paused : Option Run) (prepared : 
 asked_play old setup paused prepared Unasked asked new answered ready state heard awaited = absurd answered
 asked_play old setup paused prepared (Entered placed) asked new answered ready state heard awaited =
     play_turns old setup paused prepared placed placed.entry.answer asked new refl answered.0 answered.1 ready state heard awaited
-asked_play old setup paused prepared (WasFull entries live) asked new answered ready state heard awaited =
-    Stays (ap (λ (s : Standing). sends_in s.state) answered ∙ ap sends_in state) (record {
-      heard = ap (λ (s : Standing). s.heard) answered ∙ heard;
-      awaited = ap (λ (s : Standing). s.awaited) answered;
-      waits = ap (λ (s : Standing). s.waits) answered;
+asked_play old setup paused prepared (WasFull more entries live) asked new answered ready state heard awaited =
+    Stays (ap (λ (s : Standing). sends_in s.state) answered.0 ∙ ap sends_in state) (record {
+      heard = ap (λ (s : Standing). s.heard) answered.0 ∙ heard;
+      awaited = ap (λ (s : Standing). s.awaited) answered.0;
+      waits = ap (λ (s : Standing). s.waits) answered.0;
     }) (record { none = λ later. refl; kept = λ later. refl; untold = λ made. refl })
-asked_play old setup paused prepared (Offered note) asked new answered ready state heard awaited = absurd answered
+asked_play old setup paused prepared (Offered at_slot note) asked new answered ready state heard awaited = absurd answered
 
 -- a halt's answer
 stopped_sends : (setup : Setup) (play : Played) (next : Next) → is_answered next ≡ true → sends_in (state_after setup play next) ≡ Ending play.pacer
@@ -232,8 +232,8 @@ asked_halt : (old : Standing) (setup : Setup) (play : Played) (keep : ℕ) (next
 asked_halt old setup play keep next Unasked asked new halted playing told keep_is state awaited heard = absurd halted
 asked_halt old setup play keep next (Entered placed) asked new halted playing told keep_is state awaited heard =
     halt_turns old setup play keep next placed asked new halted playing told keep_is state awaited heard
-asked_halt old setup play keep next (WasFull entries live) asked new halted playing told keep_is state awaited heard = absurd halted
-asked_halt old setup play keep next (Offered note) asked new halted playing told keep_is state awaited heard = absurd halted
+asked_halt old setup play keep next (WasFull more entries live) asked new halted playing told keep_is state awaited heard = absurd halted
+asked_halt old setup play keep next (Offered at_slot note) asked new halted playing told keep_is state awaited heard = absurd halted
 
 -- a look's answer, and an offer's
 look_answered : (old : Standing) (placed : Placed) (answer : Answer) (sequence : ℕ) (asked new : Standing)
@@ -259,21 +259,21 @@ asked_look : (old : Standing) (slot sequence : ℕ) (outcome : Outcome) (asked n
 asked_look old slot sequence Unasked asked new answered slot_is state heard awaited = absurd answered
 asked_look old slot sequence (Entered placed) asked new answered slot_is state heard awaited =
     look_answered old placed placed.entry.answer sequence asked new (answered.0 ∙ ap look_at slot_is) answered.1 state heard awaited
-asked_look old slot sequence (WasFull entries live) asked new answered slot_is state heard awaited =
-    Stays (ap (λ (s : Standing). sends_in s.state) answered ∙ ap sends_in state) (record {
-      heard = ap (λ (s : Standing). s.heard) answered ∙ heard;
-      awaited = ap (λ (s : Standing). s.awaited) answered;
-      waits = ap (λ (s : Standing). s.waits) answered;
+asked_look old slot sequence (WasFull more entries live) asked new answered slot_is state heard awaited =
+    Stays (ap (λ (s : Standing). sends_in s.state) answered.0 ∙ ap sends_in state) (record {
+      heard = ap (λ (s : Standing). s.heard) answered.0 ∙ heard;
+      awaited = ap (λ (s : Standing). s.awaited) answered.0;
+      waits = ap (λ (s : Standing). s.waits) answered.0;
     }) (record { none = λ later. refl; kept = λ later. refl; untold = λ made. refl })
-asked_look old slot sequence (Offered note) asked new answered slot_is state heard awaited = absurd answered
+asked_look old slot sequence (Offered at_slot note) asked new answered slot_is state heard awaited = absurd answered
 
 asked_offer : (old : Standing) (plan : List Segment) (offers : Found) (outcome : Outcome) (asked new : Standing)
     → IsAnswered asked (AskOffer plan offers) outcome new → asked.state ≡ old.state → asked.heard ≡ old.heard
     → TurnsAs old asked.awaited outcome new
 asked_offer old plan offers Unasked asked new answered state heard = absurd answered
 asked_offer old plan offers (Entered placed) asked new answered state heard = absurd answered
-asked_offer old plan offers (WasFull entries live) asked new answered state heard = absurd answered
-asked_offer old plan offers (Offered note) asked new answered state heard =
+asked_offer old plan offers (WasFull more entries live) asked new answered state heard = absurd answered
+asked_offer old plan offers (Offered at_slot note) asked new answered state heard =
     Stays (ap (λ (s : Standing). sends_in s.state) answered.2 ∙ ap sends_in state) (record {
       heard = ap (λ (s : Standing). s.heard) answered.2 ∙ heard;
       awaited = ap (λ (s : Standing). s.awaited) answered.2;

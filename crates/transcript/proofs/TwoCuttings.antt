@@ -8,7 +8,7 @@ use Rattle.conn.specs.Rounds.{Comes, Round, Runs, RunsAll, IsStopped, rounds_out
 use Rattle.conn.specs.Turns.{HasStepped, Outcome, Part, Stage, parts_bytes, stage}
 use Rattle.conn.specs.declared.reports.ConnEnd.{ConnEnd}
 use Rattle.transcript.specs.Courses.{first_stage, rounds_bytes}
-use Rattle.transcript.specs.Cuttings.{AllLackAlike, AreCutsOfOne, AreSame, AreSameAnswers, Beginning, Cutting, Hearing, IsDone, TakesUp, all_heard, answer_in, answers_in, heard_in, hearings_in, takings_hearings}
+use Rattle.transcript.specs.Cuttings.{AllLackAlike, HearAlike, SendAlike, AreSameAnswers, Beginning, Cutting, Hearing, IsDone, TakesUp, all_heard, answer_in, answers_in, heard_in, hearings_in, takings_hearings}
 use Rattle.transcript.proofs.Once.{stepped_films, steps_same}
 use Rattle.transcript.proofs.Paths.{GoesAll, Path, Piece, ends_same, goes_films, goes_grow, join_answers, join_bytes, join_goes, join_hearings, longer, path_of, pieces_answers, pieces_bytes, pieces_hearings}
 
@@ -328,8 +328,8 @@ whole_split beginning cutting =
     let first : Stage = first_of beginning in
     (rounds_split first cutting.last cutting.rounds cutting.takes (inl (record { torn = refl; waits = inl (inl refl) }))).each first [] [] refl
 
-pub two_cuttings : (beginning : Beginning) (one other : Cutting beginning) → AreFilms beginning.films → AreCutsOfOne beginning one other
-    → AreSame beginning one other
+pub two_cuttings : (beginning : Beginning) (one other : Cutting beginning) → AreFilms beginning.films → HearAlike beginning one other
+    → SendAlike beginning one other
 two_cuttings beginning one other films cuts =
     let first : Stage = first_of beginning in
     let same = splits_same first one.last other.last (all_heard one.rounds) (all_heard other.rounds) (rounds_bytes one.rounds) (rounds_bytes other.rounds)
@@ -354,3 +354,14 @@ takes_part old new [] rest takes = (old, (refl, takes))
 takes_part old new (round ∷ first) rest takes =
     let parted = takes_part takes.0 new first rest takes.1.2 in
     (parted.0, ((takes.0, (takes.1.0, takes.1.1, parted.1.0)), parted.1.1))
+
+-- what is alike is alike in fronts
+pub same_fronts : (one more other further : List Outcome) → AreSameAnswers (one ++ more) (other ++ further) → AreSameAnswers one other
+same_fronts [] more other further same = tt
+same_fronts (x ∷ one) more [] further same = tt
+same_fronts (x ∷ one) more (y ∷ other) further same = (same.0, same_fronts one more other further same.1)
+
+pub lack_fronts : (one more other further : List Hearing) → AllLackAlike (one ++ more) (other ++ further) → AllLackAlike one other
+lack_fronts [] more other further alike = tt
+lack_fronts (x ∷ one) more [] further alike = tt
+lack_fronts (x ∷ one) more (y ∷ other) further alike = (alike.0, lack_fronts one more other further alike.1)

@@ -1,15 +1,13 @@
--- When what a link told and a report go with a journal: each entry that they tell stands at its
--- place in it.
-use Rattle.std.specs.Prelude.{◌≡◌, ℕ, ◌+◌, ◌<◌, ◌≤◌, ⊤, List, [], ◌∷◌, ◌++◌, length, slice_index_or}
+-- When what a link told and a report go with a journal.
+use Rattle.std.specs.Prelude.{◌≡◌, ℕ, List, [], ◌∷◌, ◌++◌, length}
 use Rattle.vod_base.specs.Links.{Doing}
 use Rattle.film_frames.specs.declared.stores.Stored.{Stored}
-use Rattle.slot_calendar.specs.declared.profiles.CapStep.{CapStep}
 use Rattle.admission.specs.declared.entries.Entry.{Entry}
 use Rattle.admission.specs.Histories.{IsLegal}
-use Rattle.admission.specs.Makers.{Placed}
 use Rattle.session.specs.declared.settings.Settings.{Settings}
 use Rattle.session.specs.Standings.{Standing, open_of}
-use Rattle.conn.specs.Rounds.{Ending, Ends, Round, RunsAll, ending_doings, ending_outcomes, entries_in, rounds_doings, rounds_outcomes}
+use Rattle.conn.specs.Rounds.{Ending, Ends, Round, RunsAll, ending_doings, ending_outcomes, rounds_doings, rounds_outcomes}
+use Rattle.conn.specs.Journals.{AgreeWith, Terms}
 use Rattle.conn.specs.Served.{IsToldOf}
 use Rattle.conn.specs.Turns.{IsClosed, Outcome, Stage}
 use Rattle.conn.specs.declared.reports.ConnReport.{ConnReport}
@@ -41,22 +39,20 @@ pub record HasDone (films : List Stored) (settings : Settings) (words : List ℕ
   pub closes : IsClosed (open_of last.session) last.session doings.halt closed
   pub report_is : IsToldOf closed report
 
--- a maker's entries stand in a journal at their places, one after another from a place on
-abbrev pub StandIn : List Entry → ℕ → ℕ → List Placed → Type 0
-StandIn journal maker from [] = ⊤
-StandIn journal maker from (placed ∷ made) =
-    (from ≤ placed.place) × (placed.place < length journal)
-    × ((none : Entry) → slice_index_or journal placed.place none ≡ placed.entry)
-    × (placed.entry.maker ≡ maker)
-    × StandIn journal maker (placed.place + 1) made
+-- a connection: what it was served with, what its link told, and its report
+pub record Visit : Type 0 where
+  pub films : List Stored
+  pub settings : Settings
+  pub told : List Doing
+  pub report : ConnReport
 
--- what a link told and a report agree with a legal journal over a link's capacity: they are a
--- connection's doings, whose entries stand in the journal as this maker's
-pub record Agrees (films : List Stored) (settings : Settings) (steps : List CapStep)
-    (told : List Doing) (report : ConnReport)
-    (maker : ℕ) (journal : List Entry) : Type 0 where
-  pub legal : IsLegal steps journal
+-- What a link told and a report agree with a legal journal: they are a connection's doings, and
+-- what the station answered on the way agrees with it. Each entry stands at its place as the
+-- maker's; a full answer tells the entries that the journal had then and its open plays, and had no
+-- room; an offer is the one that is made in the state of the entries that it names.
+pub record Agrees (visit : Visit) (terms : Terms) (journal : List Entry) : Type 0 where
+  pub legal : IsLegal terms.steps journal
   pub doings : Doings
-  pub told_is : told ≡ doings_told doings
-  pub done : HasDone films settings report.words doings report
-  pub stand : StandIn journal maker 0 (entries_in (doings_outcomes doings))
+  pub told_is : visit.told ≡ doings_told doings
+  pub done : HasDone visit.films visit.settings visit.report.words doings visit.report
+  pub agree : AgreeWith terms journal 0 (doings_outcomes doings)

@@ -41,8 +41,8 @@ all_heard (round ∷ rounds) = heard_in round.event ++ all_heard rounds
 abbrev pub answer_in : Outcome → List Outcome
 answer_in Unasked = []
 answer_in (Entered placed) = Entered placed ∷ []
-answer_in (WasFull entries live) = WasFull entries live ∷ []
-answer_in (Offered note) = Offered note ∷ []
+answer_in (WasFull more entries live) = WasFull more entries live ∷ []
+answer_in (Offered at_slot note) = Offered at_slot note ∷ []
 
 abbrev pub answers_in : List Outcome → List Outcome
 answers_in [] = []
@@ -114,13 +114,13 @@ hearings_of beginning cutting = hearings_in
 
 -- two courses of one beginning heard the same bytes between the same slots, and the station and
 -- the memory answered alike
-pub record AreCutsOfOne (beginning : Beginning) (one other : Cutting beginning) : Type 0 where
+pub record HearAlike (beginning : Beginning) (one other : Cutting beginning) : Type 0 where
   pub heard : all_heard one.rounds ≡ all_heard other.rounds
   pub answers : AreSameAnswers
       (answers_in (rounds_outcomes one.rounds)) (answers_in (rounds_outcomes other.rounds))
   pub memory : AllLackAlike (hearings_of beginning one) (hearings_of beginning other)
 
 -- they sent the same bytes, and stand at the same place
-pub record AreSame (beginning : Beginning) (one other : Cutting beginning) : Type 0 where
+pub record SendAlike (beginning : Beginning) (one other : Cutting beginning) : Type 0 where
   pub bytes : rounds_bytes one.rounds ≡ rounds_bytes other.rounds
   pub last : one.last ≡ other.last

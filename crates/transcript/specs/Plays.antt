@@ -69,8 +69,8 @@ kept_by (LookCommand slot) later = later
 abbrev pub kept_with : Outcome → ℕ → ℕ
 kept_with Unasked later = later
 kept_with (Entered placed) later = kept_by placed.entry.command later
-kept_with (WasFull entries live) later = later
-kept_with (Offered note) later = later
+kept_with (WasFull more entries live) later = later
+kept_with (Offered at_slot note) later = later
 
 abbrev pub kept_in : List Asking → ℕ → ℕ
 kept_in [] all = all
@@ -90,8 +90,8 @@ admitted _ _ askings = []
 abbrev pub begun : Awaited → Outcome → List Asking → List FilmPlay
 begun asked Unasked askings = []
 begun asked (Entered placed) askings = admitted asked placed.entry.answer askings
-begun asked (WasFull entries live) askings = []
-begun asked (Offered note) askings = []
+begun asked (WasFull more entries live) askings = []
+begun asked (Offered at_slot note) askings = []
 
 -- the plays that were admitted, in order
 abbrev pub plays_of : List Asking → List FilmPlay

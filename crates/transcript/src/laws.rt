@@ -3,23 +3,23 @@ ghost use mathlib.Core.List.{IsPrefix};
 ghost use Rattle.vod_base.specs.Gates.{Returned};
 ghost use Rattle.vod_base.specs.Links.{Doing};
 ghost use Rattle.film_frames.specs.declared.stores.Stored.{Stored};
-ghost use Rattle.slot_calendar.specs.declared.profiles.CapStep.{CapStep};
 ghost use Rattle.admission.specs.declared.entries.Entry.{Entry};
 ghost use Rattle.admission.specs.Histories.{IsLegal};
 ghost use Rattle.station.specs.Seats.{IsSeat, Sitting};
 ghost use Rattle.session.specs.Ranges.{AreFilms};
 ghost use Rattle.session.specs.declared.settings.Settings.{Settings};
 ghost use Rattle.conn.specs.Films.{rounds_film};
+ghost use Rattle.conn.specs.Journals.{Terms, terms_of};
 ghost use Rattle.conn.specs.Parts.{HasServedOne};
 ghost use Rattle.conn.specs.Rounds.{IsStopped, Round, Runs, RunsAll, entries_in, rounds_outcomes};
-ghost use Rattle.conn.specs.Turns.{Stage};
+ghost use Rattle.conn.specs.Turns.{Outcome, Stage};
 ghost use Rattle.conn.specs.declared.reports.ConnEnd.{ConnEnd};
 ghost use Rattle.conn.specs.declared.reports.ConnEnd.TheVariants.{NoMemory};
 ghost use Rattle.conn.specs.declared.reports.ConnReport.{ConnReport};
-ghost use Rattle.transcript.specs.Agreement.{Agrees};
+ghost use Rattle.transcript.specs.Agreement.{Agrees, Visit};
 ghost use Rattle.transcript.specs.Courses.{Course, Follows, IsParted, course_film, course_plays};
 ghost use Rattle.transcript.specs.Courses.{greatest_slot, rounds_bytes};
-ghost use Rattle.transcript.specs.Cuttings.{AreCutsOfOne, AreFronts, AreSame, Beginning, Cutting, TakesUp};
+ghost use Rattle.transcript.specs.Cuttings.{AllLackAlike, AreFronts, AreSameAnswers, Beginning, Cutting, HearAlike, Hearing, SendAlike, TakesUp};
 ghost use Rattle.transcript.specs.Places.{AreSentAt, slots_from};
 ghost use Rattle.transcript.specs.Plays.{AreOver, booked_plays, booking_of};
 ghost use Rattle.transcript.specs.Requests.{AreTaken};
@@ -89,23 +89,27 @@ pub fn law_cuttings()
 {}
 
 /// However the same bytes between the same slots are cut into events, a connection sends the same,
-/// as long as the station answers the same and memory is wanting for the same requests.
+/// as long as the station answers the same and memory is wanting for the same requests. What is so
+/// of two courses is so of their fronts: so they have sent the same after each slot.
 pub fn law_two_cuttings()
-    ensures { (beginning : Beginning) (one other : Cutting beginning) → AreFilms beginning.films
-        → AreCutsOfOne beginning one other → AreSame beginning one other }
+    ensures same { (beginning : Beginning) (one other : Cutting beginning)
+        → AreFilms beginning.films → HearAlike beginning one other
+        → SendAlike beginning one other }
+    ensures answers { (one more other further : List Outcome)
+        → AreSameAnswers (one ++ more) (other ++ further) → AreSameAnswers one other }
+    ensures memory { (one more other further : List Hearing)
+        → AllLackAlike (one ++ more) (other ++ further) → AllLackAlike one other }
 {}
 
 /// What a connection's link told and its report agree with the journal that its seat has seen then,
-/// and with each longer one.
+/// and with each longer one: its entries, the two numbers of each answer that the journal was full,
+/// and its offers.
 pub fn law_agrees()
-    ensures seen { (films : List Stored) (settings : Settings) (returned : Returned)
-        (told : List Doing) (report : ConnReport) (old new : Sitting)
-        → HasServedOne films settings returned report old new → returned.told ≡ Some told
-        → ¬ (report.end ≡ NoMemory) → IsSeat new
-        → Agrees films settings new.steps told report new.number new.seen }
-    ensures longer { (films : List Stored) (settings : Settings) (steps : List CapStep)
-        (told : List Doing) (report : ConnReport) (maker : ℕ) (journal longer : List Entry)
-        → Agrees films settings steps told report maker journal
-        → IsPrefix journal longer → IsLegal steps longer
-        → Agrees films settings steps told report maker longer }
+    ensures seen { (visit : Visit) (returned : Returned) (old new : Sitting)
+        → HasServedOne visit.films visit.settings returned visit.report old new
+        → returned.told ≡ Some visit.told → ¬ (visit.report.end ≡ NoMemory) → IsSeat new
+        → Agrees visit (terms_of new) new.seen }
+    ensures longer { (visit : Visit) (terms : Terms) (journal longer : List Entry)
+        → Agrees visit terms journal → IsPrefix journal longer → IsLegal terms.steps longer
+        → Agrees visit terms longer }
 {}

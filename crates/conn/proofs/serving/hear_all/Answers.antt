@@ -5,9 +5,9 @@ use Rattle.conn.specs.Keeping.{business}
 use Rattle.conn.specs.Sights.{Sight, sight}
 use Rattle.conn.specs.Turns.{stage}
 use Rattle.conn.proofs.Counting.{counted_fault, counted_on, counted_same}
-use Rattle.conn.proofs.Cutting.{seat_on}
-use Rattle.conn.proofs.Going.{gone_on}
-use Rattle.conn.proofs.Sighting.{goes_on, run_end, run_on, run_over}
+use Rattle.conn.proofs.Cutting.{seat_none, seat_on}
+use Rattle.conn.proofs.Going.{gone_on, gone_still}
+use Rattle.conn.proofs.Sighting.{goes_on, run_end, run_none, run_on, run_over}
 use Rattle.conn.proofs.serving.hear_all.Goals as goal
 
 pub returns-in_default-clause-course : goal.returns-in_default-clause-course
@@ -32,6 +32,17 @@ returns-in-Some-clause-course g c =
     let told : g.K.Link.told c.next.new.self ≡ told_more (g.K.Link.told c.events.link) (doing_of c.in-Ok.heard c.next.new.into ∷ []) = c.in-Ok.ensures.heard in
     run_end c.events._event (doing_of c.in-Ok.heard c.next.new.into) c.in-Some.end first before heard after c.events.invariant.5 refl refl told
     (c.in-Some.ensures.comes c.events._event)
+
+pub events-init : goal.events-init
+events-init g c = (
+  seat_none c.args.seat.now,
+  c.requires.quiet,
+  gone_still (business c.args.seat.now.mine c.args.connection.now) (business c.args.seat.now.mine c.args.connection.now) refl refl refl,
+  c.requires.torn,
+  c.requires.lost,
+  run_none (sight c.args.connection.now (g.K.Link.told c.args.link.now) c.args.seat.now),
+  omega arith,
+)
 
 pub events-preserved : goal.events-preserved
 events-preserved g c =

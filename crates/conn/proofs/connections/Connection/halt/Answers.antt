@@ -14,4 +14,4 @@ returns-clause-gone g c =
 pub returns-clause-halted : goal.returns-clause-halted
 returns-clause-halted g c =
     halted_entry c.args.self.now.session c.args.keep c.halted.new.self c.args.seat.now c.halt-place.new.seat c.in-Some.booking.number
-    c.halt-place.result c.args.seat.now.number c.halted.ensures.halts c.halt-place.ensures.made.mine
+    c.halt-place.result c.holds.ensures.kept c.halt-place.ensures.kept c.halt-place.ensures.same c.halt-place.ensures.made c.halted.ensures.halts

@@ -20,10 +20,10 @@ returns-in-Err-clause-gone g c =
 
 pub returns-in-Ok-clause-answered : goal.returns-in-Ok-clause-answered
 returns-in-Ok-clause-answered g c =
-    answered_entry c.args.self.now.session (AskLook c.args.slot) c.looked.new.self c.args.seat.now c.look.new.seat _
-    (refl, c.looked.ensures.exact) c.in-Ok.ensures.made.mine
+    answered_entry c.args.self.now.session (AskLook c.args.slot) c.looked.new.self c.args.seat.now c.look.new.seat 1 _ c.in-Ok.looked.place _
+    c.holds.ensures.kept c.look.ensures.kept c.look.ensures.same c.in-Ok.ensures.made (refl, c.looked.ensures.exact)
 
 pub returns-in-Err-clause-answered : goal.returns-in-Err-clause-answered
 returns-in-Err-clause-answered g c =
-    answered_full c.args.self.now.session (AskLook c.args.slot) c.full.new.self c.args.seat.now c.look.new.seat
-    c.in-Err.full.entries c.in-Err.full.live c.full.ensures.exact c.in-Err.ensures.full.mine
+    answered_full c.args.self.now.session (AskLook c.args.slot) c.full.new.self c.args.seat.now c.look.new.seat 1
+    c.in-Err.full.entries c.in-Err.full.live c.look.ensures.same c.in-Err.ensures.full (c.full.ensures.exact, refl)

@@ -45,9 +45,9 @@ returns-clause-gone g c =
 
 pub returns-in-None-clause-answered : goal.returns-in-None-clause-answered
 returns-in-None-clause-answered g c =
-    answered_entry c.args.self.now.session (AskPlay c.args.plan) c.admitted.new.self c.args.seat.now c.play.new.seat _
+    answered_entry c.args.self.now.session (AskPlay c.args.plan) c.admitted.new.self c.args.seat.now c.play.new.seat 2 _ c.in-Ok.booking.number _
+    c.holds.ensures.kept c.play.ensures.kept c.play.ensures.same c.in-Ok.ensures.made
     (ap (λ heard. play_of heard c.args.plan) (search rules), (search rules, c.admitted.ensures.exact, c.admitted.ensures.play))
-    c.in-Ok.ensures.made.mine
 
 pub returns-in-Err-Overflow-clause-answered : goal.returns-in-Err-Overflow-clause-answered
 returns-in-Err-Overflow-clause-answered g c =
@@ -57,9 +57,9 @@ returns-in-Err-Overflow-clause-answered g c =
     let made : IsRefused c.args.seat.now c.play.new.seat c.heard_slot.result c.args.plan
     (Overflow c.in-Err-Overflow.place c.in-Err-Overflow.slot c.in-Err-Overflow.booked c.in-Err-Overflow.asked) =
     subst (IsRefused c.args.seat.now c.play.new.seat c.heard_slot.result c.args.plan) is refused in
-    answered_entry c.args.self.now.session (AskPlay c.args.plan) c.overflowed.new.self c.args.seat.now c.play.new.seat _
+    answered_entry c.args.self.now.session (AskPlay c.args.plan) c.overflowed.new.self c.args.seat.now c.play.new.seat 2 _ c.in-Err-Overflow.place _
+    c.holds.ensures.kept c.play.ensures.kept c.play.ensures.same made
     (ap (λ heard. play_of heard c.args.plan) (search rules), c.overflowed.ensures.exact)
-    made.mine
 
 pub returns-clause-answered : goal.returns-clause-answered
 returns-clause-answered g c =
@@ -69,5 +69,5 @@ returns-clause-answered g c =
     let full : IsRefused c.args.seat.now c.play.new.seat c.heard_slot.result c.args.plan
     (JournalFull c.in-Err-JournalFull.field-0-0 c.in-Err-JournalFull.entries c.in-Err-JournalFull.live) =
     subst (IsRefused c.args.seat.now c.play.new.seat c.heard_slot.result c.args.plan) is refused in
-    answered_full c.args.self.now.session (AskPlay c.args.plan) c.full.new.self c.args.seat.now c.play.new.seat
-    c.in-Err-JournalFull.entries c.in-Err-JournalFull.live c.full.ensures.exact full.1.mine
+    answered_full c.args.self.now.session (AskPlay c.args.plan) c.full.new.self c.args.seat.now c.play.new.seat 2
+    c.in-Err-JournalFull.entries c.in-Err-JournalFull.live c.play.ensures.same full.1 (c.full.ensures.exact, refl)

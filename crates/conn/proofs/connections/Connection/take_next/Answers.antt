@@ -1,11 +1,12 @@
-use Rattle.std.proofs.Common.{◌≡◌, ℕ, List, rules, refl, subst, true, drop, ap, Ok, inl, inr}
+use Rattle.std.proofs.Common.{◌≡◌, ℕ, List, rules, refl, subst, true, drop, ap, Ok, Err, inl, inr}
 use Rattle.interleave.specs.Pieces.{IsFirst}
 use Rattle.interleave.specs.Streams.{told_length}
 use Rattle.interleave.specs.declared.pieces.Step.TheVariants.{Request, Block, Skip, More}
-use Rattle.conn.proofs.Cutting.{cuts_drop, first_is}
+use Rattle.conn.proofs.Cutting.{cuts_drop, fewer, first_is}
 use Rattle.conn.specs.Sights.{sight}
 use Rattle.conn.specs.Turns.{after_reply, stage}
-use Rattle.conn.proofs.Sighting.{lost_reply, taken_passed, taken_reply}
+use Rattle.conn.proofs.Sighting.{lost_reply, taken_fault, taken_passed, taken_reply}
+use Rattle.conn.proofs.Taking.{some_request}
 use Rattle.conn.proofs.connections.Connection.take_next.Goals as goal
 
 pub returns-then-is_err-clause-cut : goal.returns-then-is_err-clause-cut
@@ -122,3 +123,26 @@ returns-else-is_err-clause-takes g c =
     (sight (record { session = c.reply.new.self; input = c.take_request.new.self.input; booking = c.take_request.new.self.booking })
     (g.K.Link.told c.reply.new.link) c.take_request.new.seat) c.take_request.new.self.session c.in-Ok-Request.length
     (subst (λ s. IsFirst c.args.self.now.input (Ok s)) is first) (search rules) (search rules) (search rules) after (search rules)
+
+pub returns-in-Err-clause-takes : goal.returns-in-Err-clause-takes
+returns-in-Err-clause-takes g c =
+    let first : IsFirst c.args.self.now.input (Err c.in-Err.fault) = c.in-Err.ensures.first in
+    inr (taken_fault (sight c.args.self.now (g.K.Link.told c.args.link.now) c.args.seat.now)
+    (sight (record { session = c.args.self.now.session; input = c.look.new.self; booking = c.args.self.now.booking })
+    (g.K.Link.told c.args.link.now) c.args.seat.now) c.in-Err.fault c.end_of.result
+    (ap (λ (i : List ℕ). record {
+      stage = stage c.args.self.now.session i;
+      told = g.K.Link.told c.args.link.now;
+      seat = c.args.seat.now;
+    }) c.look.ensures.waiting) (search rules) first c.end_of.ensures)
+
+pub returns-else-is_err-clause-taken : goal.returns-else-is_err-clause-taken
+returns-else-is_err-clause-taken g c =
+    let first : IsFirst c.args.self.now.input (Ok c.in-Ok-Request.field-0) = c.in-Ok-Request.ensures.first in
+    let is : c.in-Ok-Request.field-0 ≡ Request c.in-Ok-Request.length = search rules in
+    let dropped : c.take_request.new.self.input ≡ drop c.in-Ok-Request.length c.args.self.now.input = search rules in
+    let request : IsFirst c.args.self.now.input (Ok (Request c.in-Ok-Request.length)) = subst (λ s. IsFirst c.args.self.now.input (Ok s)) is first in (
+      search rules,
+      fewer c.args.self.now.input c.take_request.new.self.input c.in-Ok-Request.length
+          (some_request c.args.self.now.input c.in-Ok-Request.length request.1) request.2 dropped,
+    )

@@ -1,0 +1,181 @@
+-- The station's answers agree with each longer journal, and with one another.
+use Rattle.std.proofs.Common.{◌≡◌, ℕ, ◌+◌, ◌^◌, ◌<◌, ◌≤◌, ◌++◌, min, List, [], ◌∷◌, length, get_or, take, refl, ap, sym, ◌∙◌, subst, arith}
+use Rattle.std.proofs.lemmas.List.{append-nil, append_assoc, length-append, take_all}
+use mathlib.Core.List.{IsPrefix}
+use Rattle.early_start.specs.Offered.{Found, IsOffer}
+use Rattle.slot_calendar.specs.declared.profiles.CapStep.{CapStep}
+use Rattle.slot_calendar.specs.Profiles.{capacity_at}
+use Rattle.plan_cert.specs.declared.Segment.{Segment}
+use Rattle.admission.specs.declared.entries.Answer.{Answer}
+use Rattle.admission.specs.declared.entries.Command.{Command}
+use Rattle.admission.specs.declared.entries.Entry.{Entry}
+use Rattle.admission.specs.Histories.{booked_after, live, state_after}
+use Rattle.admission.specs.Machine.{start_after}
+use Rattle.admission.specs.Makers.{Placed, made_by}
+use Rattle.session.specs.declared.notes.OfferNote.{OfferNote}
+use Rattle.station.specs.Answers.{IsFull, Made}
+use Rattle.station.specs.Ledgers.{IsOffered}
+use Rattle.station.specs.declared.answers.Offered.{Offered as Told}
+use Rattle.station.specs.Seats.{IsSameSeat, IsSeat, Sitting}
+use Rattle.station.proofs.Grown.{last-entry, last-place, prefix-at, prefix-take}
+use Rattle.conn.specs.Journals.{AgreeWith, IsFullIn, IsOfferedIn, StandsIn, Terms, terms_of}
+use Rattle.conn.specs.Turns.{Outcome, Unasked, Entered, WasFull, Offered}
+
+prefix_length : (journal longer : List Entry) → IsPrefix journal longer → length journal ≤ length longer
+prefix_length journal longer prefix = omega (arith, length-append journal prefix.0, ap (λ (xs : List Entry). length xs) prefix.1)
+
+-- from an earlier place on
+pub agree_lower : (terms : Terms) (journal : List Entry) (low from : ℕ) (outcomes : List Outcome) → low ≤ from → AgreeWith terms journal from outcomes
+    → AgreeWith terms journal low outcomes
+agree_lower terms journal low from [] less agree = omega (arith, less, agree)
+agree_lower terms journal low from (Unasked ∷ outcomes) less agree = agree_lower terms journal low from outcomes less agree
+agree_lower terms journal low from (Entered placed ∷ outcomes) less agree = (
+  record { after = omega (arith, less, agree.0.after); within = agree.0.within; entry = agree.0.entry; maker_is = agree.0.maker_is },
+  agree.1,
+)
+agree_lower terms journal low from (WasFull more entries live ∷ outcomes) less agree = (
+  record { after = omega (arith, less, agree.0.after); within = agree.0.within; live_is = agree.0.live_is; full = agree.0.full },
+  agree.1,
+)
+agree_lower terms journal low from (Offered at_slot note ∷ outcomes) less agree = (
+  record { after = omega (arith, less, agree.0.after); within = agree.0.within; first_is = agree.0.first_is; offer = agree.0.offer },
+  agree.1,
+)
+
+-- with a longer journal
+stands_longer : (maker from : ℕ) (journal longer : List Entry) (placed : Placed) → IsPrefix journal longer → StandsIn maker journal from placed
+    → StandsIn maker longer from placed
+stands_longer maker from journal longer placed prefix stands = record {
+  after = stands.after;
+  within = omega (arith, stands.within, prefix_length journal longer prefix);
+  entry = λ none. prefix-at journal longer prefix placed.place none stands.within ∙ stands.entry none;
+  maker_is = stands.maker_is;
+}
+
+full_longer : (limit from more entries live_plays : ℕ) (journal longer : List Entry) → IsPrefix journal longer
+    → IsFullIn limit journal from more entries live_plays → IsFullIn limit longer from more entries live_plays
+full_longer limit from more entries live_plays journal longer prefix full = record {
+  after = full.after;
+  within = omega (arith, full.within, prefix_length journal longer prefix);
+  live_is = full.live_is ∙ ap (λ (xs : List Entry). live xs) (sym (prefix-take journal longer prefix entries full.within));
+  full = full.full;
+}
+
+offered_longer : (steps : List CapStep) (from slot : ℕ) (journal longer : List Entry) (note : OfferNote) → IsPrefix journal longer
+    → IsOfferedIn steps journal from slot note → IsOfferedIn steps longer from slot note
+offered_longer steps from slot journal longer note prefix offered =
+    let same : take note.seen longer ≡ take note.seen journal = prefix-take journal longer prefix note.seen offered.within in
+    record {
+      after = offered.after;
+      within = omega (arith, offered.within, prefix_length journal longer prefix);
+      first_is = offered.first_is ∙ ap (λ (xs : List Entry). start_after (state_after xs) (min slot (2 ^ 62))) (sym same);
+      offer = subst (λ (xs : List Entry). IsOffer 0 (booked_after xs) (capacity_at steps) note.plan note.first note.offers) (sym same) offered.offer;
+    }
+
+pub agree_longer : (terms : Terms) (journal longer : List Entry) (from : ℕ) (outcomes : List Outcome) → IsPrefix journal longer
+    → AgreeWith terms journal from outcomes → AgreeWith terms longer from outcomes
+agree_longer terms journal longer from [] prefix agree = omega (arith, agree, prefix_length journal longer prefix)
+agree_longer terms journal longer from (Unasked ∷ outcomes) prefix agree = agree_longer terms journal longer from outcomes prefix agree
+agree_longer terms journal longer from (Entered placed ∷ outcomes) prefix agree = (
+  stands_longer terms.maker from journal longer placed prefix agree.0,
+  agree_longer terms journal longer (placed.place + 1) outcomes prefix agree.1,
+)
+agree_longer terms journal longer from (WasFull more entries live ∷ outcomes) prefix agree = (
+  full_longer terms.limit from more entries live journal longer prefix agree.0,
+  agree_longer terms journal longer entries outcomes prefix agree.1,
+)
+agree_longer terms journal longer from (Offered at_slot note ∷ outcomes) prefix agree = (
+  offered_longer terms.steps from at_slot journal longer note prefix agree.0,
+  agree_longer terms journal longer note.seen outcomes prefix agree.1,
+)
+
+-- and then further answers
+pub agree_then : (terms : Terms) (journal longer : List Entry) (from : ℕ) (first more : List Outcome) → IsPrefix journal longer
+    → AgreeWith terms journal from first → AgreeWith terms longer (length journal) more → AgreeWith terms longer from (first ++ more)
+agree_then terms journal longer from [] more prefix agree later = agree_lower terms longer from (length journal) more agree later
+agree_then terms journal longer from (Unasked ∷ first) more prefix agree later = agree_then terms journal longer from first more prefix agree later
+agree_then terms journal longer from (Entered placed ∷ first) more prefix agree later = (
+  stands_longer terms.maker from journal longer placed prefix agree.0,
+  agree_then terms journal longer (placed.place + 1) first more prefix agree.1 later,
+)
+agree_then terms journal longer from (WasFull asked entries live ∷ first) more prefix agree later = (
+  full_longer terms.limit from asked entries live journal longer prefix agree.0,
+  agree_then terms journal longer entries first more prefix agree.1 later,
+)
+agree_then terms journal longer from (Offered at_slot note ∷ first) more prefix agree later = (
+  offered_longer terms.steps from at_slot journal longer note prefix agree.0,
+  agree_then terms journal longer note.seen first more prefix agree.1 later,
+)
+
+-- ---- a seat
+
+abbrev terms_with : List CapStep → ℕ → ℕ → Terms
+terms_with steps limit maker = record { steps = steps; limit = limit; maker = maker }
+
+pub terms_same : (a b : Sitting) → IsSameSeat a b → terms_of b ≡ terms_of a
+terms_same a b same =
+    ap (λ s. terms_with s b.limit b.number) same.steps ∙ ap (λ l. terms_with a.steps l b.number) same.limit
+    ∙ ap (λ n. terms_with a.steps a.limit n) same.number
+
+-- an entry of the seat's own comes after all that it had seen
+entry_after : (seat next : Sitting) (more : ℕ) (command : Command) (place : ℕ) (answer : Answer) (rest : List Entry) → IsSeat seat → IsSeat next
+    → next.number ≡ seat.number → seat.seen ++ rest ≡ next.seen → Made seat next more command place answer → length seat.seen ≤ place
+entry_after seat next more command place answer [] kept also number longer made =
+    let seen : next.seen ≡ seat.seen = sym longer ∙ append-nil seat.seen in
+    let mine : next.mine ≡ seat.mine =
+    also.own ∙ ap (λ n. made_by n next.seen) number ∙ ap (made_by seat.number) seen ∙ sym kept.own in
+    let e : Placed = record { place = place; entry = record { maker = seat.number; command = command; answer = answer } } in
+    let long : length seat.mine ≡ length seat.mine + 1 = ap (λ (ps : List Placed). length ps) (sym mine ∙ made.mine) ∙ length-append seat.mine (e ∷ []) in
+    absurd (omega (arith, long))
+entry_after seat next more command place answer (x ∷ xs) kept also number longer made =
+    let all : length seat.seen + length (x ∷ xs) ≡ length next.seen =
+    sym (length-append seat.seen (x ∷ xs)) ∙ ap (λ (es : List Entry). length es) longer in
+    omega (arith, all, last-place seat next more command place answer made)
+
+pub entry_agrees : (seat next : Sitting) (more : ℕ) (command : Command) (place : ℕ) (answer : Answer) → IsSeat seat → IsSeat next → IsSameSeat seat next
+    → Made seat next more command place answer
+    → AgreeWith (terms_of seat) next.seen (length seat.seen)
+    (Entered (record { place = place; entry = record { maker = seat.number; command = command; answer = answer } }) ∷ [])
+entry_agrees seat next more command place answer kept also same made =
+    let last = last-place seat next more command place answer made in (
+      record {
+        after = entry_after seat next more command place answer same.longer.0 kept also same.number same.longer.1 made;
+        within = omega (arith, last);
+        entry = λ none. last-entry seat next more command place answer made none;
+        maker_is = refl;
+      },
+      omega (arith, last),
+    )
+
+take_whole : (entries : List Entry) (n : ℕ) → n ≡ length entries → take n entries ≡ entries
+take_whole entries n is = take_all n entries (omega (arith, is))
+
+pub full_agrees : (seat next : Sitting) (more entries live_plays : ℕ) → IsSameSeat seat next → IsFull seat next more entries live_plays
+    → AgreeWith (terms_of seat) next.seen (length seat.seen) (WasFull more entries live_plays ∷ [])
+full_agrees seat next more entries live_plays same full =
+    let far = prefix_length seat.seen next.seen same.longer in (
+      record {
+        after = omega (arith, far, full.entries_are);
+        within = omega (arith, full.entries_are);
+        live_is = full.live_is ∙ ap (λ (xs : List Entry). live xs) (sym (take_whole next.seen entries full.entries_are));
+        full = full.full;
+      },
+      omega (arith, full.entries_are),
+    )
+
+pub offer_agrees : (seat next : Sitting) (heard : ℕ) (plan : List Segment) (told : Told) (found : Found) → IsSameSeat seat next
+    → IsOffered next.steps next.seen heard plan told found
+    → AgreeWith (terms_of seat) next.seen (length seat.seen)
+    (Offered heard (record { seen = told.seen; first = told.first; plan = plan; offers = found }) ∷ [])
+offer_agrees seat next heard plan told found same offered =
+    let far = prefix_length seat.seen next.seen same.longer in
+    let whole : take told.seen next.seen ≡ next.seen = take_whole next.seen told.seen offered.seen_is in (
+      record {
+        after = omega (arith, far, offered.seen_is);
+        within = omega (arith, offered.seen_is);
+        first_is = offered.first_is ∙ ap (λ (xs : List Entry). start_after (state_after xs) (min heard (2 ^ 62))) (sym whole);
+        offer = subst (λ (xs : List Entry). IsOffer 0 (booked_after xs) (capacity_at seat.steps) plan told.first found) (sym whole)
+            (subst (λ (steps : List CapStep). IsOffer 0 (booked_after next.seen) (capacity_at steps) plan told.first found) same.steps offered.offer);
+      },
+      omega (arith, offered.seen_is),
+    )

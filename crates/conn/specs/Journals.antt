@@ -1,0 +1,61 @@
+-- The station's answers to a connection, as a journal has them.
+use Rattle.std.specs.Prelude.{◌≡◌, ℕ, ◌+◌, ◌^◌, ◌<◌, ◌≤◌, min, List, [], ◌∷◌, length, take, slice_index_or}
+use Rattle.slot_calendar.specs.declared.profiles.CapStep.{CapStep}
+use Rattle.slot_calendar.specs.Profiles.{capacity_at}
+use Rattle.admission.specs.declared.entries.Entry.{Entry}
+use Rattle.admission.specs.Histories.{booked_after, live, state_after}
+use Rattle.admission.specs.Machine.{start_after}
+use Rattle.admission.specs.Makers.{Placed}
+use Rattle.early_start.specs.Offered.{IsOffer}
+use Rattle.session.specs.declared.notes.OfferNote.{OfferNote}
+use Rattle.station.specs.Seats.{Sitting}
+use Rattle.conn.specs.Turns.{Outcome, Unasked, Entered, WasFull, Offered}
+
+-- a journal's terms, and the maker of a connection's entries: the steps of the link's capacity, and
+-- the most entries
+pub record Terms : Type 0 where
+  pub steps : List CapStep
+  pub limit : ℕ
+  pub maker : ℕ
+
+abbrev pub terms_of : Sitting → Terms
+terms_of seat = record { steps = seat.steps; limit = seat.limit; maker = seat.number }
+
+-- an entry stands in a journal, at its place, which is from a place on
+pub record StandsIn (maker : ℕ) (journal : List Entry) (from : ℕ) (placed : Placed) : Type 0 where
+  pub after : from ≤ placed.place
+  pub within : placed.place < length journal
+  pub entry : (none : Entry) → slice_index_or journal placed.place none ≡ placed.entry
+  pub maker_is : placed.entry.maker ≡ maker
+
+-- a front of the journal had no room for so many more entries, beside those for the halts of its
+-- open plays: these are its two numbers
+pub record IsFullIn (limit : ℕ) (journal : List Entry) (from more entries live_plays : ℕ)
+    : Type 0 where
+  pub after : from ≤ entries
+  pub within : entries ≤ length journal
+  pub live_is : live_plays ≡ live (take entries journal)
+  pub full : limit < entries + live_plays + more
+
+-- an offer is the one that is made in the state after a front of the journal, from the slot after
+-- the heard one and after now on
+pub record IsOfferedIn (steps : List CapStep) (journal : List Entry) (from slot : ℕ)
+    (note : OfferNote) : Type 0 where
+  pub after : from ≤ note.seen
+  pub within : note.seen ≤ length journal
+  pub first_is : note.first ≡
+      start_after (state_after (take note.seen journal)) (min slot (2 ^ 62))
+  pub offer : IsOffer 0 (booked_after (take note.seen journal)) (capacity_at steps)
+      note.plan note.first note.offers
+
+-- the answers agree with a journal, one after another, from a place on
+abbrev pub AgreeWith : Terms → List Entry → ℕ → List Outcome → Type 0
+AgreeWith terms journal from [] = from ≤ length journal
+AgreeWith terms journal from (Unasked ∷ outcomes) = AgreeWith terms journal from outcomes
+AgreeWith terms journal from (Entered placed ∷ outcomes) =
+    StandsIn terms.maker journal from placed
+    × AgreeWith terms journal (placed.place + 1) outcomes
+AgreeWith terms journal from (WasFull more entries live ∷ outcomes) =
+    IsFullIn terms.limit journal from more entries live × AgreeWith terms journal entries outcomes
+AgreeWith terms journal from (Offered at_slot note ∷ outcomes) =
+    IsOfferedIn terms.steps journal from at_slot note × AgreeWith terms journal note.seen outcomes
