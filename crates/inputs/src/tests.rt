@@ -1,7 +1,10 @@
+ghost use Rattle.std.specs.Prelude.{None};
+
 use crate::{load_film, load_script_film, read_input, read_trace, scan_film, size_film};
 use std::alloc::{AllocError, Global};
 use std::test::Fail;
-use vod_base::MemoryLibrary;
+use troubles::{Fault, Trouble};
+use vod_base::{Library, MemoryLibrary, StoreFault};
 
 /// A sequence header, a group header, an I picture and one slice.
 const FILM: [u8; 34] = [
@@ -73,5 +76,45 @@ fn reads_three_pieces(rt: HostRuntime) -> Result<(), Fail> {
         return Err(Fail::from(AllocError));
     };
     assert_eq!(rt; sizes.as_slice(), [12, 7].as_slice());
+    Ok(())
+}
+
+/// A library of one file, of which only its size is there.
+#[derive(Drop)]
+struct Sized {
+    size: u64,
+}
+
+impl Library for Sized {
+    ghost faults = { λ _. 0 };
+
+    ghost files = { λ _. None };
+
+    fn find(&mut self, _name: &str) -> Result<Option<u64>, StoreFault> {
+        Ok(Some(self.size))
+    }
+
+    fn read(&mut self, _name: &str, _at: u64, _into: &mut [u8]) -> Result<usize, StoreFault> {
+        Ok(0)
+    }
+}
+
+#[test]
+fn holds_a_gibibyte_at_most(rt: HostRuntime) -> Result<(), Fail> {
+    let alloc = rt.alloc();
+    let mut most = Sized { size: 1 << 30 };
+    let fault = match load_film(alloc, &mut most, "a.mpg") {
+        Err(Trouble::Refused(_, fault)) => fault,
+        _ => return Err(Fail::from(AllocError)),
+    };
+    assert!(rt; fault != Fault::FilmTooLarge);
+    let mut more = Sized {
+        size: (1 << 30) + 1,
+    };
+    let fault = match load_film(alloc, &mut more, "a.mpg") {
+        Err(Trouble::Refused(_, fault)) => fault,
+        _ => return Err(Fail::from(AllocError)),
+    };
+    assert_eq!(rt; fault, Fault::FilmTooLarge);
     Ok(())
 }
