@@ -206,7 +206,7 @@ heard-after link (lines.Look slot) old new text is = look-heard link _ old new t
 heard-after link (lines.Slot slot) old new text is = ap (λ (m : Moment). m.heard) is.0
 heard-after link (lines.Offer c source buffer delay wait) old new text is = offer-heard link (rest_at link source buffer delay) wait old new text is
 
-run-ready : (link : Link) (n : ℕ) (lines : List Line) (texts : List (List ℕ)) (old new : Moment)
+pub run-ready : (link : Link) (n : ℕ) (lines : List Line) (texts : List (List ℕ)) (old new : Moment)
     → ((i : ℕ) (none : Line) → i < length lines → IsClient (get_or lines i none))
     → ((i : ℕ) (none : Line) → i < length lines → StandsAfter (fold slot_after old.heard (take i lines)) n (get_or lines i none))
     → AreRun link lines texts old new → IsReady old → IsReady new

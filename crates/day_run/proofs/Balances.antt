@@ -18,7 +18,8 @@ use Rattle.admission.proofs.Finds.{found-new, found-other, found-push}
 use Rattle.admission.proofs.Halts.{plays-split, split}
 use Rattle.admission.proofs.Runs.{state-push}
 use Rattle.day_run.specs.Balanced.{AreHeldOf, IsBalanced, IsHeld, share_of}
-use Rattle.day_run.specs.Days.{Moment, at_slot, done_halt, entry_by, halt_by, halts}
+use Rattle.day_run.specs.Days.{Moment, at_slot, done_halt, entry_by, halt_by, halts, last_journal, open_halt}
+use Rattle.day_run.specs.Clients.{after_open}
 use Rattle.day_run.specs.Seats.{Idle, Playing, Pausing, Paused, Play, Rest, Seat, after_play, after_sending, booking_of, growth, is_done, pausing, sent_between, sent_by}
 use Rattle.day_run.proofs.LineSteps.{halts-sent}
 use Rattle.day_run.proofs.SlotSums.{sum-slots}
@@ -351,42 +352,119 @@ left-alone slot c entries seats seat at balanced =
     let same : seats ≡ set seats c seat = sym (ap (set seats c) (sym at) ∙ set-get_or seats c Idle) in
     subst E (sym (append-nil entries)) (subst S same balanced)
 
+-- ---- what is booked in past slots stays
+abbrev Stays : ℕ → List Entry → List Entry → Type 0
+Stays slot old new = (t : ℕ) → t ≤ slot → booked_in (state_after new) t ≡ booked_in (state_after old) t
+
+pub stays-none : (slot : ℕ) (entries : List Entry) → Stays slot entries (entries ++ [])
+stays-none slot entries t past = ap (λ es. booked_in (state_after es) t) (append-nil entries)
+
+-- a play books in past slots what it did, where it keeps what was sent
+past-share : (t slot start keep : ℕ) (plan : List Segment) → t ≤ slot → sent_by (whole_play start plan) slot ≤ keep → keep ≤ total_bytes plan
+    → share_at t (whole_play start plan) ≡ share_at t (cut_play start plan keep)
+past-share t slot start keep plan past sent most =
+    omega (
+      arith,
+      sent,
+      most,
+      sent-rises plan start t (t + 1) (omega arith),
+      sent-rises plan start (t + 1) (slot + 1) (omega (arith, past)),
+    )
+
+pub stays-halt : (entries : List Entry) (c keep slot : ℕ) (play : Play)
+    → held_as play.number (state_after entries).held ≡ Some (admitted_play play.number play.start play.plan) → sent_by (booking_of play) slot ≤ keep
+    → keep ≤ total_bytes play.plan → Stays slot entries (entries ++ halt_by c play.number keep)
+stays-halt entries c keep slot play held sent most t past =
+    omega (
+      arith,
+      booked-halted entries c play.number keep play.start t play.plan held,
+      past-share t slot play.start keep play.plan past sent most,
+    )
+
+-- ---- the halts of a slot, or of a day's end
+record IsStep (slot : ℕ) (old new : List Entry) (seats : List Seat) : Type 0 where
+  balanced : IsBalanced new seats slot
+  stays : Stays slot old new
+
+kept-step : (slot c : ℕ) (entries : List Entry) (seats : List Seat) (seat : Seat) → get_or seats c Idle ≡ seat → IsBalanced entries seats slot
+    → IsStep slot entries (entries ++ []) (set seats c seat)
+kept-step slot c entries seats seat at balanced =
+    record { balanced = left-alone slot c entries seats seat at balanced; stays = stays-none slot entries }
+
+pub its-held : (entries : List Entry) (seats : List Seat) (heard c : ℕ) (play : Play) → c < length seats → get_or seats c Idle ≡ Playing play → IsBalanced entries seats heard
+    → held_as play.number (state_after entries).held ≡ Some (admitted_play play.number play.start play.plan)
+its-held entries seats heard c play inside at balanced =
+    let H : Seat → Type 0 = λ s. AreHeldOf entries c s in
+    let its : IsHeld entries c play = subst H at (balanced.held c inside) in
+    its.held
+
 step-play : (slot c : ℕ) (entries : List Entry) (seats : List Seat) (play : Play) (done : Bool) → is_done slot play ≡ done → c < length seats
     → get_or seats c Idle ≡ Playing play → IsBalanced entries seats slot
-    → IsBalanced (entries ++ cond done (halt_by c play.number (total_bytes play.plan)) []) (set seats c (cond done Idle (Playing play))) slot
-step-play slot c entries seats play true done inside at balanced =
-    balanced-halt entries seats slot c (total_bytes play.plan) play Idle inside at tt (λ t later. done-shares t slot play later done) balanced
-step-play slot c entries seats play false done inside at balanced = left-alone slot c entries seats (Playing play) at balanced
+    → IsStep slot entries (entries ++ cond done (halt_by c play.number (total_bytes play.plan)) []) (set seats c (cond done Idle (Playing play)))
+step-play slot c entries seats play true done inside at balanced = record {
+  balanced = balanced-halt entries seats slot c (total_bytes play.plan) play Idle inside at tt (λ t later. done-shares t slot play later done) balanced;
+  stays = stays-halt entries c (total_bytes play.plan) slot play (its-held entries seats slot c play inside at balanced) (omega arith) (omega arith);
+}
+step-play slot c entries seats play false done inside at balanced = kept-step slot c entries seats (Playing play) at balanced
 
 step-seat : (slot c : ℕ) (entries : List Entry) (seats : List Seat) (seat : Seat) → c < length seats → get_or seats c Idle ≡ seat → IsBalanced entries seats slot
-    → IsBalanced (entries ++ done_halt slot c seat) (set seats c (after_play slot seat)) slot
-step-seat slot c entries seats Idle inside at balanced = left-alone slot c entries seats Idle at balanced
+    → IsStep slot entries (entries ++ done_halt slot c seat) (set seats c (after_play slot seat))
+step-seat slot c entries seats Idle inside at balanced = kept-step slot c entries seats Idle at balanced
 step-seat slot c entries seats (Playing play) inside at balanced = step-play slot c entries seats play (is_done slot play) refl inside at balanced
-step-seat slot c entries seats (Pausing stop rest) inside at balanced = left-alone slot c entries seats (Pausing stop rest) at balanced
-step-seat slot c entries seats (Paused rest) inside at balanced = left-alone slot c entries seats (Paused rest) at balanced
+step-seat slot c entries seats (Pausing stop rest) inside at balanced = kept-step slot c entries seats (Pausing stop rest) at balanced
+step-seat slot c entries seats (Paused rest) inside at balanced = kept-step slot c entries seats (Paused rest) at balanced
 
-record Ending (slot n : ℕ) (begun : List Entry) (old : List Seat) : Type 0 where
+open-seat : (slot c : ℕ) (entries : List Entry) (seats : List Seat) (seat : Seat) → c < length seats → get_or seats c Idle ≡ seat → IsBalanced entries seats slot
+    → IsStep slot entries (entries ++ open_halt slot c seat) (set seats c (after_open seat))
+open-seat slot c entries seats Idle inside at balanced = kept-step slot c entries seats Idle at balanced
+open-seat slot c entries seats (Playing play) inside at balanced =
+    let keep = sent_by (booking_of play) slot in
+    record {
+      balanced =
+          balanced-halt entries seats slot c keep play Idle inside at tt
+          (λ t later. sym (share-done t slot (cut_play play.start play.plan keep) later (omega arith))) balanced;
+      stays = stays-halt entries c keep slot play (its-held entries seats slot c play inside at balanced) (omega arith) (omega arith);
+    }
+open-seat slot c entries seats (Pausing stop rest) inside at balanced = kept-step slot c entries seats (Pausing stop rest) at balanced
+open-seat slot c entries seats (Paused rest) inside at balanced = kept-step slot c entries seats (Paused rest) at balanced
+
+abbrev IsStepOf : ℕ → (ℕ → Seat → List Entry) → (Seat → Seat) → Type 0
+IsStepOf slot halt after =
+    (c : ℕ) (entries : List Entry) (seats : List Seat) (seat : Seat) → c < length seats → get_or seats c Idle ≡ seat → IsBalanced entries seats slot
+    → IsStep slot entries (entries ++ halt c seat) (set seats c (after seat))
+
+record Ending (slot n : ℕ) (halt : ℕ → Seat → List Entry) (after : Seat → Seat) (begun : List Entry) (old : List Seat) : Type 0 where
   entries : List Entry
   seats : List Seat
-  swept : IsSwept (after_play slot) n old seats
-  entries_are : entries ≡ begun ++ halts (done_halt slot) 0 (take n old)
+  swept : IsSwept after n old seats
+  entries_are : entries ≡ begun ++ halts halt 0 (take n old)
   balanced : IsBalanced entries seats slot
+  stays : Stays slot begun entries
 
-ending : (slot : ℕ) (begun : List Entry) (old : List Seat) (n : ℕ) → n ≤ length old → IsBalanced begun old slot → Ending slot n begun old
-ending slot begun old zero most balanced =
-    record { entries = begun; seats = old; swept = swept-none (after_play slot) old; entries_are = sym (append-nil begun); balanced = balanced }
-ending slot begun old (suc n) most balanced =
-    let e = ending slot begun old n (omega (arith, most)) balanced in
+ending : (slot : ℕ) (halt : ℕ → Seat → List Entry) (after : Seat → Seat) (begun : List Entry) (old : List Seat) (n : ℕ) → IsStepOf slot halt after → n ≤ length old
+    → IsBalanced begun old slot → Ending slot n halt after begun old
+ending slot halt after begun old zero step most balanced = record {
+  entries = begun;
+  seats = old;
+  swept = swept-none after old;
+  entries_are = sym (append-nil begun);
+  balanced = balanced;
+  stays = λ t past. refl;
+}
+ending slot halt after begun old (suc n) step most balanced =
+    let e = ending slot halt after begun old n step (omega (arith, most)) balanced in
     let seat = get_or old n Idle in
     let one : n + 1 ≡ suc n = omega arith in
     let inside : n < length old = omega (arith, most) in
-    let E : ℕ → Type 0 = λ k. Ending slot k begun old in
+    let next = step n e.entries e.seats seat (omega (arith, inside, e.swept.count)) (e.swept.later n (omega arith)) e.balanced in
+    let E : ℕ → Type 0 = λ k. Ending slot k halt after begun old in
     subst E one (record {
-      entries = e.entries ++ done_halt slot n seat;
-      seats = set e.seats n (after_play slot seat);
-      swept = swept-set (after_play slot) n old e.seats (after_play slot seat) inside refl e.swept;
-      entries_are = entries-more (done_halt slot) old n begun e.entries (e.entries ++ done_halt slot n seat) (done_halt slot n seat) inside e.entries_are refl refl;
-      balanced = step-seat slot n e.entries e.seats seat (omega (arith, inside, e.swept.count)) (e.swept.later n (omega arith)) e.balanced;
+      entries = e.entries ++ halt n seat;
+      seats = set e.seats n (after seat);
+      swept = swept-set after n old e.seats (after seat) inside refl e.swept;
+      entries_are = entries-more halt old n begun e.entries (e.entries ++ halt n seat) (halt n seat) inside e.entries_are refl refl;
+      balanced = next.balanced;
+      stays = λ t past. next.stays t past ∙ e.stays t past;
     })
 
 pub balanced-slot : (old : Moment) (slot : ℕ) → old.heard ≤ slot → IsBalanced old.entries old.seats old.heard
@@ -394,7 +472,7 @@ pub balanced-slot : (old : Moment) (slot : ℕ) → old.heard ≤ slot → IsBal
 balanced-slot old slot le balanced =
     let sent = map (after_sending slot) old.seats in
     let n = length sent in
-    let e = ending slot old.entries sent n (omega arith) (balanced-sending old.entries old.seats old.heard slot le balanced) in
+    let e = ending slot (done_halt slot) (after_play slot) old.entries sent n (step-seat slot) (omega arith) (balanced-sending old.entries old.seats old.heard slot le balanced) in
     let seats : e.seats ≡ map (after_play slot) sent = swept-all (after_play slot) n sent e.seats (omega arith) e.swept in
     let entries : e.entries ≡ old.entries ++ halts (done_halt slot) 0 old.seats =
     e.entries_are ∙ ap (λ l. old.entries ++ halts (done_halt slot) 0 l) (take_all n sent (omega arith))
@@ -402,3 +480,36 @@ balanced-slot old slot le balanced =
     let E : List Entry → Type 0 = λ es. IsBalanced es (map (after_play slot) sent) slot in
     let S : List Seat → Type 0 = λ l. IsBalanced e.entries l slot in
     subst E entries (subst S seats e.balanced)
+
+pub slot-stays : (old : Moment) (slot t : ℕ) → old.heard ≤ slot → t ≤ slot → IsBalanced old.entries old.seats old.heard
+    → booked_in (state_after (at_slot old slot).entries) t ≡ booked_in (state_after old.entries) t
+slot-stays old slot t le past balanced =
+    let sent = map (after_sending slot) old.seats in
+    let n = length sent in
+    let e = ending slot (done_halt slot) (after_play slot) old.entries sent n (step-seat slot) (omega arith) (balanced-sending old.entries old.seats old.heard slot le balanced) in
+    let entries : e.entries ≡ old.entries ++ halts (done_halt slot) 0 old.seats =
+    e.entries_are ∙ ap (λ l. old.entries ++ halts (done_halt slot) 0 l) (take_all n sent (omega arith))
+    ∙ ap (λ es. old.entries ++ es) (halts-sent slot 0 old.seats) in
+    sym (ap (λ es. booked_in (state_after es) t) entries) ∙ e.stays t past
+
+-- a day ends
+pub last-stays : (m : Moment) (t : ℕ) → t ≤ m.heard → IsBalanced m.entries m.seats m.heard
+    → booked_in (state_after (last_journal m)) t ≡ booked_in (state_after m.entries) t
+last-stays m t past balanced =
+    let n = length m.seats in
+    let e = ending m.heard (open_halt m.heard) after_open m.entries m.seats n (open-seat m.heard) (omega arith) balanced in
+    let entries : e.entries ≡ last_journal m = e.entries_are ∙ ap (λ l. m.entries ++ halts (open_halt m.heard) 0 l) (take_all n m.seats (omega arith)) in
+    sym (ap (λ es. booked_in (state_after es) t) entries) ∙ e.stays t past
+
+-- a play was admitted after the slot that was heard last
+pub play-stays : (entries : List Entry) (e : Entry) (number start heard t : ℕ) (plan : List Segment) → heard < start → t ≤ heard
+    → (state_after (entries ++ e ∷ [])).held ≡ (state_after entries).held ++ admitted_play number start plan ∷ []
+    → booked_in (state_after (entries ++ e ∷ [])) t ≡ booked_in (state_after entries) t
+play-stays entries e number start heard t plan early past is =
+    let held = (state_after entries).held in
+    let none : t + 1 - start ≡ 0 = omega (arith, early, past) in
+    let sent : sent_before plan start (t + 1) ≡ 0 = ap (λ n. sum (take n (plan_slots plan))) none in
+    let b : booked_in (state_after (entries ++ e ∷ [])) t ≡ booked_in (state_after entries) t + share_at t (whole_play start plan) =
+    ap (λ hs. sum_by (share_at t) (map (λ (x : Held). x.play) hs)) is ∙ ap (sum_by (share_at t)) (map-append (λ (x : Held). x.play) held (admitted_play number start plan ∷ []))
+    ∙ sum_by_push (share_at t) (map (λ (x : Held). x.play) held) (whole_play start plan) in
+    omega (arith, b, sent)

@@ -4,7 +4,7 @@ use Rattle.std.specs.Prelude.{sum_by}
 use Rattle.std.specs.List.{fold, range_with_len}
 use Rattle.std.proofs.lemmas.List.{append-nil, append_assoc, take_at}
 use Rattle.std.proofs.lemmas.List.Sums.{sum_by-cons}
-use Rattle.film_make.specs.Generator.{after, words_of}
+use Rattle.film_make.specs.Generator.{after}
 use Rattle.slot_calendar.specs.declared.profiles.CapStep.{CapStep}
 use Rattle.slot_calendar.specs.Profiles.{capacity_at}
 use Rattle.admission.specs.declared.entries.Entry.{Entry}
@@ -13,29 +13,28 @@ use Rattle.admission.specs.Machine.{booked_in}
 use Rattle.admission.proofs.Runs.{legal-take}
 use Rattle.admission.proofs.Within.{sound-after}
 use Rattle.day_run.specs.Balanced.{IsReady}
-use Rattle.day_run.specs.Days.{IsAsked, IsPauseLine, IsPlayLine, IsResumeLine, Link, Moment, at_slot, halts_at, last_halts, last_journal, morning, rest_at, seat_at}
-use Rattle.day_run.specs.DayLaws.{IsFairLine}
-use Rattle.day_run.specs.FairDays.{AreTurns, IsDone, IsTurn, Turn, after_traces, after_turn, at_later, client_of, counts_of, IsFair, fair_link, most_up_to, turn_booked, turn_peak, turn_sent}
+use Rattle.day_run.specs.Days.{IsAsked, IsPauseLine, IsPlayLine, IsResumeLine, Link, Moment, at_slot, halts_at, last_halts, last_journal, rest_at, seat_at}
+use Rattle.day_run.specs.FairDays.{AreTurns, IsDone, IsTurn, Turn, after_turn, at_later, client_of, most_up_to, turn_booked, turn_peak, turn_sent}
 use Rattle.day_run.specs.Seats.{Rest, Seat, Idle, Playing, Pausing, Paused}
-use Rattle.day_run.proofs.BalancedLines.{morning-ready, pause-heard, play-heard, ready-sent, resume-heard, slot-ready}
+use Rattle.day_run.proofs.BalancedLines.{pause-heard, play-heard, ready-sent, resume-heard, slot-ready}
 use Rattle.day_run.proofs.FairTurns.{done-ready}
 
 -- ---- what is sent is what is booked
-later-ready : (old : Moment) (later : ℕ) → IsReady old → IsReady (at_later old later)
+pub later-ready : (old : Moment) (later : ℕ) → IsReady old → IsReady (at_later old later)
 later-ready old later ready = ready-if (later == 0)
   where
     ready-if : (b : Bool) → IsReady (cond b old (at_slot old (old.heard + later)))
     ready-if true = ready
     ready-if false = slot-ready old (at_slot old (old.heard + later)) (old.heard + later) (omega arith) refl ready
 
-later-heard : (old : Moment) (later : ℕ) → old.heard ≤ (at_later old later).heard
+pub later-heard : (old : Moment) (later : ℕ) → old.heard ≤ (at_later old later).heard
 later-heard old later = heard-if (later == 0)
   where
     heard-if : (b : Bool) → old.heard ≤ (cond b old (at_slot old (old.heard + later))).heard
     heard-if true = omega arith
     heard-if false = omega arith
 
-turn-ready : (link : Link) (words : ℕ → ℕ) (turn : Turn) → IsTurn link words turn → IsReady turn.old → IsReady turn.new
+pub turn-ready : (link : Link) (words : ℕ → ℕ) (turn : Turn) → IsTurn link words turn → IsReady turn.old → IsReady turn.new
 turn-ready link words turn is ready =
     let R : Moment → Type 0 = λ m. IsReady m in
     let mid : IsReady turn.mid = subst R (sym is.slot) (later-ready turn.old (words 0 % 4) ready) in
@@ -152,7 +151,7 @@ pub evening-grown : (evening : Moment) (journal : List Entry) → journal ≡ la
 evening-grown evening journal is = record { made = last_halts evening; new_is = is }
 
 -- ---- a turn brings at most three slots
-done-heard : (link : Link) (words : ℕ → ℕ) (c : ℕ) (seat : Seat) (old new : Moment) (text : List ℕ) → IsDone link words c seat old new text → new.heard ≡ old.heard
+pub done-heard : (link : Link) (words : ℕ → ℕ) (c : ℕ) (seat : Seat) (old new : Moment) (text : List ℕ) → IsDone link words c seat old new text → new.heard ≡ old.heard
 done-heard link words c Idle old new text is =
     play-heard link c (rest_at link (words 0 % 16) (16384 + words 1 % 16384) (words 2 % 26)) (seat_at old c) old new text is
 done-heard link words c (Playing play) old new text is = pause-heard link c (seat_at old c) old new text is
@@ -166,7 +165,7 @@ later-most old later = most-if (later == 0)
     most-if true = omega arith
     most-if false = omega arith
 
-turns-heard : (link : Link) (words : ℕ → ℕ) (turns : List Turn) (old new : Moment) → AreTurns link words turns old new → new.heard ≤ old.heard + 3 * length turns
+pub turns-heard : (link : Link) (words : ℕ → ℕ) (turns : List Turn) (old new : Moment) → AreTurns link words turns old new → new.heard ≤ old.heard + 3 * length turns
 turns-heard link words [] old new run = omega (arith, ap (λ (m : Moment). m.heard) run)
 turns-heard link words (turn ∷ turns) old new run =
     let is = run.1.0 in
@@ -179,20 +178,10 @@ turns-heard link words (turn ∷ turns) old new run =
       turns-heard link (after_turn words turn) turns turn.new new run.1.1,
     )
 
--- ---- the line of a large day
-pub fair-line : (steps : List CapStep) (number plays : ℕ) (text : List ℕ) (journal : List Entry) → IsFair steps number plays text journal → IsLegal steps journal
-    → IsFairLine steps plays text journal
-fair-line steps number plays text journal fair legal =
-    let link = fair_link steps (words_of number) in
-    let words = after_traces 16 (words_of number) in
-    let turns = fair.turns in
-    let none : morning.heard ≡ 0 = refl in
-    record {
-      counts = counts_of turns fair.evening;
-      text_is = fair.text_is;
-      turns_are = fair.count;
-      last = omega (arith, turns-heard link words turns morning fair.evening fair.run, fair.count, none);
-      balanced = turns-balanced link words turns morning fair.evening fair.run morning-ready;
-      within = λ most capacity.
-          turns-within link words turns morning fair.evening steps journal most 0 fair.run legal (evening-grown fair.evening journal fair.journal_is) capacity (omega arith);
-    }
+pub turns-ready : (link : Link) (words : ℕ → ℕ) (turns : List Turn) (old new : Moment) → AreTurns link words turns old new → IsReady old → IsReady new
+turns-ready link words [] old new run ready =
+    let R : Moment → Type 0 = λ m. IsReady m in
+    subst R (sym run) ready
+turns-ready link words (turn ∷ turns) old new run ready =
+    let R : Moment → Type 0 = λ m. IsReady m in
+    turns-ready link (after_turn words turn) turns turn.new new run.1.1 (turn-ready link words turn run.1.0 (subst R (sym run.0) ready))

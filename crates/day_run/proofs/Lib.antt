@@ -16,6 +16,8 @@ pub mod FairDraws
 pub mod FairTurns
 pub mod FairLaws
 pub mod OneDay
+pub mod PastSlots
+pub mod FairLines
 pub mod Balances
 pub mod BalancedLines
 pub mod SourceTracks

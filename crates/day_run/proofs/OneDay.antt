@@ -189,7 +189,7 @@ halt-if false play heard keep seat late sound pause most =
     (inside, omega (arith, left.1, pause.boundary.after), most)
 
 -- the bytes that are kept are those of the plan at most
-kept-most : (entries : List Entry) (play : Play) (keep : ℕ)
+pub kept-most : (entries : List Entry) (play : Play) (keep : ℕ)
     → held_as play.number (state_after entries).held ≡ Some (admitted_play play.number play.start play.plan)
     → CanHalt (state_after entries) play.number keep → keep ≤ total_bytes play.plan
 kept-most entries play keep held can =

@@ -7,7 +7,7 @@ use Rattle.std.proofs.lemmas.List.Sums.{fold-append}
 pub peak-push : (xs : List ℕ) (x : ℕ) → fold max 0 (xs ++ x ∷ []) ≡ max (fold max 0 xs) x
 peak-push xs x = fold-append max 0 xs (x ∷ [])
 
-peak-slots : (f : ℕ → ℕ) (a n j : ℕ) → a + n ≡ j → fold max 0 (map f (range_with_len a (n + 1))) ≡ max (fold max 0 (map f (range_with_len a n))) (f j)
+pub peak-slots : (f : ℕ → ℕ) (a n j : ℕ) → a + n ≡ j → fold max 0 (map f (range_with_len a (n + 1))) ≡ max (fold max 0 (map f (range_with_len a n))) (f j)
 peak-slots f a n j at = ap (fold max 0) (map-range_with_len_more f a n j at) ∙ peak-push (map f (range_with_len a n)) (f j)
 
 -- the most through a slot

@@ -1,5 +1,7 @@
 -- What holds of every day.
-use Rattle.std.specs.Prelude.{ℕ, false, ◌≡◌, ◌*◌, ◌<◌, ◌≤◌, List, length, slice_index_or}
+use Rattle.std.specs.Prelude.{ℕ, false, ◌≡◌, ◌*◌, ◌<◌, ◌≤◌, List, fold, length, map, max, slice_index_or, sum_by}
+use Rattle.std.specs.List.{range_with_len}
+use Rattle.admission.specs.Histories.{booked_after}
 use Rattle.slot_calendar.specs.declared.profiles.CapStep.{CapStep}
 use Rattle.slot_calendar.specs.Profiles.{capacity_at}
 use Rattle.admission.specs.declared.entries.Entry.{Entry}
@@ -56,8 +58,9 @@ IsSoundSeat heard (Playing play) = IsSoundPlay heard play
 IsSoundSeat heard (Pausing stop rest) = IsSoundRest rest
 IsSoundSeat heard (Paused rest) = IsSoundRest rest
 
--- what the line of a large day says: as many bytes were sent as are booked, no slot has more than the
--- greatest capacity, and a turn brings at most three slots
+-- what the line of a large day says: a turn brings at most three slots; as many bytes were sent as
+-- the journal books in all slots up to the last; the peak is the most that it books in one of them,
+-- which is no more than the greatest capacity
 pub record IsFairLine (steps : List CapStep) (plays : ℕ) (text : List ℕ) (journal : List Entry)
     : Type 0 where
   pub counts : Counts
@@ -65,4 +68,6 @@ pub record IsFairLine (steps : List CapStep) (plays : ℕ) (text : List ℕ) (jo
   pub turns_are : counts.turns ≡ plays
   pub last : counts.last ≤ 3 * plays
   pub balanced : counts.sent ≡ counts.booked
+  pub booked_is : counts.booked ≡ sum_by (booked_after journal) (range_with_len 1 counts.last)
+  pub peak_is : counts.peak ≡ fold max 0 (map (booked_after journal) (range_with_len 1 counts.last))
   pub within : (most : ℕ) → ((t : ℕ) → capacity_at steps t ≤ most) → counts.peak ≤ most

@@ -2,11 +2,11 @@ ghost use Rattle.std.specs.Prelude.{ℕ, List, ◌≡◌, ◌≤◌, ◌<◌, le
 ghost use Rattle.day_run.specs.declared.scripts.Line.{Line};
 ghost use Rattle.slot_calendar.specs.declared.profiles.CapStep.{CapStep};
 ghost use Rattle.admission.specs.declared.entries.Entry.{Entry};
-ghost use Rattle.admission.specs.Histories.{IsLegal};
-ghost use Rattle.day_run.specs.DayLaws.{AreClients, IsFairLine, IsLink, IsSoundSeat};
-ghost use Rattle.day_run.specs.Days.{AreRun, IsDay, Link, Moment, booked_up_to, morning, seat_at, sent_up_to};
+ghost use Rattle.admission.specs.Histories.{IsLegal, booked_after};
+ghost use Rattle.day_run.specs.DayLaws.{AreClients, IsClient, IsFairLine, IsLink, IsSoundSeat};
+ghost use Rattle.day_run.specs.Days.{AreRun, IsDay, IsLine, Link, Moment, booked_up_to, last_journal, morning, seat_at, sent_up_to};
 ghost use Rattle.day_run.specs.FairDays.{IsFair};
-ghost use Rattle.day_run.specs.Scripts.{AreLines};
+ghost use Rattle.day_run.specs.Scripts.{AreLines, StandsAfter};
 
 /// After lines of a script, what the clients are sent in the slots up to any later one, after the
 /// slot that was heard last, is what is booked in those slots.
@@ -23,12 +23,26 @@ pub fn law_texts()
         AreRun link lines texts old new → length texts ≡ length lines }
 {}
 
-/// What the line of a large day says holds: what was sent is what is booked, and no slot has more
-/// than the capacity.
+/// What the line of a large day says holds: what was sent is what the journal books in its slots, and
+/// no slot has more than the capacity.
 pub fn law_fair()
     ensures { (steps : List CapStep) (number plays : ℕ) (text : List ℕ) (journal : List Entry) →
         IsFair steps number plays text journal → IsLegal steps journal →
         IsFairLine steps plays text journal }
+{}
+
+/// What is booked in the slots that were heard stays: no line of a script changes it, nor does the
+/// end of the day.
+pub fn law_past()
+    ensures line { (link : Link) (sources slot : ℕ) (lines : List Line) (texts : List (List ℕ))
+        (moment next : Moment) (line : Line) (text : List ℕ) → AreClients lines →
+        AreLines sources lines → AreRun link lines texts morning moment → IsClient line →
+        StandsAfter moment.heard sources line → IsLine link line moment next text →
+        slot ≤ moment.heard → booked_after next.entries slot ≡ booked_after moment.entries slot }
+    ensures end { (link : Link) (sources slot : ℕ) (lines : List Line) (texts : List (List ℕ))
+        (moment : Moment) → AreClients lines → AreLines sources lines →
+        AreRun link lines texts morning moment → slot ≤ moment.heard →
+        booked_after (last_journal moment) slot ≡ booked_after moment.entries slot }
 {}
 
 /// After lines of a script each client goes on soundly: a play is sent by the plan of what was left

@@ -1,4 +1,4 @@
-use Rattle.day_run.proofs.FairLaws.{fair-line}
+use Rattle.day_run.proofs.FairLines.{fair-line}
 use Rattle.day_run.proofs.laws.law_fair.Goals as goal
 
 pub returns : goal.returns

@@ -1,0 +1,293 @@
+-- What is booked in the slots that were heard stays.
+use Rattle.std.proofs.Common.{◌≡◌, ◌<◌, ◌≤◌, ◌+◌, ◌-◌, ◌%◌, ◌==◌, ℕ, zero, suc, max, true, false, Bool, cond, List, [], ◌∷◌, ◌++◌, length, map, get_or, arith, refl, sym, ap, subst, ◌∙◌, inl, inr}
+use Rattle.std.specs.Prelude.{sum_by}
+use Rattle.std.specs.List.{fold, range_with_len}
+use Rattle.std.proofs.lemmas.List.Sums.{sum_by-cons}
+use Rattle.film_make.specs.Generator.{after}
+use Rattle.plan_cert.specs.declared.Segment.{Segment}
+use Rattle.slot_calendar.specs.Plays.{booked_by}
+use Rattle.admission.specs.declared.entries.Answer.{Answer}
+use Rattle.admission.specs.declared.entries.Answer.TheVariants.{Admitted, Overflow, Halted, Looked}
+use Rattle.admission.specs.declared.entries.Command.TheVariants as commands
+use Rattle.admission.specs.declared.entries.Entry.{Entry}
+use Rattle.admission.specs.Histories.{IsAnswered, booked_after, state_after}
+use Rattle.admission.specs.Machine.{Held, State, booked_in}
+use Rattle.admission.proofs.Runs.{state-push}
+use Rattle.day_run.specs.declared.scripts.Line.{Line}
+use Rattle.day_run.specs.declared.scripts.Line.TheVariants as lines
+use Rattle.day_run.specs.Balanced.{IsReady}
+use Rattle.day_run.specs.DayLaws.{AreClients, IsClient}
+use Rattle.day_run.specs.Days.{AreRun, IsAsked, IsHaltedPlay, IsLine, IsLookLine, IsOfferLine, IsPauseLine, IsPlayLine, IsResumeLine, Link, Moment, at_slot, entry_by, last_journal, morning, rest_at, seat_at, with_play}
+use Rattle.day_run.specs.FairDays.{AreTurns, IsDone, IsTurn, Turn, after_turn, at_later, client_of, turn_booked, turn_peak}
+use Rattle.day_run.specs.Scripts.{AreLines, StandsAfter}
+use Rattle.day_run.specs.Seats.{Idle, Playing, Pausing, Paused, Play, Rest, Seat, booking_of, sent_by}
+use Rattle.day_run.proofs.Balances.{its-held, last-stays, play-stays, slot-stays, stays-halt}
+use Rattle.day_run.proofs.BalancedLines.{morning-ready, run-ready}
+use Rattle.day_run.proofs.FairLaws.{done-heard, later-heard, turn-ready, later-ready}
+use Rattle.day_run.proofs.OneDay.{kept-most}
+use Rattle.day_run.proofs.Peaks.{peak-slots}
+use Rattle.day_run.proofs.SlotSums.{sum-slots}
+
+abbrev pub Past : Moment → Moment → Type 0
+Past old new = (t : ℕ) → t ≤ old.heard → booked_after new.entries t ≡ booked_after old.entries t
+
+kept-past : (old new : Moment) → new ≡ old → Past old new
+kept-past old new kept t past = ap (λ (m : Moment). booked_after m.entries t) kept
+
+same-past : (old new : Moment) (e : Entry) (seats : List Seat) → new ≡ record { entries = old.entries ++ e ∷ []; seats = seats; heard = old.heard }
+    → (state_after (old.entries ++ e ∷ [])).held ≡ (state_after old.entries).held → Past old new
+same-past old new e seats is same t past =
+    ap (λ (m : Moment). booked_after m.entries t) is ∙ ap (λ hs. booked_by (map (λ (h : Held). h.play) hs) t) same
+
+answered-past : (answer : Answer) (link : Link) (c : ℕ) (rest : Rest) (plan : List Segment) (old new : Moment)
+    → IsAnswered link.steps (state_after old.entries) (entry_by c (commands.Play old.heard plan) answer)
+    → new ≡ record {
+      entries = old.entries ++ entry_by c (commands.Play old.heard plan) answer ∷ [];
+      seats = with_play c rest plan (length old.entries) answer old.seats;
+      heard = old.heard;
+    } → Past old new
+answered-past (Admitted start) link c rest plan old new answered is = λ t past.
+    let e = entry_by c (commands.Play old.heard plan) (Admitted start) in
+    let early : old.heard < start = omega (arith, answered.0) in
+    ap (λ (m : Moment). booked_after m.entries t) is
+    ∙ play-stays old.entries e (length old.entries) start old.heard t plan early past (ap (λ (s : State). s.held) (state-push old.entries e))
+answered-past (Overflow over booked asked) link c rest plan old new answered is =
+    let e = entry_by c (commands.Play old.heard plan) (Overflow over booked asked) in
+    same-past old new e old.seats is (ap (λ (s : State). s.held) (state-push old.entries e))
+answered-past Halted link c rest plan old new answered is =
+    let e = entry_by c (commands.Play old.heard plan) Halted in
+    same-past old new e old.seats is (ap (λ (s : State). s.held) (state-push old.entries e))
+answered-past (Looked now at booked) link c rest plan old new answered is =
+    let e = entry_by c (commands.Play old.heard plan) (Looked now at booked) in
+    same-past old new e old.seats is (ap (λ (s : State). s.held) (state-push old.entries e))
+
+asked-past : (link : Link) (c : ℕ) (rest : Rest) (old new : Moment) (text : List ℕ) → IsAsked link c rest old new text → Past old new
+asked-past link c rest old new text (inl faulty) = kept-past old new faulty.told.kept
+asked-past link c rest old new text (inr planned) = elim planned.done [
+  | inl full ↦ kept-past old new full.told.kept
+  | inr made ↦ answered-past made.answer link c rest planned.plan old new made.noted.answered made.noted.new_is
+]
+
+play-past : (link : Link) (c : ℕ) (rest : Rest) (seat : Seat) (old new : Moment) (text : List ℕ) → IsPlayLine link c rest seat old new text → Past old new
+play-past link c rest Idle old new text is = asked-past link c rest old new text is
+play-past link c rest (Playing play) old new text is = kept-past old new is.kept
+play-past link c rest (Pausing stop left) old new text is = kept-past old new is.kept
+play-past link c rest (Paused left) old new text is = asked-past link c rest old new text is
+
+resume-past : (link : Link) (c : ℕ) (seat : Seat) (old new : Moment) (text : List ℕ) → IsResumeLine link c seat old new text → Past old new
+resume-past link c Idle old new text is = kept-past old new is.kept
+resume-past link c (Playing play) old new text is = kept-past old new is.kept
+resume-past link c (Pausing stop rest) old new text is = kept-past old new is.kept
+resume-past link c (Paused rest) old new text is = asked-past link c rest old new text is
+
+halted-past : (link : Link) (c : ℕ) (play : Play) (old new : Moment) (text : List ℕ) → c < 256 → get_or old.seats c Idle ≡ Playing play → IsReady old
+    → IsHaltedPlay link c play old new text → Past old new
+halted-past link c play old new text client at ready is t past =
+    let held = its-held old.entries old.seats old.heard c play (omega (arith, client, ready.count)) at ready.balanced in
+    let most = kept-most old.entries play is.keep held is.noted.answered in
+    let sent : sent_by (booking_of play) old.heard ≤ is.keep = omega (arith, is.pause.boundary.after) in
+    ap (λ (m : Moment). booked_after m.entries t) is.noted.new_is ∙ stays-halt old.entries c is.keep old.heard play held sent most t past
+
+pause-past : (link : Link) (c : ℕ) (seat : Seat) (old new : Moment) (text : List ℕ) → c < 256 → get_or old.seats c Idle ≡ seat → IsReady old
+    → IsPauseLine link c seat old new text → Past old new
+pause-past link c Idle old new text client at ready is = kept-past old new is.kept
+pause-past link c (Playing play) old new text client at ready is = halted-past link c play old new text client at ready is
+pause-past link c (Pausing stop rest) old new text client at ready is = kept-past old new is.kept
+pause-past link c (Paused rest) old new text client at ready is = kept-past old new is.kept
+
+look-past : (link : Link) (slot : ℕ) (old new : Moment) (text : List ℕ) → IsLookLine link slot old new text → Past old new
+look-past link slot old new text (inl full) = kept-past old new full.told.kept
+look-past link slot old new text (inr made) =
+    let e = entry_by 0 (commands.Look slot) made.answer in
+    same-past old new e old.seats made.noted.new_is (look-held made.answer slot old.entries)
+  where
+    look-held : (answer : Answer) (slot : ℕ) (entries : List Entry)
+        → (state_after (entries ++ entry_by 0 (commands.Look slot) answer ∷ [])).held ≡ (state_after entries).held
+    look-held answer slot entries = ap (λ (s : State). s.held) (state-push entries (entry_by 0 (commands.Look slot) answer))
+
+offer-past : (link : Link) (rest : Rest) (wait : ℕ) (old new : Moment) (text : List ℕ) → IsOfferLine link rest wait old new text → Past old new
+offer-past link rest wait old new text (inl faulty) = kept-past old new faulty.told.kept
+offer-past link rest wait old new text (inr offered) = kept-past old new offered.told.kept
+
+line-past : (link : Link) (line : Line) (n : ℕ) (old new : Moment) (text : List ℕ) → IsClient line → StandsAfter old.heard n line → IsReady old
+    → IsLine link line old new text → Past old new
+line-past link (lines.Play c source buffer delay) n old new text client stands ready is =
+    play-past link c (rest_at link source buffer delay) (seat_at old c) old new text is
+line-past link (lines.Pause c) n old new text client stands ready is = pause-past link c (seat_at old c) old new text client refl ready is
+line-past link (lines.Resume c) n old new text client stands ready is = resume-past link c (seat_at old c) old new text is
+line-past link (lines.Look slot) n old new text client stands ready is = look-past link _ old new text is
+line-past link (lines.Slot slot) n old new text client stands ready is = λ t past.
+    ap (λ (m : Moment). booked_after m.entries t) is.0 ∙ slot-stays old slot t (omega (arith, stands.0)) (omega (arith, past, stands.0)) ready.balanced
+line-past link (lines.Offer c source buffer delay wait) n old new text client stands ready is =
+    offer-past link (rest_at link source buffer delay) wait old new text is
+
+pub day-past : (link : Link) (n : ℕ) (ls : List Line) (texts : List (List ℕ)) (m new : Moment) (line : Line) (text : List ℕ) (t : ℕ) → AreClients ls → AreLines n ls
+    → AreRun link ls texts morning m → IsClient line → StandsAfter m.heard n line → IsLine link line m new text → t ≤ m.heard
+    → booked_after new.entries t ≡ booked_after m.entries t
+day-past link n ls texts m new line text t clients are run client stands is past =
+    line-past link line n m new text client stands (run-ready link n ls texts morning m clients.each are.each run morning-ready) is t past
+
+pub end-past : (link : Link) (n : ℕ) (ls : List Line) (texts : List (List ℕ)) (m : Moment) (t : ℕ) → AreClients ls → AreLines n ls
+    → AreRun link ls texts morning m → t ≤ m.heard → booked_after (last_journal m) t ≡ booked_after m.entries t
+end-past link n ls texts m t clients are run past =
+    last-stays m t past (run-ready link n ls texts morning m clients.each are.each run morning-ready).balanced
+
+-- ---- the same of turns
+done-past : (link : Link) (words : ℕ → ℕ) (c : ℕ) (seat : Seat) (old new : Moment) (text : List ℕ) → c < 256 → IsReady old → get_or old.seats c Idle ≡ seat
+    → IsDone link words c seat old new text → Past old new
+done-past link words c Idle old new text client ready at is =
+    play-past link c (rest_at link (words 0 % 16) (16384 + words 1 % 16384) (words 2 % 26)) (seat_at old c) old new text is
+done-past link words c (Playing play) old new text client ready at is = pause-past link c (seat_at old c) old new text client refl ready is
+done-past link words c (Pausing stop rest) old new text client ready at is = kept-past old new is.kept
+done-past link words c (Paused rest) old new text client ready at is = resume-past link c (seat_at old c) old new text is
+
+-- a slot or none leaves what is booked up to it
+later-past : (old : Moment) (later t : ℕ) → IsReady old → t ≤ (at_later old later).heard → booked_after (at_later old later).entries t ≡ booked_after old.entries t
+later-past old later t ready = past-if (later == 0)
+  where
+    past-if : (b : Bool) → t ≤ (cond b old (at_slot old (old.heard + later))).heard
+        → booked_after (cond b old (at_slot old (old.heard + later))).entries t ≡ booked_after old.entries t
+    past-if true past = refl
+    past-if false past = slot-stays old (old.heard + later) t (omega arith) past ready.balanced
+
+turn-past : (link : Link) (words : ℕ → ℕ) (turn : Turn) (t : ℕ) → IsTurn link words turn → IsReady turn.old → t ≤ turn.mid.heard
+    → booked_after turn.new.entries t ≡ booked_after turn.old.entries t
+turn-past link words turn t is ready past =
+    let R : Moment → Type 0 = λ m. IsReady m in
+    let mid : IsReady turn.mid = subst R (sym is.slot) (later-ready turn.old (words 0 % 4) ready) in
+    let P : Moment → Type 0 = λ m. t ≤ m.heard → booked_after m.entries t ≡ booked_after turn.old.entries t in
+    let to-mid : P turn.mid = subst P (sym is.slot) (later-past turn.old (words 0 % 4) t ready) in
+    done-past link (after 2 words) (client_of words) _ turn.mid turn.new turn.text (omega arith) mid refl is.done t past ∙ to-mid past
+
+-- ---- sums and peaks over slots that join
+sum-same : (f g : ℕ → ℕ) (a n : ℕ) → ((t : ℕ) → t < a + n → f t ≡ g t) → sum_by f (range_with_len a n) ≡ sum_by g (range_with_len a n)
+sum-same f g a zero same = refl
+sum-same f g a (suc n) same =
+    let e : suc n ≡ n + 1 = omega arith in
+    let here : f (a + n) ≡ g (a + n) = same (a + n) (omega arith) in
+    let more = sum-same f g a n (λ t before. same t (omega (arith, before))) in
+    let both : sum_by f (range_with_len a (n + 1)) ≡ sum_by g (range_with_len a (n + 1)) = omega (arith, sum-slots f a n, sum-slots g a n, here, more) in
+    ap (λ k. sum_by f (range_with_len a k)) e ∙ both ∙ sym (ap (λ k. sum_by g (range_with_len a k)) e)
+
+peak-same : (f g : ℕ → ℕ) (a n : ℕ) → ((t : ℕ) → t < a + n → f t ≡ g t)
+    → fold max 0 (map f (range_with_len a n)) ≡ fold max 0 (map g (range_with_len a n))
+peak-same f g a zero same = refl
+peak-same f g a (suc n) same =
+    let e : suc n ≡ n + 1 = omega arith in
+    let here : f (a + n) ≡ g (a + n) = same (a + n) (omega arith) in
+    let more = peak-same f g a n (λ t before. same t (omega (arith, before))) in
+    let both : fold max 0 (map f (range_with_len a (n + 1))) ≡ fold max 0 (map g (range_with_len a (n + 1))) =
+    omega (arith, peak-slots f a n (a + n) refl, peak-slots g a n (a + n) refl, here, more) in
+    ap (λ k. fold max 0 (map f (range_with_len a k))) e ∙ both ∙ sym (ap (λ k. fold max 0 (map g (range_with_len a k))) e)
+
+sum-join : (f : ℕ → ℕ) (a m n : ℕ) → sum_by f (range_with_len a (m + n)) ≡ sum_by f (range_with_len a m) + sum_by f (range_with_len (a + m) n)
+sum-join f a m zero =
+    let e : m + 0 ≡ m = omega arith in
+    omega (arith, ap (λ k. sum_by f (range_with_len a k)) e)
+sum-join f a m (suc n) =
+    let e : m + suc n ≡ m + n + 1 = omega arith in
+    let d : suc n ≡ n + 1 = omega arith in
+    let at : a + (m + n) ≡ a + m + n = omega arith in
+    omega (
+      arith,
+      ap (λ k. sum_by f (range_with_len a k)) e,
+      ap (λ k. sum_by f (range_with_len (a + m) k)) d,
+      sum-slots f a (m + n),
+      sum-slots f (a + m) n,
+      ap f at,
+      sum-join f a m n,
+    )
+
+peak-join : (f : ℕ → ℕ) (a m n : ℕ)
+    → fold max 0 (map f (range_with_len a (m + n))) ≡ max (fold max 0 (map f (range_with_len a m))) (fold max 0 (map f (range_with_len (a + m) n)))
+peak-join f a m zero =
+    let e : m + 0 ≡ m = omega arith in
+    omega (arith, ap (λ k. fold max 0 (map f (range_with_len a k))) e)
+peak-join f a m (suc n) =
+    let e : m + suc n ≡ m + n + 1 = omega arith in
+    let d : suc n ≡ n + 1 = omega arith in
+    let at : a + (m + n) ≡ a + m + n = omega arith in
+    omega (
+      arith,
+      ap (λ k. fold max 0 (map f (range_with_len a k))) e,
+      ap (λ k. fold max 0 (map f (range_with_len (a + m) k))) d,
+      peak-slots f a (m + n) (a + (m + n)) refl,
+      peak-slots f (a + m) n (a + m + n) refl,
+      ap f at,
+      peak-join f a m n,
+    )
+
+fold-top : (top : ℕ) (xs : List ℕ) → fold max top xs ≡ max top (fold max 0 xs)
+fold-top top [] = omega arith
+fold-top top (x ∷ xs) = omega (arith, fold-top (max top x) xs, fold-top (max 0 x) xs)
+
+-- ---- what the turns bring is what the journal books in their slots
+pub record AreBooked (booked : ℕ → ℕ) (turns : List Turn) (from to : ℕ) : Type 0 where
+  pub order : from ≤ to
+  pub sum_is : sum_by turn_booked turns ≡ sum_by booked (range_with_len (from + 1) (to - from))
+  pub peak_is : fold max 0 (map turn_peak turns) ≡ fold max 0 (map booked (range_with_len (from + 1) (to - from)))
+
+pub turns-past : (link : Link) (words : ℕ → ℕ) (turns : List Turn) (old new : Moment) (booked : ℕ → ℕ) → AreTurns link words turns old new → IsReady old
+    → ((t : ℕ) → t ≤ new.heard → booked t ≡ booked_after new.entries t)
+    → AreBooked booked turns old.heard new.heard × ((t : ℕ) → t ≤ old.heard → booked t ≡ booked_after old.entries t)
+turns-past link words [] old new booked run ready same =
+    let heard : new.heard ≡ old.heard = ap (λ (m : Moment). m.heard) run in
+    let none : new.heard - old.heard ≡ 0 = omega (arith, heard) in (
+      record {
+        order = omega (arith, heard);
+        sum_is = sym (ap (λ k. sum_by booked (range_with_len (old.heard + 1) k)) none);
+        peak_is = sym (ap (λ k. fold max 0 (map booked (range_with_len (old.heard + 1) k))) none);
+      },
+      λ t past. same t (omega (arith, past, heard)) ∙ ap (λ (m : Moment). booked_after m.entries t) run,
+    )
+turns-past link words (turn ∷ turns) old new booked run ready same =
+    let R : Moment → Type 0 = λ m. IsReady m in
+    let begun : IsReady turn.old = subst R (sym run.0) ready in
+    let is = run.1.0 in
+    let rest = turns-past link (after_turn words turn) turns turn.new new booked run.1.1 (turn-ready link words turn is begun) same in
+    let from : turn.old.heard ≡ old.heard = ap (λ (m : Moment). m.heard) run.0 in
+    let mid : turn.new.heard ≡ turn.mid.heard = done-heard link (after 2 words) (client_of words) _ turn.mid turn.new turn.text is.done in
+    let M : Moment → Type 0 = λ m. turn.old.heard ≤ m.heard in
+    let later : turn.old.heard ≤ turn.mid.heard = subst M (sym is.slot) (later-heard turn.old (words 0 % 4)) in
+    let here : (t : ℕ) → t ≤ turn.mid.heard → booked t ≡ booked_after turn.old.entries t =
+    λ t past. rest.1 t (omega (arith, past, mid)) ∙ turn-past link words turn t is begun past in
+    let m = turn.mid.heard - turn.old.heard in
+    let n = new.heard - turn.new.heard in
+    let order = rest.0.order in
+    let at : turn.old.heard + 1 + m ≡ turn.new.heard + 1 = omega (arith, later, mid) in
+    let whole : new.heard - turn.old.heard ≡ m + n = omega (arith, later, mid, order) in
+    let f = booked_in (state_after turn.old.entries) in
+    let sums = sum-same booked f (turn.old.heard + 1) m (λ t before. here t (omega (arith, before, later))) in
+    let peaks = peak-same booked f (turn.old.heard + 1) m (λ t before. here t (omega (arith, before, later))) in
+    let B : ℕ → Type 0 = λ h. AreBooked booked (turn ∷ turns) h new.heard in (
+      subst B from (record {
+        order = omega (arith, later, mid, order);
+        sum_is =
+            omega (
+              arith,
+              sum_by-cons turn_booked turn turns,
+              sums,
+              rest.0.sum_is,
+              sum-join booked (turn.old.heard + 1) m n,
+              ap (λ k. sum_by booked (range_with_len k n)) at,
+              ap (λ k. sum_by booked (range_with_len (turn.old.heard + 1) k)) whole,
+            );
+        peak_is =
+            omega (
+              arith,
+              fold-top (max 0 (turn_peak turn)) (map turn_peak turns),
+              peaks,
+              rest.0.peak_is,
+              peak-join booked (turn.old.heard + 1) m n,
+              ap (λ k. fold max 0 (map booked (range_with_len k n))) at,
+              ap (λ k. fold max 0 (map booked (range_with_len (turn.old.heard + 1) k))) whole,
+            );
+      }),
+      λ t past. here t (omega (arith, past, from, later)) ∙ ap (λ (x : Moment). booked_after x.entries t) run.0,
+    )
+
+pub fair-past : (link : Link) (words : ℕ → ℕ) (turns : List Turn) (evening : Moment) (journal : List Entry) → AreTurns link words turns morning evening
+    → journal ≡ last_journal evening → IsReady evening → AreBooked (booked_after journal) turns 0 evening.heard
+fair-past link words turns evening journal run is ready =
+    (turns-past link words turns morning evening (booked_after journal) run morning-ready
+    (λ t past. ap (λ es. booked_after es t) is ∙ last-stays evening t past ready.balanced)).0
