@@ -9,6 +9,7 @@ use Rattle.admission.specs.declared.entries.Entry.{Entry}
 use Rattle.day_run.specs.declared.reels.Source.{Source}
 use Rattle.day_run.specs.declared.scripts.Script.{Script}
 use Rattle.day_run.specs.Days.{IsDay, link_of}
+use Rattle.day_run.specs.FairDays.{IsFair}
 use Rattle.vodserve.specs.Days.{AreHeldAs, HoldsScript, IsDayInput, IsDayRefused}
 use Rattle.rtsp_client.specs.declared.wishes.Wish.{Wish}
 use Rattle.rtsp_client.specs.declared.wishes.Watched.{Watched}
@@ -217,7 +218,7 @@ abbrev pub RunsFair : Seen (List ℕ) → Seen (List ℕ) → Seen (List ℕ) �
     Ended → Type 0
 RunsFair out out' err err' run ended =
     HasNotRun out out' err err' (λ trouble. trouble ≡ NoMemory) ended
-    ⊎ HasRun out out' err err' run.capacity (λ text journal. ⊤) ended
+    ⊎ HasRun out out' err err' run.capacity (IsFair run.capacity run.seed run.plays) ended
 
 -- what keeps a client from a film: no connection; the gate, which counted a fault; or want of memory
 abbrev pub IsWatchTrouble : List ℕ → Outlet → Outlet → Trouble → Type 0

@@ -6,6 +6,7 @@ ghost use Rattle.vod_base.specs.Outside.{File};
 ghost use Rattle.admission.specs.Histories.{IsLegal};
 ghost use Rattle.command_words.specs.Ranges.{IsFairRunInRange, IsScriptRunInRange};
 ghost use Rattle.day_run.specs.Days.{IsDay, link_of};
+ghost use Rattle.day_run.specs.FairDays.{IsFair};
 ghost use Rattle.day_run.specs.Scripts.{AreLines};
 ghost use Rattle.day_run.specs.Sources.{AreSources, IsSource};
 ghost use Rattle.troubles.specs.Causes.{IsReadOnly, IsReadTrouble};
@@ -131,7 +132,9 @@ pub(crate) fn run_day(
 /// Runs drawn plays.
 pub(crate) fn run_fair(alloc: Global, run: &FairRun) -> Result<Day, NoMemory>
     requires { IsFairRunInRange run.now }
-    ensures { IfOk result (λ day. IsLegal run.now.capacity day.journal.items) }
+    ensures fair { IfOk result (λ day.
+        IsFair run.now.capacity run.now.seed run.now.plays day.text.items day.journal.items) }
+    ensures legal { IfOk result (λ day. IsLegal run.now.capacity day.journal.items) }
 {
     let profile = profile_of(alloc, run.capacity.as_slice())?;
     fair(alloc, run.seed, run.plays, profile)
