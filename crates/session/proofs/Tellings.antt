@@ -1,5 +1,5 @@
 -- What replies tell is read in their fields.
-use Rattle.std.proofs.Common.{◌≡◌, ◌≢◌, ℕ, ◌+◌, ◌-◌, ◌*◌, ◌/◌, ◌%◌, ◌^◌, ◌<◌, ◌≤◌, ◌&&◌, ◌==◌, not, nat_lt, nat_le, true, false, List, [], ◌∷◌, ◌++◌, length, take, drop, get_or, slice_range, slice_index, codes, decimal, string_bytes, Option, Some, add_comm, refl, sym, ap, subst, ◌∙◌, inl, inr, arith}
+use Rattle.std.proofs.Common.{◌≡◌, ◌≢◌, ℕ, ◌+◌, ◌-◌, ◌*◌, ◌/◌, ◌%◌, ◌^◌, ◌<◌, ◌≤◌, ◌&&◌, ◌==◌, not, nat_lt, nat_le, true, false, List, [], ◌∷◌, ◌++◌, length, take, drop, get_or, slice_range, slice_index, codes, decimal, string_bytes, Option, Some, Ok, add_comm, refl, sym, ap, subst, ◌∙◌, inl, inr, arith}
 use Rattle.std.proofs.Math.Nat.{div-mul-le_self, mul-le-mul}
 use Rattle.std.specs.List.{list_all}
 use Rattle.std.specs.Char.{is_ascii_digit}
@@ -33,13 +33,16 @@ use Rattle.session.specs.declared.plans.Planned.{Planned}
 use Rattle.session.specs.declared.refusals.Refusal.{Refusal}
 use Rattle.session.specs.declared.refusals.Refusal.TheVariants.{BadRequest, Version, Method, Option as Required, Session, Film as NoFilm, State, Transport, Parameter, Buffer, Range, Memory}
 use Rattle.session.specs.declared.states.Setup.{Setup}
-use Rattle.session.specs.Films.{begins_at, length_ms, ms_at, sending_of, timestamp_at}
-use Rattle.session.specs.Hearings.{after_admission, started_text}
-use Rattle.session.specs.Methods.{Describes, first_number, play_front}
+use Rattle.session.specs.Films.{begins_at, identity_of, length_ms, ms_at, sending_of, timestamp_at}
+use Rattle.session.specs.Hearings.{after_admission, after_full, after_look, after_overflow, started_text}
+use Rattle.session.specs.Methods.{Describes, IsSetUp, first_number, play_front}
 use Rattle.session.specs.Planning.{IsPlannedRun}
-use Rattle.session.specs.Replies.{code_of, describe_text, field, joined, play_fields}
-use Rattle.session.specs.Standings.{Standing}
-use Rattle.session.specs.Telling.{AreTicks, IsFilmTold, IsPlayTold, IsShort, IsStartTold, TellsInfo, TellsSpan, phrase_of}
+use Rattle.session.specs.Replies.{code_of, describe_text, field, joined, look_body, play_fields, transport_value}
+use Rattle.session.specs.Standings.{Standing, sequence_of}
+use Rattle.std.specs.Int.{w32, to_be_bytes}
+use Rattle.hex.specs.Hex.{encode_lower}
+use Rattle.session.specs.declared.states.Counts.{Counts}
+use Rattle.session.specs.Telling.{AreTicks, IsFilmTold, IsFullTold, IsLookTold, IsOverflowTold, IsPlayTold, IsSetupTold, IsShort, IsStartTold, TellsInfo, TellsSpan, phrase_of}
 use Rattle.session.proofs.Numbers.{number_goes_on}
 use Rattle.session.proofs.Sums.{sum_mod}
 
@@ -365,3 +368,63 @@ start_told old place start sequence fields later front =
       text_is = whole_reply 200 (Some sequence) (fields ++ own ∷ []) [] (old.text ++ field_line own)
           (started_text old.text (start - old.heard)) refl more;
     }
+
+-- the reply of a SETUP
+pub setup_told : (old new : Standing) (sequence : ℕ) (setup : Setup) (counts : Counts) (ask : Ask)
+    → IsSetUp old sequence (Ok setup) ask new → IsSetupTold sequence (identity_of old.source setup counts) old.id new.text
+unfolding value_named
+setup_told old new sequence setup counts ask is = record {
+  fields = field (codes "Transport") (transport_value setup.media setup.control old.source.ssrc) ∷ field (codes "Session") old.id ∷ [];
+  transport = transport_value setup.media setup.control old.source.ssrc;
+  text_is = ap (λ (s : Standing). s.text) is.1;
+  session = refl;
+  transport_is = refl;
+  value_is = ap (λ l. codes "RTP/AVP/TCP;unicast;interleaved=" ++ (decimal setup.media ++ (codes "-" ++ (decimal setup.control
+      ++ (codes ";ssrc=" ++ l))))) (append-nil (encode_lower (to_be_bytes w32 old.source.ssrc)));
+}
+
+-- the replies to what the station answered
+pub overflow_told : (old : Standing) (place slot booked asked : ℕ)
+    → IsOverflowTold (sequence_of old.awaited) slot booked asked (after_overflow old place slot booked asked).text
+unfolding value_named
+overflow_told old place slot booked asked = record {
+  fields = field (codes "x-Slot") (decimal slot) ∷ field (codes "x-Booked") (decimal booked) ∷ field (codes "x-Asked") (decimal asked) ∷ [];
+  text_is = refl;
+  slot_is = refl;
+  booked_is = refl;
+  asked_is = refl;
+}
+
+pub full_told : (old : Standing) (entries live : ℕ) → IsFullTold (sequence_of old.awaited) entries live (after_full old entries live).text
+unfolding value_named
+full_told old entries live = record {
+  fields = field (codes "x-Entries") (decimal entries) ∷ field (codes "x-Open") (decimal live) ∷ [];
+  text_is = refl;
+  entries_are = refl;
+  open_is = refl;
+}
+
+look_lines : (n a b : List ℕ) → joined (codes "x-Now: " ∷ n ∷ codes "\r\nx-Slot: " ∷ a ∷ codes "\r\nx-Booked: " ∷ b ∷ codes "\r\n" ∷ [])
+    ≡ (codes "x-Now" ++ (codes ": " ++ (n ++ codes "\r\n"))) ++ ((codes "x-Slot" ++ (codes ": " ++ (a ++ codes "\r\n")))
+    ++ (codes "x-Booked" ++ (codes ": " ++ (b ++ codes "\r\n"))))
+look_lines n a b =
+    let last = codes "x-Booked: " ++ (b ++ codes "\r\n") in
+    let slot : (codes "x-Slot" ++ (codes ": " ++ (a ++ codes "\r\n"))) ++ last ≡ codes "x-Slot: " ++ (a ++ (codes "\r\n" ++ last)) =
+    ap (λ l. codes "x-Slot: " ++ l) (append_assoc a (codes "\r\n") last) in
+    let now : (codes "x-Now" ++ (codes ": " ++ (n ++ codes "\r\n"))) ++ (codes "x-Slot: " ++ (a ++ (codes "\r\n" ++ last)))
+    ≡ codes "x-Now: " ++ (n ++ (codes "\r\n" ++ (codes "x-Slot: " ++ (a ++ (codes "\r\n" ++ last))))) =
+    ap (λ l. codes "x-Now: " ++ l) (append_assoc n (codes "\r\n") (codes "x-Slot: " ++ (a ++ (codes "\r\n" ++ last)))) in
+    sym (ap (λ l. (codes "x-Now" ++ (codes ": " ++ (n ++ codes "\r\n"))) ++ l) slot ∙ now)
+
+pub look_told : (old : Standing) (place now at booked : ℕ)
+    → IsLookTold (sequence_of old.awaited) now at booked (after_look old place now at booked).text
+unfolding value_named
+look_told old place now at booked = record {
+  fields = field (codes "Content-Type") (codes "text/parameters")
+      ∷ field (codes "Content-Length") (decimal (length (look_body now at booked))) ∷ [];
+  body = look_body now at booked;
+  text_is = refl;
+  kind = refl;
+  size = refl;
+  body_is = look_lines (decimal now) (decimal at) (decimal booked);
+}

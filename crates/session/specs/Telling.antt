@@ -1,7 +1,10 @@
 -- What replies tell, as a reader of RFC 2326's grammars finds it in their fields.
 use Rattle.std.specs.Prelude.{ℕ, ◌≡◌, ◌+◌, ◌*◌, ◌%◌, ◌^◌, ◌<◌, ◌≤◌, ◌++◌, List, [], ◌∷◌, Some, codes, decimal, string_bytes, length}
+use Rattle.std.specs.Int.{w32, to_be_bytes}
+use Rattle.hex.specs.Hex.{encode_lower}
 use Rattle.mpeg_scan.specs.Rates.{picture_time}
 use Rattle.mpeg_scan.specs.declared.films.Film.{Film}
+use Rattle.rtp_pack.specs.declared.reports.Identity.{Identity}
 use Rattle.film_frames.specs.declared.stores.Stored.{Stored}
 use Rattle.film_frames.specs.Runs.{frames_before}
 use Rattle.rtsp_fields.specs.Laws.{IsDescription}
@@ -111,3 +114,44 @@ pub record IsStartTold (old : Standing) (start sequence : ℕ) (fields : List Fi
   pub slots_are : old.heard + slots ≡ start
   pub text_is : text ≡ reply_text 200 (Some sequence)
       (fields ++ record { name = codes "x-Start"; value = decimal slots } ∷ []) []
+
+-- the reply of a SETUP: on which channels frames and reports will go, and from which source (RFC
+-- 2326 section 12.39); frames are sent under this identity
+pub record IsSetupTold (sequence : ℕ) (identity : Identity) (id text : List ℕ) : Type 0 where
+  pub fields : List Field
+  pub transport : List ℕ
+  pub text_is : text ≡ reply_text 200 (Some sequence) fields []
+  pub session : value_named (codes "Session") fields ≡ Some id
+  pub transport_is : value_named (codes "Transport") fields ≡ Some transport
+  pub value_is : transport ≡ codes "RTP/AVP/TCP;unicast;interleaved=" ++ (decimal identity.channel
+      ++ (codes "-" ++ (decimal identity.control
+      ++ (codes ";ssrc=" ++ encode_lower (to_be_bytes w32 identity.ssrc)))))
+
+-- the reply to a play for which the link has no room, and to one where the journal has none
+pub record IsOverflowTold (sequence slot booked asked : ℕ) (text : List ℕ) : Type 0 where
+  pub fields : List Field
+  pub text_is : text ≡ reply_text 453 (Some sequence) fields []
+  pub slot_is : value_named (codes "x-Slot") fields ≡ Some (decimal slot)
+  pub booked_is : value_named (codes "x-Booked") fields ≡ Some (decimal booked)
+  pub asked_is : value_named (codes "x-Asked") fields ≡ Some (decimal asked)
+
+pub record IsFullTold (sequence entries live : ℕ) (text : List ℕ) : Type 0 where
+  pub fields : List Field
+  pub text_is : text ≡ reply_text 503 (Some sequence) fields []
+  pub entries_are : value_named (codes "x-Entries") fields ≡ Some (decimal entries)
+  pub open_is : value_named (codes "x-Open") fields ≡ Some (decimal live)
+
+-- a body's line: a name and a number
+abbrev pub number_line : List ℕ → ℕ → List ℕ
+number_line name number = name ++ (codes ": " ++ (decimal number ++ codes "\r\n"))
+
+-- the reply to a look: a line each for the slot up to which the book has come, the slot that was
+-- looked at, and what is booked in it
+pub record IsLookTold (sequence now at booked : ℕ) (text : List ℕ) : Type 0 where
+  pub fields : List Field
+  pub body : List ℕ
+  pub text_is : text ≡ reply_text 200 (Some sequence) fields body
+  pub kind : value_named (codes "Content-Type") fields ≡ Some (codes "text/parameters")
+  pub size : value_named (codes "Content-Length") fields ≡ Some (decimal (length body))
+  pub body_is : body ≡ number_line (codes "x-Now") now ++ (number_line (codes "x-Slot") at
+      ++ number_line (codes "x-Booked") booked)

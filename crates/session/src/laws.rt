@@ -1,6 +1,6 @@
 //! Laws of a session, in RFC 2326's words.
 
-ghost use Rattle.std.specs.Prelude.{◌≡◌, ◌<◌, ℕ, true, List, Option, Some, None, string_bytes};
+ghost use Rattle.std.specs.Prelude.{◌≡◌, ◌<◌, ℕ, true, List, Option, Some, None, Ok, string_bytes};
 ghost use Rattle.vod_base.specs.Names.{is_good_name};
 ghost use Rattle.mpeg_scan.specs.declared.films.Film.{Film};
 ghost use Rattle.rtsp_fields.specs.Urls.{IsRead};
@@ -19,14 +19,14 @@ ghost use Rattle.session.specs.declared.states.State.TheVariants.{Playing};
 ghost use Rattle.session.specs.declared.wanted.Wanted.TheVariants.{New};
 ghost use Rattle.session.specs.Films.{counts_after, identity_of, sending_of};
 ghost use Rattle.session.specs.Changes.{AsksOrLacks, CanBePlayed, ChangesState, IsSameGround, RefusesNone};
-ghost use Rattle.session.specs.Hearings.{Hears, after_admission, after_halt};
+ghost use Rattle.session.specs.Hearings.{Hears, after_admission, after_full, after_halt, after_look, after_overflow};
 ghost use Rattle.session.specs.Laws.{GoesOn, InitStage, Is500, IsNoHalt, IsOneHearing, IsWanting, LeavesOr, NeverLacks, PlayingStage, PlaysOn, ReadyStage, Resumes, StaysOr};
-ghost use Rattle.session.specs.Methods.{Describes, play_front};
+ghost use Rattle.session.specs.Methods.{Describes, IsSetUp, play_front};
 ghost use Rattle.session.specs.Planning.{IsPlannedRun};
 ghost use Rattle.session.specs.Ranges.{AreFilms};
 ghost use Rattle.session.specs.Replies.{code_of};
-ghost use Rattle.session.specs.Standings.{Standing};
-ghost use Rattle.session.specs.Telling.{IsFilmTold, IsPlayTold, IsShort, IsStartTold, phrase_of};
+ghost use Rattle.session.specs.Standings.{Standing, sequence_of};
+ghost use Rattle.session.specs.Telling.{IsFilmTold, IsFullTold, IsLookTold, IsOverflowTold, IsPlayTold, IsSetupTold, IsShort, IsStartTold, phrase_of};
 
 /// A reply other than 200 leaves all of the session but the reply (RFC 2326 section 7.1.1).
 pub fn law_refusal_leaves()
@@ -140,4 +140,22 @@ pub fn law_start_told()
     ensures { (old : Standing) (place start sequence : ℕ) (fields : List Field) → old.heard < start
         → old.text ≡ reply_front 200 (Some sequence) fields
         → IsStartTold old start sequence fields (after_admission old place start).text }
+{}
+
+/// The reply to a SETUP tells the session's id, the channels on which its frames and reports are
+/// sent, and their source (RFC 2326 section 12.39).
+pub fn law_setup_told()
+    ensures { (old new : Standing) (sequence : ℕ) (setup : Setup) (counts : Counts) (ask : Ask)
+        → IsSetUp old sequence (Ok setup) ask new
+        → IsSetupTold sequence (identity_of old.source setup counts) old.id new.text }
+{}
+
+/// The replies to what the station answered have its numbers.
+pub fn law_answers_told()
+    ensures overflow { (old : Standing) (place slot booked asked : ℕ)
+        → IsOverflowTold (sequence_of old.awaited) slot booked asked (after_overflow old place slot booked asked).text }
+    ensures full { (old : Standing) (entries live : ℕ)
+        → IsFullTold (sequence_of old.awaited) entries live (after_full old entries live).text }
+    ensures look { (old : Standing) (place now at booked : ℕ)
+        → IsLookTold (sequence_of old.awaited) now at booked (after_look old place now at booked).text }
 {}

@@ -100,7 +100,7 @@ fn run_and_counts(
 
 impl<'a> Session<'a> {
     /// The plan that a PLAY asks with: of the run that its Range asks for, or a PLAY without one.
-    pub(crate) fn planned(
+    pub(crate) fn plan_play(
         &self,
         setup: &Setup,
         paused: Option<Run>,

@@ -83,7 +83,7 @@ pub(crate) fn refusal_of(fault: RequestFault) -> Refusal
 }
 
 /// The options that a request requires.
-fn required<'m>(request: &Request<'m>) -> Option<&'m [u8]>
+fn required_options<'m>(request: &Request<'m>) -> Option<&'m [u8]>
     ensures value { option_map (λ option. option.now) result ≡ required_of request.now.head.now }
     ensures short { IfSome result (λ option. length option.now ≤ length request.now.head.now) }
     ensures line { IfSome result (λ option. is_one_line option.now ≡ true) }
@@ -100,7 +100,7 @@ pub(crate) fn option_of<'m>(request: &Request<'m>) -> &'m [u8]
     ensures short { length result.now ≤ length request.now.head.now }
     ensures line { is_one_line result.now ≡ true }
 {
-    match required(request) {
+    match required_options(request) {
         Some(option) => option,
         None => b"",
     }
@@ -218,7 +218,7 @@ pub(crate) fn judge<'m>(
     let Some(method) = read_method(request.method) else {
         return Err(Refusal::Method);
     };
-    if required(request).is_some() {
+    if required_options(request).is_some() {
         return Err(Refusal::Option);
     }
     if !has_session(

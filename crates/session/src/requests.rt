@@ -71,7 +71,7 @@ impl<'a> Session<'a> {
         match judge(self.films, &self.id, self.place(), request) {
             Ok(Task::Options) => {
                 put_public(&mut self.reply, sequence);
-                self.replied()
+                self.reply_waits()
             }
             Ok(Task::Describe(asked)) => self.describe(sequence, asked.film, asked.authority),
             Ok(Task::Setup(film)) => self.set_up(request, film),
@@ -106,7 +106,7 @@ impl<'a> Session<'a> {
     }
 
     /// The reply is whole: it waits.
-    fn replied(&mut self) -> Ask
+    fn reply_waits(&mut self) -> Ask
         requires rest { IsAtRest self.old }
         ensures asks { result ≡ Ask.Reply }
         ensures waits { self.new ≡ record self.old { waits = true } }
@@ -126,7 +126,7 @@ impl<'a> Session<'a> {
         ensures same { IsSameBusiness self.old self.new }
     {
         put_refusal(&mut self.reply, sequence, refusal, option);
-        self.replied()
+        self.reply_waits()
     }
 
     /// DESCRIBE (RFC 2326 section 10.2).
@@ -148,7 +148,7 @@ impl<'a> Session<'a> {
             stored.name.as_str(),
             end_ms,
         );
-        self.replied()
+        self.reply_waits()
     }
 
     /// SETUP (RFC 2326 section 10.4).
@@ -170,7 +170,7 @@ impl<'a> Session<'a> {
                     &self.id,
                 );
                 self.state = State::Ready(setup, None);
-                self.replied()
+                self.reply_waits()
             }
             Err(refusal) => self.refuse(Some(request.sequence), refusal, b""),
         }
@@ -189,9 +189,9 @@ impl<'a> Session<'a> {
         let sequence = request.sequence;
         let State::Ready(setup, paused) = self.state else {
             put_session(&mut self.reply, sequence, &self.id);
-            return self.replied();
+            return self.reply_waits();
         };
-        match self.planned(&setup, paused, header(request, b"Range")) {
+        match self.plan_play(&setup, paused, header(request, b"Range")) {
             Ok(planned) => self.ask_play(sequence, authority, &setup, planned),
             Err(refusal) => self.refuse(Some(sequence), refusal, b""),
         }
@@ -293,7 +293,7 @@ impl<'a> Session<'a> {
         match read_topic(request.body) {
             Topic::Nothing => {
                 put_plain(&mut self.reply, sequence);
-                self.replied()
+                self.reply_waits()
             }
             Topic::Booked => self.look(sequence),
             Topic::Offer => self.offer(request),
@@ -346,7 +346,7 @@ impl<'a> Session<'a> {
         ensures asks { AsksFor result self.new }
         ensures same { IsSameBusiness self.old self.new }
     {
-        match self.planned(setup, paused, None) {
+        match self.plan_play(setup, paused, None) {
             Ok(planned) => self.ask_offer(sequence, wait, planned),
             Err(refusal) => self.refuse(Some(sequence), refusal, b""),
         }

@@ -19,7 +19,7 @@ use vod_base::{Link, LinkFault};
 const LATEST_SLOT: u64 = 1 << 62;
 
 /// The slots from a play's start on that were not heard between two heard ones.
-fn missed(before: u64, start: u64, slot: u64) -> u64
+fn missed_slots(before: u64, start: u64, slot: u64) -> u64
     requires { before ≤ slot }
     ensures { result ≡ slot - 1 - max before (start - 1) }
 {
@@ -164,7 +164,7 @@ fn done_bytes(state: &State<'_>) -> Option<u64>
 }
 
 /// The state as soon as the reply of a PAUSE or a TEARDOWN was sent.
-fn settled(state: State<'_>) -> State<'_>
+fn settle(state: State<'_>) -> State<'_>
     ensures { result ≡ settled state.entry }
 {
     match state {
@@ -223,7 +223,7 @@ impl<'a> Session<'a> {
         let Some(start) = start_of(&self.state) else {
             return Ok(Slotted::Going);
         };
-        self.late += missed(before, start, t);
+        self.late += missed_slots(before, start, t);
         let Ok(replied) = send_due(&mut self.state, &self.reply, self.waits, t, link) else {
             self.lost = true;
             return Err(LinkFault);
@@ -231,7 +231,7 @@ impl<'a> Session<'a> {
         if replied {
             self.waits = false;
             self.torn = self.tearing;
-            self.state = settled(mem::replace(&mut self.state, State::Init));
+            self.state = settle(mem::replace(&mut self.state, State::Init));
             return Ok(finish(&self.state, &mut self.awaited));
         }
         Ok(finish(&self.state, &mut self.awaited))
@@ -271,7 +271,7 @@ impl<'a> Session<'a> {
         };
         self.waits = false;
         self.torn = self.tearing;
-        self.state = settled(mem::replace(&mut self.state, State::Init));
+        self.state = settle(mem::replace(&mut self.state, State::Init));
         Ok(())
     }
 }

@@ -9,14 +9,14 @@ pub returns-clause-exact : goal.returns-clause-exact
 returns-clause-exact c =
     let stored = c.stored_at-stored.result.now in
     let text = describe_text c.args.sequence c.args.authority.now in
-    subst (λ (old : Standing). Describes old c.args.sequence c.args.film c.args.authority.now c.replied.result c.replied.new.self)
+    subst (λ (old : Standing). Describes old c.args.sequence c.args.film c.args.authority.now c.reply_waits.result c.reply_waits.new.self)
     c.self.view_is
     (record {
       stored = stored;
       at = c.stored_at-stored.ensures.film;
       reply = (
-        c.replied.ensures.asks,
-        c.replied.ensures.waits ∙ ap (λ (t : List ℕ). replied (standing_of c.self.inside) t)
+        c.reply_waits.ensures.asks,
+        c.reply_waits.ensures.waits ∙ ap (λ (t : List ℕ). replied (standing_of c.self.inside) t)
             (c.put_description.ensures ∙ ap (λ (name : List ℕ). text name c.length_ms-end_ms.result) c.as_str.ensures.value
             ∙ ap (λ (ms : ℕ). text (string_bytes stored.name) ms) c.length_ms-end_ms.ensures),
       );

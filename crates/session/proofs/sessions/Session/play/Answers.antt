@@ -7,8 +7,8 @@ use Rattle.session.specs.declared.states.State.{State}
 use Rattle.session.specs.declared.states.State.TheVariants.{Ready}
 use Rattle.session.proofs.sessions.Session.play.Goals as goal
 
-pub planned-requires-clause-paused : goal.planned-requires-clause-paused
-planned-requires-clause-paused c =
+pub plan_play-requires-clause-paused : goal.plan_play-requires-clause-paused
+plan_play-requires-clause-paused c =
     let inside = c.self.inside in
     let kept = subst (λ (s : State). IsStateKept inside.films.now inside.source inside.settings inside.counts s) c.in-Ready.is
     c.self.invariant.state in

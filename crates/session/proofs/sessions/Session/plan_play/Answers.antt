@@ -9,7 +9,7 @@ use Rattle.session.specs.Planning.{HasNoPlan, HasNoRun, IsPlanned}
 use Rattle.session.specs.Playing.{playback_of}
 use Rattle.session.specs.Standings.{Standing}
 use Rattle.session.specs.declared.refusals.Refusal.TheVariants.{Range}
-use Rattle.session.proofs.sessions.Session.planned.Goals as goal
+use Rattle.session.proofs.sessions.Session.plan_play.Goals as goal
 
 pub returns-in_default-clause-exact : goal.returns-in_default-clause-exact
 returns-in_default-clause-exact c =
