@@ -1,14 +1,15 @@
 #!/bin/sh
-# The proved planner beside a plain one: bench/plan.sh [PROGRAM] [ROUNDS]
+# The proved planner beside plain ones in Rust and C: bench/plan.sh [PROGRAM] [ROUNDS]
 #
-# PROGRAM is the built vodserve (default: ../crates/vodserve/out/vodserve). Both programs read the same trace file and
+# PROGRAM is the built vodserve (default: ../crates/vodserve/out/vodserve). All programs read the same trace file and
 # must print the same bytes. Then `plan` and `check` are timed on the first eighth, quarter and half of the sizes and on
-# all of them. Needs rustc and python3, and valgrind to count instructions; all files are made in a folder that is removed again.
+# all of them. Needs rustc, cc and python3, and valgrind to count instructions; all files are made in a folder that is
+# removed again.
 set -eu
 here=$(cd "$(dirname "$0")" && pwd)
 program=$(realpath "${1:-$here/../crates/vodserve/out/vodserve}")
 rounds=${2:-15}
-for tool in rustc python3; do
+for tool in rustc cc python3; do
     command -v "$tool" >/dev/null || { echo "plan.sh: $tool is missing"; exit 2; }
 done
 [ -x "$program" ] || { echo "plan.sh: no program $program"; exit 2; }
@@ -17,6 +18,7 @@ folder=$(mktemp -d)
 trap 'rm -rf "$folder"' EXIT
 cd "$folder"
 rustc --edition 2024 -O -o plain "$here/plan/plan.rs"
+cc -O2 -o plain_c "$here/plan/plan.c"
 
 # 1,000,000 sizes of a fixed linear congruence: 200 to 1,999, each twelfth four times as large.
 python3 - >generated.txt <<'PYTHON'
@@ -38,10 +40,10 @@ compare() { # TITLE TRACE BUFFER STARTUP, and WORDS with which the trace is read
     echo "$1: $(wc -l <"$2") sizes, buffer=$3 startup=$4, best of $rounds"
     words="plan trace=$2 buffer=$3 startup=$4"
     python3 "$here/measure.py" "$rounds" \
-        proved "$program $words" plain "./plain $words" \
+        proved "$program $words" plain "./plain $words" in-c "./plain_c $words" \
         proved-refused "$program plan trace=$2 $5" plain-refused "./plain plan trace=$2 $5" \
         plain-reading "./plain $words stop=reading" plain-plan "./plain $words stop=plan" >times.txt
-    if ! cmp -s proved.out plain.out || ! cmp -s proved-refused.err plain-refused.err; then
+    if ! cmp -s proved.out plain.out || ! cmp -s proved.out in-c.out || ! cmp -s proved-refused.err plain-refused.err; then
         echo "  the outputs differ"
         exit 1
     fi
@@ -57,17 +59,21 @@ compare() { # TITLE TRACE BUFFER STARTUP, and WORDS with which the trace is read
         }
         { clock[$1] = $2 * 1000; processor[$1] = $3 * 1000; memory[$1] = $4 }
         END {
-            line("proved"); line("plain")
+            line("proved"); line("plain"); line("in-c")
             printf "  ratio   %7.2f by the clock,    %7.2f by processor time\n", clock["proved"] / clock["plain"],
                 processor["proved"] / processor["plain"]
+            printf "  to C    %7.2f by the clock,    %7.2f by processor time\n", clock["proved"] / clock["in-c"],
+                processor["proved"] / processor["in-c"]
             parts("proved"); parts("plain")
             printf "  plain   to start, read and parse %.1f ms (%.0f %%), curves and plan %.1f ms, text %.1f ms\n",
                 clock["plain-reading"], 100 * clock["plain-reading"] / clock["plain"],
                 clock["plain-plan"] - clock["plain-reading"], clock["plain"] - clock["plain-plan"]
         }' times.txt
     if command -v valgrind >/dev/null; then
-        awk -v proved="$(instructions "$program" $words)" -v plain="$(instructions ./plain $words)" 'BEGIN {
-            printf "  ratio   %7.2f by instructions: %.1f and %.1f million\n", proved / plain, proved / 1e6, plain / 1e6
+        awk -v proved="$(instructions "$program" $words)" -v plain="$(instructions ./plain $words)" \
+            -v c="$(instructions ./plain_c $words)" 'BEGIN {
+            printf "  instructions: %.1f million, plain %.1f (ratio %.2f), in C %.1f (ratio %.2f)\n", proved / 1e6,
+                plain / 1e6, proved / plain, c / 1e6, proved / c
         }'
     fi
 }
