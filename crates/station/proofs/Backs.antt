@@ -1,14 +1,15 @@
 -- A seat that took the turn and gave it back.
-use Rattle.std.proofs.Common.{◌≡◌, ℕ, List, [], ◌∷◌, refl, sym, ap, subst, ◌∙◌, Result, Ok, Err, IfOk, IfErr}
+use Rattle.std.proofs.Common.{◌≡◌, ◌≤◌, ℕ, List, [], ◌∷◌, refl, sym, ap, subst, ◌∙◌, Result, Ok, Err, IfOk, IfErr}
 use mathlib.Core.List.{IsPrefix}
 use Rattle.plan_cert.specs.declared.Segment.{Segment}
+use Rattle.plan_cert.specs.Slots.{total_bytes}
 use Rattle.admission.specs.declared.entries.Answer.{Answer}
 use Rattle.admission.specs.declared.entries.Answer.TheVariants.{Admitted, Looked, Overflow}
 use Rattle.admission.specs.declared.entries.Command.{Command}
 use Rattle.admission.specs.declared.entries.Entry.{Entry}
 use Rattle.admission.specs.declared.entries.Full.{Full}
 use Rattle.admission.specs.Books.{Journal}
-use Rattle.admission.specs.Makers.{made_by}
+use Rattle.admission.specs.Makers.{IsOpenAmong, made_by}
 use Rattle.turnstile.specs.declared.view.Terms.{Terms}
 use Rattle.turnstile.specs.Passes.{Standing}
 use Rattle.turnstile.proofs.Prefixes.{prefix_self, prefix_trans}
@@ -17,8 +18,10 @@ use Rattle.station.specs.declared.answers.Looked.{Looked as Seen}
 use Rattle.station.specs.declared.answers.PlayRefused.{PlayRefused}
 use Rattle.station.specs.declared.answers.PlayRefused.TheVariants.{JournalFull, Overflow as PlayOverflow}
 use Rattle.station.specs.Ledgers.{IsEntered, IsFullFor, IsPlayRefused, look_at, play_of}
+use Rattle.station.specs.Answers.{IsFull, IsRefused, Made}
 use Rattle.station.specs.Seats.{IsSameSeat, Sitting}
-use Rattle.station.proofs.Entered.{IsAt, seat_after}
+use Rattle.station.proofs.Entered.{IsAt, full_for, made, refused_for, seat_after}
+use Rattle.station.proofs.Plays.{opened}
 
 abbrev pub seat_of : Standing → Sitting
 seat_of p = record {
@@ -79,3 +82,45 @@ pub look_longer : (r : Result Seen Full) (old new : Journal) (maker slot : ℕ)
     → IsPrefix old.entries new.entries
 look_longer (Ok l) old new maker slot is not = entered_longer old new maker 1 (look_at slot) l.place (Looked l.now l.at l.booked) is
 look_longer (Err f) old new maker slot is not = full_longer old new 1 f.entries f.live not
+
+-- ---- a whole call: the seat took the turn, was lent the book, and gave it back
+pub record IsVisit (seat : Sitting) (back : Standing) (lent new : Journal) (maker : ℕ) : Type 0 where
+  pub at : IsAt seat lent
+  pub back_is : seat_of back ≡ seat_after seat new
+  pub maker_is : maker ≡ seat.number
+
+pub visit : (p taken back : Standing) (seat : Sitting) (lent old last new : Journal) (maker risen : ℕ) → seat_of p ≡ seat → taken ≡ record p { seen = old.entries }
+    → back ≡ record taken { seen = last.entries; mine = made_by taken.number last.entries } → last ≡ new → lent ≡ old
+    → IsPrefix p.seen old.entries → p.mine ≡ made_by p.number old.entries → (let t : Terms = record { steps = old.steps; limit = old.limit } in t) ≡ p.terms
+    → maker ≡ risen → risen ≡ p.number → IsVisit seat back lent new maker
+visit p taken back seat lent old last new maker risen v t left last_is lent_is longer own terms maker_is risen_is = record {
+  at = subst (IsAt seat) (sym lent_is) (back_at p seat old v longer own terms);
+  back_is = back_seat p taken back seat old new v t (left ∙ ap (λ (j : Journal). let q : Standing = record taken { seen = j.entries; mine = made_by taken.number j.entries } in q) last_is);
+  maker_is = maker_is ∙ (risen_is ∙ ap (λ (s : Sitting). s.number) v);
+}
+
+pub visit_same : (seat : Sitting) (back : Standing) (lent new : Journal) (maker : ℕ) → IsVisit seat back lent new maker → IsPrefix lent.entries new.entries → IsSameSeat seat (seat_of back)
+visit_same seat back lent new maker is longer = subst (IsSameSeat seat) (sym is.back_is) (same_after seat lent new is.at longer)
+
+pub visit_made : (seat : Sitting) (back : Standing) (lent new : Journal) (maker more : ℕ) (command : Command) (place : ℕ) (answer : Answer) → IsVisit seat back lent new maker
+    → IsEntered lent new maker more command place answer → Made seat (seat_of back) more command place answer
+visit_made seat back lent new maker more command place answer is e =
+    subst (λ s. Made seat s more command place answer) (sym is.back_is)
+    (made seat lent new more command place answer is.at (subst (λ k. IsEntered lent new k more command place answer) is.maker_is e))
+
+pub visit_open : (seat : Sitting) (back : Standing) (lent new : Journal) (maker heard number start keep : ℕ) (plan : List Segment) → IsVisit seat back lent new maker
+    → IsEntered lent new maker 2 (play_of heard plan) number (Admitted start) → keep ≤ total_bytes plan → IsOpenAmong back.mine number keep
+visit_open seat back lent new maker heard number start keep plan is e small =
+    subst (λ (s : Sitting). IsOpenAmong s.mine number keep) (sym is.back_is)
+    (opened new seat.number heard number start keep plan lent (subst (λ k. IsEntered lent new k 2 (play_of heard plan) number (Admitted start)) is.maker_is e) small)
+
+pub visit_refused : (seat : Sitting) (back : Standing) (lent new : Journal) (maker heard : ℕ) (plan : List Segment) (why : PlayRefused) → IsVisit seat back lent new maker
+    → IsPlayRefused lent new maker heard plan why → IsRefused seat (seat_of back) heard plan why
+visit_refused seat back lent new maker heard plan why is e =
+    subst (λ s. IsRefused seat s heard plan why) (sym is.back_is)
+    (refused_for seat lent new heard plan why is.at (subst (λ k. IsPlayRefused lent new k heard plan why) is.maker_is e))
+
+pub visit_full : (seat : Sitting) (back : Standing) (lent new : Journal) (maker more entries live_plays : ℕ) → IsVisit seat back lent new maker
+    → IsFullFor lent new more entries live_plays → IsFull seat (seat_of back) more entries live_plays
+visit_full seat back lent new maker more entries live_plays is f =
+    subst (λ s. IsFull seat s more entries live_plays) (sym is.back_is) (full_for seat lent new more entries live_plays is.at f)
