@@ -70,21 +70,6 @@ at_inside (x ∷ xs) (suc i) a e = let h = at_inside xs i a e in omega arith
 pub one_at : {A : Type 0} (l : List A) (i j : ℕ) (a b : A) → get_elem? l i ≡ some a → get_elem? l j ≡ some b → j ≡ i → a ≡ b
 one_at l i j a b at bt e = some-injective a b (sym at ∙ (ap (get_elem? l) (sym e) ∙ bt))
 
-pub refit : (terms : Terms) (log : List Entry) (count served drawn served' drawn' : ℕ) (v : View)
-    → Fits terms log count served drawn v → InTurn served' drawn' v.stage → Fits terms log count served' drawn' v
-refit terms log count served drawn served' drawn' v f turn = record {
-  terms_are = f.terms_are;
-  told_terms = f.told_terms;
-  seen = f.seen;
-  told = f.told;
-  mine = f.mine;
-  own = f.own;
-  past = f.past;
-  few = f.few;
-  first = f.first;
-  turn = turn;
-}
-
 pub restage : (terms : Terms) (log : List Entry) (count served drawn served' drawn' : ℕ) (v : View) (st : Stage)
     → Fits terms log count served drawn v → InTurn served' drawn' st → Fits terms log count served' drawn' (record v { stage = st })
 restage terms log count served drawn served' drawn' v st f turn = record {
@@ -99,6 +84,10 @@ restage terms log count served drawn served' drawn' v st f turn = record {
   first = f.first;
   turn = turn;
 }
+
+pub refit : (terms : Terms) (log : List Entry) (count served drawn served' drawn' : ℕ) (v : View)
+    → Fits terms log count served drawn v → InTurn served' drawn' v.stage → Fits terms log count served' drawn' v
+refit terms log count served drawn served' drawn' v f turn = restage terms log count served drawn served' drawn' v v.stage f turn
 
 module _ {B : Type 0} (entries : B → List Entry) (terms_of : B → Terms) (terms : Terms) where
   abbrev pub St : Type 0
