@@ -1,7 +1,7 @@
 -- A script has one day.
 use Rattle.std.proofs.Common.{◌≡◌, ◌<◌, ◌≤◌, ◌+◌, ◌-◌, ◌==◌, ◌&&◌, ℕ, zero, suc, max, true, false, Bool, cond, nat_le, nat_lt, List, [], ◌∷◌, ◌++◌, All, length, map, take, drop, set, get_or, sum, replicate, Option, Some, None, arith, refl, sym, ap, subst, ◌∙◌, inl, inr}
 use Rattle.std.specs.Prelude.{flat_map, IsSomeAnd, IsTrue, ◌⊎◌}
-use Rattle.std.proofs.lemmas.Bool.{cases_Bool, cases_eq, cases_lt, eqb-false, le-leb, leb-true, ltb-false, ltb-true}
+use Rattle.std.proofs.lemmas.Bool.{cases_eq, cases_lt, eqb-false, le-leb, ltb-false, ltb-true}
 use Rattle.std.proofs.lemmas.List.{get_or-map, get_or-replicate, get_or-set_other, get_or-set_same, length-map, length-take, take_all}
 use Rattle.std.proofs.lemmas.List.Elements.{All-from_get_or}
 use Rattle.plan_cert.specs.declared.Segment.{Segment}
@@ -105,12 +105,6 @@ kept-seats old new kept each =
     subst M (sym kept) each
 
 -- ---- a play that begins
-undone-early : (heard start : ℕ) (b : Bool) → heard < start → (nat_le start heard && b) ≡ false
-undone-early heard start b early = elim (cases_Bool (nat_le start heard)) [
-  | inl le ↦ absurd (omega (arith, leb-true start heard le, early))
-  | inr not-le ↦ ap (λ x. x && b) not-le
-]
-
 answered-seats : (answer : Answer) (link : Link) (c : ℕ) (rest : Rest) (plan : List Segment) (old : Moment) → c < 256 → IsSoundRest rest
     → IsPlanOf rest.sizes rest.playback rest.run plan → IsSound old
     → IsAnswered link.steps (state_after old.entries) (entry_by c (commands.Play old.heard plan) answer) → AreSeats old.heard (with_play c rest plan (length old.entries) answer old.seats)
@@ -118,7 +112,7 @@ answered-seats (Admitted start) link c rest plan old client own plan-is sound an
     let play : Play = record { number = length old.entries; rest = rest; plan = plan; start = start } in
     let early : old.heard < start = omega (arith, answer.0) in
     set-sound old.heard c old.seats (Playing play) sound.ready.count client
-    (record { rest = own; plan = plan-is; undone = undone-early old.heard start _ early }) sound.each
+    (record { rest = own; plan = plan-is; left = λ begun. absurd (omega (arith, begun, early)) }) sound.each
 answered-seats (Overflow over booked asked) link c rest plan old client own plan-is sound answer = sound.each
 answered-seats Halted link c rest plan old client own plan-is sound answer = sound.each
 answered-seats (Looked now at booked) link c rest plan old client own plan-is sound answer = sound.each
@@ -154,18 +148,25 @@ both-sides true b is left = left
 both-sides false b is left = cc is
 
 -- a play that isn't done has bytes to send
-some-left : (play : Play) (heard : ℕ) → play.start ≤ heard → is_done heard play ≡ false
-    → sum_through play.plan (heard - play.start) < total_bytes play.plan × (sent_by (booking_of play) heard ≡ sum_through play.plan (heard - play.start))
-some-left play heard begun undone =
+some-left : (play : Play) (heard : ℕ) → is_done heard play ≡ false → play.start ≤ heard
+    → sum_through play.plan (heard - play.start) < total_bytes play.plan
+some-left play heard undone begun =
     let e : heard + 1 - play.start ≡ heard - play.start + 1 = omega (arith, begun) in
     let sent : sent_before play.plan play.start (heard + 1) ≡ sum_through play.plan (heard - play.start) = ap (λ n. sum (take n (plan_slots play.plan))) e in
     let other : (sent_by (booking_of play) heard == total_bytes play.plan) ≡ false =
     both-sides (nat_le play.start heard) (sent_by (booking_of play) heard == total_bytes play.plan) (le-leb play.start heard begun) undone in
     let apart : sent_by (booking_of play) heard ≡ total_bytes play.plan → ⊥ = eqb-false (sent_by (booking_of play) heard) (total_bytes play.plan) other in
     elim (cases_lt (sum_through play.plan (heard - play.start)) (total_bytes play.plan)) [
-      | inl below ↦ (below, omega (arith, below, sent))
+      | inl below ↦ below
       | inr reached ↦ absurd (apart (omega (arith, reached, sent)))
     ]
+
+sent-through : (play : Play) (heard : ℕ) → play.start ≤ heard → sum_through play.plan (heard - play.start) < total_bytes play.plan
+    → sent_by (booking_of play) heard ≡ sum_through play.plan (heard - play.start)
+sent-through play heard begun below =
+    let e : heard + 1 - play.start ≡ heard - play.start + 1 = omega (arith, begun) in
+    let sent : sent_before play.plan play.start (heard + 1) ≡ sum_through play.plan (heard - play.start) = ap (λ n. sum (take n (plan_slots play.plan))) e in
+    omega (arith, below, sent)
 
 halt-if : (b : Bool) (play : Play) (heard keep : ℕ) (seat : Seat) → nat_lt heard play.start ≡ b → IsSoundPlay heard play → IsPause play heard keep seat
     → keep ≤ total_bytes play.plan → IsHalt play.plan (cond b None (Some (heard - play.start))) keep
@@ -176,7 +177,8 @@ halt-if true play heard keep seat early sound pause most =
 halt-if false play heard keep seat late sound pause most =
     let begun : play.start ≤ heard = ltb-false heard play.start late in
     let last = heard - play.start in
-    let left = some-left play heard begun sound.undone in
+    let below = sound.left begun in
+    let sent : sent_by (booking_of play) heard ≡ sum_through play.plan last = sent-through play heard begun below in
     let inside : last < total_slots play.plan = elim (cases_lt last (total_slots play.plan)) [
       | inl within ↦ within
       | inr past ↦
@@ -184,9 +186,9 @@ halt-if false play heard keep seat late sound pause most =
           let all : sum_through play.plan last ≡ total_bytes play.plan =
           ap sum (take_all (last + 1) (plan_slots play.plan) short)
           ∙ sum-plan_slots play.plan (no-empty play.plan (rest_sizes play.rest.sizes play.rest.run) (timing_of play.rest.playback play.rest.run) sound.plan) in
-          absurd (omega (arith, all, left.0))
+          absurd (omega (arith, all, below))
     ] in
-    (inside, omega (arith, left.1, pause.boundary.after), most)
+    (inside, omega (arith, sent, pause.boundary.after), most)
 
 -- the bytes that are kept are those of the plan at most
 pub kept-most : (entries : List Entry) (play : Play) (keep : ℕ)
@@ -229,7 +231,7 @@ halted-seats link c play old new text client at sound is =
 done-if : (slot : ℕ) (play : Play) (b : Bool) → is_done slot play ≡ b → IsSoundRest play.rest → IsPlanOf play.rest.sizes play.rest.playback play.rest.run play.plan
     → IsSoundSeat slot (cond b Idle (Playing play))
 done-if slot play true done rest plan = tt
-done-if slot play false undone rest plan = record { rest = rest; plan = plan; undone = undone }
+done-if slot play false undone rest plan = record { rest = rest; plan = plan; left = some-left play slot undone }
 
 pause-if : (slot : ℕ) (b : Bool) (stop : Booked) (rest : Rest) → IsSoundRest rest → IsSoundSeat slot (after_play slot (cond b (Paused rest) (Pausing stop rest)))
 pause-if slot true stop rest own = own

@@ -291,3 +291,19 @@ pub fair-past : (link : Link) (words : ℕ → ℕ) (turns : List Turn) (evening
 fair-past link words turns evening journal run is ready =
     (turns-past link words turns morning evening (booked_after journal) run morning-ready
     (λ t past. ap (λ es. booked_after es t) is ∙ last-stays evening t past ready.balanced)).0
+
+-- ---- looks and offers
+pub look-leaves : (link : Link) (slot : ℕ) (old new : Moment) (text : List ℕ) → IsLine link (lines.Look slot) old new text
+    → (new.seats ≡ old.seats) × (new.heard ≡ old.heard) × (state_after new.entries ≡ state_after old.entries)
+look-leaves link slot old new text (inl full) =
+    (ap (λ (m : Moment). m.seats) full.told.kept, ap (λ (m : Moment). m.heard) full.told.kept, ap (λ (m : Moment). state_after m.entries) full.told.kept)
+look-leaves link slot old new text (inr made) = (
+  ap (λ (m : Moment). m.seats) made.noted.new_is,
+  ap (λ (m : Moment). m.heard) made.noted.new_is,
+  ap (λ (m : Moment). state_after m.entries) made.noted.new_is ∙ state-push old.entries (entry_by 0 (commands.Look _) made.answer),
+)
+
+pub offer-leaves : (link : Link) (client source buffer delay wait : ℕ) (old new : Moment) (text : List ℕ)
+    → IsLine link (lines.Offer client source buffer delay wait) old new text → new ≡ old
+offer-leaves link client source buffer delay wait old new text (inl faulty) = faulty.told.kept
+offer-leaves link client source buffer delay wait old new text (inr offered) = offered.told.kept

@@ -1,16 +1,17 @@
 -- What holds of every day.
-use Rattle.std.specs.Prelude.{ℕ, false, ◌≡◌, ◌*◌, ◌<◌, ◌≤◌, List, fold, length, map, max, slice_index_or, sum_by}
+use Rattle.std.specs.Prelude.{ℕ, ◌≡◌, ◌-◌, ◌*◌, ◌<◌, ◌≤◌, List, fold, length, map, max, slice_index_or, sum_by}
 use Rattle.std.specs.List.{range_with_len}
 use Rattle.admission.specs.Histories.{booked_after}
 use Rattle.slot_calendar.specs.declared.profiles.CapStep.{CapStep}
 use Rattle.slot_calendar.specs.Profiles.{capacity_at}
 use Rattle.admission.specs.declared.entries.Entry.{Entry}
 use Rattle.day_run.specs.declared.counts.Counts.{Counts}
+use Rattle.plan_cert.specs.Slots.{sum_through, total_bytes}
 use Rattle.film_run.specs.Units.{IsTrace}
 use Rattle.day_run.specs.Days.{Link}
 use Rattle.film_frames.specs.Tracks.{IsBoundary}
 use Rattle.film_run.specs.Plans.{CanPlay, IsPlanOf}
-use Rattle.day_run.specs.Seats.{Idle, Playing, Pausing, Paused, Play as ClientPlay, Rest, Seat, Track, is_done}
+use Rattle.day_run.specs.Seats.{Idle, Playing, Pausing, Paused, Play as ClientPlay, Rest, Seat, Track}
 use Rattle.day_run.specs.FairDays.{made_of}
 use Rattle.day_run.specs.Prints.{fair_text}
 use Rattle.day_run.specs.declared.scripts.Line.{Line}
@@ -46,11 +47,12 @@ pub record IsSoundRest (rest : Rest) : Type 0 where
   pub can : CanPlay rest.sizes rest.playback rest.run
   pub boundary : IsBoundary rest.pieces rest.run.sent
 
--- A play is sent by the plan of what was left as it began, and has bytes to send.
+-- A play is sent by the plan of what was left as it began, and in the slot that was heard last the
+-- plan had bytes left: a play is halted in the slot of its last byte.
 pub record IsSoundPlay (heard : ℕ) (play : ClientPlay) : Type 0 where
   pub rest : IsSoundRest play.rest
   pub plan : IsPlanOf play.rest.sizes play.rest.playback play.rest.run play.plan
-  pub undone : is_done heard play ≡ false
+  pub left : play.start ≤ heard → sum_through play.plan (heard - play.start) < total_bytes play.plan
 
 abbrev pub IsSoundSeat : ℕ → Seat → Type 0
 IsSoundSeat heard Idle = Unit {0}

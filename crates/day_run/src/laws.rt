@@ -1,8 +1,9 @@
 ghost use Rattle.std.specs.Prelude.{ℕ, List, ◌≡◌, ◌≤◌, ◌<◌, length};
 ghost use Rattle.day_run.specs.declared.scripts.Line.{Line};
+ghost use Rattle.day_run.specs.declared.scripts.Line.TheVariants as Lines;
 ghost use Rattle.slot_calendar.specs.declared.profiles.CapStep.{CapStep};
 ghost use Rattle.admission.specs.declared.entries.Entry.{Entry};
-ghost use Rattle.admission.specs.Histories.{IsLegal, booked_after};
+ghost use Rattle.admission.specs.Histories.{IsLegal, booked_after, state_after};
 ghost use Rattle.day_run.specs.DayLaws.{AreClients, IsClient, IsFairLine, IsLink, IsSoundSeat};
 ghost use Rattle.day_run.specs.Days.{AreRun, IsDay, IsLine, Link, Moment, booked_up_to, last_journal, morning, seat_at, sent_up_to};
 ghost use Rattle.day_run.specs.FairDays.{IsFair};
@@ -29,6 +30,16 @@ pub fn law_fair()
     ensures { (steps : List CapStep) (number plays : ℕ) (text : List ℕ) (journal : List Entry) →
         IsFair steps number plays text journal → IsLegal steps journal →
         IsFairLine steps plays text journal }
+{}
+
+/// A look changes no client, no booking and no slot, only the journal; an offer changes nothing.
+pub fn law_looks()
+    ensures look { (link : Link) (slot : ℕ) (old new : Moment) (text : List ℕ) →
+        IsLine link (Lines.Look slot) old new text → (new.seats ≡ old.seats)
+        × (new.heard ≡ old.heard) × (state_after new.entries ≡ state_after old.entries) }
+    ensures offer { (link : Link) (client source buffer delay wait : ℕ) (old new : Moment)
+        (text : List ℕ) → IsLine link (Lines.Offer client source buffer delay wait) old new text →
+        new ≡ old }
 {}
 
 /// What is booked in the slots that were heard stays: no line of a script changes it, nor does the

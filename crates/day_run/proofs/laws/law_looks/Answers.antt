@@ -1,0 +1,8 @@
+use Rattle.day_run.proofs.PastSlots.{look-leaves, offer-leaves}
+use Rattle.day_run.proofs.laws.law_looks.Goals as goal
+
+pub returns-clause-look : goal.returns-clause-look
+returns-clause-look c = look-leaves
+
+pub returns-clause-offer : goal.returns-clause-offer
+returns-clause-offer c = offer-leaves
