@@ -45,7 +45,7 @@ make() { # SEED PICTURES
     "$program" make kind=film seed="$1" pictures="$2"
 }
 
-# Two made films behind each other: the end code between them is bytes of the slice before it.
+# Two made films one after the other: the end code between them is bytes of the slice before it.
 { make 1 100000; make 2 100000; } >made.mpg
 measure "made film" made.mpg
 rm made.mpg

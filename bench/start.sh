@@ -3,7 +3,7 @@
 #
 # PROGRAM is the built vodserve (default: ../crates/vodserve/out/vodserve). Needs python3 and ffmpeg, and about 1.1 GB in
 # the folder for temporary files, which is given back, and as much memory. The film is a short one of about 1.5 Mbit a
-# second many times behind itself, filled up to 1 GiB with zero bytes, which are bytes of the last slice. One byte more
+# second many times over, filled up to 1 GiB with zero bytes, which are bytes of the last slice. One byte more
 # has to be refused. Ends with status 2 where nothing could be tried. The server is stopped in any case.
 set -u
 here=$(cd "$(dirname "$0")" && pwd)

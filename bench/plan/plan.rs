@@ -148,10 +148,10 @@ fn curves_of(sizes: &[u64], buffer: u64, startup: u64) -> Result<Curves, String>
 /// the places from the first to the last.
 fn weights(first: Point, middle: Point, last: Point) -> (u128, u128) {
     let before = u128::from(middle.place - first.place);
-    let behind = u128::from(last.place - middle.place);
+    let beyond = u128::from(last.place - middle.place);
     (
-        behind * u128::from(first.height) + before * u128::from(last.height),
-        (before + behind) * u128::from(middle.height),
+        beyond * u128::from(first.height) + before * u128::from(last.height),
+        (before + beyond) * u128::from(middle.height),
     )
 }
 

@@ -1,7 +1,7 @@
 #!/usr/bin/env python3
 """Time and memory from the start to the first DESCRIBE answered: start.py PROGRAM FOLDER FILM PART COPIES ROUNDS
 
-FILM is PART so many times behind itself. In each round the server is started with FILM and asked, again and again, until
+FILM is PART so many times over. In each round the server is started with FILM and asked, again and again, until
 it answers a DESCRIBE; and `cat FILM | wc -c` is timed. Prints the best of each, and the peak memory beside the film's
 size. PART is played once before, to count its frames.
 """
