@@ -2,6 +2,7 @@
 
 use crate::run::{Ended, run};
 use admission::{Answer, Entry};
+use conn::{ConnEnd, ConnReport};
 use std::alloc::Global;
 use std::process::Abort;
 use std::sync::Wait;
@@ -114,6 +115,16 @@ fn all_halted(journal: &[Entry]) -> bool {
         }
     }
     admitted == halted
+}
+
+/// Whether a connection ended for want of memory, which changes no status.
+fn lacked_memory(reports: &[ConnReport]) -> bool {
+    for report in reports {
+        if report.end == ConnEnd::NoMemory {
+            return true;
+        }
+    }
+    false
 }
 
 /// Carries out the words. This is the one call of `run` of the tests.
@@ -235,7 +246,7 @@ impl Stage {
             sent: sent_of(alloc, &gate)?,
             read: 0,
         };
-        if self.left.sent.iter().any(|sent| is_refused(sent)) {
+        if lacked_memory(&ended.reports) || self.left.sent.iter().any(|sent| is_refused(sent)) {
             return Err(NoMemory);
         }
         Ok(())
