@@ -11,3 +11,4 @@ pub mod HexTexts
 pub mod Names
 pub mod Described
 pub mod ClockTexts
+pub mod TransportTexts

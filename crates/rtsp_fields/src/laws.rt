@@ -90,3 +90,12 @@ pub fn law_clock_read()
         IsTime (decimal hours ++ 58 ∷ (decimal minutes ++ 58 ∷ decimal seconds))
         ((hours * 3600 + minutes * 60 + seconds) * 1000000000) }
 {}
+
+/// A Transport value that asks for unicast delivery on the connection itself, on two different
+/// channels, is read as it says (RFC 2326 sections 10.12 and 12.39).
+pub fn law_transport_read()
+    ensures { (media control : ℕ) → media ≤ 255 → control ≤ 255 → media ≢ control →
+        IsTransport
+        (codes "RTP/AVP/TCP;unicast;interleaved=" ++ (decimal media ++ 45 ∷ decimal control))
+        (record { media = media; control = control }) }
+{}
