@@ -12,3 +12,4 @@ pub mod Names
 pub mod Described
 pub mod ClockTexts
 pub mod TransportTexts
+pub mod SessionTexts

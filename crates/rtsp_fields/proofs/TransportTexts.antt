@@ -19,7 +19,7 @@ use Rattle.rtsp_fields.proofs.Digits.{own}
 
 -- ---- a text that a separator cuts: its first piece, and those of the rest
 
-text_of : ℕ → List ℕ → List ℕ → List ℕ
+unfoldable pub text_of : ℕ → List ℕ → List ℕ → List ℕ
 text_of c a rest = a ++ c ∷ rest
 
 here_of : (c : ℕ) (a rest : List ℕ) (k : ℕ) → k < length a → get_or (text_of c a rest) k 0 ≡ get_or a k 0
@@ -62,7 +62,7 @@ piece_later c a rest k end p = record {
         ∙ later_of c a rest (k - 1) ∙ e.1
 
 -- the first piece
-piece_first : (c : ℕ) (a rest : List ℕ) → HasNone c a 0 (length a) → IsPiece c (text_of c a rest) 0 (length a)
+pub piece_first : (c : ℕ) (a rest : List ℕ) → HasNone c a 0 (length a) → IsPiece c (text_of c a rest) 0 (length a)
 piece_first c a rest none = record {
   start = inl refl;
   end = record {
@@ -74,7 +74,7 @@ piece_first c a rest none = record {
 }
 
 -- the one piece of a text without the separator
-piece_whole : (c : ℕ) (a : List ℕ) → HasNone c a 0 (length a) → IsPiece c a 0 (length a)
+pub piece_whole : (c : ℕ) (a : List ℕ) → HasNone c a 0 (length a) → IsPiece c a 0 (length a)
 piece_whole c a none = record {
   start = inl refl;
   end = record { after = omega arith; within = omega arith; none = none; ends = λ inside. absurd (omega (arith, inside)) };
@@ -201,10 +201,10 @@ none_before c a rest at P none first more = λ k end below p. go k end below (pi
         more l.from l.to (omega (arith, below, l.from_is)) l.piece (subst P (slice_later c a rest l.from l.to l.piece.end.after) (subst E l.to_is (subst S l.from_is is)))
 
 -- no byte is the separator
-other_than : ℕ → ℕ → Bool
+unfoldable pub other_than : ℕ → ℕ → Bool
 other_than c b = not (b == c)
 
-none_from : (c : ℕ) (a : List ℕ) → list_all (other_than c) a ≡ true → HasNone c a 0 (length a)
+pub none_from : (c : ℕ) (a : List ℕ) → list_all (other_than c) a ≡ true → HasNone c a 0 (length a)
 unfolding other_than
 none_from c a all = λ k from below is.
     let same : other_than c c ≡ false = grind arith in
@@ -228,7 +228,7 @@ bare_front : (text : List ℕ) → 0 < length text → is_blank (get_or text 0 0
 bare_front [] some other = refl
 bare_front (x ∷ text) some other = cond-false (is_blank x) (without_front_blanks text) (x ∷ text) other
 
-bare : (text : List ℕ) → 0 < length text → is_blank (get_or text 0 0) ≡ false → is_blank (get_or text (length text - 1) 0) ≡ false → trimmed text ≡ text
+pub bare : (text : List ℕ) → 0 < length text → is_blank (get_or text 0 0) ≡ false → is_blank (get_or text (length text - 1) 0) ≡ false → trimmed text ≡ text
 bare text some first last =
     let back : get_or (reverse text) 0 0 ≡ get_or text (length text - 1) 0 =
     get_or-reverse text 0 0 some ∙ ap (λ n. get_or text n 0) (let e : length text - 1 - 0 ≡ length text - 1 = omega arith in e) in

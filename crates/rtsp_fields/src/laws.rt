@@ -1,10 +1,13 @@
 ghost use Rattle.std.specs.Prelude.{◌≡◌, ◌≢◌, ◌+◌, ◌*◌, ◌^◌, ◌<◌, ◌≤◌, ◌∷◌, ◌++◌, ◌↔◌, ℕ};
-ghost use Rattle.std.specs.Prelude.{List, codes, decimal, true};
+ghost use Rattle.std.specs.Prelude.{List, codes, decimal, length, true};
+ghost use Rattle.std.specs.Char.{is_ascii_alphanumeric};
+ghost use Rattle.std.specs.List.{list_all};
 ghost use Rattle.vod_base.specs.Names.{is_good_name};
 ghost use Rattle.rtsp_text.specs.Grammar.{IsUrl};
 ghost use Rattle.rtsp_fields.specs.Laws.{IsDescription};
 ghost use Rattle.rtsp_fields.specs.Ranges.{IsSpan};
 ghost use Rattle.rtsp_fields.specs.Descriptions.{description_text, seconds_text};
+ghost use Rattle.rtsp_fields.specs.Sessions.{IsSession};
 ghost use Rattle.rtsp_fields.specs.Times.{IsTime};
 ghost use Rattle.rtsp_fields.specs.Transports.{IsTransport};
 ghost use Rattle.rtsp_fields.specs.Urls.{IsAbsoluteUrl, IsTail, NamesFilm};
@@ -98,4 +101,13 @@ pub fn law_transport_read()
         IsTransport
         (codes "RTP/AVP/TCP;unicast;interleaved=" ++ (decimal media ++ 45 ∷ decimal control))
         (record { media = media; control = control }) }
+{}
+
+/// The id of a session, one or more letters and digits, is read as itself, alone and with
+/// parameters after it (RFC 2326 section 12.37).
+pub fn law_session_read()
+    ensures alone { (id : List ℕ) → list_all is_ascii_alphanumeric id ≡ true → 0 < length id →
+        IsSession id id }
+    ensures parameters { (id rest : List ℕ) → list_all is_ascii_alphanumeric id ≡ true →
+        0 < length id → IsSession (id ++ 59 ∷ rest) id }
 {}
