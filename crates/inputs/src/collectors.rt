@@ -104,7 +104,8 @@ pub fn scan_film<'a, L: Library>(
     ensures library { IsReadOnly (L.files library.old) (L.files library.new) (L.faults library.old)
         (L.faults library.new) }
     ensures film { (held : List File) → L.files library.old ≡ Some held
-        → IfOk result (λ film. HoldsFilm held name.entry.now film.bytes film.rate film.units.items) }
+        → IfOk result (λ film.
+        HoldsFilm held name.entry.now film.bytes film.rate film.units.items) }
     ensures trouble { IfErr result (IsReadTrouble (IsNamed name.entry.now) IsFilmRefused
         (L.files library.old) (L.faults library.old) (L.faults library.new)) }
 {

@@ -51,7 +51,8 @@ pub(crate) fn read_at<'a, L: Library>(
         → IsFront held name.entry.now size bytes → length bytes ≡ at
         → IfOk result (λ count. IsFront held name.entry.now size (bytes ++ take count piece.new)) }
     ensures more { (held : List File) (bytes : List ℕ) → L.files library.old ≡ Some held
-        → IsFront held name.entry.now size bytes → length bytes ≡ at → IfOk result (λ count. 0 < count) }
+        → IsFront held name.entry.now size bytes → length bytes ≡ at
+        → IfOk result (λ count. 0 < count) }
     ensures trouble { IfErr result (IsReadTrouble (IsNamed name.entry.now) IsNever
         (L.files library.old) (L.faults library.old) (L.faults library.new)) }
 {

@@ -99,7 +99,8 @@ pub(crate) fn find_pack<'a, L: Library>(
     ensures library { IsReadOnly (L.files library.old) (L.files library.new) (L.faults library.old)
         (L.faults library.new) }
     ensures opened { (held : List File) → L.files library.old ≡ Some held
-        → Some size ≡ option_map length (file_named held name.entry.now) → IfOk result (IsOpened held name.entry.now size) }
+        → Some size ≡ option_map length (file_named held name.entry.now)
+        → IfOk result (IsOpened held name.entry.now size) }
     ensures within { IfOk result (λ from. IfSome from (λ place. place ≤ size)) }
     ensures trouble { IfErr result (IsReadTrouble (IsNamed name.entry.now) IsNever
         (L.files library.old) (L.faults library.old) (L.faults library.new)) }

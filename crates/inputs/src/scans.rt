@@ -40,7 +40,8 @@ fn feed_piece<'a, L: Library, F: Found>(
     ensures within { IfOk result (λ count. at + count ≤ size) }
     ensures ready { IsReady (F.ready_at found.new) scanner.new }
     ensures scanned { IfOk result (λ count.
-        HasScanned (F.heard found.new) (L.files library.old) name.entry.now size (at + count) scanner.new) }
+        HasScanned (F.heard found.new) (L.files library.old) name.entry.now size (at + count)
+        scanner.new) }
     ensures more { (held : List File) → L.files library.old ≡ Some held →
         IfOk result (λ count. 0 < count) }
     ensures trouble { IfErr result (IsReadTrouble (IsNamed name.entry.now) IsFilmRefused
@@ -129,7 +130,8 @@ fn scan_plain<'a, L: Library, F: Found>(
     ensures library { IsReadOnly (L.files library.old) (L.files library.new) (L.faults library.old)
         (L.faults library.new) }
     ensures film { IfOk result (λ ending.
-        HasHeard (F.heard found.new) (L.files library.old) name.entry.now ending.bytes ending.rate) }
+        HasHeard (F.heard found.new) (L.files library.old) name.entry.now ending.bytes
+        ending.rate) }
     ensures trouble { IfErr result (IsReadTrouble (IsNamed name.entry.now) IsFilmRefused
         (L.files library.old) (L.faults library.old) (L.faults library.new)) }
 {
@@ -152,7 +154,8 @@ pub(crate) fn hear_film<'a, L: Library, F: Found>(
     ensures library { IsReadOnly (L.files library.old) (L.files library.new) (L.faults library.old)
         (L.faults library.new) }
     ensures film { IfOk result (λ ending.
-        HasHeard (F.heard found.new) (L.files library.old) name.entry.now ending.bytes ending.rate) }
+        HasHeard (F.heard found.new) (L.files library.old) name.entry.now ending.bytes
+        ending.rate) }
     ensures trouble { IfErr result (IsReadTrouble (IsNamed name.entry.now) IsFilmRefused
         (L.files library.old) (L.faults library.old) (L.faults library.new)) }
 {

@@ -70,7 +70,8 @@ fn unwrap_part<F: Found>(
     ensures few { IfOk result (λ taken. bytes_fed scanner.new ≤ unwrapper.old.fed + taken) }
     ensures ready { IsReady (F.ready_at found.new) scanner.new }
     ensures next { (seen : List ℕ) → HasUnwrapped (F.heard found.old) unwrapper.old scanner.old seen
-        → IfOk result (λ taken. HasUnwrapped (F.heard found.new) unwrapper.new scanner.new (seen ++ take taken piece.now)) }
+        → IfOk result (λ taken. HasUnwrapped (F.heard found.new) unwrapper.new scanner.new
+        (seen ++ take taken piece.now)) }
     ensures refused { (seen : List ℕ) →
         HasUnwrapped (F.heard found.old) unwrapper.old scanner.old seen
         → IfErr result (IsPieceRefused seen piece.now) }
@@ -99,7 +100,8 @@ fn unwrap_piece<F: Found>(
     ensures few { OnOk result (bytes_fed scanner.new ≤ unwrapper.new.fed) }
     ensures ready { IsReady (F.ready_at found.new) scanner.new }
     ensures next { (seen : List ℕ) → HasUnwrapped (F.heard found.old) unwrapper.old scanner.old seen
-        → OnOk result (HasUnwrapped (F.heard found.new) unwrapper.new scanner.new (seen ++ piece.now)) }
+        → OnOk result (HasUnwrapped (F.heard found.new) unwrapper.new scanner.new
+        (seen ++ piece.now)) }
     ensures refused { (seen : List ℕ) →
         HasUnwrapped (F.heard found.old) unwrapper.old scanner.old seen
         → IfErr result (IsPieceRefused seen piece.now) }
@@ -141,7 +143,8 @@ fn feed_stream_piece<'a, L: Library, F: Found>(
     ensures few { OnOk result (bytes_fed scanner.new ≤ unwrapper.new.fed) }
     ensures ready { IsReady (F.ready_at found.new) scanner.new }
     ensures streamed { IfOk result (λ count.
-        HasStreamed (F.heard found.new) (L.files library.old) name.entry.now size from (at + count) unwrapper.new scanner.new) }
+        HasStreamed (F.heard found.new) (L.files library.old) name.entry.now size from (at + count)
+        unwrapper.new scanner.new) }
     ensures more { (held : List File) → L.files library.old ≡ Some held →
         IfOk result (λ count. 0 < count) }
     ensures trouble { IfErr result (IsReadTrouble (IsNamed name.entry.now) IsFilmRefused
@@ -221,7 +224,8 @@ pub(crate) fn scan_stream<'a, L: Library, F: Found>(
     ensures library { IsReadOnly (L.files library.old) (L.files library.new) (L.faults library.old)
         (L.faults library.new) }
     ensures film { IfOk result (λ ending.
-        HasHeard (F.heard found.new) (L.files library.old) name.entry.now ending.bytes ending.rate) }
+        HasHeard (F.heard found.new) (L.files library.old) name.entry.now ending.bytes
+        ending.rate) }
     ensures trouble { IfErr result (IsReadTrouble (IsNamed name.entry.now) IsFilmRefused
         (L.files library.old) (L.faults library.old) (L.faults library.new)) }
 {

@@ -7,7 +7,8 @@ use std::rt::Files;
 use std::{fs, io};
 use vod_base::{Library, StoreFault};
 
-/// The files of the folder that the program runs in. The file that was read last stays open for the next read.
+/// The files of the folder that the program runs in. The file that was read last stays open for the
+/// next read.
 #[derive(Drop)]
 pub struct FileLibrary<'a, R: Files> {
     rt: &'a R,

@@ -3,7 +3,8 @@ ghost use Rattle.std.specs.Prelude.{◌≡◌, ◌+◌, ◌-◌, ◌<◌, ◌≤
 use std::alloc::{AllocError, Global};
 use std::marker::Model;
 
-/// Bytes that wait to be written, in a buffer whose room is taken when it is made. Contracts see the list of these bytes.
+/// Bytes that wait to be written, in a buffer whose room is taken when it is made. Contracts see
+/// the list of these bytes.
 #[derive(Drop)]
 pub(crate) struct Gathered {
     bytes: Vec<u8>,
@@ -21,7 +22,8 @@ impl Model for Gathered {
 
     ghost view = { λ g. drop g.start g.bytes.items };
 
-    ghost invariant = { λ g. (g.start ≤ length g.bytes.items) × (length g.bytes.items ≤ 16384) × (16384 ≤ vec_capacity g.bytes) };
+    ghost invariant = { λ g. (g.start ≤ length g.bytes.items)
+        × (length g.bytes.items ≤ 16384) × (16384 ≤ vec_capacity g.bytes) };
 }
 
 /// Moves what stands from `start` on to the front, and leaves nothing else.
@@ -69,8 +71,8 @@ impl Gathered {
         }
     }
 
-    /// Drops the first `count` waiting bytes. Once none waits the front of the buffer is used again, so that no more of its memory
-    /// is touched than waited at once.
+    /// Drops the first `count` waiting bytes. Once none waits the front of the buffer is used
+    /// again, so that no more of its memory is touched than waited at once.
     pub(crate) fn drop_front(&mut self, count: usize)
         requires { count ≤ length self.old }
         ensures { self.new ≡ drop count self.old }

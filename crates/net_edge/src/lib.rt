@@ -1,5 +1,6 @@
-//! The real folder, output, sockets and clock that `vodserve` runs on. They tell contracts nothing of their content: what they
-//! promise is that a call answers a fault only where their count of faults rose in it.
+//! The real folder, output, sockets and clock that `vodserve` runs on. They tell contracts nothing
+//! of their content: what they promise is that a call answers a fault only where their count of
+//! faults rose in it.
 #![tactic(auto)]
 
 mod dials;

@@ -17,7 +17,8 @@ use vod_base::{Heard, Link, LinkFault};
 /// For how many seconds a peer may take nothing of the bytes that wait for it.
 const PATIENCE: u64 = 60;
 
-/// After how many seconds a write is tried again without an event: the system makes room in its own buffer that it tells of late.
+/// After how many seconds a write is tried again without an event: the system makes room in its own
+/// buffer that it tells of late.
 const RETRY: u64 = 1;
 
 /// For how many seconds a connection that was given back waits for its peer to end.
@@ -30,7 +31,8 @@ pub(crate) struct SlotClock {
     pub(crate) slot_units: u32,
 }
 
-/// A connection over TCP. What is sent is gathered, and leaves when the gathered bytes are many and at the next wait.
+/// A connection over TCP. What is sent is gathered, and leaves when the gathered bytes are many and
+/// at the next wait.
 #[derive(Drop)]
 pub struct TcpLink<'a, R: Clock> {
     rt: &'a R,
@@ -194,7 +196,8 @@ impl<R: Clock> TcpLink<'_, R> {
         Ok(None)
     }
 
-    /// Waits for the next event: first what is gathered leaves, then the slot goes by the clock, and then what came.
+    /// Waits for the next event: first what is gathered leaves, then the slot goes by the clock,
+    /// and then what came.
     fn hear(&mut self, into: &mut [u8]) -> io::Result<Heard>
         requires { 0 < length into.now }
         ensures faults { self.new.faults ≡ self.old.faults }
@@ -248,8 +251,8 @@ impl<R: Clock> TcpLink<'_, R> {
         Ok(())
     }
 
-    /// Writes all gathered bytes and ends the sending side. It reads on for a little: a socket that is closed with bytes unread
-    /// is reset, and a last reply that is on its way is lost.
+    /// Writes all gathered bytes and ends the sending side. It reads on for a little: a socket that
+    /// is closed with bytes unread is reset, and a last reply that is on its way is lost.
     fn close(&mut self) -> io::Result<()> {
         self.flush_all()?;
         self.socket.shutdown(Shutdown::Write)?;

@@ -17,7 +17,8 @@ pub(crate) fn slot_at(elapsed: Duration, slot_units: u32) -> u64
     (elapsed.as_nanos() * 9 / (25_000 * slot_units as u128)).min(LATEST) as u64
 }
 
-/// From the time `elapsed` on, how long the slot that holds it still lasts, rounded up to whole nanoseconds.
+/// From the time `elapsed` on, how long the slot that holds it still lasts, rounded up to whole
+/// nanoseconds.
 pub(crate) fn rest_of_slot(elapsed: Duration, slot_units: u32) -> Duration
     requires { 1 ≤ slot_units }
     ensures some { 0 < as_nanos result }

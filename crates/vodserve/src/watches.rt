@@ -80,7 +80,8 @@ fn watch_part<O: Sink, G: Gate>(
     ensures fault { OnErr result (HasRisen (G.faults part.old) (G.faults part.new)) }
     ensures kept { OnErr result (IsSameOutput (O.faults out.old) (O.faults out.new)
         (O.written out.old) (O.written out.new)) }
-    ensures lost { OnErr result (G.told part.new ≡ option_map (gave_none Failed) (G.told part.old)) }
+    ensures lost { OnErr result (G.told part.new ≡
+        option_map (gave_none Failed) (G.told part.old)) }
     ensures heard { IfOk result (HearsPart wish.entry.now (G.told part.old) (G.told part.new)
         (O.faults out.old) (O.faults out.new) (O.written out.old) (O.written out.new)) }
 {
