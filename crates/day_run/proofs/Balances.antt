@@ -513,3 +513,12 @@ play-stays entries e number start heard t plan early past is =
     ap (λ hs. sum_by (share_at t) (map (λ (x : Held). x.play) hs)) is ∙ ap (sum_by (share_at t)) (map-append (λ (x : Held). x.play) held (admitted_play number start plan ∷ []))
     ∙ sum_by_push (share_at t) (map (λ (x : Held). x.play) held) (whole_play start plan) in
     omega (arith, b, sent)
+
+pub last-later : (m : Moment) (t : ℕ) → m.heard < t → IsBalanced m.entries m.seats m.heard
+    → booked_in (state_after (last_journal m)) t ≡ sum_by (share_of t) (map after_open m.seats)
+last-later m t later balanced =
+    let n = length m.seats in
+    let e = ending m.heard (open_halt m.heard) after_open m.entries m.seats n (open-seat m.heard) (omega arith) balanced in
+    let entries : e.entries ≡ last_journal m = e.entries_are ∙ ap (λ l. m.entries ++ halts (open_halt m.heard) 0 l) (take_all n m.seats (omega arith)) in
+    let seats : e.seats ≡ map after_open m.seats = swept-all after_open n m.seats e.seats (omega arith) e.swept in
+    sym (ap (λ es. booked_in (state_after es) t) entries) ∙ e.balanced.each t later ∙ ap (sum_by (share_of t)) seats

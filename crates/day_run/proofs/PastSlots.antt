@@ -15,13 +15,14 @@ use Rattle.admission.specs.Machine.{Held, State, booked_in}
 use Rattle.admission.proofs.Runs.{state-push}
 use Rattle.day_run.specs.declared.scripts.Line.{Line}
 use Rattle.day_run.specs.declared.scripts.Line.TheVariants as lines
-use Rattle.day_run.specs.Balanced.{IsReady}
+use Rattle.day_run.specs.Balanced.{IsReady, share_of}
+use Rattle.day_run.specs.Clients.{after_open}
 use Rattle.day_run.specs.DayLaws.{AreClients, IsClient}
 use Rattle.day_run.specs.Days.{AreRun, IsAsked, IsHaltedPlay, IsLine, IsLookLine, IsOfferLine, IsPauseLine, IsPlayLine, IsResumeLine, Link, Moment, at_slot, entry_by, last_journal, morning, rest_at, seat_at, with_play}
 use Rattle.day_run.specs.FairDays.{AreTurns, IsDone, IsTurn, Turn, after_turn, at_later, client_of, turn_booked, turn_peak}
 use Rattle.day_run.specs.Scripts.{AreLines, StandsAfter}
 use Rattle.day_run.specs.Seats.{Idle, Playing, Pausing, Paused, Play, Rest, Seat, booking_of, sent_by}
-use Rattle.day_run.proofs.Balances.{its-held, last-stays, play-stays, slot-stays, stays-halt}
+use Rattle.day_run.proofs.Balances.{its-held, last-later, last-stays, play-stays, slot-stays, stays-halt}
 use Rattle.day_run.proofs.BalancedLines.{morning-ready, run-ready}
 use Rattle.day_run.proofs.FairLaws.{done-heard, later-heard, turn-ready, later-ready}
 use Rattle.day_run.proofs.OneDay.{kept-most}
@@ -307,3 +308,8 @@ pub offer-leaves : (link : Link) (client source buffer delay wait : ℕ) (old ne
     → IsLine link (lines.Offer client source buffer delay wait) old new text → new ≡ old
 offer-leaves link client source buffer delay wait old new text (inl faulty) = faulty.told.kept
 offer-leaves link client source buffer delay wait old new text (inr offered) = offered.told.kept
+
+pub end-later : (link : Link) (n : ℕ) (ls : List Line) (texts : List (List ℕ)) (m : Moment) (t : ℕ) → AreClients ls → AreLines n ls
+    → AreRun link ls texts morning m → m.heard < t → booked_after (last_journal m) t ≡ sum_by (share_of t) (map after_open m.seats)
+end-later link n ls texts m t clients are run later =
+    last-later m t later (run-ready link n ls texts morning m clients.each are.each run morning-ready).balanced

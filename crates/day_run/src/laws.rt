@@ -1,9 +1,11 @@
-ghost use Rattle.std.specs.Prelude.{ℕ, List, ◌≡◌, ◌≤◌, ◌<◌, length};
+ghost use Rattle.std.specs.Prelude.{ℕ, List, ◌≡◌, ◌≤◌, ◌<◌, length, map, sum_by};
 ghost use Rattle.day_run.specs.declared.scripts.Line.{Line};
 ghost use Rattle.day_run.specs.declared.scripts.Line.TheVariants as Lines;
 ghost use Rattle.slot_calendar.specs.declared.profiles.CapStep.{CapStep};
 ghost use Rattle.admission.specs.declared.entries.Entry.{Entry};
 ghost use Rattle.admission.specs.Histories.{IsLegal, booked_after, state_after};
+ghost use Rattle.day_run.specs.Balanced.{share_of};
+ghost use Rattle.day_run.specs.Clients.{after_open};
 ghost use Rattle.day_run.specs.DayLaws.{AreClients, IsClient, IsFairLine, IsLink, IsSoundSeat};
 ghost use Rattle.day_run.specs.Days.{AreRun, IsDay, IsLine, Link, Moment, booked_up_to, last_journal, morning, seat_at, sent_up_to};
 ghost use Rattle.day_run.specs.FairDays.{IsFair};
@@ -54,6 +56,16 @@ pub fn law_past()
         (moment : Moment) → AreClients lines → AreLines sources lines →
         AreRun link lines texts morning moment → slot ≤ moment.heard →
         booked_after (last_journal moment) slot ≡ booked_after moment.entries slot }
+{}
+
+/// At the day's end no play is open: the slots to come have only what is still sent to clients whose
+/// pause isn't done.
+pub fn law_end()
+    ensures { (link : Link) (sources slot : ℕ) (lines : List Line) (texts : List (List ℕ))
+        (moment : Moment) → AreClients lines → AreLines sources lines →
+        AreRun link lines texts morning moment → moment.heard < slot →
+        booked_after (last_journal moment) slot
+        ≡ sum_by (share_of slot) (map after_open moment.seats) }
 {}
 
 /// After lines of a script each client goes on soundly: a play is sent by the plan of what was left

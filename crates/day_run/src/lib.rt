@@ -20,7 +20,9 @@ mod texts;
 
 pub use days::{Day, run_script};
 pub use fairs::fair;
-pub use laws::{law_clients, law_fair, law_looks, law_one_day, law_past, law_sent, law_texts};
+pub use laws::{
+    law_clients, law_end, law_fair, law_looks, law_one_day, law_past, law_sent, law_texts,
+};
 pub use reading::read_script;
 pub use reels::Source;
 pub use scripts::{Line, Named, Script, ScriptRefused};
