@@ -1,5 +1,6 @@
 -- The films of a session, and what is sent of them.
-use Rattle.std.specs.Prelude.{ℕ, ◌≡◌, ◌+◌, ◌*◌, ◌/◌, ◌%◌, ◌^◌, List, Some, length, slice_get, string_bytes}
+use Rattle.std.specs.Prelude.{ℕ, ◌≡◌, ◌+◌, ◌*◌, ◌/◌, ◌%◌, ◌^◌, List, Some, length, slice_get}
+use Rattle.std.specs.Prelude.{string_bytes}
 use Rattle.mpeg_scan.specs.Rates.{picture_time}
 use Rattle.mpeg_scan.specs.declared.films.Film.{Film}
 use Rattle.rtp_pack.specs.declared.reports.Identity.{Identity}

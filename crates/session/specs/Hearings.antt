@@ -3,7 +3,9 @@ use Rattle.std.specs.Int.{w64, to_be_bytes}
 use Rattle.hex.specs.Hex.{encode_lower}
 use Rattle.session.specs.declared.settings.Settings.{Settings}
 use Rattle.session.specs.declared.states.Source.{Source}
-use Rattle.std.specs.Prelude.{ℕ, ◌≡◌, ◌+◌, ◌-◌, ◌*◌, ◌%◌, ◌^◌, slice_index, ◌++◌, ◌⊎◌, if◌then◌else◌, Bool, true, false, List, [], ◌∷◌, Option, Some, None, codes, decimal, slice_get}
+use Rattle.std.specs.Prelude.{ℕ, ◌≡◌, ◌+◌, ◌-◌, ◌*◌, ◌%◌, ◌^◌, slice_index, ◌++◌, ◌⊎◌}
+use Rattle.std.specs.Prelude.{if◌then◌else◌, Bool, true, false, List, [], ◌∷◌, Option, Some, None}
+use Rattle.std.specs.Prelude.{codes, decimal, slice_get}
 use Rattle.rtsp_text.specs.Fields.{first_sequence}
 use Rattle.rtsp_text.specs.Replies.{field_line}
 use Rattle.rtsp_text.specs.Requests.{IsFault, IsRequest}
@@ -19,7 +21,8 @@ use Rattle.session.specs.declared.states.Counts.{Counts}
 use Rattle.session.specs.declared.refusals.Refusal.TheVariants.{Memory}
 use Rattle.session.specs.Judging.{fault_refusal}
 use Rattle.session.specs.Methods.{HearsRequest, IsRefused}
-use Rattle.session.specs.Replies.{field, full_text, look_body, offer_body, overflow_text, parameters_text}
+use Rattle.session.specs.Replies.{field, full_text, look_body, offer_body, overflow_text}
+use Rattle.session.specs.Replies.{parameters_text}
 use Rattle.session.specs.declared.states.Next.{Next}
 use Rattle.session.specs.declared.states.Next.TheVariants.{Done, Paused, Torn}
 use Rattle.session.specs.declared.states.Play.{Play as Played}

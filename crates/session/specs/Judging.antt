@@ -1,24 +1,38 @@
 -- The refusals that all methods share, in their order (RFC 2326 sections 7.1.1, 10 and 12).
-use Rattle.std.specs.Prelude.{ℕ, ◌≡◌, ◌≢◌, ◌⊎◌, ◌++◌, ⊤, true, false, Bool, List, [], Option, Some, None, is_some, is_none, codes, Result, Ok, Err}
+use Rattle.std.specs.Prelude.{ℕ, ◌≡◌, ◌≢◌, ◌⊎◌, ◌++◌, ⊤, true, false, Bool, List, [], Option, Some}
+use Rattle.std.specs.Prelude.{None, is_some, is_none, codes, Result, Ok, Err}
 use Rattle.rtsp_text.specs.Fields.{header_value}
 use Rattle.rtsp_text.specs.declared.requests.Request.{Request}
 use Rattle.rtsp_text.specs.declared.requests.RequestFault.{RequestFault}
-use Rattle.rtsp_text.specs.declared.requests.RequestFault.TheVariants.{BadLine, BadVersion, BadHeader, NoSequenceNumber, BadLength}
+use Rattle.rtsp_text.specs.declared.requests.RequestFault.TheVariants.{BadLine, BadVersion}
+use Rattle.rtsp_text.specs.declared.requests.RequestFault.TheVariants.{BadHeader, NoSequenceNumber}
+use Rattle.rtsp_text.specs.declared.requests.RequestFault.TheVariants.{BadLength}
 use Rattle.rtsp_fields.specs.Sessions.{IsSession}
 use Rattle.film_frames.specs.declared.stores.Stored.{Stored}
 use Rattle.session.specs.Films.{Names}
 use Rattle.session.specs.declared.methods.Topic.{Topic}
-use Rattle.session.specs.declared.methods.Topic.TheVariants.{Nothing, Booked, Offer, Unknown as Other}
+use Rattle.session.specs.declared.methods.Topic.TheVariants.{Nothing, Booked, Offer}
+use Rattle.session.specs.declared.methods.Topic.TheVariants.{Unknown as Other}
 use Rattle.session.specs.declared.states.State.{State as Stage}
 use Rattle.session.specs.declared.states.State.TheVariants.{Init, Ready, Playing, Stopping}
 use Rattle.session.specs.declared.methods.Method.{Method}
-use Rattle.session.specs.declared.methods.Method.TheVariants.{Options, Describe, Setup, Play, Pause, Teardown, GetParameter}
+use Rattle.session.specs.declared.methods.Method.TheVariants.{Options, Describe, Setup, Play, Pause}
+use Rattle.session.specs.declared.methods.Method.TheVariants.{Teardown, GetParameter}
 use Rattle.session.specs.declared.refusals.Asked.{Asked}
 use Rattle.session.specs.declared.refusals.Place.{Place}
 use Rattle.session.specs.declared.refusals.Refusal.{Refusal}
-use Rattle.session.specs.declared.refusals.Refusal.TheVariants.{BadRequest, Version, Method as Unknown, Option as Required, Session, Film, State, Transport, Parameter, Buffer, Range, Memory}
+use Rattle.session.specs.declared.refusals.Refusal.TheVariants.{BadRequest, Version}
+use Rattle.session.specs.declared.refusals.Refusal.TheVariants.{Method as Unknown}
+use Rattle.session.specs.declared.refusals.Refusal.TheVariants.{Option as Required, Session, Film}
+use Rattle.session.specs.declared.refusals.Refusal.TheVariants.{State, Transport, Parameter, Buffer}
+use Rattle.session.specs.declared.refusals.Refusal.TheVariants.{Range, Memory}
 use Rattle.session.specs.declared.refusals.Task.{Task}
-use Rattle.session.specs.declared.refusals.Task.TheVariants.{Options as ToOptions, Describe as ToDescribe, Setup as ToSetup, Play as ToPlay, Pause as ToPause, Teardown as ToTeardown, GetParameter as ToGetParameter}
+use Rattle.session.specs.declared.refusals.Task.TheVariants.{Options as ToOptions}
+use Rattle.session.specs.declared.refusals.Task.TheVariants.{Describe as ToDescribe}
+use Rattle.session.specs.declared.refusals.Task.TheVariants.{Setup as ToSetup, Play as ToPlay}
+use Rattle.session.specs.declared.refusals.Task.TheVariants.{Pause as ToPause}
+use Rattle.session.specs.declared.refusals.Task.TheVariants.{Teardown as ToTeardown}
+use Rattle.session.specs.declared.refusals.Task.TheVariants.{GetParameter as ToGetParameter}
 
 abbrev pub name_of : Method → List ℕ
 name_of Options = codes "OPTIONS"

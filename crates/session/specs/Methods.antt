@@ -1,5 +1,6 @@
 -- What each method asks of the station, and the session after it (RFC 2326 section 10).
-use Rattle.std.specs.Prelude.{ℕ, ◌≡◌, ◌-◌, ◌⊎◌, true, List, [], Option, Some, None, Result, Ok, Err, codes, string_bytes}
+use Rattle.std.specs.Prelude.{ℕ, ◌≡◌, ◌-◌, ◌⊎◌, true, List, [], Option, Some, None, Result, Ok, Err}
+use Rattle.std.specs.Prelude.{codes, string_bytes}
 use Rattle.rtsp_text.specs.Fields.{header_value}
 use Rattle.rtsp_text.specs.Replies.{reply_front}
 use Rattle.rtsp_fields.specs.Values.{IsWithin}
@@ -15,13 +16,21 @@ use Rattle.session.specs.declared.states.Prepared.{Prepared}
 use Rattle.session.specs.Planning.{IsPlanned}
 use Rattle.session.specs.Playing.{playback_of}
 use Rattle.session.specs.declared.asks.Ask.{Ask}
-use Rattle.session.specs.declared.asks.Ask.TheVariants.{Reply, Play as AskPlay, Halt as AskHalt, Look as AskLook, Offer as AskOffer}
+use Rattle.session.specs.declared.asks.Ask.TheVariants.{Reply, Play as AskPlay, Halt as AskHalt}
+use Rattle.session.specs.declared.asks.Ask.TheVariants.{Look as AskLook, Offer as AskOffer}
 use Rattle.session.specs.declared.methods.Topic.{Topic}
-use Rattle.session.specs.declared.methods.Topic.TheVariants.{Nothing, Booked, Offer as OfferTopic, Unknown}
+use Rattle.session.specs.declared.methods.Topic.TheVariants.{Nothing, Booked, Offer as OfferTopic}
+use Rattle.session.specs.declared.methods.Topic.TheVariants.{Unknown}
 use Rattle.session.specs.declared.refusals.Refusal.{Refusal}
-use Rattle.session.specs.declared.refusals.Refusal.TheVariants.{Session as NoSession, State as NotNow, Parameter, Memory}
+use Rattle.session.specs.declared.refusals.Refusal.TheVariants.{Session as NoSession}
+use Rattle.session.specs.declared.refusals.Refusal.TheVariants.{State as NotNow, Parameter, Memory}
 use Rattle.session.specs.declared.refusals.Task.{Task}
-use Rattle.session.specs.declared.refusals.Task.TheVariants.{Options as ToOptions, Describe as ToDescribe, Setup as ToSetup, Play as ToPlay, Pause as ToPause, Teardown as ToTeardown, GetParameter as ToGetParameter}
+use Rattle.session.specs.declared.refusals.Task.TheVariants.{Options as ToOptions}
+use Rattle.session.specs.declared.refusals.Task.TheVariants.{Describe as ToDescribe}
+use Rattle.session.specs.declared.refusals.Task.TheVariants.{Setup as ToSetup, Play as ToPlay}
+use Rattle.session.specs.declared.refusals.Task.TheVariants.{Pause as ToPause}
+use Rattle.session.specs.declared.refusals.Task.TheVariants.{Teardown as ToTeardown}
+use Rattle.session.specs.declared.refusals.Task.TheVariants.{GetParameter as ToGetParameter}
 use Rattle.session.specs.declared.states.Awaited.TheVariants.{Play, Halt, Look, Offer}
 use Rattle.session.specs.declared.states.Next.{Next}
 use Rattle.session.specs.declared.states.Next.TheVariants.{Torn, Paused}
@@ -29,9 +38,11 @@ use Rattle.session.specs.declared.states.Play.{Play as Played}
 use Rattle.session.specs.declared.states.Setup.{Setup}
 use Rattle.session.specs.declared.states.State.{State}
 use Rattle.session.specs.declared.states.State.TheVariants.{Init, Ready, Playing, Stopping}
-use Rattle.session.specs.Films.{IsFilmAt, counts_after, identity_of, length_ms, ms_at, sending_of, timestamp_at}
+use Rattle.session.specs.Films.{IsFilmAt, counts_after, identity_of, length_ms, ms_at, sending_of}
+use Rattle.session.specs.Films.{timestamp_at}
 use Rattle.session.specs.Judging.{IsJudged, IsTopic, option_of, place_of}
-use Rattle.session.specs.Replies.{describe_text, plain_text, play_fields, public_text, refusal_text, session_text, setup_text}
+use Rattle.session.specs.Replies.{describe_text, plain_text, play_fields, public_text, refusal_text}
+use Rattle.session.specs.Replies.{session_text, setup_text}
 use Rattle.session.specs.Setups.{IsSetupRead}
 use Rattle.session.specs.Standings.{Standing, replied}
 

@@ -14,7 +14,8 @@ use Rattle.session.specs.declared.states.Setup.{Setup}
 use Rattle.session.specs.declared.states.Source.{Source}
 use Rattle.session.specs.declared.wanted.Wanted.{Wanted}
 use Rattle.session.specs.Films.{IsFilmAt, OfFilm}
-use Rattle.session.specs.Playing.{IsAskedRun, IsNoRange, IsRunOf, counts_for, curve_refusal, playback_of, run_of}
+use Rattle.session.specs.Playing.{IsAskedRun, IsNoRange, IsRunOf, counts_for, curve_refusal}
+use Rattle.session.specs.Playing.{playback_of, run_of}
 use Rattle.session.specs.Standings.{Standing}
 
 -- a paused run can be sent on

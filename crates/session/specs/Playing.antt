@@ -4,7 +4,8 @@ use Rattle.plan_cert.specs.declared.Segment.{Segment}
 use Rattle.plan_cert.specs.Slots.{total_bytes}
 use Rattle.mpeg_scan.specs.Rates.{picture_time}
 use Rattle.mpeg_scan.specs.declared.films.Film.{Film}
-use Rattle.wire_curve.specs.declared.film.CurveFault.TheVariants.{NoPictures, TooManySlots, BufferTooSmall}
+use Rattle.wire_curve.specs.declared.film.CurveFault.TheVariants.{NoPictures, TooManySlots}
+use Rattle.wire_curve.specs.declared.film.CurveFault.TheVariants.{BufferTooSmall}
 use Rattle.wire_curve.specs.declared.film.CurveRefused.{CurveRefused}
 use Rattle.wire_curve.specs.declared.film.CurveRefused.TheVariants.{Fault, NoMemory}
 use Rattle.film_frames.specs.declared.stores.Stored.{Stored}

@@ -1,12 +1,16 @@
 -- The replies of a session, whole (RFC 2326 sections 7 and 10).
-use Rattle.std.specs.Prelude.{ℕ, ◌++◌, List, [], ◌∷◌, Option, Some, None, length, codes, decimal, flat_map}
+use Rattle.std.specs.Prelude.{ℕ, ◌++◌, List, [], ◌∷◌, Option, Some, None, length, codes, decimal}
+use Rattle.std.specs.Prelude.{flat_map}
 use Rattle.std.specs.Int.{w32, to_be_bytes}
 use Rattle.hex.specs.Hex.{encode_lower}
 use Rattle.rtsp_text.specs.Replies.{Field, reply_text}
 use Rattle.rtsp_fields.specs.Descriptions.{description_text, seconds_text}
 use Rattle.early_start.specs.declared.Tried.{Tried}
 use Rattle.session.specs.declared.refusals.Refusal.{Refusal}
-use Rattle.session.specs.declared.refusals.Refusal.TheVariants.{BadRequest, Version, Method, Option as Required, Session, Film, State, Transport, Parameter, Buffer, Range, Memory}
+use Rattle.session.specs.declared.refusals.Refusal.TheVariants.{BadRequest, Version, Method}
+use Rattle.session.specs.declared.refusals.Refusal.TheVariants.{Option as Required, Session, Film}
+use Rattle.session.specs.declared.refusals.Refusal.TheVariants.{State, Transport, Parameter, Buffer}
+use Rattle.session.specs.declared.refusals.Refusal.TheVariants.{Range, Memory}
 
 abbrev pub field : List ℕ → List ℕ → Field
 field name value = record { name = name; value = value }

@@ -1,8 +1,10 @@
 -- What a session sends: in a slot, and as a reply, and what stands after it.
-use Rattle.std.specs.Prelude.{ℕ, ◌≡◌, ◌+◌, ◌-◌, ◌^◌, ◌++◌, ◌&&◌, nat_lt, nat_le, max, true, false, Bool, if◌then◌else◌, List, [], ◌∷◌, Option, Some, None}
+use Rattle.std.specs.Prelude.{ℕ, ◌≡◌, ◌+◌, ◌-◌, ◌^◌, ◌++◌, ◌&&◌, nat_lt, nat_le, max, true, false}
+use Rattle.std.specs.Prelude.{Bool, if◌then◌else◌, List, [], ◌∷◌, Option, Some, None}
 use Rattle.vod_base.specs.Links.{Doing, IsFrontTold, sends, told_more}
 use Rattle.film_frames.specs.Runs.{run_pieces}
-use Rattle.pacer.specs.Pacings.{is_done, plan_bytes, raised, stands_at_boundary, step_end, stepped, whole_pacing}
+use Rattle.pacer.specs.Pacings.{is_done, plan_bytes, raised, stands_at_boundary, step_end, stepped}
+use Rattle.pacer.specs.Pacings.{whole_pacing}
 use Rattle.session.specs.declared.states.Play.{Play as Played}
 use Rattle.session.specs.declared.states.Setup.{Setup}
 use Rattle.session.specs.declared.states.Next.{Next}

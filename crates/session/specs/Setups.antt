@@ -8,7 +8,10 @@ use Rattle.rtsp_fields.specs.declared.transports.Channels.{Channels}
 use Rattle.session.specs.declared.settings.Settings.{Settings}
 use Rattle.session.specs.declared.states.Setup.{Setup}
 use Rattle.session.specs.declared.refusals.Refusal.{Refusal}
-use Rattle.session.specs.declared.refusals.Refusal.TheVariants.{BadRequest, Version, Method, Option as Required, Session, Film, State, Transport, Parameter, Buffer, Range, Memory}
+use Rattle.session.specs.declared.refusals.Refusal.TheVariants.{BadRequest, Version, Method}
+use Rattle.session.specs.declared.refusals.Refusal.TheVariants.{Option as Required, Session, Film}
+use Rattle.session.specs.declared.refusals.Refusal.TheVariants.{State, Transport, Parameter, Buffer}
+use Rattle.session.specs.declared.refusals.Refusal.TheVariants.{Range, Memory}
 
 -- the channels of the first transport that can be taken
 abbrev pub AreChannelsOf : Option (List ℕ) → Channels → Type 0

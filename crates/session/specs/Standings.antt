@@ -1,5 +1,6 @@
 -- What contracts see of a session, and the words in which its callers speak of it.
-use Rattle.std.specs.Prelude.{ℕ, ◌≡◌, ◌≤◌, ◌^◌, ◌&&◌, ◌++◌, ◌∷◌, Bool, true, false, if◌then◌else◌, nat_lt, nat_le, List, [], Option, Some, None, ⊤}
+use Rattle.std.specs.Prelude.{ℕ, ◌≡◌, ◌≤◌, ◌^◌, ◌&&◌, ◌++◌, ◌∷◌, Bool, true, false, if◌then◌else◌}
+use Rattle.std.specs.Prelude.{nat_lt, nat_le, List, [], Option, Some, None, ⊤}
 use Rattle.plan_cert.specs.declared.Segment.{Segment}
 use Rattle.film_frames.specs.declared.stores.Stored.{Stored}
 pub use Rattle.session.specs.Ranges.{AreFilms, AreSettings}
@@ -9,7 +10,8 @@ use Rattle.session.specs.declared.notes.PlayNote.{PlayNote}
 use Rattle.session.specs.declared.notes.OfferNote.{OfferNote}
 use Rattle.plan_cert.specs.Slots.{total_bytes}
 use Rattle.session.specs.declared.asks.Ask.{Ask}
-use Rattle.session.specs.declared.asks.Ask.TheVariants.{Reply, Play as AskPlay, Halt as AskHalt, Look as AskLook, Offer as AskOffer}
+use Rattle.session.specs.declared.asks.Ask.TheVariants.{Reply, Play as AskPlay, Halt as AskHalt}
+use Rattle.session.specs.declared.asks.Ask.TheVariants.{Look as AskLook, Offer as AskOffer}
 use Rattle.session.specs.declared.asks.Slotted.{Slotted}
 use Rattle.session.specs.declared.asks.Slotted.TheVariants.{Going, Finished}
 use Rattle.session.specs.declared.states.Awaited.{Awaited}

@@ -4,9 +4,15 @@ use Rattle.rtsp_text.specs.Lines.{is_one_line}
 use Rattle.session.specs.declared.refusals.Asked.{Asked}
 use Rattle.session.specs.declared.refusals.Place.{Place}
 use Rattle.session.specs.declared.refusals.Task.{Task}
-use Rattle.session.specs.declared.refusals.Task.TheVariants.{Options as ToOptions, Describe as ToDescribe, Setup as ToSetup, Play as ToPlay, Pause as ToPause, Teardown as ToTeardown, GetParameter as ToGetParameter}
+use Rattle.session.specs.declared.refusals.Task.TheVariants.{Options as ToOptions}
+use Rattle.session.specs.declared.refusals.Task.TheVariants.{Describe as ToDescribe}
+use Rattle.session.specs.declared.refusals.Task.TheVariants.{Setup as ToSetup, Play as ToPlay}
+use Rattle.session.specs.declared.refusals.Task.TheVariants.{Pause as ToPause}
+use Rattle.session.specs.declared.refusals.Task.TheVariants.{Teardown as ToTeardown}
+use Rattle.session.specs.declared.refusals.Task.TheVariants.{GetParameter as ToGetParameter}
 use Rattle.session.specs.declared.methods.Method.{Method}
-use Rattle.session.specs.declared.methods.Method.TheVariants.{Options, Describe, Setup, Play, Pause, Teardown, GetParameter}
+use Rattle.session.specs.declared.methods.Method.TheVariants.{Options, Describe, Setup, Play, Pause}
+use Rattle.session.specs.declared.methods.Method.TheVariants.{Teardown, GetParameter}
 
 -- a film of the server, under an authority that a reply repeats
 pub record IsAsked (films : ℕ) (asked : Asked) : Type 0 where

@@ -1,5 +1,6 @@
 -- What replies tell, as a reader of RFC 2326's grammars finds it in their fields.
-use Rattle.std.specs.Prelude.{ℕ, ◌≡◌, ◌+◌, ◌*◌, ◌%◌, ◌^◌, ◌<◌, ◌≤◌, ◌++◌, List, [], ◌∷◌, Some, codes, decimal, string_bytes, length}
+use Rattle.std.specs.Prelude.{ℕ, ◌≡◌, ◌+◌, ◌*◌, ◌%◌, ◌^◌, ◌<◌, ◌≤◌, ◌++◌, List, [], ◌∷◌, Some}
+use Rattle.std.specs.Prelude.{codes, decimal, string_bytes, length}
 use Rattle.std.specs.Int.{w32, to_be_bytes}
 use Rattle.hex.specs.Hex.{encode_lower}
 use Rattle.mpeg_scan.specs.Rates.{picture_time}
@@ -14,7 +15,10 @@ use Rattle.rtsp_fields.specs.declared.ranges.Origin.TheVariants.{At}
 use Rattle.rtsp_text.specs.Replies.{Field, reply_front, reply_text, value_named}
 use Rattle.session.specs.declared.plans.Planned.{Planned}
 use Rattle.session.specs.declared.refusals.Refusal.{Refusal}
-use Rattle.session.specs.declared.refusals.Refusal.TheVariants.{BadRequest, Version, Method, Option as Required, Session, Film as NoFilm, State, Transport, Parameter, Buffer, Range, Memory}
+use Rattle.session.specs.declared.refusals.Refusal.TheVariants.{BadRequest, Version, Method}
+use Rattle.session.specs.declared.refusals.Refusal.TheVariants.{Option as Required, Session}
+use Rattle.session.specs.declared.refusals.Refusal.TheVariants.{Film as NoFilm, State, Transport}
+use Rattle.session.specs.declared.refusals.Refusal.TheVariants.{Parameter, Buffer, Range, Memory}
 use Rattle.session.specs.declared.states.Setup.{Setup}
 use Rattle.session.specs.declared.states.Source.{Source}
 use Rattle.session.specs.Films.{sending_of}

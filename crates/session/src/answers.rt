@@ -5,9 +5,11 @@ ghost use Rattle.rtsp_text.specs.Replies.{Field, reply_front};
 ghost use Rattle.session.specs.Sendings.{halted_in, halted_notes, kept_of, next_of};
 ghost use Rattle.admission.specs.declared.entries.Answer.{Answer};
 ghost use Rattle.session.specs.declared.notes.Receipt.{Receipt};
-ghost use Rattle.session.specs.Standings.{AreNotesKept, IsAtRest, IsHalt, IsHandedIn, IsLook, IsOffer, IsPlay, IsPlayOrLook};
+ghost use Rattle.session.specs.Standings.{AreNotesKept, IsAtRest, IsHalt, IsHandedIn, IsLook};
+ghost use Rattle.session.specs.Standings.{IsOffer, IsPlay, IsPlayOrLook};
 ghost use Rattle.session.specs.Standings.{awaits, booking_of, open_of, sequence_of};
-ghost use Rattle.session.specs.Hearings.{Halts, after_admission, after_full, after_look, after_offer, after_overflow};
+ghost use Rattle.session.specs.Hearings.{Halts, after_admission, after_full, after_look};
+ghost use Rattle.session.specs.Hearings.{after_offer, after_overflow};
 ghost use Rattle.session.specs.Replies.{play_text};
 ghost use Rattle.session.specs.Steps.{IsPlayIn};
 

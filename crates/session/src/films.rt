@@ -1,13 +1,15 @@
 //! The films of a session, and what is sent of them.
 
-ghost use Rattle.std.specs.Prelude.{◌≡◌, ◌+◌, ◌*◌, ◌%◌, ◌^◌, ◌<◌, ◌≤◌, ℕ, true, length, string_bytes};
+ghost use Rattle.std.specs.Prelude.{◌≡◌, ◌+◌, ◌*◌, ◌%◌, ◌^◌, ◌<◌, ◌≤◌, ℕ, true, length};
+ghost use Rattle.std.specs.Prelude.{string_bytes};
 ghost use Rattle.vod_base.specs.Names.{is_good_name};
 ghost use Rattle.mpeg_scan.specs.Rates.{picture_time};
 ghost use Rattle.film_frames.specs.Runs.{run_pieces};
 ghost use Rattle.film_frames.specs.Tracks.{framed};
 ghost use Rattle.film_run.specs.Runs.{bytes_between};
 ghost use Rattle.film_run.specs.Units.{IsTrace, stored_sizes};
-ghost use Rattle.session.specs.Films.{IsFilmAt, counts_after, identity_of, length_ms, ms_at, sending_of, timestamp_at};
+ghost use Rattle.session.specs.Films.{IsFilmAt, counts_after, identity_of, length_ms, ms_at};
+ghost use Rattle.session.specs.Films.{sending_of, timestamp_at};
 ghost use Rattle.session.specs.Ranges.{AreFilms};
 
 use crate::states::{Counts, Setup, Source};

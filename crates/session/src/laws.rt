@@ -18,15 +18,20 @@ ghost use Rattle.session.specs.declared.states.Source.{Source};
 ghost use Rattle.session.specs.declared.states.State.TheVariants.{Playing};
 ghost use Rattle.session.specs.declared.wanted.Wanted.TheVariants.{New};
 ghost use Rattle.session.specs.Films.{counts_after, identity_of, sending_of};
-ghost use Rattle.session.specs.Changes.{AsksOrLacks, CanBePlayed, ChangesState, IsSameGround, RefusesNone};
-ghost use Rattle.session.specs.Hearings.{Hears, after_admission, after_full, after_halt, after_look, after_overflow};
-ghost use Rattle.session.specs.Laws.{GoesOn, InitStage, Is500, IsNoHalt, IsOneHearing, IsWanting, LeavesOr, NeverLacks, PlayingStage, PlaysOn, ReadyStage, Resumes, StaysOr};
+ghost use Rattle.session.specs.Changes.{AsksOrLacks, CanBePlayed, ChangesState, IsSameGround};
+ghost use Rattle.session.specs.Changes.{RefusesNone};
+ghost use Rattle.session.specs.Hearings.{Hears, after_admission, after_full, after_halt};
+ghost use Rattle.session.specs.Hearings.{after_look, after_overflow};
+ghost use Rattle.session.specs.Laws.{GoesOn, InitStage, Is500, IsNoHalt, IsOneHearing, IsWanting};
+ghost use Rattle.session.specs.Laws.{LeavesOr, NeverLacks, PlayingStage, PlaysOn, ReadyStage};
+ghost use Rattle.session.specs.Laws.{Resumes, StaysOr};
 ghost use Rattle.session.specs.Methods.{Describes, IsSetUp, play_front};
 ghost use Rattle.session.specs.Planning.{IsPlannedRun};
 ghost use Rattle.session.specs.Ranges.{AreFilms};
 ghost use Rattle.session.specs.Replies.{code_of};
 ghost use Rattle.session.specs.Standings.{Standing, sequence_of};
-ghost use Rattle.session.specs.Telling.{IsFilmTold, IsFullTold, IsLookTold, IsOverflowTold, IsPlayTold, IsSetupTold, IsShort, IsStartTold, phrase_of};
+ghost use Rattle.session.specs.Telling.{IsFilmTold, IsFullTold, IsLookTold, IsOverflowTold};
+ghost use Rattle.session.specs.Telling.{IsPlayTold, IsSetupTold, IsShort, IsStartTold, phrase_of};
 
 /// A reply other than 200 leaves all of the session but the reply (RFC 2326 section 7.1.1).
 pub fn law_refusal_leaves()

@@ -4,7 +4,8 @@ ghost use Rattle.std.specs.Prelude.{◌≡◌, ℕ, List, Option, length, option
 ghost use Rattle.film_run.specs.Plans.{IsPlayback};
 ghost use Rattle.session.specs.Films.{OfFilm};
 ghost use Rattle.session.specs.Planning.{IsPausedIn, IsPlanned};
-ghost use Rattle.session.specs.Playing.{IsAskedRun, IsPlayable, IsRunOf, counts_before, counts_for, curve_refusal, playback_of, run_of};
+ghost use Rattle.session.specs.Playing.{IsAskedRun, IsPlayable, IsRunOf, counts_before, counts_for};
+ghost use Rattle.session.specs.Playing.{curve_refusal, playback_of, run_of};
 ghost use Rattle.session.specs.Ranges.{AreSettings, IsSetup};
 
 use crate::films::{counts_after, frames_of, picture_time, stored_at};

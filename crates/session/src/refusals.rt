@@ -1,6 +1,9 @@
-ghost use Rattle.std.specs.Prelude.{◌≡◌, ◌≢◌, ◌<◌, ◌≤◌, ℕ, true, List, length, is_some, string_bytes, IfOk, IsTrue, IfSome, MatchOption, ◌↔◌, option_map};
+ghost use Rattle.std.specs.Prelude.{◌≡◌, ◌≢◌, ◌<◌, ◌≤◌, ℕ, true, List, length, is_some};
+ghost use Rattle.std.specs.Prelude.{string_bytes, IfOk, IsTrue, IfSome, MatchOption, ◌↔◌};
+ghost use Rattle.std.specs.Prelude.{option_map};
 ghost use Rattle.session.specs.Films.{IsFilmNamed, Names};
-ghost use Rattle.session.specs.Judging.{FitsFilm, FitsSession, FitsState, IsJudged, fault_refusal, option_of, required_of, task_for};
+ghost use Rattle.session.specs.Judging.{FitsFilm, FitsSession, FitsState, IsJudged, fault_refusal};
+ghost use Rattle.session.specs.Judging.{option_of, required_of, task_for};
 ghost use Rattle.session.specs.Ranges.{AreFilms};
 ghost use Rattle.rtsp_text.specs.Lines.{is_one_line};
 ghost use Rattle.session.specs.Tasks.{IsAsked, IsTask, IsValid, NeedsSession};

@@ -1,8 +1,11 @@
 //! The replies, each from its status line to its body (RFC 2326 section 7).
 
-ghost use Rattle.session.specs.Replies.{code_of, refusal_fields, refusal_text, public_text, describe_text, setup_text, session_text};
-ghost use Rattle.session.specs.Replies.{plain_text, play_fields, play_text, overflow_text, full_text, parameters_text};
-ghost use Rattle.std.specs.Prelude.{◌≡◌, ◌≤◌, IsTrue, true, length, string_bytes, ℕ, List, Option, Some, [], decimal};
+ghost use Rattle.session.specs.Replies.{code_of, refusal_fields, refusal_text, public_text};
+ghost use Rattle.session.specs.Replies.{describe_text, setup_text, session_text};
+ghost use Rattle.session.specs.Replies.{plain_text, play_fields, play_text, overflow_text};
+ghost use Rattle.session.specs.Replies.{full_text, parameters_text};
+ghost use Rattle.std.specs.Prelude.{◌≡◌, ◌≤◌, IsTrue, true, length, string_bytes, ℕ, List, Option};
+ghost use Rattle.std.specs.Prelude.{Some, [], decimal};
 ghost use Rattle.session.specs.Films.{counts_after, identity_of, ms_at, timestamp_at};
 ghost use Rattle.session.specs.Hearings.{started_text};
 ghost use Rattle.std.specs.Int.{w32, to_be_bytes};

@@ -1,6 +1,7 @@
 //! Requests, method by method.
 
-ghost use Rattle.std.specs.Prelude.{◌≡◌, ◌<◌, ◌≤◌, ℕ, true, false, length, is_some, IfOk, IfSome, MatchOption, Ok};
+ghost use Rattle.std.specs.Prelude.{◌≡◌, ◌<◌, ◌≤◌, ℕ, true, false, length, is_some, IfOk, IfSome};
+ghost use Rattle.std.specs.Prelude.{MatchOption, Ok};
 ghost use Rattle.interleave.specs.Pieces.{IsRequestLength};
 ghost use Rattle.rtsp_text.specs.Lines.{is_one_line};
 ghost use Rattle.session.specs.declared.asks.Ask.{Ask};
@@ -9,11 +10,13 @@ ghost use Rattle.session.specs.Playing.{IsPlayable};
 ghost use Rattle.session.specs.Ranges.{IsSetup};
 ghost use Rattle.session.specs.Films.{OfFilm};
 ghost use Rattle.session.specs.Judging.{place_of};
-ghost use Rattle.session.specs.Methods.{AsksOfferOr, AsksPlayOr, Describes, GetsParameter, HasWait, HearsRequest, Looks, GetsOffer, OffersReady};
+ghost use Rattle.session.specs.Methods.{AsksOfferOr, AsksPlayOr, Describes, GetsParameter, HasWait};
+ghost use Rattle.session.specs.Methods.{HearsRequest, Looks, GetsOffer, OffersReady};
 ghost use Rattle.session.specs.Methods.{Pauses, Plays, SetsUp, TearsDown};
 ghost use Rattle.session.specs.Planning.{IsPausedIn};
 ghost use Rattle.session.specs.Replies.{refusal_text};
-ghost use Rattle.session.specs.Standings.{AsksFor, CanHear, IsAtRest, IsReadyIn, IsSameBusiness, has_session_in, is_playing_in, replied};
+ghost use Rattle.session.specs.Standings.{AsksFor, CanHear, IsAtRest, IsReadyIn, IsSameBusiness};
+ghost use Rattle.session.specs.Standings.{has_session_in, is_playing_in, replied};
 
 use crate::asks::Ask;
 use crate::films::{frames_of, length_ms, stored_at};

@@ -1,12 +1,17 @@
 //! Slots, and the replies that go out between frames.
 
-ghost use Rattle.std.specs.Prelude.{◌≡◌, ◌-◌, ◌<◌, ◌≤◌, ◌++◌, ◌&&◌, is_some, IfOk, IfSome, OnErr, OnOk, false, true, max, if◌then◌else◌};
+ghost use Rattle.std.specs.Prelude.{◌≡◌, ◌-◌, ◌<◌, ◌≤◌, ◌++◌, ◌&&◌, is_some, IfOk, IfSome, OnErr};
+ghost use Rattle.std.specs.Prelude.{OnOk, false, true, max, if◌then◌else◌};
 ghost use Rattle.vod_base.specs.Outside.{HasRisen};
 ghost use Rattle.vod_base.specs.Links.{IsFrontTold, sends, told_more};
-ghost use Rattle.session.specs.Sendings.{HasFailed, IsFinished, IsTold, can_reply, due_bytes, due_state, finished_in, is_between, is_done_in};
-ghost use Rattle.session.specs.Sendings.{is_sending, is_taken, sent_in, sent_reply, slotted, start_in, step_bytes, stepped_in};
-ghost use Rattle.session.specs.Steps.{IsCarried, IsEven, IsHaltIn, IsLeft, IsPacingIn, IsPlayIn, settled};
-ghost use Rattle.session.specs.Standings.{AreNotesKept, Brings, BringsIn, IsAtRest, IsSameBooking, NoAnswer, awaits_of, open_in, open_of, taken_up};
+ghost use Rattle.session.specs.Sendings.{HasFailed, IsFinished, IsTold, can_reply, due_bytes};
+ghost use Rattle.session.specs.Sendings.{due_state, finished_in, is_between, is_done_in};
+ghost use Rattle.session.specs.Sendings.{is_sending, is_taken, sent_in, sent_reply, slotted};
+ghost use Rattle.session.specs.Sendings.{start_in, step_bytes, stepped_in};
+ghost use Rattle.session.specs.Steps.{IsCarried, IsEven, IsHaltIn, IsLeft, IsPacingIn, IsPlayIn};
+ghost use Rattle.session.specs.Steps.{settled};
+ghost use Rattle.session.specs.Standings.{AreNotesKept, Brings, BringsIn, IsAtRest, IsSameBooking};
+ghost use Rattle.session.specs.Standings.{NoAnswer, awaits_of, open_in, open_of, taken_up};
 
 use crate::asks::Slotted;
 use crate::sessions::Session;

@@ -3,7 +3,8 @@
 ghost use Rattle.std.specs.Prelude.{◌≡◌, ℕ, MatchOption, option_map};
 ghost use Rattle.rtsp_fields.specs.declared.ranges.Span.{Span};
 ghost use Rattle.film_run.specs.Seeks.{HasNothing};
-ghost use Rattle.session.specs.Playing.{IsAskedRun, IsNewRun, IsNoRange, IsSpanOf, IsWanted, WantsNothing};
+ghost use Rattle.session.specs.Playing.{IsAskedRun, IsNewRun, IsNoRange, IsSpanOf, IsWanted};
+ghost use Rattle.session.specs.Playing.{WantsNothing};
 
 use film_run::{Run, run_between};
 use mpeg_scan::Film;
