@@ -15,3 +15,5 @@ pub mod Curves
 pub mod Woven
 pub mod Promised
 pub mod OneFilm
+pub mod Told
+pub mod Asked

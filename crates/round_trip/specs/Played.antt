@@ -12,6 +12,8 @@ use Rattle.film_run.specs.declared.runs.Run.{Run}
 use Rattle.film_run.specs.Laws.{IsSending}
 use Rattle.film_run.specs.Units.{stored_sizes}
 use Rattle.rtsp_client.specs.declared.wishes.Wish.{Wish}
+use Rattle.session.specs.declared.states.Setup.{Setup}
+use Rattle.session.specs.declared.settings.Settings.{Settings}
 use Rattle.transcript.specs.Courses.{Course, course_plays}
 use Rattle.transcript.specs.Plays.{FilmPlay}
 use Rattle.transcript.specs.Replies.{PlacedText, course_texts, placed_text}
@@ -74,3 +76,9 @@ pub record IsPlayed (wish : Wish) (stored : Stored) (course : Course) : Type 0 w
   pub setup_is : IsMessage setup
   pub played_is : IsMessage played
   pub after : AreAfter (length (framed (film_blocks stored identity))) later
+
+-- a session was set up for a client that wishes so
+pub record IsSetUpFor (wish : Wish) (settings : Settings) (setup : Setup) : Type 0 where
+  pub slots : settings.slot_units ≡ wish.slot_units
+  pub buffer : setup.buffer ≡ wish.buffer
+  pub delay : setup.delay ≡ wish.startup

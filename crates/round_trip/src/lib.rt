@@ -4,7 +4,7 @@
 
 mod laws;
 
-pub use laws::law_watched_whole;
+pub use laws::{law_play_read, law_units_counted, law_watched_whole, law_whole_asked};
 
 #[cfg(test)]
 mod tests;

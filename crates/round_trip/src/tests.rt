@@ -34,6 +34,13 @@ const SETTINGS: Settings = Settings {
 /// The client's slot when it hears the reply to PLAY.
 const BEFORE: u64 = 70;
 
+const PLAY: &str =
+    "PLAY rtsp://127.0.0.1:8554/film.mpg RTSP/1.0\r\nCSeq: 2\r\nSession: 0123456789abcdef\r\n\
+    Range: npt=0-\r\n\r\n";
+
+const TEARDOWN: &str =
+    "TEARDOWN rtsp://127.0.0.1:8554/film.mpg RTSP/1.0\r\nCSeq: 3\r\nSession: 0123456789abcdef\r\n\r\n";
+
 /// A server's film of so many pictures.
 #[tactic(auto, using(crate::proofs::OneFilm::one_film))]
 fn server_films(rt: &impl Abort, alloc: Global, pictures: u32) -> Result<Vec<Stored>, NoMemory>
@@ -120,23 +127,14 @@ fn carried<R: Wait + Abort>(
     Ok(events)
 }
 
-/// The client's requests for a buffer and a start delay.
-fn requests_of(alloc: Global, buffer: u64, startup: u64) -> Result<[String; 3], NoMemory> {
-    Ok([
-        format!(in alloc;
-            "SETUP rtsp://127.0.0.1:8554/film.mpg/video RTSP/1.0\r\nCSeq: 1\r\n\
-            Transport: RTP/AVP/TCP;unicast;interleaved=0-1\r\nx-Buffer: {buffer}\r\n\
-            x-Startup: {startup}\r\n\r\n"
-        )?,
-        format!(in alloc;
-            "PLAY rtsp://127.0.0.1:8554/film.mpg RTSP/1.0\r\nCSeq: 2\r\n\
-            Session: 0123456789abcdef\r\nRange: npt=0-\r\n\r\n"
-        )?,
-        format!(in alloc;
-            "TEARDOWN rtsp://127.0.0.1:8554/film.mpg RTSP/1.0\r\nCSeq: 3\r\n\
-            Session: 0123456789abcdef\r\n\r\n"
-        )?,
-    ])
+/// The client's first request, for a buffer and a start delay.
+fn setup_request(alloc: Global, buffer: u64, startup: u64) -> Result<String, NoMemory> {
+    let text = format!(in alloc;
+        "SETUP rtsp://127.0.0.1:8554/film.mpg/video RTSP/1.0\r\nCSeq: 1\r\n\
+        Transport: RTP/AVP/TCP;unicast;interleaved=0-1\r\nx-Buffer: {buffer}\r\n\
+        x-Startup: {startup}\r\n\r\n"
+    )?;
+    Ok(text)
 }
 
 /// Watches the film of so many pictures over the link that carries it.
@@ -148,8 +146,8 @@ fn watch_film<R: Wait + Abort>(
     startup: u64,
 ) -> Result<(), NoMemory> {
     let films = server_films(rt, alloc, pictures)?;
-    let [setup, play, teardown] = requests_of(alloc, buffer, startup)?;
-    let requests = [setup.as_str(), play.as_str(), teardown.as_str()];
+    let setup = setup_request(alloc, buffer, startup)?;
+    let requests = [setup.as_str(), PLAY, TEARDOWN];
     assert!(rt; pictures <= 100 && startup <= 100);
     let events = carried(
         rt,
