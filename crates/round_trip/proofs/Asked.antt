@@ -37,7 +37,7 @@ asked-plan wish stored source settings setup counts plan wished set is =
     let film = stored.film in
     let sizes = stored_sizes stored in
     let same : session_playback film settings setup ≡ playback_of wish stored =
-        playback-same (session_playback film settings setup) (playback_of wish stored) refl set.slots set.buffer set.delay in
+    playback-same (session_playback film settings setup) (playback_of wish stored) refl set.slots set.buffer set.delay in
     let rate = film-rate (read [] film.bytes.items) film.grammar.accepted in
     let time = time_bounds film.rate (omega (arith, film.grammar.rate, rate.0)) (omega (arith, film.grammar.rate, rate.1)) in
     let P : Playback → Type 0 = λ p. IsPlanOf sizes p (whole_run stored) plan in

@@ -58,8 +58,8 @@ kept-command (LookCommand slot) = inl (λ later. refl)
 kept-outcome : (outcome : Outcome) → IsKeptSome (kept_with outcome)
 kept-outcome Unasked = inl (λ later. refl)
 kept-outcome (Entered placed) = kept-command placed.entry.command
-kept-outcome (WasFull entries live) = inl (λ later. refl)
-kept-outcome (Offered note) = inl (λ later. refl)
+kept-outcome (WasFull more entries live) = inl (λ later. refl)
+kept-outcome (Offered slot note) = inl (λ later. refl)
 
 kept-both : (one two : ℕ → ℕ) → IsKeptSome one → IsKeptSome two → IsKeptSome (λ later. one (two later))
 kept-both one two (inl same) (inl other) = inl (λ later. same (two later) ∙ other later)
@@ -103,8 +103,8 @@ entered-either (Offer sequence) placed answer is = BeginsNone (λ askings. refl)
 either : (asked : Awaited) (outcome : Outcome) → Beginning asked outcome
 either asked Unasked = BeginsNone (λ askings. refl)
 either asked (Entered placed) = entered-either asked placed placed.entry.answer refl
-either asked (WasFull entries live) = BeginsNone (λ askings. refl)
-either asked (Offered note) = BeginsNone (λ askings. refl)
+either asked (WasFull more entries live) = BeginsNone (λ askings. refl)
+either asked (Offered slot note) = BeginsNone (λ askings. refl)
 
 -- no play so far: all come later
 none-by : (asked : Awaited) (outcome : Outcome) (a b : List Asking) → (plays_of a ≡ [] → plays_of (a ++ b) ≡ plays_of b) → Beginning asked outcome → plays_of (Asks asked outcome ∷ a) ≡ []
@@ -232,13 +232,13 @@ takes-late old new (Answered message outcome parts ∷ takings) takes stands =
 halt-none : (asked : Awaited) (halt : Outcome) (s new : Standing) → IsFinished (awaits_of asked) s halt new → (askings : List Asking) → begun asked halt askings ≡ []
 halt-none Nothing Unasked s new is = λ askings. refl
 halt-none Nothing (Entered placed) s new is = absurd is
-halt-none Nothing (WasFull entries live) s new is = λ askings. refl
-halt-none Nothing (Offered note) s new is = λ askings. refl
+halt-none Nothing (WasFull more entries live) s new is = λ askings. refl
+halt-none Nothing (Offered slot note) s new is = λ askings. refl
 halt-none (Play prepared) halt s new is = absurd is
 halt-none (Halt keep next) Unasked s new is = λ askings. refl
 halt-none (Halt keep next) (Entered placed) s new is = λ askings. refl
-halt-none (Halt keep next) (WasFull entries live) s new is = λ askings. refl
-halt-none (Halt keep next) (Offered note) s new is = λ askings. refl
+halt-none (Halt keep next) (WasFull more entries live) s new is = λ askings. refl
+halt-none (Halt keep next) (Offered slot note) s new is = λ askings. refl
 halt-none (Look sequence) halt s new is = absurd is
 halt-none (Offer sequence) halt s new is = absurd is
 
