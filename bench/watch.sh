@@ -2,11 +2,11 @@
 # Films watched over loopback, and the meter beside the plan: bench/watch.sh [PROGRAM] [PICTURES]
 #
 # PROGRAM is the built vodserve (default: ../crates/vodserve/out/vodserve); PICTURES the film's length at 25 pictures a
-# second (default 15000, ten minutes). Needs python3 and ffmpeg (Debian package ffmpeg). One server serves the film, and
-# `watch` plays it at several buffers, start delays and slots, all at once. Each copy is compared with the film, and the
-# meter's greatest level stands beside the one that the plan has. Prints one line for each; ends with status 1 where a copy
-# differs, and 2 where nothing could be tried. It takes twice the film's time. All files are made in a folder that is
-# removed again, and the server is stopped in any case.
+# second (default 15000, ten minutes). Needs python3 and ffmpeg (Debian package ffmpeg). A server for each of two lengths of
+# slot serves the film, and `watch` plays it at several buffers and start delays, all at once. Each copy is compared with the
+# film; the meter's greatest level stands beside the one that the plan has. Prints one line for each; ends with status 1
+# where a copy differs, and 2 where nothing could be tried. It takes the film's time. All files are made in a folder that is
+# removed again, and the servers are stopped in any case.
 set -u
 here=$(cd "$(dirname "$0")" && pwd)
 program=$(realpath "${1:-$here/../crates/vodserve/out/vodserve}")

@@ -1,13 +1,14 @@
 #!/usr/bin/env python3
 """Watches a film at several buffers, start delays and slots at once: play.py PROGRAM FOLDER FILM
 
-A server is started for each length of slot. Beside the meter of each `watch` stands what the film's plan has for it: the most
+A server runs for each length of slot. Beside the meter of each `watch` stands what the film's plan has for it: the most
 that waits in the client's buffer at the begin of a slot, by the certificate that `plan` prints and the sizes of the film's units
 on the wire, which are cut here anew (../sizes.py). Prints one line for each; ends with status 1 where a copy isn't the film or
 a play has not its one halt. The counts of slots over and under are only printed: the server's slots and the client's begin at
 any time of each other, and bytes wait in sockets.
 """
 
+import contextlib
 import re
 import subprocess
 import sys
@@ -89,24 +90,27 @@ def main():
     units = wire_sizes(film)
     print(f"film of {len(film)} bytes, {len(units)} units, {sum(units)} bytes on the wire, the largest {max(units)}")
     good = True
-    for slot in SLOTS:
-        clients = len(CLIENTS)
-        with serving.Server(
-            program, folder, [name], slot=slot, capacity=100000000, workers=clients, connections=1
-        ) as server:
-            watches = [Watch(program, folder, name, server.port, *client, slot) for client in CLIENTS]
+    with contextlib.ExitStack() as stack:
+        served = []
+        for slot in SLOTS:
+            place = folder / str(slot)
+            place.mkdir()
+            (place / name).symlink_to(folder / name)
+            words = {"slot": slot, "capacity": 100000000, "workers": len(CLIENTS), "connections": 1}
+            server = stack.enter_context(serving.Server(program, place, [name], **words))
+            served.append((server, [Watch(program, place, name, server.port, *client, slot) for client in CLIENTS]))
+        for _, watches in served:
             for watch in watches:
                 watch.start()
+        for server, watches in served:
             for watch in watches:
                 watch.join()
-            text, _ = server.finish()
-        for watch in watches:
-            line, is_good = watch.told(program, name, film, units)
-            print(line, flush=True)
-            good = good and is_good
-        faults = serving.Journal(text).faults()
-        print("the server's journal:", "; ".join(faults) or "each play has its halt", flush=True)
-        good = good and not faults
+                line, is_good = watch.told(program, name, film, units)
+                print(line, flush=True)
+                good = good and is_good
+            faults = serving.Journal(server.finish()[0]).faults()
+            print("the server's journal:", "; ".join(faults) or "each play has its halt", flush=True)
+            good = good and not faults
     sys.exit(0 if good else 1)
 
 
