@@ -108,7 +108,7 @@ fn reads_files(rt: HostRuntime) -> Result<(), Fail> {
 #[test]
 fn dials_over_loopback(rt: HostRuntime) -> Result<(), Fail> {
     let mut gate = TcpGate::new(&rt, rt.alloc());
-    assert_eq!(rt; gate.open(&HOW), Ok(()));
+    assert_eq!(rt; gate.open(&Opening { all: true, ..HOW }), Ok(()));
     let Some(port) = gate.port() else {
         return Err(Fail::from("no port"));
     };
