@@ -6,9 +6,12 @@ ghost use Rattle.session.specs.Ranges.{AreFilms};
 use crate::films::server_films;
 use crate::links::{Failing, Visit, serve_all, station_of};
 use admission::{Answer, Book};
-use conn::ConnEnd;
+use conn::{ConnEnd, ConnReport};
 use film_frames::Stored;
+use plan_cert::Segment;
+use session::{PlayNote, Receipt};
 use std::alloc::Global;
+use std::mem::size_of;
 use std::process::Abort;
 use std::sync::Wait;
 use std::test::Fail;
@@ -192,6 +195,23 @@ calendar from=0
 at 1 booked=35
 end
 
+50000 1024
+# the third send fails, of the report's first 35 bytes: the booking keeps what is due
+hears SETUP rtsp://h/b.mpg RTSP/1.0|CSeq: 1|Transport: RTP/AVP/TCP;unicast;interleaved=0-1|x-Startup: 2||
+hears PLAY rtsp://h/b.mpg RTSP/1.0|CSeq: 2|Session: 0123456789abcdef||
+slot 1
+slot 2
+serve 3
+says RTSP/1.0 200 OK|CSeq: 1|Transport: RTP/AVP/TCP;unicast;interleaved=0-1;ssrc=01020304|Session: 0123456789abcdef||
+says RTSP/1.0 200 OK|CSeq: 2|Session: 0123456789abcdef|Range: npt=0.000-0.080|RTP-Info: url=rtsp://h/b.mpg/video;seq=1;rtptime=0|x-Start: 1||
+ends LinkFault 0
+journal
+0 seat=0 play slot=0 slots=4 bytes=141 admitted start=1
+1 seat=0 halt number=0 keep=35 halted
+calendar from=0
+at 1 booked=35
+end
+
 50000 2
 # a journal of two entries has room for a play and its halt; what waits after a TEARDOWN isn't heard
 hears SETUP rtsp://h/b.mpg RTSP/1.0|CSeq: 1|Transport: RTP/AVP/TCP;unicast;interleaved=0-1|x-Startup: 2||
@@ -247,6 +267,17 @@ slot 1
 slot 2
 slot 5
 hears TEARDOWN rtsp://h/b.mpg RTSP/1.0|CSeq: 3|Session: 0123456789abcdef||";
+
+/// What stays of an ended connection: its report, with a receipt for each answer of the station and
+/// a note, with a plan, for each play. A connection that set up, played and tore down leaves a
+/// report, two receipts, a note and the segments of its plan.
+const _: () = prove!(size_of::<ConnReport>() == 112);
+
+const _: () = prove!(size_of::<Receipt>() <= 48);
+
+const _: () = prove!(size_of::<PlayNote>() == 128);
+
+const _: () = prove!(size_of::<Segment>() == 16);
 
 /// The slot that was heard before each send, from the first: two replies, a send in slot 1, two in
 /// slot 2, four in slot 5, a reply.

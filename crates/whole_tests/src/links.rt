@@ -186,12 +186,14 @@ impl Visit {
         requires films { AreFilms films.now }
         ensures { IsSameSeat seat.old seat.new }
     {
-        if line == "serve" {
-            let none = Failing {
-                sends: &[],
+        let (word, rest) = word_and_rest(line);
+        if word == "serve" {
+            let [number, ..] = numbers_of(rest);
+            let failing = Failing {
+                sends: &[number],
                 nexts: &[],
             };
-            return self.serve(rt, alloc, station, seat, films, none);
+            return self.serve(rt, alloc, station, seat, films, failing);
         }
         if line.starts_with('#') || line.is_empty() || self.check(rt, alloc, films, line)? {
             return Ok(());
@@ -306,9 +308,9 @@ fn visit_all<R: Wait + Abort>(
 
 /// Runs scenes, which empty lines part. A scene has a line with the station's capacity and the room
 /// of its journal; for each connection what it hears (`hears TEXT`, `gets BYTES`, `fill NUMBER`,
-/// `slot NUMBER`, `slots FIRST LAST`), `serve`, and what was sent (`says REPLY`, `sends BYTES`,
-/// `film`), up to `ends END LATE`; and after a line `journal`, if it has one, the journal and the
-/// calendar.
+/// `slot NUMBER`, `slots FIRST LAST`), `serve`, or `serve NUMBER` where the send of that number
+/// fails, and what was sent (`says REPLY`, `sends BYTES`, `film`), up to `ends END LATE`; and after
+/// a line `journal`, if it has one, the journal and the calendar.
 pub(crate) fn serve_all<R: Wait + Abort>(
     rt: &R,
     alloc: Global,
