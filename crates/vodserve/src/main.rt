@@ -12,6 +12,8 @@ mod done;
 #[cfg(test)]
 mod film_tests;
 mod makes;
+#[cfg(test)]
+mod meeting_tests;
 mod plans;
 mod run;
 mod scan_text;

@@ -1,0 +1,221 @@
+//! `serve` serves its connections at the same time: each of two hears its slot 2 only after film
+//! bytes were sent to the other.
+
+ghost use Rattle.std.specs.Prelude.{◌≤◌, None, length};
+
+use crate::run::{Ended, run};
+use conn::ConnEnd;
+use std::alloc::Global;
+use std::sync::Wait;
+use std::sync::atomic::{AtomicU64, Ordering};
+use std::test::Fail;
+use std::thread::Threads;
+use std::time::Duration;
+use vod_base::{Gate, GateFault, Heard, Link, LinkFault, MemoryLibrary, MemorySink, Opening};
+
+/// Two pictures: a sequence header, a group header, an I picture of one slice, and a P picture of
+/// one slice.
+const FILM: &[u8] =
+    b"\x00\x00\x01\xb3\x16\x01\x20\x13\xff\xff\xe0\xa0\x00\x00\x01\xb8\x00\x08\x00\x40\
+\x00\x00\x01\x00\x00\x0f\xff\xf8\x00\x00\x01\x01\x12\x34\x00\x00\x01\x00\x00\x57\xff\xf8\x80\x00\x00\x01\x01\x12\x34";
+
+/// What the first connections of the workers hear at once, by the words of the seed of 32 bytes 7.
+const FIRST: &[u8] =
+    b"SETUP rtsp://h/b.mpg RTSP/1.0\r\nCSeq: 1\r\nTransport: RTP/AVP/TCP\r\nx-Startup: 2\r\n\r\n\
+PLAY rtsp://h/b.mpg RTSP/1.0\r\nCSeq: 2\r\nSession: 789200f441f6aa57\r\n\r\n";
+
+const SECOND: &[u8] =
+    b"SETUP rtsp://h/b.mpg RTSP/1.0\r\nCSeq: 1\r\nTransport: RTP/AVP/TCP\r\nx-Startup: 2\r\n\r\n\
+PLAY rtsp://h/b.mpg RTSP/1.0\r\nCSeq: 2\r\nSession: d67b3bbfad1f4676\r\n\r\n";
+
+/// The sends that each of two links made. The first that has film bytes is the third.
+#[derive(Drop)]
+struct Sends {
+    first: AtomicU64,
+    second: AtomicU64,
+}
+
+/// How often a link looks for the other's third send, each time for up to a millisecond.
+const MOST_LOOKS: u64 = 20_000;
+
+/// A link that hears requests, slot 1, once the other made its third send the slots 2 to 4, and its
+/// end.
+#[derive(Drop)]
+struct MeetingLink<'a, R> {
+    rt: &'a R,
+    request: &'static [u8],
+    own: &'a AtomicU64,
+    other: &'a AtomicU64,
+    calls: u64,
+    faults: u64,
+}
+
+impl<R: Wait> MeetingLink<'_, R> {
+    /// Whether the other made its third send.
+    fn meets(&self) -> bool {
+        for _ in 0..MOST_LOOKS {
+            let sends = self.other.load(Ordering::SeqCst);
+            if sends >= 3 {
+                return true;
+            }
+            self.other
+                .park_timeout(self.rt, sends as u32, Duration::from_millis(1));
+        }
+        false
+    }
+
+    /// Hears the requests.
+    fn requests(&self, into: &mut [u8]) -> usize
+        ensures { result ≤ length into.new }
+    {
+        let count = self.request.len().min(into.len());
+        into[..count].copy_from_slice(&self.request[..count]);
+        count
+    }
+}
+
+impl<R: Wait> Link for MeetingLink<'_, R> {
+    ghost faults = { λ l. l.faults };
+
+    ghost told = { λ _. None };
+
+    fn next(&mut self, into: &mut [u8]) -> Result<Heard, LinkFault> {
+        self.calls = self.calls.saturating_add(1);
+        if self.calls == 1 {
+            let count = self.requests(into);
+            return Ok(if count == 0 {
+                Heard::End
+            } else {
+                Heard::Bytes(count)
+            });
+        }
+        if self.calls == 3 && !self.meets() {
+            self.faults = self.faults.saturating_add(1);
+            return Err(LinkFault);
+        }
+        if self.calls > 5 {
+            return Ok(Heard::End);
+        }
+        Ok(Heard::Slot(self.calls - 1))
+    }
+
+    fn send(&mut self, _bytes: &[u8]) -> Result<(), LinkFault> {
+        self.own.fetch_add(1, Ordering::SeqCst);
+        self.own.wake_all();
+        Ok(())
+    }
+}
+
+/// A gate of two parts, which give one link each.
+#[derive(Drop)]
+struct MeetingGate<'a, R> {
+    rt: &'a R,
+    sends: &'a Sends,
+    parts: u64,
+    given: bool,
+    faults: u64,
+}
+
+impl<'a, R: Wait> Gate for MeetingGate<'a, R> {
+    type Conn = MeetingLink<'a, R>;
+
+    ghost faults = { λ g. g.faults };
+
+    ghost told = { λ _. None };
+
+    fn open(&mut self, _how: &Opening) -> Result<(), GateFault> {
+        Ok(())
+    }
+
+    fn split(&mut self) -> Result<Self, GateFault> {
+        self.parts = self.parts.saturating_add(1);
+        Ok(MeetingGate {
+            rt: self.rt,
+            sends: self.sends,
+            parts: self.parts,
+            given: false,
+            faults: 0,
+        })
+    }
+
+    fn take(&mut self) -> Result<Option<MeetingLink<'a, R>>, GateFault> {
+        if self.given {
+            return Ok(None);
+        }
+        self.given = true;
+        let first = self.parts == 1;
+        let (own, other) = if first {
+            (&self.sends.first, &self.sends.second)
+        } else {
+            (&self.sends.second, &self.sends.first)
+        };
+        Ok(Some(MeetingLink {
+            rt: self.rt,
+            request: if first { FIRST } else { SECOND },
+            own,
+            other,
+            calls: 0,
+            faults: 0,
+        }))
+    }
+
+    fn give_back(&mut self, _conn: MeetingLink<'a, R>) {}
+
+    fn rejoin(&mut self, part: Self) {
+        self.faults = self.faults.saturating_add(part.faults);
+    }
+}
+
+/// Runs the words over a library of the film and a gate of two parts.
+fn carry_out<R: Threads + Wait + Sync>(
+    rt: &R,
+    alloc: Global,
+    words: &[String],
+    sends: &Sends,
+) -> Result<Ended, Fail> {
+    let mut gate = MeetingGate {
+        rt,
+        sends,
+        parts: 0,
+        given: false,
+        faults: 0,
+    };
+    let mut held = Vec::new(alloc);
+    held.push((
+        String::from_str(alloc, "b.mpg")?,
+        Vec::from_slice(alloc, FILM)?,
+    ))?;
+    let mut library = MemoryLibrary::new(held, Vec::new(alloc));
+    let mut out = MemorySink::new(alloc, 1 << 20, Vec::new(alloc))?;
+    let mut err = MemorySink::new(alloc, 1 << 20, Vec::new(alloc))?;
+    Ok(run(
+        rt,
+        alloc,
+        words,
+        &mut library,
+        &mut out,
+        &mut err,
+        &mut gate,
+        [7; 32],
+    ))
+}
+
+#[test]
+fn serves_two_at_the_same_time(rt: HostRuntime) -> Result<(), Fail> {
+    let alloc = rt.alloc();
+    let sends = Sends {
+        first: AtomicU64::new(0),
+        second: AtomicU64::new(0),
+    };
+    let mut words = Vec::new(alloc);
+    for word in "serve film=b.mpg workers=2 capacity=100".split_whitespace() {
+        words.push(String::from_str(alloc, word)?)?;
+    }
+    let ended = carry_out(&rt, alloc, &words, &sends)?;
+    assert_eq!(rt; (ended.status, ended.journal.len()), (0, 4));
+    assert_eq!(rt; ended.reports.len(), 2);
+    for report in &ended.reports {
+        assert_eq!(rt; report.end, ConnEnd::Ended);
+    }
+    Ok(())
+}
