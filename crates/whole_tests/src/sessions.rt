@@ -66,6 +66,9 @@ says RTSP/1.0 451 Parameter Not Understood|CSeq: 11||
 told offered 3 1
 hears GET_PARAMETER rtsp://h/b.mpg RTSP/1.0|CSeq: 12|Session: 0123456789abcdef|x-Wait: 1|Content-Length: 9||x-Offer|
 says RTSP/1.0 200 OK|CSeq: 12|Content-Type: text/parameters|Content-Length: 51||x-Start: none|x-Over: 1 1 0 35|x-Over: 2 2 0 35|
+told beside 3 1
+hears GET_PARAMETER rtsp://h/b.mpg RTSP/1.0|CSeq: 12|Session: 0123456789abcdef|x-Wait: 0|Content-Length: 9||x-Offer|
+says RTSP/1.0 200 OK|CSeq: 12|Content-Type: text/parameters|Content-Length: 34||x-Start: none|x-Over: 1 1 35 35|
 told overflow 4 9 50000 35
 hears PLAY rtsp://h/b.mpg RTSP/1.0|CSeq: 13|Session: 0123456789abcdef||
 says RTSP/1.0 453 Not Enough Bandwidth|CSeq: 13|x-Slot: 9|x-Booked: 50000|x-Asked: 35||

@@ -32,8 +32,13 @@ pub(crate) const SETTINGS: Settings = Settings {
 /// takes.
 const OFFERED: u64 = 34;
 
+/// The capacity of a link that another client's play of `b.mpg` is booked on: a byte more than that
+/// slot takes.
+const SHARED: u64 = 36;
+
 /// What the station is to answer: `admitted PLACE START SLOTS BYTES`, `overflow PLACE SLOT BOOKED
-/// ASKED`, `full ENTRIES OPEN`, `halted PLACE KEEP`, `looked PLACE NOW AT BOOKED` or `offered SEEN
+/// ASKED`, `full ENTRIES OPEN`, `halted PLACE KEEP`, `looked PLACE NOW AT BOOKED`, `offered SEEN
+/// FIRST` or, where another client's play by the same plan begins in that first slot, `beside SEEN
 /// FIRST`. The slots and bytes of the plan that was asked for, if they are named, and the bytes
 /// that a halt keeps, are compared.
 #[derive(Clone, Copy)]
@@ -48,6 +53,7 @@ struct Talk<'a> {
     session: Session<'a>,
     link: MemoryLink,
     calendar: Calendar,
+    shared: Calendar,
     read: usize,
 }
 
@@ -75,10 +81,12 @@ impl<'a> Talk<'a> {
         let events = Vec::new(alloc);
         let link = MemoryLink::new(alloc, events, 1 << 20, Vec::new(alloc), Vec::new(alloc))?;
         let calendar = Calendar::new(alloc, Profile::flat(alloc, OFFERED)?)?;
+        let shared = Calendar::new(alloc, Profile::flat(alloc, SHARED)?)?;
         Ok(Talk {
             session,
             link,
             calendar,
+            shared,
             read: 0,
         })
     }
@@ -132,11 +140,28 @@ impl<'a> Talk<'a> {
         requires { IsOffer (awaits self.old.session) }
         ensures { IsAtRest self.new.session }
     {
-        assert!(rt; told.kind == "offered", "an offer was asked for");
         let [seen, first, _, _] = told.numbers;
-        assert!(rt; self.calendar.now() < first && first <= 1 << 62);
-        offers.find(&self.calendar, &plan, first);
+        if told.kind == "beside" {
+            self.share(rt, &plan, first);
+            assert!(rt; self.shared.now() < first && first <= 1 << 62);
+            offers.find(&self.shared, &plan, first);
+        } else {
+            assert!(rt; told.kind == "offered", "an offer was asked for");
+            assert!(rt; self.calendar.now() < first && first <= 1 << 62);
+            offers.find(&self.calendar, &plan, first);
+        }
         self.session.offered(seen, first, plan, offers);
+    }
+
+    /// Books a play by this plan for another client.
+    fn share<R: Abort>(&mut self, rt: &R, plan: &Plan, start: u64)
+        ensures { self.new.session ≡ self.old.session }
+    {
+        let now = self.shared.now();
+        assert!(rt; now < start && start <= 1 << 20 && plan.slots() <= 1 << 20);
+        assert!(rt; start + plan.slots() <= now + 1_048_576);
+        assert!(rt; self.shared.first_overflow(start, plan).is_none());
+        self.shared.book(start, plan);
     }
 
     fn answer<R: Abort>(&mut self, rt: &R, ask: Ask, told: Told<'_>)
