@@ -52,8 +52,8 @@ reports-carry film unit false = refl
 ranges-join : (film : List ℕ) (a b c : ℕ) → a ≤ b → b ≤ c → take (b - a) (drop a film) ++ take (c - b) (drop b film) ≡ take (c - a) (drop a film)
 ranges-join film a b c ab bc =
     let all : c - a ≡ (b - a) + (c - b) = omega (arith, ab, bc) in
-    let behind : b ≡ a + (b - a) = omega (arith, ab) in
-    ap (λ n. take (b - a) (drop a film) ++ take (c - b) (drop n film)) behind
+    let later : b ≡ a + (b - a) = omega (arith, ab) in
+    ap (λ n. take (b - a) (drop a film) ++ take (c - b) (drop n film)) later
     ∙ ap (λ (l : List ℕ). take (b - a) (drop a film) ++ take (c - b) l) (sym (drop-drop (b - a) a film))
     ∙ sym (take-add (b - a) (c - b) (drop a film))
     ∙ ap (λ n. take n (drop a film)) (sym all)

@@ -90,10 +90,10 @@ have-count_ended base pieces ends at upto k are among least cut below from = rec
   next = λ h.
       let within : k < length ends = omega (arith, h, are.count) in
       let end = are.each k within in
-      let behind = from within in
+      let later = from within in
       elim (cases_lt upto at) [
-        | inl l ↦ absurd (omega (arith, cut l, end, behind, begin-le pieces (k + 1) (length pieces) (omega (arith, h)), begin-all pieces))
-        | inr g ↦ omega (arith, g, end, behind)
+        | inl l ↦ absurd (omega (arith, cut l, end, later, begin-le pieces (k + 1) (length pieces) (omega (arith, h)), begin-all pieces))
+        | inr g ↦ omega (arith, g, end, later)
       ];
 }
 

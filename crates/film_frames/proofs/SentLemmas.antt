@@ -66,10 +66,10 @@ sum-between f before middle rest all k n split short is =
     ∙ sum_by-append f before (take k middle)
     ∙ ap (λ (l : List Piece). sum_by f l + sum_by f (take k middle)) (sym front_is)
 
-get-behind : (before after : List Piece) (k : ℕ) → slice_get (before ++ after) (length before + k) ≡ slice_get after k
-get-behind [] after k = ap (λ n. slice_get after n) (let e : 0 + k ≡ k = omega arith in e)
-get-behind (piece ∷ before) after k =
-    ap (λ n. slice_get (piece ∷ (before ++ after)) n) (let e : length (piece ∷ before) + k ≡ suc (length before + k) = omega arith in e) ∙ get-behind before after k
+get-after : (before after : List Piece) (k : ℕ) → slice_get (before ++ after) (length before + k) ≡ slice_get after k
+get-after [] after k = ap (λ n. slice_get after n) (let e : 0 + k ≡ k = omega arith in e)
+get-after (piece ∷ before) after k =
+    ap (λ n. slice_get (piece ∷ (before ++ after)) n) (let e : length (piece ∷ before) + k ≡ suc (length before + k) = omega arith in e) ∙ get-after before after k
 
 get-front : (front rest : List Piece) (k : ℕ) → k < length front → slice_get (front ++ rest) k ≡ slice_get front k
 get-front [] rest k h = absurd (omega (arith, h))
@@ -111,7 +111,7 @@ run-piece film first_unit end_unit identity run k n is within at =
     let lies = between film first_unit end_unit identity run is in
     ap (λ m. slice_get (film_pieces film) m) at
     ∙ ap (λ (l : List Piece). slice_get l (length (front_pieces film first_unit) + k)) lies.all
-    ∙ get-behind (front_pieces film first_unit) (pieces_in run ++ lies.rest) k
+    ∙ get-after (front_pieces film first_unit) (pieces_in run ++ lies.rest) k
     ∙ get-front (pieces_in run) lies.rest k within
 
 -- the ends of the run's pieces

@@ -82,7 +82,7 @@ trace-last-now kept ends sizes now seen is some =
 -- zero bytes up to an end of a frame are next
 pub zeros-next : (sizes ends : List ℕ) (at k n end : ℕ) (bytes : List ℕ) → AreEnds 0 (zero_frames sizes) ends → k < length ends → ((j : ℕ) → j < k → get_or ends j 0 < at + 1)
     → end ≡ get_or ends k 0 → at < end → 1 ≤ n → at + n ≤ end → bytes ≡ replicate {A = ℕ} n 0 → IsNext (zero_frames sizes) at bytes
-zeros-next sizes ends at k n end bytes are within below is behind some fits zeros =
+zeros-next sizes ends at k n end bytes are within below is later some fits zeros =
     let pieces = zero_frames sizes in
     let inside : k < length pieces = omega (arith, within, are.count) in
     let begins = found-begins 0 pieces ends at k are within (λ j h. omega (arith, below j h)) in

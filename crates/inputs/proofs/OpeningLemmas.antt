@@ -4,7 +4,7 @@ use Rattle.std.specs.Prelude.{IfSome, option_map}
 use Rattle.std.proofs.lemmas.Bool.{cases_Bool}
 use Rattle.std.proofs.lemmas.List.{length-take-le, take_more, take-append-drop}
 use Rattle.mpeg_scan.specs.declared.codes.Code.{Code}
-use Rattle.mpeg_scan.specs.Codes.{codes_of, is_whole, matched, next_prefix, note, note_latest, read}
+use Rattle.mpeg_scan.specs.Codes.{codes_of, is_whole, latest_prefix, next_prefix, note, note_latest, read}
 use Rattle.mpeg_scan.proofs.CodeLemmas.{matched-more}
 use Rattle.mpeg_scan.proofs.FilmLemmas.{length-read}
 use Rattle.mpeg_scan.proofs.ReadLemmas.{read-append}
@@ -20,7 +20,7 @@ use Rattle.inputs.specs.declared.openings.Prefix.TheVariants.{Nothing, Zero, Zer
 
 -- before the first byte
 pub open_none : IsOpen Nothing []
-unfolding matched
+unfolding latest_prefix
 open_none = record { none = codes-none; prefix_is = refl }
 
 -- a byte that isn't the kind of a code
@@ -28,10 +28,10 @@ pub open_more : (prefix next : Prefix) (seen : List ℕ) (byte : ℕ) → IsOpen
     prefix_of next ≡ next_prefix (prefix_of prefix) byte → IsOpen next (seen ++ byte ∷ [])
 open_more prefix next seen byte so_far part is =
     let joined : read [] (seen ++ byte ∷ []) ≡ byte ∷ read [] seen = read-append [] seen (byte ∷ []) in
-    let plain : is_whole (matched (read [] seen)) ≡ false = ap is_whole (sym so_far.prefix_is) ∙ part in
+    let plain : is_whole (latest_prefix (read [] seen)) ≡ false = ap is_whole (sym so_far.prefix_is) ∙ part in
     record {
       none = ap codes_of joined ∙ codes-plain byte (read [] seen) plain ∙ ap (λ (l : List Code). note_latest l byte) so_far.none;
-      prefix_is = is ∙ ap (λ p. next_prefix p byte) so_far.prefix_is ∙ sym (matched-more byte (read [] seen)) ∙ ap matched (sym joined);
+      prefix_is = is ∙ ap (λ p. next_prefix p byte) so_far.prefix_is ∙ sym (matched-more byte (read [] seen)) ∙ ap latest_prefix (sym joined);
     }
 
 -- ---- the first code stays the first one
@@ -49,7 +49,7 @@ record HasOlder (r : List ℕ) (pack : Option ℕ) : Type 0 where
 older-more : (r : List ℕ) (x : ℕ) (pack : Option ℕ) → HasOlder r pack → HasOlder (x ∷ r) pack
 older-more r x pack has =
     let noted : note_latest (codes_of r) x ≡ note has.code x ∷ has.older = ap (λ (l : List Code). note_latest l x) has.are in
-    elim (cases_Bool (is_whole (matched r))) [
+    elim (cases_Bool (is_whole (latest_prefix r))) [
       | inl e ↦ record {
         code = record { place = length r - 3; kind = x; text = [] };
         older = note has.code x ∷ has.older;
@@ -72,7 +72,7 @@ pack-stays (x ∷ more) r pack has = pack-stays more (x ∷ r) pack (older-more 
 first_code : (prefix : Prefix) (seen : List ℕ) (byte : ℕ) → IsOpen prefix seen → prefix ≡ Whole →
     HasOlder (byte ∷ read [] seen) (cond (eqb byte 0xba) (Some (length seen - 3)) None)
 first_code prefix seen byte so_far whole =
-    let is : is_whole (matched (read [] seen)) ≡ true = ap is_whole (sym so_far.prefix_is ∙ ap prefix_of whole) in
+    let is : is_whole (latest_prefix (read [] seen)) ≡ true = ap is_whole (sym so_far.prefix_is ∙ ap prefix_of whole) in
     let long : length (read [] seen) ≡ length seen = length-read seen [] ∙ omega arith in
     record {
       code = record { place = length (read [] seen) - 3; kind = byte; text = [] };

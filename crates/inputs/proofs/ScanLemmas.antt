@@ -7,11 +7,11 @@ use Rattle.mpeg_scan.specs.declared.faults.FilmFault.{FilmFault}
 use Rattle.mpeg_scan.specs.declared.faults.FilmFault.TheVariants.{TooLong}
 use Rattle.mpeg_scan.specs.declared.scanner.Scanner.{Scanner}
 use Rattle.mpeg_scan.specs.Codes.{read, codes_of}
-use Rattle.mpeg_scan.specs.Calls.{Call, told, all_told}
+use Rattle.mpeg_scan.specs.Calls.{Call, calls_of, all_calls}
 use Rattle.mpeg_scan.specs.Faults.{first_fault, refusal_of}
 use Rattle.mpeg_scan.specs.Words.{rate_of}
 use Rattle.mpeg_scan.specs.Films.{refusal}
-use Rattle.mpeg_scan.specs.Scans.{Fed, bytes_fed}
+use Rattle.mpeg_scan.specs.Scans.{HasScannedBytes, bytes_fed}
 use Rattle.mpeg_scan.proofs.ReadLemmas.{read-append, fault-stays}
 use Rattle.mpeg_scan.proofs.FilmLemmas.{length-read, told-none, refusal-at_code}
 use Rattle.troubles.specs.declared.faults.Fault.{Fault}
@@ -48,20 +48,20 @@ plain_refused held name size whole fault opened found short refused =
 
 -- a piece more
 pub more_told : (Heard Heard' : List Call → Type 0) (scanner scanner' : Scanner) (video more : List ℕ) → HasTold Heard scanner video →
-    ((r : List ℕ) → Fed scanner r → Fed scanner' (read r more)) →
-    ((r : List ℕ) (calls : List Call) → Fed scanner r → Heard (calls ++ told (codes_of r)) → Heard' (calls ++ told (codes_of (read r more)))) →
+    ((r : List ℕ) → HasScannedBytes scanner r → HasScannedBytes scanner' (read r more)) →
+    ((r : List ℕ) (calls : List Call) → HasScannedBytes scanner r → Heard (calls ++ calls_of (codes_of r)) → Heard' (calls ++ calls_of (codes_of (read r more)))) →
     HasTold Heard' scanner' (video ++ more)
 more_told Heard Heard' scanner scanner' video more so_far kept tells =
     let joined : read [] (video ++ more) ≡ read (read [] video) more = read-append [] video more in
     record {
-      fed = subst (λ (r : List ℕ). Fed scanner' r) (sym joined) (kept (read [] video) so_far.fed);
-      heard = subst (λ (r : List ℕ). Heard' (told (codes_of r))) (sym joined) (tells (read [] video) [] so_far.fed so_far.heard);
+      fed = subst (λ (r : List ℕ). HasScannedBytes scanner' r) (sym joined) (kept (read [] video) so_far.fed);
+      heard = subst (λ (r : List ℕ). Heard' (calls_of (codes_of r))) (sym joined) (tells (read [] video) [] so_far.fed so_far.heard);
     }
 
 pub more_scanned : (Heard Heard' : List Call → Type 0) (told' : Option (List File)) (name : List ℕ) (size place : ℕ) (scanner scanner' : Scanner) (piece : List ℕ) (count : ℕ) →
     (so_far : HasScanned Heard told' name size place scanner) → ((held : List File) → told' ≡ Some held → IsFront held name size (so_far.bytes ++ take count piece)) → count ≤ length piece →
-    ((r : List ℕ) → Fed scanner r → Fed scanner' (read r (take count piece))) →
-    ((r : List ℕ) (calls : List Call) → Fed scanner r → Heard (calls ++ told (codes_of r)) → Heard' (calls ++ told (codes_of (read r (take count piece))))) →
+    ((r : List ℕ) → HasScannedBytes scanner r → HasScannedBytes scanner' (read r (take count piece))) →
+    ((r : List ℕ) (calls : List Call) → HasScannedBytes scanner r → Heard (calls ++ calls_of (codes_of r)) → Heard' (calls ++ calls_of (codes_of (read r (take count piece))))) →
     HasScanned Heard' told' name size (place + count) scanner'
 more_scanned Heard Heard' told' name size place scanner scanner' piece count so_far front within kept tells = record {
   bytes = so_far.bytes ++ take count piece;
@@ -82,7 +82,7 @@ front_refused front rest fault short is =
 
 pub piece_refused : (Heard : List Call → Type 0) (held : List File) (name : List ℕ) (size : ℕ) (scanner : Scanner) (bytes piece : List ℕ) (fault : FilmFault) →
     HasTold Heard scanner bytes → IsOpened held name size None → IsFront held name size (bytes ++ piece) → size ≤ 2 ^ 40 →
-    ((r : List ℕ) → Fed scanner r → first_fault (codes_of (read r piece)) ≡ Some fault) → IsFilmRefused held name (Film fault)
+    ((r : List ℕ) → HasScannedBytes scanner r → first_fault (codes_of (read r piece)) ≡ Some fault) → IsFilmRefused held name (Film fault)
 piece_refused Heard held name size scanner bytes piece fault so_far opened front short is =
     let rest : List ℕ = drop (length (bytes ++ piece)) front.whole in
     let whole : (bytes ++ piece) ++ rest ≡ front.whole = front_rest held name size (bytes ++ piece) front in
@@ -93,11 +93,11 @@ piece_refused Heard held name size scanner bytes piece fault so_far opened front
     (ap refusal (sym whole) ∙ front_refused (bytes ++ piece) rest fault (omega (arith, few, ap length whole)) at)
 
 -- before the first piece
-pub none_told : (Heard : List Call → Type 0) (scanner : Scanner) → Fed scanner [] → Heard [] → HasTold Heard scanner []
+pub none_told : (Heard : List Call → Type 0) (scanner : Scanner) → HasScannedBytes scanner [] → Heard [] → HasTold Heard scanner []
 none_told Heard scanner fed fresh = record { fed = fed; heard = subst Heard (sym told-none) fresh }
 
 pub first_scanned : (Heard : List Call → Type 0) (told' : Option (List File)) (name : List ℕ) (size : ℕ) (scanner : Scanner) (from : Option ℕ) → WasOpened told' name size from →
-    Fed scanner [] → Heard [] → HasScanned Heard told' name size 0 scanner
+    HasScannedBytes scanner [] → Heard [] → HasScanned Heard told' name size 0 scanner
 first_scanned Heard told' name size scanner from opened fed fresh = record {
   bytes = [];
   long = refl;
@@ -116,8 +116,8 @@ missing_refused held name fault missing = inl missing
 -- ---- the end of a video
 
 pub told_ended : (Heard Heard' : List Call → Type 0) (scanner : Scanner) (video : List ℕ) (size rate : ℕ) → HasTold Heard scanner video →
-    ((r : List ℕ) → Fed scanner r → (refusal_of r ≡ None) × (rate ≡ rate_of (codes_of r)) × (size ≡ length r)) →
-    ((r : List ℕ) (calls : List Call) → Fed scanner r → Heard (calls ++ told (codes_of r)) → Heard' (calls ++ all_told r)) →
+    ((r : List ℕ) → HasScannedBytes scanner r → (refusal_of r ≡ None) × (rate ≡ rate_of (codes_of r)) × (size ≡ length r)) →
+    ((r : List ℕ) (calls : List Call) → HasScannedBytes scanner r → Heard (calls ++ calls_of (codes_of r)) → Heard' (calls ++ all_calls r)) →
     HasEnded Heard' video size rate
 told_ended Heard Heard' scanner video size rate so_far ended tells =
     let end : (refusal_of (read [] video) ≡ None) × (rate ≡ rate_of (codes_of (read [] video))) × (size ≡ length (read [] video)) = ended (read [] video) so_far.fed in

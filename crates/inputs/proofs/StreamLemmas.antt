@@ -7,7 +7,7 @@ use Rattle.mpeg_scan.specs.declared.faults.FilmFault.{FilmFault}
 use Rattle.mpeg_scan.specs.declared.scanner.Scanner.{Scanner}
 use Rattle.mpeg_scan.specs.Calls.{Call}
 use Rattle.mpeg_scan.specs.Films.{refusal}
-use Rattle.mpeg_scan.specs.Scans.{Fed, IsReady, bytes_fed}
+use Rattle.mpeg_scan.specs.Scans.{HasScannedBytes, IsReady, bytes_fed}
 use Rattle.sys_demux.specs.Items.{bytes_of}
 use Rattle.sys_demux.specs.States.{WasFed}
 use Rattle.sys_demux.specs.Streams.{IsFault, IsRefused, IsSystem}
@@ -96,7 +96,7 @@ streamed_fed Heard told name size from place unwrapper scanner so_far = omega (a
 
 -- before the first piece
 pub first_streamed : (Heard : List Call → Type 0) (told : Option (List File)) (name : List ℕ) (size from : ℕ) (unwrapper : Unwrapper) (scanner : Scanner) → WasOpened told name size (Some from) →
-    WasFed unwrapper [] [] → Fed scanner [] → Heard [] → HasStreamed Heard told name size from from unwrapper scanner
+    WasFed unwrapper [] [] → HasScannedBytes scanner [] → Heard [] → HasStreamed Heard told name size from from unwrapper scanner
 first_streamed Heard told name size from unwrapper scanner opened empty fed fresh = record {
   seen = [];
   long = omega arith;

@@ -2,7 +2,7 @@
 use Rattle.std.specs.Prelude.{◌≡◌, ℕ, ◌≤◌, List, [], ◌++◌, Some, None}
 use Rattle.mpeg_scan.specs.declared.codes.Prefix.{Prefix as PrefixRead}
 use Rattle.mpeg_scan.specs.declared.codes.Prefix.TheVariants.{Nothing as NothingRead, Zero as ZeroRead, Zeros as ZerosRead, Whole as WholeRead}
-use Rattle.mpeg_scan.specs.Codes.{codes_of, matched, read}
+use Rattle.mpeg_scan.specs.Codes.{codes_of, latest_prefix, read}
 use Rattle.inputs.specs.Videos.{pack_in}
 use Rattle.inputs.specs.declared.openings.Prefix.{Prefix}
 use Rattle.inputs.specs.declared.openings.Prefix.TheVariants.{Nothing, Zero, Zeros, Whole}
@@ -18,7 +18,7 @@ prefix_of Whole = WholeRead
 -- no start code stands among these bytes, which end with so much of a prefix
 pub record IsOpen (prefix : Prefix) (seen : List ℕ) : Type 0 where
   pub none : codes_of (read [] seen) ≡ []
-  pub prefix_is : prefix_of prefix ≡ matched (read [] seen)
+  pub prefix_is : prefix_of prefix ≡ latest_prefix (read [] seen)
 
 -- what these bytes show of the first start code, whatever follows them
 abbrev pub IsOpening : Opening → List ℕ → Type 0

@@ -6,10 +6,10 @@ use Rattle.mpeg_scan.specs.declared.faults.ScanRefused.TheVariants.{Fault as Fau
 use Rattle.mpeg_scan.specs.declared.units.Unit.{Unit as PictureUnit}
 use Rattle.mpeg_scan.specs.declared.scanner.Scanner.{Scanner}
 use Rattle.mpeg_scan.specs.Codes.{read, codes_of}
-use Rattle.mpeg_scan.specs.Calls.{Call, told}
+use Rattle.mpeg_scan.specs.Calls.{Call, calls_of}
 use Rattle.mpeg_scan.specs.Faults.{first_fault}
 use Rattle.mpeg_scan.specs.Films.{IsFilm, refusal, told_of}
-use Rattle.mpeg_scan.specs.Scans.{Fed, refused_by}
+use Rattle.mpeg_scan.specs.Scans.{HasScannedBytes, refused_by}
 use Rattle.mpeg_scan.specs.Words.{rate_of}
 use Rattle.sys_demux.specs.States.{WasFed}
 use Rattle.sys_demux.specs.declared.unwrapper.Unwrapper.{Unwrapper}
@@ -50,8 +50,8 @@ pub record HoldsSizes (held : List File) (name : List ℕ) (rate : ℕ) (sizes :
 
 -- all that ended in the video so far was told
 pub record HasTold (Heard : List Call → Type 0) (scanner : Scanner) (video : List ℕ) : Type 0 where
-  pub fed : Fed scanner (read [] video)
-  pub heard : Heard (told (codes_of (read [] video)))
+  pub fed : HasScannedBytes scanner (read [] video)
+  pub heard : Heard (calls_of (codes_of (read [] video)))
 
 -- a code of a front of the video is refused, and the scanner answers so from then on
 pub record HasRefused (scanner : Scanner) (video : List ℕ) : Type 0 where

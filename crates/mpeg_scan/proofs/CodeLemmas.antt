@@ -3,8 +3,8 @@ use Rattle.std.proofs.Common.{ℕ, Bool, true, false, cond, eqb, ltb, ◌&&◌, 
 use Rattle.std.proofs.lemmas.List.{take_more_set, length-take-le}
 use Rattle.std.proofs.lemmas.Bool.{false≢true, eqb-true, lt-ltb, le-ltb}
 use Rattle.mpeg_scan.specs.declared.codes.Prefix.TheVariants.{Nothing, Zero, Zeros, Whole}
-use Rattle.mpeg_scan.specs.Texts.{noted}
-use Rattle.mpeg_scan.specs.Codes.{back, matched, after_one, after_zero, next_prefix}
+use Rattle.mpeg_scan.specs.Texts.{text_with}
+use Rattle.mpeg_scan.specs.Codes.{back, latest_prefix, after_one, after_zero, next_prefix}
 
 -- p1, p0: the byte is 1, 0; a1, a0: so is the one before it; z1, z2: the two before that are 0
 table : (p1 p0 a1 a0 z1 z2 : Bool) → (p1 ≡ true → p0 ≡ false) → (a1 ≡ true → a0 ≡ false) → cond (p1 && (a0 && z1)) Whole (cond (p0 && a0) Zeros (cond p0 Zero Nothing)) ≡ cond p1 (after_one (cond (a1 && (z1 && z2)) Whole (cond (a0 && z1) Zeros (cond a0 Zero Nothing)))) (cond p0 (after_zero (cond (a1 && (z1 && z2)) Whole (cond (a0 && z1) Zeros (cond a0 Zero Nothing)))) Nothing)
@@ -28,22 +28,22 @@ table false false a1 a0 z1 z2 p a = refl
 apart : (x : ℕ) → eqb x 1 ≡ true → eqb x 0 ≡ false
 apart x e = ap (λ n. eqb n 0) (eqb-true x 1 e)
 
-pub matched-more : (x : ℕ) (r : List ℕ) → matched (x ∷ r) ≡ next_prefix (matched r) x
-unfolding matched
+pub matched-more : (x : ℕ) (r : List ℕ) → latest_prefix (x ∷ r) ≡ next_prefix (latest_prefix r) x
+unfolding latest_prefix
 matched-more x r =
     table (eqb x 1) (eqb x 0) (eqb (back r 0) 1) (eqb (back r 0) 0) (eqb (back r 1) 0) (eqb (back r 2) 0) (apart x) (apart (back r 0))
 
-pub noted-by : (b : Bool) (text : List ℕ) (x : ℕ) → ltb (length text) 5 ≡ b → noted text x ≡ cond b (text ++ x ∷ []) text
-unfolding noted
+pub noted-by : (b : Bool) (text : List ℕ) (x : ℕ) → ltb (length text) 5 ≡ b → text_with text x ≡ cond b (text ++ x ∷ []) text
+unfolding text_with
 noted-by b text x e = ap (λ v. cond v (text ++ x ∷ []) text) e
 
 -- a text with room, and a full one
-pub noted-room : (bytes : List ℕ) (n x : ℕ) → n < 5 → length bytes ≡ 5 → take (n + 1) (set bytes n x) ≡ noted (take n bytes) x
+pub noted-room : (bytes : List ℕ) (n x : ℕ) → n < 5 → length bytes ≡ 5 → take (n + 1) (set bytes n x) ≡ text_with (take n bytes) x
 noted-room bytes n x room five =
     let within : n < length bytes = omega arith in
     let held : n ≤ length bytes = omega arith in
     let some : ltb (length (take n bytes)) 5 ≡ true = lt-ltb (length (take n bytes)) 5 (omega (arith, length-take-le n bytes held)) in
     take_more_set bytes n x within ∙ sym (noted-by true (take n bytes) x some)
 
-pub noted-full : (text : List ℕ) (x : ℕ) → 5 ≤ length text → text ≡ noted text x
+pub noted-full : (text : List ℕ) (x : ℕ) → 5 ≤ length text → text ≡ text_with text x
 noted-full text x full = sym (noted-by false text x (le-ltb (length text) 5 full))

@@ -9,7 +9,7 @@ use Rattle.mpeg_scan.specs.declared.units.Unit.{Unit as PictureUnit}
 use Rattle.mpeg_scan.specs.Codes.{codes_of}
 use Rattle.mpeg_scan.specs.Words.{is_head, is_slice, tally_of, slices_of, all_slices_of, picture_of, pictures_of, before_group_of, starts_group, header_of, slice_of}
 use Rattle.mpeg_scan.specs.Faults.{otherwise, kind_fault, second_fault, first_slice_fault, count_fault, code_fault, head_fault, left_without_slices, first_fault, end_fault, last_fault, latest_fault, refusal_of}
-use Rattle.mpeg_scan.specs.Calls.{Call, head_call, slice_call, unit_call, unit_at, unit_end, calls_at, told, all_told}
+use Rattle.mpeg_scan.specs.Calls.{Call, head_call, slice_call, unit_call, unit_at, unit_end, calls_at, calls_of, all_calls}
 use Rattle.mpeg_scan.specs.Counts.{Count, group_of, next_count, counts_after, no_count, AreNumbered}
 use Rattle.mpeg_scan.proofs.TileLemmas.{slice-apart, first_slice-accepted, first-is, told-cons, told-nil, ended-none, accepted-whole}
 use Rattle.mpeg_scan.proofs.StepLemmas.{accepted-older, code-accepted, otherwise-first, otherwise-second}
@@ -224,7 +224,7 @@ counts-append None a b = counts-none (a ++ b) ∙ sym (counts-none b) ∙ ap (λ
 counts-append (Some k) [] b = refl
 counts-append (Some k) (call ∷ a) b = counts-append (next_count k call) a b
 
-told-counted : (c : Code) (past : List Code) → first_fault (c ∷ past) ≡ None → CountedBy no_count (told (c ∷ past)) (c ∷ past)
+told-counted : (c : Code) (past : List Code) → first_fault (c ∷ past) ≡ None → CountedBy no_count (calls_of (c ∷ past)) (c ∷ past)
 told-counted c [] accepted =
     let start = first-count c (first-is c accepted) in
     subst (λ (l : List Call). CountedBy no_count l (c ∷ [])) (sym (told-cons c [] ∙ ap (λ (l : List Call). l ++ calls_at (tally_of []) c.place c.kind) told-nil)) start
@@ -232,7 +232,7 @@ told-counted c (d ∷ past) accepted =
     let before = told-counted d past (accepted-older c (d ∷ past) accepted) in
     let more = code-count c d past before.count (code-accepted c (d ∷ past) accepted) before.agrees in record {
       count = more.count;
-      told = ap (counts_after (Some no_count)) (told-cons c (d ∷ past)) ∙ counts-append (Some no_count) (told (d ∷ past)) (calls_at (tally_of (d ∷ past)) c.place c.kind)
+      told = ap (counts_after (Some no_count)) (told-cons c (d ∷ past)) ∙ counts-append (Some no_count) (calls_of (d ∷ past)) (calls_at (tally_of (d ∷ past)) c.place c.kind)
           ∙ ap (λ (o : Option Count). counts_after o (calls_at (tally_of (d ∷ past)) c.place c.kind)) before.told ∙ more.told;
       agrees = more.agrees;
     }
@@ -240,7 +240,7 @@ told-counted c (d ∷ past) accepted =
 -- the count after all that is told of a film has a unit for each picture
 pub record WholeCount (past : List Code) (end : ℕ) : Type 0 where
   pub last : Count
-  pub counted : counts_after (Some no_count) (told past ++ unit_end (tally_of past) end) ≡ Some last
+  pub counted : counts_after (Some no_count) (calls_of past ++ unit_end (tally_of past) end) ≡ Some last
   pub units : last.units ≡ pictures_of past
 
 whole-count : (past : List Code) (n : ℕ) → first_fault past ≡ None → end_fault past n ≡ None → WholeCount past n
@@ -252,7 +252,7 @@ whole-count (c ∷ past) n accepted ended =
     let k = told-counted c past accepted in
     let end = unit-counted (pictures_of all) (all_slices_of all) (slices_of all) (before_group_of all) (is_some (picture_of all)) (starts_group all) k.count (slice_of all) n (unit_at (tally_of all) n) k.agrees some refl refl refl refl in record {
       last = after_unit k.count (starts_group all);
-      counted = counts-append (Some no_count) (told all) (unit_end (tally_of all) n) ∙ ap (λ (o : Option Count). counts_after o (unit_end (tally_of all) n)) k.told ∙ end;
+      counted = counts-append (Some no_count) (calls_of all) (unit_end (tally_of all) n) ∙ ap (λ (o : Option Count). counts_after o (unit_end (tally_of all) n)) k.told ∙ end;
       units = sym (k.agrees.units ∙ ap (λ b. k.count.units + cond b 1 0) (k.agrees.sliced some));
     }
 
@@ -262,5 +262,5 @@ film-count r e =
     whole-count (codes_of r) (length r) (otherwise-first (first_fault (codes_of r)) (end_fault (codes_of r) (length r)) none) (otherwise-second (first_fault (codes_of r)) (end_fault (codes_of r) (length r)) none)
 
 -- the units of an accepted film are numbered as they come
-pub film-numbered : (r : List ℕ) → refusal_of r ≡ None → AreNumbered (all_told r)
+pub film-numbered : (r : List ℕ) → refusal_of r ≡ None → AreNumbered (all_calls r)
 film-numbered r e = ap is_some (film-count r e).counted

@@ -6,7 +6,7 @@ use Rattle.mpeg_scan.specs.declared.faults.FilmFault.TheVariants.{Empty, TooLong
 use Rattle.mpeg_scan.specs.declared.units.Unit.{Unit as PictureUnit}
 use Rattle.mpeg_scan.specs.Codes.{read, codes_of}
 use Rattle.mpeg_scan.specs.Faults.{otherwise, first_fault, end_fault, refusal_of}
-use Rattle.mpeg_scan.specs.Calls.{Call, head_call, slice_call, unit_call, told}
+use Rattle.mpeg_scan.specs.Calls.{Call, head_call, slice_call, unit_call, calls_of}
 use Rattle.mpeg_scan.specs.Films.{units_in, slices_in, refusal}
 use Rattle.mpeg_scan.proofs.StepLemmas.{codes-none}
 
@@ -27,9 +27,9 @@ slices_in-append (slice_call from to ∷ a) b = ap (λ (l : List ℕ). from ∷ 
 slices_in-append (unit_call unit ∷ a) b = slices_in-append a b
 
 -- nothing is told of no bytes
-pub told-none : told (codes_of []) ≡ []
-unfolding told
-told-none = ap told codes-none
+pub told-none : calls_of (codes_of []) ≡ []
+unfolding calls_of
+told-none = ap calls_of codes-none
 
 first_fault-none : first_fault (codes_of []) ≡ None
 unfolding first_fault

@@ -7,7 +7,7 @@ use Rattle.mpeg_scan.specs.declared.units.Unit.{Unit as PictureUnit}
 use Rattle.mpeg_scan.specs.Codes.{read, codes_of}
 use Rattle.mpeg_scan.specs.Words.{is_head, is_slice, rate_code, rate_of, slices_of, starts_group, tally_of}
 use Rattle.mpeg_scan.specs.Faults.{end_fault, first_fault, header_fault, last_fault, latest_fault, picture_fault, rate_fault}
-use Rattle.mpeg_scan.specs.Calls.{Call, head_call, slice_call, unit_call, calls_at, told, unit_at, unit_end}
+use Rattle.mpeg_scan.specs.Calls.{Call, head_call, slice_call, unit_call, calls_at, calls_of, unit_at, unit_end}
 use Rattle.mpeg_scan.specs.Films.{IsFilm, units_in}
 use Rattle.mpeg_scan.specs.Tiles.{first_of}
 use Rattle.mpeg_scan.specs.Places.{HasCode, StandsAt}
@@ -74,13 +74,13 @@ unfolding calls_at
 first-code c is =
     subst (λ m. FirstStarts (units_in (cond (is_slice m) (cond (eqb 0 0) (head_call 0 c.place ∷ []) (slice_call 0 c.place ∷ [])) (cond (is_head m && ltb 0 0) (unit_end (tally_of []) c.place) []))) (cond (eqb m 0xb8 || true) true (cond (true || (is_head m && ltb 0 0)) false false))) (sym is) refl
 
-told-first : (c : Code) (past : List Code) → first_fault (c ∷ past) ≡ None → FirstStarts (units_in (told (c ∷ past))) (starts_group (c ∷ past))
+told-first : (c : Code) (past : List Code) → first_fault (c ∷ past) ≡ None → FirstStarts (units_in (calls_of (c ∷ past))) (starts_group (c ∷ past))
 told-first c [] accepted =
     subst (λ (l : List Call). FirstStarts (units_in l) (starts_group (c ∷ []))) (sym (told-cons c [] ∙ ap (λ (l : List Call). l ++ calls_at (tally_of []) c.place c.kind) told-nil)) (first-code c (first-is c accepted))
 told-first c (d ∷ past) accepted =
     let calls = calls_at (tally_of (d ∷ past)) c.place c.kind in
-    subst (λ (l : List PictureUnit). FirstStarts l (starts_group (c ∷ (d ∷ past)))) (sym (ap units_in (told-cons c (d ∷ past)) ∙ units_in-append (told (d ∷ past)) calls))
-    (first-step c d past (units_in (told (d ∷ past))) (told-first d past (accepted-older c (d ∷ past) accepted)))
+    subst (λ (l : List PictureUnit). FirstStarts l (starts_group (c ∷ (d ∷ past)))) (sym (ap units_in (told-cons c (d ∷ past)) ∙ units_in-append (calls_of (d ∷ past)) calls))
+    (first-step c d past (units_in (calls_of (d ∷ past))) (told-first d past (accepted-older c (d ∷ past) accepted)))
 
 -- there is a first unit, and it starts a group
 abbrev pub StartsGroup : List PictureUnit → Type 0
@@ -91,13 +91,13 @@ first-last : (units : List PictureUnit) (unit : PictureUnit) (s : Bool) → Firs
 first-last [] unit s first is = is ∙ first
 first-last (u ∷ units) unit s first is = first
 
-whole-first : (past : List Code) (n : ℕ) → first_fault past ≡ None → end_fault past n ≡ None → StartsGroup (units_in (told past ++ unit_end (tally_of past) n))
+whole-first : (past : List Code) (n : ℕ) → first_fault past ≡ None → end_fault past n ≡ None → StartsGroup (units_in (calls_of past ++ unit_end (tally_of past) n))
 unfolding end_fault
 whole-first [] n accepted ended = absurd (omega (arith, ended-none (tally_of []) ended))
 whole-first (c ∷ past) n accepted ended =
     let all : List Code = c ∷ past in
-    subst (λ (l : List PictureUnit). StartsGroup l) (sym (units_in-append (told all) (unit_end (tally_of all) n)))
-    (first-last (units_in (told all)) (unit_at (tally_of all) n) (starts_group all) (told-first c past accepted) refl)
+    subst (λ (l : List PictureUnit). StartsGroup l) (sym (units_in-append (calls_of all) (unit_end (tally_of all) n)))
+    (first-last (units_in (calls_of all)) (unit_at (tally_of all) n) (starts_group all) (told-first c past accepted) refl)
 
 starts-some : (units : List PictureUnit) → StartsGroup units → 0 < length units
 starts-some [] starts = absurd starts

@@ -4,7 +4,7 @@ use Rattle.std.proofs.lemmas.List.{append-nil}
 use Rattle.std.proofs.Math.Seq.{drop-append_seam, take-append_seam}
 use Rattle.std.proofs.lemmas.Bool.{and_parts, false≢true, eqb-true, ltb-true, leb-true}
 use Rattle.mpeg_scan.specs.declared.units.Unit.{Unit as PictureUnit}
-use Rattle.mpeg_scan.specs.Calls.{Call, head_call, slice_call, unit_call, all_told}
+use Rattle.mpeg_scan.specs.Calls.{Call, head_call, slice_call, unit_call, all_calls}
 use Rattle.mpeg_scan.specs.Codes.{read, codes_of}
 use Rattle.mpeg_scan.specs.Counts.{Count, counts_after, group_of, no_count}
 use Rattle.mpeg_scan.specs.Films.{IsFilm, slices_in, units_in}
@@ -163,7 +163,7 @@ part-laid (unit_call unit ∷ calls) (within from head_end at n) k to past parts
 
 pub film-laid : (bytes : List ℕ) (rate : ℕ) (units : List PictureUnit) (starts : List ℕ) → IsFilm bytes rate units starts → AreLaid (length bytes) starts units
 film-laid bytes rate units starts film =
-    let calls = all_told (read [] bytes) in
+    let calls = all_calls (read [] bytes) in
     let end : length (read [] bytes) ≡ length bytes = length-read bytes [] ∙ omega arith in
     let laid = part-laid calls (between (first_of (codes_of (read [] bytes)))) no_count (length (read [] bytes)) [] (film-tiles (read [] bytes) film.accepted) (film-numbered (read [] bytes) film.accepted) refl tt in
     subst (λ e. AreLaid e starts units) end
@@ -201,6 +201,6 @@ unfolding begin_of_part
 film-chained bytes rate units starts film =
     let r = read [] bytes in
     let end : length r ≡ length bytes = length-read bytes [] ∙ omega arith in
-    let chained = parts-chained (all_told r) (between (first_of (codes_of r))) (length r) (film-tiles r film.accepted) in
+    let chained = parts-chained (all_calls r) (between (first_of (codes_of r))) (length r) (film-tiles r film.accepted) in
     let P : List PictureUnit → Type 0 = λ l. AreChained (first_of (codes_of r)) l (length bytes) in
-    subst P (sym film.units) (subst (λ e. AreChained (first_of (codes_of r)) (units_in (all_told r)) e) end chained)
+    subst P (sym film.units) (subst (λ e. AreChained (first_of (codes_of r)) (units_in (all_calls r)) e) end chained)

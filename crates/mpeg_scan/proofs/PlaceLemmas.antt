@@ -4,7 +4,7 @@ use Rattle.std.proofs.lemmas.Bool.{cases_Bool, cases_lt, eqb-true, eq-eqb, ne_eq
 use Rattle.std.proofs.lemmas.List.{get_or_past}
 use Rattle.mpeg_scan.specs.declared.codes.Code.{Code}
 use Rattle.mpeg_scan.specs.declared.codes.Prefix.TheVariants.{Nothing, Zero, Zeros, Whole}
-use Rattle.mpeg_scan.specs.Codes.{read, back, matched, is_whole, note_latest, codes_of}
+use Rattle.mpeg_scan.specs.Codes.{read, back, latest_prefix, is_whole, note_latest, codes_of}
 use Rattle.mpeg_scan.specs.Places.{StandsAt, HasCode}
 use Rattle.mpeg_scan.proofs.StepLemmas.{codes-none, codes-plain, codes-code}
 use Rattle.mpeg_scan.proofs.FilmLemmas.{length-read}
@@ -71,8 +71,8 @@ back-there r k v is small = elim (cases_lt k (length r)) [
   | inr past ↦ absurd (let far = get_or_past r k 256 past in omega (arith, far, is))
 ]
 
-pub whole-prefixed : (r : List ℕ) → is_whole (matched r) ≡ true → Prefixed r (length r - 3)
-unfolding matched
+pub whole-prefixed : (r : List ℕ) → is_whole (latest_prefix r) ≡ true → Prefixed r (length r - 3)
+unfolding latest_prefix
 whole-prefixed r e =
     let test = whole-test (eqb (back r 0) 1 && (eqb (back r 1) 0 && eqb (back r 2) 0)) (eqb (back r 0) 0 && eqb (back r 1) 0) (eqb (back r 0) 0) e in
     let parts = and_parts (eqb (back r 0) 1) (eqb (back r 1) 0 && eqb (back r 2) 0) test in
@@ -87,8 +87,8 @@ whole-prefixed r e =
       third = sym (at-back r (length r - 3 + 2) 0 (omega arith)) ∙ one;
     }
 
-prefixed-whole : (r : List ℕ) (i : ℕ) → Prefixed r i → is_whole (matched r) ≡ true
-unfolding matched
+prefixed-whole : (r : List ℕ) (i : ℕ) → Prefixed r i → is_whole (latest_prefix r) ≡ true
+unfolding latest_prefix
 prefixed-whole r i p =
     let one : back r 0 ≡ 1 = at-back r (i + 2) 0 (omega (arith, p.ends)) ∙ p.third in
     let zero1 : back r 1 ≡ 0 = at-back r (i + 1) 1 (omega (arith, p.ends)) ∙ p.second in
@@ -141,7 +141,7 @@ note-has (c ∷ past) x i k h = h
 
 has-stands : (r : List ℕ) (i k : ℕ) → HasCode i k (codes_of r) → Stands r i k
 has-stands [] i k h = absurd (subst (λ (l : List Code). HasCode i k l) codes-none h)
-has-stands (x ∷ r) i k h = elim (cases_Bool (is_whole (matched r))) [
+has-stands (x ∷ r) i k h = elim (cases_Bool (is_whole (latest_prefix r))) [
   | inl e ↦ (let p = whole-prefixed r e in elim (subst (λ (l : List Code). HasCode i k l) (codes-code x r e) h) [
     | inl new ↦ subst (λ m. Stands (x ∷ r) m k) new.0 (subst (λ m. Stands (x ∷ r) (length r - 3) m) new.1 (stands-new x r (length r - 3) p))
     | inr older ↦ stands-more x r i k (has-stands r i k (note-has (codes_of r) x i k older))
@@ -150,7 +150,7 @@ has-stands (x ∷ r) i k h = elim (cases_Bool (is_whole (matched r))) [
 ]
 
 older-has : (x : ℕ) (r : List ℕ) (i k : ℕ) → HasCode i k (codes_of r) → HasCode i k (codes_of (x ∷ r))
-older-has x r i k h = elim (cases_Bool (is_whole (matched r))) [
+older-has x r i k h = elim (cases_Bool (is_whole (latest_prefix r))) [
   | inl e ↦ subst (λ (l : List Code). HasCode i k l) (sym (codes-code x r e)) (inr (has-note (codes_of r) x i k h))
   | inr e ↦ subst (λ (l : List Code). HasCode i k l) (sym (codes-plain x r e)) (has-note (codes_of r) x i k h)
 ]

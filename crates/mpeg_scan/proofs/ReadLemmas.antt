@@ -7,9 +7,9 @@ use Rattle.mpeg_scan.specs.declared.codes.Code.{Code}
 use Rattle.mpeg_scan.specs.declared.codes.Prefix.TheVariants.{Nothing, Zero}
 use Rattle.mpeg_scan.specs.declared.faults.FilmFault.{FilmFault}
 use Rattle.mpeg_scan.specs.declared.progress.Progress.{Progress}
-use Rattle.mpeg_scan.specs.Codes.{read, matched, next_prefix, is_whole, note_latest, codes_of}
+use Rattle.mpeg_scan.specs.Codes.{read, latest_prefix, next_prefix, is_whole, note_latest, codes_of}
 use Rattle.mpeg_scan.specs.Faults.{otherwise, fault_at, first_fault}
-use Rattle.mpeg_scan.specs.Calls.{Call, told}
+use Rattle.mpeg_scan.specs.Calls.{Call, calls_of}
 use Rattle.mpeg_scan.specs.Steps.{latest_of, older_of}
 use Rattle.mpeg_scan.specs.Words.{tally_of}
 use Rattle.mpeg_scan.specs.Scans.{HasRead, is_text_full}
@@ -52,14 +52,14 @@ skipped_scan s n = record s { fed = s.fed + n }
 
 record Quiet (r q : List ℕ) (n : ℕ) : Type 0 where
   same : codes_of q ≡ codes_of r
-  none : matched q ≡ Nothing
+  none : latest_prefix q ≡ Nothing
   more : length q ≡ length r + n
 
-quiet-run : (xs r : List ℕ) → ((k : ℕ) → k < length xs → get_or xs k 0 ≡ 0 → ⊥) → matched r ≡ Nothing → is_text_full (latest_of (codes_of r)) ≡ true → Quiet r (read r xs) (length xs)
+quiet-run : (xs r : List ℕ) → ((k : ℕ) → k < length xs → get_or xs k 0 ≡ 0 → ⊥) → latest_prefix r ≡ Nothing → is_text_full (latest_of (codes_of r)) ≡ true → Quiet r (read r xs) (length xs)
 quiet-run [] r nonzero none full = record { same = refl; none = none; more = omega arith }
 quiet-run (x ∷ xs) r nonzero none full =
     let same : codes_of (x ∷ r) ≡ codes_of r = codes-plain x r (ap is_whole none) ∙ note-full (codes_of r) x full in
-    let still : matched (x ∷ r) ≡ Nothing = matched-more x r ∙ ap (λ p. next_prefix p x) none ∙ next-other (eqb x 1) x (nonzero 0 (omega arith)) refl in
+    let still : latest_prefix (x ∷ r) ≡ Nothing = matched-more x r ∙ ap (λ p. next_prefix p x) none ∙ next-other (eqb x 1) x (nonzero 0 (omega arith)) refl in
     let rest = quiet-run xs (x ∷ r) (λ k within. nonzero (suc k) (omega arith)) still (ap (λ (l : List Code). is_text_full (latest_of l)) same ∙ full) in
     record { same = rest.same ∙ same; none = rest.none; more = omega (arith, rest.more) }
 
@@ -93,7 +93,7 @@ unfolding first_fault
 fault-stays-code c past f is = ap (λ (o : Option FilmFault). otherwise o (fault_at past c.place c.kind)) is
 
 fault-stays-byte : (x : ℕ) (r : List ℕ) (f : FilmFault) → first_fault (codes_of r) ≡ Some f → first_fault (codes_of (x ∷ r)) ≡ Some f
-fault-stays-byte x r f is = elim (cases_Bool (is_whole (matched r))) [
+fault-stays-byte x r f is = elim (cases_Bool (is_whole (latest_prefix r))) [
   | inl e ↦ ap first_fault (codes-code x r e) ∙ fault-stays-code _ (note_latest (codes_of r) x) f (first_fault-note (codes_of r) x ∙ is)
   | inr e ↦ ap first_fault (codes-plain x r e) ∙ first_fault-note (codes_of r) x ∙ is
 ]
@@ -107,9 +107,9 @@ fault-stays (x ∷ xs) r f is = fault-stays xs (x ∷ r) f (fault-stays-byte x r
 pub length-rest : (piece : List ℕ) (a : ℕ) → length (take (length piece - a) (drop a piece)) ≡ length piece - a
 length-rest piece a = ap (λ (l : List ℕ). length l) (take_rest piece a) ∙ length-drop a piece
 
-pub told-run : (r piece : List ℕ) (a n : ℕ) (calls : List Call) → codes_of (read (read r (take a piece)) (take n (take (length piece - a) (drop a piece)))) ≡ codes_of (read r (take a piece)) → calls ++ told (codes_of (read r (take a piece))) ≡ calls ++ told (codes_of (read r (take (a + n) piece)))
+pub told-run : (r piece : List ℕ) (a n : ℕ) (calls : List Call) → codes_of (read (read r (take a piece)) (take n (take (length piece - a) (drop a piece)))) ≡ codes_of (read r (take a piece)) → calls ++ calls_of (codes_of (read r (take a piece))) ≡ calls ++ calls_of (codes_of (read r (take (a + n) piece)))
 told-run r piece a n calls same =
-    ap (λ (l : List Code). calls ++ told l) (sym same ∙ ap codes_of (read-run r piece a n))
+    ap (λ (l : List Code). calls ++ calls_of l) (sym same ∙ ap codes_of (read-run r piece a n))
 
 pub fault-rest : (r piece : List ℕ) (b : ℕ) (f : FilmFault) → b < length piece → first_fault (codes_of (get_or piece b 0 ∷ read r (take b piece))) ≡ Some f → first_fault (codes_of (read r piece)) ≡ Some f
 fault-rest r piece b f within is =

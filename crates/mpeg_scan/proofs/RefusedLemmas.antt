@@ -5,7 +5,7 @@ use Rattle.mpeg_scan.specs.declared.codes.Code.{Code}
 use Rattle.mpeg_scan.specs.declared.faults.FilmFault.{FilmFault}
 use Rattle.mpeg_scan.specs.declared.faults.FilmFault.TheVariants.{Empty, NoSequence, TooLong, HeadWithoutPicture}
 use Rattle.mpeg_scan.specs.declared.tallies.Header.{Header}
-use Rattle.mpeg_scan.specs.Codes.{read, codes_of, matched}
+use Rattle.mpeg_scan.specs.Codes.{read, codes_of, latest_prefix}
 use Rattle.mpeg_scan.specs.Words.{picture_of, slices_of, tally_of, unit_of}
 use Rattle.mpeg_scan.specs.Faults.{end_fault, fault_at, first_fault, last_fault, latest_fault, left_without_slices, open_fault, otherwise, refusal_of}
 use Rattle.mpeg_scan.specs.Films.{refusal}
@@ -266,7 +266,7 @@ codes-decide bytes =
       single = one-kind bytes;
       knows = record {
         there = λ place kind has. (codes-stand bytes place kind).0 has;
-        below = all-below past n placed.spaced (room-after past (matched r) n placed.room);
+        below = all-below past n placed.spaced (room-after past (latest_prefix r) n placed.room);
         back = λ place kind has before. (codes-stand bytes place kind).1 has;
       };
       spaced = placed.spaced;

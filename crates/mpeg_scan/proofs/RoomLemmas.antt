@@ -11,18 +11,11 @@ use Rattle.mpeg_scan.specs.declared.tallies.Tally.{Tally}
 use Rattle.mpeg_scan.specs.Codes.{after_one, after_zero, is_whole, next_prefix, note}
 use Rattle.mpeg_scan.specs.Words.{is_head, is_slice}
 use Rattle.mpeg_scan.specs.Faults.{last_fault, otherwise, code_fault, count_fault, first_slice_fault, kind_fault, second_fault}
-use Rattle.mpeg_scan.specs.Room.{AwaitsSlice, AwaitsSliceAfter, HasRoom, HasRoomAhead, prefix_length}
-use Rattle.mpeg_scan.specs.Scans.{coded_scan, noted_scan}
-use Rattle.mpeg_scan.specs.Steps.{ended, judged, latest_header_fault, next, one_more, tally_with}
+use Rattle.mpeg_scan.specs.Room.{AwaitsSlice, AwaitsSliceAfter, HasRoom, HasRoomAhead, IsAhead, prefix_length}
+use Rattle.mpeg_scan.specs.Scans.{scan_with_code, scan_with_byte}
+use Rattle.mpeg_scan.specs.Steps.{end_judgement, code_judgement, latest_header_fault, next, one_more, tally_now, tally_with}
 use Rattle.mpeg_scan.proofs.StepLemmas.{otherwise-first, otherwise-second}
 use Rattle.mpeg_scan.proofs.TileLemmas.{ended-none, first_slice-accepted, first_slice-head}
-
--- the room of a progress, and that it waits for a slice
-abbrev pub Ahead : Progress → Type 0
-Ahead s = HasRoomAhead s.fed s.prefix s.latest s.tally
-
-abbrev pub tally_now : Progress → Tally
-tally_now s = tally_with s.latest s.tally
 
 -- ---- a byte more of a text changes none of it
 record SamePlaces (t u : Tally) : Type 0 where
@@ -57,11 +50,11 @@ length-next : (p : Prefix) (x : ℕ) → prefix_length (next_prefix p x) ≤ pre
 length-next p x = length-by (eqb x 1) (eqb x 0) p
 
 -- a byte that isn't the kind of a code
-pub noted-ahead : (s n : Progress) (x : ℕ) → n ≡ noted_scan s x → Ahead s → Ahead n
+pub noted-ahead : (s n : Progress) (x : ℕ) → n ≡ scan_with_byte s x → IsAhead s → IsAhead n
 noted-ahead s n x is room =
     let same = same-noted s.latest s.tally x in
     let more = length-next s.prefix x in
-    subst (λ (v : Progress). Ahead v) (sym is) (record {
+    subst (λ (v : Progress). IsAhead v) (sym is) (record {
       read = omega (arith, more, room.read);
       unit = λ b. omega (arith, more, same.unit, room.unit (same.begun ∙ b));
       slice = λ some. omega (arith, more, same.slice, same.slices, room.slice (omega (arith, same.slices)));
@@ -70,9 +63,9 @@ noted-ahead s n x is room =
 awaits-same : (Ready : ℕ → Type 0) (t u : Tally) → SamePlaces t u → AwaitsSlice Ready t → AwaitsSlice Ready u
 awaits-same Ready t u same awaits = λ some. subst (λ p. Ready p) same.slice (awaits (omega (arith, same.slices)))
 
-pub noted-awaits : (Ready : ℕ → Type 0) (s n : Progress) (x : ℕ) → n ≡ noted_scan s x → AwaitsSlice Ready (tally_now s) → AwaitsSlice Ready (tally_now n)
+pub noted-awaits : (Ready : ℕ → Type 0) (s n : Progress) (x : ℕ) → n ≡ scan_with_byte s x → AwaitsSlice Ready (tally_now s) → AwaitsSlice Ready (tally_now n)
 noted-awaits Ready s n x is awaits =
-    subst (λ (v : Progress). AwaitsSlice Ready (tally_now v)) (sym is) (awaits-same Ready (tally_now s) (tally_now (noted_scan s x)) (same-noted s.latest s.tally x) awaits)
+    subst (λ (v : Progress). AwaitsSlice Ready (tally_now v)) (sym is) (awaits-same Ready (tally_now s) (tally_now (scan_with_byte s x)) (same-noted s.latest s.tally x) awaits)
 
 whole-length : (p : Prefix) → is_whole p ≡ true → prefix_length p ≡ 3
 whole-length Nothing e = absurd (false≢true e)
@@ -81,7 +74,7 @@ whole-length Zeros e = absurd (false≢true e)
 whole-length Whole e = refl
 
 -- before a code there is room
-pub room-before : (s n : Progress) (x place : ℕ) → is_whole s.prefix ≡ true → n ≡ noted_scan s x → place ≡ s.fed - 3 → Ahead s → HasRoom (tally_now n) place
+pub room-before : (s n : Progress) (x place : ℕ) → is_whole s.prefix ≡ true → n ≡ scan_with_byte s x → place ≡ s.fed - 3 → IsAhead s → HasRoom (tally_now n) place
 room-before s n x place whole is at room =
     let same = same-noted s.latest s.tally x in
     let three = whole-length s.prefix whole in
@@ -92,9 +85,9 @@ room-before s n x place whole is at room =
 
 -- ---- what a code that isn't refused says
 
-pub judged-code : (latest : Option Code) (tally : Tally) (place kind : ℕ) → judged latest tally place kind ≡ None → code_fault (tally_with latest tally) place kind ≡ None
-unfolding judged
-judged-code latest tally place kind e =
+pub code_judgement-code : (latest : Option Code) (tally : Tally) (place kind : ℕ) → code_judgement latest tally place kind ≡ None → code_fault (tally_with latest tally) place kind ≡ None
+unfolding code_judgement
+code_judgement-code latest tally place kind e =
     otherwise-second (latest_header_fault latest tally.rate place) (code_fault (tally_with latest tally) place kind) e
 
 begun-by : (a b q k : Bool) (place : ℕ) → k ≡ false → cond a (Some (SystemCode place)) (cond b (Some (Mpeg2 place)) (cond (not q && not k) (Some NoSequence) None)) ≡ None → q ≡ true
@@ -115,17 +108,17 @@ code-begun t place kind e slice =
     (otherwise-first (kind_fault t place kind) (otherwise (second_fault t kind) (otherwise (first_slice_fault t place kind) (count_fault t place kind))) e)
 
 -- a unit's first slice: the head before it has 1 to 1,380 bytes
-pub head-some : (latest : Option Code) (tally t : Tally) (place kind : ℕ) → judged latest tally place kind ≡ None → t ≡ tally_with latest tally → HasRoom (tally_with latest tally) place → is_slice kind ≡ true → t.unit < place
+pub head-some : (latest : Option Code) (tally t : Tally) (place kind : ℕ) → code_judgement latest tally place kind ≡ None → t ≡ tally_with latest tally → HasRoom (tally_with latest tally) place → is_slice kind ≡ true → t.unit < place
 head-some latest tally t place kind e is room slice =
     let unit : t.unit ≡ (tally_with latest tally).unit = ap (λ (v : Tally). v.unit) is in
-    omega (arith, unit, room.unit (code-begun (tally_with latest tally) place kind (judged-code latest tally place kind e) slice))
+    omega (arith, unit, room.unit (code-begun (tally_with latest tally) place kind (code_judgement-code latest tally place kind e) slice))
 
-pub head-short : (latest : Option Code) (tally t : Tally) (place kind : ℕ) → judged latest tally place kind ≡ None → t ≡ tally_with latest tally → is_slice kind ≡ true → t.slices ≡ 0 → place ≤ t.unit + 1380
+pub head-short : (latest : Option Code) (tally t : Tally) (place kind : ℕ) → code_judgement latest tally place kind ≡ None → t ≡ tally_with latest tally → is_slice kind ≡ true → t.slices ≡ 0 → place ≤ t.unit + 1380
 head-short latest tally t place kind e is slice none =
     let now = tally_with latest tally in
     let unit : t.unit ≡ now.unit = ap (λ (v : Tally). v.unit) is in
     let slices : t.slices ≡ now.slices = ap (λ (v : Tally). v.slices) is in
-    omega (arith, unit, first_slice-head now place kind (first_slice-accepted now place kind (judged-code latest tally place kind e)) slice (sym slices ∙ none))
+    omega (arith, unit, first_slice-head now place kind (first_slice-accepted now place kind (code_judgement-code latest tally place kind e)) slice (sym slices ∙ none))
 
 -- ---- after a code
 
@@ -171,7 +164,7 @@ whole-is Zero e = absurd (false≢true e)
 whole-is Zeros e = absurd (false≢true e)
 whole-is Whole e = refl
 
-pub coded-ahead : (s n m : Progress) (x place : ℕ) → is_whole s.prefix ≡ true → n ≡ noted_scan s x → place ≡ s.fed - 3 → m ≡ coded_scan n place x → Ahead s → Ahead m
+pub coded-ahead : (s n m : Progress) (x place : ℕ) → is_whole s.prefix ≡ true → n ≡ scan_with_byte s x → place ≡ s.fed - 3 → m ≡ scan_with_code n place x → IsAhead s → IsAhead m
 coded-ahead s n m x place whole noted at is room =
     let before = room-before s n x place whole noted at room in
     let three = whole-length s.prefix whole in
@@ -179,17 +172,17 @@ coded-ahead s n m x place whole noted at is room =
     let prefix : n.prefix ≡ next_prefix Whole x = ap (λ (v : Progress). v.prefix) noted ∙ ap (λ p. next_prefix p x) (whole-is s.prefix whole) in
     let code : Code = record { place = place; kind = x; text = [] } in
     let made = code-ahead (tally_now n) place x s.fed (omega (arith, at, three, room.read)) before in
-    subst (λ (v : Progress). Ahead v) (sym is)
+    subst (λ (v : Progress). IsAhead v) (sym is)
     (subst (λ f. HasRoomAhead f n.prefix (Some code) (tally_now n)) (sym fed) (subst (λ (p : Prefix). HasRoomAhead (s.fed + 1) p (Some code) (tally_now n)) (sym prefix) made))
 
-pub coded-awaits : (Ready : ℕ → Type 0) (n m : Progress) (x place : ℕ) → m ≡ coded_scan n place x → AwaitsSliceAfter Ready (tally_now n) place x → AwaitsSlice Ready (tally_now m)
+pub coded-awaits : (Ready : ℕ → Type 0) (n m : Progress) (x place : ℕ) → m ≡ scan_with_code n place x → AwaitsSliceAfter Ready (tally_now n) place x → AwaitsSlice Ready (tally_now m)
 unfolding next
 coded-awaits Ready n m x place is awaits =
     subst (λ (v : Progress). AwaitsSlice Ready (tally_now v)) (sym is) awaits
 
 -- ---- as a run is passed over
 
-pub skipped-ahead : (s n : Progress) (count : ℕ) → n.fed ≡ s.fed + count → n.prefix ≡ s.prefix → n.latest ≡ s.latest → n.tally ≡ s.tally → Ahead s → Ahead n
+pub skipped-ahead : (s n : Progress) (count : ℕ) → n.fed ≡ s.fed + count → n.prefix ≡ s.prefix → n.latest ≡ s.latest → n.tally ≡ s.tally → IsAhead s → IsAhead n
 skipped-ahead s n count fed prefix latest tally room =
     let P : Prefix → Type 0 = λ p. HasRoomAhead n.fed p n.latest n.tally in
     let L : Option Code → Type 0 = λ o. HasRoomAhead n.fed s.prefix o n.tally in
@@ -213,14 +206,14 @@ both-ok (Err e) f p q = tt
 
 -- ---- the film's end
 
-pub ended-sliced : (latest : Option Code) (tally t : Tally) (end : ℕ) → ended latest tally end ≡ None → t ≡ tally_with latest tally → 0 < t.slices
-unfolding ended
-ended-sliced latest tally t end e is =
+pub end_judgement-sliced : (latest : Option Code) (tally t : Tally) (end : ℕ) → end_judgement latest tally end ≡ None → t ≡ tally_with latest tally → 0 < t.slices
+unfolding end_judgement
+end_judgement-sliced latest tally t end e is =
     let slices : t.slices ≡ (tally_with latest tally).slices = ap (λ (v : Tally). v.slices) is in
     let some = ended-none (tally_with latest tally) (otherwise-second (latest_header_fault latest tally.rate end) (last_fault (tally_with latest tally)) e) in
     omega (arith, slices, some)
 
-pub end-least : (s : Progress) (t : Tally) → t ≡ tally_now s → 0 < t.slices → Ahead s → t.slice + 4 ≤ s.fed
+pub end-least : (s : Progress) (t : Tally) → t ≡ tally_now s → 0 < t.slices → IsAhead s → t.slice + 4 ≤ s.fed
 end-least s t is some room =
     let slices : t.slices ≡ (tally_now s).slices = ap (λ (v : Tally). v.slices) is in
     let slice : t.slice ≡ (tally_now s).slice = ap (λ (v : Tally). v.slice) is in

@@ -7,7 +7,7 @@ use Rattle.mpeg_scan.specs.declared.units.Unit.{Unit as PictureUnit}
 use Rattle.mpeg_scan.specs.Codes.{read, codes_of}
 use Rattle.mpeg_scan.specs.Words.{is_head, is_slice, slice_of, slices_of, tally_of}
 use Rattle.mpeg_scan.specs.Faults.{end_fault, first_fault, last_fault, latest_fault}
-use Rattle.mpeg_scan.specs.Calls.{head_call, slice_call, unit_call, calls_at, told, unit_at, unit_end}
+use Rattle.mpeg_scan.specs.Calls.{head_call, slice_call, unit_call, calls_at, calls_of, unit_at, unit_end}
 use Rattle.mpeg_scan.specs.Films.{IsFilm, slices_in}
 use Rattle.mpeg_scan.specs.Places.{HasCode, StandsAt}
 use Rattle.mpeg_scan.specs.Standard.{IsAmong, IsSliceKind, StandsThere, slice_places}
@@ -52,25 +52,25 @@ raw-slices false true false false n slice at a b unit before places apart en non
 raw-slices false false e q n slice at a b unit before places apart en none some is =
     ap (λ v. (before ++ []) ++ cond v [] (slice ∷ [])) en ∙ ap (λ l. l ++ cond e [] (slice ∷ [])) (append-nil before) ∙ is
 
-step-slices : (c : Code) (past : List Code) → slices_in (told past) ++ pending (slices_of past) (slice_of past) ≡ slice_places past
-    → (slices_in (told past) ++ slices_in (calls_at (tally_of past) c.place c.kind)) ++ pending (slices_of (c ∷ past)) (slice_of (c ∷ past)) ≡ slice_places (c ∷ past)
+step-slices : (c : Code) (past : List Code) → slices_in (calls_of past) ++ pending (slices_of past) (slice_of past) ≡ slice_places past
+    → (slices_in (calls_of past) ++ slices_in (calls_at (tally_of past) c.place c.kind)) ++ pending (slices_of (c ∷ past)) (slice_of (c ∷ past)) ≡ slice_places (c ∷ past)
 unfolding calls_at
 step-slices c past is =
     let n = slices_of past in
-    raw-slices (is_slice c.kind) (is_head c.kind) (eqb n 0) (ltb 0 n) n (slice_of past) c.place (tally_of past).unit c.place (unit_at (tally_of past) c.place) (slices_in (told past)) (slice_places past)
+    raw-slices (is_slice c.kind) (is_head c.kind) (eqb n 0) (ltb 0 n) n (slice_of past) c.place (tally_of past).unit c.place (unit_at (tally_of past) c.place) (slices_in (calls_of past)) (slice_places past)
     (slice-apart c.kind) refl (none-count n) (some-count n) is
 
-told-slices : (past : List Code) → slices_in (told past) ++ pending (slices_of past) (slice_of past) ≡ slice_places past
+told-slices : (past : List Code) → slices_in (calls_of past) ++ pending (slices_of past) (slice_of past) ≡ slice_places past
 told-slices [] = ap (λ l. slices_in l ++ []) told-nil
 told-slices (c ∷ past) =
-    ap (λ l. l ++ pending (slices_of (c ∷ past)) (slice_of (c ∷ past))) (ap slices_in (told-cons c past) ∙ slices_in-append (told past) (calls_at (tally_of past) c.place c.kind))
+    ap (λ l. l ++ pending (slices_of (c ∷ past)) (slice_of (c ∷ past))) (ap slices_in (told-cons c past) ∙ slices_in-append (calls_of past) (calls_at (tally_of past) c.place c.kind))
     ∙ step-slices c past (told-slices past)
 
-whole-slices : (past : List Code) (n : ℕ) → end_fault past n ≡ None → slices_in (told past ++ unit_end (tally_of past) n) ≡ slice_places past
+whole-slices : (past : List Code) (n : ℕ) → end_fault past n ≡ None → slices_in (calls_of past ++ unit_end (tally_of past) n) ≡ slice_places past
 unfolding end_fault
 whole-slices past n ended =
     let some = ended-none (tally_of past) (otherwise-second (latest_fault past n) (last_fault (tally_of past)) ended) in
-    slices_in-append (told past) (unit_end (tally_of past) n) ∙ ap (λ l. slices_in (told past) ++ l) (sym (pending-some (slices_of past) (slice_of past) some)) ∙ told-slices past
+    slices_in-append (calls_of past) (unit_end (tally_of past) n) ∙ ap (λ l. slices_in (calls_of past) ++ l) (sym (pending-some (slices_of past) (slice_of past) some)) ∙ told-slices past
 
 pub film-slices : (bytes : List ℕ) (rate : ℕ) (units : List PictureUnit) (starts : List ℕ) → IsFilm bytes rate units starts → starts ≡ slice_places (codes_of (read [] bytes))
 film-slices bytes rate units starts film =

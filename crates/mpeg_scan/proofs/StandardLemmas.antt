@@ -11,7 +11,7 @@ use Rattle.mpeg_scan.specs.declared.units.Unit.{Unit as PictureUnit}
 use Rattle.mpeg_scan.specs.Codes.{read, codes_of}
 use Rattle.mpeg_scan.specs.Words.{all_slices_of, backward_of, forward_of, has_sequence, head_end_of, header_of, is_head, is_slice, picture_of, slices_of, starts_group, tally_of, temporal_of, type_of, unit_of, rate_of, vectors_of}
 use Rattle.mpeg_scan.specs.Faults.{end_fault, first_fault, header_fault, last_fault, latest_fault, picture_fault, rate_fault}
-use Rattle.mpeg_scan.specs.Calls.{Call, head_call, slice_call, unit_call, calls_at, kind_of, no_header, told, unit_at, unit_end}
+use Rattle.mpeg_scan.specs.Calls.{Call, head_call, slice_call, unit_call, calls_at, kind_of, no_header, calls_of, unit_at, unit_end}
 use Rattle.mpeg_scan.specs.Films.{IsFilm, units_in}
 use Rattle.mpeg_scan.specs.Places.{HasCode, StandsAt}
 use Rattle.mpeg_scan.specs.Standard.{Counts, HasFields, HasPicture, IsFirstCode, IsHeadKind, IsSliceKind, IsUnitOf, NoneIn, StandsIn, StandsThere, UnitIs, type_number, vector_fields}
@@ -23,7 +23,7 @@ use Rattle.mpeg_scan.proofs.FilmLemmas.{length-read, units_in-append}
 use Rattle.mpeg_scan.proofs.PlaceLemmas.{at as at_byte, at-bytes, codes-stand}
 use Rattle.mpeg_scan.proofs.TextLemmas.{TextIs, TextsAre, codes-texts, text-byte}
 use Rattle.mpeg_scan.proofs.OpenLemmas.{Below, Firsts, Member, Open, Pictured, first-code, kinds-of, member-has, step-open}
-use Rattle.mpeg_scan.specs.Codes.{matched}
+use Rattle.mpeg_scan.specs.Codes.{latest_prefix}
 use Rattle.mpeg_scan.proofs.BeforeLemmas.{Knows}
 use Rattle.mpeg_scan.proofs.SinceLemmas.{all-slices, counts-same, few-slices, own-slices}
 
@@ -273,7 +273,7 @@ unfolding calls_at
 closed-first c is =
     subst (λ m. AllClosed (c ∷ []) c.place (units_in (cond (is_slice m) (cond (eqb 0 0) (head_call 0 c.place ∷ []) (slice_call 0 c.place ∷ [])) (cond (is_head m && ltb 0 0) (unit_end (tally_of []) c.place) [])))) (sym is) tt
 
-told-closed : (c : Code) (past : List Code) → first_fault (c ∷ past) ≡ None → Spaced (c ∷ past) → AllClosed (c ∷ past) c.place (units_in (told (c ∷ past)))
+told-closed : (c : Code) (past : List Code) → first_fault (c ∷ past) ≡ None → Spaced (c ∷ past) → AllClosed (c ∷ past) c.place (units_in (calls_of (c ∷ past)))
 told-closed c [] accepted spaced =
     subst (λ (l : List Call). AllClosed (c ∷ []) c.place (units_in l)) (sym (told-cons c [] ∙ ap (λ (l : List Call). l ++ calls_at (tally_of []) c.place c.kind) told-nil)) (closed-first c (first-is c accepted))
 told-closed c (d ∷ past) accepted spaced =
@@ -281,11 +281,11 @@ told-closed c (d ∷ past) accepted spaced =
     let calls = calls_at (tally_of older) c.place c.kind in
     let below = all-below older c.place spaced.1 spaced.0 in
     let before = told-closed d past (accepted-older c older accepted) spaced.1 in
-    subst (λ (l : List PictureUnit). AllClosed (c ∷ older) c.place l) (sym (ap units_in (told-cons c older) ∙ units_in-append (told older) calls))
-    (all-append (c ∷ older) c.place (units_in (told older)) (units_in calls) (all-grow c older d.place (units_in (told older)) (omega (arith, below d.place d.kind (inl (refl, refl)))) before)
+    subst (λ (l : List PictureUnit). AllClosed (c ∷ older) c.place l) (sym (ap units_in (told-cons c older) ∙ units_in-append (calls_of older) calls))
+    (all-append (c ∷ older) c.place (units_in (calls_of older)) (units_in calls) (all-grow c older d.place (units_in (calls_of older)) (omega (arith, below d.place d.kind (inl (refl, refl)))) before)
     (closed-step c d past (open-codes d past (accepted-older c older accepted) spaced.1) spaced.1 below))
 
-whole-closed : (past : List Code) (n : ℕ) → first_fault past ≡ None → end_fault past n ≡ None → Spaced past → After n past → AllClosed past n (units_in (told past ++ unit_end (tally_of past) n))
+whole-closed : (past : List Code) (n : ℕ) → first_fault past ≡ None → end_fault past n ≡ None → Spaced past → After n past → AllClosed past n (units_in (calls_of past ++ unit_end (tally_of past) n))
 unfolding end_fault
 whole-closed [] n accepted ended spaced after = absurd (omega (arith, ended-none (tally_of []) ended))
 whole-closed (c ∷ past) n accepted ended spaced after =
@@ -293,8 +293,8 @@ whole-closed (c ∷ past) n accepted ended spaced after =
     let some = ended-none (tally_of all) (otherwise-second (latest_fault all n) (last_fault (tally_of all)) ended) in
     let below = all-below all n spaced after in
     let last : AllClosed all n (units_in (unit_end (tally_of all) n)) = ((close all n (open-codes c past accepted spaced) spaced some below, omega arith), tt) in
-    subst (λ (l : List PictureUnit). AllClosed all n l) (sym (units_in-append (told all) (unit_end (tally_of all) n)))
-    (all-append all n (units_in (told all)) (units_in (unit_end (tally_of all) n)) (all-later all c.place n (units_in (told all)) (omega (arith, below c.place c.kind (inl (refl, refl)))) (told-closed c past accepted spaced)) last)
+    subst (λ (l : List PictureUnit). AllClosed all n l) (sym (units_in-append (calls_of all) (unit_end (tally_of all) n)))
+    (all-append all n (units_in (calls_of all)) (units_in (unit_end (tally_of all) n)) (all-later all c.place n (units_in (calls_of all)) (omega (arith, below c.place c.kind (inl (refl, refl)))) (told-closed c past accepted spaced)) last)
 
 -- ---- from codes to bytes
 
@@ -467,6 +467,6 @@ film-standard bytes rate units starts film k unit is =
     let accepted = otherwise-first (first_fault past) (end_fault past (length r)) none in
     let ended = otherwise-second (first_fault past) (end_fault past (length r)) none in
     let placed = placed-codes r in
-    let all = whole-closed past (length r) accepted ended placed.spaced (room-after past (matched r) (length r) placed.room) in
+    let all = whole-closed past (length r) accepted ended placed.spaced (room-after past (latest_prefix r) (length r) placed.room) in
     let mine : AllClosed past (length r) units = subst (λ (l : List PictureUnit). AllClosed past (length r) l) (sym film.units) all in
     unit-bytes bytes past unit (codes-stand bytes) (whole-texts r past (length r) accepted ended (codes-texts r)) (all-at past (length r) units k unit is mine)

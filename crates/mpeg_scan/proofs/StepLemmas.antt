@@ -8,23 +8,23 @@ use Rattle.mpeg_scan.specs.declared.faults.FilmFault.{FilmFault}
 use Rattle.mpeg_scan.specs.declared.faults.FilmFault.TheVariants.{Empty, GroupTooLong, TooLong}
 use Rattle.mpeg_scan.specs.declared.progress.Progress.{Progress}
 use Rattle.mpeg_scan.specs.declared.tallies.Tally.{Tally}
-use Rattle.mpeg_scan.specs.Codes.{matched, next_prefix, is_whole, note, note_latest, codes_of}
+use Rattle.mpeg_scan.specs.Codes.{latest_prefix, next_prefix, is_whole, note, note_latest, codes_of}
 use Rattle.mpeg_scan.specs.Words.{is_head, is_slice, tally_of, slices_of, all_slices_of, pictures_of, before_group_of}
 use Rattle.mpeg_scan.specs.Faults.{otherwise, latest_fault, kind_fault, second_fault, first_slice_fault, count_fault, code_fault, fault_at, first_fault, end_fault, last_fault, refusal_of}
-use Rattle.mpeg_scan.specs.Calls.{Call, calls_at, told}
-use Rattle.mpeg_scan.specs.Steps.{one_more, one_picture, next, next_by, tally_with, judged, ended, latest_of, older_of}
-use Rattle.mpeg_scan.specs.Scans.{HasRead, noted_scan, coded_scan}
+use Rattle.mpeg_scan.specs.Calls.{Call, calls_at, calls_of}
+use Rattle.mpeg_scan.specs.Steps.{one_more, one_picture, next, next_by, tally_with, code_judgement, end_judgement, latest_of, older_of}
+use Rattle.mpeg_scan.specs.Scans.{HasRead, scan_with_byte, scan_with_code}
 use Rattle.mpeg_scan.proofs.CodeLemmas.{matched-more}
 
 -- ---- the codes of a byte more
 
-pub codes-plain : (x : ℕ) (r : List ℕ) → is_whole (matched r) ≡ false → codes_of (x ∷ r) ≡ note_latest (codes_of r) x
+pub codes-plain : (x : ℕ) (r : List ℕ) → is_whole (latest_prefix r) ≡ false → codes_of (x ∷ r) ≡ note_latest (codes_of r) x
 unfolding codes_of
 codes-plain x r e =
     let new : List Code = record { place = length r - 3; kind = x; text = [] } ∷ note_latest (codes_of r) x in
     ap (λ b. cond b new (note_latest (codes_of r) x)) e
 
-pub codes-code : (x : ℕ) (r : List ℕ) → is_whole (matched r) ≡ true → codes_of (x ∷ r) ≡ record { place = length r - 3; kind = x; text = [] } ∷ note_latest (codes_of r) x
+pub codes-code : (x : ℕ) (r : List ℕ) → is_whole (latest_prefix r) ≡ true → codes_of (x ∷ r) ≡ record { place = length r - 3; kind = x; text = [] } ∷ note_latest (codes_of r) x
 unfolding codes_of
 codes-code x r e =
     let new : List Code = record { place = length r - 3; kind = x; text = [] } ∷ note_latest (codes_of r) x in
@@ -47,8 +47,8 @@ unfolding first_fault
 first_fault-note [] x = refl
 first_fault-note (c ∷ past) x = refl
 
-pub told-note : (past : List Code) (x : ℕ) → told (note_latest past x) ≡ told past
-unfolding told
+pub told-note : (past : List Code) (x : ℕ) → calls_of (note_latest past x) ≡ calls_of past
+unfolding calls_of
 told-note [] x = refl
 told-note (c ∷ past) x = refl
 
@@ -58,7 +58,7 @@ codes-none = refl
 
 pub length-codes : (r : List ℕ) → length (codes_of r) ≤ length r
 length-codes [] = omega (arith, ap (λ (l : List Code). length l) codes-none)
-length-codes (x ∷ r) = elim (cases_Bool (is_whole (matched r))) [
+length-codes (x ∷ r) = elim (cases_Bool (is_whole (latest_prefix r))) [
   | inl e ↦ omega (arith, ap (λ (l : List Code). length l) (codes-code x r e), length-note (codes_of r) x, length-codes r)
   | inr e ↦ omega (arith, ap (λ (l : List Code). length l) (codes-plain x r e), length-note (codes_of r) x, length-codes r)
 ]
@@ -140,10 +140,10 @@ pub tally_now-is : (past : List Code) → first_fault past ≡ None → length p
 tally_now-is [] accepted short = refl
 tally_now-is (c ∷ past) accepted short = next-tally past c (accepted-older c past accepted) (omega arith)
 
-pub judged-is : (past : List Code) (place kind : ℕ) → first_fault past ≡ None → length past < 2 ^ 63 → judged (latest_of past) (tally_of (older_of past)) place kind ≡ fault_at past place kind
-unfolding judged fault_at
-judged-is [] place kind accepted short = refl
-judged-is (c ∷ past) place kind accepted short =
+pub code_judgement-is : (past : List Code) (place kind : ℕ) → first_fault past ≡ None → length past < 2 ^ 63 → code_judgement (latest_of past) (tally_of (older_of past)) place kind ≡ fault_at past place kind
+unfolding code_judgement fault_at
+code_judgement-is [] place kind accepted short = refl
+code_judgement-is (c ∷ past) place kind accepted short =
     ap (λ (t : Tally). otherwise (latest_fault (c ∷ past) place) (code_fault t place kind)) (next-tally past c (accepted-older c past accepted) (omega arith))
 
 -- ---- a byte
@@ -155,7 +155,7 @@ note-accepted r x accepted = first_fault-note (codes_of r) x ∙ accepted
 pub note-short : (r : List ℕ) (x : ℕ) → length r < 2 ^ 42 → length (note_latest (codes_of r) x) < 2 ^ 63
 note-short r x short = omega (arith, length-note (codes_of r) x, length-codes r)
 
-pub fed-plain : (s : Progress) (r : List ℕ) (x : ℕ) → HasRead s r → is_whole (matched r) ≡ false → HasRead (noted_scan s x) (x ∷ r)
+pub fed-plain : (s : Progress) (r : List ℕ) (x : ℕ) → HasRead s r → is_whole (latest_prefix r) ≡ false → HasRead (scan_with_byte s x) (x ∷ r)
 fed-plain s r x kept plain =
     let codes = codes-plain x r plain in record {
       fed = omega (arith, kept.fed);
@@ -166,14 +166,14 @@ fed-plain s r x kept plain =
     }
 
 -- what the scanner judges a code by, once its byte is noted
-pub judged-noted : (s : Progress) (r : List ℕ) (x place kind : ℕ) → HasRead s r → length r < 2 ^ 42 → judged (noted_scan s x).latest s.tally place kind ≡ fault_at (note_latest (codes_of r) x) place kind
-judged-noted s r x place kind kept short =
+pub code_judgement-next : (s : Progress) (r : List ℕ) (x place kind : ℕ) → HasRead s r → length r < 2 ^ 42 → code_judgement (scan_with_byte s x).latest s.tally place kind ≡ fault_at (note_latest (codes_of r) x) place kind
+code_judgement-next s r x place kind kept short =
     let past = note_latest (codes_of r) x in
-    ap (λ (l : Option Code). judged l s.tally place kind) (ap (option_map (λ c. note c x)) kept.latest ∙ sym (latest-note (codes_of r) x))
-    ∙ ap (λ (t : Tally). judged (latest_of past) t place kind) (kept.tally ∙ ap tally_of (sym (older-note (codes_of r) x)))
-    ∙ judged-is past place kind (note-accepted r x kept.accepted) (note-short r x short)
+    ap (λ (l : Option Code). code_judgement l s.tally place kind) (ap (option_map (λ c. note c x)) kept.latest ∙ sym (latest-note (codes_of r) x))
+    ∙ ap (λ (t : Tally). code_judgement (latest_of past) t place kind) (kept.tally ∙ ap tally_of (sym (older-note (codes_of r) x)))
+    ∙ code_judgement-is past place kind (note-accepted r x kept.accepted) (note-short r x short)
 
-pub tally-noted : (s : Progress) (r : List ℕ) (x : ℕ) → HasRead s r → length r < 2 ^ 42 → tally_with (noted_scan s x).latest s.tally ≡ tally_of (note_latest (codes_of r) x)
+pub tally-noted : (s : Progress) (r : List ℕ) (x : ℕ) → HasRead s r → length r < 2 ^ 42 → tally_with (scan_with_byte s x).latest s.tally ≡ tally_of (note_latest (codes_of r) x)
 tally-noted s r x kept short =
     let past = note_latest (codes_of r) x in
     ap (λ (l : Option Code). tally_with l s.tally) (ap (option_map (λ c. note c x)) kept.latest ∙ sym (latest-note (codes_of r) x))
@@ -185,13 +185,13 @@ unfolding first_fault
 first_fault-code past place kind accepted = ap (λ (f : Option FilmFault). otherwise f (fault_at past place kind)) accepted
 
 -- the refusal at a code, and that there is none
-pub first_fault-at : (s : Progress) (r : List ℕ) (x : ℕ) → HasRead s r → length r < 2 ^ 42 → is_whole (matched r) ≡ true → first_fault (codes_of (x ∷ r)) ≡ judged (noted_scan s x).latest s.tally (s.fed - 3) x
+pub first_fault-at : (s : Progress) (r : List ℕ) (x : ℕ) → HasRead s r → length r < 2 ^ 42 → is_whole (latest_prefix r) ≡ true → first_fault (codes_of (x ∷ r)) ≡ code_judgement (scan_with_byte s x).latest s.tally (s.fed - 3) x
 first_fault-at s r x kept short whole =
     let past = note_latest (codes_of r) x in
     ap first_fault (codes-code x r whole) ∙ first_fault-code past (length r - 3) x (note-accepted r x kept.accepted)
-    ∙ ap (λ n. fault_at past (n - 3) x) (sym kept.fed) ∙ sym (judged-noted s r x (s.fed - 3) x kept short)
+    ∙ ap (λ n. fault_at past (n - 3) x) (sym kept.fed) ∙ sym (code_judgement-next s r x (s.fed - 3) x kept short)
 
-pub fed-code : (s : Progress) (r : List ℕ) (x : ℕ) → HasRead s r → length r < 2 ^ 42 → is_whole (matched r) ≡ true → judged (noted_scan s x).latest s.tally (s.fed - 3) x ≡ None → HasRead (coded_scan (noted_scan s x) (s.fed - 3) x) (x ∷ r)
+pub fed-code : (s : Progress) (r : List ℕ) (x : ℕ) → HasRead s r → length r < 2 ^ 42 → is_whole (latest_prefix r) ≡ true → code_judgement (scan_with_byte s x).latest s.tally (s.fed - 3) x ≡ None → HasRead (scan_with_code (scan_with_byte s x) (s.fed - 3) x) (x ∷ r)
 fed-code s r x kept short whole none =
     let codes = codes-code x r whole in
     let past = note_latest (codes_of r) x in record {
@@ -202,62 +202,62 @@ fed-code s r x kept short whole none =
       accepted = first_fault-at s r x kept short whole ∙ none;
     }
 
-told-code : (c : Code) (past : List Code) → told (c ∷ past) ≡ told past ++ calls_at (tally_of past) c.place c.kind
-unfolding told
+told-code : (c : Code) (past : List Code) → calls_of (c ∷ past) ≡ calls_of past ++ calls_at (tally_of past) c.place c.kind
+unfolding calls_of
 told-code c past = refl
 
 -- what is told at a byte
-pub told-plain : (x : ℕ) (r : List ℕ) → is_whole (matched r) ≡ false → told (codes_of (x ∷ r)) ≡ told (codes_of r)
-told-plain x r plain = ap told (codes-plain x r plain) ∙ told-note (codes_of r) x
+pub told-plain : (x : ℕ) (r : List ℕ) → is_whole (latest_prefix r) ≡ false → calls_of (codes_of (x ∷ r)) ≡ calls_of (codes_of r)
+told-plain x r plain = ap calls_of (codes-plain x r plain) ∙ told-note (codes_of r) x
 
-pub told-at : (s : Progress) (r : List ℕ) (x : ℕ) → HasRead s r → length r < 2 ^ 42 → is_whole (matched r) ≡ true → told (codes_of (x ∷ r)) ≡ told (codes_of r) ++ calls_at (tally_with (noted_scan s x).latest s.tally) (s.fed - 3) x
+pub told-at : (s : Progress) (r : List ℕ) (x : ℕ) → HasRead s r → length r < 2 ^ 42 → is_whole (latest_prefix r) ≡ true → calls_of (codes_of (x ∷ r)) ≡ calls_of (codes_of r) ++ calls_at (tally_with (scan_with_byte s x).latest s.tally) (s.fed - 3) x
 told-at s r x kept short whole =
     let past = note_latest (codes_of r) x in
-    ap told (codes-code x r whole) ∙ told-code (record { place = length r - 3; kind = x; text = [] }) past
+    ap calls_of (codes-code x r whole) ∙ told-code (record { place = length r - 3; kind = x; text = [] }) past
     ∙ ap (λ (l : List Call). l ++ calls_at (tally_of past) (length r - 3) x) (told-note (codes_of r) x)
-    ∙ ap (λ (t : Tally). told (codes_of r) ++ calls_at t (length r - 3) x) (sym (tally-noted s r x kept short))
-    ∙ ap (λ n. told (codes_of r) ++ calls_at (tally_with (noted_scan s x).latest s.tally) (n - 3) x) (sym kept.fed)
+    ∙ ap (λ (t : Tally). calls_of (codes_of r) ++ calls_at t (length r - 3) x) (sym (tally-noted s r x kept short))
+    ∙ ap (λ n. calls_of (codes_of r) ++ calls_at (tally_with (scan_with_byte s x).latest s.tally) (n - 3) x) (sym kept.fed)
 
 -- ---- as the code takes a byte
 
-whole-read : (s : Progress) (r : List ℕ) (b w : Bool) → HasRead s r → w ≡ b → w ≡ is_whole s.prefix → is_whole (matched r) ≡ b
+whole-read : (s : Progress) (r : List ℕ) (b w : Bool) → HasRead s r → w ≡ b → w ≡ is_whole s.prefix → is_whole (latest_prefix r) ≡ b
 whole-read s r b w kept test is = sym (is ∙ ap is_whole kept.prefix) ∙ test
 
 short-read : (s : Progress) (r : List ℕ) → HasRead s r → s.fed < 2 ^ 41 → length r < 2 ^ 42
 short-read s r kept short = omega (arith, kept.fed)
 
-pub taken-plain : (s n : Progress) (r : List ℕ) (x : ℕ) (w : Bool) → w ≡ false → w ≡ is_whole s.prefix → n ≡ noted_scan s x → HasRead s r → HasRead n (x ∷ r)
+pub taken-plain : (s n : Progress) (r : List ℕ) (x : ℕ) (w : Bool) → w ≡ false → w ≡ is_whole s.prefix → n ≡ scan_with_byte s x → HasRead s r → HasRead n (x ∷ r)
 taken-plain s n r x w test is noted kept =
     subst (λ (v : Progress). HasRead v (x ∷ r)) (sym noted) (fed-plain s r x kept (whole-read s r false w kept test is))
 
-pub taken-code : (s n m : Progress) (r : List ℕ) (x place : ℕ) (w : Bool) → s.fed < 2 ^ 41 → w ≡ true → w ≡ is_whole s.prefix → n ≡ noted_scan s x → place ≡ s.fed - 3 → (judged n.latest n.tally place x ≡ None) × (m ≡ coded_scan n place x) → HasRead s r → HasRead m (x ∷ r)
+pub taken-code : (s n m : Progress) (r : List ℕ) (x place : ℕ) (w : Bool) → s.fed < 2 ^ 41 → w ≡ true → w ≡ is_whole s.prefix → n ≡ scan_with_byte s x → place ≡ s.fed - 3 → (code_judgement n.latest n.tally place x ≡ None) × (m ≡ scan_with_code n place x) → HasRead s r → HasRead m (x ∷ r)
 taken-code s n m r x place w short test is noted at h kept =
-    let none : judged (noted_scan s x).latest s.tally (s.fed - 3) x ≡ None =
-    sym (ap (λ (v : Progress). judged v.latest v.tally place x) noted ∙ ap (λ p. judged (noted_scan s x).latest s.tally p x) at) ∙ h.0 in
-    let became : m ≡ coded_scan (noted_scan s x) (s.fed - 3) x =
-    h.1 ∙ ap (λ (v : Progress). coded_scan v place x) noted ∙ ap (λ p. coded_scan (noted_scan s x) p x) at in
+    let none : code_judgement (scan_with_byte s x).latest s.tally (s.fed - 3) x ≡ None =
+    sym (ap (λ (v : Progress). code_judgement v.latest v.tally place x) noted ∙ ap (λ p. code_judgement (scan_with_byte s x).latest s.tally p x) at) ∙ h.0 in
+    let became : m ≡ scan_with_code (scan_with_byte s x) (s.fed - 3) x =
+    h.1 ∙ ap (λ (v : Progress). scan_with_code v place x) noted ∙ ap (λ p. scan_with_code (scan_with_byte s x) p x) at in
     subst (λ (v : Progress). HasRead v (x ∷ r)) (sym became) (fed-code s r x kept (short-read s r kept short) (whole-read s r true w kept test is) none)
 
-pub taken-fault : (s n : Progress) (r : List ℕ) (x place : ℕ) (w : Bool) (f : FilmFault) → s.fed < 2 ^ 41 → w ≡ true → w ≡ is_whole s.prefix → n ≡ noted_scan s x → place ≡ s.fed - 3 → judged n.latest n.tally place x ≡ Some f → HasRead s r → first_fault (codes_of (x ∷ r)) ≡ Some f
+pub taken-fault : (s n : Progress) (r : List ℕ) (x place : ℕ) (w : Bool) (f : FilmFault) → s.fed < 2 ^ 41 → w ≡ true → w ≡ is_whole s.prefix → n ≡ scan_with_byte s x → place ≡ s.fed - 3 → code_judgement n.latest n.tally place x ≡ Some f → HasRead s r → first_fault (codes_of (x ∷ r)) ≡ Some f
 taken-fault s n r x place w f short test is noted at h kept =
     first_fault-at s r x kept (short-read s r kept short) (whole-read s r true w kept test is)
-    ∙ sym (ap (λ (v : Progress). judged v.latest v.tally place x) noted ∙ ap (λ p. judged (noted_scan s x).latest s.tally p x) at) ∙ h
+    ∙ sym (ap (λ (v : Progress). code_judgement v.latest v.tally place x) noted ∙ ap (λ p. code_judgement (scan_with_byte s x).latest s.tally p x) at) ∙ h
 
-pub taken-calls : (s n : Progress) (r : List ℕ) (x place : ℕ) (w : Bool) → s.fed < 2 ^ 41 → w ≡ true → w ≡ is_whole s.prefix → n ≡ noted_scan s x → place ≡ s.fed - 3 → HasRead s r → (calls : List Call) → (calls ++ told (codes_of r)) ++ calls_at (tally_with n.latest n.tally) place x ≡ calls ++ told (codes_of (x ∷ r))
+pub taken-calls : (s n : Progress) (r : List ℕ) (x place : ℕ) (w : Bool) → s.fed < 2 ^ 41 → w ≡ true → w ≡ is_whole s.prefix → n ≡ scan_with_byte s x → place ≡ s.fed - 3 → HasRead s r → (calls : List Call) → (calls ++ calls_of (codes_of r)) ++ calls_at (tally_with n.latest n.tally) place x ≡ calls ++ calls_of (codes_of (x ∷ r))
 taken-calls s n r x place w short test is noted at kept calls =
-    append_assoc calls (told (codes_of r)) (calls_at (tally_with n.latest n.tally) place x)
-    ∙ ap (λ (v : Progress). calls ++ (told (codes_of r) ++ calls_at (tally_with v.latest v.tally) place x)) noted
-    ∙ ap (λ p. calls ++ (told (codes_of r) ++ calls_at (tally_with (noted_scan s x).latest s.tally) p x)) at
+    append_assoc calls (calls_of (codes_of r)) (calls_at (tally_with n.latest n.tally) place x)
+    ∙ ap (λ (v : Progress). calls ++ (calls_of (codes_of r) ++ calls_at (tally_with v.latest v.tally) place x)) noted
+    ∙ ap (λ p. calls ++ (calls_of (codes_of r) ++ calls_at (tally_with (scan_with_byte s x).latest s.tally) p x)) at
     ∙ ap (λ (l : List Call). calls ++ l) (sym (told-at s r x kept (short-read s r kept short) (whole-read s r true w kept test is)))
 
-pub taken-none : (s : Progress) (r : List ℕ) (x : ℕ) (w : Bool) → w ≡ false → w ≡ is_whole s.prefix → HasRead s r → (calls : List Call) → calls ++ told (codes_of r) ≡ calls ++ told (codes_of (x ∷ r))
+pub taken-none : (s : Progress) (r : List ℕ) (x : ℕ) (w : Bool) → w ≡ false → w ≡ is_whole s.prefix → HasRead s r → (calls : List Call) → calls ++ calls_of (codes_of r) ≡ calls ++ calls_of (codes_of (x ∷ r))
 taken-none s r x w test is kept calls =
     ap (λ (l : List Call). calls ++ l) (sym (told-plain x r (whole-read s r false w kept test is)))
 
 -- ---- the film's end
 
-end_fault-is : (past : List Code) (end : ℕ) → first_fault past ≡ None → length past < 2 ^ 63 → ended (latest_of past) (tally_of (older_of past)) end ≡ end_fault past end
-unfolding ended end_fault
+end_fault-is : (past : List Code) (end : ℕ) → first_fault past ≡ None → length past < 2 ^ 63 → end_judgement (latest_of past) (tally_of (older_of past)) end ≡ end_fault past end
+unfolding end_judgement end_fault
 end_fault-is [] end accepted short = refl
 end_fault-is (c ∷ past) end accepted short =
     ap (λ (t : Tally). otherwise (latest_fault (c ∷ past) end) (last_fault t)) (next-tally past c (accepted-older c past accepted) (omega arith))
@@ -265,11 +265,11 @@ end_fault-is (c ∷ past) end accepted short =
 codes-short : (s : Progress) (r : List ℕ) → HasRead s r → s.fed ≤ 2 ^ 40 → length (codes_of r) < 2 ^ 63
 codes-short s r kept short = omega (arith, kept.fed, length-codes r)
 
-ended-is : (s : Progress) (r : List ℕ) → HasRead s r → s.fed ≤ 2 ^ 40 → ended s.latest s.tally s.fed ≡ end_fault (codes_of r) (length r)
-ended-is s r kept short =
-    ap (λ (l : Option Code). ended l s.tally s.fed) kept.latest
-    ∙ ap (λ (t : Tally). ended (latest_of (codes_of r)) t s.fed) kept.tally
-    ∙ ap (ended (latest_of (codes_of r)) (tally_of (older_of (codes_of r)))) kept.fed
+end_judgement-is : (s : Progress) (r : List ℕ) → HasRead s r → s.fed ≤ 2 ^ 40 → end_judgement s.latest s.tally s.fed ≡ end_fault (codes_of r) (length r)
+end_judgement-is s r kept short =
+    ap (λ (l : Option Code). end_judgement l s.tally s.fed) kept.latest
+    ∙ ap (λ (t : Tally). end_judgement (latest_of (codes_of r)) t s.fed) kept.tally
+    ∙ ap (end_judgement (latest_of (codes_of r)) (tally_of (older_of (codes_of r)))) kept.fed
     ∙ end_fault-is (codes_of r) (length r) kept.accepted (codes-short s r kept short)
 
 refusal-by : (r : List ℕ) → 0 < length r → length r ≤ 2 ^ 40 → first_fault (codes_of r) ≡ None → refusal_of r ≡ end_fault (codes_of r) (length r)
@@ -291,9 +291,9 @@ refusal-long s r long kept =
     ap (λ b. cond b (Some Empty) (cond (ltb (2 ^ 40) (length r)) (Some TooLong) (otherwise (first_fault (codes_of r)) (end_fault (codes_of r) (length r))))) (ne_eqb (length r) 0 (λ none. absurd (omega arith)))
     ∙ ap (λ b. cond b (Some TooLong) (otherwise (first_fault (codes_of r)) (end_fault (codes_of r) (length r)))) (lt-ltb (2 ^ 40) (length r) far)
 
-pub refusal-is : (s : Progress) (r : List ℕ) → 0 < s.fed → s.fed ≤ 2 ^ 40 → HasRead s r → refusal_of r ≡ ended s.latest s.tally s.fed
+pub refusal-is : (s : Progress) (r : List ℕ) → 0 < s.fed → s.fed ≤ 2 ^ 40 → HasRead s r → refusal_of r ≡ end_judgement s.latest s.tally s.fed
 refusal-is s r some short kept =
-    refusal-by r (omega (arith, kept.fed)) (omega (arith, kept.fed)) kept.accepted ∙ sym (ended-is s r kept short)
+    refusal-by r (omega (arith, kept.fed)) (omega (arith, kept.fed)) kept.accepted ∙ sym (end_judgement-is s r kept short)
 
 pub tally-ended : (s : Progress) (r : List ℕ) → s.fed ≤ 2 ^ 40 → HasRead s r → tally_with s.latest s.tally ≡ tally_of (codes_of r)
 tally-ended s r short kept =

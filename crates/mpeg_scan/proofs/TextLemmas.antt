@@ -4,7 +4,7 @@ use Rattle.std.proofs.lemmas.Bool.{cases_Bool, cases_lt, ltb-true, ltb-false}
 use Rattle.std.proofs.lemmas.List.{get_or_append_left, get_or_default}
 use Rattle.std.proofs.Math.Seq.{get_or-append_seam}
 use Rattle.mpeg_scan.specs.declared.codes.Code.{Code}
-use Rattle.mpeg_scan.specs.Codes.{matched, is_whole, note, note_latest, codes_of}
+use Rattle.mpeg_scan.specs.Codes.{latest_prefix, is_whole, note, note_latest, codes_of}
 use Rattle.mpeg_scan.proofs.CodeLemmas.{noted-by}
 use Rattle.mpeg_scan.proofs.StepLemmas.{codes-none, codes-plain, codes-code}
 use Rattle.mpeg_scan.proofs.PlaceLemmas.{at, at-last, at-older, whole-prefixed}
@@ -69,7 +69,7 @@ texts-more x r (c ∷ past) are = (text-more x r c are.0, texts-stay x r (c.plac
 
 pub codes-texts : (r : List ℕ) → TextsAre r (length r) (codes_of r)
 codes-texts [] = subst (λ (l : List Code). TextsAre [] 0 l) (sym codes-none) tt
-codes-texts (x ∷ r) = elim (cases_Bool (is_whole (matched r))) [
+codes-texts (x ∷ r) = elim (cases_Bool (is_whole (latest_prefix r))) [
   | inl e ↦ (let ends = (whole-prefixed r e).ends in
       let new : Code = record { place = length r - 3; kind = x; text = [] } in
       let stop : suc (length r) ≡ new.place + 4 = omega (arith, ends) in

@@ -8,10 +8,10 @@ use Rattle.mpeg_scan.specs.declared.tallies.Tally.{Tally}
 use Rattle.mpeg_scan.specs.declared.units.Unit.{Unit as PictureUnit}
 use Rattle.mpeg_scan.specs.declared.codes.Prefix.{Prefix}
 use Rattle.mpeg_scan.specs.declared.codes.Prefix.TheVariants.{Nothing, Zero, Zeros, Whole}
-use Rattle.mpeg_scan.specs.Codes.{matched, next_prefix, after_one, after_zero, is_whole, note_latest, codes_of}
+use Rattle.mpeg_scan.specs.Codes.{latest_prefix, next_prefix, after_one, after_zero, is_whole, note_latest, codes_of}
 use Rattle.mpeg_scan.specs.Words.{is_head, is_slice, begins_unit, tally_of, slices_of, unit_of, head_end_of, slice_of}
 use Rattle.mpeg_scan.specs.Faults.{otherwise, latest_fault, kind_fault, second_fault, first_slice_fault, count_fault, code_fault, head_fault, open_fault, last_fault, first_fault, end_fault, refusal_of}
-use Rattle.mpeg_scan.specs.Calls.{Call, head_call, slice_call, unit_call, unit_at, unit_end, calls_at, told, all_told}
+use Rattle.mpeg_scan.specs.Calls.{Call, head_call, slice_call, unit_call, unit_at, unit_end, calls_at, calls_of, all_calls}
 use Rattle.mpeg_scan.specs.Places.{HasCode}
 use Rattle.mpeg_scan.specs.Tiles.{Part, between, within, next_part, parts_after, first_of, Tiles}
 use Rattle.mpeg_scan.proofs.CodeLemmas.{matched-more}
@@ -195,12 +195,12 @@ unfolding calls_at part_by
 first-step place kind is =
     subst (λ k. parts_after (Some (between place)) (calls_at (tally_of []) place k) ≡ Some (part_by (cond (is_head k) 0 (cond (is_slice k) (0 + 1) 0)) place (cond (is_slice k && eqb 0 0) place 0) (cond (is_slice k) place 0))) (sym is) refl
 
-pub told-cons : (c : Code) (past : List Code) → told (c ∷ past) ≡ told past ++ calls_at (tally_of past) c.place c.kind
-unfolding told
+pub told-cons : (c : Code) (past : List Code) → calls_of (c ∷ past) ≡ calls_of past ++ calls_at (tally_of past) c.place c.kind
+unfolding calls_of
 told-cons c past = refl
 
-pub told-nil : told [] ≡ []
-unfolding told
+pub told-nil : calls_of [] ≡ []
+unfolding calls_of
 told-nil = refl
 
 -- the first code is a sequence header's
@@ -209,14 +209,14 @@ first-is c accepted =
     let kind = first-kind (leb 0xb9 c.kind) (eqb c.kind 0xb5) (eqb c.kind 0xb3) c.place (otherwise-first (kind_fault (tally_of []) c.place c.kind) (otherwise (second_fault (tally_of []) c.kind) (otherwise (first_slice_fault (tally_of []) c.place c.kind) (count_fault (tally_of []) c.place c.kind))) (code-accepted c [] accepted)) in
     eqb-true c.kind 0xb3 kind
 
-pub told-parts : (c : Code) (past : List Code) → first_fault (c ∷ past) ≡ None → Spaced (c ∷ past) → parts_after (Some (between (first_of (c ∷ past)))) (told (c ∷ past)) ≡ Some (part_of (c ∷ past))
+pub told-parts : (c : Code) (past : List Code) → first_fault (c ∷ past) ≡ None → Spaced (c ∷ past) → parts_after (Some (between (first_of (c ∷ past)))) (calls_of (c ∷ past)) ≡ Some (part_of (c ∷ past))
 told-parts c [] accepted spaced =
     ap (parts_after (Some (between c.place))) (told-cons c [] ∙ ap (λ (l : List Call). l ++ calls_at (tally_of []) c.place c.kind) told-nil)
     ∙ first-step c.place c.kind (first-is c accepted)
 told-parts c (d ∷ past) accepted spaced =
     let start : Option Part = Some (between (first_of (d ∷ past))) in
     ap (parts_after start) (told-cons c (d ∷ past))
-    ∙ parts-append start (told (d ∷ past)) (calls_at (tally_of (d ∷ past)) c.place c.kind)
+    ∙ parts-append start (calls_of (d ∷ past)) (calls_at (tally_of (d ∷ past)) c.place c.kind)
     ∙ ap (λ (o : Option Part). parts_after o (calls_at (tally_of (d ∷ past)) c.place c.kind)) (told-parts d past (accepted-older c (d ∷ past) accepted) spaced.1)
     ∙ code-step c d past (code-accepted c (d ∷ past) accepted) spaced
 
@@ -313,18 +313,18 @@ placed-code past n x placed =
       room = omega (arith, first-need (eqb x 1) (eqb x 0), after.1);
     }
 
-matched-none : matched [] ≡ Nothing
-unfolding matched
+matched-none : latest_prefix [] ≡ Nothing
+unfolding latest_prefix
 matched-none = refl
 
-pub placed-codes : (r : List ℕ) → Placed (codes_of r) (matched r) (length r)
+pub placed-codes : (r : List ℕ) → Placed (codes_of r) (latest_prefix r) (length r)
 placed-codes [] =
-    subst (λ (past : List Code). Placed past (matched []) 0) (sym codes-none) (subst (λ (p : Prefix). Placed [] p 0) (sym matched-none) (record { spaced = tt; room = omega arith }))
+    subst (λ (past : List Code). Placed past (latest_prefix []) 0) (sym codes-none) (subst (λ (p : Prefix). Placed [] p 0) (sym matched-none) (record { spaced = tt; room = omega arith }))
 placed-codes (x ∷ r) =
-    let rest = placed-codes r in elim (cases_Bool (is_whole (matched r))) [
-      | inl e ↦ (let at_whole = subst (λ (p : Prefix). Placed (codes_of r) p (length r)) (whole-is (matched r) e) rest in
-          subst (λ (past : List Code). Placed past (matched (x ∷ r)) (suc (length r))) (sym (codes-code x r e)) (subst (λ (p : Prefix). Placed (record { place = length r - 3; kind = x; text = [] } ∷ note_latest (codes_of r) x) p (suc (length r))) (sym (matched-more x r ∙ ap (λ (p : Prefix). next_prefix p x) (whole-is (matched r) e))) (placed-code (codes_of r) (length r) x at_whole)))
-      | inr e ↦ subst (λ (past : List Code). Placed past (matched (x ∷ r)) (suc (length r))) (sym (codes-plain x r e)) (subst (λ (p : Prefix). Placed (note_latest (codes_of r) x) p (suc (length r))) (sym (matched-more x r)) (placed-plain (codes_of r) (matched r) (length r) x e rest))
+    let rest = placed-codes r in elim (cases_Bool (is_whole (latest_prefix r))) [
+      | inl e ↦ (let at_whole = subst (λ (p : Prefix). Placed (codes_of r) p (length r)) (whole-is (latest_prefix r) e) rest in
+          subst (λ (past : List Code). Placed past (latest_prefix (x ∷ r)) (suc (length r))) (sym (codes-code x r e)) (subst (λ (p : Prefix). Placed (record { place = length r - 3; kind = x; text = [] } ∷ note_latest (codes_of r) x) p (suc (length r))) (sym (matched-more x r ∙ ap (λ (p : Prefix). next_prefix p x) (whole-is (latest_prefix r) e))) (placed-code (codes_of r) (length r) x at_whole)))
+      | inr e ↦ subst (λ (past : List Code). Placed past (latest_prefix (x ∷ r)) (suc (length r))) (sym (codes-plain x r e)) (subst (λ (p : Prefix). Placed (note_latest (codes_of r) x) p (suc (length r))) (sym (matched-more x r)) (placed-plain (codes_of r) (latest_prefix r) (length r) x e rest))
     ]
 
 need-span : (b : Bool) (p : Prefix) → cond b 3 4 ≤ need b p
@@ -362,12 +362,12 @@ end-step past n some apart = elim (count-cases (slices_of past)) [
       ∙ takes-unit (unit_of past) (head_end_of past) more.0 n (slices_of past) (unit_at (tally_of past) n) refl refl refl refl more.1
 ]
 
-whole-tiles : (past : List Code) (n : ℕ) → first_fault past ≡ None → end_fault past n ≡ None → Spaced past → After n past → parts_after (Some (between (first_of past))) (told past ++ unit_end (tally_of past) n) ≡ Some (between n)
+whole-tiles : (past : List Code) (n : ℕ) → first_fault past ≡ None → end_fault past n ≡ None → Spaced past → After n past → parts_after (Some (between (first_of past))) (calls_of past ++ unit_end (tally_of past) n) ≡ Some (between n)
 unfolding end_fault
 whole-tiles [] n accepted ended spaced after = absurd (omega (arith, ended-none (tally_of []) ended))
 whole-tiles (c ∷ past) n accepted ended spaced after =
     let some = ended-none (tally_of (c ∷ past)) (otherwise-second (latest_fault (c ∷ past) n) (last_fault (tally_of (c ∷ past))) ended) in
-    parts-append (Some (between (first_of (c ∷ past)))) (told (c ∷ past)) (unit_end (tally_of (c ∷ past)) n)
+    parts-append (Some (between (first_of (c ∷ past)))) (calls_of (c ∷ past)) (unit_end (tally_of (c ∷ past)) n)
     ∙ ap (λ (o : Option Part). parts_after o (unit_end (tally_of (c ∷ past)) n)) (told-parts c past accepted spaced)
     ∙ end-step (c ∷ past) n some (slice-before (c ∷ past) n spaced after some)
 
@@ -383,8 +383,8 @@ accepted-whole r e = elim (cases_Bool (eqb (length r) 0)) [
 ]
 
 -- an accepted film is its units, one after another
-pub film-tiles : (r : List ℕ) → refusal_of r ≡ None → Tiles r (all_told r)
+pub film-tiles : (r : List ℕ) → refusal_of r ≡ None → Tiles r (all_calls r)
 film-tiles r e =
     let none = accepted-whole r e in
     let placed = placed-codes r in
-    whole-tiles (codes_of r) (length r) (otherwise-first (first_fault (codes_of r)) (end_fault (codes_of r) (length r)) none) (otherwise-second (first_fault (codes_of r)) (end_fault (codes_of r) (length r)) none) placed.spaced (room-after (codes_of r) (matched r) (length r) placed.room)
+    whole-tiles (codes_of r) (length r) (otherwise-first (first_fault (codes_of r)) (end_fault (codes_of r) (length r)) none) (otherwise-second (first_fault (codes_of r)) (end_fault (codes_of r) (length r)) none) placed.spaced (room-after (codes_of r) (latest_prefix r) (length r) placed.room)

@@ -55,10 +55,10 @@ calls_at t place kind =
     else (if is_head kind && nat_lt 0 t.slices then unit_end t place else [])
 
 -- what ends at the codes of a film, which are given the latest first
-unfoldable pub told : List Code → List Call
-told [] = []
-told (c ∷ past) = told past ++ calls_at (tally_of past) c.place c.kind
+unfoldable pub calls_of : List Code → List Call
+calls_of [] = []
+calls_of (c ∷ past) = calls_of past ++ calls_at (tally_of past) c.place c.kind
 
 -- what a whole film has, its bytes given the latest first
-abbrev pub all_told : List ℕ → List Call
-all_told r = told (codes_of r) ++ unit_end (tally_of (codes_of r)) (length r)
+abbrev pub all_calls : List ℕ → List Call
+all_calls r = calls_of (codes_of r) ++ unit_end (tally_of (codes_of r)) (length r)

@@ -1,7 +1,7 @@
 -- The start codes of MPEG-1 video (ISO/IEC 11172-2, 2.4.2.1).
 use Rattle.std.specs.Prelude.{ℕ, ◌-◌, ◌==◌, ◌&&◌, Bool, true, false, List, [], ◌∷◌, if◌then◌else◌}
 use Rattle.std.specs.Prelude.{length, slice_index_or}
-use Rattle.mpeg_scan.specs.Texts.{noted}
+use Rattle.mpeg_scan.specs.Texts.{text_with}
 use Rattle.mpeg_scan.specs.declared.codes.Code.{Code}
 use Rattle.mpeg_scan.specs.declared.codes.Prefix.{Prefix}
 use Rattle.mpeg_scan.specs.declared.codes.Prefix.TheVariants.{Nothing, Zero, Zeros, Whole}
@@ -16,8 +16,8 @@ abbrev pub back : List ℕ → ℕ → ℕ
 back r i = slice_index_or r i 256
 
 -- how much of the prefix 00 00 01 stands at the end of the bytes, which are given the latest first
-unfoldable pub matched : List ℕ → Prefix
-matched r =
+unfoldable pub latest_prefix : List ℕ → Prefix
+latest_prefix r =
     if back r 0 == 1 && (back r 1 == 0 && back r 2 == 0) then Whole
     else (if back r 0 == 0 && back r 1 == 0 then Zeros
     else (if back r 0 == 0 then Zero else Nothing))
@@ -46,7 +46,7 @@ is_whole Zeros = false
 
 -- a byte more for the text of a code
 abbrev pub note : Code → ℕ → Code
-note c x = record c { text = noted c.text x }
+note c x = record c { text = text_with c.text x }
 
 -- a byte more, for the text of the latest code
 abbrev pub note_latest : List Code → ℕ → List Code
@@ -58,6 +58,6 @@ note_latest (c ∷ past) x = note c x ∷ past
 unfoldable pub codes_of : List ℕ → List Code
 codes_of [] = []
 codes_of (x ∷ r) =
-    if is_whole (matched r)
+    if is_whole (latest_prefix r)
     then record { place = length r - 3; kind = x; text = [] } ∷ note_latest (codes_of r) x
     else note_latest (codes_of r) x

@@ -5,7 +5,7 @@ use Rattle.mpeg_scan.specs.declared.units.Unit.{Unit as PictureUnit}
 use Rattle.mpeg_scan.specs.Codes.{read, codes_of}
 use Rattle.mpeg_scan.specs.Words.{rate_of}
 use Rattle.mpeg_scan.specs.Faults.{refusal_of}
-use Rattle.mpeg_scan.specs.Calls.{Call, head_call, slice_call, unit_call, all_told}
+use Rattle.mpeg_scan.specs.Calls.{Call, head_call, slice_call, unit_call, all_calls}
 
 -- the units that are told of, in order
 abbrev pub units_in : List Call → List PictureUnit
@@ -27,7 +27,7 @@ refusal bytes = refusal_of (read [] bytes)
 
 -- all that is told of a film
 abbrev pub told_of : List ℕ → List Call
-told_of bytes = all_told (read [] bytes)
+told_of bytes = all_calls (read [] bytes)
 
 -- a film with its rate, its units and the places of its slices
 pub record IsFilm (bytes : List ℕ) (its_rate : ℕ) (its_units : List PictureUnit)

@@ -4,6 +4,7 @@ use Rattle.std.specs.Prelude.{ℕ, ◌+◌, ◌<◌, ◌≤◌, ◌≡◌, true,
 use Rattle.mpeg_scan.specs.declared.codes.Code.{Code}
 use Rattle.mpeg_scan.specs.declared.codes.Prefix.{Prefix}
 use Rattle.mpeg_scan.specs.declared.codes.Prefix.TheVariants.{Nothing, Zero, Zeros, Whole}
+use Rattle.mpeg_scan.specs.declared.progress.Progress.{Progress}
 use Rattle.mpeg_scan.specs.declared.tallies.Tally.{Tally}
 use Rattle.mpeg_scan.specs.Words.{is_head, is_slice}
 use Rattle.mpeg_scan.specs.Steps.{one_more, tally_with}
@@ -29,6 +30,10 @@ pub record HasRoomAhead (fed : ℕ) (prefix : Prefix) (latest : Option Code) (ta
       (tally_with latest tally).unit + 3 + prefix_length prefix ≤ fed
   pub slice : 0 < (tally_with latest tally).slices →
       (tally_with latest tally).slice + 4 + prefix_length prefix ≤ fed
+
+-- the same of what was read
+abbrev pub IsAhead : Progress → Type 0
+IsAhead s = HasRoomAhead s.fed s.prefix s.latest s.tally
 
 -- where a unit has slices, it is known of the place of the latest that the next slice may begin
 -- there

@@ -6,8 +6,8 @@ use Rattle.mpeg_scan.specs.declared.faults.FilmFault.{FilmFault}
 use Rattle.mpeg_scan.specs.declared.faults.ScanRefused.{ScanRefused}
 use Rattle.mpeg_scan.specs.declared.progress.Progress.{Progress}
 use Rattle.mpeg_scan.specs.declared.scanner.Scanner.{Scanner}
-use Rattle.mpeg_scan.specs.Calls.{Call, told}
-use Rattle.mpeg_scan.specs.Codes.{matched, next_prefix, note, codes_of, read}
+use Rattle.mpeg_scan.specs.Calls.{Call, calls_of}
+use Rattle.mpeg_scan.specs.Codes.{latest_prefix, next_prefix, note, codes_of, read}
 use Rattle.mpeg_scan.specs.Words.{tally_of}
 use Rattle.mpeg_scan.specs.Faults.{first_fault}
 use Rattle.mpeg_scan.specs.Steps.{latest_of, older_of, tally_with}
@@ -15,27 +15,27 @@ use Rattle.mpeg_scan.specs.Steps.{latest_of, older_of, tally_with}
 -- what is kept is what the bytes say, and no code of theirs is refused
 pub record HasRead (s : Progress) (r : List ℕ) : Type 0 where
   pub fed : s.fed ≡ length r
-  pub prefix : s.prefix ≡ matched r
+  pub prefix : s.prefix ≡ latest_prefix r
   pub latest : s.latest ≡ latest_of (codes_of r)
   pub tally : s.tally ≡ tally_of (older_of (codes_of r))
   pub accepted : first_fault (codes_of r) ≡ None
 
 -- the same of a scanner that has refused nothing
-pub record Fed (s : Scanner) (r : List ℕ) : Type 0 where
+pub record HasScannedBytes (s : Scanner) (r : List ℕ) : Type 0 where
   pub progress : HasRead s.progress r
   pub unrefused : s.refused ≡ None
 
 -- a byte that isn't the kind of a code
-abbrev pub noted_scan : Progress → ℕ → Progress
-noted_scan s x = record s {
+abbrev pub scan_with_byte : Progress → ℕ → Progress
+scan_with_byte s x = record s {
   fed = s.fed + 1;
   prefix = next_prefix s.prefix x;
   latest = option_map (λ c. note c x) s.latest;
 }
 
 -- a code
-abbrev pub coded_scan : Progress → ℕ → ℕ → Progress
-coded_scan s place kind = record s {
+abbrev pub scan_with_code : Progress → ℕ → ℕ → Progress
+scan_with_code s place kind = record s {
   latest = Some (record { place = place; kind = kind; text = [] });
   tally = tally_with s.latest s.tally;
 }
@@ -68,7 +68,7 @@ pub record IsRefusedInPiece (Heard : List Call → Type 0) (r piece : List ℕ) 
   pub within : count < length piece
   pub accepted : first_fault (codes_of (read r (take count piece))) ≡ None
   pub fault : first_fault (codes_of (read r (take (count + 1) piece))) ≡ Some f
-  pub heard : Heard (calls ++ told (codes_of (read r (take count piece))))
+  pub heard : Heard (calls ++ calls_of (codes_of (read r (take count piece))))
 
 -- whether a code takes no further byte for its text
 abbrev pub is_text_full : Option Code → Bool

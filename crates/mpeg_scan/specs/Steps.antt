@@ -3,6 +3,7 @@ use Rattle.std.specs.Prelude.{ℕ, ◌+◌, ◌-◌, ◌^◌, ◌==◌, ◌&&◌
 use Rattle.std.specs.Prelude.{◌∷◌, Option, Some, None, if◌then◌else◌, nat_lt, min}
 use Rattle.mpeg_scan.specs.declared.codes.Code.{Code}
 use Rattle.mpeg_scan.specs.declared.faults.FilmFault.{FilmFault}
+use Rattle.mpeg_scan.specs.declared.progress.Progress.{Progress}
 use Rattle.mpeg_scan.specs.declared.tallies.Header.{Header}
 use Rattle.mpeg_scan.specs.declared.tallies.Tally.{Tally}
 use Rattle.mpeg_scan.specs.Words.{is_head, is_slice, rate_code, header_of}
@@ -84,20 +85,31 @@ abbrev pub tally_with : Option Code → Tally → Tally
 tally_with None t = t
 tally_with (Some c) t = next t c
 
+-- that of what was read
+abbrev pub tally_now : Progress → Tally
+tally_now s = tally_with s.latest s.tally
+
 abbrev pub latest_header_fault : Option Code → ℕ → ℕ → Option FilmFault
 latest_header_fault None rate end = None
 latest_header_fault (Some c) rate end = header_fault rate c end
 
 -- the refusal at a code, from what the scanner keeps
-unfoldable pub judged : Option Code → Tally → ℕ → ℕ → Option FilmFault
-judged latest t place kind =
+unfoldable pub code_judgement : Option Code → Tally → ℕ → ℕ → Option FilmFault
+code_judgement latest t place kind =
     otherwise (latest_header_fault latest t.rate place)
     (code_fault (tally_with latest t) place kind)
 
 -- the refusal at the film's end, from what the scanner keeps
-unfoldable pub ended : Option Code → Tally → ℕ → Option FilmFault
-ended latest t end =
+unfoldable pub end_judgement : Option Code → Tally → ℕ → Option FilmFault
+end_judgement latest t end =
     otherwise (latest_header_fault latest t.rate end) (last_fault (tally_with latest t))
+
+-- the same from what was read
+abbrev pub judgement : Progress → ℕ → ℕ → Option FilmFault
+judgement s place kind = code_judgement s.latest s.tally place kind
+
+abbrev pub last_judgement : Progress → Option FilmFault
+last_judgement s = end_judgement s.latest s.tally s.fed
 
 -- the latest code, and those before it
 abbrev pub latest_of : List Code → Option Code

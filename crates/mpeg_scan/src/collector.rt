@@ -28,7 +28,8 @@ impl Collector {
 }
 
 impl Found for Collector {
-    ghost heard = { λ c calls. (c.units.items ≡ units_in calls) × (c.slices.items ≡ slices_in calls) };
+    ghost heard = { λ c calls. (c.units.items ≡ units_in calls)
+        × (c.slices.items ≡ slices_in calls) };
 
     fn head(&mut self, _from: u64, _to: u64) -> Result<(), NoMemory> {
         Ok(())

@@ -8,6 +8,7 @@ ghost use Rattle.mpeg_scan.specs.Films.{refusal, told_of};
 ghost use Rattle.mpeg_scan.specs.Grammar.{IsGrammatical};
 ghost use Rattle.mpeg_scan.specs.Layout.{AreInFilm, BeginsSequence, IsLaid, OfUnit};
 ghost use Rattle.mpeg_scan.specs.Places.{StandsAt};
+ghost use Rattle.mpeg_scan.specs.Rates.{AreStandardTimes, picture_time};
 ghost use Rattle.mpeg_scan.specs.Standard.{AreFalling, ArePresented, AreUnitsOf, IsAmong};
 ghost use Rattle.mpeg_scan.specs.Standard.{IsSliceKind, IsUnitOf};
 ghost use Rattle.mpeg_scan.specs.Standard.{StandsThere, slice_places};
@@ -77,6 +78,13 @@ pub fn law_standard_units(film: &Film)
 pub fn law_one_list_of_units()
     ensures { (bytes : List ℕ) (units others : List PictureUnit)
         → AreUnitsOf bytes units → AreUnitsOf bytes others → units ≡ others }
+{}
+
+/// The time of a picture is that of the rate for which its code stands in the table of ISO/IEC
+/// 11172-2, 2.4.3.2: so many pictures a second, as a fraction, take that time each, to the last
+/// 1/360,000 second.
+pub fn law_picture_rates()
+    ensures { AreStandardTimes picture_time }
 {}
 
 /// The start codes of bytes are listed in their order, each once.

@@ -18,8 +18,8 @@ pub use faults::{FilmFault, ScanRefused};
 pub use films::{Film, scan, start_codes_stand};
 pub use found::Found;
 pub use laws::{
-    law_codes_in_order, law_film, law_one_list_of_units, law_refusals, law_refused_early,
-    law_slices, law_standard_units, law_units,
+    law_codes_in_order, law_film, law_one_list_of_units, law_picture_rates, law_refusals,
+    law_refused_early, law_slices, law_standard_units, law_units,
 };
 pub use scanner::{Ending, Scanner};
 pub use units::{Kind, Unit, picture_units};

@@ -1,14 +1,14 @@
 ghost use Rattle.std.specs.Prelude.{◌≡◌, ℕ, ◌+◌, ◌^◌, ◌<◌, ◌≤◌, List, [], ◌∷◌, ◌++◌, Some, None};
 ghost use Rattle.std.specs.Prelude.{length, take, slice_index, IsTrue, true, IfOk, IfErr, OnOk};
 ghost use Rattle.std.specs.Prelude.{MatchResult, ◌≢◌};
-ghost use Rattle.mpeg_scan.specs.Calls.{Call, calls_at, told};
+ghost use Rattle.mpeg_scan.specs.Calls.{Call, calls_at, calls_of};
 ghost use Rattle.mpeg_scan.specs.Codes.{codes_of, read};
 ghost use Rattle.mpeg_scan.specs.Faults.{first_fault, refusal_of};
-ghost use Rattle.mpeg_scan.specs.Room.{AwaitsSlice, AwaitsSliceAfter, HasRoom, HasRoomAhead};
-ghost use Rattle.mpeg_scan.specs.Steps.{ended, judged, latest_header_fault, tally_with};
+ghost use Rattle.mpeg_scan.specs.Room.{AwaitsSlice, AwaitsSliceAfter, HasRoom, IsAhead};
+ghost use Rattle.mpeg_scan.specs.Steps.{judgement, last_judgement, latest_header_fault, tally_now};
 ghost use Rattle.mpeg_scan.specs.Words.{tally_of};
-ghost use Rattle.mpeg_scan.specs.Scans.{HasRead, IsRefusedInPiece, coded_scan, is_text_full};
-ghost use Rattle.mpeg_scan.specs.Scans.{noted_scan};
+ghost use Rattle.mpeg_scan.specs.Scans.{HasRead, IsRefusedInPiece, scan_with_code, is_text_full};
+ghost use Rattle.mpeg_scan.specs.Scans.{scan_with_byte};
 
 use crate::codes::{Code, Prefix};
 use crate::faults::{FilmFault, ScanRefused, code_fault, header_fault, last_fault};
@@ -30,11 +30,11 @@ pub struct Progress {
 
 impl Progress {
     /// Before the first byte.
-    #[tactic(auto, unfolding(crate::specs::Codes::codes_of, crate::specs::Codes::matched, crate::specs::Faults::first_fault))]
+    #[tactic(auto, unfolding(crate::specs::Codes::codes_of, crate::specs::Codes::latest_prefix, crate::specs::Faults::first_fault))]
     pub fn new() -> Progress
         ensures read { HasRead result [] }
-        ensures room { HasRoomAhead result.fed result.prefix result.latest result.tally }
-        ensures slices { (tally_with result.latest result.tally).slices ≡ 0 }
+        ensures room { IsAhead result }
+        ensures slices { (tally_now result).slices ≡ 0 }
     {
         Progress {
             fed: 0,
@@ -47,7 +47,7 @@ impl Progress {
     // A byte that isn't the kind of a code.
     fn note(&mut self, byte: u8)
         requires { self.old.fed < 2 ^ 41 }
-        ensures { self.new ≡ noted_scan self.old byte }
+        ensures { self.new ≡ scan_with_byte self.old byte }
     {
         if let Some(code) = &mut self.latest {
             code.text.note(byte);
@@ -68,7 +68,7 @@ impl Progress {
 
     // The tally with the latest code.
     fn tally_now(&self) -> Tally
-        ensures { result ≡ tally_with self.now.latest self.now.tally }
+        ensures { result ≡ tally_now self.now }
     {
         match &self.latest {
             None => self.tally,
@@ -77,11 +77,11 @@ impl Progress {
     }
 
     // Judges a code.
-    #[tactic(auto, unfolding(crate::specs::Steps::judged))]
+    #[tactic(auto, unfolding(crate::specs::Steps::code_judgement))]
     fn judge(&self, place: u64, kind: u8) -> Result<Tally, FilmFault>
         ensures { MatchResult result
-            (λ t. (judged self.now.latest self.now.tally place kind ≡ None) × (t ≡ tally_with self.now.latest self.now.tally))
-            (λ f. judged self.now.latest self.now.tally place kind ≡ Some f) }
+            (λ t. (judgement self.now place kind ≡ None) × (t ≡ tally_now self.now))
+            (λ f. judgement self.now place kind ≡ Some f) }
     {
         if let Some(fault) = self.header_fault(place) {
             return Err(fault);
@@ -100,22 +100,20 @@ impl Progress {
         kind: u8,
         found: &mut F,
     ) -> Result<(), ScanRefused>
-        requires room { HasRoom (tally_with self.old.latest self.old.tally) place }
+        requires room { HasRoom (tally_now self.old) place }
         requires within { place ≤ 2 ^ 40 }
-        requires ready { AwaitsSlice (F.ready_at found.old)
-            (tally_with self.old.latest self.old.tally) }
-        ensures taken { OnOk result ((judged self.old.latest self.old.tally place kind ≡ None)
-            × (self.new ≡ coded_scan self.old place kind)) }
+        requires ready { AwaitsSlice (F.ready_at found.old) (tally_now self.old) }
+        ensures taken { OnOk result ((judgement self.old place kind ≡ None)
+            × (self.new ≡ scan_with_code self.old place kind)) }
         ensures told { OnOk result ((calls : List Call) → F.heard found.old calls
-            → F.heard found.new (calls ++ calls_at (tally_with self.old.latest self.old.tally) place kind)) }
+            → F.heard found.new (calls ++ calls_at (tally_now self.old) place kind)) }
         ensures fault { (f : FilmFault) → result ≡ Err (ScanRefused.Fault f) →
-            judged self.old.latest self.old.tally place kind ≡ Some f }
+            judgement self.old place kind ≡ Some f }
         ensures untold { (f : FilmFault) → result ≡ Err (ScanRefused.Fault f) →
             found.new ≡ found.old }
         ensures fed { self.new.fed ≡ self.old.fed }
         ensures ready { OnOk result
-            (AwaitsSliceAfter (F.ready_at found.new)
-            (tally_with self.old.latest self.old.tally) place kind) }
+            (AwaitsSliceAfter (F.ready_at found.new) (tally_now self.old) place kind) }
     {
         let tally = match self.judge(place, kind) {
             Ok(tally) => tally,
@@ -137,14 +135,13 @@ impl Progress {
     // Takes a byte.
     fn take_byte<F: Found>(&mut self, byte: u8, found: &mut F) -> Result<(), ScanRefused>
         requires short { self.old.fed < 2 ^ 40 }
-        requires room { HasRoomAhead self.old.fed self.old.prefix self.old.latest self.old.tally }
-        requires ready { AwaitsSlice (F.ready_at found.old)
-            (tally_with self.old.latest self.old.tally) }
+        requires room { IsAhead self.old }
+        requires ready { AwaitsSlice (F.ready_at found.old) (tally_now self.old) }
         ensures kept { OnOk result ((r : List ℕ) → HasRead self.old r →
             HasRead self.new (byte ∷ r)) }
         ensures told { OnOk result ((r : List ℕ) (calls : List Call) → HasRead self.old r →
-            F.heard found.old (calls ++ told (codes_of r))
-            → F.heard found.new (calls ++ told (codes_of (byte ∷ r)))) }
+            F.heard found.old (calls ++ calls_of (codes_of r))
+            → F.heard found.new (calls ++ calls_of (codes_of (byte ∷ r)))) }
         ensures fault { (f : FilmFault) → result ≡ Err (ScanRefused.Fault f) → (r : List ℕ) →
             HasRead self.old r
             → first_fault (codes_of (byte ∷ r)) ≡ Some f }
@@ -152,9 +149,9 @@ impl Progress {
             found.new ≡ found.old }
         ensures fed { self.new.fed ≡ self.old.fed + 1 }
         ensures room { OnOk result
-            (HasRoomAhead self.new.fed self.new.prefix self.new.latest self.new.tally) }
+            (IsAhead self.new) }
         ensures ready { OnOk result
-            (AwaitsSlice (F.ready_at found.new) (tally_with self.new.latest self.new.tally)) }
+            (AwaitsSlice (F.ready_at found.new) (tally_now self.new)) }
     {
         let whole = self.prefix.is_whole();
         let place = self.fed.saturating_sub(3);
@@ -203,26 +200,25 @@ impl Progress {
     /// Takes bytes, until one is refused.
     pub fn take_bytes<F: Found>(&mut self, piece: &[u8], found: &mut F) -> Result<(), ScanRefused>
         requires short { self.old.fed + length piece.now ≤ 2 ^ 40 }
-        requires room { HasRoomAhead self.old.fed self.old.prefix self.old.latest self.old.tally }
-        requires ready { AwaitsSlice (F.ready_at found.old)
-            (tally_with self.old.latest self.old.tally) }
+        requires room { IsAhead self.old }
+        requires ready { AwaitsSlice (F.ready_at found.old) (tally_now self.old) }
         ensures kept { OnOk result ((r : List ℕ) → HasRead self.old r →
             HasRead self.new (read r piece.now)) }
         ensures told { OnOk result ((r : List ℕ) (calls : List Call) → HasRead self.old r →
-            F.heard found.old (calls ++ told (codes_of r))
-            → F.heard found.new (calls ++ told (codes_of (read r piece.now)))) }
+            F.heard found.old (calls ++ calls_of (codes_of r))
+            → F.heard found.new (calls ++ calls_of (codes_of (read r piece.now)))) }
         ensures fault { (f : FilmFault) → result ≡ Err (ScanRefused.Fault f) → (r : List ℕ) →
             HasRead self.old r
             → first_fault (codes_of (read r piece.now)) ≡ Some f }
         ensures told_before { (f : FilmFault) → result ≡ Err (ScanRefused.Fault f) →
             (r : List ℕ) (calls : List Call)
-            → HasRead self.old r → F.heard found.old (calls ++ told (codes_of r))
+            → HasRead self.old r → F.heard found.old (calls ++ calls_of (codes_of r))
             → IsRefusedInPiece (F.heard found.new) r piece.now calls f }
         ensures fed { self.new.fed ≤ self.old.fed + length piece.now }
         ensures room { OnOk result
-            (HasRoomAhead self.new.fed self.new.prefix self.new.latest self.new.tally) }
+            (IsAhead self.new) }
         ensures ready { OnOk result
-            (AwaitsSlice (F.ready_at found.new) (tally_with self.new.latest self.new.tally)) }
+            (AwaitsSlice (F.ready_at found.new) (tally_now self.new)) }
     {
         let mut at = 0;
         while at < piece.len() {
@@ -238,11 +234,11 @@ impl Progress {
     }
 
     // Judges the film's end.
-    #[tactic(auto, unfolding(crate::specs::Steps::ended))]
+    #[tactic(auto, unfolding(crate::specs::Steps::end_judgement))]
     fn judge_end(&self) -> Result<Tally, FilmFault>
         ensures { MatchResult result
-            (λ t. (ended self.now.latest self.now.tally self.now.fed ≡ None) × (t ≡ tally_with self.now.latest self.now.tally))
-            (λ f. ended self.now.latest self.now.tally self.now.fed ≡ Some f) }
+            (λ t. (last_judgement self.now ≡ None) × (t ≡ tally_now self.now))
+            (λ f. last_judgement self.now ≡ Some f) }
     {
         if let Some(fault) = self.header_fault(self.fed) {
             return Err(fault);
@@ -256,7 +252,7 @@ impl Progress {
 
     /// Judges the whole film.
     pub fn judge_film(&self) -> Result<Tally, FilmFault>
-        ensures tally { IfOk result (λ t. t ≡ tally_with self.now.latest self.now.tally) }
+        ensures tally { IfOk result (λ t. t ≡ tally_now self.now) }
         ensures sliced { IfOk result (λ t. 0 < t.slices) }
         ensures short { OnOk result (self.now.fed ≤ 2 ^ 40) }
         ensures accepted { IfOk result (λ t. (r : List ℕ) → HasRead self.now r →

@@ -1,5 +1,5 @@
 ghost use Rattle.std.specs.Prelude.{◌≡◌, None};
-ghost use Rattle.mpeg_scan.specs.Room.{HasRoomAhead};
+ghost use Rattle.mpeg_scan.specs.Room.{IsAhead};
 
 use crate::faults::{FilmFault, ScanRefused};
 use crate::found::{Found, tell_unit};
@@ -11,25 +11,25 @@ use crate::progress::Progress;
 pub struct Scanner {
     progress: Progress,
     refused: Option<ScanRefused>,
-    ghost room: { refused ≡ None → HasRoomAhead progress.fed progress.prefix progress.latest progress.tally },
+    ghost room: { refused ≡ None → IsAhead progress },
 }
 
 impl Scanner {
     ghost use Rattle.std.specs.Prelude.{◌+◌, ◌^◌, ◌≤◌, ◌++◌, ℕ, List, [], Some, Err, IfOk, OnOk};
     ghost use Rattle.std.specs.Prelude.{length};
-    ghost use Rattle.mpeg_scan.specs.Calls.{Call, all_told, told};
+    ghost use Rattle.mpeg_scan.specs.Calls.{Call, all_calls, calls_of};
     ghost use Rattle.mpeg_scan.specs.Codes.{codes_of, read};
     ghost use Rattle.mpeg_scan.specs.Counts.{AreNumbered};
     ghost use Rattle.mpeg_scan.specs.Faults.{first_fault, refusal_of};
     ghost use Rattle.mpeg_scan.specs.Grammar.{IsGrammatical};
-    ghost use Rattle.mpeg_scan.specs.Scans.{Fed, IsReady, IsRefusedInPiece, bytes_fed, open_slices};
+    ghost use Rattle.mpeg_scan.specs.Scans.{HasScannedBytes, IsReady, IsRefusedInPiece, bytes_fed, open_slices};
     ghost use Rattle.mpeg_scan.specs.Scans.{refused_by};
     ghost use Rattle.mpeg_scan.specs.Tiles.{Tiles};
     ghost use Rattle.mpeg_scan.specs.Words.{rate_of};
 
     /// Before the first byte.
     pub fn new() -> Scanner
-        ensures fed { Fed result [] }
+        ensures fed { HasScannedBytes result [] }
         ensures slices { open_slices result ≡ 0 }
     {
         Scanner {
@@ -45,17 +45,17 @@ impl Scanner {
     pub fn feed<F: Found>(&mut self, piece: &[u8], found: &mut F) -> Result<(), ScanRefused>
         requires short { bytes_fed self.old + length piece.now ≤ 2 ^ 40 }
         requires ready { IsReady (F.ready_at found.old) self.old }
-        ensures kept { OnOk result ((r : List ℕ) → Fed self.old r →
-            Fed self.new (read r piece.now)) }
-        ensures told { OnOk result ((r : List ℕ) (calls : List Call) → Fed self.old r →
-            F.heard found.old (calls ++ told (codes_of r))
-            → F.heard found.new (calls ++ told (codes_of (read r piece.now)))) }
+        ensures kept { OnOk result ((r : List ℕ) → HasScannedBytes self.old r →
+            HasScannedBytes self.new (read r piece.now)) }
+        ensures told { OnOk result ((r : List ℕ) (calls : List Call) → HasScannedBytes self.old r →
+            F.heard found.old (calls ++ calls_of (codes_of r))
+            → F.heard found.new (calls ++ calls_of (codes_of (read r piece.now)))) }
         ensures fault { (f : FilmFault) → result ≡ Err (ScanRefused.Fault f) → (r : List ℕ) →
-            Fed self.old r
+            HasScannedBytes self.old r
             → first_fault (codes_of (read r piece.now)) ≡ Some f }
         ensures told_before { (f : FilmFault) → result ≡ Err (ScanRefused.Fault f) →
             (r : List ℕ) (calls : List Call)
-            → Fed self.old r → F.heard found.old (calls ++ told (codes_of r))
+            → HasScannedBytes self.old r → F.heard found.old (calls ++ calls_of (codes_of r))
             → IsRefusedInPiece (F.heard found.new) r piece.now calls f }
         ensures refused { (e : ScanRefused) → result ≡ Err e → refused_by self.new ≡ Some e }
         ensures again { (e : ScanRefused) → refused_by self.old ≡ Some e
@@ -78,16 +78,16 @@ impl Scanner {
     /// Ends the film, and tells of its last slice and unit.
     pub fn finish<F: Found>(self, found: &mut F) -> Result<Ending, ScanRefused>
         requires { IsReady (F.ready_at found.old) self }
-        ensures ended { IfOk result (λ e. (r : List ℕ) → Fed self r
+        ensures ended { IfOk result (λ e. (r : List ℕ) → HasScannedBytes self r
             → (refusal_of r ≡ None) × (e.rate ≡ rate_of (codes_of r)) × (e.bytes ≡ length r)) }
-        ensures tiled { OnOk result ((r : List ℕ) → Fed self r → Tiles r (all_told r)) }
-        ensures grammatical { OnOk result ((r : List ℕ) → Fed self r → IsGrammatical r) }
-        ensures numbered { OnOk result ((r : List ℕ) → Fed self r → AreNumbered (all_told r)) }
-        ensures told { OnOk result ((r : List ℕ) (calls : List Call) → Fed self r →
-            F.heard found.old (calls ++ told (codes_of r))
-            → F.heard found.new (calls ++ all_told r)) }
+        ensures tiled { OnOk result ((r : List ℕ) → HasScannedBytes self r → Tiles r (all_calls r)) }
+        ensures grammatical { OnOk result ((r : List ℕ) → HasScannedBytes self r → IsGrammatical r) }
+        ensures numbered { OnOk result ((r : List ℕ) → HasScannedBytes self r → AreNumbered (all_calls r)) }
+        ensures told { OnOk result ((r : List ℕ) (calls : List Call) → HasScannedBytes self r →
+            F.heard found.old (calls ++ calls_of (codes_of r))
+            → F.heard found.new (calls ++ all_calls r)) }
         ensures fault { (f : FilmFault) → result ≡ Err (ScanRefused.Fault f) → (r : List ℕ) →
-            Fed self r → refusal_of r ≡ Some f }
+            HasScannedBytes self r → refusal_of r ≡ Some f }
         ensures untold { (f : FilmFault) → result ≡ Err (ScanRefused.Fault f) →
             found.new ≡ found.old }
         ensures again { (e : ScanRefused) → refused_by self ≡ Some e → (result ≡ Err e)

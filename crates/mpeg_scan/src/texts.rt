@@ -1,6 +1,6 @@
 ghost use Rattle.std.specs.Prelude.{◌≡◌, ℕ, ◌<◌, ◌≤◌, List, [], length, take, slice_index, not};
 ghost use Rattle.std.specs.Prelude.{nat_lt};
-ghost use Rattle.mpeg_scan.specs.Texts.{noted};
+ghost use Rattle.mpeg_scan.specs.Texts.{text_with};
 
 use std::marker::Model;
 
@@ -43,7 +43,7 @@ impl Text {
 
     // Adds a byte, where there is room.
     pub fn note(&mut self, byte: u8)
-        ensures { self.new ≡ noted self.old byte }
+        ensures { self.new ≡ text_with self.old byte }
     {
         if self.len < TEXT {
             self.bytes[usize::from(self.len)] = byte;

@@ -3,7 +3,7 @@ use Rattle.std.proofs.Common.{◌≡◌, ℕ, zero, suc, ◌+◌, ◌*◌, ◌<�
 use Rattle.mpeg_scan.specs.declared.units.Unit.{Unit as PictureUnit}
 use Rattle.rtp_pack.specs.declared.filling.Filling.{Filling}
 use Rattle.rtp_pack.specs.declared.payloads.Packet.{Packet}
-use Rattle.rtp_pack.specs.Cutting.{Begins, Cuts, Fills, filled, full_before, full_ends, goes_in, last_start, next_filling, start_of}
+use Rattle.rtp_pack.specs.Cutting.{Begins, Cuts, Fills, filling_after, full_before, full_ends, goes_in, last_start, next_filling, start_of}
 use Rattle.rtp_pack.specs.Packets.{before_slice, full_packets, packets_from}
 
 -- ---- one list
@@ -24,11 +24,11 @@ one-fill G same start end a b x y =
 pub one-cutting : (slices : List ℕ) (f : Filling) (a b : List ℕ) → Cuts f slices a → Cuts f slices b → a ≡ b
 one-cutting [] f a b x y = x ∙ sym y
 one-cutting (n ∷ slices) f a b (inl x) (inl y) =
-    one-fill (λ last rest. Cuts (filled f n last) slices rest) (λ last p q. one-cutting slices (filled f n last) p q) f.from (f.at + n) a b x.1 y.1
+    one-fill (λ last rest. Cuts (filling_after f n last) slices rest) (λ last p q. one-cutting slices (filling_after f n last) p q) f.from (f.at + n) a b x.1 y.1
 one-cutting (n ∷ slices) f a b (inl x) (inr y) = absurd (not_both (goes_in f n) x.0 y.0)
 one-cutting (n ∷ slices) f a b (inr x) (inl y) = absurd (not_both (goes_in f n) y.0 x.0)
 one-cutting (n ∷ slices) f a b (inr x) (inr y) =
-    let rest : x.1.0 ≡ y.1.0 = one-fill (λ last rest. Cuts (filled f n last) slices rest) (λ last p q. one-cutting slices (filled f n last) p q) f.at (f.at + n) x.1.0 y.1.0 x.1.1.1 y.1.1.1 in
+    let rest : x.1.0 ≡ y.1.0 = one-fill (λ last rest. Cuts (filling_after f n last) slices rest) (λ last p q. one-cutting slices (filling_after f n last) p q) f.at (f.at + n) x.1.0 y.1.0 x.1.1.1 y.1.1.1 in
     x.1.1.0 ∙ ap (λ (r : List ℕ). f.at ∷ r) rest ∙ sym y.1.1.0
 
 -- ---- the packets' ends
@@ -87,5 +87,5 @@ pub packets-cut : (unit : PictureUnit) (slices : List ℕ) (f : Filling) → f.f
 packets-cut unit [] f order some = refl
 packets-cut unit (n ∷ slices) f order some =
     let next = next-order f n order some.0 in
-    slice-begins (λ last rest. Cuts (filled f n last) slices rest) unit f (f.at + n) (goes_in f n) (packets_from unit (next_filling f n) slices) (omega (arith, some.0)) (omega (arith, some.0))
+    slice-begins (λ last rest. Cuts (filling_after f n last) slices rest) unit f (f.at + n) (goes_in f n) (packets_from unit (next_filling f n) slices) (omega (arith, some.0)) (omega (arith, some.0))
     (packets-cut unit slices (next_filling f n) (omega (arith, next)) some.1)

@@ -7,7 +7,7 @@ use Rattle.rtp_pack.specs.declared.filling.Holds.{Holds}
 use Rattle.rtp_pack.specs.declared.filling.Holds.TheVariants.{HeadAlone, Slices, LastFragment}
 use Rattle.rtp_pack.specs.declared.payloads.Packet.{Packet}
 use Rattle.rtp_pack.specs.Cutting.{first_piece, full_before, full_ends, goes_in, goes_in_cut, goes_in_whole, next_filling, start_of}
-use Rattle.rtp_pack.specs.Packets.{AreInOrder, among, before_slice, begins_slice, closed, ends_slice, ends_to, full_packets, lengths_to, next_place, packet, packets_from, piece_packet, piece_packets}
+use Rattle.rtp_pack.specs.Packets.{AreInOrder, among, before_slice, begins_slice, filling_packet, ends_slice, ends_to, full_packets, lengths_to, next_place, packet, packets_from, piece_packet, piece_packets}
 use Rattle.rtp_pack.proofs.SizeLemmas.{whole-fits}
 use Rattle.rtp_pack.proofs.CutLemmas.{ends, ends-append, ends-full, full_before-less, full_before-within, start-less}
 
@@ -99,13 +99,13 @@ begins unit all from to = among from all || (eqb from unit.from && ltb unit.head
 -- what is known of a piece that is being filled
 pub record Right (unit : PictureUnit) (all : List ℕ) (f : Filling) : Type 0 where
   pub first : unit.from < unit.head_end
-  pub behind : unit.head_end ≤ f.at
+  pub after : unit.head_end ≤ f.at
   pub begin : begins unit all f.from f.at ≡ begins_slice f.holds
   pub end : among f.at (ends_to unit.to all) ≡ ends_slice f.holds
   pub alone : f.holds ≡ HeadAlone → (f.from ≡ unit.from) × (f.at ≡ unit.head_end)
   pub order : f.from ≤ f.at
 
-closed-right : (unit : PictureUnit) (all : List ℕ) (f : Filling) → Right unit all f → closed unit f ≡ piece_packet unit all f.from f.at
+closed-right : (unit : PictureUnit) (all : List ℕ) (f : Filling) → Right unit all f → filling_packet unit f ≡ piece_packet unit all f.from f.at
 closed-right unit all f right =
     ap (λ b. packet unit f.from f.at b (ends_slice f.holds)) (sym right.begin)
     ∙ ap (λ b. packet unit f.from f.at (begins unit all f.from f.at) b) (sym right.end)
@@ -122,13 +122,13 @@ full-pieces unit all at next begin start zero slice before first above below = r
 full-pieces unit all at next begin start (suc count) slice before first above below =
     let some : 0 < suc count = omega arith in
     let inside : start + 1380 < next = omega (arith, below) in
-    let behind : at < start + 1380 = above some in
+    let after : at < start + 1380 = above some in
     let one : packet unit start (start + 1380) begin false ≡ piece_packet unit all start (start + 1380) =
     ap (λ b. packet unit start (start + 1380) b false) (sym (first some))
-    ∙ ap (λ b. packet unit start (start + 1380) (begins unit all start (start + 1380)) b) (sym (slice.no_end (start + 1380) behind inside)) in
+    ∙ ap (λ b. packet unit start (start + 1380) (begins unit all start (start + 1380)) b) (sym (slice.no_end (start + 1380) after inside)) in
     ap (λ (p : Packet). p ∷ full_packets unit false (start + 1380) count) one
     ∙ ap (λ (l : List Packet). piece_packet unit all start (start + 1380) ∷ l)
-    (full-pieces unit all at next false (start + 1380) count slice before (λ _. no-begin unit all at next (start + 1380) (start + 1380 + 1380) slice before behind inside) (λ _. omega (arith, behind)) (omega (arith, below)))
+    (full-pieces unit all at next false (start + 1380) count slice before (λ _. no-begin unit all at next (start + 1380) (start + 1380 + 1380) slice before after inside) (λ _. omega (arith, after)) (omega (arith, below)))
 
 abbrev pub last_cut : ℕ → List ℕ → ℕ
 last_cut from [] = from
@@ -166,12 +166,12 @@ slice-rest unit all f false count rest right full is =
 -- a piece that goes on with a slice begins with it, or with a slice before it, or with the head
 begins-here : (unit : PictureUnit) (all : List ℕ) (from at x : ℕ) (holds : Holds) → unit.head_end ≤ at → begins unit all from at ≡ begins_slice holds → (holds ≡ HeadAlone → (from ≡ unit.from) × (at ≡ unit.head_end))
     → (holds ≢ LastFragment) → at < x → begins unit all from x ≡ true
-begins-here unit all from at x HeadAlone behind begin alone other above =
+begins-here unit all from at x HeadAlone after begin alone other above =
     or-right (among from all) (eqb from unit.from && ltb unit.head_end x)
-    (and-both (eqb from unit.from) (ltb unit.head_end x) (eq-eqb from unit.from (alone refl).0) (lt-ltb unit.head_end x (omega (arith, behind, above))))
-begins-here unit all from at x Slices behind begin alone other above =
-    later (among from all) (eqb from unit.from) (ltb unit.head_end at) (ltb unit.head_end x) begin (λ _. lt-ltb unit.head_end x (omega (arith, behind, above)))
-begins-here unit all from at x LastFragment behind begin alone other above = absurd (other refl)
+    (and-both (eqb from unit.from) (ltb unit.head_end x) (eq-eqb from unit.from (alone refl).0) (lt-ltb unit.head_end x (omega (arith, after, above))))
+begins-here unit all from at x Slices after begin alone other above =
+    later (among from all) (eqb from unit.from) (ltb unit.head_end at) (ltb unit.head_end x) begin (λ _. lt-ltb unit.head_end x (omega (arith, after, above)))
+begins-here unit all from at x LastFragment after begin alone other above = absurd (other refl)
 
 not-last : (from at n : ℕ) (holds : Holds) (short : Bool) → cond short (goes_in_whole from at holds n) (goes_in_cut from at holds) ≡ true → holds ≢ LastFragment
 not-last from at n HeadAlone short e is = cc
@@ -181,7 +181,7 @@ not-last from at n LastFragment false e is = true≢false (sym e)
 
 begins-start : (unit : PictureUnit) (all : List ℕ) (f : Filling) (n x : ℕ) (goes : Bool) → Right unit all f → among f.at all ≡ true → goes_in f n ≡ goes → f.at < x → begins unit all (start_of goes f) x ≡ true
 begins-start unit all f n x true right here e above =
-    begins-here unit all f.from f.at x f.holds right.behind right.begin right.alone (not-last f.from f.at n f.holds (leb n 1380) e) above
+    begins-here unit all f.from f.at x f.holds right.after right.begin right.alone (not-last f.from f.at n f.holds (leb n 1380) e) above
 begins-start unit all f n x false right here e above = or-left (among f.at all) (eqb f.at unit.from && ltb unit.head_end x) here
 
 room-whole : (from at n count : ℕ) (holds : Holds) → goes_in_whole from at holds n ≡ true → from + 1380 * count < at + n → 0 < count → at < from + 1380
@@ -225,7 +225,7 @@ next-begin unit all f n count goes true right slice some is e before within =
 next-begin unit all f n count goes false right slice some is e before within =
     let full : 0 < count = some-full f n count goes right.order is within in
     let room = start-room f n count goes e before full in
-    no-begin unit all f.at (f.at + n) (start_of goes f + 1380 * count) (f.at + n) slice (omega (arith, right.first, right.behind)) (omega (arith, room, full)) before
+    no-begin unit all f.at (f.at + n) (start_of goes f + 1380 * count) (f.at + n) slice (omega (arith, right.first, right.after)) (omega (arith, room, full)) before
 
 held-ends : (short : Bool) → true ≡ ends_slice (cond short Slices LastFragment)
 held-ends true = refl
@@ -243,7 +243,7 @@ next-right unit all f n right slice some =
     let before = full_before-less start (f.at + n) less in
     record {
       first = right.first;
-      behind = omega (arith, right.behind);
+      after = omega (arith, right.after);
       begin = next-begin unit all f n (full_before start (f.at + n)) goes (leb n 1380) right slice some refl refl before (full_before-within start (f.at + n) less);
       end = slice.ends ∙ held-ends (leb n 1380);
       alone = λ e. absurd (held-not_alone (leb n 1380) e);
@@ -264,7 +264,7 @@ flags unit all (s ∷ left) f right agrees order =
     let goes = goes_in f n in
     let start = start_of goes f in
     let before = full_before-less start (f.at + n) (start-less f n goes right.order some) in
-    let full = full-pieces unit all f.at (f.at + n) true start (full_before start (f.at + n)) known (omega (arith, right.first, right.behind))
+    let full = full-pieces unit all f.at (f.at + n) true start (full_before start (f.at + n)) known (omega (arith, right.first, right.after))
     (λ more. begins-start unit all f n (start + 1380) goes right known.starts refl (start-room f n (full_before start (f.at + n)) goes refl before more))
     (λ more. start-room f n (full_before start (f.at + n)) goes refl before more) before in
     slice-rest unit all f goes (full_before start (f.at + n)) (packets_from unit (next_filling f n) (lengths_to unit.to left)) right full
@@ -274,7 +274,7 @@ flags unit all (s ∷ left) f right agrees order =
 pub first-right : (unit : PictureUnit) (all : List ℕ) → unit.from < unit.head_end → AreInOrder unit.head_end all unit.to → Right unit all (first_piece unit.from unit.head_end)
 first-right unit all first order = record {
   first = first;
-  behind = omega arith;
+  after = omega arith;
   begin = or-neither (among unit.from all) (eqb unit.from unit.from && ltb unit.head_end unit.head_end) (among-below all unit.head_end unit.to unit.from order first)
       (and-second (eqb unit.from unit.from) (ltb unit.head_end unit.head_end) (le-ltb unit.head_end unit.head_end (omega arith)));
   end = ends-below all unit.head_end unit.to unit.head_end order (omega arith);

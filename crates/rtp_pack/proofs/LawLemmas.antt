@@ -5,7 +5,7 @@ use Rattle.std.proofs.lemmas.List.Sums.{sum_by-cons}
 use Rattle.rtp_pack.specs.declared.filling.Filling.{Filling}
 use Rattle.rtp_pack.specs.declared.filling.Holds.{Holds}
 use Rattle.rtp_pack.specs.declared.filling.Holds.TheVariants.{Slices, LastFragment}
-use Rattle.rtp_pack.specs.Cutting.{Cuts, filled, full_ends, goes_in, goes_in_cut, goes_in_whole, held, start_of}
+use Rattle.rtp_pack.specs.Cutting.{Cuts, filling_after, full_ends, goes_in, goes_in_cut, goes_in_whole, holds_after, start_of}
 use Rattle.rtp_pack.specs.Laws.{ArePieces, AreShortUncut, DoLongEndPieces, IsUncut}
 use Rattle.rtp_pack.specs.Packets.{among}
 use Rattle.rtp_pack.proofs.CutLemmas.{not_both}
@@ -29,12 +29,12 @@ pub pieces-cover : (slices : List ℕ) (f : Filling) (cuts : List ℕ) → Fit f
 pieces-cover [] f cuts fit e =
     let P : List ℕ → Type 0 = λ l. ArePieces f.from l (f.at + 0) in subst P (sym e) (fit.0, (fit.1, omega arith))
 pieces-cover (n ∷ slices) f cuts fit (inl x) =
-    let rest = pieces-cover slices (filled f n (f.from + 1380 * x.1.full)) x.1.rest (x.1.before, x.1.within) x.1.goes_on in
+    let rest = pieces-cover slices (filling_after f n (f.from + 1380 * x.1.full)) x.1.rest (x.1.before, x.1.within) x.1.goes_on in
     let P : List ℕ → Type 0 = λ l. ArePieces f.from l (f.at + sum (n ∷ slices)) in
     subst P (sym x.1.filled) (full-cover f.from x.1.full x.1.rest (f.at + sum (n ∷ slices)) (subst (λ t. ArePieces (f.from + 1380 * x.1.full) x.1.rest t) (omega (arith, sum-cons n slices)) rest))
 pieces-cover (n ∷ slices) f cuts fit (inr x) =
     let fills = x.1.1.1 in
-    let rest = pieces-cover slices (filled f n (f.at + 1380 * fills.full)) fills.rest (fills.before, fills.within) fills.goes_on in
+    let rest = pieces-cover slices (filling_after f n (f.at + 1380 * fills.full)) fills.rest (fills.before, fills.within) fills.goes_on in
     let P : List ℕ → Type 0 = λ l. ArePieces f.from l (f.at + sum (n ∷ slices)) in
     let Q : List ℕ → Type 0 = λ l. ArePieces f.at l (f.at + sum (n ∷ slices)) in
     subst P (sym x.1.1.0) (fit.0, (fit.1, subst Q (sym fills.filled) (full-cover f.at fills.full fills.rest (f.at + sum (n ∷ slices)) (subst (λ t. ArePieces (f.at + 1380 * fills.full) fills.rest t) (omega (arith, sum-cons n slices)) rest))))
@@ -42,36 +42,36 @@ pieces-cover (n ∷ slices) f cuts fit (inr x) =
 -- ---- what is never cut
 
 -- all cuts lie at a place or after it
-abbrev pub AreBehind : ℕ → List ℕ → Type 0
-AreBehind place [] = Unit {0}
-AreBehind place (cut ∷ cuts) = (place ≤ cut) × AreBehind place cuts
+abbrev pub AreFrom : ℕ → List ℕ → Type 0
+AreFrom place [] = Unit {0}
+AreFrom place (cut ∷ cuts) = (place ≤ cut) × AreFrom place cuts
 
-behind-more : (a b : ℕ) (cuts : List ℕ) → a ≤ b → AreBehind b cuts → AreBehind a cuts
-behind-more a b [] less behind = tt
-behind-more a b (cut ∷ cuts) less behind = (omega (arith, less, behind.0), behind-more a b cuts less behind.1)
+from-more : (a b : ℕ) (cuts : List ℕ) → a ≤ b → AreFrom b cuts → AreFrom a cuts
+from-more a b [] less after = tt
+from-more a b (cut ∷ cuts) less after = (omega (arith, less, after.0), from-more a b cuts less after.1)
 
-behind-full : (place start count : ℕ) (rest : List ℕ) → (0 < count → place ≤ start + 1380) → AreBehind place rest → AreBehind place (full_ends start count ++ rest)
-behind-full place start zero rest less behind = behind
-behind-full place start (suc count) rest less behind = (less (omega arith), behind-full place (start + 1380) count rest (λ some. omega (arith, less (omega arith))) behind)
+from-full : (place start count : ℕ) (rest : List ℕ) → (0 < count → place ≤ start + 1380) → AreFrom place rest → AreFrom place (full_ends start count ++ rest)
+from-full place start zero rest less after = after
+from-full place start (suc count) rest less after = (less (omega arith), from-full place (start + 1380) count rest (λ some. omega (arith, less (omega arith))) after)
 
-uncut-behind : (from to : ℕ) (cuts : List ℕ) → AreBehind to cuts → IsUncut from to cuts
-uncut-behind from to [] behind = tt
-uncut-behind from to (cut ∷ cuts) behind = (inr behind.0, uncut-behind from to cuts behind.1)
+uncut-from : (from to : ℕ) (cuts : List ℕ) → AreFrom to cuts → IsUncut from to cuts
+uncut-from from to [] after = tt
+uncut-from from to (cut ∷ cuts) after = (inr after.0, uncut-from from to cuts after.1)
 
-pub cuts-behind : (slices : List ℕ) (f : Filling) (cuts : List ℕ) → f.from ≤ f.at → Cuts f slices cuts → AreBehind f.at cuts
-cuts-behind [] f cuts order e = let P : List ℕ → Type 0 = λ l. AreBehind f.at l in subst P (sym e) (omega arith, tt)
-cuts-behind (n ∷ slices) f cuts order (inl x) =
-    let rest = cuts-behind slices (filled f n (f.from + 1380 * x.1.full)) x.1.rest (omega (arith, x.1.before)) x.1.goes_on in
-    let P : List ℕ → Type 0 = λ l. AreBehind f.at l in
-    subst P (sym x.1.filled) (behind-full f.at f.from x.1.full x.1.rest (λ some. omega (arith, start-room f n x.1.full true x.0 x.1.before some)) (behind-more f.at (f.at + n) x.1.rest (omega arith) rest))
-cuts-behind (n ∷ slices) f cuts order (inr x) =
+pub cuts-from : (slices : List ℕ) (f : Filling) (cuts : List ℕ) → f.from ≤ f.at → Cuts f slices cuts → AreFrom f.at cuts
+cuts-from [] f cuts order e = let P : List ℕ → Type 0 = λ l. AreFrom f.at l in subst P (sym e) (omega arith, tt)
+cuts-from (n ∷ slices) f cuts order (inl x) =
+    let rest = cuts-from slices (filling_after f n (f.from + 1380 * x.1.full)) x.1.rest (omega (arith, x.1.before)) x.1.goes_on in
+    let P : List ℕ → Type 0 = λ l. AreFrom f.at l in
+    subst P (sym x.1.filled) (from-full f.at f.from x.1.full x.1.rest (λ some. omega (arith, start-room f n x.1.full true x.0 x.1.before some)) (from-more f.at (f.at + n) x.1.rest (omega arith) rest))
+cuts-from (n ∷ slices) f cuts order (inr x) =
     let fills = x.1.1.1 in
-    let rest = cuts-behind slices (filled f n (f.at + 1380 * fills.full)) fills.rest (omega (arith, fills.before)) fills.goes_on in
-    let P : List ℕ → Type 0 = λ l. AreBehind f.at l in
-    subst P (sym x.1.1.0) (omega arith, subst P (sym fills.filled) (behind-full f.at f.at fills.full fills.rest (λ some. omega arith) (behind-more f.at (f.at + n) fills.rest (omega arith) rest)))
+    let rest = cuts-from slices (filling_after f n (f.at + 1380 * fills.full)) fills.rest (omega (arith, fills.before)) fills.goes_on in
+    let P : List ℕ → Type 0 = λ l. AreFrom f.at l in
+    subst P (sym x.1.1.0) (omega arith, subst P (sym fills.filled) (from-full f.at f.at fills.full fills.rest (λ some. omega arith) (from-more f.at (f.at + n) fills.rest (omega arith) rest)))
 
-pub head-uncut : (from head_end : ℕ) (cuts : List ℕ) → AreBehind head_end cuts → IsUncut from head_end cuts
-head-uncut from head_end cuts behind = uncut-behind from head_end cuts behind
+pub head-uncut : (from head_end : ℕ) (cuts : List ℕ) → AreFrom head_end cuts → IsUncut from head_end cuts
+head-uncut from head_end cuts after = uncut-from from head_end cuts after
 
 -- a cut before the slices cuts none of them
 short-more : (slices : List ℕ) (at cut : ℕ) (cuts : List ℕ) → cut ≤ at → AreShortUncut at slices cuts → AreShortUncut at slices (cut ∷ cuts)
@@ -83,29 +83,29 @@ short-full slices at start zero cuts less uncut = uncut
 short-full slices at start (suc count) cuts less uncut = short-more slices at (start + 1380) (full_ends (start + 1380) count ++ cuts) (omega (arith, less)) (short-full slices at (start + 1380) count cuts (omega (arith, less)) uncut)
 
 -- a short slice ends in the piece in which it begins
-short-rest : (f : Filling) (n count : ℕ) (goes : Bool) (rest : List ℕ) → goes_in f n ≡ goes → start_of goes f + 1380 * count < f.at + n → AreBehind (f.at + n) rest → n ≤ 1380 → IsUncut f.at (f.at + n) (full_ends (start_of goes f) count ++ rest)
-short-rest f n count goes rest e before behind short =
+short-rest : (f : Filling) (n count : ℕ) (goes : Bool) (rest : List ℕ) → goes_in f n ≡ goes → start_of goes f + 1380 * count < f.at + n → AreFrom (f.at + n) rest → n ≤ 1380 → IsUncut f.at (f.at + n) (full_ends (start_of goes f) count ++ rest)
+short-rest f n count goes rest e before after short =
     let none : count ≡ 0 = none-full f n count goes (le-leb n 1380 short) e before in
     let P : ℕ → Type 0 = λ k. IsUncut f.at (f.at + n) (full_ends (start_of goes f) k ++ rest) in
-    subst P (sym none) (uncut-behind f.at (f.at + n) rest behind)
+    subst P (sym none) (uncut-from f.at (f.at + n) rest after)
 
 pub short-uncut : (slices : List ℕ) (f : Filling) (cuts : List ℕ) → f.from ≤ f.at → Cuts f slices cuts → AreShortUncut f.at slices cuts
 short-uncut [] f cuts order e = tt
 short-uncut (n ∷ slices) f cuts order (inl x) =
-    let g = filled f n (f.from + 1380 * x.1.full) in
+    let g = filling_after f n (f.from + 1380 * x.1.full) in
     let rest = short-uncut slices g x.1.rest (omega (arith, x.1.before)) x.1.goes_on in
-    let behind = cuts-behind slices g x.1.rest (omega (arith, x.1.before)) x.1.goes_on in
+    let after = cuts-from slices g x.1.rest (omega (arith, x.1.before)) x.1.goes_on in
     let P : List ℕ → Type 0 = λ l. AreShortUncut f.at (n ∷ slices) l in
-    subst P (sym x.1.filled) (λ short. short-rest f n x.1.full true x.1.rest x.0 x.1.before behind short, short-full slices (f.at + n) f.from x.1.full x.1.rest (omega (arith, x.1.before)) rest)
+    subst P (sym x.1.filled) (λ short. short-rest f n x.1.full true x.1.rest x.0 x.1.before after short, short-full slices (f.at + n) f.from x.1.full x.1.rest (omega (arith, x.1.before)) rest)
 short-uncut (n ∷ slices) f cuts order (inr x) =
     let fills = x.1.1.1 in
-    let g = filled f n (f.at + 1380 * fills.full) in
+    let g = filling_after f n (f.at + 1380 * fills.full) in
     let rest = short-uncut slices g fills.rest (omega (arith, fills.before)) fills.goes_on in
-    let behind = cuts-behind slices g fills.rest (omega (arith, fills.before)) fills.goes_on in
+    let after = cuts-from slices g fills.rest (omega (arith, fills.before)) fills.goes_on in
     let P : List ℕ → Type 0 = λ l. AreShortUncut f.at (n ∷ slices) l in
     let Q : List ℕ → Type 0 = λ l. AreShortUncut f.at (n ∷ slices) (f.at ∷ l) in
     subst P (sym x.1.1.0) (subst Q (sym fills.filled) (
-      λ short. (inl (omega arith), short-rest f n fills.full false fills.rest x.0 fills.before behind short),
+      λ short. (inl (omega arith), short-rest f n fills.full false fills.rest x.0 fills.before after short),
       short-more slices (f.at + n) f.at (full_ends f.at fills.full ++ fills.rest) (omega arith) (short-full slices (f.at + n) f.at fills.full fills.rest (omega (arith, fills.before)) rest),
     ))
 
@@ -123,13 +123,13 @@ long-full : (slices : List ℕ) (at start count : ℕ) (cuts : List ℕ) → DoL
 long-full slices at start zero cuts ends = ends
 long-full slices at start (suc count) cuts ends = long-more slices at (start + 1380) (full_ends (start + 1380) count ++ cuts) (long-full slices at (start + 1380) count cuts ends)
 
--- no slice goes behind a last fragment
-none-behind : (from at n : ℕ) (short : Bool) → cond short (goes_in_whole from at LastFragment n) (goes_in_cut from at LastFragment) ≡ false
-none-behind from at n true = refl
-none-behind from at n false = refl
+-- no slice goes after a last fragment
+none-after : (from at n : ℕ) (short : Bool) → cond short (goes_in_whole from at LastFragment n) (goes_in_cut from at LastFragment) ≡ false
+none-after from at n true = refl
+none-after from at n false = refl
 
 goes-not : (f : Filling) (n : ℕ) → f.holds ≡ LastFragment → goes_in f n ≡ false
-goes-not f n last = ap (λ (h : Holds). cond (leb n 1380) (goes_in_whole f.from f.at h n) (goes_in_cut f.from f.at h)) last ∙ none-behind f.from f.at n (leb n 1380)
+goes-not f n last = ap (λ (h : Holds). cond (leb n 1380) (goes_in_whole f.from f.at h n) (goes_in_cut f.from f.at h)) last ∙ none-after f.from f.at n (leb n 1380)
 
 fragment-ends : (slices : List ℕ) (f : Filling) (cuts : List ℕ) → f.holds ≡ LastFragment → Cuts f slices cuts → among f.at cuts ≡ true
 fragment-ends [] f cuts last e = ap (λ (l : List ℕ). among f.at l) e ∙ or-left (eqb f.at f.at) false (eq-eqb f.at f.at refl)
@@ -139,13 +139,13 @@ fragment-ends (n ∷ slices) f cuts last (inr x) = ap (λ (l : List ℕ). among 
 leb-not : (n : ℕ) → 1380 < n → leb n 1380 ≡ false
 leb-not n long = elim (cases_Bool (leb n 1380)) [ inl e ↦ absurd (omega (arith, leb-true n 1380 e, long)) | inr e ↦ e ]
 
-held-last : (n : ℕ) → 1380 < n → held n ≡ LastFragment
+held-last : (n : ℕ) → 1380 < n → holds_after n ≡ LastFragment
 held-last n long = ap (λ b. cond b Slices LastFragment) (leb-not n long)
 
 pub long-ends : (slices : List ℕ) (f : Filling) (cuts : List ℕ) → Cuts f slices cuts → DoLongEndPieces f.at slices cuts
 long-ends [] f cuts e = tt
 long-ends (n ∷ slices) f cuts (inl x) =
-    let g = filled f n (f.from + 1380 * x.1.full) in
+    let g = filling_after f n (f.from + 1380 * x.1.full) in
     let P : List ℕ → Type 0 = λ l. DoLongEndPieces f.at (n ∷ slices) l in
     subst P (sym x.1.filled) (
       λ long. among-full (f.at + n) f.from x.1.full x.1.rest (fragment-ends slices g x.1.rest (held-last n long) x.1.goes_on),
@@ -153,7 +153,7 @@ long-ends (n ∷ slices) f cuts (inl x) =
     )
 long-ends (n ∷ slices) f cuts (inr x) =
     let fills = x.1.1.1 in
-    let g = filled f n (f.at + 1380 * fills.full) in
+    let g = filling_after f n (f.at + 1380 * fills.full) in
     let P : List ℕ → Type 0 = λ l. DoLongEndPieces f.at (n ∷ slices) l in
     let Q : List ℕ → Type 0 = λ l. DoLongEndPieces f.at (n ∷ slices) (f.at ∷ l) in
     subst P (sym x.1.1.0) (subst Q (sym fills.filled) (

@@ -6,7 +6,7 @@ use Rattle.mpeg_scan.specs.declared.units.Unit.{Unit as PictureUnit}
 use Rattle.rtp_pack.specs.declared.filling.Filling.{Filling}
 use Rattle.rtp_pack.specs.declared.payloads.Packet.{Packet}
 use Rattle.rtp_pack.specs.Cutting.{next_filling}
-use Rattle.rtp_pack.specs.Packets.{AreInOrder, closed, full_packets, lengths_to, next_place, packet, packets_from, slice_packets}
+use Rattle.rtp_pack.specs.Packets.{AreInOrder, filling_packet, full_packets, lengths_to, next_place, packet, packets_from, slice_packets}
 
 -- one more full piece of those that are left
 pub put-full_packet : (unit : PictureUnit) (begin : Bool) (start count i : ℕ) (out : List Packet) → i < count
@@ -42,7 +42,7 @@ put-next : (unit : PictureUnit) (f : Filling) (n : ℕ) (rest lengths : List ℕ
 put-next unit f n rest lengths out is =
     append_assoc out (slice_packets unit f n) (packets_from unit (next_filling f n) rest) ∙ sym (ap (λ (l : List ℕ). out ++ packets_from unit f l) is)
 
--- once they are out, the slices behind it follow
+-- once they are out, the slices after it follow
 pub record Put (unit : PictureUnit) (starts : List ℕ) (i : ℕ) (next : Filling) (out whole : List Packet) : Type 0 where
   pub in_order : AreInOrder next.at (drop (i + 1) starts) unit.to
   pub packets : out ++ packets_from unit next (lengths_to unit.to (drop (i + 1) starts)) ≡ whole
@@ -64,8 +64,8 @@ put-slice unit starts i f next end before out whole less order at_end at_next mo
           ∙ is;
     }
 
--- behind the last slice the piece in hand is the last packet
-pub put-last : (unit : PictureUnit) (starts : List ℕ) (i : ℕ) (f : Filling) (before out whole : List Packet) → length starts ≤ i → out ≡ before ++ closed unit f ∷ []
+-- after the last slice the piece in hand is the last packet
+pub put-last : (unit : PictureUnit) (starts : List ℕ) (i : ℕ) (f : Filling) (before out whole : List Packet) → length starts ≤ i → out ≡ before ++ filling_packet unit f ∷ []
     → before ++ packets_from unit f (lengths_to unit.to (drop i starts)) ≡ whole → out ≡ whole
 put-last unit starts i f before out whole past is all =
     is ∙ ap (λ (l : List ℕ). before ++ packets_from unit f (lengths_to unit.to l)) (sym (drop_of_length-le starts past)) ∙ all

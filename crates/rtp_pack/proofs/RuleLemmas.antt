@@ -6,13 +6,13 @@ use Rattle.mpeg_scan.specs.declared.units.Unit.{Unit as PictureUnit}
 use Rattle.rtp_pack.specs.declared.filling.Filling.{Filling}
 use Rattle.rtp_pack.specs.declared.filling.Holds.{Holds}
 use Rattle.rtp_pack.specs.declared.filling.Holds.TheVariants.{HeadAlone, Slices, LastFragment}
-use Rattle.rtp_pack.specs.Cutting.{Cuts, IsCutting, filled, first_piece, full_ends, goes_in, goes_in_cut, goes_in_whole, held}
+use Rattle.rtp_pack.specs.Cutting.{Cuts, IsCutting, filling_after, first_piece, full_ends, goes_in, goes_in_cut, goes_in_whole, holds_after}
 use Rattle.rtp_pack.specs.Laws.{ArePieces, AreShortUncut, DoLongEndPieces, IsUncut}
 use Rattle.rtp_pack.specs.Packets.{among, packets_from}
 use Rattle.rtp_pack.specs.Rules.{HaveBytes, IsCutPlace, MayAllEnd, MayEnd, MeetsRules, SliceAt}
 use Rattle.rtp_pack.proofs.CutLemmas.{AreSome, ends, not_both, packets-cut}
 use Rattle.rtp_pack.proofs.FlagLemmas.{or-right}
-use Rattle.rtp_pack.proofs.LawLemmas.{among-full, cuts-behind, head-uncut, long-ends, pieces-cover, short-uncut}
+use Rattle.rtp_pack.proofs.LawLemmas.{among-full, cuts-from, head-uncut, long-ends, pieces-cover, short-uncut}
 
 -- ---- one list
 
@@ -138,7 +138,7 @@ held-by : (b : Bool) → (cond b Slices LastFragment ≡ Slices) ⊎ (cond b Sli
 held-by true = inl refl
 held-by false = inr refl
 
-held-is : (n : ℕ) → (held n ≡ Slices) ⊎ (held n ≡ LastFragment)
+held-is : (n : ℕ) → (holds_after n ≡ Slices) ⊎ (holds_after n ≡ LastFragment)
 held-is n = held-by (leb n 1380)
 
 first-there : (place at : ℕ) (cuts : List ℕ) → at ≡ place → among place (at ∷ cuts) ≡ true
@@ -150,13 +150,13 @@ begin-cut [] f cuts e place length is long goes = absurd is
 begin-cut (n ∷ slices) f cuts (inl x) place length (inl here) long goes =
     absurd (not_both (goes_in f n) x.0 (ap (λ m. goes_in f m) here.1 ∙ goes (sym here.0)))
 begin-cut (n ∷ slices) f cuts (inl x) place length (inr later) long goes =
-    let g = filled f n (f.from + 1380 * x.1.full) in
+    let g = filling_after f n (f.from + 1380 * x.1.full) in
     ap (λ (l : List ℕ). among place l) x.1.filled ∙ among-full place f.from x.1.full x.1.rest (begin-cut slices g x.1.rest x.1.goes_on place length later long (λ _. long-not g length long (held-is n)))
 begin-cut (n ∷ slices) f cuts (inr x) place length (inl here) long goes =
     ap (λ (l : List ℕ). among place l) x.1.1.0 ∙ first-there place f.at x.1.0 here.0
 begin-cut (n ∷ slices) f cuts (inr x) place length (inr later) long goes =
     let fills = x.1.1.1 in
-    let g = filled f n (f.at + 1380 * fills.full) in
+    let g = filling_after f n (f.at + 1380 * fills.full) in
     ap (λ (l : List ℕ). among place l) x.1.1.0
     ∙ or-right (eqb place f.at) (among place x.1.0) (ap (λ (l : List ℕ). among place l) fills.filled ∙ among-full place f.at fills.full fills.rest (begin-cut slices g fills.rest fills.goes_on place length later long (λ _. long-not g length long (held-is n))))
 
@@ -205,10 +205,10 @@ last-by : (b : Bool) (n : ℕ) → leb n 1380 ≡ b → cond b Slices LastFragme
 last-by true n e is = cc
 last-by false n e is = leb-false n 1380 e
 
-last-long : (n : ℕ) → held n ≡ LastFragment → 1380 < n
+last-long : (n : ℕ) → holds_after n ≡ LastFragment → 1380 < n
 last-long n is = last-by (leb n 1380) n refl is
 
-reads-next : (Must : ℕ → Type 0) (Begins : ℕ → ℕ → Type 0) (f : Filling) (n last : ℕ) (slices : List ℕ) → 0 < n → Reads Must Begins f (n ∷ slices) → Reads Must Begins (filled f n last) slices
+reads-next : (Must : ℕ → Type 0) (Begins : ℕ → ℕ → Type 0) (f : Filling) (n last : ℕ) (slices : List ℕ) → 0 < n → Reads Must Begins f (n ∷ slices) → Reads Must Begins (filling_after f n last) slices
 reads-next Must Begins f n last slices some reads = record {
   begins = λ place length is. reads.begins place length (inr is);
   long = λ place length is long goes. reads.long place length (inr is) long (λ here. absurd (omega (arith, here, some, slice-after slices (f.at + n) place length is)));
@@ -220,12 +220,12 @@ may-end : (Must : ℕ → Type 0) (Begins : ℕ → ℕ → Type 0) (slices : Li
 may-end Must Begins [] f cuts some reads e = subst (λ (l : List ℕ). MayAllEnd (MayBy Must Begins) f.from l) (sym e) tt
 may-end Must Begins (n ∷ slices) f cuts some reads (inl x) =
     let last = f.from + 1380 * x.1.full in
-    let rest = may-end Must Begins slices (filled f n last) x.1.rest some.1 (reads-next Must Begins f n last slices some.0 reads) x.1.goes_on in
+    let rest = may-end Must Begins slices (filling_after f n last) x.1.rest some.1 (reads-next Must Begins f n last slices some.0 reads) x.1.goes_on in
     subst (λ (l : List ℕ). MayAllEnd (MayBy Must Begins) f.from l) (sym x.1.filled) (full-may Must Begins f.from x.1.full x.1.rest rest)
 may-end Must Begins (n ∷ slices) f cuts some reads (inr x) =
     let fills = x.1.1.1 in
     let last = f.at + 1380 * fills.full in
-    let rest = may-end Must Begins slices (filled f n last) fills.rest some.1 (reads-next Must Begins f n last slices some.0 reads) fills.goes_on in
+    let rest = may-end Must Begins slices (filling_after f n last) fills.rest some.1 (reads-next Must Begins f n last slices some.0 reads) fills.goes_on in
     let tail : MayAllEnd (MayBy Must Begins) f.at x.1.0 = subst (λ (l : List ℕ). MayAllEnd (MayBy Must Begins) f.at l) (sym fills.filled) (full-may Must Begins f.at fills.full fills.rest rest) in
     subst (λ (l : List ℕ). MayAllEnd (MayBy Must Begins) f.from l) (sym x.1.1.0) (may-cons (MayBy Must Begins) f.from f.at x.1.0 (why Must Begins f n slices reads x.0) tail)
 
@@ -267,7 +267,7 @@ cutting-meets from head_end slices cuts some short have cutting =
     let f = first_piece from head_end in
     let order : from ≤ head_end = omega (arith, some) in record {
       pieces = pieces-cover slices f cuts (some, short) cutting;
-      head = head-uncut from head_end cuts (cuts-behind slices f cuts order cutting);
+      head = head-uncut from head_end cuts (cuts-from slices f cuts order cutting);
       short = short-at slices head_end cuts (short-uncut slices f cuts order cutting);
       long = long-cut from head_end slices cuts cutting;
       ends = may-map (MayBy (IsCutPlace from head_end slices) (SliceAt head_end slices)) (MayEnd from head_end slices) from cuts (may-cs from head_end slices)

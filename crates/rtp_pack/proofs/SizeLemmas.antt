@@ -4,7 +4,7 @@ use Rattle.std.proofs.lemmas.Bool.{cases_Bool, leb-true, leb-false, ltb-true, lt
 use Rattle.rtp_pack.specs.declared.filling.Filling.{Filling}
 use Rattle.rtp_pack.specs.declared.filling.Holds.{Holds}
 use Rattle.rtp_pack.specs.declared.filling.Holds.TheVariants.{HeadAlone, Slices, LastFragment}
-use Rattle.rtp_pack.specs.Cutting.{Cuts, Fills, IsCutting, filled, full_before, full_ends, goes_in, goes_in_cut, goes_in_whole, last_start, start_of}
+use Rattle.rtp_pack.specs.Cutting.{Cuts, Fills, IsCutting, filling_after, full_before, full_ends, goes_in, goes_in_cut, goes_in_whole, last_start, start_of}
 use Rattle.rtp_pack.specs.Sizes.{IsMeasure, Measure, begun, cuts_size, frames_of, measured, slice_pieces, with_slice, with_slices}
 use Rattle.rtp_pack.proofs.CutLemmas.{full-once, full_before-less, full_before-within, start-less}
 
@@ -146,7 +146,7 @@ size-full start (suc full) rest =
     let rest-size : cuts_size (start + 1380 + 1380 * full) rest ≡ cuts_size (start + 1380 * suc full) rest = ap (λ s. cuts_size s rest) place in
     omega (arith, more, rest-size)
 
--- the rest of the frames, behind those of the pieces that ended
+-- the rest of the frames, after those of the pieces that ended
 abbrev pub Rest : Measure → Filling → List ℕ → List ℕ → Type 0
 Rest m g slices cuts = cuts_size g.from cuts + 20 * m.pieces + m.filling.from ≡ frames_of (with_slices m slices)
 
@@ -162,7 +162,7 @@ size-slice start full pieces begins from cuts rest whole is e =
 next-size : (m : Measure) (g : Filling) (n base start place : ℕ) (goes : Bool) (slices cuts : List ℕ) → IsMoved base m.filling g → start_of goes m.filling ≡ start → place ≡ base + start
     → goes_in m.filling n ≡ goes
     → ((m' : Measure) (g' : Filling) (rest : List ℕ) → IsMoved base m'.filling g' → m'.filling.from ≤ m'.filling.at → Cuts g' slices rest → Rest m' g' slices rest)
-    → Fills (λ last rest. Cuts (filled g n last) slices rest) place (g.at + n) cuts
+    → Fills (λ last rest. Cuts (filling_after g n last) slices rest) place (g.at + n) cuts
     → cuts_size place cuts + 20 * (m.pieces + cond goes 0 1) + start ≡ frames_of (with_slices (with_slice m n) slices)
 next-size m g n base start place goes slices cuts is at_start at_place at_goes more fills =
     let f = m.filling in
@@ -174,7 +174,7 @@ next-size m g n base start place goes slices cuts is at_start at_place at_goes m
     let last : last_start (start_of (goes_in f n) f) (f.at + n) ≡ start + 1380 * fills.full = ap (λ s. last_start s (f.at + n)) all ∙ ap (λ k. start + 1380 * k) (sym full) in
     let pieces : slice_pieces f n ≡ cond goes 0 1 + fills.full =
     ap (λ b. cond b 0 1 + full_before (start_of (goes_in f n) f) (f.at + n)) at_goes ∙ ap (λ s. cond goes 0 1 + full_before s (f.at + n)) all ∙ ap (λ k. cond goes 0 1 + k) (sym full) in
-    let rest = more (with_slice m n) (filled g n (place + 1380 * fills.full)) fills.rest
+    let rest = more (with_slice m n) (filling_after g n (place + 1380 * fills.full)) fills.rest
     (record { from = omega (arith, at_place, last); at = omega (arith, is.at); holds = refl }) (omega (arith, last, fills.before, is.at, at_place)) fills.goes_on in
     size-slice place fills.full m.pieces (cond goes 0 1) start cuts fills.rest (frames_of (with_slices (with_slice m n) slices)) fills.filled
     (omega (arith, rest, last, pieces))

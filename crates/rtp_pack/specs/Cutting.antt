@@ -35,12 +35,12 @@ goes_in f length =
     then goes_in_whole f.from f.at f.holds length else goes_in_cut f.from f.at f.holds
 
 -- what the piece with the end of a slice of `length` bytes holds
-abbrev pub held : ℕ → Holds
-held length = if nat_le length 1380 then Slices else LastFragment
+abbrev pub holds_after : ℕ → Holds
+holds_after length = if nat_le length 1380 then Slices else LastFragment
 
 -- the piece in which a slice of `length` bytes ends, that begins at `start`
-abbrev pub filled : Filling → ℕ → ℕ → Filling
-filled f length start = record { from = start; at = f.at + length; holds = held length }
+abbrev pub filling_after : Filling → ℕ → ℕ → Filling
+filling_after f length start = record { from = start; at = f.at + length; holds = holds_after length }
 
 -- the ends of so many full pieces of 1,380 bytes
 abbrev pub full_ends : ℕ → ℕ → List ℕ
@@ -71,7 +71,7 @@ Cuts f [] cuts = cuts ≡ f.at ∷ []
 Cuts f (length ∷ slices) cuts =
     let end = f.at + length in
     Begins (λ start left.
-    Fills (λ last rest. Cuts (filled f length last) slices rest) start end left)
+    Fills (λ last rest. Cuts (filling_after f length last) slices rest) start end left)
     (goes_in f length) f.from f.at cuts
 
 -- the first piece of a unit begins with its whole head
@@ -96,4 +96,4 @@ last_start start end = start + 1380 * full_before start end
 
 -- the piece in which the next slice ends, of `length` bytes
 abbrev pub next_filling : Filling → ℕ → Filling
-next_filling f length = filled f length (last_start (start_of (goes_in f length) f) (f.at + length))
+next_filling f length = filling_after f length (last_start (start_of (goes_in f length) f) (f.at + length))

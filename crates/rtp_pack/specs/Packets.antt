@@ -52,12 +52,12 @@ ends_slice Slices = true
 ends_slice LastFragment = true
 
 -- the packet of a piece that ends before a slice or with the unit
-abbrev pub closed : PictureUnit → Filling → Packet
-closed unit f = packet unit f.from f.at (begins_slice f.holds) (ends_slice f.holds)
+abbrev pub filling_packet : PictureUnit → Filling → Packet
+filling_packet unit f = packet unit f.from f.at (begins_slice f.holds) (ends_slice f.holds)
 
 -- the packet that ends where a slice begins that doesn't go in
 abbrev pub before_slice : Bool → PictureUnit → Filling → List Packet
-before_slice goes unit f = if goes then [] else closed unit f ∷ []
+before_slice goes unit f = if goes then [] else filling_packet unit f ∷ []
 
 -- the packets that end before or in the next slice, of `length` bytes
 abbrev pub slice_packets : PictureUnit → Filling → ℕ → List Packet
@@ -68,7 +68,7 @@ slice_packets unit f length =
 
 -- the packets from the piece that is being filled on, where slices of these lengths follow
 abbrev pub packets_from : PictureUnit → Filling → List ℕ → List Packet
-packets_from unit f [] = closed unit f ∷ []
+packets_from unit f [] = filling_packet unit f ∷ []
 packets_from unit f (length ∷ slices) =
     slice_packets unit f length ++ packets_from unit (next_filling f length) slices
 

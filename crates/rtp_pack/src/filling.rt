@@ -1,5 +1,5 @@
 ghost use Rattle.std.specs.Prelude.{◌≡◌, ◌+◌, ◌*◌, ◌<◌, ◌≤◌};
-ghost use Rattle.rtp_pack.specs.Cutting.{full_before, goes_in, held};
+ghost use Rattle.rtp_pack.specs.Cutting.{full_before, goes_in, holds_after};
 
 /// What stands in the piece of a unit that is being filled.
 #[derive(Clone, Copy, Debug, PartialEq, Eq)]
@@ -42,8 +42,8 @@ pub(crate) fn goes_in(filling: Filling, length: u64) -> bool
 }
 
 /// What the piece with the end of a slice of `length` bytes holds.
-pub(crate) fn held(length: u64) -> Holds
-    ensures { result ≡ held length }
+pub(crate) fn holds_after(length: u64) -> Holds
+    ensures { result ≡ holds_after length }
 {
     if length > PAYLOAD {
         Holds::LastFragment

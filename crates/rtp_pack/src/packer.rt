@@ -1,12 +1,12 @@
 ghost use Rattle.std.specs.Prelude.{◌≡◌, ◌+◌, ◌-◌, ◌*◌, ◌<◌, ◌≤◌, ◌++◌, [], ◌∷◌, true, drop};
 ghost use Rattle.std.specs.Prelude.{length, IfOk, OnOk};
 ghost use Rattle.rtp_pack.specs.Cutting.{full_before, goes_in, last_start, next_filling, start_of};
-ghost use Rattle.rtp_pack.specs.Packets.{ArePackets, DoCover, IsLaid, before_slice, closed};
+ghost use Rattle.rtp_pack.specs.Packets.{ArePackets, DoCover, IsLaid, before_slice, filling_packet};
 ghost use Rattle.rtp_pack.specs.Packets.{frames_size, full_packets, next_place, packet};
 ghost use Rattle.rtp_pack.specs.Packets.{slice_packets, unit_packets};
 ghost use Rattle.rtp_pack.specs.Sizes.{unit_size};
 
-use crate::filling::{Filling, Holds, PAYLOAD, full_before, goes_in, held};
+use crate::filling::{Filling, Holds, PAYLOAD, full_before, goes_in, holds_after};
 use crate::payloads::Packet;
 use mpeg_scan::Unit;
 use vod_base::NoMemory;
@@ -37,7 +37,7 @@ fn put(packets: &mut Vec<Packet>, packet: Packet) -> Result<(), NoMemory>
 
 /// Appends the packet of a piece that ends before a slice or with the unit.
 fn close(packets: &mut Vec<Packet>, unit: &Unit, filling: Filling) -> Result<(), NoMemory>
-    ensures { OnOk result (packets.new.items ≡ packets.old.items ++ closed unit.now filling ∷ []) }
+    ensures { OnOk result (packets.new.items ≡ packets.old.items ++ filling_packet unit.now filling ∷ []) }
 {
     let begin = matches!(filling.holds, Holds::Slices);
     let end = !matches!(filling.holds, Holds::HeadAlone);
@@ -88,7 +88,7 @@ fn put_slice(
     Ok(Filling {
         from: last,
         at: end,
-        holds: held(length),
+        holds: holds_after(length),
     })
 }
 

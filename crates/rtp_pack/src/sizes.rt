@@ -2,7 +2,7 @@ ghost use Rattle.std.specs.Prelude.{◌≡◌, ◌+◌, ◌*◌, ◌^◌, ◌≤
 ghost use Rattle.rtp_pack.specs.Sizes.{HasSlice, IsSize, begun, bytes_of, frames_of, measured};
 ghost use Rattle.rtp_pack.specs.Sizes.{with_slice};
 
-use crate::filling::{Filling, Holds, PAYLOAD, full_before, goes_in, held};
+use crate::filling::{Filling, Holds, PAYLOAD, full_before, goes_in, holds_after};
 use std::marker::Model;
 
 /// The size of a unit's frames, counted while the lengths of its head and slices come in. It takes
@@ -65,7 +65,7 @@ impl UnitSize {
         self.filling = Filling {
             from: start + PAYLOAD * full,
             at: end,
-            holds: held(length),
+            holds: holds_after(length),
         };
     }
 

@@ -1,6 +1,6 @@
 use Rattle.std.proofs.Common.{arith}
 use Rattle.rtp_pack.specs.Cutting.{first_piece}
-use Rattle.rtp_pack.proofs.LawLemmas.{cuts-behind, head-uncut, long-ends, pieces-cover, short-uncut}
+use Rattle.rtp_pack.proofs.LawLemmas.{cuts-from, head-uncut, long-ends, pieces-cover, short-uncut}
 use Rattle.rtp_pack.proofs.laws.law_cutting.Goals as goal
 
 pub returns-clause-pieces : goal.returns-clause-pieces
@@ -8,7 +8,7 @@ returns-clause-pieces c = pieces-cover c.args.slices.now (first_piece c.args.fro
 
 pub returns-clause-head : goal.returns-clause-head
 returns-clause-head c =
-    head-uncut c.args.from c.args.head_end c.args.cuts.now (cuts-behind c.args.slices.now (first_piece c.args.from c.args.head_end) c.args.cuts.now (omega (arith, c.requires.head)) c.requires.cutting)
+    head-uncut c.args.from c.args.head_end c.args.cuts.now (cuts-from c.args.slices.now (first_piece c.args.from c.args.head_end) c.args.cuts.now (omega (arith, c.requires.head)) c.requires.cutting)
 
 pub returns-clause-short_slices : goal.returns-clause-short_slices
 returns-clause-short_slices c = short-uncut c.args.slices.now (first_piece c.args.from c.args.head_end) c.args.cuts.now (omega (arith, c.requires.head)) c.requires.cutting

@@ -29,9 +29,9 @@ pub returns-clause-bytes : goal.returns-clause-bytes
 returns-clause-bytes c =
     let are = trace-track c.self.inside.ends.items c.deref-ends.result.now c.args.self.now c.deref-ends.ensures.value c.self.view_is c.self.invariant in
     let within = found 0 (zero_frames c.args.self.now) c.deref-ends.result.now (c.args.at + 1) c.ends_below.result are (omega arith) (omega (arith, c.requires)) c.ends_below.ensures.count (λ j h. omega (arith, c.ends_below.ensures.below j h)) in
-    let behind = c.ends_below.ensures.from c.ends_below.result (omega arith) within in
+    let later = c.ends_below.ensures.from c.ends_below.result (omega arith) within in
     zeros-next c.args.self.now c.deref-ends.result.now c.args.at c.ends_below.result c.min.result (get_or c.deref-ends.result.now c.ends_below.result 0) c.zeros.result.now are within
-    (λ j h. c.ends_below.ensures.below j h) refl (omega (arith, behind)) (omega (arith, c.min.ensures, behind)) (omega (arith, c.min.ensures, behind)) c.zeros.ensures
+    (λ j h. c.ends_below.ensures.below j h) refl (omega (arith, later)) (omega (arith, c.min.ensures, later)) (omega (arith, c.min.ensures, later)) c.zeros.ensures
 
 pub returns-clause-full : goal.returns-clause-full
 returns-clause-full c = λ end is.

@@ -1,6 +1,6 @@
 use Rattle.std.proofs.Common.{◌∙◌, arith}
 use Rattle.std.proofs.lemmas.Result.{MatchResult-weaker}
-use Rattle.mpeg_scan.proofs.RoomLemmas.{ended-sliced}
+use Rattle.mpeg_scan.proofs.RoomLemmas.{end_judgement-sliced}
 use Rattle.mpeg_scan.proofs.StepLemmas.{refusal-empty, refusal-long, refusal-is, tally-ended}
 use Rattle.mpeg_scan.proofs.progress.Progress.judge_film.Goals as goal
 
@@ -30,7 +30,7 @@ returns-else-self-gt-FILM-clause-tally c =
 
 pub returns-else-self-gt-FILM-clause-sliced : goal.returns-else-self-gt-FILM-clause-sliced
 returns-else-self-gt-FILM-clause-sliced c =
-    MatchResult-weaker c.judge_end.result c.judge_end.ensures (λ t h. ended-sliced c.args.self.now.latest c.args.self.now.tally t c.args.self.now.fed h.0 h.1) (λ f h. tt)
+    MatchResult-weaker c.judge_end.result c.judge_end.ensures (λ t h. end_judgement-sliced c.args.self.now.latest c.args.self.now.tally t c.args.self.now.fed h.0 h.1) (λ f h. tt)
 
 pub returns-else-self-gt-FILM-clause-short : goal.returns-else-self-gt-FILM-clause-short
 returns-else-self-gt-FILM-clause-short c =

@@ -1,5 +1,5 @@
 use Rattle.std.proofs.Common.{◌+◌, ◌++◌, List, ℕ, take, subst, sym, ap, ◌∙◌, arith}
-use Rattle.mpeg_scan.specs.Calls.{Call, told}
+use Rattle.mpeg_scan.specs.Calls.{Call, calls_of}
 use Rattle.mpeg_scan.specs.Codes.{codes_of, read}
 use Rattle.mpeg_scan.specs.Faults.{first_fault}
 use Rattle.mpeg_scan.specs.Scans.{HasRead}
@@ -33,7 +33,7 @@ loop-at-preserved-in-Ok g c =
       room = c.in-Ok.ensures.room;
       ready = c.in-Ok.ensures.ready;
       kept = λ r kept. subst (λ (q : List ℕ). HasRead c.take_byte.new.self q) (read-byte r piece b c.if-at-piece.true) (c.in-Ok.ensures.kept (read r (take b piece)) (subst (λ (q : List ℕ). HasRead c.skip-at.new.self q) (read-run r piece at n) (c.skip-at.ensures.kept (read r (take at piece)) (i.kept r kept))));
-      told = λ r calls kept heard. subst (λ (q : List ℕ). g.F.Found.heard c.take_byte.new.found (calls ++ told (codes_of q))) (read-byte r piece b c.if-at-piece.true)
+      told = λ r calls kept heard. subst (λ (q : List ℕ). g.F.Found.heard c.take_byte.new.found (calls ++ calls_of (codes_of q))) (read-byte r piece b c.if-at-piece.true)
           (c.in-Ok.ensures.told (read r (take b piece)) calls (subst (λ (q : List ℕ). HasRead c.skip-at.new.self q) (read-run r piece at n) (c.skip-at.ensures.kept (read r (take at piece)) (i.kept r kept)))
           (subst (λ (l : List Call). g.F.Found.heard c.loop-at.found l) (told-run r piece at n calls (c.skip-at.ensures.quiet (read r (take at piece)) (i.kept r kept))) (i.told r calls kept heard)));
     }

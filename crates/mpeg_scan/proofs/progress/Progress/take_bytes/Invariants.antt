@@ -1,7 +1,7 @@
 use Rattle.std.proofs.Common.{◌≡◌, ◌≤◌, ◌+◌, ◌-◌, ◌++◌, List, ℕ, length, take}
-use Rattle.mpeg_scan.specs.Calls.{Call, told}
+use Rattle.mpeg_scan.specs.Calls.{Call, calls_of}
 use Rattle.mpeg_scan.specs.Codes.{codes_of, read}
-use Rattle.mpeg_scan.specs.Room.{AwaitsSlice, HasRoomAhead}
+use Rattle.mpeg_scan.specs.Room.{AwaitsSlice, IsAhead}
 use Rattle.mpeg_scan.specs.Scans.{HasRead}
 use Rattle.mpeg_scan.specs.Steps.{tally_with}
 use Rattle.mpeg_scan.proofs.progress.Progress.take_bytes.Given as goal
@@ -11,10 +11,10 @@ invariant-loop-at g l =
     record {
       within : l.at ≤ length l.piece;
       fed : l.self.fed ≡ l.initial.self.fed + l.at;
-      room : HasRoomAhead l.self.fed l.self.prefix l.self.latest l.self.tally;
+      room : IsAhead l.self;
       ready : AwaitsSlice (g.F.Found.ready_at l.found) (tally_with l.self.latest l.self.tally);
       kept : (r : List ℕ) → HasRead l.initial.self r → HasRead l.self (read r (take l.at l.piece));
-      told : (r : List ℕ) (calls : List Call) → HasRead l.initial.self r → g.F.Found.heard l.initial.found (calls ++ told (codes_of r)) → g.F.Found.heard l.found (calls ++ told (codes_of (read r (take l.at l.piece))));
+      told : (r : List ℕ) (calls : List Call) → HasRead l.initial.self r → g.F.Found.heard l.initial.found (calls ++ calls_of (codes_of r)) → g.F.Found.heard l.found (calls ++ calls_of (codes_of (read r (take l.at l.piece))));
     }
 
 abbrev pub decreases-loop-at : goal.decreases-loop-at

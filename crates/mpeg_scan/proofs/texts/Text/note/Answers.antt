@@ -1,6 +1,6 @@
 use Rattle.std.proofs.Common.{◌≡◌, ◌≤◌, ◌+◌, ℕ, List, length, take, set, ap, ◌∙◌, arith}
 use Rattle.std.proofs.lemmas.List.{length-take-le}
-use Rattle.mpeg_scan.specs.Texts.{noted}
+use Rattle.mpeg_scan.specs.Texts.{text_with}
 use Rattle.mpeg_scan.proofs.CodeLemmas.{noted-room, noted-full}
 use Rattle.mpeg_scan.proofs.texts.Text.note.Goals as goal
 
@@ -9,7 +9,7 @@ returns-then-self-lt-TEXT c =
     let t = c.self.inside in
     ap (λ i. take (t.len + 1) (set t.bytes i c.args.byte)) c.from.ensures
     ∙ noted-room t.bytes t.len c.args.byte c.if-self-lt-TEXT.true c.self.told
-    ∙ ap (λ (text : List ℕ). noted text c.args.byte) c.self.view_is
+    ∙ ap (λ (text : List ℕ). text_with text c.args.byte) c.self.view_is
 
 pub returns-else-self-lt-TEXT : goal.returns-else-self-lt-TEXT
 returns-else-self-lt-TEXT c =
