@@ -3,3 +3,4 @@ pub mod Lines
 pub mod Statuses
 pub mod Causes
 pub mod Spelling
+pub mod Messages

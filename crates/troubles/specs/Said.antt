@@ -10,7 +10,7 @@ number_text n = codes " " ++ decimal n
 abbrev pub labelled : List ℕ → ℕ → List ℕ
 labelled label number = codes " " ++ label ++ codes "=" ++ decimal number
 
--- the text was written behind what was told; after a fault, which was counted, a front of it
+-- the text was written after what was told; after a fault, which was counted, a front of it
 pub record IsSaid (faults faults' : ℕ) (told told' : Option (List ℕ)) (text : List ℕ) (whole : Bool)
     : Type 0 where
   pub count : faults ≤ faults'

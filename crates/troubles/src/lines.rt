@@ -1,6 +1,8 @@
-ghost use Rattle.std.specs.Prelude.{◌++◌};
+ghost use Rattle.std.specs.Prelude.{◌≡◌, ◌++◌};
 ghost use Rattle.troubles.specs.Said.{GoesOn, IsSaid, labelled, number_text};
 ghost use Rattle.troubles.specs.Lines.{fault_text, trouble_text};
+ghost use Rattle.troubles.specs.Messages.{IsOwnLine, MayBeSaid, message_of};
+ghost use Rattle.troubles.specs.declared.faults.Trouble.{Trouble as Cause};
 
 use crate::faults::{Fault, Trouble};
 use crate::words::fault_words;
@@ -84,3 +86,12 @@ pub fn add_count<S: Sink>(sink: &mut S, going: bool, label: &str, number: u64) -
     let equals = add(sink, named, b"=");
     add(sink, equals, buffer.format(number).as_bytes())
 }
+
+/// A law: the line of a trouble is one line of the program's own, and tells its cause: troubles
+/// with the same line have the same cause, and with it the same input and the same refusal, with
+/// the same numbers.
+pub fn law_line_tells_trouble()
+    ensures own { (trouble : Cause) → MayBeSaid trouble → IsOwnLine (trouble_text trouble) }
+    ensures tells { (trouble trouble' : Cause) → MayBeSaid trouble → MayBeSaid trouble' →
+        trouble_text trouble ≡ trouble_text trouble' → message_of trouble ≡ message_of trouble' }
+{}
