@@ -8,3 +8,5 @@ pub mod HaltLaws
 pub mod PlayLaws
 pub mod LeftLaws
 pub mod BoundaryLaws
+mod UsedPictures
+mod SeekTimes

@@ -1,5 +1,5 @@
 -- What plans and halts promise a client, in its own words.
-use Rattle.std.specs.Prelude.{ℕ, ◌≡◌, ◌+◌, ◌-◌, ◌<◌, ◌≤◌, List, Option}
+use Rattle.std.specs.Prelude.{ℕ, ◌≡◌, ◌+◌, ◌-◌, ◌<◌, ◌≤◌, ◌⊎◌, ◌↔◌, List, Option, Some, None}
 use Rattle.plan_cert.specs.declared.Segment.{Segment}
 use Rattle.plan_cert.specs.Slots.{sum_through, total_bytes, total_slots}
 use Rattle.mpeg_scan.specs.declared.films.Film.{Film}
@@ -68,6 +68,20 @@ LeavesRun sizes playback run plan =
     (last : Option ℕ) (keep : ℕ) (left : Run)
     → IsHalt plan last keep → IsLeft sizes playback run plan last keep left →
     CanPlay sizes playback left
+
+-- A client has used a picture of a halted play: in a slot before the one last stepped, or in one at
+-- whose end some of what is kept was still to be sent. Where no slot was stepped it used none.
+abbrev pub IsUsedBy : Playback → Run → List Segment → Option ℕ → ℕ → ℕ → Type 0
+IsUsedBy playback run plan None keep unit = ⊥
+IsUsedBy playback run plan (Some last) keep unit =
+    (used_in playback run unit < last) ⊎ (sum_through plan (used_in playback run unit) < keep)
+
+-- what counts as played after a halt is exactly what the client has used by then
+abbrev pub CountsUsed : List ℕ → Playback → Run → List Segment → Type 0
+CountsUsed sizes playback run plan =
+    (last : Option ℕ) (keep : ℕ) (left : Run) (unit : ℕ)
+    → IsLeft sizes playback run plan last keep left → IsUnplayed run unit
+    → (unit < left.from_unit) ↔ IsUsedBy playback run plan last keep unit
 
 -- What is left is sent on from the byte after the last: what was kept of the plan and the plan of
 -- what is left are together the bytes of the plan.

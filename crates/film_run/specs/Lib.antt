@@ -4,3 +4,4 @@ pub mod Plans
 pub mod Pauses
 pub mod Seeks
 pub mod Laws
+pub mod SeekLaws

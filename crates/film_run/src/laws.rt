@@ -1,7 +1,11 @@
-ghost use Rattle.std.specs.Prelude.{◌<◌, ◌≤◌, length};
+ghost use Rattle.std.specs.Prelude.{◌<◌, ◌≤◌, ℕ, length, Option};
+ghost use Rattle.mpeg_scan.specs.declared.films.Film.{Film as FilmIs};
+ghost use Rattle.film_run.specs.declared.runs.Run.{Run};
 ghost use Rattle.film_run.specs.Plans.{IsBestPlanOf};
-ghost use Rattle.film_run.specs.Laws.{AreInTime, DoesFit, GoesOn, IsOnlyPlan, LeavesOne, LeavesRun};
-ghost use Rattle.film_run.specs.Laws.{OfSendings, SharesBoundaries};
+ghost use Rattle.film_run.specs.Laws.{AreInTime, CountsUsed, DoesFit, GoesOn, IsOnlyPlan};
+ghost use Rattle.film_run.specs.Laws.{LeavesOne, LeavesRun, OfSendings, SharesBoundaries};
+ghost use Rattle.film_run.specs.SeekLaws.{IsSought};
+ghost use Rattle.film_run.specs.Seeks.{IsAsked};
 
 use mpeg_scan::Film;
 
@@ -17,11 +21,23 @@ pub fn law_plan()
 
 /// A halt leaves one run, which the client can play. It is sent on from the byte after the last:
 /// what was kept of the halted play's plan and the plan of what is left are together the bytes of
-/// the halted play's plan.
+/// the halted play's plan. Exactly those pictures count as played that the client has used: in a
+/// slot before the one last stepped, or in one at whose end some of what is kept was still to be
+/// sent.
 pub fn law_left()
     ensures one { OfSendings LeavesOne }
     ensures plays { OfSendings LeavesRun }
     ensures on { OfSendings GoesOn }
+    ensures used { OfSendings CountsUsed }
+{}
+
+/// A seek to a time plays from the last group of pictures on whose first picture's time has come by
+/// then, at the film's picture rate; up to another time, it ends with the first later group before
+/// which the pictures last until that time, or with the film (RFC 2326 sections 3.6, 10.5 and
+/// 12.29).
+pub fn law_seek()
+    ensures { (film : FilmIs) (from : ℕ) (to : Option ℕ) (run : Run)
+        → 1 ≤ film.rate → film.rate ≤ 8 → IsAsked film from to run → IsSought film from to run }
 {}
 
 /// The boundaries of a film's run are places of its bytes, whatever the identity under which it is

@@ -81,8 +81,8 @@ pub fn plan_of<U: Units>(
     requires run { IsRun (U.sizes units.now) run.now }
     requires fits { Fits playback.now.buffer run.now }
     ensures plan { IfOk result (IsPlanOf (U.sizes units.now) playback.now run.now) }
-    ensures bytes { IfOk result (λ plan.
-        run.now.sent + total_bytes plan ≡ bytes_between (U.sizes units.now) run.now.first_unit run.now.end_unit) }
+    ensures bytes { IfOk result (λ plan. run.now.sent + total_bytes plan
+        ≡ bytes_between (U.sizes units.now) run.now.first_unit run.now.end_unit) }
     ensures best { IfOk result (IsBestPlanOf (U.sizes units.now) playback.now run.now) }
     ensures refused { IfErr result
         (IsRefused (rest_sizes (U.sizes units.now) run.now) (timing_of playback.now run.now)) }

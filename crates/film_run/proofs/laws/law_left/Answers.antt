@@ -1,4 +1,5 @@
 use Rattle.film_run.proofs.LeftLaws.{goes-on-after, halted-plays, left-one}
+use Rattle.film_run.proofs.UsedPictures.{counts-used}
 use Rattle.film_run.proofs.laws.law_left.Goals as goal
 
 pub returns-clause-one : goal.returns-clause-one
@@ -9,3 +10,6 @@ returns-clause-plays c = halted-plays
 
 pub returns-clause-on : goal.returns-clause-on
 returns-clause-on c = goes-on-after
+
+pub returns-clause-used : goal.returns-clause-used
+returns-clause-used c = counts-used

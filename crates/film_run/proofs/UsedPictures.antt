@@ -1,0 +1,49 @@
+-- What counts as played after a halt is what the client has used.
+use Rattle.std.proofs.Common.{◌≡◌, ℕ, ◌+◌, ◌-◌, ◌<◌, ◌≤◌, ◌⊎◌, ◌↔◌, List, Option, Some, None, max, inl, inr, arith}
+use Rattle.std.proofs.lemmas.Bool.{cases_lt}
+use Rattle.plan_cert.specs.declared.Segment.{Segment}
+use Rattle.plan_cert.specs.Slots.{sum_through}
+use Rattle.plan_cert.proofs.SlotLaws.{sum_through_rises}
+use Rattle.wire_curve.specs.FilmCurves.{due}
+use Rattle.wire_curve.proofs.UseLaws.{due_rises}
+use Rattle.film_run.specs.declared.runs.Run.{Run}
+use Rattle.film_run.specs.declared.plans.Playback.{Playback}
+use Rattle.film_run.specs.Plans.{timing_of}
+use Rattle.film_run.specs.Pauses.{IsLeft, IsStop}
+use Rattle.film_run.specs.Laws.{CountsUsed, IsSending, IsUnplayed, IsUsedBy, used_in}
+
+-- a picture that is used before the slot of the stop, and one that is used in it or later
+used-before-stop : (playback : Playback) (run : Run) (plan : List Segment) (last : Option ℕ) (keep stop unit : ℕ)
+    → IsStop plan last keep stop → used_in playback run unit < stop → IsUsedBy playback run plan last keep unit
+used-before-stop playback run plan None keep stop unit is less = absurd (omega arith)
+used-before-stop playback run plan (Some last) keep stop unit is less =
+    elim (cases_lt (used_in playback run unit) last) [
+      | inl before ↦ inl before
+      | inr from ↦ inr (is.1.0.not_before (used_in playback run unit) (omega (arith, is.1.1)))
+    ]
+
+unused-from-stop : (playback : Playback) (run : Run) (plan : List Segment) (last : Option ℕ) (keep stop unit : ℕ)
+    → IsStop plan last keep stop → stop ≤ used_in playback run unit → IsUsedBy playback run plan last keep unit → ⊥
+unused-from-stop playback run plan None keep stop unit is from its = its
+unused-from-stop playback run plan (Some last) keep stop unit is from its =
+    elim its [
+      | inl before ↦ omega (arith, is.1.1)
+      | inr early ↦
+          let rises = sum_through_rises plan is.0 (used_in playback run unit) (omega (arith, is.1.1)) in
+          let reached = is.1.0.reached in
+          omega arith
+    ]
+
+pub counts-used : (sizes : List ℕ) (playback : Playback) (run : Run) (plan : List Segment) → IsSending sizes playback run plan
+    → CountsUsed sizes playback run plan
+counts-used sizes playback run plan is = λ last keep left unit its at. (
+  λ before. used-before-stop playback run plan last keep its.stop unit its.stop_is (its.used unit at.from before),
+  λ used.
+      elim (cases_lt unit left.from_unit) [
+        | inl before ↦ before
+        | inr from ↦
+            let some = is.can_play.playback_is.some_slot_units in
+            let rises = due_rises (timing_of playback run) (left.from_unit - run.from_unit) (unit - run.from_unit) some (omega arith) in
+            absurd (unused-from-stop playback run plan last keep its.stop unit its.stop_is (omega (arith, its.unused)) used)
+      ],
+)

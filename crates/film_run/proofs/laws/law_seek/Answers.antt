@@ -1,0 +1,5 @@
+use Rattle.film_run.proofs.SeekTimes.{sought}
+use Rattle.film_run.proofs.laws.law_seek.Goals as goal
+
+pub returns : goal.returns
+returns c = sought
