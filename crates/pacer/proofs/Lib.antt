@@ -1,2 +1,3 @@
 pub mod SendingLemmas
 pub mod PacingLemmas
+mod SlotLemmas

@@ -3,9 +3,11 @@
 //! of a frame, so that a reply goes out between frames, and it can be halted there for good.
 #![tactic(auto)]
 
+mod laws;
 mod pacers;
 mod sending;
 
+pub use laws::law_slots_sent;
 pub use pacers::{Pacer, Stepped};
 
 #[cfg(test)]

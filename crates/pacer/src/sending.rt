@@ -46,9 +46,10 @@ fn send_part<K: Link>(head: &[u8], payload: &[u8], most: u64, link: &mut K) -> R
     ensures fault { OnErr result (HasRisen (K.faults link.old) (K.faults link.new)) }
     ensures number { IfOk result (λ n. n ≡ min (length (head.now ++ payload.now)) most) }
     ensures whole { OnOk result
-        (K.told link.new ≡ told_more (K.told link.old) (sends (take most (head.now ++ payload.now)))) }
-    ensures stopped { IfErr result (λ stopped.
-        HasStopped (take most (head.now ++ payload.now)) (K.told link.old) (K.told link.new) stopped.0) }
+        (K.told link.new
+        ≡ told_more (K.told link.old) (sends (take most (head.now ++ payload.now)))) }
+    ensures stopped { IfErr result (λ stopped. HasStopped (take most (head.now ++ payload.now))
+        (K.told link.old) (K.told link.new) stopped.0) }
 {
     let head = front(head, most);
     let head_bytes = head.len() as u64;
@@ -74,10 +75,10 @@ pub(crate) fn send_between<T: Track, K: Link>(
     requires within { to ≤ length (framed (T.pieces track.now)) }
     ensures count { K.faults link.old ≤ K.faults link.new }
     ensures fault { OnErr result (HasRisen (K.faults link.old) (K.faults link.new)) }
-    ensures whole { OnOk result
-        (K.told link.new ≡ told_more (K.told link.old) (sends (bytes_between (T.pieces track.now) from to))) }
-    ensures stopped { IfErr result (λ stopped.
-        HasStopped (bytes_between (T.pieces track.now) from to) (K.told link.old) (K.told link.new) stopped.0) }
+    ensures whole { OnOk result (K.told link.new ≡ told_more (K.told link.old)
+        (sends (bytes_between (T.pieces track.now) from to))) }
+    ensures stopped { IfErr result (λ stopped. HasStopped (bytes_between (T.pieces track.now) from to)
+        (K.told link.old) (K.told link.new) stopped.0) }
 {
     let mut head = [0; 52];
     let mut at = from;

@@ -1,0 +1,49 @@
+-- What each slot of a plan brings, in the plan's own words.
+use Rattle.std.specs.Prelude.{ℕ, ◌≡◌, ◌+◌, ◌-◌, ◌<◌, ◌≤◌, min, false, true, slice_index}
+use Rattle.film_frames.specs.Tracks.{IsBoundaryAfter}
+use Rattle.plan_cert.specs.Slots.{plan_slots, sum_through, total_bytes}
+use Rattle.pacer.specs.Pacings.{IsPacing, Pacing, raised, stepped}
+
+-- a fact of each pacing and each slot of the link
+abbrev pub OfSteps : (Pacing → ℕ → Type 0) → Type 0
+OfSteps Fact = (p : Pacing) (slot : ℕ) → IsPacing p → Fact p slot
+
+-- a slot before the plan's start brings nothing
+abbrev pub BringsNothing : Pacing → ℕ → Type 0
+BringsNothing p slot = slot < p.start → raised slot p ≡ p
+
+-- no slot after this one was stepped, and the plan has begun by then
+pub record IsLatest (p : Pacing) (slot : ℕ) : Type 0 where
+  pub begun : p.start ≤ slot
+  pub latest : p.passed ≤ slot - p.start + 1
+
+-- Once a slot was stepped, exactly what the plan has from its start through that slot is due, or
+-- what is kept of it, if that is less; and so much was sent. Missed slots are made up.
+pub record IsSentThrough (p : Pacing) (slot : ℕ) (new : Pacing) : Type 0 where
+  pub due : new.due ≡ min (sum_through p.plan (slot - p.start)) p.keep
+  pub sent : new.sent ≡ new.due
+
+abbrev pub SendsThrough : Pacing → ℕ → Type 0
+SendsThrough p slot = IsLatest p slot → IsSentThrough p slot (stepped false slot p)
+
+-- the plan's slots up to this one were stepped, and no later one; no halt was asked
+pub record IsUpTo (p : Pacing) (slot : ℕ) : Type 0 where
+  pub begun : p.start ≤ slot
+  pub passed : p.passed ≡ slot - p.start
+  pub whole : p.keep ≡ total_bytes p.plan
+  pub even : p.sent ≡ p.due
+
+-- the next slot brings the bytes of that slot of the plan, and the one after it is then the next
+pub record IsNextSent (p : Pacing) (slot : ℕ) (new : Pacing) : Type 0 where
+  pub bytes : new.sent ≡ p.sent + slice_index (plan_slots p.plan) (slot - p.start)
+  pub next : IsUpTo new (slot + 1)
+
+abbrev pub SendsNext : Pacing → ℕ → Type 0
+SendsNext p slot = IsUpTo p slot → IsNextSent p slot (stepped false slot p)
+
+-- a step with a stop sends as much as one without, but nothing past the first boundary at or after
+-- what was sent
+abbrev pub StopsAtBoundary : Pacing → ℕ → Type 0
+StopsAtBoundary p slot =
+    (place : ℕ) → IsBoundaryAfter p.pieces (p.before + p.sent) (p.before + place)
+    → (stepped true slot p).sent ≡ min (stepped false slot p).sent place
