@@ -3,3 +3,7 @@ pub mod CapacityLemmas
 pub mod SettingLemmas
 pub mod SpellingLemmas
 pub mod ReadBack
+pub mod MeaningLemmas
+pub mod OrderLemmas
+pub mod DefaultLemmas
+pub mod FormLemmas

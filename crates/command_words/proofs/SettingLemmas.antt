@@ -79,7 +79,7 @@ some_is : (b : Bool) (value : List ℕ) → is_some (if b then Some value else N
 some_is true value = refl
 some_is false value = refl
 
-one_read : (keys : List (List ℕ)) (key value : List ℕ) → has_no 61 key ≡ true →
+pub one_read : (keys : List (List ℕ)) (key value : List ℕ) → has_no 61 key ≡ true →
     gives_one keys (key ++ (codes "=" ++ value)) ≡ list_any (λ k. bytes_eq key k) keys
 one_read [] key value plain = refl
 one_read (k ∷ keys) key value plain =

@@ -8,8 +8,8 @@ use Rattle.std.proofs.Math.ListN.{get_or-map}
 use Rattle.std.specs.List.{list_all}
 use Rattle.command_words.specs.Settings.{texts, setting_value, values_of}
 
--- what words in front and words behind give
-values_of-append : (key : List ℕ) (front back : List (List ℕ)) → values_of key (front ++ back) ≡ values_of key front ++ values_of key back
+-- what words in front and the words after them give
+pub values_of-append : (key : List ℕ) (front back : List (List ℕ)) → values_of key (front ++ back) ≡ values_of key front ++ values_of key back
 values_of-append key front back = flat_map-append (λ (word : List ℕ). option_to_list (setting_value key word)) front back
 
 -- a word more

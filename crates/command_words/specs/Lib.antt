@@ -7,3 +7,4 @@ pub mod Orders
 pub mod Ranges
 pub mod Given
 pub mod Spelling
+pub mod Forms

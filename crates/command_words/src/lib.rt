@@ -5,6 +5,7 @@ mod capacities;
 mod commands;
 mod films;
 mod keys;
+mod laws;
 mod orders;
 mod servers;
 mod settings;
@@ -14,6 +15,7 @@ mod words;
 
 pub use commands::{Command, command_named, keys_of};
 pub use films::film_named;
+pub use laws::{law_defaults, law_order_is_free, law_words_have_form};
 pub use orders::{
     FairRun, Listening, Made, Order, Pace, ScriptRun, Serving, Source, Viewer, Watching,
 };

@@ -1,0 +1,76 @@
+-- The order of words is free.
+use Rattle.std.proofs.Common.{◌≡◌, ℕ, ◌^◌, ◌-◌, ◌&&◌, ◌⊎◌, List, ◌∷◌, ◌++◌, sym, ap, ◌∙◌, Some, None, Bool, true, false, refl, codes, inl, inr}
+use Rattle.std.specs.List.{list_all}
+use Rattle.std.proofs.lemmas.List.Folds.{list_all-append}
+use Rattle.command_words.specs.Settings.{number_or, setting_value, values_of}
+use Rattle.command_words.specs.Capacities.{one_capacity}
+use Rattle.command_words.specs.Keys.{one_bind}
+use Rattle.command_words.specs.Commands.{command_named, is_word_of}
+use Rattle.command_words.specs.declared.commands.Command.{Command}
+use Rattle.command_words.specs.Forms.{HaveOtherKeys}
+use Rattle.command_words.specs.Words.{meaning, source_of}
+use Rattle.command_words.proofs.MeaningLemmas.{GiveSame, meaning_same}
+use Rattle.command_words.proofs.WordLemmas.{values_of-append}
+
+-- words that give the same values to each key
+abbrev HaveSameValues : List (List ℕ) → List (List ℕ) → Type 0
+HaveSameValues words words' = (key : List ℕ) → values_of key words ≡ values_of key words'
+
+give_same : (words words' : List (List ℕ)) → HaveSameValues words words' → GiveSame words words'
+give_same words words' same = record {
+  films = same (codes "film");
+  source = ap (λ (vs : List (List ℕ)). source_of vs (values_of (codes "film") words) (values_of (codes "slot") words)) (same (codes "trace"))
+      ∙ ap (λ (vs : List (List ℕ)). source_of (values_of (codes "trace") words') vs (values_of (codes "slot") words)) (same (codes "film"))
+      ∙ ap (λ (vs : List (List ℕ)). source_of (values_of (codes "trace") words') (values_of (codes "film") words') vs) (same (codes "slot"));
+  cert = same (codes "cert");
+  script = same (codes "script");
+  kind = same (codes "kind");
+  seed = same (codes "seed");
+  pictures = same (codes "pictures");
+  plays = same (codes "plays");
+  buffer = ap (number_or 1048576 1 (2 ^ 42)) (same (codes "buffer"));
+  startup = ap (number_or 25 0 10000) (same (codes "startup"));
+  slot = ap (number_or 14400 360 360000) (same (codes "slot"));
+  capacity = ap one_capacity (same (codes "capacity"));
+  journal = ap (number_or 65536 2 1048576) (same (codes "journal"));
+  port = ap (number_or 8554 1 65535) (same (codes "port"));
+  bind = ap one_bind (same (codes "bind"));
+  workers = ap (number_or 32 1 256) (same (codes "workers"));
+  connections = ap (number_or 0 0 (2 ^ 64 - 1)) (same (codes "connections"));
+}
+
+-- two words of different keys give the same in the other order
+swapped : (key word other : List ℕ) (rest : List (List ℕ)) → (setting_value key word ≡ None) ⊎ (setting_value key other ≡ None) →
+    values_of key (word ∷ other ∷ rest) ≡ values_of key (other ∷ word ∷ rest)
+swapped key word other rest one = elim one [
+  | inl none ↦ rw none refl
+  | inr none ↦ rw none refl
+]
+
+values_free : (front : List (List ℕ)) (word other : List ℕ) (rest : List (List ℕ)) → HaveOtherKeys word other →
+    HaveSameValues (front ++ word ∷ other ∷ rest) (front ++ other ∷ word ∷ rest)
+values_free front word other rest apart key =
+    values_of-append key front (word ∷ other ∷ rest)
+    ∙ ap (λ (vs : List (List ℕ)). values_of key front ++ vs) (swapped key word other rest (apart key))
+    ∙ sym (values_of-append key front (other ∷ word ∷ rest))
+
+and_swapped : (a b c : Bool) → (a && (b && c)) ≡ (b && (a && c))
+and_swapped true true c = refl
+and_swapped true false c = refl
+and_swapped false true c = refl
+and_swapped false false c = refl
+
+all_free : (p : List ℕ → Bool) (front : List (List ℕ)) (word other : List ℕ) (rest : List (List ℕ)) →
+    list_all p (front ++ word ∷ other ∷ rest) ≡ list_all p (front ++ other ∷ word ∷ rest)
+all_free p front word other rest =
+    list_all-append p front (word ∷ other ∷ rest)
+    ∙ ap (λ (b : Bool). list_all p front && b) (and_swapped (p word) (p other) (list_all p rest))
+    ∙ sym (list_all-append p front (other ∷ word ∷ rest))
+
+pub order_free : (name : List ℕ) (command : Command) (front : List (List ℕ)) (word other : List ℕ) (rest : List (List ℕ)) →
+    command_named name ≡ Some command → HaveOtherKeys word other →
+    meaning (name ∷ front ++ word ∷ other ∷ rest) ≡ meaning (name ∷ front ++ other ∷ word ∷ rest)
+order_free name command front word other rest named apart =
+    meaning_same name command (front ++ word ∷ other ∷ rest) (front ++ other ∷ word ∷ rest) named
+    (all_free (is_word_of command) front word other rest)
+    (give_same (front ++ word ∷ other ∷ rest) (front ++ other ∷ word ∷ rest) (values_free front word other rest apart))
