@@ -10,3 +10,4 @@ pub mod Makers
 pub mod Once
 pub mod Counts
 pub mod Bookings
+pub mod Rests

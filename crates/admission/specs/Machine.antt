@@ -1,6 +1,7 @@
 -- The machine that admits plays on a link. Its answers are said as a relation, and each answer
 -- gives the next state.
-use Rattle.std.specs.Prelude.{ℕ, ◌≡◌, ◌+◌, ◌≤◌, ◌==◌, max, Bool, true, false, IsTrue, IsSomeAnd, List, [], ◌∷◌, ◌++◌, map, count_by, Option, find, if◌then◌else◌}
+use Rattle.std.specs.Prelude.{ℕ, ◌≡◌, ◌+◌, ◌≤◌, ◌==◌, max, Bool, true, false, IsTrue, IsSomeAnd}
+use Rattle.std.specs.Prelude.{List, [], ◌∷◌, ◌++◌, map, count_by, Option, find, if◌then◌else◌}
 use Rattle.plan_cert.specs.declared.Segment.{Segment}
 use Rattle.plan_cert.specs.Slots.{total_bytes}
 use Rattle.slot_calendar.specs.declared.profiles.CapStep.{CapStep}

@@ -1,4 +1,5 @@
-ghost use Rattle.std.specs.Prelude.{ℕ, ◌≡◌, ◌+◌, ◌^◌, ◌<◌, ◌≤◌, [], min, max, IfOk, IfErr, OnOk, OnErr};
+ghost use Rattle.std.specs.Prelude.{ℕ, ◌≡◌, ◌+◌, ◌^◌, ◌<◌, ◌≤◌, [], min, max, IfOk, IfErr, OnOk};
+ghost use Rattle.std.specs.Prelude.{OnErr};
 ghost use Rattle.plan_cert.specs.Slots.{total_bytes};
 ghost use Rattle.slot_calendar.specs.Calendars.{StandsFor};
 ghost use Rattle.admission.specs.Machine.{CanHalt, plays_of};

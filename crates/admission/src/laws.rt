@@ -1,4 +1,5 @@
-ghost use Rattle.std.specs.Prelude.{◌≡◌, ◌+◌, ◌<◌, ◌≤◌, ◌++◌, [], ◌∷◌, ℕ, List, Some, count_by, false, length, map, max, slice_index_or, take};
+ghost use Rattle.std.specs.Prelude.{◌≡◌, ◌+◌, ◌<◌, ◌≤◌, ◌++◌, [], ◌∷◌, ℕ, List, All, Some};
+ghost use Rattle.std.specs.Prelude.{count_by, false, length, map, max, slice_index_or, take, true};
 ghost use Rattle.plan_cert.specs.declared.Segment.{Segment};
 ghost use Rattle.plan_cert.specs.Plan.{IsPlan};
 ghost use Rattle.slot_calendar.specs.Plays.{asked_at, cut_at};
@@ -7,9 +8,12 @@ ghost use Rattle.slot_calendar.specs.Profiles.{capacity_at};
 ghost use Rattle.admission.specs.declared.entries.Command.{Command};
 ghost use Rattle.admission.specs.declared.entries.Answer.{Answer};
 ghost use Rattle.admission.specs.declared.entries.Entry.{Entry};
-ghost use Rattle.admission.specs.Machine.{State, Held, CanHalt, IsStep, admitted_play, halted_play, held_as};
+ghost use Rattle.admission.specs.Books.{places_taken};
+ghost use Rattle.admission.specs.Machine.{State, Held, CanHalt, IsStep, admitted_play, halted_play};
+ghost use Rattle.admission.specs.Machine.{held_as};
 ghost use Rattle.admission.specs.Histories.{IsAdmission, IsHalt, IsLegal, IsStillOpen, IsUnhalted};
-ghost use Rattle.admission.specs.Histories.{booked_after, is_admission, is_halt, latest_asked, live, state_after};
+ghost use Rattle.admission.specs.Histories.{booked_after, is_admission, is_halt, latest_asked};
+ghost use Rattle.admission.specs.Histories.{live, state_after};
 ghost use Rattle.admission.specs.Makers.{AreHaltsOwn, IsOpenAmong, made_by};
 
 /// A history that is legal is legal up to each place.
@@ -28,7 +32,8 @@ pub fn law_never_overbooked()
 /// A play can be halted exactly where it was admitted and no entry halts it.
 pub fn law_open()
     ensures open { (steps : List CapStep) (entries : List Entry) (number keep : ℕ) →
-        IsLegal steps entries → IsStillOpen entries number keep → CanHalt (state_after entries) number keep }
+        IsLegal steps entries → IsStillOpen entries number keep →
+        CanHalt (state_after entries) number keep }
     ensures admitted { (steps : List CapStep) (entries : List Entry) (number keep : ℕ) →
         IsLegal steps entries → CanHalt (state_after entries) number keep →
         IsStillOpen entries number keep }
@@ -92,9 +97,9 @@ pub fn law_own_play()
         CanHalt (state_after entries) number keep }
 {}
 
-/// What an entry more does to what is booked: an admission adds in each slot what its plan asks for,
-/// a halt takes away what its play sends after the bytes that it keeps, and no other entry changes
-/// it.
+/// What an entry more does to what is booked: an admission adds in each slot what its plan asks
+/// for, a halt takes away what its play sends after the bytes that it keeps, and no other entry
+/// changes it.
 pub fn law_bookings()
     ensures admitted { (entries : List Entry) (maker slot start t : ℕ) (segments : List Segment) →
         IsPlan segments → booked_after (entries ++ record {
@@ -117,8 +122,8 @@ pub fn law_bookings()
         booked_after (entries ++ entry ∷ []) t ≡ booked_after entries t }
 {}
 
-/// A play that is admitted begins in the slot after the latest one in which a play was asked for, up
-/// to its own entry.
+/// A play that is admitted begins in the slot after the latest one in which a play was asked for,
+/// up to its own entry.
 pub fn law_starts()
     ensures { (steps : List CapStep) (entries : List Entry) (number start : ℕ)
         (segments : List Segment) → IsLegal steps entries →
@@ -145,4 +150,12 @@ pub fn law_looks()
         (slice_index_or entries place none).command ≡ Command.Look slot →
         (slice_index_or entries place none).answer ≡ Answer.Looked now at booked →
         booked ≡ booked_after (take place entries) at }
+{}
+
+/// A journal keeps a place for the halt of each open play: where no more than the limit are taken,
+/// halts alone never pass it, however many more there are.
+pub fn law_halts_fit()
+    ensures { (steps : List CapStep) (entries more : List Entry) (limit : ℕ) →
+        IsLegal steps (entries ++ more) → All (λ (e : Entry). is_halt e.command ≡ true) more →
+        places_taken entries ≤ limit → length (entries ++ more) ≤ limit }
 {}

@@ -1,5 +1,6 @@
 -- The earliest start of a plan within a wait.
-use Rattle.std.specs.Prelude.{◌≡◌, ℕ, ◌+◌, ◌<◌, ◌≤◌, List, Option, Some, None, length, slice_index_or}
+use Rattle.std.specs.Prelude.{◌≡◌, ℕ, ◌+◌, ◌<◌, ◌≤◌, List, Option, Some, None, length}
+use Rattle.std.specs.Prelude.{slice_index_or}
 use Rattle.plan_cert.specs.declared.Segment.{Segment}
 use Rattle.slot_calendar.specs.Calendars.{Entries, HasRoom, IsFirstOverflow, booked_at}
 use Rattle.slot_calendar.specs.Profiles.{capacity_at}

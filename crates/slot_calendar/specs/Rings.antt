@@ -1,6 +1,7 @@
 -- How the totals are kept: 1,048,576 slots at their number modulo 1,048,576, in 1,024 blocks of
 -- 1,024 places each.
-use Rattle.std.specs.Prelude.{ℕ, ◌≡◌, ◌≢◌, ◌/◌, ◌%◌, ◌<◌, ◌≤◌, ◌++◌, List, Option, Some, length, take, drop, slice_index}
+use Rattle.std.specs.Prelude.{ℕ, ◌≡◌, ◌≢◌, ◌/◌, ◌%◌, ◌<◌, ◌≤◌, ◌++◌, List, Option, Some, length}
+use Rattle.std.specs.Prelude.{take, drop, slice_index}
 use Rattle.slot_calendar.specs.Totals.{total_at}
 use Rattle.slot_calendar.specs.declared.ring.Ring.TheInside.{Inside}
 

@@ -1,4 +1,5 @@
-ghost use Rattle.std.specs.Prelude.{◌≡◌, ◌+◌, ◌^◌, ◌<◌, ◌≤◌, ◌++◌, [], ◌∷◌, ℕ, List, IfOk, MatchOption};
+ghost use Rattle.std.specs.Prelude.{◌≡◌, ◌+◌, ◌^◌, ◌<◌, ◌≤◌, ◌++◌, [], ◌∷◌, ℕ, List, IfOk};
+ghost use Rattle.std.specs.Prelude.{MatchOption};
 ghost use Rattle.plan_cert.specs.Slots.{total_slots, total_bytes};
 ghost use Rattle.slot_calendar.specs.Profiles.{capacity_at};
 ghost use Rattle.slot_calendar.specs.Plays.{Play, asked_at, cut_at, whole_play, cut_play};
@@ -44,7 +45,8 @@ impl Model for Calendar {
 }
 
 impl Calendar {
-    ghost use Rattle.slot_calendar.specs.Calendars.{IsCalendar, StandsFor, IsRoomIn, IsFirstOverflowIn, booked_at};
+    ghost use Rattle.slot_calendar.specs.Calendars.{IsCalendar, StandsFor, IsRoomIn};
+    ghost use Rattle.slot_calendar.specs.Calendars.{IsFirstOverflowIn, booked_at};
 
     /// An empty calendar of this capacity, from slot 0 on. No other call takes memory.
     pub fn new(alloc: Global, profile: Profile) -> Result<Calendar, NoMemory>

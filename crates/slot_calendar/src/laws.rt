@@ -1,12 +1,15 @@
-ghost use Rattle.std.specs.Prelude.{◌≡◌, ◌+◌, ◌-◌, ◌<◌, ◌≤◌, ◌++◌, ◌∷◌, ℕ, List, min, slice_index, sum_by};
+ghost use Rattle.std.specs.Prelude.{◌≡◌, ◌+◌, ◌-◌, ◌<◌, ◌≤◌, ◌++◌, ◌∷◌, ℕ, List, min, slice_index};
+ghost use Rattle.std.specs.Prelude.{sum_by};
 ghost use Rattle.std.specs.List.{range_with_len};
 ghost use Rattle.plan_cert.specs.declared.Segment.{Segment};
 ghost use Rattle.plan_cert.specs.Plan.{IsPlan};
 ghost use Rattle.plan_cert.specs.Slots.{plan_slots, total_slots, total_bytes, sum_through};
 ghost use Rattle.slot_calendar.specs.declared.calendar.Overflow.{Overflow};
 ghost use Rattle.slot_calendar.specs.Profiles.{capacity_at};
-ghost use Rattle.slot_calendar.specs.Plays.{Play, sent_before, asked_at, cut_at, cut_play, share_at, whole_play, booked_by};
-ghost use Rattle.slot_calendar.specs.Calendars.{Entries, HasRoom, IsCalendar, IsFirstOverflow, StandsFor, booked_at};
+ghost use Rattle.slot_calendar.specs.Plays.{Play, sent_before, asked_at, cut_at, cut_play};
+ghost use Rattle.slot_calendar.specs.Plays.{share_at, whole_play, booked_by};
+ghost use Rattle.slot_calendar.specs.Calendars.{Entries, HasRoom, IsCalendar, IsFirstOverflow};
+ghost use Rattle.slot_calendar.specs.Calendars.{StandsFor, booked_at};
 
 /// What a plan that begins at `start` has sent before a slot and sends in it, in the words of the
 /// plan: nothing before its start, its running sum through the slot before, all its bytes from its
@@ -24,8 +27,9 @@ pub fn law_sending()
         asked_at segments start t ≡ 0 }
 {}
 
-/// What a play books: all that its plan asks for, or, of a play that was cut, the first `keep` bytes
-/// that its plan sends and no others. So its release gives back in each slot what is after them.
+/// What a play books: all that its plan asks for, or, of a play that was cut, the first `keep`
+/// bytes that its plan sends and no others. So its release gives back in each slot what is after
+/// them.
 pub fn law_shares()
     ensures whole { (segments : List Segment) (start t : ℕ) → IsPlan segments →
         share_at t (whole_play start segments) ≡ asked_at segments start t }

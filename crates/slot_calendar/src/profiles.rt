@@ -1,5 +1,7 @@
-ghost use Rattle.std.specs.Prelude.{◌≡◌, ◌+◌, ◌^◌, ◌-◌, ◌<◌, ◌≤◌, ◌↔◌, ℕ, [], ◌∷◌, length, IsTrue, IfOk};
-ghost use Rattle.slot_calendar.specs.Profiles.{AreAscending, AreSmall, IsProfile, IsCapacity, IsSpan, capacity_at};
+ghost use Rattle.std.specs.Prelude.{◌≡◌, ◌+◌, ◌^◌, ◌-◌, ◌<◌, ◌≤◌, ◌↔◌, ℕ, [], ◌∷◌, length, IsTrue};
+ghost use Rattle.std.specs.Prelude.{IfOk};
+ghost use Rattle.slot_calendar.specs.Profiles.{AreAscending, AreSmall, IsProfile, IsCapacity};
+ghost use Rattle.slot_calendar.specs.Profiles.{IsSpan, capacity_at};
 
 use std::alloc::Global;
 use std::marker::Model;

@@ -1,4 +1,5 @@
-ghost use Rattle.std.specs.Prelude.{◌≡◌, ◌≢◌, ◌+◌, ◌-◌, ◌*◌, ◌/◌, ◌^◌, ◌<◌, ◌≤◌, ℕ, None, Some, length, IfOk};
+ghost use Rattle.std.specs.Prelude.{◌≡◌, ◌≢◌, ◌+◌, ◌-◌, ◌*◌, ◌/◌, ◌^◌, ◌<◌, ◌≤◌, ℕ, None, Some};
+ghost use Rattle.std.specs.Prelude.{length, IfOk};
 ghost use Rattle.slot_calendar.specs.Rings.{AreZeros, IsGreatest, IsTopped, total_of};
 
 use std::alloc::Global;

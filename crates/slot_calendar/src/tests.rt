@@ -222,8 +222,13 @@ fn passes_blocks(rt: HostRuntime) -> Result<(), Fail> {
     let plan = plan_of(&rt, alloc, &[(1_000_000, 5_000_000)])?;
     assert_eq!(rt; play(&rt, &mut calendar, 1, &plan), None);
     let asked = plan_of(&rt, alloc, &[(999_999, 4_999_995), (1, 6)])?;
+    let over = Overflow {
+        slot: 1_000_000,
+        booked: 5,
+        asked: 6,
+    };
     for _ in 0..2000 {
-        assert!(rt; play(&rt, &mut calendar, 1, &asked).is_some());
+        assert_eq!(rt; play(&rt, &mut calendar, 1, &asked), Some(over));
     }
     cut(&rt, &mut calendar, 1, &plan, 4_999_999);
     assert_eq!(rt; play(&rt, &mut calendar, 1, &asked), None);

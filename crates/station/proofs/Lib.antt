@@ -5,3 +5,4 @@ pub mod Backs
 pub mod Plays
 pub mod Joins
 pub mod Grown
+pub mod Offers

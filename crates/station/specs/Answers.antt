@@ -9,7 +9,8 @@ use Rattle.admission.specs.Machine.{IsAnswer}
 use Rattle.admission.specs.Books.{places_taken}
 use Rattle.admission.specs.Histories.{live, state_after}
 use Rattle.station.specs.declared.answers.PlayRefused.{PlayRefused}
-use Rattle.station.specs.declared.answers.PlayRefused.TheVariants.{JournalFull, Overflow as PlayOverflow}
+use Rattle.station.specs.declared.answers.PlayRefused.TheVariants.{JournalFull}
+use Rattle.station.specs.declared.answers.PlayRefused.TheVariants.{Overflow as PlayOverflow}
 use Rattle.station.specs.Ledgers.{play_of}
 use Rattle.station.specs.Seats.{Sitting}
 

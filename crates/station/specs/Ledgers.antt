@@ -14,7 +14,8 @@ use Rattle.slot_calendar.specs.Profiles.{capacity_at}
 use Rattle.early_start.specs.Offered.{Found, IsOffer}
 use Rattle.station.specs.declared.answers.Offered.{Offered}
 use Rattle.station.specs.declared.answers.PlayRefused.{PlayRefused}
-use Rattle.station.specs.declared.answers.PlayRefused.TheVariants.{JournalFull, Overflow as PlayOverflow}
+use Rattle.station.specs.declared.answers.PlayRefused.TheVariants.{JournalFull}
+use Rattle.station.specs.declared.answers.PlayRefused.TheVariants.{Overflow as PlayOverflow}
 
 -- the command of a play that was asked for in a heard slot
 abbrev pub play_of : ℕ → List Segment → Command

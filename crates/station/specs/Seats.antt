@@ -7,7 +7,7 @@ use Rattle.admission.specs.declared.entries.Entry.{Entry}
 use Rattle.admission.specs.Histories.{IsLegal}
 use Rattle.admission.specs.Makers.{AreHaltsOwn, Placed, made_by}
 use Rattle.turnstile.specs.declared.view.Joined.{Joined}
-use Rattle.turnstile.specs.Passes.{IsJoined, longer}
+use Rattle.turnstile.specs.Passes.{IsJoined, longer_list}
 
 -- a station: which one it is, the steps of the link's capacity, and the most entries
 pub record Hall : Type 0 where
@@ -78,7 +78,7 @@ new_seat seat = record {
 -- a seat after another was joined to it
 abbrev pub after_join : Sitting → Sitting → Sitting
 after_join seat other = record seat {
-  seen = longer seat.seen other.seen;
+  seen = longer_list seat.seen other.seen;
   joined = seat.joined ++ record { number = other.number; mine = other.mine } ∷ other.joined;
 }
 

@@ -1,12 +1,22 @@
-ghost use Rattle.std.specs.Prelude.{◌≡◌, ◌+◌, ◌<◌, ◌≤◌, ℕ, List, [], ◌∷◌, ◌++◌, length, slice_index_or, take};
+ghost use Rattle.std.specs.Prelude.{◌≡◌, ◌+◌, ◌^◌, ◌<◌, ◌≤◌, ℕ, List, [], ◌∷◌, ◌++◌, length, min};
+ghost use Rattle.std.specs.Prelude.{slice_index_or, take, Some};
 ghost use mathlib.Core.List.{IsPrefix};
 ghost use Rattle.admission.specs.declared.entries.Answer.{Answer};
 ghost use Rattle.admission.specs.declared.entries.Command.{Command};
 ghost use Rattle.admission.specs.declared.entries.Entry.{Entry};
-ghost use Rattle.admission.specs.Histories.{Halts};
+ghost use Rattle.admission.specs.Histories.{Halts, state_after};
+ghost use Rattle.admission.specs.Machine.{IsAnswer, start_after};
 ghost use Rattle.admission.specs.Makers.{IsOpenAmong, Placed, made_by};
+ghost use Rattle.early_start.specs.declared.Tried.{Tried};
+ghost use Rattle.early_start.specs.Offered.{Found};
+ghost use Rattle.plan_cert.specs.declared.Segment.{Segment};
+ghost use Rattle.slot_calendar.specs.declared.profiles.CapStep.{CapStep};
+ghost use Rattle.station.specs.declared.answers.Offered.{Offered};
 ghost use Rattle.station.specs.Answers.{Made};
+ghost use Rattle.station.specs.Ledgers.{IsOffered, play_of};
 ghost use Rattle.station.specs.Seats.{Sitting};
+
+use early_start::law_least_start;
 
 /// What was seen of a journal stays: each entry at its place, the state after each prefix, and what
 /// each maker had made, in order.
@@ -39,3 +49,29 @@ pub fn law_still_open()
         IsOpenAmong mine number keep →
         ¬ Halts number made.entry.command → IsOpenAmong (mine ++ made ∷ []) number keep }
 {}
+
+/// What an offer tells of a play that is asked for in its place, with the same plan: admitted, it
+/// would begin in the offer's first slot; from the start that was found it would be admitted, where
+/// it is asked for so that it begins there; and where another start than the first was found, or
+/// none, it would be refused for the slot that the first start tried names.
+pub fn law_offer_told()
+    ensures first { (steps : List CapStep) (entries : List Entry) (heard start : ℕ)
+        (plan : List Segment) (told : Offered) (found : Found) →
+        IsOffered steps entries heard plan told found →
+        IsAnswer steps (state_after entries) (play_of heard plan) (Answer.Admitted start) →
+        start ≡ told.first }
+    ensures kept { (steps : List CapStep) (entries : List Entry) (heard slot start : ℕ)
+        (plan : List Segment) (told : Offered) (found : Found) →
+        IsOffered steps entries heard plan told found → found.start ≡ Some start →
+        start ≡ start_after (state_after entries) (min slot (2 ^ 62)) →
+        IsAnswer steps (state_after entries) (play_of slot plan) (Answer.Admitted start) }
+    ensures refused { (steps : List CapStep) (entries : List Entry) (heard : ℕ)
+        (plan : List Segment) (told : Offered) (found : Found) (none : Tried) →
+        IsOffered steps entries heard plan told found → ¬ (found.start ≡ Some told.first) →
+        IsAnswer steps (state_after entries) (play_of heard plan)
+        (Answer.Overflow (slice_index_or found.tried 0 none).over.slot
+        (slice_index_or found.tried 0 none).over.booked
+        (slice_index_or found.tried 0 none).over.asked) }
+{
+    law_least_start();
+}

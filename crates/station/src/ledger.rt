@@ -3,7 +3,8 @@ ghost use Rattle.admission.specs.declared.entries.Answer.{Answer};
 ghost use Rattle.admission.specs.declared.entries.Command.{Command};
 ghost use Rattle.admission.specs.Histories.{IsLegal, state_after};
 ghost use Rattle.admission.specs.Makers.{AreHaltsOwn, IsOpenAmong, made_by};
-ghost use Rattle.station.specs.Ledgers.{IsEntered, IsFullFor, IsOffered, IsPlayRefused, look_at, play_of};
+ghost use Rattle.station.specs.Ledgers.{IsEntered, IsFullFor, IsOffered, IsPlayRefused, look_at};
+ghost use Rattle.station.specs.Ledgers.{play_of};
 
 use crate::answers::{Booking, Looked, Offered, PlayRefused};
 use admission::{

@@ -9,7 +9,7 @@ mod seat;
 mod station;
 
 pub use answers::{Booking, Looked, Offered, PlayRefused};
-pub use laws::{law_last_entry, law_longer_journal, law_still_open};
+pub use laws::{law_last_entry, law_longer_journal, law_offer_told, law_still_open};
 pub use seat::Seat;
 pub use station::Station;
 

@@ -34,8 +34,8 @@ impl Seat {
         self.pass.number()
     }
 
-    /// What holds of every seat: it has seen a legal history over its capacity in which each play is
-    /// halted by its own maker, and its own entries are those of its number in it.
+    /// What holds of every seat: it has seen a legal history over its capacity in which each play
+    /// is halted by its own maker, and its own entries are those of its number in it.
     pub fn holds(&self)
         ensures kept { IsSeat self.now }
     {

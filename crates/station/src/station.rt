@@ -6,7 +6,8 @@ ghost use Rattle.admission.specs.declared.entries.Command.{Command};
 ghost use Rattle.admission.specs.Makers.{IsOpenAmong};
 ghost use Rattle.station.specs.Answers.{IsFull, IsRefused, Made};
 ghost use Rattle.station.specs.Ledgers.{IsOffered, look_at, play_of};
-ghost use Rattle.station.specs.Seats.{AllJoined, IsSameSeat, IsSeat, IsWhole, after_join, after_split, first_seat, new_seat};
+ghost use Rattle.station.specs.Seats.{AllJoined, IsSameSeat, IsSeat, IsWhole, after_join};
+ghost use Rattle.station.specs.Seats.{after_split, first_seat, new_seat};
 
 use crate::answers::{Booking, Looked, Offered, PlayRefused};
 use crate::ledger::Ledger;

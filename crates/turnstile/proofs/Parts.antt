@@ -15,9 +15,9 @@ use Rattle.turnstile.specs.declared.view.Stage.TheVariants.{Idle}
 use Rattle.turnstile.specs.declared.view.Terms.{Terms}
 use Rattle.turnstile.specs.declared.view.View.{View}
 use Rattle.admission.specs.Makers.{made_by}
-use Rattle.turnstile.specs.Turns.{alive, queued, has_ticket, IsLive, IsPast, Fits, Apart, IsRuled}
-use Rattle.turnstile.specs.Passes.{longer}
-use Rattle.turnstile.specs.Steps.{shorter, beginner, splitter, newcomer, past_of, joiner, spent_view}
+use Rattle.turnstile.specs.Turns.{pass_count, ticket_count, has_ticket, IsLive, IsPast, Fits, Apart, IsRuled}
+use Rattle.turnstile.specs.Passes.{longer_list}
+use Rattle.turnstile.specs.Steps.{shorter_list, beginner, splitter, newcomer, past_of, joiner, spent_view}
 use Rattle.turnstile.proofs.Prefixes.{prefix_shorter, made_nothing, made_between}
 use Rattle.turnstile.proofs.Sums.{total_set, total_push}
 use Rattle.turnstile.proofs.Turning.{lives, waits_in, idle_free, Free, one_at, at_inside, live_set, place_other}
@@ -105,10 +105,10 @@ module _ {B : Type 0} (entries : B → List Entry) (terms_of : B → Terms) (ter
       let w : View = splitter v in let x : View = newcomer v in let f = r.each id v (at, left) in
       let count : v.splits ≡ r.count = f.first head in
       let new : r.count < v.splits + 1 = omega arith in
-      let sums = total_set alive s.views id v w at in let more = total_push alive (set s.views id w) x in
-      let queues = total_set queued s.views id v w at in let more_queues = total_push queued (set s.views id w) x in
-      let q0 : queued v ≡ queued w = refl in
-      let a0 : alive v ≡ alive w = refl in
+      let sums = total_set pass_count s.views id v w at in let more = total_push pass_count (set s.views id w) x in
+      let queues = total_set ticket_count s.views id v w at in let more_queues = total_push ticket_count (set s.views id w) x in
+      let q0 : ticket_count v ≡ ticket_count w = refl in
+      let a0 : pass_count v ≡ pass_count w = refl in
       let queue = r.queue in let passes = r.passes in
       let theirs : (j : ℕ) (u : View) → j ≢ id → IsLive s.views j u → u.number ≢ 0 =
       λ j u other l e. (r.apart j id u v other l (at, left)).numbers (e ∙ sym head) in record {
@@ -191,7 +191,7 @@ module _ {B : Type 0} (entries : B → List Entry) (terms_of : B → Terms) (ter
       (at_set (set views id b) other j x u live.0)
 
   longest_of : (s : St) (r : Rule s) (i j : ℕ) (v w : View) → IsLive s.views i v → IsLive s.views j w
-      → IsPrefix (longer v.seen w.seen) r.log × IsPrefix (shorter v.seen w.seen) (longer v.seen w.seen) × (made_by v.number (longer v.seen w.seen) ≡ made_by v.number r.log)
+      → IsPrefix (longer_list v.seen w.seen) r.log × IsPrefix (shorter_list v.seen w.seen) (longer_list v.seen w.seen) × (made_by v.number (longer_list v.seen w.seen) ≡ made_by v.number r.log)
   longest_of s r i j v w l k = let f = r.each i v l in let g = r.each j w k in
       longest (ltb (length v.seen) (length w.seen)) v.number v.seen w.seen r.log f.seen g.seen (sym f.own ∙ f.mine)
       (λ e. dite (dec_le (length v.seen) (length w.seen)) (λ le. le) (λ no_le. absurd (true≢false (sym e ∙ le-ltb _ _ (omega arith)))))
@@ -265,10 +265,10 @@ module _ {B : Type 0} (entries : B → List Entry) (terms_of : B → Terms) (ter
       let b : View = joiner v w in let x : View = spent_view in
       let w_at : get_elem? s.views other ≡ some w = sym (set_else s.views id other b apart) ∙ wat in
       let live : IsLive s.views id v = (at, left) in let wlive : IsLive s.views other w = (w_at, wleft) in
-      let sums = total_set alive s.views id v b at in let sums' = total_set alive (set s.views id b) other w x wat in
-      let queues = total_set queued s.views id v b at in let queues' = total_set queued (set s.views id b) other w x wat in
-      let q0 : queued v ≡ queued b = refl in let a0 : alive v ≡ alive b = refl in
-      let q1 : queued w ≡ 0 = waits_in w wleft ∙ ap has_ticket widle in let a1 : alive w ≡ 1 = lives w wleft in
+      let sums = total_set pass_count s.views id v b at in let sums' = total_set pass_count (set s.views id b) other w x wat in
+      let queues = total_set ticket_count s.views id v b at in let queues' = total_set ticket_count (set s.views id b) other w x wat in
+      let q0 : ticket_count v ≡ ticket_count b = refl in let a0 : pass_count v ≡ pass_count b = refl in
+      let q1 : ticket_count w ≡ 0 = waits_in w wleft ∙ ap has_ticket widle in let a1 : pass_count w ≡ 1 = lives w wleft in
       let queue = r.queue in let passes = r.passes in record {
         log = r.log;
         count = r.count;

@@ -5,7 +5,7 @@ use lib.ListN.{get_elem?}
 use Rattle.turnstile.specs.declared.view.View.{View}
 use Rattle.turnstile.specs.declared.view.Stage.{Stage}
 use Rattle.turnstile.specs.declared.view.Stage.TheVariants.{Idle, Waits, Holds}
-use Rattle.turnstile.specs.Turns.{total, alive, queued, has_ticket}
+use Rattle.turnstile.specs.Turns.{total, pass_count, ticket_count, has_ticket}
 
 pub total_set : (f : View → ℕ) (views : List View) (i : ℕ) (v w : View) → get_elem? views i ≡ some v → total f (set views i w) + f v ≡ total f views + f w
 total_set f [] i v w at = absurd (some-ne-none v (sym at))
@@ -30,6 +30,6 @@ bounded : (b : Bool) (n : ℕ) → n ≤ 1 → Rattle.std.proofs.Common.cond b 0
 bounded true n le = omega arith
 bounded false n le = le
 
-pub queued_total : (views : List View) → total queued views ≤ total alive views
-queued_total [] = omega arith
-queued_total (v ∷ rest) = let e = queued_total rest in let b : queued v ≤ alive v = bounded v.spent (has_ticket v.stage) (ticket_small v.stage) in omega arith
+pub tickets_total : (views : List View) → total ticket_count views ≤ total pass_count views
+tickets_total [] = omega arith
+tickets_total (v ∷ rest) = let e = tickets_total rest in let b : ticket_count v ≤ pass_count v = bounded v.spent (has_ticket v.stage) (ticket_small v.stage) in omega arith

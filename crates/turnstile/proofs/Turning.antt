@@ -16,15 +16,15 @@ use Rattle.turnstile.specs.declared.view.Stage.TheVariants.{Idle, Waits, Holds}
 use Rattle.turnstile.specs.declared.view.Terms.{Terms}
 use Rattle.turnstile.specs.declared.view.View.{View}
 use Rattle.admission.specs.Makers.{made_by}
-use Rattle.turnstile.specs.Turns.{total, alive, queued, has_ticket, IsLive, IsTicket, InTurn, Fits, Apart, IsAway, IsHome, IsRuled}
-use Rattle.turnstile.specs.Steps.{Knows, Took, listed}
+use Rattle.turnstile.specs.Turns.{total, pass_count, ticket_count, has_ticket, IsLive, IsTicket, InTurn, Fits, Apart, IsAway, IsHome, IsRuled}
+use Rattle.turnstile.specs.Steps.{Knows, Took, slot_list}
 use Rattle.turnstile.proofs.Prefixes.{prefix_self, prefix_trans, prefix_longer, made_other}
-use Rattle.turnstile.proofs.Sums.{total_set, queued_total}
+use Rattle.turnstile.proofs.Sums.{total_set, tickets_total}
 
-pub lives : (v : View) → v.spent ≡ false → alive v ≡ 1
+pub lives : (v : View) → v.spent ≡ false → pass_count v ≡ 1
 lives v e = ap (λ (b : Bool). cond b 0 1) e
 
-pub waits_in : (v : View) → v.spent ≡ false → queued v ≡ has_ticket v.stage
+pub waits_in : (v : View) → v.spent ≡ false → ticket_count v ≡ has_ticket v.stage
 waits_in v e = ap (λ (b : Bool). cond b 0 (has_ticket v.stage)) e
 
 abbrev pub IsHolding : Stage → Type 0
@@ -114,7 +114,7 @@ module _ {B : Type 0} (entries : B → List Entry) (terms_of : B → Terms) (ter
   pub changes : (s : St) (r : Rule s) (id : ℕ) (v w : View) → IsLive s.views id v → w.spent ≡ false
       → (log : List Entry) (drawn served : ℕ) (words : List ℕ) (homes : Homes)
       → words ≡ drawn % 2 ^ 64 ∷ served % 2 ^ 64 ∷ length log % 2 ^ 64 ∷ []
-      → served + total queued (set s.views id w) ≡ drawn
+      → served + total ticket_count (set s.views id w) ≡ drawn
       → ((m : ℕ) → r.count < m → made_by m log ≡ [])
       → Fits terms log r.count served drawn w
       → ((j : ℕ) (u : View) → j ≢ id → IsLive s.views j u → Fits terms log r.count served drawn u × Apart w u × Apart u w)
@@ -129,7 +129,7 @@ module _ {B : Type 0} (entries : B → List Entry) (terms_of : B → Terms) (ter
     few = r.few;
     queue = queue;
     passes =
-        (let e = total_set alive s.views id v w live.0 in let a = lives v live.1 in let b = lives w left in let p = r.passes in omega arith);
+        (let e = total_set pass_count s.views id v w live.0 in let a = lives v live.1 in let b = lives w left in let p = r.passes in omega arith);
     makers = makers;
     each = live_set (λ _ u. Fits terms log r.count served drawn u) s.views id w fits (λ j u other l. (others j u other l).0);
     apart = λ i j x y ne lx ly. live_set (λ i x. i ≢ j → Apart x y) s.views id w
@@ -173,9 +173,9 @@ module _ {B : Type 0} (entries : B → List Entry) (terms_of : B → Terms) (ter
       → Allows Rule slots id me 0 (λ n. (n + 1) % 2 ^ 64) (λ n next. (t : ℕ) × (n ≡ t % 2 ^ 64) × (next.0 ≡ record me.0 { stage = Waits t }) × (next.1 ≡ []))
   draws id slots me left idle free s r deep at low =
       let v = me.0 in let w : View = record v { stage = Waits r.drawn } in let f = r.each id v (at, left) in
-      let q0 : queued v ≡ 0 = waits_in v left ∙ ap has_ticket idle in
-      let q1 : queued w ≡ 1 = waits_in w left in
-      let sums = total_set queued s.views id v w at in
+      let q0 : ticket_count v ≡ 0 = waits_in v left ∙ ap has_ticket idle in
+      let q1 : ticket_count w ≡ 1 = waits_in w left in
+      let sums = total_set ticket_count s.views id v w at in
       let queue = r.queue in (
         w,
         keeps,
@@ -212,9 +212,9 @@ module _ {B : Type 0} (entries : B → List Entry) (terms_of : B → Terms) (ter
   took id slots me t left is free s r at h now =
       let v = me.0 in let w : View = record v { stage = Holds t; seen = entries h.value } in let f = r.each id v (at, left) in
       let low : (r.served ≤ t) × (t < r.drawn) = ticket_low r.served r.drawn t v.stage f.turn (subst (λ (st : Stage). IsTicket st t) (sym is) refl) in
-      let q0 : queued v ≡ 1 = waits_in v left ∙ ap has_ticket is in
-      let q1 : queued w ≡ 1 = waits_in w left in
-      let sums = total_set queued s.views id v w at in
+      let q0 : ticket_count v ≡ 1 = waits_in v left ∙ ap has_ticket is in
+      let q1 : ticket_count w ≡ 1 = waits_in w left in
+      let sums = total_set ticket_count s.views id v w at in
       let queue = r.queue in
       let drawn = low.1 in
       changes s r id v w (at, left) left r.log r.drawn r.served
@@ -255,7 +255,7 @@ module _ {B : Type 0} (entries : B → List Entry) (terms_of : B → Terms) (ter
       let v = me.0 in let f = r.each id v (at, left) in
       let word : get_or s.words 1 0 ≡ r.served % 2 ^ 64 = ap (λ (ws : List ℕ). get_or ws 1 0) r.words in
       let here : (r.served ≤ t) × (t < r.drawn) = ticket_low r.served r.drawn t v.stage f.turn (subst (λ (st : Stage). IsTicket st t) (sym is) refl) in
-      let queue = r.queue in let few = r.few in let passes = r.passes in let less = queued_total s.views in
+      let queue = r.queue in let few = r.few in let passes = r.passes in let less = tickets_total s.views in
       let first = here.0 in let drawn = here.1 in
       dite (ℕ_discrete (get_or s.words 1 0) (t % 2 ^ 64))
       (λ (hit : get_or s.words 1 0 ≡ t % 2 ^ 64).
@@ -326,8 +326,8 @@ module _ {B : Type 0} (entries : B → List Entry) (terms_of : B → Terms) (ter
       let log : List Entry = r.log ++ e ∷ [] in
       let all : v.seen ++ e ∷ [] ≡ log = ap (λ (l : List Entry). l ++ e ∷ []) h.1 in
       let queue = r.queue in
-      let q0 : queued v ≡ queued w = refl in
-      let sums = total_set queued s.views id v w live.0 in
+      let q0 : ticket_count v ≡ ticket_count w = refl in
+      let sums = total_set ticket_count s.views id v w live.0 in
       changes s r id v w live live.1 log r.drawn r.served
       (set s.words 2 ((get_or s.words 2 0 + 1) % 2 ^ 64)) s.homes
       (ap (λ (ws : List ℕ). set ws 2 ((get_or ws 2 0 + 1) % 2 ^ 64)) r.words
@@ -362,9 +362,9 @@ module _ {B : Type 0} (entries : B → List Entry) (terms_of : B → Terms) (ter
       })
 
   pub raises : (id slots : ℕ) (me : Me (Option B) View) (t : ℕ) (e : Entry) → me.0.spent ≡ false → me.0.stage ≡ Holds t → e.maker ≡ me.0.number
-      → listed entries me.1 ≡ me.0.seen ++ e ∷ []
+      → slot_list entries me.1 ≡ me.0.seen ++ e ∷ []
       → Allows Rule slots id me 2 (λ n. (n + 1) % 2 ^ 64)
-      (λ n next. (next.0 ≡ record me.0 { seen = listed entries me.1; mine = made_by me.0.number (listed entries me.1) }) × (next.1 ≡ me.1))
+      (λ n next. (next.0 ≡ record me.0 { seen = slot_list entries me.1; mine = made_by me.0.number (slot_list entries me.1) }) × (next.1 ≡ me.1))
   raises id slots me t e left is own list s r deep at low = (
     record me.0 { seen = me.0.seen ++ e ∷ []; mine = made_by me.0.number (me.0.seen ++ e ∷ []) },
     keeps,
@@ -378,9 +378,9 @@ module _ {B : Type 0} (entries : B → List Entry) (terms_of : B → Terms) (ter
       → Allows Rule slots id me 1 (λ n. (n + 1) % 2 ^ 64) (λ n next. (next.0 ≡ record me.0 { stage = Idle }) × (next.1 ≡ []))
   leaves id slots me t value left is slot list same s r deep at low =
       let v = me.0 in let w : View = record v { stage = Idle } in let f = r.each id v (at, left) in let h = holder_here s r id v (at, left) t is in
-      let q0 : queued v ≡ 1 = waits_in v left ∙ ap has_ticket is in
-      let q1 : queued w ≡ 0 = waits_in w left in
-      let sums = total_set queued s.views id v w at in
+      let q0 : ticket_count v ≡ 1 = waits_in v left ∙ ap has_ticket is in
+      let q1 : ticket_count w ≡ 0 = waits_in w left in
+      let sums = total_set ticket_count s.views id v w at in
       let queue = r.queue in
       let not_now : (j : ℕ) (u : View) → j ≢ id → IsLive s.views j u → IsTicket u.stage r.served → ⊥ =
       λ j u other l there. (r.apart j id u v other l (at, left)).tickets r.served there (subst (λ (st : Stage). IsTicket st r.served) (sym is) h.2) in (

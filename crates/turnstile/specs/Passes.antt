@@ -1,5 +1,6 @@
 -- What contracts see of a turnstile and of its passes.
-use Rattle.std.specs.Prelude.{◌≡◌, ◌⊎◌, ℕ, ◌+◌, ◌<◌, ◌≤◌, Bool, false, if◌then◌else◌, ltb, List, [], ◌∷◌, ◌++◌, length, slice_index_or}
+use Rattle.std.specs.Prelude.{◌≡◌, ◌⊎◌, ℕ, ◌+◌, ◌<◌, ◌≤◌, Bool, false, if◌then◌else◌, ltb, List, []}
+use Rattle.std.specs.Prelude.{◌∷◌, ◌++◌, length, slice_index_or}
 use mathlib.Core.List.{IsPrefix}
 use Rattle.atomic_table.specs.Seated.{TableId}
 use Rattle.admission.specs.declared.entries.Entry.{Entry}
@@ -62,13 +63,13 @@ new_pass pass = record {
 }
 
 -- the longer of two lists
-abbrev pub longer : List Entry → List Entry → List Entry
-longer xs ys = if (ltb (length xs) (length ys)) then ys else xs
+abbrev pub longer_list : List Entry → List Entry → List Entry
+longer_list xs ys = if (ltb (length xs) (length ys)) then ys else xs
 
 -- a pass after another was joined to it
 abbrev pub after_join : Standing → Standing → Standing
 after_join pass other = record pass {
-  seen = longer pass.seen other.seen;
+  seen = longer_list pass.seen other.seen;
   joined = pass.joined ++ record { number = other.number; mine = other.mine } ∷ other.joined;
 }
 

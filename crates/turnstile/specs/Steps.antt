@@ -1,5 +1,6 @@
 -- What each kind of step tells its pass.
-use Rattle.std.specs.Prelude.{◌≡◌, ◌≢◌, ℕ, ◌+◌, ◌%◌, ◌^◌, true, false, List, [], ◌∷◌, ◌++◌, length, Option, Some, None, if◌then◌else◌, ltb}
+use Rattle.std.specs.Prelude.{◌≡◌, ◌≢◌, ℕ, ◌+◌, ◌%◌, ◌^◌, true, false, List, [], ◌∷◌, ◌++◌, length}
+use Rattle.std.specs.Prelude.{Option, Some, None, if◌then◌else◌, ltb}
 use mathlib.Core.List.{IsPrefix}
 use Rattle.atomic_table.specs.Table.{Me}
 use Rattle.admission.specs.declared.entries.Entry.{Entry}
@@ -9,10 +10,10 @@ use Rattle.turnstile.specs.declared.view.Stage.TheVariants.{Idle, Waits, Holds}
 use Rattle.turnstile.specs.declared.view.Terms.{Terms}
 use Rattle.turnstile.specs.declared.view.View.{View}
 use Rattle.admission.specs.Makers.{made_by}
-use Rattle.turnstile.specs.Passes.{longer}
+use Rattle.turnstile.specs.Passes.{longer_list}
 
-abbrev pub shorter : List Entry → List Entry → List Entry
-shorter xs ys = if (ltb (length xs) (length ys)) then xs else ys
+abbrev pub shorter_list : List Entry → List Entry → List Entry
+shorter_list xs ys = if (ltb (length xs) (length ys)) then xs else ys
 
 -- the ticket of a stage; 0 where there is none
 abbrev pub ticket_of : Stage → ℕ
@@ -60,8 +61,8 @@ past_of w = record { number = w.number; mine = w.mine }
 -- a pass after another was joined to it
 abbrev pub joiner : View → View → View
 joiner v w = record v {
-  seen = longer v.seen w.seen;
-  told = shorter v.seen w.seen;
+  seen = longer_list v.seen w.seen;
+  told = shorter_list v.seen w.seen;
   told_terms = w.terms;
   joined = v.joined ++ past_of w ∷ w.joined;
 }
@@ -102,14 +103,14 @@ module _ {B : Type 0} (entries : B → List Entry) (terms_of : B → Terms) wher
     pub own : me.0.mine ≡ made_by me.0.number (entries value)
 
 module _ {B : Type 0} (entries : B → List Entry) where
-  abbrev pub listed_in : Option B → List Entry
-  listed_in None = []
-  listed_in (Some value) = entries value
+  abbrev pub value_list : Option B → List Entry
+  value_list None = []
+  value_list (Some value) = entries value
 
   -- the list of the value in the slot that was taken last
-  abbrev pub listed : List (ℕ × Option B) → List Entry
-  listed [] = []
-  listed (x ∷ rest) = listed_in x.1
+  abbrev pub slot_list : List (ℕ × Option B) → List Entry
+  slot_list [] = []
+  slot_list (x ∷ rest) = value_list x.1
 
 module _ {B : Type 0} where
   abbrev pub Drew : Me (Option B) View → ℕ → Me (Option B) View → Type 0
@@ -139,17 +140,17 @@ module _ {B : Type 0} where
 
 module _ {B : Type 0} (entries : B → List Entry) where
   -- the pass once the word counts the entries of the value in its slot
-  abbrev pub noted : Me (Option B) View → Me (Option B) View
-  noted me = (
+  abbrev pub after_raise : Me (Option B) View → Me (Option B) View
+  after_raise me = (
     record me.0 {
-      seen = listed entries me.1;
-      mine = made_by me.0.number (listed entries me.1);
+      seen = slot_list entries me.1;
+      mine = made_by me.0.number (slot_list entries me.1);
     },
     me.1,
   )
 
   abbrev pub Raised : Me (Option B) View → ℕ → Me (Option B) View → Type 0
-  Raised me n next = (next.0 ≡ (noted me).0) × (next.1 ≡ me.1)
+  Raised me n next = (next.0 ≡ (after_raise me).0) × (next.1 ≡ me.1)
 
 module _ {B : Type 0} (entries : B → List Entry) (terms_of : B → Terms) where
   abbrev pub Looked : Me (Option B) View → ℕ → Me (Option B) View → Type 0

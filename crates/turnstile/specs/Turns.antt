@@ -1,6 +1,7 @@
 -- The rule of the turn: what holds at each moment of the shared words, of the value and of what
 -- each pass knows.
-use Rattle.std.specs.Prelude.{◌≡◌, ◌≢◌, ◌⊎◌, ℕ, ◌+◌, ◌%◌, ◌^◌, ◌<◌, ◌≤◌, false, List, [], ◌∷◌, length, Option, Some, if◌then◌else◌}
+use Rattle.std.specs.Prelude.{◌≡◌, ◌≢◌, ◌⊎◌, ℕ, ◌+◌, ◌%◌, ◌^◌, ◌<◌, ◌≤◌, false, List, [], ◌∷◌}
+use Rattle.std.specs.Prelude.{length, Option, Some, if◌then◌else◌}
 use mathlib.Core.Option.{some, none}
 use mathlib.Core.List.{IsPrefix}
 use lib.ListN.{get_elem?}
@@ -18,16 +19,16 @@ abbrev pub total : (View → ℕ) → List View → ℕ
 total f [] = 0
 total f (v ∷ rest) = f v + total f rest
 
-abbrev pub alive : View → ℕ
-alive v = if v.spent then 0 else 1
+abbrev pub pass_count : View → ℕ
+pass_count v = if v.spent then 0 else 1
 
 abbrev pub has_ticket : Stage → ℕ
 has_ticket Idle = 0
 has_ticket (Waits t) = 1
 has_ticket (Holds t) = 1
 
-abbrev pub queued : View → ℕ
-queued v = if v.spent then 0 else has_ticket v.stage
+abbrev pub ticket_count : View → ℕ
+ticket_count v = if v.spent then 0 else has_ticket v.stage
 
 -- a pass that isn't spent stands at this place
 abbrev pub IsLive : List View → ℕ → View → Type 0
@@ -99,8 +100,8 @@ module _ {B : Type 0} (entries : B → List Entry) (terms_of : B → Terms) wher
     pub served : ℕ
     pub words : s.words ≡ drawn % 2 ^ 64 ∷ served % 2 ^ 64 ∷ length log % 2 ^ 64 ∷ []
     pub few : count < 2 ^ 32
-    pub queue : served + total queued s.views ≡ drawn
-    pub passes : total alive s.views ≤ count + 1
+    pub queue : served + total ticket_count s.views ≡ drawn
+    pub passes : total pass_count s.views ≤ count + 1
     pub makers : (m : ℕ) → count < m → made_by m log ≡ []
     pub each : (i : ℕ) (v : View) → IsLive s.views i v → Fits terms log count served drawn v
     pub apart : (i j : ℕ) (v w : View) → i ≢ j → IsLive s.views i v → IsLive s.views j w → Apart v w

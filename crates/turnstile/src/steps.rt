@@ -4,7 +4,8 @@ ghost use Rattle.admission.specs.declared.entries.Entry.{Entry};
 ghost use Rattle.turnstile.specs.declared.view.Stage.TheVariants.{Idle};
 ghost use Rattle.admission.specs.Makers.{made_by};
 ghost use Rattle.turnstile.specs.Sized.{IsSame, IsSeated, IsFree};
-ghost use Rattle.turnstile.specs.Steps.{Drew, IsTurn, IsWaiting, Knows, Left, Looked, Raised, Told, listed, noted};
+ghost use Rattle.turnstile.specs.Steps.{Drew, IsTurn, IsWaiting, Knows, Left, Looked, Raised, Told};
+ghost use Rattle.turnstile.specs.Steps.{after_raise, slot_list};
 
 use crate::kept::Kept;
 use crate::table::{ENTRIES, Place, SERVING, TICKETS, Top};
@@ -71,10 +72,11 @@ pub(crate) fn look<B: Kept>(top: &Top<B>, place: &mut Place<B>, ticket: u64) -> 
 pub(crate) fn raise<B: Kept>(top: &Top<B>, place: &mut Place<B>)
     requires seat { IsSeated top.now.table_id place.old }
     requires turn { (value : B) × IsTurn place.old.me (Some value) }
-    requires one { (e : Entry) × (listed B.entries place.old.me.1 ≡ place.old.me.0.seen ++ e ∷ [])
+    requires one { (e : Entry)
+        × (slot_list B.entries place.old.me.1 ≡ place.old.me.0.seen ++ e ∷ [])
         × (e.maker ≡ place.old.me.0.number) }
     ensures same { IsSame place.old place.new }
-    ensures raised { place.new.me ≡ noted B.entries place.old.me }
+    ensures raised { place.new.me ≡ after_raise B.entries place.old.me }
 {
     top.fetch_add::<Raises<B>>(place, ENTRIES, 1);
 }
@@ -107,11 +109,11 @@ pub(crate) fn settle<B: Kept>(top: &Top<B>, place: &mut Place<B>, grown: bool)
     requires turn { (value : B) × IsTurn place.old.me (Some value) }
     requires own { place.old.me.0.mine ≡ made_by place.old.me.0.number place.old.me.0.seen }
     requires one { grown ≡ true → (e : Entry)
-        × (listed B.entries place.old.me.1 ≡ place.old.me.0.seen ++ e ∷ [])
+        × (slot_list B.entries place.old.me.1 ≡ place.old.me.0.seen ++ e ∷ [])
         × (e.maker ≡ place.old.me.0.number) }
-    requires none { grown ≡ false → listed B.entries place.old.me.1 ≡ place.old.me.0.seen }
+    requires none { grown ≡ false → slot_list B.entries place.old.me.1 ≡ place.old.me.0.seen }
     ensures same { IsSame place.old place.new }
-    ensures noted { place.new.me ≡ noted B.entries place.old.me }
+    ensures noted { place.new.me ≡ after_raise B.entries place.old.me }
 {
     if grown {
         raise(top, place);

@@ -1,7 +1,8 @@
 ghost use Rattle.std.specs.Prelude.{◌≡◌, ◌≢◌, ◌+◌, ◌^◌, ◌<◌, [], ◌∷◌, ◌++◌, IfOk, true, false};
 ghost use mathlib.Core.List.{IsPrefix};
 ghost use Rattle.admission.specs.Makers.{made_by};
-ghost use Rattle.turnstile.specs.Passes.{AllJoined, IsWhole, MayLeave, after_join, after_split, first_pass, new_pass};
+ghost use Rattle.turnstile.specs.Passes.{AllJoined, IsWhole, MayLeave, after_join, after_split};
+ghost use Rattle.turnstile.specs.Passes.{first_pass, new_pass};
 
 use crate::bells::Bells;
 use crate::kept::Kept;

@@ -125,7 +125,8 @@ fn look(
     told
 }
 
-// Draws events, and compares every answer; then what is booked from now on, and the number of entries.
+// Draws events, and compares every answer; then what is booked from now on, and the number of
+// entries.
 fn follow(
     rt: &impl Abort,
     alloc: Global,

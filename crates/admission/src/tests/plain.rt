@@ -1,4 +1,5 @@
-//! A plain book for the tests: a list of plays, whose booked bytes are added up slot by slot, each time anew.
+//! A plain book for the tests: a list of plays, whose booked bytes are added up slot by slot, each
+//! time anew.
 
 use crate::entries::{Answer, Full, Noted};
 use std::alloc::{AllocError, Global};
@@ -32,7 +33,8 @@ impl Played {
         }
     }
 
-    // the bytes booked in a slot: what is kept of those sent through it, without those sent before it
+    // the bytes booked in a slot: what is kept of those sent through it, without those sent before
+    // it
     fn share(&self, slot: u64) -> u64 {
         let sent = self.sum_before(slot.saturating_add(1)).min(self.keep);
         sent.saturating_sub(self.sum_before(slot).min(self.keep))
