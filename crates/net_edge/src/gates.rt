@@ -1,4 +1,5 @@
-ghost use Rattle.std.specs.Prelude.{◌≡◌, None, IfOk, IfSome};
+ghost use Rattle.std.specs.Prelude.{◌≡◌, ◌≤◌, None, IfOk, IfSome};
+ghost use Rattle.vod_base.specs.Outside.{HasRisen};
 
 use crate::faults::Faults;
 use crate::links::{SlotClock, TcpLink};
@@ -122,6 +123,15 @@ impl<'a, R: Net<Listener = TcpListener, Stream = TcpStream> + Clock> TcpGate<'a,
         self.given = self.given.saturating_add(1);
         Ok(Some(link))
     }
+
+    /// Counts a fault.
+    fn fault(&mut self) -> GateFault
+        ensures count { self.old.faults.count ≤ self.new.faults.count }
+        ensures risen { HasRisen self.old.faults.count self.new.faults.count }
+    {
+        self.faults.add();
+        GateFault
+    }
 }
 
 impl<'a, R: Net<Listener = TcpListener, Stream = TcpStream> + Clock> Gate for TcpGate<'a, R> {
@@ -139,7 +149,7 @@ impl<'a, R: Net<Listener = TcpListener, Stream = TcpStream> + Clock> Gate for Tc
                 self.door = Some(door);
                 Ok(())
             }
-            Err(_) => Err(self.faults.add_gate_fault()),
+            Err(_) => Err(self.fault()),
         }
     }
 
@@ -152,14 +162,14 @@ impl<'a, R: Net<Listener = TcpListener, Stream = TcpStream> + Clock> Gate for Tc
                 given: 0,
                 faults: Faults::none(),
             }),
-            Err(_) => Err(self.faults.add_gate_fault()),
+            Err(_) => Err(self.fault()),
         }
     }
 
     fn take(&mut self) -> Result<Option<TcpLink<'a, R>>, GateFault> {
         match self.next_link() {
             Ok(next) => Ok(next),
-            Err(_) => Err(self.faults.add_gate_fault()),
+            Err(_) => Err(self.fault()),
         }
     }
 
