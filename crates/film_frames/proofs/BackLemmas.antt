@@ -1,5 +1,7 @@
 -- The payloads of a run's frames are the film's bytes.
-use Rattle.std.proofs.Common.{◌≡◌, ℕ, zero, suc, ◌+◌, ◌-◌, ◌<◌, ◌≤◌, Bool, true, false, cond, List, [], ◌∷◌, ◌++◌, append_assoc, map, sum, length, take, drop, Some, slice_get, refl, sym, ap, subst, ◌∙◌, arith}
+use Rattle.std.proofs.Common.{◌≡◌, ℕ, zero, suc, ◌+◌, ◌-◌, ◌<◌, ◌≤◌, Bool, true, false, cond, List}
+use Rattle.std.proofs.Common.{[], ◌∷◌, ◌++◌, append_assoc, map, sum, length, take, drop, Some}
+use Rattle.std.proofs.Common.{slice_get, refl, sym, ap, subst, ◌∙◌, arith}
 use Rattle.std.proofs.Math.Seq.{take-add}
 use Rattle.std.proofs.lemmas.List.{drop-drop, take_all}
 use Rattle.std.proofs.lemmas.List.Concat.{flat_map-cons}
@@ -13,8 +15,10 @@ use Rattle.rtp_pack.proofs.UnitLemmas.{packets-cover}
 use Rattle.film_frames.specs.declared.pieces.Piece.{Piece}
 use Rattle.film_frames.specs.declared.pieces.Piece.TheVariants.{Report, Frame}
 use Rattle.film_frames.specs.Laws.{frames_among, payloads, run_frames}
-use Rattle.film_frames.specs.Pieces.{octets_of, pieces_of, unit_pieces, unit_reports, wire_in, wire_size}
-use Rattle.film_frames.specs.Runs.{Run, blocks_from, payload, piece_bytes, run_of, run_pieces, pieces_in}
+use Rattle.film_frames.specs.Pieces.{octets_of, pieces_of, unit_pieces, unit_reports, wire_in}
+use Rattle.film_frames.specs.Pieces.{wire_size}
+use Rattle.film_frames.specs.Runs.{Run, blocks_from, payload, piece_bytes, run_of, run_pieces}
+use Rattle.film_frames.specs.Runs.{pieces_in}
 use Rattle.film_frames.specs.Tracks.{framed}
 use Rattle.film_frames.proofs.TrackLemmas.{begin-all}
 use Rattle.film_frames.proofs.PieceLemmas.{AreSound, cover-le, pieces-cons, unit-le}

@@ -1,5 +1,6 @@
 -- What follows from the definition of a run's bytes: numbers, sizes, and what has ended.
-use Rattle.std.proofs.Common.{◌≡◌, ℕ, zero, suc, ◌+◌, ◌-◌, ◌%◌, ◌^◌, ◌<◌, cond, List, [], ◌∷◌, ◌++◌, length, take, get_or, refl, sym, ap, subst, ◌∙◌, arith, inl, inr}
+use Rattle.std.proofs.Common.{◌≡◌, ℕ, zero, suc, ◌+◌, ◌-◌, ◌%◌, ◌^◌, ◌<◌, cond, List, [], ◌∷◌, ◌++◌}
+use Rattle.std.proofs.Common.{length, take, get_or, refl, sym, ap, subst, ◌∙◌, arith, inl, inr}
 use Rattle.std.proofs.lemmas.Bool.{cases_lt, le-leb, lt-leb}
 use Rattle.std.proofs.lemmas.List.Sums.{sum_by-cons}
 use Rattle.rtp_pack.specs.declared.heads.Head.{Head}
@@ -8,12 +9,15 @@ use Rattle.mpeg_scan.specs.Rates.{picture_time}
 use Rattle.film_frames.specs.declared.pieces.Piece.{Piece}
 use Rattle.film_frames.specs.declared.pieces.Piece.TheVariants.{Report, Frame}
 use Rattle.rtp_pack.specs.Reports.{report_bytes, unit_report}
-use Rattle.film_frames.specs.Laws.{AreBlocks, IsBlock, HasPieceSize, HaveSizes, frames_among, sequence_of}
+use Rattle.film_frames.specs.Laws.{AreBlocks, IsBlock, HasPieceSize, HaveSizes, frames_among}
+use Rattle.film_frames.specs.Laws.{sequence_of}
 use Rattle.film_frames.specs.Pieces.{count_of, frames_in, octets_of, wire_of}
-use Rattle.film_frames.specs.Runs.{HaveEnded, Run, count_ended, interleaved, blocks_from, payload, piece_bytes, run_pieces, pieces_in}
+use Rattle.film_frames.specs.Runs.{HaveEnded, Run, count_ended, interleaved, blocks_from, payload}
+use Rattle.film_frames.specs.Runs.{piece_bytes, run_pieces, pieces_in}
 use Rattle.film_frames.specs.Tables.{IsSound}
 use Rattle.film_frames.proofs.PieceLemmas.{AreSound, sound-at}
-use Rattle.film_frames.proofs.RunLemmas.{begin-cons, begin-next, blocks_from-at, blocks_from-count, piece-length}
+use Rattle.film_frames.proofs.RunLemmas.{begin-cons, begin-next, blocks_from-at, blocks_from-count}
+use Rattle.film_frames.proofs.RunLemmas.{piece-length}
 
 -- ---- sequence numbers
 

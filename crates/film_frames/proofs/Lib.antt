@@ -13,3 +13,4 @@ pub mod ReportLemmas
 pub mod RunFronts
 pub mod ReportNumbers
 pub mod PlaceLemmas
+pub mod StandLemmas

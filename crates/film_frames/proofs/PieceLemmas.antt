@@ -1,14 +1,18 @@
 -- The pieces of units that are laid out in a film.
-use Rattle.std.proofs.Common.{◌≡◌, ℕ, zero, suc, ◌+◌, ◌-◌, ◌*◌, ◌≤◌, Bool, true, false, cond, List, [], ◌∷◌, ◌++◌, map, length, Some, slice_get, refl, sym, ap, subst, ◌∙◌, arith}
+use Rattle.std.proofs.Common.{◌≡◌, ℕ, zero, suc, ◌+◌, ◌-◌, ◌*◌, ◌≤◌, Bool, true, false, cond, List}
+use Rattle.std.proofs.Common.{[], ◌∷◌, ◌++◌, map, length, Some, slice_get, refl, sym, ap, subst}
+use Rattle.std.proofs.Common.{◌∙◌, arith}
 use Rattle.std.proofs.lemmas.List.Concat.{flat_map-cons}
 use Rattle.std.proofs.lemmas.List.Sums.{sum_by-append, sum_by-cons}
 use Rattle.mpeg_scan.specs.declared.units.Unit.{Unit as PictureUnit}
 use Rattle.rtp_pack.specs.declared.payloads.Packet.{Packet}
-use Rattle.rtp_pack.specs.Packets.{DoCover, IsLaid, frames_size, piece_packets, unit_packets, unit_starts}
+use Rattle.rtp_pack.specs.Packets.{DoCover, IsLaid, frames_size, piece_packets, unit_packets}
+use Rattle.rtp_pack.specs.Packets.{unit_starts}
 use Rattle.rtp_pack.proofs.UnitLemmas.{packets-are, packets-bound, packets-cover, packets-size}
 use Rattle.film_frames.specs.declared.pieces.Piece.{Piece}
 use Rattle.film_frames.specs.declared.pieces.Piece.TheVariants.{Report, Frame}
-use Rattle.film_frames.specs.Pieces.{pieces_of, unit_pieces, unit_reports, wire_in, wire_of, wire_size}
+use Rattle.film_frames.specs.Pieces.{pieces_of, unit_pieces, unit_reports, wire_in, wire_of}
+use Rattle.film_frames.specs.Pieces.{wire_size}
 use Rattle.film_frames.specs.Tables.{IsSound}
 
 -- ---- what each piece is

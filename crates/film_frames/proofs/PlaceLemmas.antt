@@ -1,5 +1,7 @@
 -- Where the payload of a piece begins in the film, by what comes before it.
-use Rattle.std.proofs.Common.{◌≡◌, ℕ, zero, suc, ◌+◌, ◌-◌, ◌*◌, ◌^◌, ◌<◌, ◌≤◌, Bool, true, false, cond, List, [], ◌∷◌, ◌++◌, map, length, take, get_or, Some, slice_get, refl, sym, ap, subst, ◌∙◌, arith}
+use Rattle.std.proofs.Common.{◌≡◌, ℕ, zero, suc, ◌+◌, ◌-◌, ◌*◌, ◌^◌, ◌<◌, ◌≤◌, Bool, true, false}
+use Rattle.std.proofs.Common.{cond, List, [], ◌∷◌, ◌++◌, map, length, take, get_or, Some, slice_get}
+use Rattle.std.proofs.Common.{refl, sym, ap, subst, ◌∙◌, arith}
 use Rattle.std.proofs.lemmas.List.Sums.{sum_by-cons, sum_by-take-le}
 use Rattle.mpeg_scan.specs.declared.units.Unit.{Unit as PictureUnit}
 use Rattle.mpeg_scan.specs.declared.films.Film.{Film}
@@ -10,10 +12,12 @@ use Rattle.rtp_pack.specs.Packets.{DoCover, unit_packets}
 use Rattle.rtp_pack.proofs.UnitLemmas.{packets-cover}
 use Rattle.film_frames.specs.declared.pieces.Piece.{Piece}
 use Rattle.film_frames.specs.declared.pieces.Piece.TheVariants.{Report, Frame}
-use Rattle.film_frames.specs.Pieces.{count_of, film_pieces, frames_in, from_of, pieces_of, unit_pieces, unit_reports, wire_in, wire_of}
+use Rattle.film_frames.specs.Pieces.{count_of, film_pieces, frames_in, from_of, pieces_of}
+use Rattle.film_frames.specs.Pieces.{unit_pieces, unit_reports, wire_in, wire_of}
 use Rattle.film_frames.proofs.PieceLemmas.{pieces-cons, unit-le}
 use Rattle.film_frames.proofs.ReportNumbers.{frames-few}
-use Rattle.film_frames.proofs.FilmLemmas.{film-bound, film-from, film-in_order, film-wire, laid-film}
+use Rattle.film_frames.proofs.FilmLemmas.{film-bound, film-from, film-in_order, film-wire}
+use Rattle.film_frames.proofs.FilmLemmas.{laid-film}
 
 -- where the payload of a piece ends; a report has none
 abbrev to_of : Piece → ℕ

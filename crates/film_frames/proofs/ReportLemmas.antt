@@ -1,12 +1,14 @@
 -- What the reports of a run count, and the channels of its pieces.
-use Rattle.std.proofs.Common.{◌≡◌, ℕ, ◌+◌, ◌<◌, List, [], length, take, get_or, Some, slice_get, slice_index, refl, sym, ap, ◌∙◌, arith}
+use Rattle.std.proofs.Common.{◌≡◌, ℕ, ◌+◌, ◌<◌, List, [], length, take, get_or, Some, slice_get}
+use Rattle.std.proofs.Common.{slice_index, refl, sym, ap, ◌∙◌, arith}
 use Rattle.std.proofs.lemmas.Option.{slice_get_within}
 use Rattle.mpeg_scan.specs.declared.units.Unit.{Unit as PictureUnit}
 use Rattle.film_frames.specs.declared.pieces.Piece.{Piece}
 use Rattle.film_frames.specs.declared.pieces.Piece.TheVariants.{Report, Frame}
 use Rattle.film_frames.specs.Laws.{AreOnChannels, DoReportsCount, channel_of}
 use Rattle.film_frames.specs.Pieces.{frames_in, octets_in}
-use Rattle.film_frames.specs.Runs.{Run, count_ended, frames_before, octets_before, piece_bytes, run_pieces, pieces_in}
+use Rattle.film_frames.specs.Runs.{Run, count_ended, frames_before, octets_before, piece_bytes}
+use Rattle.film_frames.specs.Runs.{run_pieces, pieces_in}
 use Rattle.film_frames.specs.Tracks.{begin_of}
 use Rattle.film_frames.proofs.RunLemmas.{count_ended-is, blocks_from-at, blocks_from-count}
 use Rattle.film_frames.proofs.TrackLemmas.{begin-more}

@@ -1,10 +1,17 @@
 -- A trace's sizes and their running sums.
-use Rattle.std.proofs.Common.{◌≡◌, ℕ, zero, suc, ◌+◌, ◌-◌, ◌<◌, ◌≤◌, ◌^◌, List, [], ◌∷◌, length, take, drop, set, get_or, refl, sym, ap, subst, ◌∙◌, arith, inl, inr, Some, slice_get, length-append, sum, replicate}
-use Rattle.std.proofs.lemmas.List.{take-map, length-map, length-replicate, same_lists, get_or_default, get_or-map, get_or_read, length-set, get_or-set_same, get_or-set_other, drop-replicate, take-replicate}
+use Rattle.std.proofs.Common.{◌≡◌, ℕ, zero, suc, ◌+◌, ◌-◌, ◌<◌, ◌≤◌, ◌^◌, List, [], ◌∷◌, length}
+use Rattle.std.proofs.Common.{take, drop, set, get_or, refl, sym, ap, subst, ◌∙◌, arith, inl, inr}
+use Rattle.std.proofs.Common.{Some, slice_get, length-append, sum, replicate}
+use Rattle.std.proofs.lemmas.List.{take-map, length-map, length-replicate, same_lists}
+use Rattle.std.proofs.lemmas.List.{get_or_default, get_or-map, get_or_read, length-set}
+use Rattle.std.proofs.lemmas.List.{get_or-set_same, get_or-set_other, drop-replicate}
+use Rattle.std.proofs.lemmas.List.{take-replicate}
 use Rattle.std.proofs.lemmas.List.Sums.{sum_by-cons, sum_by-take-le, sum_by_more, sum_by_more_le}
 use Rattle.std.proofs.lemmas.Bool.{cases_lt, cases_eq}
-use Rattle.film_frames.proofs.TrackLemmas.{AreEnds, begin-all, begin-none, begin-more, found-begins, next-found}
-use Rattle.film_frames.specs.Tracks.{framed, begin_of, IsNext, IsTrace, zero_frames, differences, running_sums}
+use Rattle.film_frames.proofs.TrackLemmas.{AreEnds, begin-all, begin-none, begin-more, found-begins}
+use Rattle.film_frames.proofs.TrackLemmas.{next-found}
+use Rattle.film_frames.specs.Tracks.{framed, begin_of, IsNext, IsTrace, zero_frames, differences}
+use Rattle.film_frames.specs.Tracks.{running_sums}
 
 pub length-zeros : (sizes : List ℕ) → length (framed (zero_frames sizes)) ≡ sum sizes
 length-zeros [] = refl

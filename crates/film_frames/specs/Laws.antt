@@ -1,6 +1,6 @@
 -- What a reader expects of the bytes of a run.
 use Rattle.std.specs.Prelude.{ℕ, ◌+◌, ◌%◌, ◌^◌, ◌<◌, ◌≤◌, ◌≡◌, List, [], ◌∷◌, length, drop}
-use Rattle.std.specs.Prelude.{flat_map, get_or, slice_get, slice_index, take, Ok, Some}
+use Rattle.std.specs.Prelude.{false, flat_map, get_or, slice_get, slice_index, take, true, Ok, Some}
 use Rattle.mpeg_scan.specs.declared.units.Unit.{Unit as PictureUnit}
 use Rattle.mpeg_scan.specs.Rates.{picture_time}
 use Rattle.rtp_pack.specs.declared.heads.Head.{Head}
@@ -68,6 +68,18 @@ abbrev pub AreOnChannels : Run → Type 0
 AreOnChannels run =
     (k : ℕ) (piece : Piece) → slice_get (pieces_in run) k ≡ Some piece
     → slice_index (get_or (run_pieces run) k []) 1 ≡ channel_of run piece
+
+-- a report stands directly before the first frame of a unit that starts a group, before each of
+-- them, and nowhere else
+abbrev pub DoReportsStand : List Piece → Type 0
+DoReportsStand [] = Unit {0}
+DoReportsStand (Report unit ∷ []) = ⊥
+DoReportsStand (Report unit ∷ (Report other ∷ pieces)) = ⊥
+DoReportsStand (Report unit ∷ (Frame other packet ∷ pieces)) =
+    ((other ≡ unit) × ((packet.from ≡ unit.from) × (unit.starts_group ≡ true)))
+    × DoReportsStand pieces
+DoReportsStand (Frame unit packet ∷ pieces) =
+    (packet.from ≡ unit.from → unit.starts_group ≡ false) × DoReportsStand pieces
 
 -- a report of a unit that begins at a place: what it counts is what the session sent before the
 -- run, and the run's frames that have ended at that place

@@ -159,7 +159,8 @@ impl<'a> Frames<'a> {
         requires number { number ≤ length (pieces_in self.now) }
         requires packet { IsCut self.now.film unit.now packet.now }
         ensures { (octets : ℕ) → take 20 head.new ++ payload self.now.film packet.now
-            ≡ piece_bytes self.now (frames_in (take number (pieces_in self.now))) octets (Frame unit.now packet.now) }
+            ≡ piece_bytes self.now (frames_in (take number (pieces_in self.now))) octets
+            (Frame unit.now packet.now) }
     {
         let frames = self.frames(number);
         let its = packet_head(&self.identity, self.picture_time(), unit, packet, frames);

@@ -1,7 +1,8 @@
 ghost use Rattle.std.specs.Prelude.{◌≡◌, ◌+◌, ◌-◌, ◌^◌, ◌<◌, ◌≤◌, ℕ, length, map, sum, take, drop};
 ghost use Rattle.rtp_pack.specs.Packets.{OfUnit};
 ghost use Rattle.film_frames.specs.Laws.{AreBlocks, AreOnChannels, DoCountOn, DoHeadsReadBack};
-ghost use Rattle.film_frames.specs.Laws.{DoReportsCount, HaveSizes, payloads, run_frames};
+ghost use Rattle.film_frames.specs.Laws.{DoReportsCount, DoReportsStand, HaveSizes, payloads};
+ghost use Rattle.film_frames.specs.Laws.{run_frames};
 ghost use Rattle.film_frames.specs.Pieces.{frames_in, wire_size};
 ghost use Rattle.film_frames.specs.Runs.{HaveEnded, Run, count_ended, run_of, run_pieces};
 ghost use Rattle.film_frames.specs.Runs.{pieces_in};
@@ -14,7 +15,8 @@ use rtp_pack::Identity;
 /// most 2^42.
 pub fn law_wire_sizes(film: &Film)
     ensures range { (from count : ℕ)
-        → sum (map (λ u. wire_size film.now.slice_starts.items u) (take count (drop from film.now.units.items))) ≤ 2 ^ 42 }
+        → sum (map (λ u. wire_size film.now.slice_starts.items u)
+        (take count (drop from film.now.units.items))) ≤ 2 ^ 42 }
     ensures all { sum (map (λ u. wire_size film.now.slice_starts.items u) film.now.units.items) ≤
         2 ^ 42 }
 {
@@ -57,6 +59,14 @@ pub fn law_reports_count(film: &Film, first_unit: usize, end_unit: usize, identi
     let _read = (film.bytes.len(), first_unit, end_unit, identity);
 }
 
+/// A report of a run stands directly before the first frame of each unit that starts a group, and
+/// nowhere else.
+pub fn law_reports_stand(film: &Film, first_unit: usize, end_unit: usize, identity: Identity)
+    ensures { DoReportsStand (pieces_in (run_of film.now first_unit end_unit identity)) }
+{
+    let _read = (film.bytes.len(), first_unit, end_unit, identity);
+}
+
 /// Each report of a run has 52 bytes; each frame has 21 to 1,400, of which its octets are all but
 /// 16. Each is a whole interleaved block. All together have the sizes of the run's units.
 pub fn law_piece_sizes(film: &Film, first_unit: usize, end_unit: usize, identity: Identity)
@@ -94,7 +104,8 @@ pub fn law_unit_blocks(film: &Film, first_unit: usize, unit: usize, identity: Id
     requires within { unit < length film.now.units.items }
     ensures { OfUnit film.now.units.items unit (λ u.
         length (framed (run_pieces (run_of film.now first_unit (unit + 1) identity)))
-        ≡ length (framed (run_pieces (run_of film.now first_unit unit identity))) + wire_size film.now.slice_starts.items u) }
+        ≡ length (framed (run_pieces (run_of film.now first_unit unit identity)))
+        + wire_size film.now.slice_starts.items u) }
 {
     let _read = (film.bytes.len(), first_unit, unit, identity);
 }

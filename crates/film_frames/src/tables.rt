@@ -126,7 +126,8 @@ impl FrameTable {
         requires room { HasRoom self.old }
         requires sound { (film : List ℕ) × IsSound film piece }
         ensures table { (film : List ℕ) (units : List PictureUnit) (pieces : List Piece)
-            → IsSound film piece → slice_get units number ≡ Some (unit_of piece) → IsTable units pieces self.old
+            → IsSound film piece → slice_get units number ≡ Some (unit_of piece)
+            → IsTable units pieces self.old
             → OnOk result (IsTable units (pieces ++ piece ∷ []) self.new) }
         ensures firsts { OnOk result (self.new.firsts.items ≡ self.old.firsts.items) }
     {
@@ -145,7 +146,8 @@ impl FrameTable {
         requires within { number < length film.now.units.items }
         requires table { HasPieces film.now (front_pieces film.now number) self.old }
         ensures table { OfUnit film.now.units.items number
-            (λ u. OnOk result (HasPieces film.now (front_pieces film.now number ++ unit_reports u) self.new)) }
+            (λ u. OnOk result
+            (HasPieces film.now (front_pieces film.now number ++ unit_reports u) self.new)) }
         ensures firsts { OnOk result (self.new.firsts.items ≡ self.old.firsts.items) }
     {
         let unit = film.units[number];
@@ -162,8 +164,8 @@ impl FrameTable {
             (λ u. packets.now ≡ unit_packets film.now.slice_starts.items u) }
         requires table { OfUnit film.now.units.items number
             (λ u. HasPieces film.now (front_pieces film.now number ++ unit_reports u) self.old) }
-        ensures table { OnOk result (HasPieces film.now (front_pieces film.now (number
-            + 1)) self.new) }
+        ensures table { OnOk result
+            (HasPieces film.now (front_pieces film.now (number + 1)) self.new) }
         ensures firsts { OnOk result (self.new.firsts.items ≡ self.old.firsts.items) }
     {
         let unit = film.units[number];
@@ -185,10 +187,11 @@ impl FrameTable {
         requires table { HasPieces film.now (front_pieces film.now number) self.old }
         requires firsts { AreFirsts film.now.slice_starts.items film.now.units.items number
             self.old.firsts.items }
-        ensures table { OnOk result (HasPieces film.now (front_pieces film.now (number
-            + 1)) self.new) }
+        ensures table { OnOk result
+            (HasPieces film.now (front_pieces film.now (number + 1)) self.new) }
         ensures firsts { OnOk result
-            (AreFirsts film.now.slice_starts.items film.now.units.items (number + 1) self.new.firsts.items) }
+            (AreFirsts film.now.slice_starts.items film.now.units.items (number + 1)
+            self.new.firsts.items) }
     {
         refill_packets(packets, film, number)?;
         self.put_report(film, number)?;

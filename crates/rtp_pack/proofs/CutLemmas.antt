@@ -1,9 +1,11 @@
 -- The rules for cutting leave one list, and the packets of a unit meet them.
-use Rattle.std.proofs.Common.{◌≡◌, ℕ, zero, suc, ◌+◌, ◌*◌, ◌<◌, ◌≤◌, Bool, true, false, List, [], ◌∷◌, ◌++◌, refl, sym, ap, subst, ◌∙◌, arith, inl, inr}
+use Rattle.std.proofs.Common.{◌≡◌, ℕ, zero, suc, ◌+◌, ◌*◌, ◌<◌, ◌≤◌, Bool, true, false, List, []}
+use Rattle.std.proofs.Common.{◌∷◌, ◌++◌, refl, sym, ap, subst, ◌∙◌, arith, inl, inr}
 use Rattle.mpeg_scan.specs.declared.units.Unit.{Unit as PictureUnit}
 use Rattle.rtp_pack.specs.declared.filling.Filling.{Filling}
 use Rattle.rtp_pack.specs.declared.payloads.Packet.{Packet}
-use Rattle.rtp_pack.specs.Cutting.{Begins, Cuts, Fills, filling_after, full_before, full_ends, goes_in, last_start, next_filling, start_of}
+use Rattle.rtp_pack.specs.Cutting.{Begins, Cuts, Fills, filling_after, full_before, full_ends}
+use Rattle.rtp_pack.specs.Cutting.{goes_in, last_start, next_filling, start_of}
 use Rattle.rtp_pack.specs.Packets.{before_slice, full_packets, packets_from}
 
 -- ---- one list

@@ -1,15 +1,22 @@
 -- What the packets say of their pieces is so: where a piece begins with a slice, and where it ends with one.
-use Rattle.std.proofs.Common.{◌≡◌, ℕ, zero, suc, ◌+◌, ◌-◌, ◌*◌, ◌<◌, ◌≤◌, ◌≢◌, Bool, true, false, cond, eqb, leb, ltb, ◌&&◌, ◌||◌, List, [], ◌∷◌, ◌++◌, refl, sym, ap, subst, ◌∙◌, arith}
-use Rattle.std.proofs.lemmas.Bool.{eq-eqb, ne_eqb, le-ltb, leb-true, leb-false, lt-ltb, ltb-true, true≢false}
+use Rattle.std.proofs.Common.{◌≡◌, ℕ, zero, suc, ◌+◌, ◌-◌, ◌*◌, ◌<◌, ◌≤◌, ◌≢◌, Bool, true, false}
+use Rattle.std.proofs.Common.{cond, eqb, leb, ltb, ◌&&◌, ◌||◌, List, [], ◌∷◌, ◌++◌, refl, sym, ap}
+use Rattle.std.proofs.Common.{subst, ◌∙◌, arith}
+use Rattle.std.proofs.lemmas.Bool.{eq-eqb, ne_eqb, le-ltb, leb-true, leb-false, lt-ltb, ltb-true}
+use Rattle.std.proofs.lemmas.Bool.{true≢false}
 use Rattle.mpeg_scan.specs.declared.units.Unit.{Unit as PictureUnit}
 use Rattle.rtp_pack.specs.declared.filling.Filling.{Filling}
 use Rattle.rtp_pack.specs.declared.filling.Holds.{Holds}
 use Rattle.rtp_pack.specs.declared.filling.Holds.TheVariants.{HeadAlone, Slices, LastFragment}
 use Rattle.rtp_pack.specs.declared.payloads.Packet.{Packet}
-use Rattle.rtp_pack.specs.Cutting.{first_piece, full_before, full_ends, goes_in, goes_in_cut, goes_in_whole, next_filling, start_of}
-use Rattle.rtp_pack.specs.Packets.{AreInOrder, among, before_slice, begins_slice, filling_packet, ends_slice, ends_to, full_packets, lengths_to, next_place, packet, packets_from, piece_packet, piece_packets}
+use Rattle.rtp_pack.specs.Cutting.{first_piece, full_before, full_ends, goes_in, goes_in_cut}
+use Rattle.rtp_pack.specs.Cutting.{goes_in_whole, next_filling, start_of}
+use Rattle.rtp_pack.specs.Packets.{AreInOrder, among, before_slice, begins_slice, filling_packet}
+use Rattle.rtp_pack.specs.Packets.{ends_slice, ends_to, full_packets, lengths_to, next_place}
+use Rattle.rtp_pack.specs.Packets.{packet, packets_from, piece_packet, piece_packets}
 use Rattle.rtp_pack.proofs.SizeLemmas.{whole-fits}
-use Rattle.rtp_pack.proofs.CutLemmas.{ends, ends-append, ends-full, full_before-less, full_before-within, start-less}
+use Rattle.rtp_pack.proofs.CutLemmas.{ends, ends-append, ends-full, full_before-less}
+use Rattle.rtp_pack.proofs.CutLemmas.{full_before-within, start-less}
 
 -- ---- tests
 

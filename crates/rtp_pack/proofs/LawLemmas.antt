@@ -1,11 +1,14 @@
 -- What the rules for cutting come to, in a reader's words.
-use Rattle.std.proofs.Common.{◌≡◌, ℕ, zero, suc, ◌+◌, ◌*◌, ◌<◌, ◌≤◌, Bool, true, false, cond, eqb, leb, List, [], ◌∷◌, ◌++◌, sum, refl, sym, ap, subst, ◌∙◌, arith, inl, inr}
+use Rattle.std.proofs.Common.{◌≡◌, ℕ, zero, suc, ◌+◌, ◌*◌, ◌<◌, ◌≤◌, Bool, true, false, cond, eqb}
+use Rattle.std.proofs.Common.{leb, List, [], ◌∷◌, ◌++◌, sum, refl, sym, ap, subst, ◌∙◌, arith, inl}
+use Rattle.std.proofs.Common.{inr}
 use Rattle.std.proofs.lemmas.Bool.{cases_Bool, eq-eqb, le-leb, leb-true}
 use Rattle.std.proofs.lemmas.List.Sums.{sum_by-cons}
 use Rattle.rtp_pack.specs.declared.filling.Filling.{Filling}
 use Rattle.rtp_pack.specs.declared.filling.Holds.{Holds}
 use Rattle.rtp_pack.specs.declared.filling.Holds.TheVariants.{Slices, LastFragment}
-use Rattle.rtp_pack.specs.Cutting.{Cuts, filling_after, full_ends, goes_in, goes_in_cut, goes_in_whole, holds_after, start_of}
+use Rattle.rtp_pack.specs.Cutting.{Cuts, filling_after, full_ends, goes_in, goes_in_cut}
+use Rattle.rtp_pack.specs.Cutting.{goes_in_whole, holds_after, start_of}
 use Rattle.rtp_pack.specs.Laws.{ArePieces, AreShortUncut, DoLongEndPieces, IsUncut}
 use Rattle.rtp_pack.specs.Packets.{among}
 use Rattle.rtp_pack.proofs.CutLemmas.{not_both}

@@ -1,12 +1,15 @@
 -- What the packer keeps: the packets that are out, and those that the rest of the unit gives.
-use Rattle.std.proofs.Common.{◌≡◌, ℕ, suc, ◌+◌, ◌-◌, ◌<◌, ◌≤◌, Bool, List, [], ◌∷◌, ◌++◌, append_assoc, drop, length, get_or, refl, sym, ap, subst, ◌∙◌, arith, false}
+use Rattle.std.proofs.Common.{◌≡◌, ℕ, suc, ◌+◌, ◌-◌, ◌<◌, ◌≤◌, Bool, List, [], ◌∷◌, ◌++◌}
+use Rattle.std.proofs.Common.{append_assoc, drop, length, get_or, refl, sym, ap, subst, ◌∙◌, arith}
+use Rattle.std.proofs.Common.{false}
 use Rattle.std.proofs.Common.{drop-cons, add-one}
 use Rattle.std.proofs.Math.ListN.{drop_of_length-le}
 use Rattle.mpeg_scan.specs.declared.units.Unit.{Unit as PictureUnit}
 use Rattle.rtp_pack.specs.declared.filling.Filling.{Filling}
 use Rattle.rtp_pack.specs.declared.payloads.Packet.{Packet}
 use Rattle.rtp_pack.specs.Cutting.{next_filling}
-use Rattle.rtp_pack.specs.Packets.{AreInOrder, filling_packet, full_packets, lengths_to, next_place, packet, packets_from, slice_packets}
+use Rattle.rtp_pack.specs.Packets.{AreInOrder, filling_packet, full_packets, lengths_to, next_place}
+use Rattle.rtp_pack.specs.Packets.{packet, packets_from, slice_packets}
 
 -- one more full piece of those that are left
 pub put-full_packet : (unit : PictureUnit) (begin : Bool) (start count i : ℕ) (out : List Packet) → i < count

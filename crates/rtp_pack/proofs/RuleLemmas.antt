@@ -1,18 +1,23 @@
 -- Exactly one list of cut points meets the rules, and it is the packer's.
-use Rattle.std.proofs.Common.{◌≡◌, ℕ, zero, suc, ◌+◌, ◌*◌, ◌<◌, ◌≤◌, ◌⊎◌, Bool, true, false, cond, eqb, leb, ◌||◌, List, [], ◌∷◌, ◌++◌, sum, refl, sym, ap, subst, ◌∙◌, arith, inl, inr}
-use Rattle.std.proofs.lemmas.Bool.{cases_lt, cases_order, eq-eqb, ne_eqb, le-leb, lt-leb, leb-false, le-ltb, ltb-false}
+use Rattle.std.proofs.Common.{◌≡◌, ℕ, zero, suc, ◌+◌, ◌*◌, ◌<◌, ◌≤◌, ◌⊎◌, Bool, true, false, cond}
+use Rattle.std.proofs.Common.{eqb, leb, ◌||◌, List, [], ◌∷◌, ◌++◌, sum, refl, sym, ap, subst, ◌∙◌}
+use Rattle.std.proofs.Common.{arith, inl, inr}
+use Rattle.std.proofs.lemmas.Bool.{cases_lt, cases_order, eq-eqb, ne_eqb, le-leb, lt-leb, leb-false}
+use Rattle.std.proofs.lemmas.Bool.{le-ltb, ltb-false}
 use Rattle.mpeg_scan.specs.declared.units.Kind.TheVariants.{I}
 use Rattle.mpeg_scan.specs.declared.units.Unit.{Unit as PictureUnit}
 use Rattle.rtp_pack.specs.declared.filling.Filling.{Filling}
 use Rattle.rtp_pack.specs.declared.filling.Holds.{Holds}
 use Rattle.rtp_pack.specs.declared.filling.Holds.TheVariants.{HeadAlone, Slices, LastFragment}
-use Rattle.rtp_pack.specs.Cutting.{Cuts, IsCutting, filling_after, first_piece, full_ends, goes_in, goes_in_cut, goes_in_whole, holds_after}
+use Rattle.rtp_pack.specs.Cutting.{Cuts, IsCutting, filling_after, first_piece, full_ends, goes_in}
+use Rattle.rtp_pack.specs.Cutting.{goes_in_cut, goes_in_whole, holds_after}
 use Rattle.rtp_pack.specs.Laws.{ArePieces, AreShortUncut, DoLongEndPieces, IsUncut}
 use Rattle.rtp_pack.specs.Packets.{among, packets_from}
 use Rattle.rtp_pack.specs.Rules.{HaveBytes, IsCutPlace, MayAllEnd, MayEnd, MeetsRules, SliceAt}
 use Rattle.rtp_pack.proofs.CutLemmas.{AreSome, ends, not_both, packets-cut}
 use Rattle.rtp_pack.proofs.FlagLemmas.{or-right}
-use Rattle.rtp_pack.proofs.LawLemmas.{among-full, cuts-from, head-uncut, long-ends, pieces-cover, short-uncut}
+use Rattle.rtp_pack.proofs.LawLemmas.{among-full, cuts-from, head-uncut, long-ends, pieces-cover}
+use Rattle.rtp_pack.proofs.LawLemmas.{short-uncut}
 
 -- ---- one list
 

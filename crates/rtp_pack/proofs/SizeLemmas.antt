@@ -1,11 +1,15 @@
 -- The size of a unit's frames.
-use Rattle.std.proofs.Common.{◌≡◌, ℕ, zero, suc, ◌+◌, ◌-◌, ◌*◌, ◌^◌, ◌<◌, ◌≤◌, Bool, true, false, cond, leb, ltb, List, [], ◌∷◌, ◌++◌, refl, sym, ap, ◌∙◌, arith, inl, inr}
+use Rattle.std.proofs.Common.{◌≡◌, ℕ, zero, suc, ◌+◌, ◌-◌, ◌*◌, ◌^◌, ◌<◌, ◌≤◌, Bool, true, false}
+use Rattle.std.proofs.Common.{cond, leb, ltb, List, [], ◌∷◌, ◌++◌, refl, sym, ap, ◌∙◌, arith, inl}
+use Rattle.std.proofs.Common.{inr}
 use Rattle.std.proofs.lemmas.Bool.{cases_Bool, leb-true, leb-false, ltb-true, ltb-false, true≢false}
 use Rattle.rtp_pack.specs.declared.filling.Filling.{Filling}
 use Rattle.rtp_pack.specs.declared.filling.Holds.{Holds}
 use Rattle.rtp_pack.specs.declared.filling.Holds.TheVariants.{HeadAlone, Slices, LastFragment}
-use Rattle.rtp_pack.specs.Cutting.{Cuts, Fills, IsCutting, filling_after, full_before, full_ends, goes_in, goes_in_cut, goes_in_whole, last_start, start_of}
-use Rattle.rtp_pack.specs.Sizes.{IsMeasure, Measure, begun, cuts_size, frames_of, measured, slice_pieces, with_slice, with_slices}
+use Rattle.rtp_pack.specs.Cutting.{Cuts, Fills, IsCutting, filling_after, full_before, full_ends}
+use Rattle.rtp_pack.specs.Cutting.{goes_in, goes_in_cut, goes_in_whole, last_start, start_of}
+use Rattle.rtp_pack.specs.Sizes.{IsMeasure, Measure, begun, cuts_size, frames_of, measured}
+use Rattle.rtp_pack.specs.Sizes.{slice_pieces, with_slice, with_slices}
 use Rattle.rtp_pack.proofs.CutLemmas.{full-once, full_before-less, full_before-within, start-less}
 
 -- ---- one slice keeps what is kept

@@ -1,10 +1,14 @@
 -- The packets of a unit that is laid out in its film.
-use Rattle.std.proofs.Common.{◌≡◌, ℕ, ◌+◌, ◌-◌, ◌*◌, ◌≤◌, List, [], ◌∷◌, sum, refl, sym, ap, subst, ◌∙◌, arith}
+use Rattle.std.proofs.Common.{◌≡◌, ℕ, ◌+◌, ◌-◌, ◌*◌, ◌≤◌, List, [], ◌∷◌, sum, refl, sym, ap, subst}
+use Rattle.std.proofs.Common.{◌∙◌, arith}
 use Rattle.mpeg_scan.specs.declared.units.Unit.{Unit as PictureUnit}
 use Rattle.rtp_pack.specs.declared.payloads.Packet.{Packet}
 use Rattle.rtp_pack.specs.Cutting.{IsCutting, first_piece}
-use Rattle.rtp_pack.specs.Packets.{ArePackets, AreInOrder, DoCover, IsLaid, frames_size, lengths_to, next_place, piece_packets, unit_lengths, unit_packets, unit_starts}
-use Rattle.rtp_pack.specs.Sizes.{begun, bytes_of, cuts_size, frames_of, measured, with_slice, with_slices, Measure}
+use Rattle.rtp_pack.specs.Packets.{ArePackets, AreInOrder, DoCover, IsLaid, frames_size, lengths_to}
+use Rattle.rtp_pack.specs.Packets.{next_place, piece_packets, unit_lengths, unit_packets}
+use Rattle.rtp_pack.specs.Packets.{unit_starts}
+use Rattle.rtp_pack.specs.Sizes.{begun, bytes_of, cuts_size, frames_of, measured, with_slice}
+use Rattle.rtp_pack.specs.Sizes.{with_slices, Measure}
 use Rattle.rtp_pack.proofs.CutLemmas.{AreSome, ends, packets-cut}
 use Rattle.rtp_pack.proofs.FlagLemmas.{first-right, flags}
 use Rattle.rtp_pack.specs.Laws.{ArePieces}

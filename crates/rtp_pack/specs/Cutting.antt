@@ -40,7 +40,8 @@ holds_after length = if nat_le length 1380 then Slices else LastFragment
 
 -- the piece in which a slice of `length` bytes ends, that begins at `start`
 abbrev pub filling_after : Filling → ℕ → ℕ → Filling
-filling_after f length start = record { from = start; at = f.at + length; holds = holds_after length }
+filling_after f length start =
+    record { from = start; at = f.at + length; holds = holds_after length }
 
 -- the ends of so many full pieces of 1,380 bytes
 abbrev pub full_ends : ℕ → ℕ → List ℕ
@@ -96,4 +97,5 @@ last_start start end = start + 1380 * full_before start end
 
 -- the piece in which the next slice ends, of `length` bytes
 abbrev pub next_filling : Filling → ℕ → Filling
-next_filling f length = filling_after f length (last_start (start_of (goes_in f length) f) (f.at + length))
+next_filling f length =
+    filling_after f length (last_start (start_of (goes_in f length) f) (f.at + length))

@@ -4,6 +4,7 @@ use Rattle.std.specs.Prelude.{slice_index, take}
 use Rattle.byteorder.specs.Endian.{big_number}
 use Rattle.mpeg_scan.specs.declared.units.Unit.{Unit as PictureUnit}
 use Rattle.mpeg_scan.specs.Standard.{type_number}
+use Rattle.rtp_pack.specs.declared.heads.Head.{Head}
 use Rattle.rtp_pack.specs.declared.payloads.Packet.{Packet}
 use Rattle.rtp_pack.specs.declared.reports.Report.{Report}
 use Rattle.rtp_pack.specs.Heads.{bit}
@@ -53,3 +54,19 @@ pub record HasReportFields (bytes : List ℕ) (report : Report) : Type 0 where
 pub record IsTickOf (place rate tick : ℕ) : Type 0 where
   pub by_then : tick * 360000 ≤ place * rate
   pub last : place * rate < (tick + 1) * 360000
+
+-- the fields of an RTP header with no extension and no contributing source (RFC 3550 section 5.1),
+-- whose payload type is that of MPEG video, 32 (RFC 3551 section 6), and then the word of a video
+-- header
+pub record HasRtpFields (bytes : List ℕ) (head : Head) : Type 0 where
+  pub long : length bytes ≡ 12 + 4
+  pub version : bits 2 6 (slice_index bytes 0) ≡ 2
+  pub padding : bits 1 5 (slice_index bytes 0) ≡ 0
+  pub extension : bits 1 4 (slice_index bytes 0) ≡ 0
+  pub sources : bits 4 0 (slice_index bytes 0) ≡ 0
+  pub marker : bits 1 7 (slice_index bytes 1) ≡ bit head.marker
+  pub payload_type : bits 7 0 (slice_index bytes 1) ≡ 32
+  pub sequence : big_number 2 (drop 2 bytes) ≡ head.sequence
+  pub timestamp : big_number 4 (drop 4 bytes) ≡ head.timestamp
+  pub ssrc : big_number 4 (drop 8 bytes) ≡ head.ssrc
+  pub video : big_number 4 (drop 12 bytes) ≡ head.video

@@ -1,11 +1,12 @@
 ghost use Rattle.std.specs.Prelude.{◌≡◌, ◌+◌, ◌*◌, ◌%◌, ◌^◌, ◌<◌, ◌≤◌, ◌++◌, ℕ, List, length, sum};
 ghost use Rattle.std.specs.Prelude.{Ok};
 ghost use Rattle.mpeg_scan.specs.declared.units.Unit.{Unit as PictureUnit};
+ghost use Rattle.rtp_pack.specs.declared.heads.Head.{Head as RtpHead};
 ghost use Rattle.rtp_pack.specs.declared.payloads.Packet.{Packet};
 ghost use Rattle.rtp_pack.specs.declared.reports.Identity.{Identity};
 ghost use Rattle.rtp_pack.specs.declared.reports.Report.{Report};
 ghost use Rattle.rtp_pack.specs.Cutting.{IsCutting};
-ghost use Rattle.rtp_pack.specs.Fields.{HasReportFields, HasVideoFields, IsTickOf};
+ghost use Rattle.rtp_pack.specs.Fields.{HasReportFields, HasRtpFields, HasVideoFields, IsTickOf};
 ghost use Rattle.rtp_pack.specs.Heads.{head_bytes, head_of, unit_timestamp, video_word};
 ghost use Rattle.rtp_pack.specs.Laws.{ArePieces, AreShortUncut, DoLongEndPieces, IsLastMarked};
 ghost use Rattle.rtp_pack.specs.Laws.{IsUncut};
@@ -75,13 +76,20 @@ pub fn law_rules()
         head_end ≤ from + 1380 → HaveBytes slices
         → (cuts : List ℕ) × MeetsRules from head_end slices cuts }
     ensures one { (from head_end : ℕ) (slices one other : List ℕ)
-        → MeetsRules from head_end slices one → MeetsRules from head_end slices other → one ≡ other }
+        → MeetsRules from head_end slices one → MeetsRules from head_end slices other
+        → one ≡ other }
     ensures meets { (from head_end : ℕ) (slices cuts : List ℕ) → from < head_end →
         head_end ≤ from + 1380 → HaveBytes slices
         → IsCutting from head_end slices cuts → MeetsRules from head_end slices cuts }
     ensures cutting { (from head_end : ℕ) (slices cuts : List ℕ) → from < head_end →
         head_end ≤ from + 1380 → HaveBytes slices
         → MeetsRules from head_end slices cuts → IsCutting from head_end slices cuts }
+{}
+
+/// The fields of a packet's head, each read at its bits (RFC 3550 section 5.1).
+pub fn law_rtp_header()
+    ensures { (head : RtpHead) → head.sequence < 2 ^ 16 → head.timestamp < 2 ^ 32 →
+        head.ssrc < 2 ^ 32 → head.video < 2 ^ 32 → HasRtpFields (head_bytes head) head }
 {}
 
 /// The fields of a video header, each read at its bits (RFC 2250 section 3.4). Film units keep both

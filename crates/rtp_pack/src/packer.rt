@@ -37,7 +37,8 @@ fn put(packets: &mut Vec<Packet>, packet: Packet) -> Result<(), NoMemory>
 
 /// Appends the packet of a piece that ends before a slice or with the unit.
 fn close(packets: &mut Vec<Packet>, unit: &Unit, filling: Filling) -> Result<(), NoMemory>
-    ensures { OnOk result (packets.new.items ≡ packets.old.items ++ filling_packet unit.now filling ∷ []) }
+    ensures { OnOk result (packets.new.items ≡
+        packets.old.items ++ filling_packet unit.now filling ∷ []) }
 {
     let begin = matches!(filling.holds, Holds::Slices);
     let end = !matches!(filling.holds, Holds::HeadAlone);

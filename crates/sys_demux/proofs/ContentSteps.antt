@@ -1,5 +1,6 @@
 -- One byte of the header of a packet's content.
-use Rattle.std.proofs.Common.{◌≡◌, ℕ, ◌-◌, ◌≤◌, ◌⊎◌, ◌==◌, false, zero, suc, List, ◌∷◌, length, Option, Some, None, MatchOption, refl, ◌∙◌, arith, inl, inr, ne_eqb}
+use Rattle.std.proofs.Common.{◌≡◌, ℕ, ◌-◌, ◌≤◌, ◌⊎◌, ◌==◌, false, zero, suc, List, ◌∷◌, length}
+use Rattle.std.proofs.Common.{Option, Some, None, MatchOption, refl, ◌∙◌, arith, inl, inr, ne_eqb}
 use Rattle.std.proofs.lemmas.Bool.{cond-false}
 use Rattle.sys_demux.specs.Contents.{from_stuffing, from_size}
 
@@ -7,7 +8,7 @@ stuffing_none : (most byte : ℕ) (rest : List ℕ) → most ≡ 0 → from_stuf
 stuffing_none zero byte rest e = refl
 stuffing_none (suc most) byte rest e = absurd (omega (arith, e))
 
-stuffing_other : (most byte : ℕ) (rest : List ℕ) → (byte == 255) ≡ false → from_stuffing most (byte ∷ rest) ≡ from_size (byte ∷ rest)
+pub stuffing_other : (most byte : ℕ) (rest : List ℕ) → (byte == 255) ≡ false → from_stuffing most (byte ∷ rest) ≡ from_size (byte ∷ rest)
 stuffing_other zero byte rest e = refl
 stuffing_other (suc most) byte rest e = cond-false (byte == 255) (from_stuffing most rest) (from_size (byte ∷ rest)) e
 

@@ -3,3 +3,6 @@ pub mod Parts
 pub mod Reached
 pub mod OneReading
 pub mod VideoBegins
+pub mod PacketHeaders
+pub mod StandardStreams
+pub mod StandardFaults

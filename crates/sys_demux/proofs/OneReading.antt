@@ -1,14 +1,19 @@
 -- A stream is read in one way.
-use Rattle.std.proofs.Common.{◌≡◌, ◌≢◌, ℕ, ◌+◌, ◌*◌, ◌/◌, ◌<◌, ◌≤◌, true, false, zero, suc, List, [], ◌∷◌, ◌++◌, length, take, drop, Option, None, refl, sym, ap, subst, ◌∙◌, arith, inl, inr}
+use Rattle.std.proofs.Common.{◌≡◌, ◌≢◌, ℕ, ◌+◌, ◌*◌, ◌/◌, ◌<◌, ◌≤◌, true, false, zero, suc, List}
+use Rattle.std.proofs.Common.{[], ◌∷◌, ◌++◌, length, take, drop, Option, None, refl, sym, ap, subst}
+use Rattle.std.proofs.Common.{◌∙◌, arith, inl, inr}
 use Rattle.std.specs.Prelude.{IsSome, replicate}
-use Rattle.std.proofs.lemmas.List.{append_assoc, append-nil, length-append, take_at, drop_at, take-append-drop, length-take-le, length-drop}
+use Rattle.std.proofs.lemmas.List.{append_assoc, append-nil, length-append, take_at, drop_at}
+use Rattle.std.proofs.lemmas.List.{take-append-drop, length-take-le, length-drop}
 use Rattle.sys_demux.specs.Contents.{video_in}
-use Rattle.sys_demux.specs.Items.{Item, prefixed, item_bytes, zeros_of, choose, is_chosen, chosen_next, chosen_after, IsItem, AreItems, video_of, bytes_of}
+use Rattle.sys_demux.specs.Items.{Item, with_prefix, item_bytes, zeros_of, choose, is_chosen}
+use Rattle.sys_demux.specs.Items.{chosen_next, chosen_after, IsItem, AreItems, video_of, bytes_of}
 use Rattle.sys_demux.specs.Items.Item.{Pack, Packet}
 use Rattle.sys_demux.specs.Streams.{IsEnd, IsCut, IsFault, IsSystem, IsRefused}
 use Rattle.sys_demux.specs.States.{IsShown}
 use Rattle.sys_demux.specs.declared.faults.SystemFault.{SystemFault}
-use Rattle.sys_demux.specs.declared.faults.SystemFault.TheVariants.{NotPack, BadCode, BadPacket, Truncated}
+use Rattle.sys_demux.specs.declared.faults.SystemFault.TheVariants.{NotPack, BadCode, BadPacket}
+use Rattle.sys_demux.specs.declared.faults.SystemFault.TheVariants.{Truncated}
 use Rattle.sys_demux.proofs.Parts.{prefixed_more, length-prefixed}
 use Rattle.sys_demux.proofs.Reached.{fault_stays}
 
@@ -30,7 +35,7 @@ record AreSamePrefix (n m : ℕ) (r s : List ℕ) : Type 0 where
   zeros : n ≡ m
   rest : r ≡ s
 
-prefix_once : (n m : ℕ) (r s : List ℕ) → prefixed n r ≡ prefixed m s → AreSamePrefix n m r s
+prefix_once : (n m : ℕ) (r s : List ℕ) → with_prefix n r ≡ with_prefix m s → AreSamePrefix n m r s
 prefix_once zero zero r s e = record {
   zeros = refl;
   rest = tail_same 1 1 r s (tail_same 0 0 (1 ∷ r) (1 ∷ s) (tail_same 0 0 (0 ∷ 1 ∷ r) (0 ∷ 1 ∷ s) e));
@@ -38,54 +43,54 @@ prefix_once zero zero r s e = record {
 prefix_once zero (suc zero) r s e =
     absurd (one_zero r (1 ∷ s) (tail_same 0 0 (1 ∷ r) (0 ∷ 1 ∷ s) (tail_same 0 0 (0 ∷ 1 ∷ r) (0 ∷ 0 ∷ 1 ∷ s) e)))
 prefix_once zero (suc (suc m)) r s e =
-    absurd (first_zero m r s (tail_same 0 0 (1 ∷ r) (prefixed m s) (tail_same 0 0 (0 ∷ 1 ∷ r) (0 ∷ prefixed m s) e)))
+    absurd (first_zero m r s (tail_same 0 0 (1 ∷ r) (with_prefix m s) (tail_same 0 0 (0 ∷ 1 ∷ r) (0 ∷ with_prefix m s) e)))
   where
-    first_zero : (m : ℕ) (r s : List ℕ) → 1 ∷ r ≡ prefixed m s → ⊥
+    first_zero : (m : ℕ) (r s : List ℕ) → 1 ∷ r ≡ with_prefix m s → ⊥
     first_zero zero r s e = one_zero r (0 ∷ 1 ∷ s) e
-    first_zero (suc m) r s e = one_zero r (prefixed m s) e
+    first_zero (suc m) r s e = one_zero r (with_prefix m s) e
 prefix_once (suc zero) zero r s e =
     absurd (zero_one (1 ∷ r) s (tail_same 0 0 (0 ∷ 1 ∷ r) (1 ∷ s) (tail_same 0 0 (0 ∷ 0 ∷ 1 ∷ r) (0 ∷ 1 ∷ s) e)))
 prefix_once (suc (suc n)) zero r s e =
-    absurd (first_one n r s (tail_same 0 0 (prefixed n r) (1 ∷ s) (tail_same 0 0 (0 ∷ prefixed n r) (0 ∷ 1 ∷ s) e)))
+    absurd (first_one n r s (tail_same 0 0 (with_prefix n r) (1 ∷ s) (tail_same 0 0 (0 ∷ with_prefix n r) (0 ∷ 1 ∷ s) e)))
   where
-    first_one : (n : ℕ) (r s : List ℕ) → prefixed n r ≡ 1 ∷ s → ⊥
+    first_one : (n : ℕ) (r s : List ℕ) → with_prefix n r ≡ 1 ∷ s → ⊥
     first_one zero r s e = zero_one (0 ∷ 1 ∷ r) s e
-    first_one (suc n) r s e = zero_one (prefixed n r) s e
+    first_one (suc n) r s e = zero_one (with_prefix n r) s e
 prefix_once (suc n) (suc m) r s e =
-    let more = prefix_once n m r s (tail_same 0 0 (prefixed n r) (prefixed m s) e) in
+    let more = prefix_once n m r s (tail_same 0 0 (with_prefix n r) (with_prefix m s) e) in
     record { zeros = omega (arith, more.zeros); rest = more.rest }
 
 -- bytes 00 alone have no prefix
-zeros_no_prefix : (n m : ℕ) (s : List ℕ) → replicate n 0 ≡ prefixed m s → ⊥
-zeros_no_prefix zero zero s e = let bad : 0 ≡ length (prefixed 0 s) = ap length e in omega (arith, bad)
-zeros_no_prefix (suc zero) zero s e = let bad : 1 ≡ length (prefixed 0 s) = ap length e in omega (arith, bad)
-zeros_no_prefix (suc (suc zero)) zero s e = let bad : 2 ≡ length (prefixed 0 s) = ap length e in omega (arith, bad)
+zeros_no_prefix : (n m : ℕ) (s : List ℕ) → replicate n 0 ≡ with_prefix m s → ⊥
+zeros_no_prefix zero zero s e = let bad : 0 ≡ length (with_prefix 0 s) = ap length e in omega (arith, bad)
+zeros_no_prefix (suc zero) zero s e = let bad : 1 ≡ length (with_prefix 0 s) = ap length e in omega (arith, bad)
+zeros_no_prefix (suc (suc zero)) zero s e = let bad : 2 ≡ length (with_prefix 0 s) = ap length e in omega (arith, bad)
 zeros_no_prefix (suc (suc (suc n))) zero s e =
     zero_one (replicate n 0) s (tail_same 0 0 (0 ∷ replicate n 0) (1 ∷ s) (tail_same 0 0 (0 ∷ 0 ∷ replicate n 0) (0 ∷ 1 ∷ s) e))
-zeros_no_prefix zero (suc m) s e = let bad : 0 ≡ length (0 ∷ prefixed m s) = ap length e in omega (arith, bad)
-zeros_no_prefix (suc n) (suc m) s e = zeros_no_prefix n m s (tail_same 0 0 (replicate n 0) (prefixed m s) e)
+zeros_no_prefix zero (suc m) s e = let bad : 0 ≡ length (0 ∷ with_prefix m s) = ap length e in omega (arith, bad)
+zeros_no_prefix (suc n) (suc m) s e = zeros_no_prefix n m s (tail_same 0 0 (replicate n 0) (with_prefix m s) e)
 
 -- the front of bytes 00 and a prefix that is bytes 00 lacks a part of it
-zeros_front : (n m : ℕ) (l s : List ℕ) → replicate n 0 ++ l ≡ prefixed m s → n ≤ m + 2
+zeros_front : (n m : ℕ) (l s : List ℕ) → replicate n 0 ++ l ≡ with_prefix m s → n ≤ m + 2
 zeros_front zero m l s e = omega arith
 zeros_front (suc zero) m l s e = omega arith
 zeros_front (suc (suc zero)) m l s e = omega arith
 zeros_front (suc (suc (suc n))) zero l s e =
     absurd (zero_one (replicate n 0 ++ l) s (tail_same 0 0 (0 ∷ (replicate n 0 ++ l)) (1 ∷ s) (tail_same 0 0 (0 ∷ 0 ∷ (replicate n 0 ++ l)) (0 ∷ 1 ∷ s) e)))
 zeros_front (suc (suc (suc n))) (suc m) l s e =
-    omega (arith, zeros_front (suc (suc n)) m l s (tail_same 0 0 (0 ∷ 0 ∷ (replicate n 0 ++ l)) (prefixed m s) e))
+    omega (arith, zeros_front (suc (suc n)) m l s (tail_same 0 0 (0 ∷ 0 ∷ (replicate n 0 ++ l)) (with_prefix m s) e))
 
 -- a byte other than 00 after bytes 00 isn't where a prefix can have it
-bad_no_prefix : (n m byte : ℕ) (l s : List ℕ) → replicate n 0 ++ byte ∷ l ≡ prefixed m s → byte ≢ 0 → (byte ≡ 1 → n < 2) → ⊥
+bad_no_prefix : (n m byte : ℕ) (l s : List ℕ) → replicate n 0 ++ byte ∷ l ≡ with_prefix m s → byte ≢ 0 → (byte ≡ 1 → n < 2) → ⊥
 bad_no_prefix zero zero byte l s e some early = some (head_same byte 0 l (0 ∷ 1 ∷ s) e)
-bad_no_prefix zero (suc m) byte l s e some early = some (head_same byte 0 l (prefixed m s) e)
+bad_no_prefix zero (suc m) byte l s e some early = some (head_same byte 0 l (with_prefix m s) e)
 bad_no_prefix (suc zero) zero byte l s e some early = some (head_same byte 0 l (1 ∷ s) (tail_same 0 0 (byte ∷ l) (0 ∷ 1 ∷ s) e))
 bad_no_prefix (suc (suc zero)) zero byte l s e some early =
     let one : byte ≡ 1 = head_same byte 1 l s (tail_same 0 0 (byte ∷ l) (1 ∷ s) (tail_same 0 0 (0 ∷ byte ∷ l) (0 ∷ 1 ∷ s) e)) in omega (arith, early one)
 bad_no_prefix (suc (suc (suc n))) zero byte l s e some early =
     zero_one (replicate n 0 ++ byte ∷ l) s (tail_same 0 0 (0 ∷ (replicate n 0 ++ byte ∷ l)) (1 ∷ s) (tail_same 0 0 (0 ∷ 0 ∷ (replicate n 0 ++ byte ∷ l)) (0 ∷ 1 ∷ s) e))
 bad_no_prefix (suc n) (suc m) byte l s e some early =
-    bad_no_prefix n m byte l s (tail_same 0 0 (replicate n 0 ++ byte ∷ l) (prefixed m s) e) some (λ one. omega (arith, early one))
+    bad_no_prefix n m byte l s (tail_same 0 0 (replicate n 0 ++ byte ∷ l) (with_prefix m s) e) some (λ one. omega (arith, early one))
 
 -- bytes 00 and another byte
 zeros_no_bad : (n m byte : ℕ) (l : List ℕ) → replicate n 0 ≡ replicate m 0 ++ byte ∷ l → byte ≢ 0 → ⊥
@@ -105,7 +110,7 @@ abbrev rest_of : Item → List ℕ
 rest_of (Pack _ rest) = 186 ∷ rest
 rest_of (Packet _ kind high low content) = kind ∷ high ∷ low ∷ content
 
-item_prefixed : (a : Item) → item_bytes a ≡ prefixed (zeros_of a) (rest_of a)
+item_prefixed : (a : Item) → item_bytes a ≡ with_prefix (zeros_of a) (rest_of a)
 item_prefixed (Pack _ rest) = refl
 item_prefixed (Packet _ kind high low content) = refl
 
@@ -143,17 +148,17 @@ rests_once chosen (Packet n k h l r) (Packet m k' h' l' s) x y p q zeros e =
 
 pub item_once : (chosen : Option ℕ) (a b : Item) (x y : List ℕ) → IsItem chosen a → IsItem chosen b → item_bytes a ++ x ≡ item_bytes b ++ y → IsSameItem a b x y
 item_once chosen a b x y p q e =
-    let both : prefixed (zeros_of a) (rest_of a ++ x) ≡ prefixed (zeros_of b) (rest_of b ++ y) =
+    let both : with_prefix (zeros_of a) (rest_of a ++ x) ≡ with_prefix (zeros_of b) (rest_of b ++ y) =
     sym (ap (λ (l : List ℕ). l ++ x) (item_prefixed a) ∙ prefixed_more (zeros_of a) (rest_of a) x) ∙ e ∙ ap (λ (l : List ℕ). l ++ y) (item_prefixed b) ∙ prefixed_more (zeros_of b) (rest_of b) y in
     let same = prefix_once (zeros_of a) (zeros_of b) (rest_of a ++ x) (rest_of b ++ y) both in
     rests_once chosen a b x y p q same.zeros same.rest
 
 -- an item, from its prefix
-from_prefix : (a : Item) (x t : List ℕ) (m : ℕ) (s : List ℕ) → item_bytes a ++ x ≡ t → t ≡ prefixed m s → AreSamePrefix (zeros_of a) m (rest_of a ++ x) s
+from_prefix : (a : Item) (x t : List ℕ) (m : ℕ) (s : List ℕ) → item_bytes a ++ x ≡ t → t ≡ with_prefix m s → AreSamePrefix (zeros_of a) m (rest_of a ++ x) s
 from_prefix a x t m s e is =
     prefix_once (zeros_of a) m (rest_of a ++ x) s (sym (ap (λ (l : List ℕ). l ++ x) (item_prefixed a) ∙ prefixed_more (zeros_of a) (rest_of a) x) ∙ e ∙ is)
 
-as_prefixed : (a : Item) (x t : List ℕ) → item_bytes a ++ x ≡ t → t ≡ prefixed (zeros_of a) (rest_of a ++ x)
+as_prefixed : (a : Item) (x t : List ℕ) → item_bytes a ++ x ≡ t → t ≡ with_prefix (zeros_of a) (rest_of a ++ x)
 as_prefixed a x t e = sym e ∙ ap (λ (l : List ℕ). l ++ x) (item_prefixed a) ∙ prefixed_more (zeros_of a) (rest_of a) x
 
 -- an item's kind is BA or above
@@ -210,20 +215,20 @@ fault_no_item chosen start a x t (Truncated place) p e f =
     omega (arith, ap length same.rest, length-append x f.lacking, f.some)
 
 -- where the stream ends or a fault stands
-kinds_once : (t : List ℕ) (z w k j : ℕ) (r s : List ℕ) → t ≡ prefixed z (k ∷ r) → t ≡ prefixed w (j ∷ s) → (z ≡ w) × (k ≡ j)
+kinds_once : (t : List ℕ) (z w k j : ℕ) (r s : List ℕ) → t ≡ with_prefix z (k ∷ r) → t ≡ with_prefix w (j ∷ s) → (z ≡ w) × (k ≡ j)
 kinds_once t z w k j r s a b =
     let same = prefix_once z w (k ∷ r) (j ∷ s) (sym a ∙ b) in
     (same.zeros, head_same k j r s same.rest)
 
 -- the front of an item with its whole prefix
-front_prefixed : (t l r : List ℕ) (z : ℕ) → t ++ l ≡ prefixed z r → z + 3 ≤ length t → t ≡ prefixed z (drop (z + 3) t)
+front_prefixed : (t l r : List ℕ) (z : ℕ) → t ++ l ≡ with_prefix z r → z + 3 ≤ length t → t ≡ with_prefix z (drop (z + 3) t)
 front_prefixed t l r z e long =
-    let size : length (take (z + 3) t) ≡ length (prefixed z []) = length-take-le (z + 3) t long ∙ sym (length-prefixed z [] ∙ omega arith) in
-    let fronts = front_once (take (z + 3) t) (prefixed z []) (drop (z + 3) t ++ l) r
+    let size : length (take (z + 3) t) ≡ length (with_prefix z []) = length-take-le (z + 3) t long ∙ sym (length-prefixed z [] ∙ omega arith) in
+    let fronts = front_once (take (z + 3) t) (with_prefix z []) (drop (z + 3) t ++ l) r
     (sym (append_assoc (take (z + 3) t) (drop (z + 3) t) l) ∙ ap (λ (x : List ℕ). x ++ l) (take-append-drop (z + 3) t) ∙ e ∙ sym (prefixed_more z [] r)) size in
     sym (take-append-drop (z + 3) t) ∙ ap (λ (x : List ℕ). x ++ drop (z + 3) t) fronts.0 ∙ prefixed_more z [] (drop (z + 3) t)
 
-cut_prefixed : (chosen : Option ℕ) (start : ℕ) (t : List ℕ) (place : ℕ) (f : IsCut chosen start t place) → t ≡ prefixed (zeros_of f.item) (drop (zeros_of f.item + 3) t)
+cut_prefixed : (chosen : Option ℕ) (start : ℕ) (t : List ℕ) (place : ℕ) (f : IsCut chosen start t place) → t ≡ with_prefix (zeros_of f.item) (drop (zeros_of f.item + 3) t)
 cut_prefixed chosen start t place f = front_prefixed t f.lacking (rest_of f.item) (zeros_of f.item) (sym f.is ∙ item_prefixed f.item) f.begun
 
 -- a fault that bytes show stands in no front of an item

@@ -1,23 +1,27 @@
 -- Parts of items, one byte more.
-use Rattle.std.proofs.Common.{◌≡◌, ℕ, ◌+◌, ◌-◌, ◌*◌, ◌/◌, ◌≤◌, ◌==◌, true, false, cond, min, nat_le, List, [], ◌∷◌, ◌++◌, length, drop, Option, Some, None, refl, sym, ap, subst, ◌∙◌, arith, inl, inr, ne_eqb, eq-eqb}
+use Rattle.std.proofs.Common.{◌≡◌, ℕ, ◌+◌, ◌-◌, ◌*◌, ◌/◌, ◌≤◌, ◌==◌, true, false, cond, min, nat_le}
+use Rattle.std.proofs.Common.{List, [], ◌∷◌, ◌++◌, length, drop, Option, Some, None, refl, sym, ap}
+use Rattle.std.proofs.Common.{subst, ◌∙◌, arith, inl, inr, ne_eqb, eq-eqb}
 use Rattle.std.specs.Prelude.{IsSome, unwrap_or, replicate}
 use Rattle.std.proofs.lemmas.Bool.{cases_eq, cond-true, cond-false, both_ways}
 use Rattle.std.proofs.lemmas.Bool.Decides.{nat_tests}
-use Rattle.std.proofs.lemmas.List.{append_assoc, append-nil, length-append, length-replicate, replicate_more, replicate-append-replicate, nil_from_length}
+use Rattle.std.proofs.lemmas.List.{append_assoc, append-nil, length-append, length-replicate}
+use Rattle.std.proofs.lemmas.List.{replicate_more, replicate-append-replicate, nil_from_length}
 use Rattle.sys_demux.specs.Contents.{video_in, from_stuffing, after_bytes}
-use Rattle.sys_demux.specs.Items.{prefixed, choose, is_chosen}
+use Rattle.sys_demux.specs.Items.{with_prefix, choose, is_chosen}
 use Rattle.sys_demux.specs.Items.Item.{Pack, Packet}
 use Rattle.sys_demux.specs.Streams.{IsBadPacket}
-use Rattle.sys_demux.specs.States.{video_from, IsDone, IsAtZeros, IsAtPrefix, IsAtHeader, IsAtRest, IsPart, LeadsTo, place_in}
+use Rattle.sys_demux.specs.States.{video_from, IsDone, IsAtZeros, IsAtPrefix, IsAtHeader, IsAtRest}
+use Rattle.sys_demux.specs.States.{IsPart, LeadsTo, place_in}
 use Rattle.sys_demux.specs.declared.faults.SystemFault.TheVariants.{BadPacket}
 use Rattle.sys_demux.specs.declared.headers.Header.{Header}
 use Rattle.sys_demux.specs.declared.headers.Header.TheVariants.{Stuffing, Second, Stamp, Rest}
 use Rattle.sys_demux.specs.declared.places.Place.TheVariants.{Zeros, InHeader, Pass, Video, Failed}
 
-pub prefixed_more : (zeros : ℕ) (rest more : List ℕ) → prefixed zeros rest ++ more ≡ prefixed zeros (rest ++ more)
+pub prefixed_more : (zeros : ℕ) (rest more : List ℕ) → with_prefix zeros rest ++ more ≡ with_prefix zeros (rest ++ more)
 prefixed_more zeros rest more = append_assoc (replicate zeros 0) (0 ∷ 0 ∷ 1 ∷ rest) more
 
-pub length-prefixed : (zeros : ℕ) (rest : List ℕ) → length (prefixed zeros rest) ≡ zeros + 3 + length rest
+pub length-prefixed : (zeros : ℕ) (rest : List ℕ) → length (with_prefix zeros rest) ≡ zeros + 3 + length rest
 length-prefixed zeros rest = length-append (replicate zeros 0) (0 ∷ 0 ∷ 1 ∷ rest) ∙ omega (arith, length-replicate {A = ℕ} zeros 0)
 
 -- bytes 00
@@ -51,7 +55,7 @@ zeros_prefix chosen _ byte at start now part kept h one many at_is =
 pub pack_begins : (chosen : Option ℕ) (start place mark : ℕ) (now : Option ℕ) (part kept : List ℕ) → IsAtPrefix start place (186 ∷ []) now chosen part kept → mark / 16 ≡ 2 →
     IsAtRest chosen start place now (part ++ mark ∷ []) kept 7 (λ rest. [])
 pack_begins chosen start place mark now part kept h is =
-    let grown : part ++ mark ∷ [] ≡ prefixed h.zeros (186 ∷ mark ∷ []) = ap (λ (l : List ℕ). l ++ mark ∷ []) h.are ∙ prefixed_more h.zeros (186 ∷ []) (mark ∷ []) in
+    let grown : part ++ mark ∷ [] ≡ with_prefix h.zeros (186 ∷ mark ∷ []) = ap (λ (l : List ℕ). l ++ mark ∷ []) h.are ∙ prefixed_more h.zeros (186 ∷ []) (mark ∷ []) in
     record {
       zeros = h.zeros;
       begun = omega (arith, ap length grown, length-prefixed h.zeros (186 ∷ mark ∷ []));
@@ -79,7 +83,7 @@ other_done before kind high low start place now part kept rest h kind_is other l
   video_is = cond-false (is_chosen (choose before kind) kind) (unwrap_or (video_in rest) []) [] other ∙ sym h.none;
 }
 
-length_more : (part rest : List ℕ) (zeros kind high low : ℕ) → part ≡ prefixed zeros (kind ∷ high ∷ []) → zeros + 3 ≤ length (part ++ low ∷ [])
+length_more : (part rest : List ℕ) (zeros kind high low : ℕ) → part ≡ with_prefix zeros (kind ∷ high ∷ []) → zeros + 3 ≤ length (part ++ low ∷ [])
 length_more part rest zeros kind high low are = omega (arith, ap length are, length-prefixed zeros (kind ∷ high ∷ []), length-append part (low ∷ []))
 
 pub length_passed : (before : Option ℕ) (kind high low total : ℕ) (start place : ℕ) (now : Option ℕ) (part kept : List ℕ) → IsAtPrefix start place (kind ∷ high ∷ []) now (choose before kind) part kept → 187 ≤ kind →
@@ -153,7 +157,7 @@ length_header before kind high low total start place now part kept h kind_is cho
     })
 
 -- one byte more of a content
-front_more : (zeros kind high low byte : ℕ) (part front : List ℕ) → part ≡ prefixed zeros (kind ∷ high ∷ low ∷ front) → part ++ byte ∷ [] ≡ prefixed zeros (kind ∷ high ∷ low ∷ (front ++ byte ∷ []))
+front_more : (zeros kind high low byte : ℕ) (part front : List ℕ) → part ≡ with_prefix zeros (kind ∷ high ∷ low ∷ front) → part ++ byte ∷ [] ≡ with_prefix zeros (kind ∷ high ∷ low ∷ (front ++ byte ∷ []))
 front_more zeros kind high low byte part front are = ap (λ (l : List ℕ). l ++ byte ∷ []) are ∙ prefixed_more zeros (kind ∷ high ∷ low ∷ front) (byte ∷ [])
 
 -- a byte that no content has there
@@ -168,7 +172,7 @@ header_bad chosen start place byte left now part kept header h none =
       low = h.low;
       front = h.front ++ byte ∷ [];
       rest = [];
-      is = front_more h.zeros h.kind h.high h.low byte part h.front h.are ∙ ap (λ (l : List ℕ). prefixed h.zeros (h.kind ∷ h.high ∷ h.low ∷ l)) (sym (append-nil (h.front ++ byte ∷ [])));
+      is = front_more h.zeros h.kind h.high h.low byte part h.front h.are ∙ ap (λ (l : List ℕ). with_prefix h.zeros (h.kind ∷ h.high ∷ h.low ∷ l)) (sym (append-nil (h.front ++ byte ∷ [])));
       kind_is = h.kind_is;
       chosen_is = h.chosen_is;
       within = omega (arith, size, h.length_is);

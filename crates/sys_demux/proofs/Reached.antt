@@ -1,21 +1,28 @@
 -- What was fed, some bytes more, and how it ends.
-use Rattle.std.proofs.Common.{◌≡◌, ℕ, ◌+◌, ◌-◌, ◌*◌, ◌<◌, ◌≤◌, true, nat_lt, nat_le, List, [], ◌∷◌, ◌++◌, length, drop, get_or, Option, Some, None, refl, sym, ap, subst, ◌∙◌, arith, inl, inr}
+use Rattle.std.proofs.Common.{◌≡◌, ℕ, ◌+◌, ◌-◌, ◌*◌, ◌<◌, ◌≤◌, true, nat_lt, nat_le, List, [], ◌∷◌}
+use Rattle.std.proofs.Common.{◌++◌, length, drop, get_or, Option, Some, None, refl, sym, ap, subst}
+use Rattle.std.proofs.Common.{◌∙◌, arith, inl, inr}
 use Rattle.std.specs.Prelude.{IsSome, replicate}
 use Rattle.std.proofs.lemmas.Bool.{and_parts, ltb-true, leb-true, le-leb, cond-true}
 use Rattle.std.proofs.lemmas.List.{append_assoc, append-nil, length-append, length-replicate}
 use Rattle.std.proofs.lemmas.List.Concat.{flat_map-append}
 use Rattle.sys_demux.specs.Contents.{video_in}
-use Rattle.sys_demux.specs.Items.{Item, prefixed, item_bytes, zeros_of, choose, chosen_next, chosen_after, IsPack, IsPacket, IsItem, AreItems, item_video, video_of, bytes_of}
+use Rattle.sys_demux.specs.Items.{Item, with_prefix, item_bytes, zeros_of, choose, chosen_next}
+use Rattle.sys_demux.specs.Items.{chosen_after, IsPack, IsPacket, IsItem, AreItems, item_video}
+use Rattle.sys_demux.specs.Items.{video_of, bytes_of}
 use Rattle.sys_demux.specs.Items.Item.{Pack, Packet}
 use Rattle.sys_demux.specs.Streams.{IsCut, IsEnd, IsFault, IsSystem, IsRefused}
 use Rattle.sys_demux.specs.Sound.{least_rest, is_sound}
-use Rattle.sys_demux.specs.States.{video_from, IsAtPrefix, IsAtHeader, IsAtZeros, IsAtRest, IsShown, IsPart, LeadsTo, IsReached, end_fault, fault_at}
+use Rattle.sys_demux.specs.States.{video_from, IsAtPrefix, IsAtHeader, IsAtZeros, IsAtRest, IsShown}
+use Rattle.sys_demux.specs.States.{IsPart, LeadsTo, IsReached, end_fault, fault_at}
 use Rattle.sys_demux.specs.declared.faults.SystemFault.{SystemFault}
-use Rattle.sys_demux.specs.declared.faults.SystemFault.TheVariants.{NotPack, BadCode, BadPacket, Truncated}
+use Rattle.sys_demux.specs.declared.faults.SystemFault.TheVariants.{NotPack, BadCode, BadPacket}
+use Rattle.sys_demux.specs.declared.faults.SystemFault.TheVariants.{Truncated}
 use Rattle.sys_demux.specs.declared.headers.Header.{Header}
 use Rattle.sys_demux.specs.declared.headers.Header.TheVariants.{Stuffing, Second, Stamp, Rest}
 use Rattle.sys_demux.specs.declared.places.Place.{Place}
-use Rattle.sys_demux.specs.declared.places.Place.TheVariants.{Zeros, Kind, Mark, High, Low, InHeader, Pass, Video, End, Failed}
+use Rattle.sys_demux.specs.declared.places.Place.TheVariants.{Zeros, Kind, Mark, High, Low}
+use Rattle.sys_demux.specs.declared.places.Place.TheVariants.{InHeader, Pass, Video, End, Failed}
 use Rattle.sys_demux.proofs.ContentSteps.{stuffing_ends}
 use Rattle.sys_demux.proofs.Parts.{prefixed_more, length-prefixed}
 
@@ -138,7 +145,7 @@ fault_stays chosen start tail more (BadPacket place) shown f = record {
   front = f.front;
   rest = f.rest ++ more;
   is = ap (λ (l : List ℕ). l ++ more) f.is ∙ prefixed_more f.zeros (f.kind ∷ f.high ∷ f.low ∷ (f.front ++ f.rest)) more
-      ∙ ap (λ (l : List ℕ). prefixed f.zeros (f.kind ∷ f.high ∷ f.low ∷ l)) (append_assoc f.front f.rest more);
+      ∙ ap (λ (l : List ℕ). with_prefix f.zeros (f.kind ∷ f.high ∷ f.low ∷ l)) (append_assoc f.front f.rest more);
   kind_is = f.kind_is;
   chosen_is = f.chosen_is;
   within = f.within;
@@ -232,7 +239,7 @@ pack_whole : IsPack (32 ∷ replicate 7 0)
 pack_whole = record { eight = refl; mark = refl }
 
 prefix_cut : (chosen : Option ℕ) (start place : ℕ) (now wanted : Option ℕ) (rest lacking part kept : List ℕ) (item : ℕ → Item) → IsAtPrefix start place rest now wanted part kept →
-    ((zeros : ℕ) → IsItem chosen (item zeros)) → ((zeros : ℕ) → zeros_of (item zeros) ≡ zeros) → ((zeros : ℕ) → item_bytes (item zeros) ≡ prefixed zeros (rest ++ lacking)) → 0 < length lacking → IsCut chosen start part place
+    ((zeros : ℕ) → IsItem chosen (item zeros)) → ((zeros : ℕ) → zeros_of (item zeros) ≡ zeros) → ((zeros : ℕ) → item_bytes (item zeros) ≡ with_prefix zeros (rest ++ lacking)) → 0 < length lacking → IsCut chosen start part place
 prefix_cut chosen start place now wanted rest lacking part kept item h is zeros_are bytes some = record {
   item = item h.zeros;
   lacking = lacking;

@@ -1,14 +1,18 @@
 -- The video so far is the front of the whole.
-use Rattle.std.proofs.Common.{◌≡◌, ℕ, ◌+◌, ◌-◌, ◌<◌, ◌≤◌, List, [], ◌∷◌, ◌++◌, length, take, drop, Option, None, refl, sym, ap, subst, ◌∙◌, arith, inl, inr}
+use Rattle.std.proofs.Common.{◌≡◌, ℕ, ◌+◌, ◌-◌, ◌<◌, ◌≤◌, List, [], ◌∷◌, ◌++◌, length, take, drop}
+use Rattle.std.proofs.Common.{Option, None, refl, sym, ap, subst, ◌∙◌, arith, inl, inr}
 use Rattle.std.specs.Prelude.{replicate}
 use Rattle.std.proofs.lemmas.Bool.{cases_lt}
-use Rattle.std.proofs.lemmas.List.{append_assoc, append-nil, length-append, length-replicate, take-append-drop, length-take-le}
-use Rattle.sys_demux.specs.Items.{Item, item_bytes, chosen_next, chosen_after, AreItems, item_video, video_of, bytes_of}
+use Rattle.std.proofs.lemmas.List.{append_assoc, append-nil, length-append, length-replicate}
+use Rattle.std.proofs.lemmas.List.{take-append-drop, length-take-le}
+use Rattle.sys_demux.specs.Items.{Item, item_bytes, chosen_next, chosen_after, AreItems, item_video}
+use Rattle.sys_demux.specs.Items.{video_of, bytes_of}
 use Rattle.sys_demux.specs.Streams.{IsEnd, IsCut, IsSystem}
 use Rattle.sys_demux.specs.States.{IsAtRest, IsPart, IsReached}
 use Rattle.sys_demux.specs.declared.faults.SystemFault.TheVariants.{Truncated}
 use Rattle.sys_demux.specs.declared.places.Place.{Place}
-use Rattle.sys_demux.specs.declared.places.Place.TheVariants.{Zeros, Kind, Mark, High, Low, InHeader, Pass, Video, End, Failed}
+use Rattle.sys_demux.specs.declared.places.Place.TheVariants.{Zeros, Kind, Mark, High, Low}
+use Rattle.sys_demux.specs.declared.places.Place.TheVariants.{InHeader, Pass, Video, End, Failed}
 use Rattle.sys_demux.proofs.OneReading.{item_once, item_no_end, end_no_fault}
 
 -- a list begins so

@@ -12,13 +12,13 @@ pub data Item : Type 0 where
   Packet : (zeros kind high low : ℕ) (content : List ℕ) → Item
 
 -- bytes 00, and the prefix 00 00 01 before these bytes
-abbrev pub prefixed : ℕ → List ℕ → List ℕ
-prefixed zeros rest = replicate zeros 0 ++ (0 ∷ 0 ∷ 1 ∷ rest)
+abbrev pub with_prefix : ℕ → List ℕ → List ℕ
+with_prefix zeros rest = replicate zeros 0 ++ (0 ∷ 0 ∷ 1 ∷ rest)
 
 -- its bytes
 abbrev pub item_bytes : Item → List ℕ
-item_bytes (Pack zeros rest) = prefixed zeros (186 ∷ rest)
-item_bytes (Packet zeros kind high low content) = prefixed zeros (kind ∷ high ∷ low ∷ content)
+item_bytes (Pack zeros rest) = with_prefix zeros (186 ∷ rest)
+item_bytes (Packet zeros kind high low content) = with_prefix zeros (kind ∷ high ∷ low ∷ content)
 
 -- the number of bytes in front of its prefix
 abbrev pub zeros_of : Item → ℕ

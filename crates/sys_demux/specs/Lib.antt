@@ -1,5 +1,6 @@
 pub mod Contents
 pub mod Items
 pub mod Streams
+pub mod Standard
 pub mod Sound
 pub mod States

@@ -2,7 +2,7 @@
 use Rattle.std.specs.Prelude.{◌≡◌, ℕ, ◌+◌, ◌-◌, ◌*◌, ◌<◌, ◌≤◌, ◌==◌, if◌then◌else◌, true, List, []}
 use Rattle.std.specs.Prelude.{◌∷◌, ◌++◌, length, drop, replicate, min, ◌⊎◌, Option, Some, None}
 use Rattle.sys_demux.specs.Contents.{video_in, from_stuffing, from_stamp, after_bytes}
-use Rattle.sys_demux.specs.Items.{Item, prefixed, item_bytes, zeros_of, choose, is_chosen}
+use Rattle.sys_demux.specs.Items.{Item, with_prefix, item_bytes, zeros_of, choose, is_chosen}
 use Rattle.sys_demux.specs.Items.{chosen_next, chosen_after, IsItem, AreItems, item_video, video_of}
 use Rattle.sys_demux.specs.Items.{bytes_of}
 use Rattle.sys_demux.specs.Streams.{IsFault}
@@ -46,7 +46,7 @@ pub record IsAtZeros (chosen : Option ℕ) (zeros : ℕ) (now : Option ℕ) (par
 pub record IsAtPrefix (start place : ℕ) (rest : List ℕ) (now wanted : Option ℕ) (part kept : List ℕ)
     : Type 0 where
   pub zeros : ℕ
-  pub are : part ≡ prefixed zeros rest
+  pub are : part ≡ with_prefix zeros rest
   pub place_is : place ≡ start + zeros
   pub now_is : now ≡ wanted
   pub none : kept ≡ []
@@ -59,7 +59,7 @@ pub record IsAtHeader (chosen : Option ℕ) (start place : ℕ) (now : Option �
   pub high : ℕ
   pub low : ℕ
   pub front : List ℕ
-  pub are : part ≡ prefixed zeros (kind ∷ high ∷ low ∷ front)
+  pub are : part ≡ with_prefix zeros (kind ∷ high ∷ low ∷ front)
   pub kind_is : 187 ≤ kind
   pub chosen_is : is_chosen (choose chosen kind) kind ≡ true
   pub length_is : length front + left ≡ high * 256 + low
@@ -83,7 +83,7 @@ pub record IsAtRest (chosen : Option ℕ) (start place : ℕ) (now : Option ℕ)
 pub record IsAtEnd (part kept : List ℕ) : Type 0 where
   pub zeros : ℕ
   pub rest : List ℕ
-  pub are : part ≡ prefixed zeros (185 ∷ rest)
+  pub are : part ≡ with_prefix zeros (185 ∷ rest)
   pub none : kept ≡ []
 
 -- a fault that bytes show, whatever follows them

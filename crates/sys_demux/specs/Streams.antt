@@ -2,7 +2,7 @@
 use Rattle.std.specs.Prelude.{◌≡◌, ◌≢◌, ℕ, ◌+◌, ◌*◌, ◌/◌, ◌<◌, ◌≤◌, ◌⊎◌, true, List, ◌∷◌, ◌++◌}
 use Rattle.std.specs.Prelude.{length, replicate, Option, None}
 use Rattle.sys_demux.specs.Contents.{video_in}
-use Rattle.sys_demux.specs.Items.{Item, prefixed, item_bytes, zeros_of, choose, is_chosen}
+use Rattle.sys_demux.specs.Items.{Item, with_prefix, item_bytes, zeros_of, choose, is_chosen}
 use Rattle.sys_demux.specs.Items.{chosen_after, IsItem, AreItems, video_of, bytes_of}
 use Rattle.sys_demux.specs.declared.faults.SystemFault.{SystemFault}
 use Rattle.sys_demux.specs.declared.faults.SystemFault.TheVariants.{NotPack, BadCode, BadPacket}
@@ -17,7 +17,7 @@ pub record AreZeros (tail : List ℕ) : Type 0 where
 pub record IsEndCode (tail : List ℕ) : Type 0 where
   pub zeros : ℕ
   pub rest : List ℕ
-  pub is : tail ≡ prefixed zeros (185 ∷ rest)
+  pub is : tail ≡ with_prefix zeros (185 ∷ rest)
 
 -- what may stand after the last item
 abbrev pub IsEnd : List ℕ → Type 0
@@ -28,7 +28,7 @@ pub record IsNotPack (start : ℕ) (tail : List ℕ) (place : ℕ) : Type 0 wher
   pub zeros : ℕ
   pub mark : ℕ
   pub rest : List ℕ
-  pub is : tail ≡ prefixed zeros (186 ∷ mark ∷ rest)
+  pub is : tail ≡ with_prefix zeros (186 ∷ mark ∷ rest)
   pub other : mark / 16 ≢ 2
   pub place_is : place ≡ start + zeros
 
@@ -47,7 +47,7 @@ pub record IsBadKind (start : ℕ) (tail : List ℕ) (place : ℕ) : Type 0 wher
   pub zeros : ℕ
   pub kind : ℕ
   pub rest : List ℕ
-  pub is : tail ≡ prefixed zeros (kind ∷ rest)
+  pub is : tail ≡ with_prefix zeros (kind ∷ rest)
   pub low : kind < 185
   pub place_is : place ≡ start + zeros
 
@@ -60,7 +60,7 @@ pub record IsBadPacket (chosen : Option ℕ) (start : ℕ) (tail : List ℕ) (pl
   pub low : ℕ
   pub front : List ℕ
   pub rest : List ℕ
-  pub is : tail ≡ prefixed zeros (kind ∷ high ∷ low ∷ (front ++ rest))
+  pub is : tail ≡ with_prefix zeros (kind ∷ high ∷ low ∷ (front ++ rest))
   pub kind_is : 187 ≤ kind
   pub chosen_is : is_chosen (choose chosen kind) kind ≡ true
   pub within : length front ≤ high * 256 + low

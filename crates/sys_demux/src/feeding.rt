@@ -107,7 +107,8 @@ impl Unwrapper {
             ⊎ (fed.video.now ≡ take fed.taken piece.now)) }
         ensures count { IfOk result (λ fed. self.new.fed ≡ self.old.fed + fed.taken) }
         ensures next { (seen video : List ℕ) → WasFed self.old seen video →
-            IfOk result (λ fed. WasFed self.new (seen ++ take fed.taken piece.now) (video ++ fed.video.now)) }
+            IfOk result (λ fed.
+            WasFed self.new (seen ++ take fed.taken piece.now) (video ++ fed.video.now)) }
         ensures fault { (seen video : List ℕ) → WasFed self.old seen video →
             IfErr result (λ fault. (more : List ℕ) → IsRefused (seen ++ piece.now ++ more) fault) }
         ensures shown { (seen video : List ℕ) → WasFed self.old seen video → IfErr result IsShown }

@@ -39,7 +39,8 @@ fn after_stamp(byte: u8, left: u16) -> Option<Header>
     ensures { MatchOption result ((rest : List ℕ) → length rest ≡ left →
         from_stamp (byte ∷ rest) ≡ None)
         (λ next. (least_rest next ≤ left)
-        × ((rest : List ℕ) → length rest ≡ left → from_stamp (byte ∷ rest) ≡ video_from next rest)) }
+        × ((rest : List ℕ) → length rest ≡ left →
+        from_stamp (byte ∷ rest) ≡ video_from next rest)) }
 {
     match stamp_rest(byte) {
         Some(more) if u16::from(more) <= left => Some(Header::Rest(more)),
@@ -70,7 +71,8 @@ fn after_stuffing(count: u8, byte: u8, left: u16) -> Option<Header>
     ensures { MatchOption result ((rest : List ℕ) → length rest ≡ left →
         video_from (Header.Stuffing count) (byte ∷ rest) ≡ None)
         (λ next. (least_rest next ≤ left)
-        × ((rest : List ℕ) → length rest ≡ left → video_from (Header.Stuffing count) (byte ∷ rest) ≡ video_from next rest)) }
+        × ((rest : List ℕ) → length rest ≡ left →
+        video_from (Header.Stuffing count) (byte ∷ rest) ≡ video_from next rest)) }
 {
     if byte != 0xff || count >= 16 {
         return after_size(byte, left);
@@ -89,7 +91,8 @@ pub(crate) fn header_next(header: Header, byte: u8, left: u16) -> Option<Header>
     ensures { MatchOption result ((rest : List ℕ) → length rest ≡ left →
         video_from header (byte ∷ rest) ≡ None)
         (λ next. (least_rest next ≤ left)
-        × ((rest : List ℕ) → length rest ≡ left → video_from header (byte ∷ rest) ≡ video_from next rest)) }
+        × ((rest : List ℕ) → length rest ≡ left →
+        video_from header (byte ∷ rest) ≡ video_from next rest)) }
 {
     match header {
         Header::Stuffing(count) => after_stuffing(count, byte, left),

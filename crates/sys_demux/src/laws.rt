@@ -1,9 +1,50 @@
-ghost use Rattle.std.specs.Prelude.{◌≡◌, List, ◌++◌, ℕ};
+ghost use Rattle.std.specs.Prelude.{◌≡◌, ◌≢◌, ◌↔◌, ◌⊎◌, ◌+◌, ◌/◌, ◌<◌, ◌∷◌, ◌++◌, ℕ, List};
+ghost use Rattle.std.specs.Prelude.{length, None, Some};
+ghost use Rattle.sys_demux.specs.Contents.{video_in};
+ghost use Rattle.sys_demux.specs.Standard.{AreElements, Element, HasHeader, IsStreamEnd};
+ghost use Rattle.sys_demux.specs.Standard.{first_stream, first_video, packet_bytes, stream_bytes};
+ghost use Rattle.sys_demux.specs.Standard.{video_kind, with_code};
 ghost use Rattle.sys_demux.specs.Streams.{IsSystem, IsRefused};
 ghost use Rattle.sys_demux.specs.States.{WasFed};
 ghost use Rattle.sys_demux.specs.declared.faults.SystemFault.{SystemFault};
 
 use crate::unwrapper::Unwrapper;
+
+/// A stream as a multiplexer writes it in the fields of ISO/IEC 11172-1 is read as these fields
+/// say: packs with any clock reference and rate, packets of video with stuffing, a buffer's size
+/// and time stamps or without, and packets of every other kind, in any order. Its video is that of
+/// the first stream of video.
+pub fn law_standard_stream()
+    ensures { (elements : List Element) (tail : List ℕ) → AreElements elements → IsStreamEnd tail →
+        IsSystem (stream_bytes elements ++ tail) (first_video elements) }
+{}
+
+/// The content of a packet of video is read exactly where it begins with a header as ISO/IEC
+/// 11172-1 has it: at most 16 bytes of stuffing, a buffer's size or none, and time stamps or the
+/// byte 0F.
+pub fn law_packet_header()
+    ensures { (content video : List ℕ) → (video_in content ≡ Some video) ↔ HasHeader content video }
+{}
+
+/// What is refused after such a stream: a pack header whose first four bits aren't 0010, a packet
+/// of the first stream of video whose content has no header, and a code below B9; each with the
+/// place of its prefix.
+pub fn law_standard_refusals()
+    ensures pack { (elements : List Element) (front mark : ℕ) (rest : List ℕ) →
+        AreElements elements → mark / 16 ≢ 2 →
+        IsRefused (stream_bytes elements ++ with_code front 0xba (mark ∷ rest))
+        (SystemFault.NotPack (length (stream_bytes elements) + front)) }
+    ensures packet { (elements : List Element) (front stream : ℕ) (content : List ℕ) →
+        AreElements elements → stream < 16 →
+        ((first_stream elements ≡ None) ⊎ (first_stream elements ≡ Some stream)) →
+        ((video : List ℕ) → HasHeader content video → ⊥) →
+        IsRefused (stream_bytes elements ++ packet_bytes front (video_kind stream) content)
+        (SystemFault.BadPacket (length (stream_bytes elements) + front)) }
+    ensures code { (elements : List Element) (front kind : ℕ) (rest : List ℕ) →
+        AreElements elements → kind < 0xb9 →
+        IsRefused (stream_bytes elements ++ with_code front kind rest)
+        (SystemFault.BadCode (length (stream_bytes elements) + front)) }
+{}
 
 /// Bytes are read in one way: a system stream has one list of items and one video, bytes that are
 /// refused have one fault, and no bytes are both.

@@ -11,7 +11,10 @@ mod unwrapper;
 
 pub use faults::SystemFault;
 pub use feeding::Fed;
-pub use laws::{law_one_reading, law_video_begins};
+pub use laws::{
+    law_one_reading, law_packet_header, law_standard_refusals, law_standard_stream,
+    law_video_begins,
+};
 pub use unwrapper::Unwrapper;
 
 #[cfg(test)]

@@ -38,7 +38,8 @@ pub(crate) fn zeros_next(zeros: u8, byte: u8, at: u64) -> Place
     ensures sound { IsTrue (is_sound result) }
     ensures next { (chosen now : Option ℕ) (start : ℕ) (part kept : List ℕ) →
         IsAtZeros chosen zeros now part kept →
-        at ≡ start + length part → IsPart chosen start (at - 2) now (part ++ byte ∷ []) kept result }
+        at ≡ start + length part →
+        IsPart chosen start (at - 2) now (part ++ byte ∷ []) kept result }
 {
     match byte {
         0 => Place::Zeros((zeros.min(1)) + 1),
@@ -115,7 +116,8 @@ fn is_chosen(chosen: Option<u8>, kind: u8) -> bool
 pub(crate) fn length_next(chosen: Option<u8>, kind: u8, high: u8, low: u8, item: u64) -> Place
     ensures sound { IsTrue (is_sound result) }
     ensures next { (before : Option ℕ) (start : ℕ) (part kept : List ℕ) →
-        IsAtPrefix start item (kind ∷ high ∷ []) chosen (choose before kind) part kept → 187 ≤ kind →
+        IsAtPrefix start item (kind ∷ high ∷ []) chosen (choose before kind) part kept →
+        187 ≤ kind →
         LeadsTo before start item chosen (part ++ low ∷ []) kept result }
 {
     let length = u16::from(high) * 256 + u16::from(low);

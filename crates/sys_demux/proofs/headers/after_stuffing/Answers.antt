@@ -4,7 +4,8 @@ use Rattle.sys_demux.specs.Sound.{least_rest}
 use Rattle.sys_demux.specs.States.{video_from}
 use Rattle.sys_demux.proofs.ContentSteps.{stuffing_ends, says_same}
 use Rattle.sys_demux.proofs.headers.after_stuffing.Goals as goal
-use Rattle.sys_demux.proofs.headers.after_stuffing.Goals.{then-byte-ne255-via-then-byte-ne255, then-byte-ne255-via-else-byte-ne255+then-count-ge16}
+use Rattle.sys_demux.proofs.headers.after_stuffing.Goals.{then-byte-ne255-via-then-byte-ne255}
+use Rattle.sys_demux.proofs.headers.after_stuffing.Goals.{then-byte-ne255-via-else-byte-ne255+then-count-ge16}
 
 pub returns-then-byte-ne255 : goal.returns-then-byte-ne255
 returns-then-byte-ne255 c =

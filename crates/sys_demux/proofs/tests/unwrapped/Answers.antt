@@ -1,5 +1,7 @@
-use Rattle.std.proofs.Common.{◌≡◌, ◌≤◌, ◌+◌, ◌-◌, ◌++◌, [], ℕ, List, length, take, drop, refl, sym, ap, subst, ◌∙◌, arith, rules}
-use Rattle.std.proofs.lemmas.List.{append_assoc, append-nil, take-take, take-append-drop, length-take, length-drop, take_rest, nil_from_length}
+use Rattle.std.proofs.Common.{◌≡◌, ◌≤◌, ◌+◌, ◌-◌, ◌++◌, [], ℕ, List, length, take, drop, refl, sym}
+use Rattle.std.proofs.Common.{ap, subst, ◌∙◌, arith, rules}
+use Rattle.std.proofs.lemmas.List.{append_assoc, append-nil, take-take, take-append-drop}
+use Rattle.std.proofs.lemmas.List.{length-take, length-drop, take_rest, nil_from_length}
 use Rattle.std.specs.Prelude.{MatchResult}
 use Rattle.std.proofs.lemmas.Bool.{eqb-true}
 use Rattle.sys_demux.specs.Streams.{IsSystem, IsRefused}

@@ -1,10 +1,12 @@
-use Rattle.std.proofs.Common.{◌≡◌, ◌-◌, List, [], ◌++◌, ℕ, length, take, drop, get_or, Some, slice_get, arith, sym, ap, ◌∙◌}
+use Rattle.std.proofs.Common.{◌≡◌, ◌-◌, List, [], ◌++◌, ℕ, length, take, drop, get_or, Some}
+use Rattle.std.proofs.Common.{slice_get, arith, sym, ap, ◌∙◌}
 use Rattle.film_frames.specs.declared.pieces.Piece.TheVariants.{Report, Frame}
 use Rattle.film_frames.specs.Pieces.{octets_in}
 use Rattle.film_frames.specs.Runs.{payload, run_pieces, pieces_in}
 use Rattle.film_frames.specs.Tracks.{begin_of}
 use Rattle.film_frames.proofs.RunLemmas.{count_ended-is, blocks_from-count}
-use Rattle.film_frames.proofs.NextLemmas.{count_ended-within, ends-boundary, frame-part, is-in, report-rest, rest-next}
+use Rattle.film_frames.proofs.NextLemmas.{count_ended-within, ends-boundary, frame-part, is-in}
+use Rattle.film_frames.proofs.NextLemmas.{report-rest, rest-next}
 use Rattle.film_frames.proofs.frames.FramesTrack.part.Goals as goal
 
 pub place-requires : goal.place-requires

@@ -1,4 +1,5 @@
-use Rattle.std.proofs.Common.{◌≡◌, ◌≤◌, ◌-◌, ◌++◌, ◌∷◌, ◌==◌, [], ℕ, List, cond, drop, take, length, get_or, sym, subst, ◌∙◌, arith, append_assoc}
+use Rattle.std.proofs.Common.{◌≡◌, ◌≤◌, ◌-◌, ◌++◌, ◌∷◌, ◌==◌, [], ℕ, List, cond, drop, take, length}
+use Rattle.std.proofs.Common.{get_or, sym, subst, ◌∙◌, arith, append_assoc}
 use Rattle.std.proofs.lemmas.List.{append-nil, length-append, length-take-le}
 use Rattle.sys_demux.specs.Streams.{IsRefused}
 use Rattle.sys_demux.specs.States.{IsReached, LeadsTo}

@@ -3,11 +3,13 @@ use Rattle.std.proofs.lemmas.List.{length-append}
 use Rattle.sys_demux.specs.Items.{choose}
 use Rattle.sys_demux.specs.Sound.{is_sound}
 use Rattle.sys_demux.specs.States.{IsReached, IsAtHeader}
-use Rattle.sys_demux.specs.declared.places.Place.TheVariants.{Zeros, Kind, Mark, High, Low, InHeader}
+use Rattle.sys_demux.specs.declared.places.Place.TheVariants.{Zeros, Kind, Mark, High, Low}
+use Rattle.sys_demux.specs.declared.places.Place.TheVariants.{InHeader}
 use Rattle.sys_demux.proofs.Parts.{high_more}
 use Rattle.sys_demux.proofs.Reached.{step_byte, moved, sound_header}
 use Rattle.sys_demux.proofs.unwrapper.Unwrapper.take.Goals as goal
-use Rattle.sys_demux.proofs.unwrapper.Unwrapper.take.Goals.{in-Zeros, in-Kind, in-Mark, in-High, in-Low, in-InHeader}
+use Rattle.sys_demux.proofs.unwrapper.Unwrapper.take.Goals.{in-Zeros, in-Kind, in-Mark, in-High}
+use Rattle.sys_demux.proofs.unwrapper.Unwrapper.take.Goals.{in-Low, in-InHeader}
 
 pub returns-clause-next : goal.returns-clause-next
 returns-clause-next c = λ seen video was.

@@ -1,0 +1,55 @@
+-- Where the reports of a run stand.
+use Rattle.std.proofs.Common.{◌≡◌, ℕ, ◌+◌, ◌-◌, ◌<◌, ◌≤◌, Bool, true, false, cond, List, [], ◌∷◌}
+use Rattle.std.proofs.Common.{◌++◌, map}
+use Rattle.std.proofs.Common.{append_assoc, length, take, drop, refl, sym, ap, subst, ◌∙◌, arith}
+use Rattle.mpeg_scan.specs.declared.units.Unit.{Unit as PictureUnit}
+use Rattle.mpeg_scan.specs.declared.films.Film.{Film}
+use Rattle.mpeg_scan.specs.Layout.{AreLaid}
+use Rattle.rtp_pack.specs.declared.payloads.Packet.{Packet}
+use Rattle.rtp_pack.specs.declared.reports.Identity.{Identity}
+use Rattle.rtp_pack.specs.Packets.{AreInOrder, DoCover, IsLaid, next_place, unit_packets}
+use Rattle.rtp_pack.specs.Packets.{unit_starts}
+use Rattle.rtp_pack.proofs.UnitLemmas.{packets-cover}
+use Rattle.film_frames.specs.declared.pieces.Piece.{Piece}
+use Rattle.film_frames.specs.declared.pieces.Piece.TheVariants.{Report, Frame}
+use Rattle.film_frames.specs.Laws.{DoReportsStand}
+use Rattle.film_frames.specs.Pieces.{pieces_of, unit_pieces}
+use Rattle.film_frames.specs.Runs.{pieces_in, run_of}
+use Rattle.film_frames.proofs.PieceLemmas.{pieces-cons}
+use Rattle.film_frames.proofs.FilmLemmas.{laid-film}
+use Rattle.film_frames.proofs.BackLemmas.{laid-drop, laid-take}
+
+-- frames after a unit's first
+later-stand : (unit : PictureUnit) (packets : List Packet) (at to : ℕ) (rest : List Piece) → DoCover at packets to → unit.from < at → DoReportsStand rest → DoReportsStand (map (λ p. Frame unit p) packets ++ rest)
+later-stand unit [] at to rest cover past stand = stand
+later-stand unit (p ∷ packets) at to rest cover past stand =
+    ((λ first. absurd (omega (arith, first, cover.0, past))), later-stand unit packets p.to to rest cover.1.1.1 (omega (arith, past, cover.1.0)) stand)
+
+-- a unit's report and frames
+frames-stand : (unit : PictureUnit) (starts : Bool) (packets : List Packet) (rest : List Piece) → unit.starts_group ≡ starts → unit.from < unit.to → DoCover unit.from packets unit.to → DoReportsStand rest →
+    DoReportsStand ((cond starts (Report unit ∷ []) [] ++ map (λ p. Frame unit p) packets) ++ rest)
+frames-stand unit starts [] rest is some cover stand = absurd (omega (arith, cover, some))
+frames-stand unit true (p ∷ packets) rest is some cover stand =
+    ((refl, (cover.0, is)), later-stand unit packets p.to unit.to rest cover.1.1.1 cover.1.0 stand)
+frames-stand unit false (p ∷ packets) rest is some cover stand =
+    ((λ first. is), later-stand unit packets p.to unit.to rest cover.1.1.1 cover.1.0 stand)
+
+order-le : (starts : List ℕ) (at to : ℕ) → AreInOrder at starts to → at ≤ to
+order-le [] at to order = omega (arith, order)
+order-le (s ∷ starts) at to order = omega (arith, order.1.0, order-le starts (next_place to starts) to order.1.1)
+
+unit-some : (starts : List ℕ) (unit : PictureUnit) → IsLaid starts unit → unit.from < unit.to
+unit-some starts unit laid = omega (arith, laid.head, order-le (unit_starts starts unit) unit.head_end unit.to laid.in_order)
+
+units-stand : (starts : List ℕ) (end : ℕ) (units : List PictureUnit) → AreLaid end starts units → DoReportsStand (pieces_of starts units)
+units-stand starts end [] laid = tt
+units-stand starts end (unit ∷ units) laid =
+    subst (λ (l : List Piece). DoReportsStand l) (sym (pieces-cons starts unit units))
+    (frames-stand unit unit.starts_group (unit_packets starts unit) (pieces_of starts units) refl (unit-some starts unit laid.0.1) (packets-cover starts unit laid.0.1) (units-stand starts end units laid.1))
+
+pub reports-stand : (film : Film) (first end : ℕ) (identity : Identity) → DoReportsStand (pieces_in (run_of film first end identity))
+reports-stand film first end identity =
+    let bytes = length film.bytes.items in
+    let starts = film.slice_starts.items in
+    units-stand starts bytes (take (end - first) (drop first film.units.items))
+    (laid-take bytes starts (drop first film.units.items) (end - first) (laid-drop bytes starts film.units.items first (laid-film film)))

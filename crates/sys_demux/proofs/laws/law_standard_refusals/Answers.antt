@@ -1,0 +1,5 @@
+use Rattle.sys_demux.proofs.StandardFaults.{code_refused, pack_refused, packet_refused}
+use Rattle.sys_demux.proofs.laws.law_standard_refusals.Goals as goal
+
+pub returns : goal.returns
+returns c = record { pack = pack_refused; packet = packet_refused; code = code_refused }
