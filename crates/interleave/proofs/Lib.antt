@@ -4,4 +4,5 @@ pub mod More
 pub mod Skips
 pub mod Streams
 pub mod Unique
+pub mod Fronts
 pub mod Exists

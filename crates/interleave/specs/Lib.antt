@@ -4,3 +4,4 @@ pub mod Pieces
 pub mod Known
 pub mod Buffer
 pub mod Streams
+pub mod Laws

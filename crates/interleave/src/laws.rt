@@ -1,4 +1,6 @@
-ghost use Rattle.std.specs.Prelude.{◌≡◌, ℕ, ◌++◌, List, drop, Ok, Result};
+ghost use Rattle.std.specs.Prelude.{◌≡◌, ℕ, ◌+◌, ◌/◌, ◌%◌, ◌<◌, ◌++◌, ◌∷◌, All, List, length};
+ghost use Rattle.std.specs.Prelude.{drop, Ok, Result};
+ghost use Rattle.interleave.specs.Laws.{BeginsOtherwise, IsCrOrLf};
 ghost use Rattle.interleave.specs.Streams.{AreCut, DoAgree, HasStream, IsStream, TellsNone};
 ghost use Rattle.interleave.specs.Streams.{told_length, told_pieces};
 ghost use Rattle.interleave.specs.declared.pieces.DemuxFault.{DemuxFault};
@@ -76,4 +78,20 @@ pub fn law_one_stream()
     ensures some { (heard : List ℕ) → HasStream heard }
     ensures one { (heard : List ℕ) (one other : List (List ℕ)) (rest end : List ℕ)
         → IsStream heard one rest → IsStream heard other end → (one ≡ other) × (rest ≡ end) }
+{}
+
+/// Before a request or a block, bytes CR and LF are skipped, all that stand there and no others:
+/// lines end with them, and empty lines there mean nothing (RFC 2326 section 4, RFC 2068 section
+/// 4.1).
+pub fn law_line_ends()
+    ensures { (ends next : List ℕ) → 0 < length ends → All IsCrOrLf ends → BeginsOtherwise next →
+        IsFirst (ends ++ next) (Ok (Step.Skip (length ends))) }
+{}
+
+/// An interleaved block is `$`, a channel, the number of its bytes of data in two bytes, the high
+/// one first, and the data (RFC 2326 section 10.12); whatever comes later.
+pub fn law_block()
+    ensures { (channel : ℕ) (content later : List ℕ) → length content < 65536 →
+        IsFirst (36 ∷ channel ∷ (length content / 256) ∷ (length content % 256) ∷
+        (content ++ later)) (Ok (Step.Block channel (4 + length content))) }
 {}

@@ -12,3 +12,7 @@ pub mod Bounds
 pub mod OneLines
 pub mod StatusTexts
 pub mod ReadBack
+pub mod BodyLengths
+pub mod WordTexts
+pub mod SpelledTexts
+pub mod EndedLines

@@ -1,6 +1,5 @@
 -- A reply that was written is read back.
-use Rattle.std.proofs.Common.{◌≡◌, ◌≢◌, ℕ, ◌+◌, ◌-◌, ◌/◌, ◌%◌, ◌^◌, ◌<◌, ◌≤◌, ◌&&◌, ◌||◌, ◌==◌, Bool, true, false, cond, not, nat_lt, List, [], ◌∷◌, ◌++◌, All, codes, decimal, map, flat_map, length, get_or, take, drop, Option, Some, None, refl, sym, ap, subst, ◌∙◌, arith, inl, inr, ne_eqb, eq-eqb, rules}
-use Rattle.std.specs.Prelude.{IfSome}
+use Rattle.std.proofs.Common.{◌≡◌, ◌≢◌, ℕ, ◌+◌, ◌-◌, ◌/◌, ◌%◌, ◌^◌, ◌<◌, ◌≤◌, ◌&&◌, ◌||◌, ◌==◌, true, false, not, nat_lt, List, [], ◌∷◌, ◌++◌, All, codes, decimal, map, flat_map, length, get_or, take, drop, Option, Some, None, refl, sym, ap, subst, ◌∙◌, arith, inl, inr, ne_eqb, eq-eqb, rules}
 use Rattle.std.specs.List.{list_all}
 use Rattle.std.specs.Char.{is_ascii_digit}
 use Rattle.std.specs.Str.{str_eq_ignore_ascii_case}
@@ -8,19 +7,18 @@ use Rattle.std.specs.Str.Parse.{digits_value}
 use Rattle.std.specs.Str.Lines.{lines, strip_carriage_return}
 use Rattle.std.proofs.lemmas.Bool.{cases_Bool, cases_lt, and_parts, and_from, or_cases, both_ways, cond-true, cond-false, eqb-true, lt-ltb}
 use Rattle.std.proofs.lemmas.Bool.Decides.{nat_tests}
-use Rattle.std.proofs.lemmas.List.{append_assoc, append-nil, length-append, take_at, drop_at, get_or_append_left, get_or-append_right}
-use Rattle.std.proofs.lemmas.List.Elements.{All-nil, All-cons, All-head, All-tail, All-append, All-from_get_or}
-use Rattle.std.proofs.lemmas.List.Folds.{list_all-append, list_all_at}
+use Rattle.std.proofs.lemmas.List.{append_assoc, length-append, take_at, drop_at, get_or_append_left, get_or-append_right}
+use Rattle.std.proofs.lemmas.List.Elements.{All-nil, All-cons, All-head, All-tail, All-from_get_or}
+use Rattle.std.proofs.lemmas.List.Folds.{list_all_at}
 use Rattle.std.proofs.lemmas.Fmt.{decimal_digit, decimal_step, decimal_nonempty, digits_decimal, digits_value-decimal}
 use Rattle.std.proofs.lemmas.Str.Parse.{IsNumeralModel, numerals_by_value}
 use Rattle.vod_base.specs.Lines.{IsLine}
-use Rattle.vod_base.specs.Blanks.{trimmed}
 use Rattle.interleave.specs.Pieces.{IsRequestLength}
 use Rattle.rtsp_text.specs.Lines.{is_one_line, before_empty, first_line, header_lines, IsSplit}
 use Rattle.rtsp_text.specs.Grammar.{is_token, is_token_byte, IsCut}
-use Rattle.rtsp_text.specs.Fields.{header_value, first_value, value_in}
+use Rattle.rtsp_text.specs.Fields.{first_value}
 use Rattle.rtsp_text.specs.Replies.{is_code, reason, Field, field_line, sequence_line, status_line, reply_front, reply_text, all_fields, IsPlain, value_named, IsReadBack}
-use Rattle.rtsp_text.specs.StatusLines.{IsCode, IsStatusLine, IsReply}
+use Rattle.rtsp_text.specs.StatusLines.{IsCode, IsStatusLine}
 use Rattle.rtsp_text.proofs.Bounds.{lengths_of}
 use Rattle.rtsp_text.proofs.Cuts.{all_other}
 use Rattle.rtsp_text.proofs.Heads.{HasWalked, walk_first, walk_more, walk_end}
@@ -29,16 +27,16 @@ use Rattle.rtsp_text.proofs.Values.{value_some, value_other, first_value-nil, fi
 use Rattle.rtsp_text.proofs.Walks.{lines-at, while_yes, while_no}
 
 -- a text that is a line by itself
-record IsLineText (text : List ℕ) : Type 0 where
-  some : 0 < length text
-  one_line : is_one_line text ≡ true
+pub record IsLineText (text : List ℕ) : Type 0 where
+  pub some : 0 < length text
+  pub one_line : is_one_line text ≡ true
 
 -- each text as a line
-abbrev flat : List (List ℕ) → List ℕ
+abbrev pub flat : List (List ℕ) → List ℕ
 flat [] = []
 flat (t ∷ ts) = (t ++ codes "\r\n") ++ flat ts
 
-other_byte : (t : List ℕ) (k : ℕ) → is_one_line t ≡ true → k < length t → get_or t k 0 ≢ 10
+pub other_byte : (t : List ℕ) (k : ℕ) → is_one_line t ≡ true → k < length t → get_or t k 0 ≢ 10
 other_byte t k all inside = λ feed.
     let P : ℕ → Type 0 = λ n. not (n == 10) ≡ false in
     let fails : not (get_or t k 0 == 10) ≡ false = subst P (sym feed) refl in
@@ -48,7 +46,7 @@ no_feed : (t : List ℕ) → is_one_line t ≡ true → All (λ b. (b == 10) ≡
 no_feed t all = All-from_get_or (λ b. (b == 10) ≡ false) t 0 (λ k inside. ne_eqb (get_or t k 0) 10 (other_byte t k all inside))
 
 -- the line that stands after these bytes
-line_here : (a t rest : List ℕ) → is_one_line t ≡ true → IsLine (a ++ (t ++ 13 ∷ 10 ∷ rest)) (length a) (length a + length t) (length a + length t + 2)
+pub line_here : (a t rest : List ℕ) → is_one_line t ≡ true → IsLine (a ++ (t ++ 13 ∷ 10 ∷ rest)) (length a) (length a + length t) (length a + length t + 2)
 line_here a t rest one =
     let w = a ++ (t ++ 13 ∷ 10 ∷ rest) in
     let size : length w ≡ length a + (length t + (length rest + 2)) =
@@ -123,23 +121,23 @@ before_empty-all (t ∷ ts) rest all =
     ∙ ap (λ l. t ∷ l) (before_empty-all ts rest (All-tail IsLineText t ts all))
 
 -- the text of a field's line
-abbrev text_of : Field → List ℕ
+abbrev pub text_of : Field → List ℕ
 text_of field = field.name ++ codes ": " ++ field.value
 
-token_other : (c : ℕ) → is_token_byte c ≡ false → (name : List ℕ) → is_token name ≡ true → list_all (λ b. not (b == c)) name ≡ true
+pub token_other : (c : ℕ) → is_token_byte c ≡ false → (name : List ℕ) → is_token name ≡ true → list_all (λ b. not (b == c)) name ≡ true
 token_other c fails name token = all_other is_token_byte c fails name (and_parts (nat_lt 0 (length name)) (list_all is_token_byte name) token).1
 
-text_line : (field : Field) → IsPlain field → IsLineText (text_of field)
+pub text_line : (field : Field) → IsPlain field → IsLineText (text_of field)
 text_line field plain = record {
   some = omega (arith, length-append (field.name ++ codes ": ") field.value, length-append field.name (codes ": "));
   one_line = one_line-append (field.name ++ codes ": ") field.value (one_line-append field.name (codes ": ") (token_other 10 refl field.name plain.name_is) refl) plain.one_line;
 }
 
-texts_lines : (fields : List Field) → All IsPlain fields → All IsLineText (map text_of fields)
+pub texts_lines : (fields : List Field) → All IsPlain fields → All IsLineText (map text_of fields)
 texts_lines [] all = All-nil IsLineText
 texts_lines (f ∷ fs) all = All-cons IsLineText (text_of f) (map text_of fs) (text_line f (All-head IsPlain f fs all)) (texts_lines fs (All-tail IsPlain f fs all))
 
-flat-fields : (fields : List Field) → flat (map text_of fields) ≡ flat_map field_line fields
+pub flat-fields : (fields : List Field) → flat (map text_of fields) ≡ flat_map field_line fields
 flat-fields [] = refl
 flat-fields (f ∷ fs) = ap (λ l. field_line f ++ l) (flat-fields fs)
 
@@ -147,7 +145,7 @@ flat-fields (f ∷ fs) = ap (λ l. field_line f ++ l) (flat-fields fs)
 field_cut : (field : Field) → IsPlain field → IsCut 58 (text_of field) field.name (32 ∷ field.value)
 field_cut field plain = record { parts = append_assoc field.name (codes ": ") field.value; first = token_other 58 refl field.name plain.name_is }
 
-values_named : (name : List ℕ) (fields : List Field) → All IsPlain fields → first_value name (map text_of fields) ≡ value_named name fields
+pub values_named : (name : List ℕ) (fields : List Field) → All IsPlain fields → first_value name (map text_of fields) ≡ value_named name fields
 unfolding value_named
 values_named name [] all = first_value-nil name [] refl
 values_named name (f ∷ fs) all =
@@ -164,12 +162,12 @@ values_named name (f ∷ fs) all =
     ]
 
 -- what a code's status line needs
-record IsStatus (code : ℕ) : Type 0 where
-  three : 100 ≤ code
-  small : code < 1000
-  some : 0 < length (reason code)
-  no_space : get_or (reason code) 0 0 ≢ 32
-  one_line : is_one_line (reason code) ≡ true
+pub record IsStatus (code : ℕ) : Type 0 where
+  pub three : 100 ≤ code
+  pub small : code < 1000
+  pub some : 0 < length (reason code)
+  pub no_space : get_or (reason code) 0 0 ≢ 32
+  pub one_line : is_one_line (reason code) ≡ true
 
 own : IsNumeralModel (λ ds. list_all is_ascii_digit ds ≡ true) (digits_value 10)
 own = numerals_by_value (λ ds. list_all is_ascii_digit ds ≡ true) (search rules)
@@ -318,15 +316,15 @@ status_551 = record {
 known : (code n : ℕ) → IsStatus n → (code == n) ≡ true → IsStatus code
 known code n status is = subst IsStatus (sym (eqb-true code n is)) status
 
-status_of : (code : ℕ) → is_code code ≡ true → IsStatus code
+pub status_of : (code : ℕ) → is_code code ≡ true → IsStatus code
 status_of code is =
     elim (or_cases (((((((((((((code == 200) || (code == 400)) || (code == 404)) || (code == 451)) || (code == 453)) || (code == 454)) || (code == 455)) || (code == 457)) || (code == 461)) || (code == 500)) || (code == 501)) || (code == 503)) || (code == 505)) (code == 551) is) [ inl h13 ↦ elim (or_cases ((((((((((((code == 200) || (code == 400)) || (code == 404)) || (code == 451)) || (code == 453)) || (code == 454)) || (code == 455)) || (code == 457)) || (code == 461)) || (code == 500)) || (code == 501)) || (code == 503)) (code == 505) h13) [ inl h12 ↦ elim (or_cases (((((((((((code == 200) || (code == 400)) || (code == 404)) || (code == 451)) || (code == 453)) || (code == 454)) || (code == 455)) || (code == 457)) || (code == 461)) || (code == 500)) || (code == 501)) (code == 503) h12) [ inl h11 ↦ elim (or_cases ((((((((((code == 200) || (code == 400)) || (code == 404)) || (code == 451)) || (code == 453)) || (code == 454)) || (code == 455)) || (code == 457)) || (code == 461)) || (code == 500)) (code == 501) h11) [ inl h10 ↦ elim (or_cases (((((((((code == 200) || (code == 400)) || (code == 404)) || (code == 451)) || (code == 453)) || (code == 454)) || (code == 455)) || (code == 457)) || (code == 461)) (code == 500) h10) [ inl h9 ↦ elim (or_cases ((((((((code == 200) || (code == 400)) || (code == 404)) || (code == 451)) || (code == 453)) || (code == 454)) || (code == 455)) || (code == 457)) (code == 461) h9) [ inl h8 ↦ elim (or_cases (((((((code == 200) || (code == 400)) || (code == 404)) || (code == 451)) || (code == 453)) || (code == 454)) || (code == 455)) (code == 457) h8) [ inl h7 ↦ elim (or_cases ((((((code == 200) || (code == 400)) || (code == 404)) || (code == 451)) || (code == 453)) || (code == 454)) (code == 455) h7) [ inl h6 ↦ elim (or_cases (((((code == 200) || (code == 400)) || (code == 404)) || (code == 451)) || (code == 453)) (code == 454) h6) [ inl h5 ↦ elim (or_cases ((((code == 200) || (code == 400)) || (code == 404)) || (code == 451)) (code == 453) h5) [ inl h4 ↦ elim (or_cases (((code == 200) || (code == 400)) || (code == 404)) (code == 451) h4) [ inl h3 ↦ elim (or_cases ((code == 200) || (code == 400)) (code == 404) h3) [ inl h2 ↦ elim (or_cases (code == 200) (code == 400) h2) [ inl h1 ↦ known code 200 status_200 h1 | inr e1 ↦ known code 400 status_400 e1 ] | inr e2 ↦ known code 404 status_404 e2 ] | inr e3 ↦ known code 451 status_451 e3 ] | inr e4 ↦ known code 453 status_453 e4 ] | inr e5 ↦ known code 454 status_454 e5 ] | inr e6 ↦ known code 455 status_455 e6 ] | inr e7 ↦ known code 457 status_457 e7 ] | inr e8 ↦ known code 461 status_461 e8 ] | inr e9 ↦ known code 500 status_500 e9 ] | inr e10 ↦ known code 501 status_501 e10 ] | inr e11 ↦ known code 503 status_503 e11 ] | inr e12 ↦ known code 505 status_505 e12 ] | inr e13 ↦ known code 551 status_551 e13 ]
 
 -- the text of the status line
-abbrev status_text : ℕ → List ℕ
+abbrev pub status_text : ℕ → List ℕ
 status_text code = codes "RTSP/1.0 " ++ decimal code ++ codes " " ++ reason code
 
-status_text-line : (code : ℕ) → IsStatus code → IsLineText (status_text code)
+pub status_text-line : (code : ℕ) → IsStatus code → IsLineText (status_text code)
 status_text-line code status = record {
   some = omega (arith, length-append (codes "RTSP/1.0 " ++ decimal code ++ codes " ") (reason code), status.some);
   one_line = one_line-append (codes "RTSP/1.0 " ++ decimal code ++ codes " ") (reason code)
@@ -343,10 +341,10 @@ status_text-status code status = record {
 }
 
 -- lines up to an empty one are a head
-record IsCore (s : List ℕ) (ts : List (List ℕ)) (body : List ℕ) : Type 0 where
-  split : IsSplit ((flat (s ∷ ts) ++ codes "\r\n") ++ body) (flat (s ∷ ts) ++ codes "\r\n") body
-  first : first_line ((flat (s ∷ ts) ++ codes "\r\n") ++ body) ≡ s
-  headers : header_lines (flat (s ∷ ts) ++ codes "\r\n") ≡ ts
+pub record IsCore (s : List ℕ) (ts : List (List ℕ)) (body : List ℕ) : Type 0 where
+  pub split : IsSplit ((flat (s ∷ ts) ++ codes "\r\n") ++ body) (flat (s ∷ ts) ++ codes "\r\n") body
+  pub first : first_line ((flat (s ∷ ts) ++ codes "\r\n") ++ body) ≡ s
+  pub headers : header_lines (flat (s ∷ ts) ++ codes "\r\n") ≡ ts
 
 lines-empty : (rest : List ℕ) → lines (codes "\r\n" ++ rest) ≡ [] ∷ lines rest
 lines-empty rest = lines-line [] rest refl
@@ -366,7 +364,7 @@ whole_walked s ts body one all =
     let end = walk_texts (s ++ codes "\r\n") ts (codes "\r\n" ++ body) all start in
     subst (λ n. HasWalked m n) (sym (length-append (s ++ codes "\r\n") (flat ts))) (subst (λ (w : List ℕ). HasWalked w (length (s ++ codes "\r\n") + length (flat ts))) moved end)
 
-core : (s : List ℕ) (ts : List (List ℕ)) (body : List ℕ) → IsLineText s → All IsLineText ts → IsCore s ts body
+pub core : (s : List ℕ) (ts : List (List ℕ)) (body : List ℕ) → IsLineText s → All IsLineText ts → IsCore s ts body
 unfolding first_line header_lines
 core s ts body one all =
     let front = flat (s ∷ ts) in
@@ -392,7 +390,7 @@ core s ts body one all =
     }
 
 -- the front of a reply by its lines
-front_lines : (code : ℕ) (sequence : Option ℕ) (fields : List Field) → reply_front code sequence fields ≡ flat (status_text code ∷ map text_of (all_fields sequence fields))
+pub front_lines : (code : ℕ) (sequence : Option ℕ) (fields : List Field) → reply_front code sequence fields ≡ flat (status_text code ∷ map text_of (all_fields sequence fields))
 unfolding reply_front status_line sequence_line
 front_lines code sequence fields =
     append_assoc (status_line code) (sequence_line sequence) (flat_map field_line fields) ∙ ap (λ l. status_line code ++ l) (all_lines_of sequence)

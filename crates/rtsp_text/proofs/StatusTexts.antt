@@ -1,6 +1,5 @@
 -- A status line, from where it is cut.
-use Rattle.std.proofs.Common.{◌≡◌, ◌≢◌, ℕ, ◌+◌, ◌^◌, ◌<◌, ◌≤◌, ◌&&◌, ◌==◌, true, false, not, nat_lt, List, [], ◌∷◌, ◌++◌, codes, length, get_or, take, drop, Option, Some, None, MatchOption, rules, refl, sym, ap, subst, ◌∙◌, arith, inl, inr, lt-ltb}
-use Rattle.std.specs.Prelude.{IfSome, IsSomeAnd}
+use Rattle.std.proofs.Common.{◌≡◌, ◌≢◌, ℕ, ◌^◌, ◌<◌, ◌&&◌, ◌==◌, true, not, nat_lt, List, ◌∷◌, ◌++◌, codes, length, get_or, take, drop, Some, None, rules, refl, sym, ap, ◌∙◌, arith, inl, inr, lt-ltb}
 use Rattle.std.specs.List.{list_all}
 use Rattle.std.specs.Char.{is_ascii_digit}
 use Rattle.std.specs.Str.Parse.{digits_value}
@@ -8,13 +7,11 @@ use Rattle.std.proofs.lemmas.Bool.{cases_Bool, and_parts, and_from, cond-true, c
 use Rattle.std.proofs.lemmas.List.{take_at, drop_at}
 use Rattle.std.proofs.lemmas.Str.Parse.{IsNumeralModel, numerals_by_value, digits_value_short}
 use Rattle.vod_base.specs.Numbers.{is_decimal, number_of}
-use Rattle.interleave.specs.Pieces.{IsRequestLength}
 use Rattle.interleave.proofs.Unique.{head_once}
 use Rattle.rtsp_text.specs.Grammar.{IsCut}
-use Rattle.rtsp_text.specs.Lines.{first_line, IsSplit}
+use Rattle.rtsp_text.specs.Lines.{first_line}
 use Rattle.rtsp_text.specs.StatusLines.{IsCode, IsStatusLine, IsReply}
 use Rattle.rtsp_text.proofs.Cuts.{cut_once, cut_none, all_other}
-use Rattle.rtsp_text.proofs.Bounds.{lengths_of}
 
 own : IsNumeralModel (λ ds. list_all is_ascii_digit ds ≡ true) (digits_value 10)
 own = numerals_by_value (λ ds. list_all is_ascii_digit ds ≡ true) (search rules)

@@ -4,3 +4,5 @@ pub mod Fields
 pub mod Requests
 pub mod Replies
 pub mod StatusLines
+pub mod Spelled
+pub mod EndedLines

@@ -1,10 +1,16 @@
-ghost use Rattle.std.specs.Prelude.{◌≡◌, ◌^◌, ◌<◌, ℕ, IsTrue, Option, List, All, Ok, length, take};
-ghost use Rattle.std.specs.Prelude.{IfSome};
+ghost use Rattle.std.specs.Prelude.{◌≡◌, ◌<◌, ◌≤◌, ◌++◌, ℕ, IsTrue, Option, List, All, Ok, Err};
+ghost use Rattle.std.specs.Prelude.{codes, length, take};
+ghost use Rattle.interleave.specs.Heads.{IsHead};
 ghost use Rattle.interleave.specs.Pieces.{IsFirst, IsRequestLength};
-ghost use Rattle.rtsp_text.specs.Replies.{is_code, Field, reply_text, all_fields, IsPlain};
-ghost use Rattle.rtsp_text.specs.Replies.{IsReadBack};
+ghost use Rattle.rtsp_text.specs.Fields.{header_value};
+ghost use Rattle.rtsp_text.specs.Replies.{is_code, Field, reply_front, reply_text, all_fields};
+ghost use Rattle.rtsp_text.specs.Replies.{value_named, IsPlain, IsReadBack};
+ghost use Rattle.rtsp_text.specs.Requests.{IsRequest};
+ghost use Rattle.rtsp_text.specs.Spelled.{AreFront, AreRequest, AreShort, GivesLongBody, HasForm};
+ghost use Rattle.rtsp_text.specs.Spelled.{HasGivenLength, Parts, request_head, request_text};
+ghost use Rattle.rtsp_text.specs.EndedLines.{EndedLine, head_bytes, IsEmpty, IsEnded, IsHeader};
 
-use interleave::Step;
+use interleave::{DemuxFault, Step};
 
 /// The bytes of a request that [`interleave::Demux::look`] tells are a whole request by themselves,
 /// as [`crate::read_request`] takes it.
@@ -28,3 +34,59 @@ pub fn law_reply_read(message: &[u8])
 {
     let _read = message.len();
 }
+
+/// A reply that [`crate::Reply`] wrote is a whole message by itself, as [`crate::read_reply`] takes
+/// it, where its head has at most 16,384 bytes, and its body at most 65,536 and the length that its
+/// first Content-Length writes, or none where there is none.
+pub fn law_reply_whole()
+    ensures { (code : ℕ) (sequence : Option ℕ) (fields : List Field) (body : List ℕ) →
+        IsTrue (is_code code) → All IsPlain (all_fields sequence fields) →
+        HasGivenLength (all_fields sequence fields) body →
+        length (reply_front code sequence fields ++ codes "\r\n") ≤ 16384 → length body ≤ 65536 →
+        IsRequestLength (reply_text code sequence fields body)
+        (length (reply_text code sequence fields body)) }
+{}
+
+/// A request that is spelled as RFC 2326 section 6 says, from a method, a URL, header fields and a
+/// body, each line ended by CR LF, is found whole in front of whatever comes later; it is read as a
+/// request of these parts; and each name has the value of the first field of that name.
+pub fn law_request_read()
+    ensures found { (parts : Parts) (sequence : ℕ) (later : List ℕ) → AreRequest parts sequence →
+        AreShort parts → IsFirst (request_text parts ++ later)
+        (Ok (Step.Request (length (request_text parts)))) }
+    ensures whole { (parts : Parts) (sequence : ℕ) → AreRequest parts sequence → AreShort parts →
+        IsRequestLength (request_text parts) (length (request_text parts)) }
+    ensures read { (parts : Parts) (sequence : ℕ) → AreRequest parts sequence →
+        IsRequest (request_text parts) parts.method parts.url sequence (request_head parts)
+        parts.body }
+    ensures values { (parts : Parts) (name : List ℕ) → AreFront parts →
+        header_value (request_head parts) name ≡ value_named name parts.fields }
+{}
+
+/// A request whose head has more than 16,384 bytes is refused for it, and else one whose first
+/// Content-Length writes more than 65,536; whatever comes later.
+pub fn law_request_refused()
+    ensures head { (parts : Parts) (later : List ℕ) → AreFront parts →
+        16384 < length (request_head parts) →
+        IsFirst (request_head parts ++ later) (Err DemuxFault.HeadTooLong) }
+    ensures body { (parts : Parts) (later : List ℕ) → AreFront parts →
+        GivesLongBody parts.fields → length (request_head parts) ≤ 16384 →
+        IsFirst (request_head parts ++ later) (Err DemuxFault.BodyTooLong) }
+{}
+
+/// Whatever is read as a request has the form of one: the lines of its head are a method, a URL and
+/// `RTSP/1.0` with single spaces, then lines of a name, `:` and a value, then an empty line; and
+/// its body is the rest.
+pub fn law_request_form()
+    ensures { (message method url : List ℕ) (sequence : ℕ) (head body : List ℕ) →
+        IsRequest message method url sequence head body → HasForm message method url head body }
+{}
+
+/// A first line, lines that aren't empty, and an empty one are the head of what begins with them,
+/// where each is ended by CR LF or by LF alone; a CR within a line ends none.
+pub fn law_head_found()
+    ensures { (first : EndedLine) (headers : List EndedLine) (last : EndedLine) (later : List ℕ) →
+        IsEnded first → All IsHeader headers → IsEmpty last →
+        IsHead (head_bytes first headers last ++ later)
+        (length (head_bytes first headers last)) }
+{}

@@ -1,4 +1,4 @@
-use Rattle.std.proofs.Common.{ℕ, List, sym, subst, length, rules}
+use Rattle.std.proofs.Common.{ℕ, List, sym, subst}
 use Rattle.rtsp_text.specs.StatusLines.{IsStatusLine}
 use Rattle.rtsp_text.proofs.Bounds.{lengths_of}
 use Rattle.rtsp_text.proofs.StatusTexts.{reply_once}
