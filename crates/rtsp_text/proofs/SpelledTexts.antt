@@ -211,8 +211,7 @@ head_of parts front =
 -- a head that is too long is refused
 pub head_refused : (parts : Parts) (later : List ℕ) → AreFront parts → 16384 < length (request_head parts) → IsFirst (request_head parts ++ later) (Err HeadTooLong)
 head_refused parts later front long =
-    let head = head_of parts front in
-    (
+    let head = head_of parts front in (
       head_begins parts later (word_is parts.method front.method_is),
       omega (arith, long, length-append (request_head parts) later),
       (λ k below. (IsHead-append (request_head parts) later (length (request_head parts)) head).first k (omega (arith, below, long))),
@@ -229,8 +228,7 @@ body_refused parts later front long short =
     (subst (λ m. IsBodyLength (flat (request_line parts ∷ map text_of parts.fields) ++ codes "\r\n") m) given
     (body_length_of (request_line parts) parts.fields (line_text parts front) (plain_fields parts.fields front.fields_are))) in
     let w = request_head parts ++ later in
-    let taken : take (length (request_head parts)) w ≡ request_head parts = take_at (request_head parts) later (length (request_head parts)) refl in
-    (
+    let taken : take (length (request_head parts)) w ≡ request_head parts = take_at (request_head parts) later (length (request_head parts)) refl in (
       head_begins parts later (word_is parts.method front.method_is),
       record {
         head = length (request_head parts);

@@ -92,8 +92,8 @@ pub record IsNamedText (text : List ℕ) : Type 0 where
   pub name_is : IsWord name
   pub value_is : All IsTextByte value
 
--- the form of a request: its head's lines are the request line, header lines, and an empty line; its
--- body is the rest
+-- the form of a request: its head's lines are the request line, header lines, and an empty line;
+-- its body is the rest
 pub record HasForm (message method url head body : List ℕ) : Type 0 where
   pub texts : List (List ℕ)
   pub parts : message ≡ head ++ body
