@@ -4,6 +4,8 @@ ghost use Rattle.std.specs.Prelude.{◌≡◌, ℕ, ◌+◌, ◌*◌, ◌<◌, �
 ghost use Rattle.wire_curve.specs.declared.film.Timing.{Timing};
 ghost use Rattle.wire_curve.specs.FilmCurves.{due, low_at, up_at, total_of};
 ghost use Rattle.wire_curve.specs.Played.{AreUsedBy, AreUsedBefore, played_to};
+ghost use Rattle.wire_curve.specs.declared.film.CurveFault.TheVariants.{BufferTooSmall};
+ghost use Rattle.wire_curve.specs.Refusal.{HasFault, IsAccepted};
 
 /// A law: a picture is used in the slot in whose time its own time begins, where slots are counted
 /// from the end of the delay.
@@ -27,4 +29,12 @@ pub fn law_curves()
     ensures up { (sizes : List ℕ) (timing : Timing) (n t : ℕ) → AreUsedBefore sizes timing n t →
         up_at sizes timing t
         ≡ min (total_of sizes timing) (played_to sizes timing n + timing.buffer) }
+{}
+
+/// A law: where a buffer is too small, the pictures have curves for the same client with another
+/// buffer exactly where that holds the least one named, or more.
+pub fn law_least_buffer()
+    ensures { (sizes : List ℕ) (timing : Timing) (slot used least buffer : ℕ) →
+        HasFault sizes timing (BufferTooSmall slot used least) →
+        (IsAccepted sizes (record timing { buffer = buffer }) ↔ (least ≤ buffer)) }
 {}

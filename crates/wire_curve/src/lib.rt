@@ -13,7 +13,7 @@ mod laws;
 
 pub use curves::Curves;
 pub use film::{CurveFault, CurveRefused, Timing, film_curves};
-pub use laws::{law_curves, law_due_slot};
+pub use laws::{law_curves, law_due_slot, law_least_buffer};
 
 #[cfg(test)]
 mod tests;
