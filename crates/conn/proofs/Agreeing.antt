@@ -1,5 +1,6 @@
 -- Lemmas on a part's connections and their reports, one after another.
-use Rattle.std.proofs.Common.{◌≡◌, ℕ, List, [], ◌∷◌, ◌++◌, Option, Some, None, option_map, refl, ap, sym, ◌∙◌, subst, inl, inr}
+use Rattle.std.proofs.Common.{◌≡◌, ℕ, List, [], ◌∷◌, ◌++◌, Option, Some, None, option_map, refl, ap}
+use Rattle.std.proofs.Common.{sym, ◌∙◌, subst, inl, inr}
 use Rattle.std.specs.Prelude.{IfSome}
 use Rattle.vod_base.specs.Gates.{Content, Returned, LastTake, gave, gave_none, got_back}
 use Rattle.vod_base.specs.Links.{Doing, told_more}

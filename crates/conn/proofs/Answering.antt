@@ -8,12 +8,14 @@ use Rattle.admission.specs.Makers.{Placed}
 use Rattle.station.specs.Ledgers.{play_of}
 use Rattle.session.specs.declared.asks.Ask.{Ask}
 use Rattle.session.specs.declared.asks.Ask.TheVariants.{Reply as AskReply, Play as AskPlay}
-use Rattle.session.specs.Changes.{AsksOrLacks, CanBePlayed, ChangesState, HasCode, IsPlayAsked, LacksMemory}
+use Rattle.session.specs.Changes.{AsksOrLacks, CanBePlayed, ChangesState, HasCode, IsPlayAsked}
+use Rattle.session.specs.Changes.{LacksMemory}
 use Rattle.session.specs.Hearings.{started_text}
 use Rattle.session.specs.Methods.{play_front, prepared_of}
 use Rattle.session.specs.Standings.{Standing, sequence_of}
 use Rattle.session.proofs.Changing.{hears_good, hears_ground, hears_state}
-use Rattle.conn.specs.Turns.{Outcome, Unasked, Entered, WasFull, Offered, HasHeard, IsAnswered, IsPlayAnswered}
+use Rattle.conn.specs.Turns.{Outcome, Unasked, Entered, WasFull, Offered, HasHeard, IsAnswered}
+use Rattle.conn.specs.Turns.{IsPlayAnswered}
 use Rattle.conn.specs.Films.{IsReady}
 use Rattle.conn.specs.Admissions.{IsEntryReplied, IsPlayReplied}
 use Rattle.conn.proofs.Beginning.{play_begins}

@@ -1,5 +1,6 @@
 -- Lemmas on a play that begins.
-use Rattle.std.proofs.Common.{◌≡◌, ℕ, ◌+◌, ◌-◌, ◌<◌, [], take, drop, refl, ap, sym, ◌∙◌, subst, arith}
+use Rattle.std.proofs.Common.{◌≡◌, ℕ, ◌+◌, ◌-◌, ◌<◌, [], take, drop, refl, ap, sym, ◌∙◌, subst}
+use Rattle.std.proofs.Common.{arith}
 use Rattle.film_frames.specs.Runs.{run_pieces}
 use Rattle.film_frames.specs.Tracks.{framed}
 use Rattle.pacer.specs.Pacings.{first_slots, whole_pacing}

@@ -3,12 +3,13 @@ use Rattle.std.proofs.Common.{◌≡◌, ℕ, ◌≤◌, false, Option, Some, sy
 use Rattle.std.proofs.lemmas.Bool.{true≢false}
 use Rattle.vod_base.specs.Outside.{HasRisen}
 use Rattle.interleave.specs.declared.pieces.DemuxFault.{DemuxFault}
-use Rattle.interleave.specs.declared.pieces.DemuxFault.TheVariants.{HeadTooLong as LongHead, BodyTooLong as LongBody}
+use Rattle.interleave.specs.declared.pieces.DemuxFault.TheVariants.{HeadTooLong as LongHead}
+use Rattle.interleave.specs.declared.pieces.DemuxFault.TheVariants.{BodyTooLong as LongBody}
 use Rattle.conn.specs.declared.reports.ConnEnd.{ConnEnd}
 use Rattle.conn.specs.declared.reports.ConnEnd.TheVariants.{LinkFault}
 use Rattle.conn.specs.Events.{HasCounted, IsEndOf, is_fault}
 
-risen_on : (a b c : ℕ) → a ≤ b → HasRisen b c → HasRisen a c
+pub risen_on : (a b c : ℕ) → a ≤ b → HasRisen b c → HasRisen a c
 risen_on a b c first risen = λ small. omega (arith, first, risen small)
 
 pub counted_same : (end : Option ConnEnd) (old new : ℕ) → old ≤ new → is_fault end ≡ false → HasCounted end old new

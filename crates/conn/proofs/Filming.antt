@@ -1,5 +1,7 @@
 -- Lemmas on what is sent of a film, one slot after another.
-use Rattle.std.proofs.Common.{◌≡◌, ℕ, ◌+◌, ◌-◌, ◌<◌, ◌≤◌, ◌++◌, Bool, true, false, if◌then◌else◌, min, max, List, [], length, take, drop, refl, ap, sym, ◌∙◌, subst, arith, inl, inr}
+use Rattle.std.proofs.Common.{◌≡◌, ℕ, ◌+◌, ◌-◌, ◌<◌, ◌≤◌, ◌++◌, Bool, true, false, if◌then◌else◌}
+use Rattle.std.proofs.Common.{min, max, List, [], length, take, drop, refl, ap, sym, ◌∙◌, subst}
+use Rattle.std.proofs.Common.{arith, inl, inr}
 use Rattle.std.proofs.lemmas.Bool.{cases_lt, true≢false}
 use Rattle.std.proofs.lemmas.List.{append-nil}
 use Rattle.film_frames.specs.Tracks.{framed}
@@ -11,7 +13,8 @@ use Rattle.std.proofs.lemmas.List.Sums.{sum_by-take-le}
 use Rattle.session.specs.declared.states.Play.{Play as Played}
 use Rattle.conn.specs.Films.{HasSent, planned_bytes}
 use Rattle.pacer.specs.Boundaries.{bytes_between}
-use Rattle.pacer.specs.Pacings.{IsPacing, Pacing, due_by, first_slots, pacing_of, plan_bytes, raised, slots_by, stands_at_boundary, step_end, stepped}
+use Rattle.pacer.specs.Pacings.{IsPacing, Pacing, due_by, first_slots, pacing_of, plan_bytes}
+use Rattle.pacer.specs.Pacings.{raised, slots_by, stands_at_boundary, step_end, stepped}
 use Rattle.pacer.proofs.PacingLemmas.{boundary-from, due-of-both}
 use Rattle.pacer.proofs.SendingLemmas.{between-join}
 use Rattle.session.proofs.Boundaries.{stop_between}
@@ -90,9 +93,9 @@ slot_bytes true true slot p is between_is =
     ap (λ n. plan_bytes p p.sent mid ++ plan_bytes p mid n) end
     ∙ between-join p.pieces (p.before + p.sent) (p.before + mid) (p.before + due) (omega (arith, least)) (omega (arith, most))
 
--- it is a pacing again
-pub through_is : (slot : ℕ) (p : Pacing) → IsPacing p → IsPacing (sent_through slot p)
-through_is slot p is = record {
+-- it is a pacing again, and so it is where less of what is due was sent
+sent_upto : (slot sent : ℕ) (p : Pacing) → IsPacing p → sent ≤ due_by p slot → IsPacing (record (raised slot p) { sent = sent })
+sent_upto slot sent p is most = record {
   plan = is.plan;
   whole = is.whole;
   short = is.short;
@@ -100,8 +103,14 @@ through_is slot p is = record {
   ends = is.ends;
   most = is.most;
   due = due-of-both p.plan p.passed (slots_by p slot) p.keep p.due is.due;
-  sent = omega arith;
+  sent = most;
 }
+
+pub through_is : (slot : ℕ) (p : Pacing) → IsPacing p → IsPacing (sent_through slot p)
+through_is slot p is = sent_upto slot (due_by p slot) p is (omega arith)
+
+pub stopped_is : (slot : ℕ) (p : Pacing) → IsPacing p → IsPacing (stepped true slot p)
+stopped_is slot p is = sent_upto slot (step_end true (raised slot p)) p is (omega arith)
 
 pub few_slots : (plan : List Segment) (k : ℕ) → IsPlan plan → first_slots plan k ≤ total_bytes plan
 few_slots plan k is = omega (arith, sum_by-take-le (λ (x : ℕ). x) (plan_slots plan) k, sum-plan_slots plan is.no_empty)

@@ -1,6 +1,8 @@
 -- Lemmas on what a connection makes of the journal, one call after another.
-use Rattle.std.proofs.Common.{◌≡◌, ℕ, ◌≤◌, List, [], ◌∷◌, ◌++◌, map, Option, Some, None, ◌==◌, true, if◌then◌else◌, refl, ap, sym, ◌∙◌, subst, arith}
-use Rattle.std.proofs.lemmas.List.{append-nil, append_assoc, map-append, length-append, get_or_append_left}
+use Rattle.std.proofs.Common.{◌≡◌, ℕ, ◌≤◌, List, [], ◌∷◌, ◌++◌, map, Option, Some, None, ◌==◌, true}
+use Rattle.std.proofs.Common.{if◌then◌else◌, refl, ap, sym, ◌∙◌, subst, arith}
+use Rattle.std.proofs.lemmas.List.{append-nil, append_assoc, map-append, length-append}
+use Rattle.std.proofs.lemmas.List.{get_or_append_left}
 use Rattle.std.proofs.lemmas.List.Sums.{fold-append}
 use Rattle.std.proofs.lemmas.List.Elements.{All-append, All-cons, All-nil}
 use Rattle.admission.specs.declared.entries.Command.{Command}
@@ -9,12 +11,14 @@ use Rattle.admission.specs.declared.entries.Answer.TheVariants.{Admitted, Overfl
 use Rattle.admission.specs.Histories.{Halts}
 use Rattle.admission.specs.Makers.{Placed, Admits, IsOpenAmong}
 use Rattle.session.specs.declared.notes.Receipt.{Receipt}
-use Rattle.session.specs.declared.notes.Receipt.TheVariants.{Entry as EntryReceipt, Full as FullReceipt}
+use Rattle.session.specs.declared.notes.Receipt.TheVariants.{Entry as EntryReceipt}
+use Rattle.session.specs.declared.notes.Receipt.TheVariants.{Full as FullReceipt}
 use Rattle.plan_cert.specs.declared.Segment.{Segment}
 use Rattle.plan_cert.specs.Slots.{total_bytes}
 use Rattle.session.specs.Standings.{Open, IsSameBooking}
 use Rattle.station.specs.declared.answers.Booking.{Booking}
-use Rattle.conn.specs.Keeping.{Business, HasGone, IsHeld, entry_receipts, receipt_for, Closed, Broken, course_with, course_from, course_of}
+use Rattle.conn.specs.Keeping.{Business, HasGone, IsHeld, entry_receipts, receipt_for, Closed}
+use Rattle.conn.specs.Keeping.{Broken, course_with, course_from, course_of}
 
 entry_receipts-append : (xs ys : List Receipt) → entry_receipts (xs ++ ys) ≡ entry_receipts xs ++ entry_receipts ys
 entry_receipts-append [] ys = refl

@@ -6,7 +6,9 @@ use Rattle.film_run.specs.declared.runs.Run.{Run}
 use Rattle.film_run.specs.Laws.{IsSending}
 use Rattle.film_run.specs.Units.{stored_sizes}
 use Rattle.session.specs.declared.asks.Ask.{Ask}
-use Rattle.session.specs.declared.asks.Ask.TheVariants.{Reply as AskReply, Play as AskPlay, Halt as AskHalt, Look as AskLook, Offer as AskOffer}
+use Rattle.session.specs.declared.asks.Ask.TheVariants.{Reply as AskReply, Play as AskPlay}
+use Rattle.session.specs.declared.asks.Ask.TheVariants.{Halt as AskHalt, Look as AskLook}
+use Rattle.session.specs.declared.asks.Ask.TheVariants.{Offer as AskOffer}
 use Rattle.session.specs.declared.settings.Settings.{Settings}
 use Rattle.session.specs.declared.states.Awaited.{Awaited}
 use Rattle.session.specs.declared.states.Awaited.TheVariants.{Play}

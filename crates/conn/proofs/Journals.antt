@@ -1,6 +1,7 @@
 -- The station's answers agree with each longer journal, and with one another.
-use Rattle.std.proofs.Common.{◌≡◌, ℕ, ◌+◌, ◌^◌, ◌<◌, ◌≤◌, ◌++◌, min, List, [], ◌∷◌, length, get_or, take, refl, ap, sym, ◌∙◌, subst, arith}
-use Rattle.std.proofs.lemmas.List.{append-nil, append_assoc, length-append, take_all}
+use Rattle.std.proofs.Common.{◌≡◌, ℕ, ◌+◌, ◌^◌, ◌≤◌, ◌++◌, min, List, [], ◌∷◌, length}
+use Rattle.std.proofs.Common.{take, refl, ap, sym, ◌∙◌, subst, arith}
+use Rattle.std.proofs.lemmas.List.{append-nil, length-append, take_all}
 use mathlib.Core.List.{IsPrefix}
 use Rattle.early_start.specs.Offered.{Found, IsOffer}
 use Rattle.slot_calendar.specs.declared.profiles.CapStep.{CapStep}
@@ -18,7 +19,7 @@ use Rattle.station.specs.Ledgers.{IsOffered}
 use Rattle.station.specs.declared.answers.Offered.{Offered as Told}
 use Rattle.station.specs.Seats.{IsSameSeat, IsSeat, Sitting}
 use Rattle.station.proofs.Grown.{last-entry, last-place, prefix-at, prefix-take}
-use Rattle.conn.specs.Journals.{AgreeWith, IsFullIn, IsOfferedIn, StandsIn, Terms, terms_of}
+use Rattle.conn.specs.Journals.{AgreeWith, IsFullIn, IsOfferedIn, StandsIn, Terms, entries_needed, terms_of}
 use Rattle.conn.specs.Turns.{Outcome, Unasked, Entered, WasFull, Offered}
 
 prefix_length : (journal longer : List Entry) → IsPrefix journal longer → length journal ≤ length longer
@@ -30,7 +31,7 @@ pub agree_lower : (terms : Terms) (journal : List Entry) (low from : ℕ) (outco
 agree_lower terms journal low from [] less agree = omega (arith, less, agree)
 agree_lower terms journal low from (Unasked ∷ outcomes) less agree = agree_lower terms journal low from outcomes less agree
 agree_lower terms journal low from (Entered placed ∷ outcomes) less agree = (
-  record { after = omega (arith, less, agree.0.after); within = agree.0.within; entry = agree.0.entry; maker_is = agree.0.maker_is },
+  record { after = omega (arith, less, agree.0.after); within = agree.0.within; entry = agree.0.entry; maker_is = agree.0.maker_is; room = agree.0.room },
   agree.1,
 )
 agree_lower terms journal low from (WasFull more entries live ∷ outcomes) less agree = (
@@ -43,14 +44,18 @@ agree_lower terms journal low from (Offered at_slot note ∷ outcomes) less agre
 )
 
 -- with a longer journal
-stands_longer : (maker from : ℕ) (journal longer : List Entry) (placed : Placed) → IsPrefix journal longer → StandsIn maker journal from placed
-    → StandsIn maker longer from placed
-stands_longer maker from journal longer placed prefix stands = record {
-  after = stands.after;
-  within = omega (arith, stands.within, prefix_length journal longer prefix);
-  entry = λ none. prefix-at journal longer prefix placed.place none stands.within ∙ stands.entry none;
-  maker_is = stands.maker_is;
-}
+stands_longer : (terms : Terms) (from : ℕ) (journal longer : List Entry) (placed : Placed) → IsPrefix journal longer → StandsIn terms journal from placed
+    → StandsIn terms longer from placed
+stands_longer terms from journal longer placed prefix stands =
+    let inside : placed.place ≤ length journal = omega (arith, stands.within) in
+    let same : live (take placed.place longer) ≡ live (take placed.place journal) =
+    ap (λ (xs : List Entry). live xs) (prefix-take journal longer prefix placed.place inside) in record {
+      after = stands.after;
+      within = omega (arith, stands.within, prefix_length journal longer prefix);
+      entry = λ none. prefix-at journal longer prefix placed.place none stands.within ∙ stands.entry none;
+      maker_is = stands.maker_is;
+      room = omega (arith, stands.room, same);
+    }
 
 full_longer : (limit from more entries live_plays : ℕ) (journal longer : List Entry) → IsPrefix journal longer
     → IsFullIn limit journal from more entries live_plays → IsFullIn limit longer from more entries live_plays
@@ -77,7 +82,7 @@ pub agree_longer : (terms : Terms) (journal longer : List Entry) (from : ℕ) (o
 agree_longer terms journal longer from [] prefix agree = omega (arith, agree, prefix_length journal longer prefix)
 agree_longer terms journal longer from (Unasked ∷ outcomes) prefix agree = agree_longer terms journal longer from outcomes prefix agree
 agree_longer terms journal longer from (Entered placed ∷ outcomes) prefix agree = (
-  stands_longer terms.maker from journal longer placed prefix agree.0,
+  stands_longer terms from journal longer placed prefix agree.0,
   agree_longer terms journal longer (placed.place + 1) outcomes prefix agree.1,
 )
 agree_longer terms journal longer from (WasFull more entries live ∷ outcomes) prefix agree = (
@@ -95,7 +100,7 @@ pub agree_then : (terms : Terms) (journal longer : List Entry) (from : ℕ) (fir
 agree_then terms journal longer from [] more prefix agree later = agree_lower terms longer from (length journal) more agree later
 agree_then terms journal longer from (Unasked ∷ first) more prefix agree later = agree_then terms journal longer from first more prefix agree later
 agree_then terms journal longer from (Entered placed ∷ first) more prefix agree later = (
-  stands_longer terms.maker from journal longer placed prefix agree.0,
+  stands_longer terms from journal longer placed prefix agree.0,
   agree_then terms journal longer (placed.place + 1) first more prefix agree.1 later,
 )
 agree_then terms journal longer from (WasFull asked entries live ∷ first) more prefix agree later = (
@@ -132,23 +137,29 @@ entry_after seat next more command place answer (x ∷ xs) kept also number long
     sym (length-append seat.seen (x ∷ xs)) ∙ ap (λ (es : List Entry). length es) longer in
     omega (arith, all, last-place seat next more command place answer made)
 
+take_whole : (entries : List Entry) (n : ℕ) → n ≡ length entries → take n entries ≡ entries
+take_whole entries n is = take_all n entries (omega (arith, is))
+
 pub entry_agrees : (seat next : Sitting) (more : ℕ) (command : Command) (place : ℕ) (answer : Answer) → IsSeat seat → IsSeat next → IsSameSeat seat next
-    → Made seat next more command place answer
+    → Made seat next more command place answer → more ≡ entries_needed command
     → AgreeWith (terms_of seat) next.seen (length seat.seen)
     (Entered (record { place = place; entry = record { maker = seat.number; command = command; answer = answer } }) ∷ [])
-entry_agrees seat next more command place answer kept also same made =
+entry_agrees seat next more command place answer kept also same made needed =
+    let e : Entry = record { maker = seat.number; command = command; answer = answer } in
+    let front : take place next.seen ≡ made.before =
+    prefix-take made.before next.seen (e ∷ [], sym made.seen) place (omega (arith, made.place_is))
+    ∙ take_whole made.before place made.place_is in
+    let live_is : live (take place next.seen) ≡ live made.before = ap (λ (xs : List Entry). live xs) front in
     let last = last-place seat next more command place answer made in (
       record {
         after = entry_after seat next more command place answer same.longer.0 kept also same.number same.longer.1 made;
         within = omega (arith, last);
         entry = λ none. last-entry seat next more command place answer made none;
         maker_is = refl;
+        room = omega (arith, made.room, made.place_is, live_is, needed);
       },
       omega (arith, last),
     )
-
-take_whole : (entries : List Entry) (n : ℕ) → n ≡ length entries → take n entries ≡ entries
-take_whole entries n is = take_all n entries (omega (arith, is))
 
 pub full_agrees : (seat next : Sitting) (more entries live_plays : ℕ) → IsSameSeat seat next → IsFull seat next more entries live_plays
     → AgreeWith (terms_of seat) next.seen (length seat.seen) (WasFull more entries live_plays ∷ [])

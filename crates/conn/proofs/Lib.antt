@@ -3,6 +3,7 @@ pub mod Answering
 pub mod Beginning
 pub mod Between
 pub mod Breaking
+pub mod Completing
 pub mod Counting
 pub mod Cutting
 pub mod Filming
@@ -13,6 +14,9 @@ pub mod Playing
 pub mod Promising
 pub mod Refusing
 pub mod Replying
+pub mod Progress
+pub mod Steps
+pub mod Rooms
 pub mod Sighting
 pub mod Staying
 pub mod Taking

@@ -1,26 +1,37 @@
 -- Lemmas on a play that goes on, one event after another.
-use Rattle.std.proofs.Common.{◌≡◌, ℕ, ◌^◌, ◌<◌, ◌++◌, ◌&&◌, Bool, true, false, if◌then◌else◌, nat_lt, nat_le, List, [], ◌∷◌, refl, ap, sym, ◌∙◌, subst}
+use Rattle.std.proofs.Common.{◌≡◌, ℕ, ◌^◌, ◌<◌, ◌++◌, ◌&&◌, Bool, true, false, if◌then◌else◌}
+use Rattle.std.proofs.Common.{nat_lt, nat_le, List, [], ◌∷◌, refl, ap, sym, ◌∙◌, subst}
 use Rattle.std.proofs.lemmas.Bool.{ltb-true, true≢false}
 use Rattle.std.proofs.lemmas.List.{append-nil, append_assoc}
 use Rattle.admission.specs.declared.entries.Answer.{Answer}
 use Rattle.admission.specs.declared.entries.Answer.TheVariants.{Admitted, Halted, Looked, Overflow}
 use Rattle.admission.specs.Makers.{Placed}
 use Rattle.session.specs.declared.asks.Ask.{Ask}
-use Rattle.session.specs.declared.asks.Ask.TheVariants.{Reply as AskReply, Play as AskPlay, Halt as AskHalt, Look as AskLook, Offer as AskOffer}
+use Rattle.session.specs.declared.asks.Ask.TheVariants.{Reply as AskReply, Play as AskPlay}
+use Rattle.session.specs.declared.asks.Ask.TheVariants.{Halt as AskHalt, Look as AskLook}
+use Rattle.session.specs.declared.asks.Ask.TheVariants.{Offer as AskOffer}
 use Rattle.session.specs.declared.states.Awaited.{Awaited}
 use Rattle.pacer.specs.Pacings.{Pacing, plan_bytes, raised, stands_at_boundary, step_end, stepped}
 use Rattle.session.specs.declared.states.Play.{Play as Played}
 use Rattle.session.specs.declared.states.Setup.{Setup}
 use Rattle.session.specs.declared.states.State.{State}
 use Rattle.session.specs.declared.states.State.TheVariants.{Playing}
-use Rattle.session.specs.Sendings.{admitted_in, can_reply, due_state, finished, is_between, is_sending, is_taken, sent_due, sent_reply, sent_slot, slotted, step_bytes, stepped_in}
-use Rattle.session.specs.Standings.{Awaits, NoAnswer, PlayAnswer, HaltAnswer, LookAnswer, OfferAnswer, Standing, awaits}
+use Rattle.session.specs.Sendings.{admitted_in, can_reply, due_state, finished, is_between}
+use Rattle.session.specs.Sendings.{is_sending, is_taken, sent_due, sent_reply, sent_slot, slotted}
+use Rattle.session.specs.Sendings.{step_bytes, stepped_in}
+use Rattle.session.specs.Standings.{Awaits, NoAnswer, PlayAnswer, HaltAnswer, LookAnswer}
+use Rattle.session.specs.Standings.{OfferAnswer, Standing, awaits}
 use Rattle.session.specs.Steps.{settled}
-use Rattle.conn.specs.Turns.{Outcome, Unasked, Entered, WasFull, Offered, Part, Film, Text, Stage, Taking, Passed, Answered, HasHeard, IsAnswered, IsFinished, IsHalted, IsLookAnswered, IsPlayAnswered, Takes, TakesAll, after_reply, due_parts, film_bytes, slot_parts}
+use Rattle.conn.specs.Turns.{Outcome, Unasked, Entered, WasFull, Offered, Part, Film, Text, Stage}
+use Rattle.conn.specs.Turns.{Taking, Passed, Answered, HasHeard, IsAnswered, IsFinished, IsHalted}
+use Rattle.conn.specs.Turns.{IsLookAnswered, IsPlayAnswered, Takes, TakesAll, after_reply}
+use Rattle.conn.specs.Turns.{due_parts, film_bytes, slot_parts}
 use Rattle.vod_base.specs.Links.{Doing, HeardBytes, HeardEnd, HeardSlot, Sent}
 use Rattle.session.specs.Hearings.{Hears}
-use Rattle.conn.specs.Rounds.{Comes, Round, Runs, RunsAll, round_outcomes, rounds_outcomes, taking_outcomes, takings_outcomes}
-use Rattle.conn.specs.Films.{AreUnhalted, GoesOn, HasSent, HasSentOn, IsNoHalt as IsNoHaltMade, IsUnhalted, rounds_film}
+use Rattle.conn.specs.Rounds.{Comes, Round, Runs, RunsAll, round_outcomes, rounds_outcomes}
+use Rattle.conn.specs.Rounds.{taking_outcomes, takings_outcomes}
+use Rattle.conn.specs.Films.{AreUnhalted, GoesOn, HasSent, HasSentOn, IsNoHalt as IsNoHaltMade}
+use Rattle.conn.specs.Films.{IsUnhalted, Stretch, rounds_film}
 use Rattle.session.specs.Laws.{IsNoHalt}
 use Rattle.session.proofs.HearingLaws.{hears_plays}
 use Rattle.conn.proofs.Filming.{sent_slot as sent_by, sent_through, slot_film, slot_is, slot_pacing}
@@ -335,9 +346,10 @@ rounds_on old new (round ∷ rounds) setup play film runs free is has =
     (goes_on setup play runs.0.session new.session (film ++ film_bytes round.due) ((film ++ film_bytes round.due) ++ rounds_film rounds) first rest)
 
 -- and by what is taken up before the next event
-pub film_on : (old new : Stage) (play : Played) (film : List ℕ) (takings : List Taking) (rounds : List Round) (on : GoesOn old play film takings rounds new) →
-    HasSentOn on.setup play new.session (film ++ rounds_film rounds)
-film_on old new play film takings rounds on =
-    let left = takes_left old on.mid takings on.setup play on.takes (unhalted_front (takings_outcomes takings) (rounds_outcomes rounds) on.unhalted) on.state in
-    rounds_on on.mid new rounds on.setup play film on.runs (unhalted_rest (takings_outcomes takings) (rounds_outcomes rounds) on.unhalted)
-    (left.0 ∙ on.state) (subst (λ h. HasSent play h film) (sym left.1) on.sent)
+pub film_on : (s : Stretch) (on : GoesOn s) → HasSentOn on.setup s.play s.new.session (s.film ++ rounds_film s.rounds)
+film_on s on =
+    let front = unhalted_front (takings_outcomes s.takings) (rounds_outcomes s.rounds) on.unhalted in
+    let rest = unhalted_rest (takings_outcomes s.takings) (rounds_outcomes s.rounds) on.unhalted in
+    let left = takes_left s.old on.mid s.takings on.setup s.play on.takes front on.state in
+    rounds_on on.mid s.new s.rounds on.setup s.play s.film on.runs rest (left.0 ∙ on.state)
+    (subst (λ h. HasSent s.play h s.film) (sym left.1) on.sent)

@@ -1,5 +1,7 @@
 -- What a connection keeps to while a play goes on, by the course.
-use Rattle.std.proofs.Common.{◌≡◌, ℕ, ◌+◌, ◌-◌, ◌≤◌, ◌&&◌, ◌++◌, Bool, true, false, if◌then◌else◌, List, [], ◌∷◌, length, take, drop, refl, sym, ap, subst, ◌∙◌, arith, inl, Option}
+use Rattle.std.proofs.Common.{◌≡◌, ℕ, ◌+◌, ◌-◌, ◌≤◌, ◌&&◌, ◌++◌, Bool, true, false, if◌then◌else◌}
+use Rattle.std.proofs.Common.{List, [], ◌∷◌, length, take, drop, refl, sym, ap, subst, ◌∙◌, arith}
+use Rattle.std.proofs.Common.{inl, Option}
 use Rattle.std.proofs.lemmas.List.{append-nil}
 use Rattle.film_frames.specs.declared.stores.Stored.{Stored}
 use Rattle.film_frames.specs.Tracks.{framed}
@@ -16,12 +18,14 @@ use Rattle.session.specs.declared.states.State.{State}
 use Rattle.session.specs.declared.states.State.TheVariants.{Init, Playing, Ready, Stopping}
 use Rattle.session.specs.Hearings.{new_standing}
 use Rattle.session.specs.Ranges.{AreSettings}
-use Rattle.session.specs.Sendings.{finished, is_between, is_sending, is_taken, sent_due, sent_reply, sent_slot, slotted, stepped_in}
+use Rattle.session.specs.Sendings.{finished, is_between, is_sending, is_taken, sent_due, sent_reply}
+use Rattle.session.specs.Sendings.{sent_slot, slotted, stepped_in}
 use Rattle.session.specs.Standings.{Standing, taken_up}
 use Rattle.conn.specs.Turns.{Outcome, Part, Stage, film_bytes, slot_parts, stage}
 use Rattle.conn.specs.Rounds.{Comes, Round}
 use Rattle.conn.specs.Films.{HasSent, HasSentOn}
-use Rattle.conn.specs.Plays.{ArePlaysKept, IsKeptIn, IsSentBy, client_of, film_in, heard_by, play_pieces}
+use Rattle.conn.specs.Plays.{ArePlaysKept, IsKeptIn, IsSentBy, client_of, film_in, heard_by}
+use Rattle.conn.specs.Plays.{play_pieces}
 use Rattle.conn.proofs.Between.{planned_between}
 use Rattle.conn.proofs.Hearing.{AreShown, HasPlay, IsStateOf, IsWell}
 use Rattle.conn.proofs.Playing.{as_it_was}

@@ -1,6 +1,7 @@
 -- What a client is told of a play that the link has no room for.
-use Rattle.std.proofs.Common.{◌≡◌, ℕ, List, ap, subst}
+use Rattle.std.proofs.Common.{◌≡◌, List, ap, subst}
 use Rattle.plan_cert.specs.declared.Segment.{Segment}
+use Rattle.slot_calendar.specs.declared.calendar.Overflow.{Overflow as Over}
 use Rattle.admission.specs.declared.entries.Answer.{Answer}
 use Rattle.admission.specs.declared.entries.Answer.TheVariants.{Overflow}
 use Rattle.admission.specs.Makers.{Placed}
@@ -9,8 +10,8 @@ use Rattle.session.specs.Standings.{Standing}
 use Rattle.conn.specs.Turns.{Entered, IsAnswered, IsPlayAnswered}
 use Rattle.conn.specs.Films.{TellsOverflow}
 
-pub overflow_told : (old new : Standing) (plan : List Segment) (placed : Placed) (slot booked asked : ℕ) → IsAnswered old (AskPlay plan) (Entered placed) new →
-    placed.entry.answer ≡ Overflow slot booked asked → TellsOverflow old plan placed slot booked asked new
-overflow_told old new plan placed slot booked asked answered is =
+pub overflow_told : (old new : Standing) (plan : List Segment) (placed : Placed) (over : Over) → IsAnswered old (AskPlay plan) (Entered placed) new →
+    placed.entry.answer ≡ Overflow over.slot over.booked over.asked → TellsOverflow old plan placed over new
+overflow_told old new plan placed over answered is =
     let after = subst (λ (a : Answer). IsPlayAnswered old placed a new) is answered.1 in
     record { command = answered.0; text_is = ap (λ (s : Standing). s.text) after }

@@ -1,23 +1,30 @@
 -- Lemmas on where replies stand among a film's frames and reports.
-use Rattle.std.proofs.Common.{◌≡◌, ℕ, ◌+◌, ◌-◌, ◌≤◌, ◌++◌, ◌&&◌, Bool, true, false, if◌then◌else◌, List, [], ◌∷◌, length, take, drop, refl, ap, sym, ◌∙◌, subst, arith}
+use Rattle.std.proofs.Common.{◌≡◌, ℕ, ◌+◌, ◌-◌, ◌≤◌, ◌++◌, ◌&&◌, Bool, true, false, if◌then◌else◌}
+use Rattle.std.proofs.Common.{List, [], ◌∷◌, length, take, drop, refl, ap, sym, ◌∙◌, subst, arith}
 use Rattle.std.proofs.lemmas.Bool.{eqb-true, true≢false}
 use Rattle.std.proofs.lemmas.List.{append-nil, append_assoc, length-append}
 use Rattle.film_frames.specs.Tracks.{IsBoundary, framed}
-use Rattle.pacer.specs.Pacings.{IsPacing, Pacing, first_slots, next_boundary, plan_bytes, raised, slots_by, stands_at_boundary, step_end, stepped}
-use Rattle.pacer.proofs.PacingLemmas.{boundary-from, due-of-both}
+use Rattle.pacer.specs.Pacings.{IsPacing, Pacing, first_slots, next_boundary, plan_bytes, raised}
+use Rattle.pacer.specs.Pacings.{stands_at_boundary, step_end, stepped}
+use Rattle.pacer.proofs.PacingLemmas.{boundary-from}
 use Rattle.pacer.proofs.SendingLemmas.{between-length}
 use Rattle.vod_base.specs.Links.{Doing, HeardBytes, HeardEnd, HeardSlot, Sent}
 use Rattle.session.specs.declared.states.Play.{Play as Played}
 use Rattle.session.specs.declared.states.Setup.{Setup}
 use Rattle.session.specs.declared.states.State.{State}
 use Rattle.session.specs.declared.states.State.TheVariants.{Playing}
-use Rattle.session.specs.Sendings.{can_reply, is_between, is_sending, is_taken, step_bytes, stepped_in}
+use Rattle.session.specs.Sendings.{can_reply, is_between, is_sending, is_taken, step_bytes}
+use Rattle.session.specs.Sendings.{stepped_in}
 use Rattle.session.specs.Standings.{Standing}
-use Rattle.conn.specs.Turns.{Outcome, Part, Film, Text, Stage, Taking, Passed, Answered, TakesAll, due_parts, film_bytes, reply_parts}
-use Rattle.conn.specs.Rounds.{Comes, Round, Runs, RunsAll, round_outcomes, rounds_outcomes, takings_outcomes}
-use Rattle.conn.specs.Films.{AreUnhalted, GoesOn, HasSent, StandBetween, round_parts, rounds_parts, takings_parts}
-use Rattle.conn.proofs.Filming.{few_slots}
-use Rattle.conn.proofs.Playing.{comes_on, heard_left, round_on, taking_left, takes_left, unhalted_front, unhalted_rest}
+use Rattle.conn.specs.Turns.{Outcome, Part, Film, Text, Stage, Taking, Passed, Answered, TakesAll}
+use Rattle.conn.specs.Turns.{due_parts, film_bytes, reply_parts}
+use Rattle.conn.specs.Rounds.{Comes, Round, Runs, RunsAll, round_outcomes, rounds_outcomes}
+use Rattle.conn.specs.Rounds.{takings_outcomes}
+use Rattle.conn.specs.Films.{AreUnhalted, GoesOn, HasSent, StandBetween, Stretch, round_parts}
+use Rattle.conn.specs.Films.{rounds_parts, takings_parts}
+use Rattle.conn.proofs.Filming.{few_slots, stopped_is}
+use Rattle.conn.proofs.Playing.{comes_on, heard_left, round_on, taking_left, takes_left}
+use Rattle.conn.proofs.Playing.{unhalted_front, unhalted_rest}
 
 -- as many bytes were sent as the plan has up to the heard slot
 pub film_count : (play : Played) (heard : ℕ) (film : List ℕ) → HasSent play heard film → length film ≡ first_slots play.pacer.plan (heard + 1 - play.start)
@@ -43,18 +50,6 @@ boundary_here p is stands =
     let next = boundary-from p.pieces (p.before + p.sent) inside in
     let same : next_boundary p ≡ p.sent = eqb-true (next_boundary p) p.sent stands in
     subst (IsBoundary p.pieces) (omega (arith, same, next.after)) next.boundary
-
-stopped_is : (slot : ℕ) (p : Pacing) → IsPacing p → IsPacing (stepped true slot p)
-stopped_is slot p is = record {
-  plan = is.plan;
-  whole = is.whole;
-  short = is.short;
-  begins = is.begins;
-  ends = is.ends;
-  most = is.most;
-  due = due-of-both p.plan p.passed (slots_by p slot) p.keep p.due is.due;
-  sent = omega arith;
-}
 
 -- as far as a step with a stop goes
 stopped_place : (slot : ℕ) (p : Pacing) → IsPacing p → (p.before + p.sent) + length (plan_bytes p p.sent (step_end true (raised slot p)))
@@ -203,15 +198,17 @@ rounds_stand old new (round ∷ rounds) setup play film runs free is has =
     (subst (λ n. StandBetween play.pacer.pieces n (rounds_parts rounds)) (omega (arith, on.before, film_is, length-append film (film_bytes round.due))) same)
 
 -- from a play's beginning on
-pub replies_stand : (old new : Stage) (play : Played) (film : List ℕ) (takings : List Taking) (rounds : List Round) → GoesOn old play film takings rounds new →
-    StandBetween play.pacer.pieces (play.pacer.before + length film) (takings_parts takings ++ rounds_parts rounds)
-replies_stand old new play film takings rounds on =
-    let first = unhalted_front (takings_outcomes takings) (rounds_outcomes rounds) on.unhalted in
-    let left = takes_left old on.mid takings on.setup play on.takes first on.state in
-    let place : ℕ = play.pacer.before + length film in
-    let rest : StandBetween play.pacer.pieces place (rounds_parts rounds) =
-    rounds_stand on.mid new rounds on.setup play film on.runs (unhalted_rest (takings_outcomes takings) (rounds_outcomes rounds) on.unhalted)
-    (left.0 ∙ on.state) (subst (λ h. HasSent play h film) (sym left.1) on.sent) in
-    stand-append play.pacer.pieces place (takings_parts takings) (rounds_parts rounds)
-    (takes_stand old on.mid takings on.setup play film on.takes first on.state on.sent)
-    (subst (λ n. StandBetween play.pacer.pieces n (rounds_parts rounds)) (omega (arith, ap length (takings_film old on.mid takings on.takes))) rest)
+pub replies_stand : (s : Stretch) → GoesOn s →
+    StandBetween s.play.pacer.pieces (s.play.pacer.before + length s.film) (takings_parts s.takings ++ rounds_parts s.rounds)
+replies_stand s on =
+    let first = unhalted_front (takings_outcomes s.takings) (rounds_outcomes s.rounds) on.unhalted in
+    let after = unhalted_rest (takings_outcomes s.takings) (rounds_outcomes s.rounds) on.unhalted in
+    let left = takes_left s.old on.mid s.takings on.setup s.play on.takes first on.state in
+    let pieces = s.play.pacer.pieces in
+    let place : ℕ = s.play.pacer.before + length s.film in
+    let rest : StandBetween pieces place (rounds_parts s.rounds) =
+    rounds_stand on.mid s.new s.rounds on.setup s.play s.film on.runs after (left.0 ∙ on.state)
+    (subst (λ h. HasSent s.play h s.film) (sym left.1) on.sent) in
+    stand-append pieces place (takings_parts s.takings) (rounds_parts s.rounds)
+    (takes_stand s.old on.mid s.takings on.setup s.play s.film on.takes first on.state on.sent)
+    (subst (λ n. StandBetween pieces n (rounds_parts s.rounds)) (omega (arith, ap length (takings_film s.old on.mid s.takings on.takes))) rest)

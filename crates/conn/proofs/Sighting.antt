@@ -1,42 +1,59 @@
 -- Lemmas on the course of a connection, one doing after another.
 use Rattle.std.specs.Prelude.{⊤}
-use Rattle.std.proofs.Common.{◌≡◌, ℕ, ◌+◌, ◌<◌, ◌≤◌, ◌&&◌, Bool, true, false, if◌then◌else◌, List, [], ◌∷◌, ◌++◌, length, take, drop, Option, Some, None, Ok, Err, refl, ap, sym, ◌∙◌, subst, inl, inr, arith}
-use Rattle.std.proofs.lemmas.List.{append-nil, append_assoc, map-append, length-append, length-take-le}
+use Rattle.std.proofs.Common.{◌≡◌, ℕ, ◌+◌, ◌<◌, ◌≤◌, ◌^◌, ◌&&◌, Bool, true, false, if◌then◌else◌, List}
+use Rattle.std.proofs.Common.{[], ◌∷◌, ◌++◌, length, take, drop, Option, Some, None, Ok, Err, refl}
+use Rattle.std.proofs.Common.{ap, sym, ◌∙◌, subst, inl, inr, arith}
+use Rattle.std.proofs.lemmas.List.{append-nil, append_assoc, map-append, length-append}
+use Rattle.std.proofs.lemmas.List.{length-take-le}
 use Rattle.interleave.specs.Pieces.{IsFirst}
 use Rattle.interleave.specs.declared.pieces.Step.TheVariants.{Request}
 use Rattle.interleave.specs.declared.pieces.DemuxFault.{DemuxFault}
-use Rattle.interleave.specs.declared.pieces.DemuxFault.TheVariants.{HeadTooLong as LongHead, BodyTooLong as LongBody}
-use Rattle.vod_base.specs.Links.{Doing, IsFrontTold, Sent, HeardBytes, HeardEnd, HeardSlot, sends, told_more}
+use Rattle.interleave.specs.declared.pieces.DemuxFault.TheVariants.{HeadTooLong as LongHead}
+use Rattle.interleave.specs.declared.pieces.DemuxFault.TheVariants.{BodyTooLong as LongBody}
+use Rattle.vod_base.specs.Links.{Doing, IsFrontTold, Sent, HeardBytes, HeardEnd, HeardSlot, sends}
+use Rattle.vod_base.specs.Links.{told_more}
 use Rattle.vod_base.specs.declared.links.Heard.{Heard}
 use Rattle.vod_base.specs.declared.links.Heard.TheVariants.{Bytes, Slot, End}
-use Rattle.station.specs.Answers.{IsFull, Made}
+use Rattle.station.specs.Answers.{IsFull, IsRefused, Made}
+use Rattle.station.specs.declared.answers.PlayRefused.{PlayRefused}
 use Rattle.station.specs.Ledgers.{IsOffered}
 use Rattle.station.specs.declared.answers.Offered.{Offered as Told}
 use Rattle.station.specs.Seats.{IsSameSeat, IsSeat, Sitting}
 use Rattle.early_start.specs.Offered.{Found}
 use Rattle.plan_cert.specs.declared.Segment.{Segment}
-use Rattle.admission.specs.Makers.{Placed}
 use Rattle.admission.specs.declared.entries.Answer.{Answer}
 use Rattle.admission.specs.declared.entries.Answer.TheVariants.{Halted}
 use Rattle.admission.specs.declared.entries.Command.{Command}
 use Rattle.admission.specs.declared.entries.Command.TheVariants.{Halt}
 use Rattle.conn.specs.declared.reports.ConnEnd.{ConnEnd}
-use Rattle.conn.specs.declared.reports.ConnEnd.TheVariants.{Ended, LinkFault, TooMuchInput}
+use Rattle.conn.specs.declared.reports.ConnEnd.TheVariants.{Ended, TornDown, LinkFault, TooMuchInput}
+use Rattle.conn.specs.declared.reports.ConnEnd.TheVariants.{HeadTooLong, BodyTooLong, TurnsSpent}
+use Rattle.conn.specs.declared.reports.ConnEnd.TheVariants.{NoMemory}
 use Rattle.session.specs.Hearings.{Halts, Hears}
 use Rattle.session.specs.declared.asks.Ask.{Ask}
 use Rattle.session.specs.declared.asks.Ask.TheVariants.{Reply as AskReply, Halt as AskHalt}
-use Rattle.session.specs.declared.notes.OfferNote.{OfferNote}
-use Rattle.session.specs.Sendings.{IsTold, can_reply, due_bytes, is_between, is_sending, is_taken, step_bytes, stepped_in}
+use Rattle.session.specs.Sendings.{IsTold, can_reply, due_bytes, is_between, is_sending, is_taken}
+use Rattle.session.specs.Sendings.{step_bytes, stepped_in}
 use Rattle.session.specs.Standings.{IsDue, Open, Standing, open_of}
 use Rattle.conn.specs.declared.connections.Connection.{Connection}
-use Rattle.conn.specs.Events.{HasHeard, IsEndOf}
-use Rattle.conn.specs.Journals.{AgreeWith, terms_of}
+use Rattle.conn.specs.Events.{HasHeard, IsEndOf, IsWaiting}
+use Rattle.conn.specs.Journals.{AgreeWith, entries_needed, terms_of}
 use Rattle.conn.proofs.Cutting.{seat_none, seat_on}
 use Rattle.conn.proofs.Journals.{agree_then, entry_agrees, full_agrees, offer_agrees, terms_same}
 use Rattle.conn.specs.Served.{HasClosed}
-use Rattle.conn.specs.Turns.{Outcome, Unasked, Entered, WasFull, Offered, Part, Film, Text, Stage, Taking, Passed, Answered, IsAnswered, IsClosed, IsHalted, IsNext, IsPassed, Takes, TakesAll, after_reply, due_parts, entry_in, parts_bytes, reply_parts, slot_parts, stage}
-use Rattle.conn.specs.Rounds.{Comes, Ends, Unheard, PeerEnded, Overfull, AtPiece, InSlot, InReply, IsIdle, IsStopped, IsUnheard, Round, Runs, RunsAll, ending_bytes, ending_doings, ending_outcomes, entries_in, round_bytes, round_outcomes, rounds_doings, rounds_outcomes, taking_bytes, taking_outcomes, takings_bytes, takings_outcomes}
-use Rattle.conn.specs.Sights.{AreNoted, HasAnswered, HasAsked, HasBroken, HasHalted, HasComeTo, HasCourse, HasEnded, HasLost, HasPassed, HasRound, HasRun, HasTaken, HasTakenUp, IsSent, Sight}
+use Rattle.conn.specs.Turns.{Outcome, Unasked, Entered, WasFull, Offered, Part, Film, Text, Stage}
+use Rattle.conn.specs.Turns.{Taking, Passed, Answered, IsAnswered, IsClosed, IsHalted, IsNext}
+use Rattle.conn.specs.Turns.{IsPassed, Takes, TakesAll, after_reply, due_parts, entry_in}
+use Rattle.conn.specs.Turns.{parts_bytes, reply_parts, slot_parts, stage}
+use Rattle.conn.specs.Rounds.{Comes, Ends, Unheard, PeerEnded, Overfull, AtPiece, InSlot, InReply}
+use Rattle.conn.specs.Rounds.{IsIdle, IsStopped, IsUnheard, Round, Runs, RunsAll, ending_bytes}
+use Rattle.conn.specs.Rounds.{ending_doings, ending_events, ending_outcomes, entries_in}
+use Rattle.conn.specs.Rounds.{round_bytes}
+use Rattle.conn.specs.Rounds.{round_outcomes, rounds_doings, rounds_outcomes, taking_bytes}
+use Rattle.conn.specs.Rounds.{taking_outcomes, takings_bytes, takings_outcomes}
+use Rattle.conn.specs.Sights.{AreNoted, HasAnswered, HasAsked, HasBroken, HasComeTo}
+use Rattle.conn.specs.Sights.{HasCourse, HasEnded, HasLost, HasPassed, HasRound, HasRun, HasTaken}
+use Rattle.conn.specs.Sights.{HasTakenUp, IsSent, Sight}
 
 -- what the link tells
 told_on : (old : Option (List Doing)) (xs ys : List Doing) → told_more (told_more old xs) ys ≡ told_more old (xs ++ ys)
@@ -213,23 +230,25 @@ peer_ended a c is =
     subst (λ s. HasComeTo (Some Ended) HeardEnd a s) (sym is)
     (λ count. record { ending = PeerEnded; event_is = refl; ends = (refl, refl); sent = sent_none a.told; noted = noted_none a.seat })
 
-pub overfull : (bytes : List ℕ) (a c : Sight) → 131072 < length a.stage.input + length bytes → c ≡ a → HasComeTo (Some TooMuchInput) (HeardBytes bytes) a c
-overfull bytes a c many is =
+pub overfull : (bytes : List ℕ) (a c : Sight) → 131072 < length a.stage.input + length bytes → a.stage.session.waits ≡ true → c ≡ a →
+    HasComeTo (Some TooMuchInput) (HeardBytes bytes) a c
+overfull bytes a c many waits is =
     subst (λ s. HasComeTo (Some TooMuchInput) (HeardBytes bytes) a s) (sym is)
-    (λ count. record { ending = Overfull bytes; event_is = refl; ends = (refl, many, refl); sent = sent_none a.told; noted = noted_none a.seat })
+    (λ count. record { ending = Overfull bytes; event_is = refl; ends = (refl, many, waits, refl); sent = sent_none a.told; noted = noted_none a.seat })
 
 -- the connection goes on
 abbrev GoesOn : Option ConnEnd → Type 0
 GoesOn None = ⊤
 GoesOn (Some end) = ⊥
 
-pub goes_on : (heard : Heard) (waiting : ℕ) (c : Connection) → HasHeard heard waiting None c → (c.session.torn ≡ false) × (c.session.lost ≡ false)
+pub goes_on : (heard : Heard) (waiting : ℕ) (c : Connection) → HasHeard heard waiting None c →
+    (c.session.torn ≡ false) × (c.session.lost ≡ false) × IsWaiting c
 goes_on End waiting c has = absurd (subst GoesOn has tt)
-goes_on (Slot slot) waiting c has = (has.0, has.1)
+goes_on (Slot slot) waiting c has = (has.0, has.1, has.2)
 goes_on (Bytes n) waiting c has =
     elim has [
       | inl full ↦ absurd (subst GoesOn full.1 tt)
-      | inr up ↦ (up.1.0, up.1.1)
+      | inr up ↦ (up.1.0, up.1.1, up.1.2)
     ]
 
 -- events, one after another
@@ -284,13 +303,15 @@ run_on count event a b heard c run stage_is seat_is told_is next =
 
 -- and it was the last
 pub run_end : (count : ℕ) (event : Doing) (end : ConnEnd) (a b heard c : Sight) → HasRun count a b → heard.stage ≡ b.stage → heard.seat ≡ b.seat →
-    heard.told ≡ told_more b.told (event ∷ []) → HasEnded (event ∷ []) end count heard c → HasCourse end a c
-run_end count event end a b heard c run stage_is seat_is told_is last =
-    let ending = last.ending in record {
+    heard.told ≡ told_more b.told (event ∷ []) → count < 2 ^ 40 → HasEnded (event ∷ []) end count heard c → HasCourse end a c
+run_end count event end a b heard c run stage_is seat_is told_is more last =
+    let ending = last.ending in
+    let one : length (ending_events ending) ≡ 1 = ap (λ (es : List Doing). length es) last.event_is in record {
       rounds = run.rounds;
       mid = b.stage;
       runs = run.runs;
       ending = ending;
+      few = omega (arith, run.count_is, one, more);
       ends = subst (λ n. Ends b.stage n ending end c.stage) (sym run.count_is) (subst (λ s. Ends s count ending end c.stage) stage_is last.ends);
       told = heard_sent b.told heard.told c.told event (ending_bytes ending) told_is last.sent
           ∙ ap (λ es. told_more b.told (es ++ sends (ending_bytes ending))) (sym last.event_is)
@@ -300,6 +321,17 @@ run_end count event end a b heard c run stage_is seat_is told_is last =
     }
 
 -- or no event was heard any more
+-- no more than 2^40 events were heard
+few_heard : (end : ConnEnd) (count : ℕ) → IsUnheard end count → count ≤ 2 ^ 40
+few_heard LinkFault count is = omega (arith, is)
+few_heard TurnsSpent count is = omega (arith, is)
+few_heard Ended count is = absurd is
+few_heard TornDown count is = absurd is
+few_heard TooMuchInput count is = absurd is
+few_heard HeadTooLong count is = absurd is
+few_heard BodyTooLong count is = absurd is
+few_heard NoMemory count is = absurd is
+
 pub run_over : (count : ℕ) (end : ConnEnd) (a b c : Sight) → HasRun count a b → IsUnheard end count → c ≡ b → HasCourse end a c
 run_over count end a b c run unheard is =
     subst (λ s. HasCourse end a s) (sym is) (record {
@@ -307,6 +339,7 @@ run_over count end a b c run unheard is =
       mid = b.stage;
       runs = run.runs;
       ending = Unheard;
+      few = omega (arith, run.count_is, few_heard end count unheard);
       ends = (subst (IsUnheard end) (sym run.count_is) unheard, refl);
       told = run.told ∙ ap (told_more a.told) (sym (append-nil (rounds_doings run.rounds)));
       noted = subst (λ os. AreNoted a.seat b.seat os) (sym (append-nil (rounds_outcomes run.rounds))) run.noted;
@@ -322,13 +355,13 @@ taken_fault a b LongBody end same torn first is =
 
 -- the station's answers
 pub answered_entry : (old : Standing) (ask : Ask) (new : Standing) (seat next : Sitting) (more : ℕ) (command : Command) (place : ℕ) (answer : Answer)
-    → IsSeat seat → IsSeat next → IsSameSeat seat next → Made seat next more command place answer
+    → IsSeat seat → IsSeat next → IsSameSeat seat next → Made seat next more command place answer → more ≡ entries_needed command
     → IsAnswered old ask (Entered (record { place = place; entry = record { maker = seat.number; command = command; answer = answer } })) new
     → HasAnswered old ask new seat next
-answered_entry old ask new seat next more command place answer kept also same made answered = record {
+answered_entry old ask new seat next more command place answer kept also same made needed answered = record {
   outcome = Entered (record { place = place; entry = record { maker = seat.number; command = command; answer = answer } });
   answered = answered;
-  noted = record { mine = made.mine; seat = same; agree = entry_agrees seat next more command place answer kept also same made };
+  noted = record { mine = made.mine; seat = same; agree = entry_agrees seat next more command place answer kept also same made needed };
 }
 
 pub answered_full : (old : Standing) (ask : Ask) (new : Standing) (seat next : Sitting) (more entries live : ℕ) → IsSameSeat seat next
@@ -338,6 +371,11 @@ answered_full old ask new seat next more entries live same full answered = recor
   answered = answered;
   noted = record { mine = full.mine ∙ sym (append-nil seat.mine); seat = same; agree = full_agrees seat next more entries live same full };
 }
+
+-- a play is refused as its cause says
+pub refused_as : (seat next : Sitting) (heard : ℕ) (plan : List Segment) (was is : PlayRefused) → IsRefused seat next heard plan was → was ≡ is →
+    IsRefused seat next heard plan is
+refused_as seat next heard plan was is refused same = subst (IsRefused seat next heard plan) same refused
 
 pub answered_offer : (old : Standing) (ask : Ask) (new : Standing) (seat next : Sitting) (heard : ℕ) (plan : List Segment) (told : Told) (found : Found)
     → IsSameSeat seat next → next.mine ≡ seat.mine → IsOffered next.steps next.seen heard plan told found
@@ -350,11 +388,11 @@ answered_offer old ask new seat next heard plan told found same mine offered ans
 }
 
 pub halted_entry : (old : Standing) (keep : ℕ) (new : Standing) (seat next : Sitting) (number place : ℕ) → IsSeat seat → IsSeat next → IsSameSeat seat next
-    → Made seat next 0 (Halt number keep) place Halted → Halts old place new → HasHalted old keep new seat next
+    → Made seat next 0 (Halt number keep) place Halted → Halts old place new → HasAnswered old (AskHalt keep) new seat next
 halted_entry old keep new seat next number place kept also same made halts = record {
   outcome = Entered (record { place = place; entry = record { maker = seat.number; command = Halt number keep; answer = Halted } });
-  halted = record { number = number; command = refl; answer = refl; halts = halts };
-  noted = record { mine = made.mine; seat = same; agree = entry_agrees seat next 0 (Halt number keep) place Halted kept also same made };
+  answered = record { number = number; command = refl; answer = refl; halts = halts };
+  noted = record { mine = made.mine; seat = same; agree = entry_agrees seat next 0 (Halt number keep) place Halted kept also same made refl };
 }
 
 -- a request, by what it asks for
@@ -380,19 +418,6 @@ asked_station old message ask is_ask asking new seat next hears is has = record 
     asking = asking;
     hears = hears;
     answered = subst (λ a. IsAnswered asking a has.outcome new) (sym is) has.answered;
-  };
-  noted = has.noted;
-}
-
-pub asked_halt : (old : Standing) (message : List ℕ) (ask : Ask) (keep : ℕ) (asking new : Standing) (seat next : Sitting) → Hears old message ask asking →
-    ask ≡ AskHalt keep → HasHalted asking keep new seat next → HasAsked old message new seat next
-asked_halt old message ask keep asking new seat next hears is has = record {
-  outcome = has.outcome;
-  heard = record {
-    ask = ask;
-    asking = asking;
-    hears = hears;
-    answered = subst (λ a. IsAnswered asking a has.outcome new) (sym is) has.halted;
   };
   noted = has.noted;
 }
@@ -485,11 +510,11 @@ closed_none booking session seat next none same is = record {
 }
 
 pub closed_some : (booking : Option Open) (old : Standing) (due : ℕ) (new : Standing) (seat next : Sitting) → open_of old ≡ booking → IsDue booking due →
-    HasHalted old due new seat next → HasClosed old new seat next
+    HasAnswered old (AskHalt due) new seat next → HasClosed old new seat next
 closed_some None old due new seat next is due_is halted = absurd due_is
 closed_some (Some booking) old due new seat next is due_is halted = record {
   halt = halted.outcome;
   closes = subst (λ b. IsClosed b old halted.outcome new) (sym is)
-      (subst (λ n. IsHalted old n halted.outcome new) due_is halted.halted);
+      (subst (λ n. IsHalted old n halted.outcome new) due_is halted.answered);
   noted = halted.noted;
 }

@@ -1,5 +1,6 @@
 -- Through a course a session stays as `IsWell` has it.
-use Rattle.std.proofs.Common.{◌≡◌, ℕ, ◌++◌, ◌&&◌, Bool, true, false, if◌then◌else◌, List, [], ◌∷◌, length, refl, sym, ap, subst, ◌∙◌}
+use Rattle.std.proofs.Common.{◌≡◌, ℕ, ◌++◌, ◌&&◌, Bool, true, false, if◌then◌else◌, List, [], ◌∷◌}
+use Rattle.std.proofs.Common.{length, refl, sym, ap, subst, ◌∙◌}
 use Rattle.std.proofs.lemmas.Bool.{true≢false}
 use Rattle.std.proofs.lemmas.List.{append-nil}
 use Rattle.film_frames.specs.declared.stores.Stored.{Stored}
@@ -14,7 +15,9 @@ use Rattle.admission.specs.declared.entries.Answer.TheVariants.{Admitted, Halted
 use Rattle.admission.specs.Histories.{is_admission}
 use Rattle.admission.specs.Makers.{Placed}
 use Rattle.session.specs.declared.asks.Ask.{Ask}
-use Rattle.session.specs.declared.asks.Ask.TheVariants.{Reply as AskReply, Play as AskPlay, Halt as AskHalt, Look as AskLook, Offer as AskOffer}
+use Rattle.session.specs.declared.asks.Ask.TheVariants.{Reply as AskReply, Play as AskPlay}
+use Rattle.session.specs.declared.asks.Ask.TheVariants.{Halt as AskHalt, Look as AskLook}
+use Rattle.session.specs.declared.asks.Ask.TheVariants.{Offer as AskOffer}
 use Rattle.session.specs.declared.settings.Settings.{Settings}
 use Rattle.session.specs.declared.states.Awaited.{Awaited}
 use Rattle.session.specs.declared.states.Counts.{Counts}
@@ -31,15 +34,22 @@ use Rattle.session.specs.Films.{sending_of}
 use Rattle.session.specs.Hearings.{after_admission, after_halt, counts_of}
 use Rattle.session.specs.Playing.{playback_of}
 use Rattle.session.specs.Ranges.{AreSettings, IsSetup}
-use Rattle.session.specs.Sendings.{can_reply, due_state, finished, halted_in, is_between, is_sending, is_taken, next_of, sent_due, sent_reply, sent_slot, slotted, state_after, stepped_in}
-use Rattle.session.specs.Standings.{Awaits, NoAnswer, PlayAnswer, HaltAnswer, LookAnswer, OfferAnswer, Standing, awaits}
+use Rattle.session.specs.Sendings.{can_reply, due_state, finished, halted_in, is_between}
+use Rattle.session.specs.Sendings.{is_sending, is_taken, next_of, sent_due, sent_reply, sent_slot}
+use Rattle.session.specs.Sendings.{slotted, state_after, stepped_in}
+use Rattle.session.specs.Standings.{Awaits, NoAnswer, PlayAnswer, HaltAnswer, LookAnswer}
+use Rattle.session.specs.Standings.{OfferAnswer, Standing, awaits}
 use Rattle.session.specs.Steps.{IsPlayIn, settled}
-use Rattle.conn.specs.Turns.{Outcome, Unasked, Entered, WasFull, Offered, Part, Text, Stage, Taking, Passed, Answered, HasHeard, IsAnswered, IsFinished, IsHalted, IsLookAnswered, IsPlayAnswered, Takes, TakesAll, after_reply, due_parts, film_bytes, slot_parts}
+use Rattle.conn.specs.Turns.{Outcome, Unasked, Entered, WasFull, Offered, Part, Text, Stage, Taking}
+use Rattle.conn.specs.Turns.{Passed, Answered, HasHeard, IsAnswered, IsFinished, IsHalted}
+use Rattle.conn.specs.Turns.{IsLookAnswered, IsPlayAnswered, Takes, TakesAll, after_reply}
+use Rattle.conn.specs.Turns.{due_parts, film_bytes, slot_parts}
 use Rattle.conn.specs.Rounds.{Comes, Round, Runs, RunsAll}
 use Rattle.conn.specs.Films.{HasSent, HasSentOn, IsReady}
 use Rattle.conn.specs.Plays.{film_in, film_since, film_taken}
 use Rattle.conn.proofs.Beginning.{play_begins}
-use Rattle.conn.proofs.Hearing.{AreShown, HasPlay, IsAskedWell, IsHalting, IsSetUpIn, IsStateOf, IsWell, hears_well}
+use Rattle.conn.proofs.Hearing.{AreShown, HasPlay, IsAskedWell, IsHalting, IsSetUpIn, IsStateOf}
+use Rattle.conn.proofs.Hearing.{IsWell, hears_well}
 use Rattle.conn.proofs.Playing.{as_it_was, later_slot, slot_cases, taken_slot}
 
 -- an admitted play is a sending of which nothing was sent

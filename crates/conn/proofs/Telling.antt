@@ -1,7 +1,10 @@
 -- What the replies of a connection tell of the station's answers.
-use Rattle.std.proofs.Common.{◌≡◌, ℕ, ◌-◌, ◌++◌, ◌&&◌, Bool, true, false, if◌then◌else◌, Contains, List, [], ◌∷◌, Some, codes, decimal, get_or, length, take, refl, sym, ap, subst, ◌∙◌, arith}
+use Rattle.std.proofs.Common.{◌≡◌, ℕ, ◌-◌, ◌++◌, ◌&&◌, Bool, true, false, if◌then◌else◌, Contains}
+use Rattle.std.proofs.Common.{List, [], ◌∷◌, Some, codes, decimal, get_or, length, take, refl, sym}
+use Rattle.std.proofs.Common.{ap, subst, ◌∙◌, arith}
 use Rattle.std.proofs.lemmas.List.{append-nil, append_assoc}
-use Rattle.std.proofs.lemmas.List.Elements.{All-contains, Contains-append_left, Contains-append_right, Contains-push}
+use Rattle.std.proofs.lemmas.List.Elements.{All-contains, Contains-append_left}
+use Rattle.std.proofs.lemmas.List.Elements.{Contains-append_right, Contains-push}
 use Rattle.vod_base.specs.Links.{Doing, HeardBytes, HeardEnd, HeardSlot, Sent}
 use Rattle.std.specs.Fmt.{digits}
 use Rattle.rtsp_text.specs.Replies.{field_line, reply_front, reply_text, status_line}
@@ -22,14 +25,23 @@ use Rattle.station.proofs.Makers.{IsAt, all-at}
 use Rattle.std.proofs.lemmas.Option.{slice_get-get_or}
 use Rattle.std.specs.Prelude.{slice_get}
 use Rattle.session.specs.declared.asks.Ask.{Ask}
-use Rattle.session.specs.declared.asks.Ask.TheVariants.{Reply as AskReply, Play as AskPlay, Halt as AskHalt, Look as AskLook, Offer as AskOffer}
+use Rattle.session.specs.declared.asks.Ask.TheVariants.{Reply as AskReply, Play as AskPlay}
+use Rattle.session.specs.declared.asks.Ask.TheVariants.{Halt as AskHalt, Look as AskLook}
+use Rattle.session.specs.declared.asks.Ask.TheVariants.{Offer as AskOffer}
 use Rattle.session.specs.Changes.{HasCode, IsNoRefusal, RefusesNone}
 use Rattle.session.specs.Hearings.{after_full, started_text}
 use Rattle.session.specs.Replies.{field, full_text, overflow_text}
-use Rattle.session.specs.Sendings.{can_reply, finished, is_between, is_sending, is_taken, sent_due, sent_reply, sent_slot, slotted, stepped_in}
-use Rattle.session.specs.Standings.{Awaits, NoAnswer, PlayAnswer, HaltAnswer, LookAnswer, OfferAnswer, Standing, awaits}
-use Rattle.conn.specs.Turns.{Outcome, Unasked, Entered, WasFull, Offered, Part, Film, Text, Stage, Taking, Passed, Answered, HasHeard, IsAnswered, IsFinished, IsHalted, IsLookAnswered, IsPlayAnswered, Takes as TakesPiece, TakesAll, slot_parts}
-use Rattle.conn.specs.Rounds.{Comes, Ending, Ends, Unheard, PeerEnded, Overfull, AtPiece, InSlot, InReply, Round, Runs, RunsAll, ending_outcomes, entries_in, round_outcomes, rounds_outcomes, takings_outcomes}
+use Rattle.session.specs.Sendings.{can_reply, finished, is_between, is_sending, is_taken, sent_due}
+use Rattle.session.specs.Sendings.{sent_reply, sent_slot, slotted, stepped_in}
+use Rattle.session.specs.Standings.{Awaits, NoAnswer, PlayAnswer, HaltAnswer, LookAnswer}
+use Rattle.session.specs.Standings.{OfferAnswer, Standing, awaits}
+use Rattle.conn.specs.Turns.{Outcome, Unasked, Entered, WasFull, Offered, Part, Film, Text, Stage}
+use Rattle.conn.specs.Turns.{Taking, Passed, Answered, HasHeard, IsAnswered, IsFinished, IsHalted}
+use Rattle.conn.specs.Turns.{IsLookAnswered, IsPlayAnswered, Takes as TakesPiece, TakesAll}
+use Rattle.conn.specs.Turns.{slot_parts}
+use Rattle.conn.specs.Rounds.{Comes, Ending, Ends, Unheard, PeerEnded, Overfull, AtPiece, InSlot}
+use Rattle.conn.specs.Rounds.{InReply, Round, Runs, RunsAll, ending_outcomes, entries_in}
+use Rattle.conn.specs.Rounds.{round_outcomes, rounds_outcomes, takings_outcomes}
 use Rattle.conn.specs.Films.{round_parts, rounds_parts, takings_parts}
 use Rattle.conn.specs.Plays.{ending_rounds}
 use Rattle.conn.specs.declared.reports.ConnEnd.{ConnEnd}
@@ -80,21 +92,25 @@ AreTold made parts = AreRepliesTold (entries_in made) made parts
 told_plain : (made : List Outcome) (text : List ℕ) → IsNoRefusal text → IsTold made text
 told_plain made text plain = record { overflow = λ is. absurd (plain.no_overflow is); full = λ is. absurd (plain.not_full is) }
 
+-- its entry is among others too
+over_among : (mine more : List Placed) (text : List ℕ) (its : TellsOver mine text) → Contains more its.placed → TellsOver more text
+over_among mine more text its made = record {
+  placed = its.placed;
+  made = made;
+  slot = its.slot;
+  booked = its.booked;
+  asked = its.asked;
+  answer = its.answer;
+  sequence = its.sequence;
+  text_is = its.text_is;
+}
+
 pub refusal_more : (mine mine' : List Placed) (made made' : List Outcome) (text : List ℕ) → IsReplyTold mine made text →
     IsReplyTold (mine ++ mine') (made ++ made') text
 refusal_more mine mine' made made' text told = record {
   overflow = λ is.
       let its = told.overflow is in
-      record {
-        placed = its.placed;
-        made = Contains-append_left mine mine' its.placed its.made;
-        slot = its.slot;
-        booked = its.booked;
-        asked = its.asked;
-        answer = its.answer;
-        sequence = its.sequence;
-        text_is = its.text_is;
-      };
+      over_among mine (mine ++ mine') text its (Contains-append_left mine mine' its.placed its.made);
   full = λ is.
       let its = told.full is in
       record {
@@ -396,16 +412,7 @@ mine_before before mine made (Text text ∷ parts) told = (
   record {
     overflow = λ is.
         let its = told.0.overflow is in
-        record {
-          placed = its.placed;
-          made = Contains-append_right before mine its.placed its.made;
-          slot = its.slot;
-          booked = its.booked;
-          asked = its.asked;
-          answer = its.answer;
-          sequence = its.sequence;
-          text_is = its.text_is;
-        };
+        over_among mine (before ++ mine) text its (Contains-append_right before mine its.placed its.made);
     full = told.0.full;
   },
   mine_before before mine made parts told.1,

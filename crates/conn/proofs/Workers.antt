@@ -1,7 +1,9 @@
 -- Lemmas on a worker's connections, one after another.
-use Rattle.std.proofs.Common.{◌≡◌, ℕ, ◌+◌, ◌<◌, List, [], ◌∷◌, ◌++◌, length, map, get_or, Option, Some, None, option_map, refl, ap, sym, ◌∙◌, subst, arith, inl, inr}
+use Rattle.std.proofs.Common.{◌≡◌, ℕ, ◌+◌, ◌<◌, List, [], ◌∷◌, ◌++◌, length, map, get_or, Option}
+use Rattle.std.proofs.Common.{Some, None, option_map, refl, ap, sym, ◌∙◌, subst, arith, inl, inr}
 use Rattle.std.specs.Prelude.{IfSome}
-use Rattle.std.proofs.lemmas.List.{append-nil, append_assoc, map-append, length-append, get_or_append_left}
+use Rattle.std.proofs.lemmas.List.{append-nil, append_assoc, map-append, length-append}
+use Rattle.std.proofs.lemmas.List.{get_or_append_left}
 use Rattle.std.proofs.lemmas.List.Sums.{fold-append}
 use Rattle.std.proofs.Math.Seq.{get_or-append_seam}
 use Rattle.std.proofs.lemmas.Bool.{cases_lt}
@@ -10,7 +12,8 @@ use Rattle.admission.specs.Makers.{Placed}
 use Rattle.session.specs.declared.notes.Receipt.{Receipt}
 use Rattle.station.specs.declared.answers.Booking.{Booking}
 use Rattle.conn.specs.declared.reports.ConnReport.{ConnReport}
-use Rattle.conn.specs.Keeping.{HasGone, Closed, at_rest, course_from, course_of, course_with, entry_receipts, receipt_for}
+use Rattle.conn.specs.Keeping.{HasGone, Closed, at_rest, course_from, course_of, course_with}
+use Rattle.conn.specs.Keeping.{entry_receipts, receipt_for}
 use Rattle.conn.specs.Parts.{IsUntouched, IsServed, AreOf, entries_told, HasServed}
 use Rattle.conn.specs.Words.{words_of}
 

@@ -1,5 +1,12 @@
 -- What a PLAY is answered to which no refusal applies.
-use Rattle.std.specs.Prelude.{◌≡◌, ℕ, []}
+use Rattle.std.specs.Prelude.{◌≡◌, ◌⊎◌, ◌+◌, ◌^◌, ◌<◌, ◌≤◌, ℕ, min, List, [], ◌∷◌, length, take}
+use Rattle.plan_cert.specs.declared.Segment.{Segment}
+use Rattle.slot_calendar.specs.Calendars.{HasRoom, IsFirstOverflow}
+use Rattle.slot_calendar.specs.Profiles.{capacity_at}
+use Rattle.slot_calendar.specs.declared.calendar.Overflow.{Overflow as Over}
+use Rattle.admission.specs.declared.entries.Entry.{Entry}
+use Rattle.admission.specs.Histories.{IsLegal, booked_after, live, state_after}
+use Rattle.admission.specs.Machine.{start_after}
 use Rattle.admission.specs.declared.entries.Answer.{Answer}
 use Rattle.admission.specs.declared.entries.Answer.TheVariants.{Admitted, Halted, Looked, Overflow}
 use Rattle.admission.specs.Makers.{Placed}
@@ -11,6 +18,7 @@ use Rattle.session.specs.Replies.{full_text, overflow_text}
 use Rattle.session.specs.Standings.{Standing}
 use Rattle.conn.specs.Turns.{Outcome, Unasked, Entered, WasFull, Offered}
 use Rattle.conn.specs.Films.{HasSent}
+use Rattle.conn.specs.Journals.{AgreeWith, HasRoomAt, Terms}
 
 -- It is admitted: the reply is 200, and the play of the run that is asked for begins, by the plan
 -- that its entry in the journal has, from the slot that the entry names. Nothing is sent of it yet.
@@ -35,6 +43,46 @@ IsEntryReplied old placed (Overflow slot booked asked) new = (sequence : ℕ)
     × (new.text ≡ overflow_text sequence slot booked asked)
 IsEntryReplied old placed Halted new = ⊥
 IsEntryReplied old placed (Looked now at booked) new = ⊥
+
+-- where a play begins that is looked at after the first entries of a journal: in the slot after the
+-- heard one and after all those that plays were asked for in
+abbrev pub start_at : List Entry → ℕ → ℕ → ℕ
+start_at journal turn heard = start_after (state_after (take turn journal)) (min heard (2 ^ 62))
+
+-- At its turn, after the first entries of a journal, a play was looked at by the station. Without
+-- room for its entry and its halt's it is answered 503, with the journal's entries and open plays.
+-- Else, where a slot would be booked above the link's capacity, 453 with the first one. Else it is
+-- admitted with 200.
+pub record IsDecided (terms : Terms) (journal : List Entry) (old : Standing) (plan : List Segment)
+    (turn : ℕ) (new : Standing) : Type 0 where
+  pub full : terms.limit < turn + live (take turn journal) + 2
+      → (sequence : ℕ) × (new.text ≡ full_text sequence turn (live (take turn journal)))
+  pub over : HasRoomAt terms journal turn 2 → (over : Over)
+      → IsFirstOverflow 0 (booked_after (take turn journal)) (capacity_at terms.steps)
+      (start_at journal turn old.heard) plan over
+      → (sequence : ℕ) × (new.text ≡ overflow_text sequence over.slot over.booked over.asked)
+  pub admitted : HasRoomAt terms journal turn 2
+      → HasRoom 0 (booked_after (take turn journal)) (capacity_at terms.steps)
+      (start_at journal turn old.heard) plan
+      → (placed : Placed) × HasBegunPlay old placed (start_at journal turn old.heard) new
+
+-- the plan of the run that a PLAY asks for was looked at, at a turn from a place on
+pub record HasTurn (terms : Terms) (journal : List Entry) (from : ℕ) (old new : Standing)
+    : Type 0 where
+  pub asking : Standing
+  pub asked : IsPlayAsked old asking
+  pub turn : ℕ
+  pub after : from ≤ turn
+  pub within : turn ≤ length journal
+  pub decided : IsDecided terms journal old asked.planned.plan turn new
+
+-- in each legal journal with which the station's answer agrees: it had its turn, or it is answered
+-- 500 for want of memory, and the station isn't asked
+abbrev pub IsPlayCompleted : Standing → Outcome → Standing → Type 0
+IsPlayCompleted old outcome new =
+    (terms : Terms) (journal : List Entry) (from : ℕ) → IsLegal terms.steps journal
+    → AgreeWith terms journal from (outcome ∷ [])
+    → HasTurn terms journal from old new ⊎ ((outcome ≡ Unasked) × HasCode 500 new.text)
 
 -- 500, and the station isn't asked; 200 where the entry admits the play, and 453 where the link has
 -- no room; 503 where the journal was full

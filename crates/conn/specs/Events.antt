@@ -1,5 +1,6 @@
 -- What an event brings: what was taken up, and how the connection ended, if it did.
-use Rattle.std.specs.Prelude.{◌≡◌, ℕ, ◌+◌, ◌<◌, ◌≤◌, ◌⊎◌, ◌++◌, ⊤, Bool, true, false, if◌then◌else◌, nat_lt, List, length, take, Option, Some, None, Ok, Err}
+use Rattle.std.specs.Prelude.{◌≡◌, ℕ, ◌+◌, ◌<◌, ◌≤◌, ◌⊎◌, ◌++◌, ⊤, Bool, true, false, if◌then◌else◌}
+use Rattle.std.specs.Prelude.{nat_lt, List, length, take, Option, Some, None, Ok, Err}
 use Rattle.vod_base.specs.Outside.{HasRisen}
 use Rattle.vod_base.specs.declared.links.Heard.{Heard}
 use Rattle.vod_base.specs.declared.links.Heard.TheVariants.{Bytes, Slot, End as PeerEnd}
@@ -7,12 +8,15 @@ use Rattle.interleave.specs.Pieces.{IsFirst}
 use Rattle.interleave.specs.Streams.{AreCut}
 use Rattle.interleave.specs.declared.pieces.Step.TheVariants.{Request, More}
 use Rattle.interleave.specs.declared.pieces.DemuxFault.{DemuxFault}
-use Rattle.interleave.specs.declared.pieces.DemuxFault.TheVariants.{HeadTooLong as LongHead, BodyTooLong as LongBody}
+use Rattle.interleave.specs.declared.pieces.DemuxFault.TheVariants.{HeadTooLong as LongHead}
+use Rattle.interleave.specs.declared.pieces.DemuxFault.TheVariants.{BodyTooLong as LongBody}
 use Rattle.conn.specs.declared.connections.Connection.{Connection}
 use Rattle.conn.specs.declared.connections.Taken.{Taken}
 use Rattle.conn.specs.declared.connections.Taken.TheVariants.{Gone, Waits, End}
 use Rattle.conn.specs.declared.reports.ConnEnd.{ConnEnd}
-use Rattle.conn.specs.declared.reports.ConnEnd.TheVariants.{Ended, TornDown, LinkFault, TooMuchInput, HeadTooLong, BodyTooLong, TurnsSpent, NoMemory}
+use Rattle.conn.specs.declared.reports.ConnEnd.TheVariants.{Ended, TornDown, LinkFault}
+use Rattle.conn.specs.declared.reports.ConnEnd.TheVariants.{TooMuchInput, HeadTooLong, BodyTooLong}
+use Rattle.conn.specs.declared.reports.ConnEnd.TheVariants.{TurnsSpent, NoMemory}
 
 -- a framing fault as the end of a connection
 abbrev pub IsEndOf : DemuxFault → ConnEnd → Type 0

@@ -17,10 +17,12 @@ use Rattle.session.specs.declared.states.State.{State}
 use Rattle.session.specs.declared.states.State.TheVariants.{Init, Playing, Ready, Stopping}
 use Rattle.admission.specs.Makers.{Placed}
 use Rattle.plan_cert.specs.declared.Segment.{Segment}
+use Rattle.slot_calendar.specs.declared.calendar.Overflow.{Overflow}
 use Rattle.station.specs.Ledgers.{play_of}
 use Rattle.session.specs.Replies.{overflow_text}
 use Rattle.session.specs.Standings.{Standing, sequence_of}
-use Rattle.conn.specs.Turns.{Outcome, Unasked, Entered, WasFull, Offered, Part, Film, Text, Stage, Taking, Passed, Answered, TakesAll, film_bytes}
+use Rattle.conn.specs.Turns.{Outcome, Unasked, Entered, WasFull, Offered, Part, Film, Text, Stage}
+use Rattle.conn.specs.Turns.{Taking, Passed, Answered, TakesAll, film_bytes}
 use Rattle.conn.specs.Rounds.{Round, RunsAll, rounds_outcomes, takings_outcomes}
 
 -- the bytes that a plan sends up to the end of a slot, of frames and reports from a place on
@@ -124,21 +126,33 @@ pub record HasSentOn (setup : Setup) (play : Played) (session : Standing) (film 
   pub paced : now.pacer.plan ≡ play.pacer.plan
   pub sent : HasSent now session.heard film
 
--- of a play these bytes were sent; from then on pieces were taken up, and event after event; no
--- booking was halted
-pub record GoesOn (old : Stage) (play : Played) (film : List ℕ) (takings : List Taking)
-    (rounds : List Round) (new : Stage) : Type 0 where
+-- a part of a connection's course with a play in it: where the connection stands at its beginning,
+-- the bytes of the play's film that were sent by then, the pieces that are taken up from there, the
+-- events after them, and where it stands at the end
+pub record Stretch : Type 0 where
+  pub old : Stage
+  pub play : Played
+  pub film : List ℕ
+  pub takings : List Taking
+  pub rounds : List Round
+  pub new : Stage
+
+-- the play goes on all the while: pieces were taken up, and event after event, and no booking was
+-- halted
+pub record GoesOn (stretch : Stretch) : Type 0 where
   pub setup : Setup
-  pub state : old.session.state ≡ Playing setup play
-  pub sent : HasSent play old.session.heard film
+  pub state : stretch.old.session.state ≡ Playing setup stretch.play
+  pub sent : HasSent stretch.play stretch.old.session.heard stretch.film
   pub mid : Stage
-  pub takes : TakesAll old takings mid
-  pub runs : RunsAll mid rounds new
-  pub unhalted : AreUnhalted (takings_outcomes takings ++ rounds_outcomes rounds)
+  pub takes : TakesAll stretch.old stretch.takings mid
+  pub runs : RunsAll mid stretch.rounds stretch.new
+  pub unhalted : AreUnhalted
+      (takings_outcomes stretch.takings ++ rounds_outcomes stretch.rounds)
 
 -- a play that the link has no room for is answered with the slot that its entry names, and with the
 -- bytes booked and asked in it
 pub record TellsOverflow (old : Standing) (plan : List Segment) (placed : Placed)
-    (slot booked asked : ℕ) (new : Standing) : Type 0 where
+    (over : Overflow) (new : Standing) : Type 0 where
   pub command : placed.entry.command ≡ play_of old.heard plan
-  pub text_is : new.text ≡ overflow_text (sequence_of old.awaited) slot booked asked
+  pub text_is : new.text
+      ≡ overflow_text (sequence_of old.awaited) over.slot over.booked over.asked

@@ -1,7 +1,10 @@
 -- The station's answers to a connection, as a journal has them.
-use Rattle.std.specs.Prelude.{◌≡◌, ℕ, ◌+◌, ◌^◌, ◌<◌, ◌≤◌, min, List, [], ◌∷◌, length, take, slice_index_or}
+use Rattle.std.specs.Prelude.{◌≡◌, ℕ, ◌+◌, ◌^◌, ◌<◌, ◌≤◌, min, List, [], ◌∷◌, length, take}
+use Rattle.std.specs.Prelude.{slice_index_or}
 use Rattle.slot_calendar.specs.declared.profiles.CapStep.{CapStep}
 use Rattle.slot_calendar.specs.Profiles.{capacity_at}
+use Rattle.admission.specs.declared.entries.Command.{Command}
+use Rattle.admission.specs.declared.entries.Command.TheVariants.{Play, Halt, Look}
 use Rattle.admission.specs.declared.entries.Entry.{Entry}
 use Rattle.admission.specs.Histories.{booked_after, live, state_after}
 use Rattle.admission.specs.Machine.{start_after}
@@ -21,12 +24,26 @@ pub record Terms : Type 0 where
 abbrev pub terms_of : Sitting → Terms
 terms_of seat = record { steps = seat.steps; limit = seat.limit; maker = seat.number }
 
--- an entry stands in a journal, at its place, which is from a place on
-pub record StandsIn (maker : ℕ) (journal : List Entry) (from : ℕ) (placed : Placed) : Type 0 where
+-- how many more entries a command needs room for, beside those for the halts of the open plays: a
+-- play's own and its halt's, a look's own, and for a halt none
+abbrev pub entries_needed : Command → ℕ
+entries_needed (Play slot plan) = 2
+entries_needed (Look slot) = 1
+entries_needed (Halt number keep) = 0
+
+-- after its first entries a journal has room for so many more, beside those for the halts of its
+-- open plays
+abbrev pub HasRoomAt : Terms → List Entry → ℕ → ℕ → Type 0
+HasRoomAt terms journal place more = place + live (take place journal) + more ≤ terms.limit
+
+-- an entry stands in a journal, at its place, which is from a place on, and there was room for it
+pub record StandsIn (terms : Terms) (journal : List Entry) (from : ℕ) (placed : Placed)
+    : Type 0 where
   pub after : from ≤ placed.place
   pub within : placed.place < length journal
   pub entry : (none : Entry) → slice_index_or journal placed.place none ≡ placed.entry
-  pub maker_is : placed.entry.maker ≡ maker
+  pub maker_is : placed.entry.maker ≡ terms.maker
+  pub room : HasRoomAt terms journal placed.place (entries_needed placed.entry.command)
 
 -- a front of the journal had no room for so many more entries, beside those for the halts of its
 -- open plays: these are its two numbers
@@ -53,7 +70,7 @@ abbrev pub AgreeWith : Terms → List Entry → ℕ → List Outcome → Type 0
 AgreeWith terms journal from [] = from ≤ length journal
 AgreeWith terms journal from (Unasked ∷ outcomes) = AgreeWith terms journal from outcomes
 AgreeWith terms journal from (Entered placed ∷ outcomes) =
-    StandsIn terms.maker journal from placed
+    StandsIn terms journal from placed
     × AgreeWith terms journal (placed.place + 1) outcomes
 AgreeWith terms journal from (WasFull more entries live ∷ outcomes) =
     IsFullIn terms.limit journal from more entries live × AgreeWith terms journal entries outcomes

@@ -1,6 +1,7 @@
 -- What a connection makes of the journal: its own entries, the receipts for them, and the booking
 -- that is open.
-use Rattle.std.specs.Prelude.{◌≡◌, ℕ, ◌≤◌, ◌==◌, ⊤, if◌then◌else◌, List, [], ◌∷◌, ◌++◌, map, Option, Some, None}
+use Rattle.std.specs.Prelude.{◌≡◌, ℕ, ◌≤◌, ◌==◌, ⊤, if◌then◌else◌, List, [], ◌∷◌, ◌++◌, map, Option}
+use Rattle.std.specs.Prelude.{Some, None}
 use Rattle.std.specs.List.{fold}
 use Rattle.plan_cert.specs.Slots.{total_bytes}
 use Rattle.admission.specs.declared.entries.Command.{Command}
@@ -9,7 +10,8 @@ use Rattle.admission.specs.declared.entries.Answer.{Answer}
 use Rattle.admission.specs.declared.entries.Answer.TheVariants.{Admitted, Overflow, Halted, Looked}
 use Rattle.admission.specs.Makers.{Placed, IsOpenAmong}
 use Rattle.session.specs.declared.notes.Receipt.{Receipt}
-use Rattle.session.specs.declared.notes.Receipt.TheVariants.{Entry as EntryReceipt, Full as FullReceipt}
+use Rattle.session.specs.declared.notes.Receipt.TheVariants.{Entry as EntryReceipt}
+use Rattle.session.specs.declared.notes.Receipt.TheVariants.{Full as FullReceipt}
 use Rattle.session.specs.Standings.{Open, IsAtRest, open_of}
 use Rattle.station.specs.declared.answers.Booking.{Booking}
 use Rattle.conn.specs.declared.connections.Connection.{Connection}

@@ -1,6 +1,7 @@
 -- What a connection keeps to while a play goes on: the film's bytes by the plan of the play's run,
 -- between the client's curves.
-use Rattle.std.specs.Prelude.{◌≡◌, ℕ, ◌+◌, ◌-◌, ◌≤◌, ◌++◌, ⊤, Bool, false, if◌then◌else◌, List, [], ◌∷◌, length, take, drop}
+use Rattle.std.specs.Prelude.{◌≡◌, ℕ, ◌+◌, ◌-◌, ◌≤◌, ◌++◌, ⊤, Bool, false, if◌then◌else◌, List, []}
+use Rattle.std.specs.Prelude.{◌∷◌, length, take, drop}
 use Rattle.vod_base.specs.Links.{Doing, HeardBytes, HeardEnd, HeardSlot, Sent}
 use Rattle.mpeg_scan.specs.Rates.{picture_time}
 use Rattle.film_frames.specs.declared.stores.Stored.{Stored}
@@ -19,8 +20,10 @@ use Rattle.session.specs.declared.states.State.TheVariants.{Init, Playing, Ready
 use Rattle.session.specs.Films.{IsFilmAt, sending_of}
 use Rattle.session.specs.Playing.{playback_of}
 use Rattle.session.specs.Standings.{Standing, taken_up}
-use Rattle.conn.specs.Turns.{Outcome, Unasked, Entered, WasFull, Offered, Stage, Taking, Passed, Answered, film_bytes, stage}
-use Rattle.conn.specs.Rounds.{Comes, Ending, Unheard, PeerEnded, Overfull, AtPiece, InSlot, InReply, Round, RunsAll}
+use Rattle.conn.specs.Turns.{Outcome, Unasked, Entered, WasFull, Offered, Stage, Taking, Passed}
+use Rattle.conn.specs.Turns.{Answered, film_bytes, stage}
+use Rattle.conn.specs.Rounds.{Comes, Ending, Unheard, PeerEnded, Overfull, AtPiece, InSlot, InReply}
+use Rattle.conn.specs.Rounds.{Round, RunsAll}
 use Rattle.conn.specs.Films.{IsBetween}
 
 -- what holds of each film: its units are those of a trace, and a picture's time is in its range

@@ -1,5 +1,6 @@
 -- What a connection promises over its whole course, of its plays and of the plays that it refuses.
-use Rattle.std.specs.Prelude.{◌≡◌, ◌≤◌, ℕ, ◌⊎◌, ◌++◌, ⊤, Contains, List, [], ◌∷◌, slice_get, take, Option, Some}
+use Rattle.std.specs.Prelude.{◌≡◌, ◌≤◌, ℕ, ◌⊎◌, ◌++◌, ⊤, Contains, List, [], ◌∷◌, slice_get, take}
+use Rattle.std.specs.Prelude.{Option, Some}
 use Rattle.vod_base.specs.Links.{Doing}
 use Rattle.admission.specs.declared.entries.Answer.TheVariants.{Overflow}
 use Rattle.admission.specs.declared.entries.Command.TheVariants.{Play}

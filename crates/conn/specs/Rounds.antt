@@ -1,17 +1,23 @@
 -- The course of a connection: event after event, what was taken up, what the station answered and
 -- what was sent.
-use Rattle.std.specs.Prelude.{◌≡◌, ℕ, ◌+◌, ◌^◌, ◌<◌, ◌≤◌, ◌⊎◌, ◌++◌, true, false, List, [], ◌∷◌, length, take, drop, Ok, Err}
+use Rattle.std.specs.Prelude.{◌≡◌, ℕ, ◌+◌, ◌^◌, ◌<◌, ◌≤◌, ◌⊎◌, ◌++◌, true, false, List, [], ◌∷◌}
+use Rattle.std.specs.Prelude.{length, take, drop, Ok, Err}
 use Rattle.vod_base.specs.Links.{Doing, HeardBytes, HeardEnd, HeardSlot, Sent, sends}
 use Rattle.interleave.specs.Pieces.{IsFirst}
 use Rattle.interleave.specs.declared.pieces.Step.TheVariants.{More, Request}
-use Rattle.interleave.specs.declared.pieces.DemuxFault.TheVariants.{HeadTooLong as LongHead, BodyTooLong as LongBody}
+use Rattle.interleave.specs.declared.pieces.DemuxFault.TheVariants.{HeadTooLong as LongHead}
+use Rattle.interleave.specs.declared.pieces.DemuxFault.TheVariants.{BodyTooLong as LongBody}
 use Rattle.admission.specs.Makers.{Placed}
-use Rattle.session.specs.Sendings.{can_reply, due_bytes, due_state, is_sending, is_taken, missed_between, start_in}
+use Rattle.session.specs.Sendings.{can_reply, due_bytes, due_state, is_sending, is_taken}
+use Rattle.session.specs.Sendings.{missed_between, start_in}
 use Rattle.session.specs.Steps.{IsCarried}
 use Rattle.session.specs.Standings.{IsAtRest, Standing, open_in, open_of}
-use Rattle.conn.specs.Turns.{HasHeard, HasStepped, IsNext, Outcome, Unasked, Part, Stage, Taking, Passed, Answered, TakesAll, entry_in, parts_bytes, stage}
+use Rattle.conn.specs.Turns.{HasHeard, HasStepped, IsNext, Outcome, Unasked, Part, Stage, Taking}
+use Rattle.conn.specs.Turns.{Passed, Answered, TakesAll, entry_in, parts_bytes, stage}
 use Rattle.conn.specs.declared.reports.ConnEnd.{ConnEnd}
-use Rattle.conn.specs.declared.reports.ConnEnd.TheVariants.{Ended, TornDown, LinkFault, TooMuchInput, HeadTooLong, BodyTooLong, TurnsSpent}
+use Rattle.conn.specs.declared.reports.ConnEnd.TheVariants.{Ended, TornDown, LinkFault}
+use Rattle.conn.specs.declared.reports.ConnEnd.TheVariants.{TooMuchInput, HeadTooLong, BodyTooLong}
+use Rattle.conn.specs.declared.reports.ConnEnd.TheVariants.{TurnsSpent}
 
 -- an event, what was sent in its slot, the halt of a play that was done, and the pieces that were
 -- taken up after it
@@ -117,7 +123,7 @@ abbrev pub Ends : Stage → ℕ → Ending → ConnEnd → Stage → Type 0
 Ends old count Unheard end new = IsUnheard end count × (new ≡ old)
 Ends old count PeerEnded end new = (end ≡ Ended) × (new ≡ old)
 Ends old count (Overfull bytes) end new = (end ≡ TooMuchInput)
-    × (131072 < length old.input + length bytes) × (new ≡ old)
+    × (131072 < length old.input + length bytes) × (old.session.waits ≡ true) × (new ≡ old)
 Ends old count (AtPiece round) end new = Runs old round new × IsStopped end new
 Ends old count (InSlot slot front) end new = (end ≡ LinkFault) × HasFailedInSlot old slot front new
 Ends old count (InReply round message outcome front) end new = (end ≡ LinkFault)

@@ -1,5 +1,6 @@
 -- What is seen of a connection as it goes on, and what each of its doings adds.
-use Rattle.std.specs.Prelude.{◌≡◌, ℕ, ◌⊎◌, ◌++◌, List, [], ◌∷◌, length, Option, Some, None}
+use Rattle.std.specs.Prelude.{◌≡◌, ℕ, ◌+◌, ◌^◌, ◌≤◌, ◌⊎◌, ◌++◌, List, [], ◌∷◌, length, Option}
+use Rattle.std.specs.Prelude.{Some, None}
 use Rattle.vod_base.specs.Links.{Doing, sends, told_more}
 use Rattle.station.specs.Seats.{IsSameSeat, Sitting}
 use Rattle.session.specs.declared.asks.Ask.{Ask}
@@ -10,8 +11,12 @@ use Rattle.conn.specs.declared.connections.Taken.TheVariants.{Gone, Waits, End}
 use Rattle.conn.specs.declared.reports.ConnEnd.{ConnEnd}
 use Rattle.conn.specs.declared.reports.ConnEnd.TheVariants.{LinkFault}
 use Rattle.conn.specs.Journals.{AgreeWith, terms_of}
-use Rattle.conn.specs.Turns.{HasHeard, HasStepped, IsAnswered, IsHalted, Outcome, Part, Stage, Taking, TakesAll, parts_bytes, stage}
-use Rattle.conn.specs.Rounds.{Ending, Ends, HasFailedInReply, HasFailedInSlot, IsIdle, IsStopped, Round, Runs, RunsAll, ending_bytes, ending_doings, ending_events, ending_outcomes, entries_in, round_bytes, round_outcomes, rounds_doings, rounds_outcomes, takings_bytes, takings_outcomes}
+use Rattle.conn.specs.Turns.{HasHeard, HasStepped, IsAnswered, Outcome, Part, Stage}
+use Rattle.conn.specs.Turns.{Taking, TakesAll, parts_bytes, stage}
+use Rattle.conn.specs.Rounds.{Ending, Ends, HasFailedInReply, HasFailedInSlot, IsIdle, IsStopped}
+use Rattle.conn.specs.Rounds.{Round, Runs, RunsAll, ending_bytes, ending_doings, ending_events}
+use Rattle.conn.specs.Rounds.{ending_outcomes, entries_in, round_bytes, round_outcomes}
+use Rattle.conn.specs.Rounds.{rounds_doings, rounds_outcomes, takings_bytes, takings_outcomes}
 
 -- where a connection stands, what its link told, and its seat
 pub record Sight : Type 0 where
@@ -39,13 +44,6 @@ pub record HasAnswered (old : Standing) (ask : Ask) (new : Standing) (old_seat n
     : Type 0 where
   pub outcome : Outcome
   pub answered : IsAnswered old ask outcome new
-  pub noted : AreNoted old_seat new_seat (outcome ∷ [])
-
--- a booking was halted
-pub record HasHalted (old : Standing) (keep : ℕ) (new : Standing) (old_seat new_seat : Sitting)
-    : Type 0 where
-  pub outcome : Outcome
-  pub halted : IsHalted old keep outcome new
   pub noted : AreNoted old_seat new_seat (outcome ∷ [])
 
 -- a request was heard, and answered as far as the station goes
@@ -131,12 +129,13 @@ pub record HasRun (count : ℕ) (old new : Sight) : Type 0 where
   pub told : new.told ≡ told_more old.told (rounds_doings rounds)
   pub noted : AreNoted old.seat new.seat (rounds_outcomes rounds)
 
--- a connection's whole course, up to its end
+-- a connection's whole course, up to its end; at most 2^40 events were heard
 pub record HasCourse (end : ConnEnd) (old new : Sight) : Type 0 where
   pub rounds : List Round
   pub mid : Stage
   pub runs : RunsAll old.stage rounds mid
   pub ending : Ending
+  pub few : length rounds + length (ending_events ending) ≤ 2 ^ 40
   pub ends : Ends mid (length rounds) ending end new.stage
   pub told : new.told ≡ told_more old.told (rounds_doings rounds ++ ending_doings ending)
   pub noted : AreNoted old.seat new.seat (rounds_outcomes rounds ++ ending_outcomes ending)

@@ -1,5 +1,6 @@
 -- What a connection does with one piece of its input, and with one slot.
-use Rattle.std.specs.Prelude.{◌≡◌, ℕ, ◌<◌, ◌⊎◌, ◌++◌, ◌&&◌, true, false, if◌then◌else◌, List, [], ◌∷◌, length, take, drop, Option, Some, None, Ok}
+use Rattle.std.specs.Prelude.{◌≡◌, ℕ, ◌<◌, ◌⊎◌, ◌++◌, ◌&&◌, true, false, if◌then◌else◌, List, []}
+use Rattle.std.specs.Prelude.{◌∷◌, length, take, drop, Option, Some, None, Ok}
 use Rattle.interleave.specs.Pieces.{IsFirst}
 use Rattle.interleave.specs.declared.pieces.Step.TheVariants.{Block, Request, Skip}
 use Rattle.admission.specs.declared.entries.Answer.{Answer}
@@ -8,10 +9,14 @@ use Rattle.admission.specs.declared.entries.Command.TheVariants.{Halt}
 use Rattle.admission.specs.Makers.{Placed}
 use Rattle.station.specs.Ledgers.{look_at, play_of}
 use Rattle.session.specs.declared.asks.Ask.{Ask}
-use Rattle.session.specs.declared.asks.Ask.TheVariants.{Reply as AskReply, Play as AskPlay, Halt as AskHalt, Look as AskLook, Offer as AskOffer}
+use Rattle.session.specs.declared.asks.Ask.TheVariants.{Reply as AskReply, Play as AskPlay}
+use Rattle.session.specs.declared.asks.Ask.TheVariants.{Halt as AskHalt, Look as AskLook}
+use Rattle.session.specs.declared.asks.Ask.TheVariants.{Offer as AskOffer}
 use Rattle.session.specs.declared.notes.OfferNote.{OfferNote}
-use Rattle.session.specs.Hearings.{Halts, Hears, after_admission, after_full, after_look, after_offer, after_overflow}
-use Rattle.session.specs.Sendings.{can_reply, is_between, is_sending, is_taken, sent_reply, slotted, step_bytes, stepped_in}
+use Rattle.session.specs.Hearings.{Halts, Hears, after_admission, after_full, after_look}
+use Rattle.session.specs.Hearings.{after_offer, after_overflow}
+use Rattle.session.specs.Sendings.{can_reply, is_between, is_sending, is_taken, sent_reply, slotted}
+use Rattle.session.specs.Sendings.{step_bytes, stepped_in}
 use Rattle.session.specs.Steps.{IsPlayIn}
 use Rattle.session.specs.Standings.{Awaits, HaltAnswer, NoAnswer, Open, Standing, awaits}
 

@@ -14,5 +14,5 @@ stream_word seed worker connection place =
 -- the first five words
 abbrev pub words_of : List ℕ → ℕ → ℕ → List ℕ
 words_of seed worker connection =
-    stream_word seed worker connection 0 ∷ stream_word seed worker connection 1 ∷ stream_word seed worker connection 2
-    ∷ stream_word seed worker connection 3 ∷ stream_word seed worker connection 4 ∷ []
+    let word : ℕ → ℕ = stream_word seed worker connection in
+    word 0 ∷ word 1 ∷ word 2 ∷ word 3 ∷ word 4 ∷ []

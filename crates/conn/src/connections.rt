@@ -1,16 +1,21 @@
 //! A connection as it goes on: its input, its session, and the booking that is open for it.
 
-ghost use Rattle.std.specs.Prelude.{◌≡◌, ◌≤◌, false, None, [], drop, take, length as list_length, IfOk, OnOk, OnErr};
+ghost use Rattle.std.specs.Prelude.{◌≡◌, ◌<◌, ◌≤◌, Ok, false, None, [], drop, take};
+ghost use Rattle.std.specs.Prelude.{length as list_length, IfOk, OnOk, OnErr};
 ghost use Rattle.vod_base.specs.Links.{IsWithin, doing_of};
-ghost use Rattle.interleave.specs.Pieces.{IsRequestLength};
+ghost use Rattle.interleave.specs.Pieces.{IsFirst, IsRequestLength};
+ghost use Rattle.interleave.specs.declared.pieces.Step.TheVariants.{More};
 ghost use Rattle.station.specs.Seats.{IsSameSeat};
-ghost use Rattle.session.specs.Standings.{AreFilms, AreSettings, CanKeep, IsAtRest, IsHalt, PlayAnswer, LookAnswer, OfferAnswer, awaits, open_of};
+ghost use Rattle.session.specs.Standings.{AreFilms, AreSettings, CanKeep, IsAtRest, IsHalt};
+ghost use Rattle.session.specs.Standings.{PlayAnswer, LookAnswer, OfferAnswer, awaits, open_of};
 ghost use Rattle.conn.specs.Keeping.{HasGone, IsHeld, IsQuiet, business};
-ghost use Rattle.conn.specs.Sights.{HasAnswered, HasAsked, HasBroken, HasComeTo, HasHalted, HasPassed, HasTakenUp, TakesNext, sight};
+ghost use Rattle.conn.specs.Sights.{HasAnswered, HasAsked, HasBroken, HasComeTo};
+ghost use Rattle.conn.specs.Sights.{HasPassed, HasTakenUp, TakesNext, sight};
 ghost use Rattle.session.specs.declared.asks.Ask.{Ask};
 ghost use Rattle.conn.specs.Served.{HasClosed};
 ghost use Rattle.session.specs.Hearings.{new_standing};
-ghost use Rattle.conn.specs.Events.{CutsOn, HasCounted, HasHeard, IsEndOf, IsTaken, IsTakenUp, end_in, with_heard};
+ghost use Rattle.conn.specs.Events.{CutsOn, HasCounted, HasHeard, IsEndOf, IsTaken, IsTakenUp};
+ghost use Rattle.conn.specs.Events.{IsWaiting, end_in, with_heard};
 ghost use Rattle.vod_base.specs.Outside.{HasRisen};
 
 use crate::reports::ConnEnd;
@@ -43,6 +48,7 @@ impl<'a> Connection<'a> {
         requires settings { AreSettings settings.now }
         requires films { AreFilms films.now }
         ensures input { IfOk result (λ connection. connection.input ≡ []) }
+        ensures waiting { IfOk result IsWaiting }
         ensures exact { IfOk result
             (λ connection. connection.session ≡ new_standing films.now settings.now words) }
         ensures booking { IfOk result (λ connection. connection.booking ≡ None) }
@@ -64,7 +70,7 @@ impl<'a> Connection<'a> {
 
     /// Takes up an event, and answers how it ended the connection, if it did. The bytes that came
     /// stand in front of `bytes`.
-    #[tactic(auto, using(crate::proofs::Counting::counted_same, crate::proofs::Counting::counted_end, crate::proofs::Counting::counted_fault, crate::proofs::Counting::counted_on))]
+    #[tactic(auto, using(crate::proofs::Steps::count_steps))]
     pub(crate) fn hear<R: Wait, K: Link>(
         &mut self,
         rt: &R,
@@ -78,12 +84,15 @@ impl<'a> Connection<'a> {
         requires quiet { IsQuiet seat.old.mine self.old }
         requires torn { self.old.session.torn ≡ false }
         requires heard { IsWithin heard (list_length bytes.now) }
+        requires few { list_length bytes.now ≤ 16384 }
+        requires waiting { IsWaiting self.old }
         requires lost { self.old.session.lost ≡ false }
         ensures seat { IsSameSeat seat.old seat.new }
         ensures quiet { IsQuiet seat.new.mine self.new }
         ensures gone { HasGone (business seat.old.mine self.old) (business seat.new.mine self.new) }
         ensures comes { HasComeTo result (doing_of heard bytes.now)
-            (sight self.old (K.told link.old) seat.old) (sight self.new (K.told link.new) seat.new) }
+            (sight self.old (K.told link.old) seat.old)
+            (sight self.new (K.told link.new) seat.new) }
         ensures cut { CutsOn (with_heard self.old.input heard bytes.now) self.new.input }
         ensures taken { HasHeard heard (list_length self.old.input) result self.new }
         ensures counted { HasCounted result (K.faults link.old) (K.faults link.new) }
@@ -91,6 +100,7 @@ impl<'a> Connection<'a> {
         match heard {
             Heard::End => Some(ConnEnd::Ended),
             Heard::Bytes(count) => {
+                law_few_wait(&self.input);
                 if self.input.put(&bytes[..count]).is_err() {
                     return Some(ConnEnd::TooMuchInput);
                 }
@@ -107,7 +117,7 @@ impl<'a> Connection<'a> {
 
     /// Takes up a slot: what is due is sent, a waiting reply goes out, and a play that is done is
     /// halted.
-    #[tactic(auto, using(crate::proofs::Going::gone_still, crate::proofs::Going::gone_on, crate::proofs::Going::held_same))]
+    #[tactic(auto, using(crate::proofs::Steps::slot_steps))]
     fn step<R: Wait, K: Link>(
         &mut self,
         rt: &R,
@@ -123,9 +133,11 @@ impl<'a> Connection<'a> {
         ensures quiet { IsQuiet seat.new.mine self.new }
         ensures gone { HasGone (business seat.old.mine self.old) (business seat.new.mine self.new) }
         ensures passed { OnOk result (HasPassed
-            (sight self.old (K.told link.old) seat.old) (sight self.new (K.told link.new) seat.new) slot) }
+            (sight self.old (K.told link.old) seat.old)
+            (sight self.new (K.told link.new) seat.new) slot) }
         ensures broken { OnErr result (HasBroken
-            (sight self.old (K.told link.old) seat.old) (sight self.new (K.told link.new) seat.new) slot) }
+            (sight self.old (K.told link.old) seat.old)
+            (sight self.new (K.told link.new) seat.new) slot) }
         ensures input { self.new.input ≡ self.old.input }
         ensures lost { OnOk result (self.new.session.lost ≡ false) }
         ensures count { K.faults link.old ≤ K.faults link.new }
@@ -139,7 +151,7 @@ impl<'a> Connection<'a> {
     }
 
     /// Takes up what waits, and answers how it ended the connection, if it did.
-    #[tactic(auto, using(crate::proofs::Counting::counted_same, crate::proofs::Counting::counted_end, crate::proofs::Counting::counted_fault, crate::proofs::Counting::counted_on))]
+    #[tactic(auto, using(crate::proofs::Steps::count_steps))]
     fn take_up<R: Wait, K: Link>(
         &mut self,
         rt: &R,
@@ -154,7 +166,8 @@ impl<'a> Connection<'a> {
         ensures quiet { IsQuiet seat.new.mine self.new }
         ensures gone { HasGone (business seat.old.mine self.old) (business seat.new.mine self.new) }
         ensures up { HasTakenUp result
-            (sight self.old (K.told link.old) seat.old) (sight self.new (K.told link.new) seat.new) }
+            (sight self.old (K.told link.old) seat.old)
+            (sight self.new (K.told link.new) seat.new) }
         ensures cut { CutsOn self.old.input self.new.input }
         ensures taken { IsTakenUp result self.new }
         ensures counted { HasCounted result (K.faults link.old) (K.faults link.new) }
@@ -170,7 +183,7 @@ impl<'a> Connection<'a> {
 
     /// Takes up the piece in front. A request is taken up only where no reply waits, and none is
     /// once a TEARDOWN was answered 200.
-    #[tactic(auto, using(crate::proofs::Counting::counted_same, crate::proofs::Counting::counted_end, crate::proofs::Counting::counted_fault, crate::proofs::Counting::counted_on))]
+    #[tactic(auto, using(crate::proofs::Steps::count_steps))]
     fn take_next<R: Wait, K: Link>(
         &mut self,
         rt: &R,
@@ -185,7 +198,8 @@ impl<'a> Connection<'a> {
         ensures quiet { IsQuiet seat.new.mine self.new }
         ensures gone { HasGone (business seat.old.mine self.old) (business seat.new.mine self.new) }
         ensures takes { TakesNext result
-            (sight self.old (K.told link.old) seat.old) (sight self.new (K.told link.new) seat.new) }
+            (sight self.old (K.told link.old) seat.old)
+            (sight self.new (K.told link.new) seat.new) }
         ensures cut { CutsOn self.old.input self.new.input }
         ensures taken { IsTaken result (list_length self.old.input) self.new }
         ensures counted { HasCounted (end_in result) (K.faults link.old) (K.faults link.new) }
@@ -289,7 +303,8 @@ impl<'a> Connection<'a> {
         ensures seat { IsSameSeat seat.old seat.new }
         ensures quiet { IsQuiet seat.new.mine self.new }
         ensures gone { HasGone (business seat.old.mine self.old) (business seat.new.mine self.new) }
-        ensures halted { HasHalted self.old.session keep self.new.session seat.old seat.new }
+        ensures answered { HasAnswered self.old.session (Ask.Halt keep) self.new.session
+            seat.old seat.new }
         ensures input { self.new.input ≡ self.old.input }
         ensures open { open_of self.new.session ≡ None }
         ensures booking { self.new.booking ≡ None }
@@ -356,7 +371,7 @@ impl<'a> Connection<'a> {
     }
 
     /// Ends the connection: an open booking is halted at what is due.
-    #[tactic(auto, using(crate::proofs::Going::gone_still, crate::proofs::Going::held_none, crate::proofs::Cutting::seat_none))]
+    #[tactic(auto, using(crate::proofs::Steps::close_steps))]
     pub(crate) fn close<R: Wait>(&mut self, rt: &R, station: &Station, seat: &mut Seat)
         requires seat { seat.old.id ≡ station.now.id }
         requires quiet { IsQuiet seat.old.mine self.old }
@@ -404,6 +419,14 @@ pub(crate) enum Taken {
     Waits,
     /// The connection ended.
     End(ConnEnd),
+}
+
+/// Where no whole piece waits, fewer than 81,920 bytes do: a whole head and body would be a piece.
+fn law_few_wait(input: &Demux)
+    ensures { IsFirst input.now (Ok More) → list_length input.now < 81920 }
+{
+    let waiting = input.waiting();
+    let _count = waiting.len();
 }
 
 /// How a framing fault ends a connection.

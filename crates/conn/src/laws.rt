@@ -5,6 +5,7 @@ ghost use Rattle.admission.specs.declared.entries.Answer.{Answer};
 ghost use Rattle.admission.specs.Makers.{Placed};
 ghost use Rattle.pacer.specs.Pacings.{first_slots};
 ghost use Rattle.plan_cert.specs.declared.Segment.{Segment};
+ghost use Rattle.slot_calendar.specs.declared.calendar.Overflow.{Overflow};
 ghost use Rattle.session.specs.declared.asks.Ask.{Ask};
 ghost use Rattle.session.specs.declared.states.Awaited.TheVariants.{Play};
 ghost use Rattle.session.specs.declared.states.Play.{Play as Played};
@@ -13,12 +14,13 @@ ghost use Rattle.session.specs.declared.states.Setup.{Setup};
 ghost use Rattle.session.specs.Changes.{CanBePlayed};
 ghost use Rattle.session.specs.Hearings.{new_standing};
 ghost use Rattle.session.specs.Standings.{AreSettings, Standing};
-ghost use Rattle.conn.specs.Admissions.{IsPlayReplied};
-ghost use Rattle.conn.specs.Turns.{Entered, HasHeard, IsAnswered, IsPlayAnswered, Outcome, Stage, Taking};
+ghost use Rattle.conn.specs.Admissions.{IsPlayCompleted, IsPlayReplied};
+ghost use Rattle.conn.specs.Turns.{Entered, HasHeard, IsAnswered, IsPlayAnswered, Outcome};
 ghost use Rattle.conn.specs.Plays.{ArePlaysKept};
 ghost use Rattle.conn.specs.Rounds.{Round};
-ghost use Rattle.conn.specs.Films.{GoesOn, HasBegun, HasSent, HasSentOn, IsReady};
-ghost use Rattle.conn.specs.Films.{StandBetween, TellsOverflow, rounds_film, rounds_parts, takings_parts};
+ghost use Rattle.conn.specs.Films.{GoesOn, HasBegun, HasSent, HasSentOn, IsReady, StandBetween};
+ghost use Rattle.conn.specs.Films.{Stretch, TellsOverflow};
+ghost use Rattle.conn.specs.Films.{rounds_film, rounds_parts, takings_parts};
 
 use crate::films::law_all_shown;
 use film_frames::Stored;
@@ -39,9 +41,9 @@ pub fn law_play_begins()
 /// all in order, until its play is halted. Slots that weren't heard are made up by the next one
 /// that is.
 pub fn law_film_by_plan()
-    ensures { (old new : Stage) (play : Played) (film : List ℕ) (takings : List Taking)
-        (rounds : List Round) (on : GoesOn old play film takings rounds new)
-        → HasSentOn on.setup play new.session (film ++ rounds_film rounds) }
+    ensures { (stretch : Stretch) (on : GoesOn stretch)
+        → HasSentOn on.setup stretch.play stretch.new.session
+        (stretch.film ++ rounds_film stretch.rounds) }
 {}
 
 /// What was sent of a film is as many bytes as its plan has up to the heard slot.
@@ -66,20 +68,20 @@ pub fn law_between_curves(films: &[Stored], settings: &Settings, words: [u32; 5]
 /// Until its play is halted, each reply stands between two frames or reports of the film, and none
 /// inside one (RFC 2326 section 10.12).
 pub fn law_replies_between()
-    ensures { (old new : Stage) (play : Played) (film : List ℕ) (takings : List Taking)
-        (rounds : List Round) → GoesOn old play film takings rounds new
-        → StandBetween play.pacer.pieces (play.pacer.before + length film)
-        (takings_parts takings ++ rounds_parts rounds) }
+    ensures { (stretch : Stretch) → GoesOn stretch
+        → StandBetween stretch.play.pacer.pieces
+        (stretch.play.pacer.before + length stretch.film)
+        (takings_parts stretch.takings ++ rounds_parts stretch.rounds) }
 {}
 
 /// A play that the link has no room for is answered 453 with the slot that its entry in the journal
 /// names.
 #[tactic(auto, using(crate::proofs::Refusing::overflow_told))]
 pub fn law_overflow_told()
-    ensures { (old new : Standing) (plan : List Segment) (placed : Placed) (slot booked asked : ℕ)
+    ensures { (old new : Standing) (plan : List Segment) (placed : Placed) (over : Overflow)
         → IsAnswered old (Ask.Play plan) (Entered placed) new
-        → placed.entry.answer ≡ Answer.Overflow slot booked asked
-        → TellsOverflow old plan placed slot booked asked new }
+        → placed.entry.answer ≡ Answer.Overflow over.slot over.booked over.asked
+        → TellsOverflow old plan placed over new }
 {}
 
 /// A PLAY in Ready to which no refusal applies is answered by what the station made of it: 200
@@ -90,4 +92,14 @@ pub fn law_play_answered()
     ensures { (old new : Standing) (message : List ℕ) (outcome : Outcome)
         → CanBePlayed old message → HasHeard old message outcome new
         → IsPlayReplied old outcome new }
+{}
+
+/// A PLAY in Ready to which no refusal applies is answered 200 where at its turn the journal has
+/// room for it and no slot would be booked above the link's capacity; 453 exactly where there is
+/// room and a slot would be, with the first such slot; 503 exactly where there is no room; or 500
+/// where memory was wanting. The journal is any legal one with which the station's answer agrees.
+pub fn law_play_completed()
+    ensures { (old new : Standing) (message : List ℕ) (outcome : Outcome)
+        → CanBePlayed old message → HasHeard old message outcome new
+        → IsPlayCompleted old outcome new }
 {}

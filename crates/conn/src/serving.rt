@@ -6,7 +6,7 @@ ghost use Rattle.session.specs.Hearings.{new_standing};
 ghost use Rattle.session.specs.Standings.{AreFilms, AreSettings};
 ghost use Rattle.station.specs.Seats.{IsSameSeat};
 ghost use Rattle.conn.specs.declared.reports.ConnEnd.TheVariants.{LinkFault};
-ghost use Rattle.conn.specs.Events.{HasCounted};
+ghost use Rattle.conn.specs.Events.{HasCounted, IsWaiting};
 ghost use Rattle.conn.specs.Keeping.{HasGone, IsQuiet, at_rest, business};
 ghost use Rattle.conn.specs.Promises.{KeepsPromise};
 ghost use Rattle.conn.specs.Served.{HasServedConnection};
@@ -81,7 +81,7 @@ pub fn serve_connection<R: Wait, K: Link>(
 }
 
 /// Hears events until one of them ends the connection.
-#[tactic(auto, using(crate::proofs::Cutting::seat_on, crate::proofs::Cutting::seat_none, crate::proofs::Going::gone_on, crate::proofs::Going::gone_still, crate::proofs::Counting::counted_same, crate::proofs::Counting::counted_fault, crate::proofs::Counting::counted_on))]
+#[tactic(auto, using(crate::proofs::Steps::event_steps))]
 fn hear_all<R: Wait, K: Link>(
     rt: &R,
     station: &Station,
@@ -92,6 +92,7 @@ fn hear_all<R: Wait, K: Link>(
     requires seat { seat.old.id ≡ station.now.id }
     requires quiet { IsQuiet seat.old.mine connection.old }
     requires torn { connection.old.session.torn ≡ false }
+    requires waiting { IsWaiting connection.old }
     requires lost { connection.old.session.lost ≡ false }
     ensures seat { IsSameSeat seat.old seat.new }
     ensures quiet { IsQuiet seat.new.mine connection.new }

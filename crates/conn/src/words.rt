@@ -1,3 +1,5 @@
+//! The random words of a connection, drawn from a server's seed.
+
 ghost use Rattle.std.specs.Prelude.{◌≡◌};
 ghost use Rattle.conn.specs.Words.{words_of};
 

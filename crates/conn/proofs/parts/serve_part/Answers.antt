@@ -1,14 +1,35 @@
+use Rattle.std.proofs.Common.{◌≡◌, ◌++◌, ◌∷◌, [], length, option_map, rules, arith}
+use Rattle.vod_base.specs.Gates.{gave}
+use Rattle.conn.specs.Parts.{duty, outlet}
+use Rattle.conn.specs.Words.{words_of}
+use Rattle.conn.proofs.Agreeing.{served_fresh}
+use Rattle.conn.proofs.Progress.{none_served, one_served}
 use Rattle.conn.proofs.parts.serve_part.Goals as goal
 
-pub returns-clause-part : goal.returns-clause-part
-returns-clause-part g c = record {
-  seat = c.serve_all.ensures.seat;
-  entries = c.serve_all.ensures.entries;
-  reports = c.serve_all.ensures.reports;
-  served = c.serve_all.ensures.served;
-  connections = c.serve_all.ensures.connections;
-  count = c.serve_all.ensures.count;
-  all = c.serve_all.ensures.all;
-  fault = c.serve_all.ensures.fault;
-  failed = c.serve_all.ensures.failed;
-}
+pub connections-init : goal.connections-init
+connections-init g c =
+    none_served (duty c.args.films.now c.args.settings.now c.args.seed c.args.worker) c.args.seat.now
+    (outlet (g.G.Gate.faults c.args.part.now) (g.G.Gate.told c.args.part.now)) _ c.requires.untouched (search rules)
+
+pub connections-preserved : goal.connections-preserved
+connections-preserved g c =
+    let reports = c.connections.reports.items in
+    let report = c.serve_connection-report.result in
+    let served = c.serve_connection-report.ensures in
+    let items : c.push_reserved.new.self.items ≡ reports ++ report ∷ [] = search rules in
+    let words : report.words ≡ words_of c.args.seed c.args.worker (length reports) = search rules in
+    let given : g.G.Gate.told c.take.new.self ≡ option_map gave (g.G.Gate.told c.connections.part) = search rules in
+    one_served (duty c.args.films.now c.args.settings.now c.args.seed c.args.worker) c.args.seat.now c.connections.seat
+    c.serve_connection-report.new.seat
+    (outlet (g.G.Gate.faults c.args.part.now) (g.G.Gate.told c.args.part.now))
+    (outlet (g.G.Gate.faults c.connections.part) (g.G.Gate.told c.connections.part))
+    (outlet (g.G.Gate.faults c.give_back.new.self) (g.G.Gate.told c.give_back.new.self))
+    (g.G.Gate.told c.take.new.self) reports c.push_reserved.new.self.items report _ c.connections.invariant
+    (record {
+      seat = served.seat;
+      entries = served.entries;
+      worker = served.worker;
+      words = words;
+      one = served_fresh c.args.films.now c.args.settings.now _ _ _ _ _ c.connections.seat c.serve_connection-report.new.seat report
+          (search rules) (search rules) served.words served.served served.headline served.fault;
+    }) given c.give_back.ensures.back (omega (arith, c.take.ensures.count, c.give_back.ensures.count)) items

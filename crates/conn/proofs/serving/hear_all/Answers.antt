@@ -31,7 +31,7 @@ returns-in-Some-clause-course g c =
     let after : Sight = sight c.hear.new.self (g.K.Link.told c.hear.new.link) c.hear.new.seat in
     let told : g.K.Link.told c.next.new.self ≡ told_more (g.K.Link.told c.events.link) (doing_of c.in-Ok.heard c.next.new.into ∷ []) = c.in-Ok.ensures.heard in
     run_end c.events._event (doing_of c.in-Ok.heard c.next.new.into) c.in-Some.end first before heard after c.events.invariant.5 refl refl told
-    (c.in-Some.ensures.comes c.events._event)
+    (omega (arith, c.events-test.true)) (c.in-Some.ensures.comes c.events._event)
 
 pub events-init : goal.events-init
 events-init g c = (
@@ -42,6 +42,7 @@ events-init g c = (
   c.requires.lost,
   run_none (sight c.args.connection.now (g.K.Link.told c.args.link.now) c.args.seat.now),
   omega arith,
+  c.requires.waiting,
 )
 
 pub events-preserved : goal.events-preserved
@@ -61,6 +62,7 @@ events-preserved g c =
       on.1,
       run_on c.events._event (doing_of c.in-Ok.heard c.next.new.into) first before heard after inv.5 refl refl told c.in_default-hear.ensures.comes,
       omega (arith, inv.6, c.next.ensures.count, c.hear.ensures.counted.count),
+      on.2,
     )
 
 pub returns-clause-course : goal.returns-clause-course

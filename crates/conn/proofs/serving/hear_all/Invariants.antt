@@ -1,4 +1,5 @@
 use Rattle.std.proofs.Common.{◌≡◌, ◌≤◌, false}
+use Rattle.conn.specs.Events.{IsWaiting}
 use Rattle.conn.specs.Keeping.{HasGone, IsQuiet, business}
 use Rattle.conn.specs.Sights.{HasRun, sight}
 use Rattle.station.specs.Seats.{IsSameSeat}
@@ -13,3 +14,4 @@ invariant-events g l =
     × (l.connection.session.lost ≡ false)
     × HasRun l._event (sight l.initial.connection (g.K.Link.told l.initial.link) l.initial.seat) (sight l.connection (g.K.Link.told l.link) l.seat)
     × (g.K.Link.faults l.initial.link ≤ g.K.Link.faults l.link)
+    × IsWaiting l.connection

@@ -11,7 +11,7 @@ returns-clause-gone g c =
     c.args.seat.now.number c.halt-place.result c.args.keep c.in-Some.booking (search rules) (search rules) c.halt-place.ensures.made.mine
     c.halted.ensures.handed.receipts
 
-pub returns-clause-halted : goal.returns-clause-halted
-returns-clause-halted g c =
+pub returns-clause-answered : goal.returns-clause-answered
+returns-clause-answered g c =
     halted_entry c.args.self.now.session c.args.keep c.halted.new.self c.args.seat.now c.halt-place.new.seat c.in-Some.booking.number
     c.halt-place.result c.holds.ensures.kept c.halt-place.ensures.kept c.halt-place.ensures.same c.halt-place.ensures.made c.halted.ensures.halts

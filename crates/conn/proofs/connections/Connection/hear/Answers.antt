@@ -1,9 +1,12 @@
-use Rattle.std.proofs.Common.{◌≡◌, ◌<◌, ◌≤◌, ◌+◌, ◌++◌, ℕ, List, length, take, rules, refl, ap, subst, sym, Some}
+use Rattle.std.proofs.Common.{◌≡◌, ◌<◌, ◌≤◌, ◌+◌, ◌++◌, ℕ, List, length, take, rules, refl, ap}
+use Rattle.std.proofs.Common.{subst, sym, Some, arith}
 use Rattle.vod_base.specs.Links.{doing_of}
 use Rattle.vod_base.specs.declared.links.Heard.{Heard}
 use Rattle.conn.specs.declared.reports.ConnEnd.TheVariants.{LinkFault, TooMuchInput}
 use Rattle.conn.specs.Sights.{HasBroken, HasComeTo, HasPassed, Sight, sight}
 use Rattle.conn.specs.Turns.{stage}
+use Rattle.std.proofs.lemmas.List.{length-take-le}
+use Rattle.conn.proofs.Rooms.{waits_for_room}
 use Rattle.conn.proofs.Sighting.{bytes_up, overfull, slot_broken, slot_up}
 use Rattle.conn.proofs.connections.Connection.hear.Goals as goal
 
@@ -12,12 +15,15 @@ returns-then-is_err-clause-comes g c =
     let bytes : List ℕ = take c.in-Bytes.count c.args.bytes.now in
     let many : 131072 < length c.args.self.now.input + length bytes = search rules in
     let same : c.put.new.self ≡ c.args.self.now.input = search rules in
+    let within : c.in-Bytes.count ≤ length c.args.bytes.now = search rules in
+    let short : length bytes ≤ 16384 = omega (arith, length-take-le c.in-Bytes.count c.args.bytes.now within, within, c.requires.few) in
     let here : Sight = sight c.args.self.now (g.K.Link.told c.args.link.now) c.args.seat.now in
     subst (λ (h : Heard). HasComeTo (Some TooMuchInput) (doing_of h c.args.bytes.now) here
     (sight (record { session = c.args.self.now.session; input = c.put.new.self; booking = c.args.self.now.booking })
     (g.K.Link.told c.args.link.now) c.args.seat.now)) (sym c.in-Bytes.is)
     (overfull bytes here (sight (record { session = c.args.self.now.session; input = c.put.new.self; booking = c.args.self.now.booking })
     (g.K.Link.told c.args.link.now) c.args.seat.now) many
+    (waits_for_room c.args.self.now (length bytes) c.law_few_wait.ensures short many c.requires.waiting)
     (ap (λ (i : List ℕ). record {
       stage = stage c.args.self.now.session i;
       told = g.K.Link.told c.args.link.now;

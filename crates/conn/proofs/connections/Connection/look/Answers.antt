@@ -21,7 +21,7 @@ returns-in-Err-clause-gone g c =
 pub returns-in-Ok-clause-answered : goal.returns-in-Ok-clause-answered
 returns-in-Ok-clause-answered g c =
     answered_entry c.args.self.now.session (AskLook c.args.slot) c.looked.new.self c.args.seat.now c.look.new.seat 1 _ c.in-Ok.looked.place _
-    c.holds.ensures.kept c.look.ensures.kept c.look.ensures.same c.in-Ok.ensures.made (refl, c.looked.ensures.exact)
+    c.holds.ensures.kept c.look.ensures.kept c.look.ensures.same c.in-Ok.ensures.made refl (refl, c.looked.ensures.exact)
 
 pub returns-in-Err-clause-answered : goal.returns-in-Err-clause-answered
 returns-in-Err-clause-answered g c =

@@ -1,11 +1,10 @@
-use Rattle.std.proofs.Common.{◌≡◌, rules, refl, ap, subst}
-use Rattle.station.specs.Answers.{IsRefused}
+use Rattle.std.proofs.Common.{rules, refl, ap}
 use Rattle.station.specs.declared.answers.PlayRefused.TheVariants.{JournalFull, Overflow}
 use Rattle.session.specs.Standings.{open_of}
 use Rattle.conn.specs.Keeping.{business}
 use Rattle.station.specs.Ledgers.{play_of}
 use Rattle.session.specs.declared.asks.Ask.TheVariants.{Play as AskPlay}
-use Rattle.conn.proofs.Sighting.{answered_entry, answered_full}
+use Rattle.conn.proofs.Sighting.{answered_entry, answered_full, refused_as}
 use Rattle.conn.proofs.Going.{gone_play, gone_overflow, gone_full, held_none}
 use Rattle.conn.proofs.connections.Connection.play.Goals as goal
 
@@ -19,12 +18,9 @@ returns-in-None-clause-gone g c =
 
 pub returns-in-Err-Overflow-clause-gone : goal.returns-in-Err-Overflow-clause-gone
 returns-in-Err-Overflow-clause-gone g c =
-    let refused : IsRefused c.args.seat.now c.play.new.seat c.heard_slot.result c.args.plan c.in-Err-Overflow.field-0 = c.in-Err-Overflow.ensures.refused in
-    let is : c.in-Err-Overflow.field-0
-    ≡ Overflow c.in-Err-Overflow.place c.in-Err-Overflow.slot c.in-Err-Overflow.booked c.in-Err-Overflow.asked = search rules in
-    let made : IsRefused c.args.seat.now c.play.new.seat c.heard_slot.result c.args.plan
-    (Overflow c.in-Err-Overflow.place c.in-Err-Overflow.slot c.in-Err-Overflow.booked c.in-Err-Overflow.asked) =
-    subst (IsRefused c.args.seat.now c.play.new.seat c.heard_slot.result c.args.plan) is refused in
+    let made = refused_as c.args.seat.now c.play.new.seat c.heard_slot.result c.args.plan c.in-Err-Overflow.field-0
+    (Overflow c.in-Err-Overflow.place c.in-Err-Overflow.slot c.in-Err-Overflow.booked c.in-Err-Overflow.asked)
+    c.in-Err-Overflow.ensures.refused (search rules) in
     gone_overflow (business c.args.seat.now.mine c.args.self.now)
     (business c.play.new.seat.mine (record { session = c.overflowed.new.self; input = c.args.self.now.input; booking = c.args.self.now.booking }))
     _ c.in-Err-Overflow.place _ _ c.in-Err-Overflow.slot c.in-Err-Overflow.booked c.in-Err-Overflow.asked
@@ -33,12 +29,9 @@ returns-in-Err-Overflow-clause-gone g c =
 
 pub returns-clause-gone : goal.returns-clause-gone
 returns-clause-gone g c =
-    let refused : IsRefused c.args.seat.now c.play.new.seat c.heard_slot.result c.args.plan c.in-Err-JournalFull.field-0 = c.in-Err-JournalFull.ensures.refused in
-    let is : c.in-Err-JournalFull.field-0
-    ≡ JournalFull c.in-Err-JournalFull.field-0-0 c.in-Err-JournalFull.entries c.in-Err-JournalFull.live = search rules in
-    let full : IsRefused c.args.seat.now c.play.new.seat c.heard_slot.result c.args.plan
-    (JournalFull c.in-Err-JournalFull.field-0-0 c.in-Err-JournalFull.entries c.in-Err-JournalFull.live) =
-    subst (IsRefused c.args.seat.now c.play.new.seat c.heard_slot.result c.args.plan) is refused in
+    let full = refused_as c.args.seat.now c.play.new.seat c.heard_slot.result c.args.plan c.in-Err-JournalFull.field-0
+    (JournalFull c.in-Err-JournalFull.field-0-0 c.in-Err-JournalFull.entries c.in-Err-JournalFull.live)
+    c.in-Err-JournalFull.ensures.refused (search rules) in
     gone_full (business c.args.seat.now.mine c.args.self.now)
     (business c.play.new.seat.mine (record { session = c.full.new.self; input = c.args.self.now.input; booking = c.args.self.now.booking }))
     c.in-Err-JournalFull.entries c.in-Err-JournalFull.live full.1.mine refl c.full.ensures.handed.receipts
@@ -46,28 +39,22 @@ returns-clause-gone g c =
 pub returns-in-None-clause-answered : goal.returns-in-None-clause-answered
 returns-in-None-clause-answered g c =
     answered_entry c.args.self.now.session (AskPlay c.args.plan) c.admitted.new.self c.args.seat.now c.play.new.seat 2 _ c.in-Ok.booking.number _
-    c.holds.ensures.kept c.play.ensures.kept c.play.ensures.same c.in-Ok.ensures.made
+    c.holds.ensures.kept c.play.ensures.kept c.play.ensures.same c.in-Ok.ensures.made refl
     (ap (λ heard. play_of heard c.args.plan) (search rules), (search rules, c.admitted.ensures.exact, c.admitted.ensures.play))
 
 pub returns-in-Err-Overflow-clause-answered : goal.returns-in-Err-Overflow-clause-answered
 returns-in-Err-Overflow-clause-answered g c =
-    let refused : IsRefused c.args.seat.now c.play.new.seat c.heard_slot.result c.args.plan c.in-Err-Overflow.field-0 = c.in-Err-Overflow.ensures.refused in
-    let is : c.in-Err-Overflow.field-0
-    ≡ Overflow c.in-Err-Overflow.place c.in-Err-Overflow.slot c.in-Err-Overflow.booked c.in-Err-Overflow.asked = search rules in
-    let made : IsRefused c.args.seat.now c.play.new.seat c.heard_slot.result c.args.plan
-    (Overflow c.in-Err-Overflow.place c.in-Err-Overflow.slot c.in-Err-Overflow.booked c.in-Err-Overflow.asked) =
-    subst (IsRefused c.args.seat.now c.play.new.seat c.heard_slot.result c.args.plan) is refused in
+    let made = refused_as c.args.seat.now c.play.new.seat c.heard_slot.result c.args.plan c.in-Err-Overflow.field-0
+    (Overflow c.in-Err-Overflow.place c.in-Err-Overflow.slot c.in-Err-Overflow.booked c.in-Err-Overflow.asked)
+    c.in-Err-Overflow.ensures.refused (search rules) in
     answered_entry c.args.self.now.session (AskPlay c.args.plan) c.overflowed.new.self c.args.seat.now c.play.new.seat 2 _ c.in-Err-Overflow.place _
-    c.holds.ensures.kept c.play.ensures.kept c.play.ensures.same made
+    c.holds.ensures.kept c.play.ensures.kept c.play.ensures.same made refl
     (ap (λ heard. play_of heard c.args.plan) (search rules), c.overflowed.ensures.exact)
 
 pub returns-clause-answered : goal.returns-clause-answered
 returns-clause-answered g c =
-    let refused : IsRefused c.args.seat.now c.play.new.seat c.heard_slot.result c.args.plan c.in-Err-JournalFull.field-0 = c.in-Err-JournalFull.ensures.refused in
-    let is : c.in-Err-JournalFull.field-0
-    ≡ JournalFull c.in-Err-JournalFull.field-0-0 c.in-Err-JournalFull.entries c.in-Err-JournalFull.live = search rules in
-    let full : IsRefused c.args.seat.now c.play.new.seat c.heard_slot.result c.args.plan
-    (JournalFull c.in-Err-JournalFull.field-0-0 c.in-Err-JournalFull.entries c.in-Err-JournalFull.live) =
-    subst (IsRefused c.args.seat.now c.play.new.seat c.heard_slot.result c.args.plan) is refused in
+    let full = refused_as c.args.seat.now c.play.new.seat c.heard_slot.result c.args.plan c.in-Err-JournalFull.field-0
+    (JournalFull c.in-Err-JournalFull.field-0-0 c.in-Err-JournalFull.entries c.in-Err-JournalFull.live)
+    c.in-Err-JournalFull.ensures.refused (search rules) in
     answered_full c.args.self.now.session (AskPlay c.args.plan) c.full.new.self c.args.seat.now c.play.new.seat 2
     c.in-Err-JournalFull.entries c.in-Err-JournalFull.live c.play.ensures.same full.1 (c.full.ensures.exact, refl)

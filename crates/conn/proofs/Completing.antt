@@ -1,0 +1,121 @@
+-- A PLAY to which no refusal applies is answered as its turn at the station says.
+use Rattle.std.proofs.Common.{◌≡◌, ℕ, ◌+◌, ◌<◌, List, take}
+use Rattle.std.proofs.Common.{refl, ap, subst, ◌∙◌, inl, inr, arith}
+use Rattle.plan_cert.specs.declared.Segment.{Segment}
+use Rattle.slot_calendar.specs.Calendars.{HasRoom}
+use Rattle.slot_calendar.specs.Profiles.{capacity_at}
+use Rattle.slot_calendar.specs.declared.calendar.Overflow.{Overflow as Over}
+use Rattle.slot_calendar.proofs.Overflows.{no-room, overflow-once}
+use Rattle.admission.specs.declared.entries.Answer.{Answer}
+use Rattle.admission.specs.declared.entries.Answer.TheVariants.{Admitted, Halted, Looked, Overflow}
+use Rattle.admission.specs.declared.entries.Command.{Command}
+use Rattle.admission.specs.declared.entries.Entry.{Entry}
+use Rattle.admission.specs.Histories.{IsLegal, booked_after, live, state_after}
+use Rattle.admission.specs.Machine.{IsAnswer}
+use Rattle.admission.specs.Makers.{Placed}
+use Rattle.station.specs.Ledgers.{play_of}
+use Rattle.session.specs.declared.asks.Ask.{Ask}
+use Rattle.session.specs.declared.asks.Ask.TheVariants.{Reply as AskReply, Play as AskPlay}
+use Rattle.session.specs.Changes.{AsksOrLacks, CanBePlayed, IsPlayAsked}
+use Rattle.session.specs.Replies.{full_text, overflow_text}
+use Rattle.session.specs.Standings.{Standing}
+use Rattle.session.proofs.Changing.{hears_good, hears_ground}
+use Rattle.conn.specs.Turns.{Outcome, Unasked, Entered, WasFull, Offered, HasHeard, IsAnswered}
+use Rattle.conn.specs.Admissions.{HasBegunPlay, HasTurn, IsDecided, IsEntryReplied, IsPlayCompleted}
+use Rattle.conn.specs.Admissions.{IsPlayReplied, start_at}
+use Rattle.conn.specs.Journals.{HasRoomAt, IsFullIn, StandsIn, Terms, entries_needed}
+use Rattle.conn.proofs.Answering.{play_answered}
+
+-- an entry was made: by the machine's answer in the state after the entries before it
+entry_decided : (terms : Terms) (journal : List Entry) (old : Standing) (plan : List Segment) (placed : Placed) (answer : Answer) (new : Standing) →
+    HasRoomAt terms journal placed.place 2 →
+    IsAnswer terms.steps (state_after (take placed.place journal)) (play_of old.heard plan) answer →
+    IsEntryReplied old placed answer new → IsDecided terms journal old plan placed.place new
+entry_decided terms journal old plan placed (Admitted start) new room is replied =
+    let from : ℕ = start_at journal placed.place old.heard in
+    let booked : ℕ → ℕ = booked_after (take placed.place journal) in
+    let fits : HasRoom 0 booked (capacity_at terms.steps) from plan = subst (λ s. HasRoom 0 booked (capacity_at terms.steps) s plan) is.0 is.1 in record {
+      full = λ no. absurd (omega (arith, no, room));
+      over = λ has over first. absurd (no-room 0 from booked (capacity_at terms.steps) plan over first fits);
+      admitted = λ has all. (placed, subst (λ s. HasBegunPlay old placed s new) is.0 replied);
+    }
+entry_decided terms journal old plan placed (Overflow slot bytes asked) new room is replied =
+    let from : ℕ = start_at journal placed.place old.heard in
+    let booked : ℕ → ℕ = booked_after (take placed.place journal) in
+    let found : Over = record { slot = slot; booked = bytes; asked = asked } in record {
+      full = λ no. absurd (omega (arith, no, room));
+      over = λ has over first.
+          let same : found ≡ over = overflow-once 0 from booked (capacity_at terms.steps) plan found over is first in
+          (replied.0, subst (λ (o : Over). new.text ≡ overflow_text replied.0 o.slot o.booked o.asked) same replied.1);
+      admitted = λ has all. absurd (no-room 0 from booked (capacity_at terms.steps) plan found is all);
+    }
+entry_decided terms journal old plan placed Halted new room is replied = absurd is
+entry_decided terms journal old plan placed (Looked now at booked) new room is replied = absurd is
+
+entry_turn : (terms : Terms) (journal : List Entry) (from : ℕ) (old asking : Standing) (asked : IsPlayAsked old asking) (placed : Placed) (new : Standing) →
+    IsLegal terms.steps journal → StandsIn terms journal from placed → placed.entry.command ≡ play_of old.heard asked.planned.plan →
+    IsEntryReplied old placed placed.entry.answer new → HasTurn terms journal from old new
+entry_turn terms journal from old asking asked placed new legal stands command replied =
+    let plan : List Segment = asked.planned.plan in
+    let state = state_after (take placed.place journal) in
+    let needed : entries_needed placed.entry.command ≡ 2 = ap entries_needed command in
+    let room : HasRoomAt terms journal placed.place 2 = omega (arith, stands.room, needed) in
+    let answer : IsAnswer terms.steps state placed.entry.command placed.entry.answer =
+    subst (λ (e : Entry). IsAnswer terms.steps state e.command e.answer) (stands.entry placed.entry)
+    (legal.each placed.place placed.entry stands.within) in record {
+      asking = asking;
+      asked = asked;
+      turn = placed.place;
+      after = stands.after;
+      within = omega (arith, stands.within);
+      decided = entry_decided terms journal old plan placed placed.entry.answer new room
+          (subst (λ (c : Command). IsAnswer terms.steps state c placed.entry.answer) command answer) replied;
+    }
+
+-- the journal was full
+full_turn : (terms : Terms) (journal : List Entry) (from : ℕ) (old asking : Standing) (asked : IsPlayAsked old asking) (more entries live_plays : ℕ) (new : Standing) →
+    IsFullIn terms.limit journal from more entries live_plays → more ≡ 2 → ((sequence : ℕ) × (new.text ≡ full_text sequence entries live_plays)) →
+    HasTurn terms journal from old new
+full_turn terms journal from old asking asked more entries live_plays new full two replied =
+    let over : terms.limit < entries + live (take entries journal) + 2 = omega (arith, full.full, full.live_is, two) in record {
+      asking = asking;
+      asked = asked;
+      turn = entries;
+      after = full.after;
+      within = full.within;
+      decided = record {
+        full = λ no. (replied.0, subst (λ n. new.text ≡ full_text replied.0 entries n) full.live_is replied.1);
+        over = λ has other first. absurd (omega (arith, has, over));
+        admitted = λ has all. absurd (omega (arith, has, over));
+      };
+    }
+
+asked_completed : (old asking : Standing) (asked : IsPlayAsked old asking) (outcome : Outcome) (new : Standing) → asking.heard ≡ old.heard →
+    IsAnswered asking (AskPlay asked.planned.plan) outcome new → IsPlayReplied old outcome new → IsPlayCompleted old outcome new
+asked_completed old asking asked Unasked new same answered replied = absurd answered
+asked_completed old asking asked (Entered placed) new same answered replied = λ terms journal from legal agree.
+    inl (entry_turn terms journal from old asking asked placed new legal agree.0 (answered.0 ∙ ap (λ h. play_of h asked.planned.plan) same) replied)
+asked_completed old asking asked (WasFull more entries live_plays) new same answered replied = λ terms journal from legal agree.
+    inl (full_turn terms journal from old asking asked more entries live_plays new agree.0 answered.1 replied)
+asked_completed old asking asked (Offered at_slot note) new same answered replied = absurd answered
+
+-- memory was wanting
+lacks_completed : (old asking : Standing) (outcome : Outcome) (new : Standing) → IsAnswered asking AskReply outcome new → IsPlayReplied old outcome new →
+    IsPlayCompleted old outcome new
+lacks_completed old asking Unasked new answered replied = λ terms journal from legal agree. inr (refl, replied)
+lacks_completed old asking (Entered placed) new answered replied = absurd answered
+lacks_completed old asking (WasFull more entries live_plays) new answered replied = absurd answered
+lacks_completed old asking (Offered at_slot note) new answered replied = absurd answered
+
+either_completed : (old : Standing) (ask : Ask) (asking : Standing) (outcome : Outcome) (new : Standing) → AsksOrLacks old ask asking → asking.heard ≡ old.heard →
+    IsAnswered asking ask outcome new → IsPlayReplied old outcome new → IsPlayCompleted old outcome new
+either_completed old ask asking outcome new (inl asks) same answered replied =
+    asked_completed old asking asks.play outcome new same (subst (λ a. IsAnswered asking a outcome new) asks.command answered) replied
+either_completed old ask asking outcome new (inr lacks) same answered replied =
+    lacks_completed old asking outcome new (subst (λ a. IsAnswered asking a outcome new) lacks.refused.0 answered) replied
+
+pub play_completed : (old new : Standing) (message : List ℕ) (outcome : Outcome) → CanBePlayed old message → HasHeard old message outcome new →
+    IsPlayCompleted old outcome new
+play_completed old new message outcome can heard =
+    either_completed old heard.ask heard.asking outcome new (hears_good old heard.asking message heard.ask heard.hears can)
+    (hears_ground old heard.asking message heard.ask heard.hears).heard heard.answered (play_answered old new message outcome can heard)

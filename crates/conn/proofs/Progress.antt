@@ -1,0 +1,111 @@
+-- What a worker has served of its part of a gate so far, and how the part ends.
+use Rattle.std.proofs.Common.{◌≡◌, ◌+◌, ◌≤◌, List, [], ◌∷◌, ◌++◌, length, Option, option_map}
+use Rattle.std.proofs.Common.{ap, sym, subst, arith}
+use Rattle.std.specs.Prelude.{IfSome}
+use Rattle.std.proofs.lemmas.List.{length-append}
+use Rattle.vod_base.specs.Gates.{Content, NoMore, Failed, Returned, gave, gave_none}
+use Rattle.vod_base.specs.Gates.{got_back}
+use Rattle.vod_base.specs.Outside.{HasRisen}
+use Rattle.station.specs.Seats.{IsSameSeat, Sitting}
+use Rattle.conn.specs.declared.reports.ConnReport.{ConnReport}
+use Rattle.conn.specs.declared.reports.PartReport.{PartReport}
+use Rattle.conn.specs.declared.reports.PartEnd.TheVariants.{AllTaken, GateFault, NoMemory}
+use Rattle.conn.specs.Keeping.{HasGone, at_rest}
+use Rattle.conn.specs.Parts.{AreOf, AreTold, Duty, HasServed, HasServedOne, HasServedPart, IsServed}
+use Rattle.conn.specs.Parts.{IsUntouched, Outlet}
+use Rattle.conn.specs.Words.{words_of}
+use Rattle.conn.proofs.Agreeing.{told_end, told_first, told_one}
+use Rattle.conn.proofs.Counting.{risen_on}
+use Rattle.conn.proofs.Cutting.{seat_none, seat_on}
+use Rattle.conn.proofs.Workers.{are_more, are_none, has_none, has_one, served_last, served_none}
+use Rattle.conn.proofs.Workers.{served_one, told_last}
+
+-- between two connections: each that was given came back, and has its report
+pub record HasServedSoFar (duty : Duty) (old_seat new_seat : Sitting) (old new : Outlet) (reports : List ConnReport) : Type 0 where
+  pub seat : IsSameSeat old_seat new_seat
+  pub entries : HasServed old_seat.mine reports new_seat.mine
+  pub each : AreOf duty.seed duty.worker reports
+  pub served : IsServed old.told new.told (length reports)
+  pub connections : AreTold duty.films duty.settings new.told reports old_seat new_seat
+  pub count : old.faults ≤ new.faults
+
+-- before the first one
+pub none_served : (duty : Duty) (seat : Sitting) (part : Outlet) (reports : List ConnReport) → IfSome part.told IsUntouched → reports ≡ [] →
+    HasServedSoFar duty seat seat part part reports
+none_served duty seat part reports untouched none = record {
+  seat = seat_none seat;
+  entries = has_none seat.mine reports none;
+  each = are_none duty.seed duty.worker reports none;
+  served = subst (IsServed part.told part.told) (sym (ap length none)) (served_none part.told untouched);
+  connections = told_first duty.films duty.settings part.told seat reports untouched none;
+  count = omega arith;
+}
+
+-- one connection: its report, and what it was when it came back
+pub record IsOneMore (duty : Duty) (reports : List ConnReport) (mid : Option Content) (report : ConnReport) (returned : Returned) (old_seat new_seat : Sitting) : Type 0 where
+  pub seat : IsSameSeat old_seat new_seat
+  pub entries : HasGone (at_rest old_seat.mine []) (at_rest new_seat.mine report.receipts.items)
+  pub worker : report.worker ≡ duty.worker
+  pub words : report.words ≡ words_of duty.seed duty.worker (length reports)
+  pub one : HasServedOne duty.films duty.settings returned report old_seat new_seat
+
+-- a connection was given, served, and came back
+pub one_served : (duty : Duty) (old_seat mid_seat new_seat : Sitting) (old mid new : Outlet) (taken : Option Content) (reports more : List ConnReport) (report : ConnReport)
+    (returned : Returned) → HasServedSoFar duty old_seat mid_seat old mid reports → IsOneMore duty reports mid.told report returned mid_seat new_seat →
+    taken ≡ option_map gave mid.told → new.told ≡ option_map (got_back returned) taken → mid.faults ≤ new.faults → more ≡ reports ++ report ∷ [] →
+    HasServedSoFar duty old_seat new_seat old new more
+one_served duty old_seat mid_seat new_seat old mid new taken reports more report returned front one given back count items =
+    let size : length reports + 1 ≡ length more = sym (rw items (length-append reports (report ∷ []))) in record {
+      seat = seat_on old_seat mid_seat new_seat front.seat one.seat;
+      entries = has_one old_seat.mine mid_seat.mine new_seat.mine reports more report front.entries one.entries items;
+      each = are_more duty.seed duty.worker reports more report front.each one.worker one.words items;
+      served = subst (IsServed old.told new.told) size (served_one old.told mid.told taken new.told (length reports) returned front.served given back);
+      connections = told_one duty.films duty.settings mid.told taken new.told old_seat mid_seat new_seat reports more returned report front.connections given back items one.one;
+      count = omega (arith, front.count, count);
+    }
+
+-- there was no memory for one more report
+pub ends_early : (duty : Duty) (old_seat new_seat : Sitting) (old new : Outlet) (result : PartReport) → HasServedSoFar duty old_seat new_seat old new result.reports.items →
+    result.end ≡ NoMemory → HasServedPart duty old_seat new_seat old new result
+ends_early duty old_seat new_seat old new result front is = record {
+  seat = front.seat;
+  entries = front.entries;
+  reports = front.each;
+  served = front.served;
+  connections = front.connections;
+  count = front.count;
+  all = λ other. absurd (let no : ⊥ = cc (is, other) in no);
+  fault = λ other. absurd (let no : ⊥ = cc (is, other) in no);
+  failed = λ other. absurd (let no : ⊥ = cc (is, other) in no);
+}
+
+-- the last take gave none: there are no more
+pub ends_taken : (duty : Duty) (old_seat new_seat : Sitting) (old mid new : Outlet) (result : PartReport) → HasServedSoFar duty old_seat new_seat old mid result.reports.items →
+    result.end ≡ AllTaken → new.told ≡ option_map (gave_none NoMore) mid.told → mid.faults ≤ new.faults → HasServedPart duty old_seat new_seat old new result
+ends_taken duty old_seat new_seat old mid new result front is last count = record {
+  seat = front.seat;
+  entries = front.entries;
+  reports = front.each;
+  served = served_last old.told mid.told new.told (length result.reports.items) NoMore front.served last;
+  connections = told_end duty.films duty.settings mid.told new.told old_seat new_seat result.reports.items NoMore front.connections last;
+  count = omega (arith, front.count, count);
+  all = λ same. told_last mid.told new.told NoMore last;
+  fault = λ other. absurd (let no : ⊥ = cc (is, other) in no);
+  failed = λ other. absurd (let no : ⊥ = cc (is, other) in no);
+}
+
+-- or it failed
+pub ends_failed : (duty : Duty) (old_seat new_seat : Sitting) (old mid new : Outlet) (result : PartReport) → HasServedSoFar duty old_seat new_seat old mid result.reports.items →
+    result.end ≡ GateFault → new.told ≡ option_map (gave_none Failed) mid.told → mid.faults ≤ new.faults → HasRisen mid.faults new.faults →
+    HasServedPart duty old_seat new_seat old new result
+ends_failed duty old_seat new_seat old mid new result front is last count risen = record {
+  seat = front.seat;
+  entries = front.entries;
+  reports = front.each;
+  served = served_last old.told mid.told new.told (length result.reports.items) Failed front.served last;
+  connections = told_end duty.films duty.settings mid.told new.told old_seat new_seat result.reports.items Failed front.connections last;
+  count = omega (arith, front.count, count);
+  all = λ other. absurd (let no : ⊥ = cc (is, other) in no);
+  fault = λ same. risen_on old.faults mid.faults new.faults front.count risen;
+  failed = λ same. told_last mid.told new.told Failed last;
+}
