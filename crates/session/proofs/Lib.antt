@@ -20,3 +20,8 @@ pub mod OnePlan
 pub mod OneHearing
 pub mod Results
 pub mod Tellings
+mod RangeInPlaying
+mod SlotCounts
+mod PlayEnds
+mod Offers
+mod Looks

@@ -132,7 +132,7 @@ offer_third body (inr (inr is)) = ap third is
 differ : (body : List ℕ) (n m : ℕ) → third body ≡ n → third body ≡ m → (n ≡ m → ⊥) → ⊥
 differ body n m is its other = other (sym is ∙ its)
 
-topic_once : (body : List ℕ) (one other : Topic) → IsTopic body one → IsTopic body other → other ≡ one
+pub topic_once : (body : List ℕ) (one other : Topic) → IsTopic body one → IsTopic body other → other ≡ one
 topic_once body NoTopic NoTopic is its = refl
 topic_once body NoTopic Booked is its = absurd (differ body 0 66 (ap third is) (booked_third body its) (λ same. omega (arith, same)))
 topic_once body NoTopic OfferTopic is its = absurd (differ body 0 79 (ap third is) (offer_third body its) (λ same. omega (arith, same)))

@@ -17,7 +17,7 @@ use Rattle.session.proofs.OneHearing.{hears_once}
 use Rattle.session.proofs.Results.{ComesTo, Lacks, Refuses, Says, SettlesSetup, AsksForPlay, AsksForHalt, AsksForLook, AsksForOffer, comes_to}
 
 -- a reply has one code
-one_code : (c d : ℕ) (text : List ℕ) → c < 1000 → d < 1000 → HasCode c text → HasCode d text → c ≡ d
+pub one_code : (c d : ℕ) (text : List ℕ) → c < 1000 → d < 1000 → HasCode c text → HasCode d text → c ≡ d
 one_code c d text small short is its = decimal_injective c d (omega (arith, small)) (omega (arith, short)) (sym is ∙ its)
 
 ok_code : (sequence : Option ℕ) (fields : List Field) (rest : List ℕ) → HasCode 200 (reply_front 200 sequence fields ++ rest)
@@ -28,7 +28,7 @@ ok_text_code : (sequence : Option ℕ) (fields : List Field) (body : List ℕ) �
 unfolding reply_text reply_front status_line digits
 ok_text_code sequence fields body = refl
 
-refusal_code : (sequence : Option ℕ) (refusal : Refusal) (option : List ℕ) → HasCode (code_of refusal) (refusal_text sequence refusal option)
+pub refusal_code : (sequence : Option ℕ) (refusal : Refusal) (option : List ℕ) → HasCode (code_of refusal) (refusal_text sequence refusal option)
 unfolding reply_text reply_front status_line digits
 refusal_code sequence BadRequest option = refl
 refusal_code sequence Version option = refl
@@ -44,13 +44,13 @@ refusal_code sequence Range option = refl
 refusal_code sequence Memory option = refl
 
 -- the code of a refusal
-record IsOwnCode (refusal : Refusal) : Type 0 where
-  small : code_of refusal < 1000
+pub record IsOwnCode (refusal : Refusal) : Type 0 where
+  pub small : code_of refusal < 1000
   no_overflow : code_of refusal ≡ 453 → ⊥
   not_full : code_of refusal ≡ 503 → ⊥
-  memory : code_of refusal ≡ 500 → refusal ≡ Memory
+  pub memory : code_of refusal ≡ 500 → refusal ≡ Memory
 
-own_code : (refusal : Refusal) → IsOwnCode refusal
+pub own_code : (refusal : Refusal) → IsOwnCode refusal
 own_code BadRequest = record { small = omega arith; no_overflow = λ is. omega (arith, is); not_full = λ is. omega (arith, is); memory = λ is. absurd (omega (arith, is)) }
 own_code Version = record { small = omega arith; no_overflow = λ is. omega (arith, is); not_full = λ is. omega (arith, is); memory = λ is. absurd (omega (arith, is)) }
 own_code Method = record { small = omega arith; no_overflow = λ is. omega (arith, is); not_full = λ is. omega (arith, is); memory = λ is. absurd (omega (arith, is)) }

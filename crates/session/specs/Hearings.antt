@@ -8,7 +8,7 @@ use Rattle.std.specs.Prelude.{if◌then◌else◌, Bool, true, false, List, [], 
 use Rattle.std.specs.Prelude.{codes, decimal, slice_get}
 use Rattle.rtsp_text.specs.Fields.{first_sequence}
 use Rattle.rtsp_text.specs.Replies.{field_line}
-use Rattle.rtsp_text.specs.Requests.{IsFault, IsRequest}
+use Rattle.rtsp_text.specs.Requests.{IsFault}
 use Rattle.rtsp_text.specs.declared.requests.Request.{Request}
 use Rattle.rtsp_text.specs.declared.requests.RequestFault.{RequestFault}
 use Rattle.admission.specs.declared.entries.Answer.TheVariants.{Admitted, Halted, Overflow, Looked}
@@ -19,7 +19,7 @@ use Rattle.session.specs.declared.states.Awaited.{Awaited}
 use Rattle.session.specs.declared.states.Awaited.TheVariants.{Nothing, Play, Halt, Look, Offer}
 use Rattle.session.specs.declared.states.Counts.{Counts}
 use Rattle.session.specs.declared.refusals.Refusal.TheVariants.{Memory}
-use Rattle.session.specs.Judging.{fault_refusal}
+use Rattle.session.specs.Judging.{IsReadAs, fault_refusal}
 use Rattle.session.specs.Methods.{HearsRequest, IsRefused}
 use Rattle.session.specs.Replies.{field, full_text, look_body, offer_body, overflow_text}
 use Rattle.session.specs.Replies.{parameters_text}
@@ -77,7 +77,7 @@ pub record HearsFault (old : Standing) (message : List ℕ) (ask : Ask) (new : S
 pub record HearsWhole (old : Standing) (message : List ℕ) (ask : Ask) (new : Standing)
     : Type 0 where
   pub request : Request
-  pub is_request : IsRequest message request.method.now request.url.now request.sequence request.head.now request.body.now
+  pub is_request : IsReadAs message request
   pub hears : HearsRequest old request ask new
 
 -- what a message asks of the station, and the session after it; once the link has failed nothing

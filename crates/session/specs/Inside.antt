@@ -157,8 +157,10 @@ pub record IsKept (session : Inside) : Type 0 where
   pub films : AreFilms session.films.now
   pub settings : AreSettings session.settings
   pub id : is_one_line session.id ≡ true
-  pub state : IsStateKept session.films.now session.source session.settings session.counts session.state
-  pub awaited : IsAwaitedKept session.films.now session.source session.settings session.counts session.lost session.state session.awaited
+  pub state : IsStateKept session.films.now session.source session.settings session.counts
+      session.state
+  pub awaited : IsAwaitedKept session.films.now session.source session.settings session.counts
+      session.lost session.state session.awaited
   pub stop : IsStopAnswered session.state session.waits
   pub receipt_room : session.looks_left
       + (open_receipts session.state + awaited_receipts session.awaited) ≤ session.log.receipt_room

@@ -2,6 +2,7 @@
 use Rattle.std.specs.Prelude.{ℕ, ◌≡◌, ◌≢◌, ◌⊎◌, ◌++◌, ⊤, true, false, Bool, List, [], Option, Some}
 use Rattle.std.specs.Prelude.{None, is_some, is_none, codes, Result, Ok, Err}
 use Rattle.rtsp_text.specs.Fields.{header_value}
+use Rattle.rtsp_text.specs.Requests.{IsRequest}
 use Rattle.rtsp_text.specs.declared.requests.Request.{Request}
 use Rattle.rtsp_text.specs.declared.requests.RequestFault.{RequestFault}
 use Rattle.rtsp_text.specs.declared.requests.RequestFault.TheVariants.{BadLine, BadVersion}
@@ -46,6 +47,12 @@ name_of GetParameter = codes "GET_PARAMETER"
 abbrev pub first_of : Option (List ℕ) → Option (List ℕ) → Option (List ℕ)
 first_of None other = other
 first_of (Some value) other = Some value
+
+-- a message is read as this request
+abbrev pub IsReadAs : List ℕ → Request → Type 0
+IsReadAs message request =
+    IsRequest message request.method.now request.url.now request.sequence request.head.now
+    request.body.now
 
 -- the options that a request requires
 abbrev pub required_of : List ℕ → Option (List ℕ)

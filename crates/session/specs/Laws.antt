@@ -1,18 +1,22 @@
 -- Laws of a session, in RFC 2326's words.
-use Rattle.std.specs.Prelude.{ℕ, ◌≡◌, ◌+◌, ◌%◌, ◌^◌, ◌++◌, ◌⊎◌, ⊤, List, [], Option}
+use Rattle.std.specs.Prelude.{ℕ, ◌≡◌, ◌+◌, ◌%◌, ◌^◌, ◌++◌, ◌⊎◌, ⊤, List, [], Option, Some}
 use Rattle.rtp_pack.specs.declared.reports.Identity.{Identity}
+use Rattle.film_frames.specs.declared.stores.Stored.{Stored}
 use Rattle.film_run.specs.declared.runs.Run.{Run}
 use Rattle.rtsp_text.specs.Replies.{Field, reply_text}
 use Rattle.session.specs.declared.asks.Ask.{Ask}
 use Rattle.session.specs.declared.asks.Ask.TheVariants.{Reply, Play as AskPlay, Halt as AskHalt}
 use Rattle.session.specs.declared.asks.Ask.TheVariants.{Look as AskLook, Offer as AskOffer}
 use Rattle.session.specs.declared.plans.Planned.{Planned}
+use Rattle.session.specs.declared.states.Setup.{Setup}
+use Rattle.session.specs.declared.wanted.Wanted.TheVariants.{New}
 use Rattle.session.specs.declared.states.State.{State}
 use Rattle.session.specs.declared.states.State.TheVariants.{Init, Ready, Playing, Stopping}
 use Rattle.rtsp_text.specs.Fields.{first_sequence}
 use Rattle.session.specs.declared.refusals.Refusal.TheVariants.{Memory}
 use Rattle.session.specs.Changes.{HasCode}
 use Rattle.session.specs.Methods.{IsRefused}
+use Rattle.session.specs.Planning.{IsPlannedRun}
 use Rattle.session.specs.Standings.{Standing, replied}
 
 -- the states of RFC 2326's server (appendix A.2); a play that was halted is over, also while its
@@ -66,6 +70,14 @@ pub record GoesOn (before after : Identity) (frames bytes : ℕ) : Type 0 where
   pub number : after.sequence ≡ (before.sequence + frames) % 2 ^ 16
   pub packets : after.packets ≡ (before.packets + frames) % 2 ^ 32
   pub octets : after.octets ≡ (before.octets + bytes) % 2 ^ 32
+
+-- a PLAY takes a new run in place of a paused one
+pub record IsDropped (old : Standing) (stored : Stored) (setup : Setup) (paused : Run)
+    (planned : Planned) : Type 0 where
+  pub run : Run
+  pub range : Option (List ℕ)
+  pub planned_is : IsPlannedRun old stored setup (Some paused) range planned
+  pub wanted_is : planned_is.wanted ≡ New run
 
 -- the play goes on in its run, from the byte after the last that was sent
 pub record Resumes (old : Standing) (paused : Run) (planned : Planned) : Type 0 where

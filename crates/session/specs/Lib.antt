@@ -17,3 +17,6 @@ pub mod Hearings
 pub mod Laws
 pub mod Changes
 pub mod Telling
+pub mod OfferLaws
+pub mod PlayLaws
+pub mod LookLaws

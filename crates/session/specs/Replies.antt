@@ -71,8 +71,8 @@ describe_text sequence authority name end_ms = reply_text 200 (Some sequence)
 -- the channels, and the SSRC in eight hexadecimal digits
 abbrev pub transport_value : ℕ → ℕ → ℕ → List ℕ
 transport_value media control ssrc = joined
-    (codes "RTP/AVP/TCP;unicast;interleaved=" ∷ decimal media ∷ codes "-" ∷ decimal control ∷ codes ";ssrc="
-    ∷ encode_lower (to_be_bytes w32 ssrc) ∷ [])
+    (codes "RTP/AVP/TCP;unicast;interleaved=" ∷ decimal media ∷ codes "-" ∷ decimal control
+    ∷ codes ";ssrc=" ∷ encode_lower (to_be_bytes w32 ssrc) ∷ [])
 
 abbrev pub setup_text : ℕ → ℕ → ℕ → ℕ → List ℕ → List ℕ
 setup_text sequence media control ssrc id = reply_text 200 (Some sequence)
@@ -92,8 +92,8 @@ play_fields id first_ms end_ms authority name number time =
     field (codes "Session") id
     ∷ field (codes "Range")
     (joined (codes "npt=" ∷ seconds_text first_ms ∷ codes "-" ∷ seconds_text end_ms ∷ []))
-    ∷ field (codes "RTP-Info") (joined (codes "url=rtsp://" ∷ authority ∷ codes "/" ∷ name ∷ codes "/video;seq=" ∷ decimal number
-    ∷ codes ";rtptime=" ∷ decimal time ∷ []))
+    ∷ field (codes "RTP-Info") (joined (codes "url=rtsp://" ∷ authority ∷ codes "/" ∷ name
+    ∷ codes "/video;seq=" ∷ decimal number ∷ codes ";rtptime=" ∷ decimal time ∷ []))
     ∷ []
 
 -- a play's reply: it begins so many slots after the heard one
@@ -118,7 +118,8 @@ parameters_text sequence body = reply_text 200 (Some sequence)
 -- the lines of a look's body
 abbrev pub look_body : ℕ → ℕ → ℕ → List ℕ
 look_body now at booked = joined
-    (codes "x-Now: " ∷ decimal now ∷ codes "\r\nx-Slot: " ∷ decimal at ∷ codes "\r\nx-Booked: " ∷ decimal booked ∷ codes "\r\n" ∷ [])
+    (codes "x-Now: " ∷ decimal now ∷ codes "\r\nx-Slot: " ∷ decimal at
+    ∷ codes "\r\nx-Booked: " ∷ decimal booked ∷ codes "\r\n" ∷ [])
 
 -- the lines of an offer's body
 abbrev pub start_text : Option ℕ → List ℕ
@@ -130,8 +131,8 @@ start_line start = joined (codes "x-Start: " ∷ start_text start ∷ codes "\r\
 
 abbrev pub over_line : Tried → List ℕ
 over_line tried = joined
-    (codes "x-Over: " ∷ decimal tried.start ∷ codes " " ∷ decimal tried.over.slot ∷ codes " " ∷ decimal tried.over.booked ∷ codes " "
-    ∷ decimal tried.over.asked ∷ codes "\r\n" ∷ [])
+    (codes "x-Over: " ∷ decimal tried.start ∷ codes " " ∷ decimal tried.over.slot ∷ codes " "
+    ∷ decimal tried.over.booked ∷ codes " " ∷ decimal tried.over.asked ∷ codes "\r\n" ∷ [])
 
 abbrev pub offer_body : Option ℕ → List Tried → List ℕ
 offer_body start tried = start_line start ++ flat_map over_line tried

@@ -1,6 +1,7 @@
 -- What replies tell, as a reader of RFC 2326's grammars finds it in their fields.
-use Rattle.std.specs.Prelude.{ℕ, ◌≡◌, ◌+◌, ◌*◌, ◌%◌, ◌^◌, ◌<◌, ◌≤◌, ◌++◌, List, [], ◌∷◌, Some}
-use Rattle.std.specs.Prelude.{codes, decimal, string_bytes, length}
+use Rattle.std.specs.Prelude.{ℕ, ◌≡◌, ◌+◌, ◌*◌, ◌%◌, ◌^◌, ◌<◌, ◌≤◌, ◌++◌, List, [], ◌∷◌, Option}
+use Rattle.std.specs.Prelude.{Some, codes, decimal, string_bytes, length, true}
+use Rattle.vod_base.specs.Names.{is_good_name}
 use Rattle.std.specs.Int.{w32, to_be_bytes}
 use Rattle.hex.specs.Hex.{encode_lower}
 use Rattle.mpeg_scan.specs.Rates.{picture_time}
@@ -13,6 +14,8 @@ use Rattle.rtsp_fields.specs.Ranges.{IsSpan}
 use Rattle.rtsp_fields.specs.Urls.{IsRead}
 use Rattle.rtsp_fields.specs.declared.ranges.Origin.TheVariants.{At}
 use Rattle.rtsp_text.specs.Replies.{Field, reply_front, reply_text, value_named}
+use Rattle.film_run.specs.declared.runs.Run.{Run}
+use Rattle.session.specs.declared.asks.Ask.{Ask}
 use Rattle.session.specs.declared.plans.Planned.{Planned}
 use Rattle.session.specs.declared.refusals.Refusal.{Refusal}
 use Rattle.session.specs.declared.refusals.Refusal.TheVariants.{BadRequest, Version, Method}
@@ -22,6 +25,8 @@ use Rattle.session.specs.declared.refusals.Refusal.TheVariants.{Parameter, Buffe
 use Rattle.session.specs.declared.states.Setup.{Setup}
 use Rattle.session.specs.declared.states.Source.{Source}
 use Rattle.session.specs.Films.{sending_of}
+use Rattle.session.specs.Methods.{Describes}
+use Rattle.session.specs.Planning.{IsPlannedRun}
 use Rattle.session.specs.Standings.{Standing}
 
 -- the phrase of RFC 2326 section 7.1.1 for each cause
@@ -81,8 +86,20 @@ pub record TellsPlay (old : Standing) (stored : Stored) (setup : Setup) (planned
   pub info_is : value_named (codes "RTP-Info") fields ≡ Some info
   pub told : TellsInfo stored old.source authority
       (planned.counts.frames
-      + frames_before (sending_of stored.film old.source setup planned.counts planned.run) planned.run.sent)
+      + frames_before (sending_of stored.film old.source setup planned.counts planned.run)
+      planned.run.sent)
       planned.run.from_unit info
+
+-- the run of a PLAY has a plan, its URL an authority, and its film a good name
+pub record IsTellable (old : Standing) (stored : Stored) (setup : Setup) (planned : Planned)
+    (authority : List ℕ) : Type 0 where
+  pub paused : Option Run
+  pub range : Option (List ℕ)
+  pub url : List ℕ
+  pub name : Option (List ℕ)
+  pub planned_is : IsPlannedRun old stored setup paused range planned
+  pub read : IsRead url authority name
+  pub good : is_good_name (string_bytes stored.name) ≡ true
 
 pub record IsPlayTold (old : Standing) (stored : Stored) (setup : Setup) (planned : Planned)
     (sequence : ℕ) (authority text : List ℕ) : Type 0 where
@@ -110,6 +127,18 @@ pub record IsFilmTold (sequence : ℕ) (authority name : List ℕ) (film : Film)
 pub record IsShort (film : Film) : Type 0 where
   pub few : length film.units.items ≤ 4194304
   pub brief : picture_time film.rate ≤ 360000
+
+-- a film of a good name is described, under the authority of the request's URL
+pub record IsDescribed (old : Standing) (sequence : ℕ) (authority : List ℕ) (new : Standing)
+    : Type 0 where
+  pub number : ℕ
+  pub ask : Ask
+  pub url : List ℕ
+  pub asked : Option (List ℕ)
+  pub describes : Describes old sequence number authority ask new
+  pub read : IsRead url authority asked
+  pub good : is_good_name (string_bytes describes.stored.name) ≡ true
+  pub short : IsShort describes.stored.film
 
 -- the reply of an admitted play ends with its start, counted from the heard slot
 pub record IsStartTold (old : Standing) (start sequence : ℕ) (fields : List Field) (text : List ℕ)

@@ -35,7 +35,8 @@ impl<'a> Session<'a> {
         ensures exact { self.new ≡ after_admission self.old place start }
         ensures text { (fields : List Field) →
             self.old.text ≡ reply_front 200 (Some (sequence_of self.old.awaited)) fields
-            → self.new.text ≡ play_text (sequence_of self.old.awaited) fields (start - self.old.heard) }
+            → self.new.text
+            ≡ play_text (sequence_of self.old.awaited) fields (start - self.old.heard) }
         ensures handed { IsHandedIn self.old
             (Receipt.Entry place (Answer.Admitted start)) self.new }
         ensures replies { self.new.waits ≡ true }

@@ -1,9 +1,6 @@
 //! Laws of a session, in RFC 2326's words.
 
-ghost use Rattle.std.specs.Prelude.{◌≡◌, ◌<◌, ℕ, true, List, Option, Some, None, Ok, string_bytes};
-ghost use Rattle.vod_base.specs.Names.{is_good_name};
-ghost use Rattle.mpeg_scan.specs.declared.films.Film.{Film};
-ghost use Rattle.rtsp_fields.specs.Urls.{IsRead};
+ghost use Rattle.std.specs.Prelude.{◌≡◌, ◌<◌, ℕ, List, Some, None, Ok, string_bytes};
 ghost use Rattle.rtsp_text.specs.Replies.{Field, reason, reply_front};
 ghost use Rattle.film_frames.specs.declared.stores.Stored.{Stored};
 ghost use Rattle.film_frames.specs.Runs.{Run as Sending, frames_before, octets_before};
@@ -16,22 +13,22 @@ ghost use Rattle.session.specs.declared.states.Play.{Play as Played};
 ghost use Rattle.session.specs.declared.states.Setup.{Setup};
 ghost use Rattle.session.specs.declared.states.Source.{Source};
 ghost use Rattle.session.specs.declared.states.State.TheVariants.{Playing};
-ghost use Rattle.session.specs.declared.wanted.Wanted.TheVariants.{New};
 ghost use Rattle.session.specs.Films.{counts_after, identity_of, sending_of};
 ghost use Rattle.session.specs.Changes.{AsksOrLacks, CanBePlayed, ChangesState, IsSameGround};
 ghost use Rattle.session.specs.Changes.{RefusesNone};
 ghost use Rattle.session.specs.Hearings.{Hears, after_admission, after_full, after_halt};
 ghost use Rattle.session.specs.Hearings.{after_look, after_overflow};
-ghost use Rattle.session.specs.Laws.{GoesOn, InitStage, Is500, IsNoHalt, IsOneHearing, IsWanting};
-ghost use Rattle.session.specs.Laws.{LeavesOr, NeverLacks, PlayingStage, PlaysOn, ReadyStage};
-ghost use Rattle.session.specs.Laws.{Resumes, StaysOr};
-ghost use Rattle.session.specs.Methods.{Describes, IsSetUp, play_front};
+ghost use Rattle.session.specs.Laws.{GoesOn, InitStage, Is500, IsDropped, IsNoHalt, IsOneHearing};
+ghost use Rattle.session.specs.Laws.{IsWanting, LeavesOr, NeverLacks, PlayingStage, PlaysOn};
+ghost use Rattle.session.specs.Laws.{ReadyStage, Resumes, StaysOr};
+ghost use Rattle.session.specs.Methods.{IsSetUp, play_front};
 ghost use Rattle.session.specs.Planning.{IsPlannedRun};
 ghost use Rattle.session.specs.Ranges.{AreFilms};
 ghost use Rattle.session.specs.Replies.{code_of};
 ghost use Rattle.session.specs.Standings.{Standing, sequence_of};
-ghost use Rattle.session.specs.Telling.{IsFilmTold, IsFullTold, IsLookTold, IsOverflowTold};
-ghost use Rattle.session.specs.Telling.{IsPlayTold, IsSetupTold, IsShort, IsStartTold, phrase_of};
+ghost use Rattle.session.specs.Telling.{IsDescribed, IsFilmTold, IsFullTold, IsLookTold};
+ghost use Rattle.session.specs.Telling.{IsOverflowTold, IsPlayTold, IsSetupTold, IsStartTold};
+ghost use Rattle.session.specs.Telling.{IsTellable, phrase_of};
 
 /// A reply other than 200 leaves all of the session but the reply (RFC 2326 section 7.1.1).
 pub fn law_refusal_leaves()
@@ -50,13 +47,14 @@ pub fn law_play_goes_on()
 /// modulo 2^16, and the packets and octets that reports count modulo 2^32 (RFC 3550 sections 5.1
 /// and 6.4.1). So does a new run from what was sent of a paused one that it takes the place of.
 pub fn law_numbers_go_on()
-    ensures run { (source : Source) (setup : Setup) (counts : Counts) (sending : Sending) (bytes : ℕ)
-        → GoesOn (identity_of source setup counts) (identity_of source setup (counts_after counts sending bytes))
+    ensures run { (source : Source) (setup : Setup) (counts : Counts) (sending : Sending)
+        (bytes : ℕ) → GoesOn (identity_of source setup counts)
+        (identity_of source setup (counts_after counts sending bytes))
         (frames_before sending bytes) (octets_before sending bytes) }
-    ensures dropped { (old : Standing) (stored : Stored) (setup : Setup) (paused run : Run)
-        (range : Option (List ℕ)) (planned : Planned)
-        → (is : IsPlannedRun old stored setup (Some paused) range planned) → is.wanted ≡ New run
-        → GoesOn (identity_of old.source setup old.counts) (identity_of old.source setup planned.counts)
+    ensures dropped { (old : Standing) (stored : Stored) (setup : Setup) (paused : Run)
+        (planned : Planned) → IsDropped old stored setup paused planned
+        → GoesOn (identity_of old.source setup old.counts)
+        (identity_of old.source setup planned.counts)
         (frames_before (sending_of stored.film old.source setup old.counts paused) paused.sent)
         (octets_before (sending_of stored.film old.source setup old.counts paused) paused.sent) }
 {}
@@ -123,21 +121,18 @@ pub fn law_phrases()
 /// first unplayed picture to its end, and how the stream goes on: the URL of the film, the number
 /// of the next frame, and the first unplayed picture's time (RFC 2326 sections 12.29 and 12.33).
 pub fn law_play_told()
-    ensures { (old : Standing) (stored : Stored) (setup : Setup) (paused : Option Run)
-        (range : Option (List ℕ)) (planned : Planned) (sequence : ℕ) (url authority : List ℕ)
-        (name : Option (List ℕ)) → IsPlannedRun old stored setup paused range planned
-        → IsRead url authority name → is_good_name (string_bytes stored.name) ≡ true
-        → IsPlayTold old stored setup planned sequence authority (play_front old stored setup planned sequence authority) }
+    ensures { (old : Standing) (stored : Stored) (setup : Setup) (planned : Planned)
+        (sequence : ℕ) (authority : List ℕ) → IsTellable old stored setup planned authority
+        → IsPlayTold old stored setup planned sequence authority
+        (play_front old stored setup planned sequence authority) }
 {}
 
 /// The reply to a DESCRIBE tells the film's base URL, under the authority of the request's URL, and
 /// describes the film, with its whole time (RFC 2326 section 10.2 and appendix C).
 pub fn law_film_told()
-    ensures { (old new : Standing) (sequence number : ℕ) (url authority : List ℕ)
-        (asked : Option (List ℕ)) (ask : Ask) → (is : Describes old sequence number authority ask new)
-        → IsRead url authority asked → is_good_name (string_bytes is.stored.name) ≡ true
-        → IsShort is.stored.film
-        → IsFilmTold sequence authority (string_bytes is.stored.name) is.stored.film new.text }
+    ensures { (old new : Standing) (sequence : ℕ) (authority : List ℕ)
+        → (is : IsDescribed old sequence authority new) → IsFilmTold sequence authority
+        (string_bytes is.describes.stored.name) is.describes.stored.film new.text }
 {}
 
 /// The reply to a play that was admitted ends with its start, counted from the heard slot.
@@ -158,9 +153,11 @@ pub fn law_setup_told()
 /// The replies to what the station answered have its numbers.
 pub fn law_answers_told()
     ensures overflow { (old : Standing) (place slot booked asked : ℕ)
-        → IsOverflowTold (sequence_of old.awaited) slot booked asked (after_overflow old place slot booked asked).text }
+        → IsOverflowTold (sequence_of old.awaited) slot booked asked
+        (after_overflow old place slot booked asked).text }
     ensures full { (old : Standing) (entries live : ℕ)
         → IsFullTold (sequence_of old.awaited) entries live (after_full old entries live).text }
     ensures look { (old : Standing) (place now at booked : ℕ)
-        → IsLookTold (sequence_of old.awaited) now at booked (after_look old place now at booked).text }
+        → IsLookTold (sequence_of old.awaited) now at booked
+        (after_look old place now at booked).text }
 {}

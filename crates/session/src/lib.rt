@@ -7,9 +7,12 @@ mod bodies;
 mod films;
 mod laws;
 mod logs;
+mod look_laws;
 mod methods;
 mod notes;
+mod offer_laws;
 mod plans;
+mod play_laws;
 mod refusals;
 mod replies;
 mod requests;
@@ -27,6 +30,12 @@ pub use laws::{
     law_play_goes_on, law_play_is_asked, law_play_told, law_refusal_leaves, law_resume_goes_on,
     law_setup_told, law_start_told, law_states,
 };
+pub use look_laws::law_looks;
 pub use notes::{Notes, OfferNote, PlayNote, Receipt};
+pub use offer_laws::{law_least_buffer, law_offer};
+pub use play_laws::{
+    law_halt_at_boundary, law_play_done, law_play_noted, law_range_in_playing, law_run_counted,
+    law_slots_missed,
+};
 pub use sessions::Session;
 pub use settings::Settings;

@@ -108,11 +108,13 @@ impl<'a> Session<'a> {
         range: Option<&[u8]>,
     ) -> Result<Planned, Refusal>
         requires setup { IsSetup (length self.now.films) setup.now }
-        requires paused { IsPausedIn self.now.films self.now.source self.now.counts setup.now paused }
+        requires paused { IsPausedIn
+            self.now.films self.now.source self.now.counts setup.now paused }
         ensures exact { IsPlanned self.now setup.now paused (option_map (λ value.
             value.now) range.entry) result }
         ensures playable { IfOk result (λ planned. OfFilm self.now.films setup.now.film (λ stored.
-            IsPlayable stored self.now.source self.now.settings setup.now planned.counts planned.run planned.plan)) }
+            IsPlayable stored self.now.source self.now.settings setup.now
+            planned.counts planned.run planned.plan)) }
     {
         let stored = stored_at(self.films, setup.film);
         let Some(wanted) = wanted_run(&stored.film, paused, range) else {

@@ -207,7 +207,8 @@ impl<'a> Session<'a> {
         requires authority { length authority.now ≤ 16384 }
         requires authority_line { is_one_line authority.now ≡ true }
         requires run { OfFilm self.old.films setup.now.film (λ stored.
-            IsPlayable stored self.old.source self.old.settings setup.now planned.counts planned.run planned.plan) }
+            IsPlayable stored self.old.source self.old.settings setup.now
+            planned.counts planned.run planned.plan) }
         ensures exact { AsksPlayOr self.old sequence authority.now setup.now
             (Ok planned) result self.new }
         ensures asks { AsksFor result self.new }
@@ -343,7 +344,8 @@ impl<'a> Session<'a> {
     fn offer_ready(&mut self, sequence: u64, wait: u64, setup: &Setup, paused: Option<Run>) -> Ask
         requires hear { CanHear self.old }
         requires setup { IsSetup (length self.old.films) setup.now }
-        requires paused { IsPausedIn self.old.films self.old.source self.old.counts setup.now paused }
+        requires paused { IsPausedIn
+            self.old.films self.old.source self.old.counts setup.now paused }
         requires wait { wait ≤ 255 }
         ensures exact { OffersReady self.old sequence wait setup.now paused result self.new }
         ensures asks { AsksFor result self.new }

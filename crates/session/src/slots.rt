@@ -64,7 +64,8 @@ fn step<K: Link>(
     ensures exact { OnOk result (state.new ≡ stepped_in stop slot state.old) }
     ensures between { IfOk result (λ left. 0 < left → stop ≡ true → is_between state.new ≡ true) }
     ensures told { OnOk result
-        (IsTold (is_sending state.old) (K.told link.old) (step_bytes stop slot state.old) (K.told link.new)) }
+        (IsTold (is_sending state.old)
+        (K.told link.old) (step_bytes stop slot state.old) (K.told link.new)) }
 {
     match state {
         State::Playing(_, play) => match play.pacer.step(slot, stop, link) {
@@ -105,7 +106,8 @@ fn send_due<K: Link>(
     ensures count { K.faults link.old ≤ K.faults link.new }
     ensures fault { OnErr result (HasRisen (K.faults link.old) (K.faults link.new)) }
     ensures front { OnErr result
-        (IsFrontTold (K.told link.old) (K.told link.new) (due_bytes waits state.old reply.now slot)) }
+        (IsFrontTold (K.told link.old)
+        (K.told link.new) (due_bytes waits state.old reply.now slot)) }
     ensures due { OnErr result (open_in state.new ≡ open_in (due_state waits state.old slot)) }
     ensures carried { IsCarried state.old state.new }
     ensures even { OnOk result (IsEven state.new) }
@@ -113,7 +115,8 @@ fn send_due<K: Link>(
     ensures sent { IfOk result (λ sent. sent ≡
         (waits && is_between (stepped_in true slot state.old))) }
     ensures told { OnOk result
-        (K.told link.new ≡ told_more (K.told link.old) (sends (due_bytes waits state.old reply.now slot))) }
+        (K.told link.new ≡ told_more (K.told link.old)
+        (sends (due_bytes waits state.old reply.now slot))) }
     ensures waited { IfOk result (λ sent. sent ≡ true → waits ≡ true) }
 {
     if !waits {
@@ -142,13 +145,15 @@ fn send_both<K: Link>(
     ensures count { K.faults link.old ≤ K.faults link.new }
     ensures fault { OnErr result (HasRisen (K.faults link.old) (K.faults link.new)) }
     ensures front { OnErr result
-        (IsFrontTold (K.told link.old) (K.told link.new) (reply.now ++ step_bytes false slot state.old)) }
+        (IsFrontTold (K.told link.old) (K.told link.new)
+        (reply.now ++ step_bytes false slot state.old)) }
     ensures due { OnErr result (open_in state.new ≡ open_in (stepped_in false slot state.old)) }
     ensures carried { IsCarried state.old state.new }
     ensures even { OnOk result (IsEven state.new) }
     ensures exact { OnOk result (state.new ≡ stepped_in false slot state.old) }
     ensures told { OnOk result
-        (K.told link.new ≡ told_more (K.told link.old) (sends (reply.now ++ step_bytes false slot state.old))) }
+        (K.told link.new ≡ told_more (K.told link.old)
+        (sends (reply.now ++ step_bytes false slot state.old))) }
 {
     link.send(reply.bytes())?;
     step(state, slot, false, link)?;

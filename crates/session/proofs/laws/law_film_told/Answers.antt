@@ -2,4 +2,5 @@ use Rattle.session.proofs.Tellings.{film_told}
 use Rattle.session.proofs.laws.law_film_told.Goals as goal
 
 pub returns : goal.returns
-returns c = film_told
+returns c = λ old new sequence authority is.
+    film_told old new sequence is.number is.url authority is.asked is.ask is.describes is.read is.good is.short

@@ -1,0 +1,102 @@
+-- A play from its request to its note, in the words of RFC 2326 and RFC 3550.
+use Rattle.std.specs.Prelude.{ℕ, ◌≡◌, ◌+◌, ◌≤◌, ◌&&◌, ◌++◌, false, nat_le, nat_lt}
+use Rattle.std.specs.Prelude.{if◌then◌else◌, List, [], ◌∷◌, Some, codes, sum_by}
+use Rattle.std.specs.List.{range_with_len}
+use Rattle.plan_cert.specs.Slots.{total_bytes}
+use Rattle.film_frames.specs.declared.stores.Stored.{Stored}
+use Rattle.film_frames.specs.Pieces.{frames_in, octets_in}
+use Rattle.film_frames.specs.Runs.{Run as Sending, pieces_in}
+use Rattle.film_frames.specs.Tracks.{IsBoundaryAfter}
+use Rattle.film_run.specs.declared.runs.Run.{Run}
+use Rattle.film_run.specs.declared.plans.Playback.{Playback}
+use Rattle.film_run.specs.Plans.{IsPlanOf}
+use Rattle.film_run.specs.Runs.{IsRun}
+use Rattle.film_run.specs.Units.{stored_sizes}
+use Rattle.mpeg_scan.specs.Rates.{picture_time}
+use Rattle.rtp_pack.specs.declared.reports.Identity.{Identity}
+use Rattle.rtsp_text.specs.Fields.{header_value}
+use Rattle.rtsp_text.specs.declared.requests.Request.{Request}
+use Rattle.session.specs.declared.asks.Ask.{Ask}
+use Rattle.session.specs.declared.asks.Ask.TheVariants.{Reply}
+use Rattle.session.specs.declared.methods.Method.TheVariants.{Play as PlayMethod}
+use Rattle.session.specs.declared.notes.PlayNote.{PlayNote}
+use Rattle.session.specs.declared.settings.Settings.{Settings}
+use Rattle.session.specs.declared.states.Play.{Play as Played}
+use Rattle.session.specs.declared.states.Setup.{Setup}
+use Rattle.session.specs.declared.states.State.TheVariants.{Playing}
+use Rattle.session.specs.Changes.{HasCode}
+use Rattle.session.specs.Judging.{HasFilm, IsOwnTalk, IsReadAs, place_of}
+use Rattle.session.specs.Laws.{GoesOn}
+use Rattle.session.specs.Standings.{Standing, replied}
+
+-- a PLAY with a Range is heard in Playing
+pub record HasRangeInPlaying (old : Standing) (message : List ℕ) (request : Request) : Type 0 where
+  pub setup : Setup
+  pub play : Played
+  pub value : List ℕ
+  pub playing : old.state ≡ Playing setup play
+  pub is_request : IsReadAs message request
+  pub method : request.method.now ≡ codes "PLAY"
+  pub range : header_value request.head.now (codes "Range") ≡ Some value
+
+-- it is refused: nothing is asked of the station, nothing but the reply
+-- changes, and that is no 200
+pub record IsRefusedInPlaying (old : Standing) (ask : Ask) (new : Standing) : Type 0 where
+  pub command : ask ≡ Reply
+  pub leaves : new ≡ replied old new.text
+  pub no_ok : ¬ HasCode 200 new.text
+
+-- no refusal that is looked for before its state applies to a request: it requires no option, and
+-- names the session and the session's film
+pub record IsElseGood (old : Standing) (request : Request) : Type 0 where
+  pub linked : old.lost ≡ false
+  pub talk : IsOwnTalk old.id (place_of old.state) request PlayMethod
+  pub film : HasFilm old.films (place_of old.state) request.url.now PlayMethod
+
+-- a halt keeps what was sent up to the first boundary that is reached
+abbrev pub KeepsToBoundary : Played → ℕ → Type 0
+KeepsToBoundary play keep =
+    let place = play.pacer.before in
+    IsBoundaryAfter play.pacer.pieces (place + play.pacer.sent) (place + keep)
+
+-- the slots between two heard ones that are not before a play's start
+abbrev pub slots_missed : ℕ → ℕ → ℕ → ℕ
+slots_missed heard slot start =
+    sum_by (λ t. if nat_lt heard t && nat_le start t then 1 else 0) (range_with_len 0 slot)
+
+-- after a run that was sent whole, all its frames were counted
+abbrev pub HasCountedAll : Identity → Identity → Sending → Type 0
+HasCountedAll before after sending =
+    GoesOn before after (frames_in (pieces_in sending)) (octets_in (pieces_in sending))
+
+-- the run, and the client, of which a note tells
+abbrev pub run_in : PlayNote → Run
+run_in note = record {
+  first_unit = note.first_unit;
+  end_unit = note.end_unit;
+  from_unit = note.from_unit;
+  sent = note.sent_before;
+  played = note.played;
+}
+
+abbrev pub client_in : Stored → Settings → PlayNote → Playback
+client_in stored settings note = record {
+  picture_units = picture_time stored.film.rate;
+  slot_units = settings.slot_units;
+  buffer = note.buffer;
+  delay = note.delay;
+}
+
+-- a note tells a run of a film and a client, and its plan is the plan of that run for that client;
+-- the booking keeps no more than the plan's bytes
+pub record IsSoundNote (stored : Stored) (settings : Settings) (note : PlayNote) : Type 0 where
+  pub run_is : IsRun (stored_sizes stored) (run_in note)
+  pub plan_is : IsPlanOf (stored_sizes stored) (client_in stored settings note) (run_in note)
+      note.plan
+  pub keep : note.keep ≤ total_bytes note.plan
+
+-- one note more was made, and it is sound
+pub record IsNoted (stored : Stored) (old new : Standing) : Type 0 where
+  pub note : PlayNote
+  pub plays : new.plays ≡ old.plays ++ note ∷ []
+  pub sound : IsSoundNote stored old.settings note

@@ -1,0 +1,86 @@
+//! Laws of a play, from its request to its note.
+
+ghost use Rattle.std.specs.Prelude.{◌≡◌, ◌<◌, ◌≤◌, ◌+◌, ℕ, true, false, List, length};
+ghost use Rattle.plan_cert.specs.Slots.{total_bytes};
+ghost use Rattle.film_frames.specs.declared.stores.Stored.{Stored};
+ghost use Rattle.film_frames.specs.Runs.{run_pieces};
+ghost use Rattle.film_frames.specs.Tracks.{framed};
+ghost use Rattle.pacer.specs.Pacings.{IsPacing};
+ghost use Rattle.rtsp_text.specs.declared.requests.Request.{Request};
+ghost use Rattle.session.specs.declared.asks.Ask.{Ask};
+ghost use Rattle.session.specs.declared.states.Play.{Play as Played};
+ghost use Rattle.session.specs.declared.states.Setup.{Setup};
+ghost use Rattle.session.specs.declared.states.State.TheVariants.{Playing};
+ghost use Rattle.session.specs.Changes.{HasCode};
+ghost use Rattle.session.specs.Films.{IsFilmAt, identity_of, sending_of};
+ghost use Rattle.session.specs.Hearings.{Hears, after_halt, is_answered};
+ghost use Rattle.session.specs.PlayLaws.{HasCountedAll, HasRangeInPlaying, IsElseGood, IsNoted};
+ghost use Rattle.session.specs.PlayLaws.{IsRefusedInPlaying, KeepsToBoundary, slots_missed};
+ghost use Rattle.session.specs.Playing.{IsPlayable};
+ghost use Rattle.session.specs.Sendings.{finished, is_sending, is_taken, kept_of, next_of};
+ghost use Rattle.session.specs.Sendings.{slotted, start_in};
+ghost use Rattle.session.specs.Standings.{HaltAnswer, Standing, awaits};
+
+/// A PLAY with a Range in Playing is refused: by 455, where no other refusal comes before (RFC 2326
+/// section 10.5 and appendix A.2).
+pub fn law_range_in_playing()
+    ensures refused { (old new : Standing) (message : List ℕ) (ask : Ask) (request : Request) →
+        Hears old message ask new
+        → HasRangeInPlaying old message request → IsRefusedInPlaying old ask new }
+    ensures code { (old new : Standing) (message : List ℕ) (ask : Ask) (request : Request) →
+        Hears old message ask new
+        → HasRangeInPlaying old message request → IsElseGood old request → HasCode 455 new.text }
+{}
+
+/// A PAUSE and a TEARDOWN halt a play at the first boundary at or after what was sent: the frame or
+/// report in hand is sent to its end, and nothing after it.
+pub fn law_halt_at_boundary()
+    ensures { (old new : Standing) (message : List ℕ) (keep : ℕ) (setup : Setup) (play : Played) →
+        Hears old message (Ask.Halt keep) new
+        → old.state ≡ Playing setup play → IsPacing play.pacer → KeepsToBoundary play keep }
+{}
+
+/// While a play is sent, each slot from its start on that was not heard between two heard ones is
+/// counted as missed; where none is sent, no slot is.
+pub fn law_slots_missed()
+    ensures sending { (old : Standing) (slot : ℕ) → is_taken old slot ≡ true →
+        is_sending old.state ≡ true
+        → (slotted old slot).late ≡ old.late + slots_missed old.heard slot (start_in old.state) }
+    ensures resting { (old : Standing) (slot : ℕ) → is_sending old.state ≡ false →
+        (slotted old slot).late ≡ old.late }
+{}
+
+/// A play of which all is sent that is kept is halted with all of that, as soon as a slot of it was
+/// stepped; while some of it is to be sent, no halt is asked for.
+pub fn law_play_done()
+    ensures done { (old : Standing) (setup : Setup) (play : Played) →
+        old.state ≡ Playing setup play → 0 < play.pacer.passed →
+        play.pacer.sent ≡ play.pacer.keep → awaits (finished old) ≡ HaltAnswer play.pacer.keep }
+    ensures going { (old : Standing) (setup : Setup) (play : Played) →
+        old.state ≡ Playing setup play → play.pacer.sent < play.pacer.keep →
+        finished old ≡ old }
+{}
+
+/// After a play that is done, all frames of its run were counted: what is sent next has the next
+/// sequence number, and reports count all packets and octets before (RFC 3550 sections 5.1 and
+/// 6.4.1).
+pub fn law_run_counted()
+    ensures { (old : Standing) (place : ℕ) (stored : Stored) (setup : Setup) (play : Played)
+        → old.state ≡ Playing setup play → is_answered (next_of old.awaited) ≡ false
+        → IsFilmAt old.films setup.film stored
+        → play.run.sent + kept_of old.awaited play.pacer.due
+        ≡ length (framed (run_pieces (sending_of stored.film old.source setup old.counts play.run)))
+        → HasCountedAll (identity_of old.source setup old.counts)
+        (identity_of old.source setup (after_halt old place).counts)
+        (sending_of stored.film old.source setup old.counts play.run) }
+{}
+
+/// The note of a halted play tells its run and its client, and its plan is the plan of that run for
+/// that client. It stands after the notes of the plays before.
+pub fn law_play_noted()
+    ensures { (old : Standing) (place : ℕ) (stored : Stored) (setup : Setup) (play : Played)
+        → old.state ≡ Playing setup play
+        → IsPlayable stored old.source old.settings setup old.counts play.run play.plan
+        → kept_of old.awaited play.pacer.due ≤ total_bytes play.plan
+        → IsNoted stored old (after_halt old place) }
+{}
