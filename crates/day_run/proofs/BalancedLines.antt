@@ -20,7 +20,8 @@ use Rattle.day_run.specs.DayLaws.{AreClients, IsClient}
 use Rattle.day_run.specs.Scripts.{AreLines, StandsAfter, slot_after}
 use Rattle.day_run.specs.Seats.{Idle, Playing, Pausing, Paused, Play, Rest, Seat, after_play, after_sending, sent_by}
 use Rattle.day_run.specs.Balanced.{AreHeldOf, IsBalanced, IsReady, share_of}
-use Rattle.day_run.proofs.Balances.{IsShut, balanced-halt, balanced-play, balanced-same, balanced-sent, balanced-slot, pausing-share}
+use Rattle.day_run.proofs.Balances.{IsShut, balanced-halt, balanced-play, balanced-same, balanced-sent}
+use Rattle.day_run.proofs.BalancedSlots.{balanced-slot, pausing-share}
 
 pub ready-kept : (old new : Moment) → new ≡ old → IsReady old → IsReady new
 ready-kept old new kept ready =

@@ -1,13 +1,13 @@
 -- What is sent in a day's slots is what is booked there.
-use Rattle.std.proofs.Common.{◌≡◌, ◌<◌, ◌≤◌, ◌+◌, ◌-◌, ◌==◌, ◌&&◌, ℕ, zero, suc, true, false, Bool, cond, nat_le, List, [], ◌∷◌, ◌++◌, All, length, map, take, set, get_or, sum, Some, arith, refl, sym, ap, subst, ◌∙◌, inl, inr}
+use Rattle.std.proofs.Common.{◌≡◌, ◌<◌, ◌≤◌, ◌+◌, ◌-◌, ◌==◌, ℕ, zero, suc, List, [], ◌∷◌, ◌++◌, All, length, map, take, set, get_or, sum, Some, arith, refl, sym, ap, subst, ◌∙◌, inl, inr}
 use Rattle.std.specs.Prelude.{sum_by}
 use Rattle.std.specs.List.{range_with_len}
-use Rattle.std.proofs.lemmas.Bool.{cases_Bool, cases_eq, cond-true, cond-false, eqb-true}
-use Rattle.std.proofs.lemmas.List.{append-nil, get_or-set_other, get_or-set_same, get_or_append_left, get_or-append_right, get_or-map, length-append, length-map, length-set, map-append, set-get_or, take-take, take_all}
+use Rattle.std.proofs.lemmas.Bool.{cases_Bool, cases_eq, cond-true, cond-false}
+use Rattle.std.proofs.lemmas.List.{get_or-set_other, get_or-set_same, get_or_append_left, get_or-append_right, length-append, length-set, map-append, take-take}
 use Rattle.std.proofs.lemmas.List.Elements.{All-cons, All-head, All-push, All-tail, All-weaker}
 use Rattle.std.proofs.lemmas.List.Sums.{sum_by-append, sum_by-cons, sum_by-set, sum_by-take-le, sum_by_push}
 use Rattle.plan_cert.specs.declared.Segment.{Segment}
-use Rattle.plan_cert.specs.Slots.{plan_slots, total_bytes}
+use Rattle.plan_cert.specs.Slots.{plan_slots}
 use Rattle.slot_calendar.specs.Plays.{Play as Booked, cut_play, sent_before, share_at, whole_play}
 use Rattle.admission.specs.declared.entries.Entry.{Entry}
 use Rattle.admission.specs.declared.entries.Answer.TheVariants.{Halted}
@@ -18,15 +18,12 @@ use Rattle.admission.proofs.Finds.{found-new, found-other, found-push}
 use Rattle.admission.proofs.Halts.{plays-split, split}
 use Rattle.admission.proofs.Runs.{state-push}
 use Rattle.day_run.specs.Balanced.{AreHeldOf, IsBalanced, IsHeld, share_of}
-use Rattle.day_run.specs.Days.{Moment, at_slot, done_halt, entry_by, halt_by, halts, last_journal, open_halt}
-use Rattle.day_run.specs.Clients.{after_open}
-use Rattle.day_run.specs.Seats.{Idle, Playing, Pausing, Paused, Play, Rest, Seat, after_play, after_sending, booking_of, growth, is_done, pausing, sent_between, sent_by}
-use Rattle.day_run.proofs.LineSteps.{halts-sent}
+use Rattle.day_run.specs.Days.{entry_by, halt_by}
+use Rattle.day_run.specs.Seats.{Idle, Playing, Pausing, Paused, Play, Seat, booking_of, growth, sent_between, sent_by}
 use Rattle.day_run.proofs.SlotSums.{sum-slots}
-use Rattle.day_run.proofs.Sweeps.{IsSwept, entries-more, swept-all, swept-none, swept-set}
 
 -- ---- plays slot by slot
-sent-rises : (segments : List Segment) (start t u : ℕ) → t ≤ u → sent_before segments start t ≤ sent_before segments start u
+pub sent-rises : (segments : List Segment) (start t u : ℕ) → t ≤ u → sent_before segments start t ≤ sent_before segments start u
 sent-rises segments start t u le =
     let xs = plan_slots segments in
     let e : sum (take (t - start) (take (u - start) xs)) ≡ sum (take (t - start) xs) = ap sum (take-take (t - start) (u - start) xs (omega (arith, le))) in
@@ -137,7 +134,7 @@ sum-split t before after h =
     ∙ ap (λ k. sum_by (share_at t) (map (λ (x : Held). x.play) before) + k) (sum_by-cons (share_at t) h.play (map (λ (x : Held). x.play) after))
 
 -- what is booked once a play was halted
-booked-halted : (entries : List Entry) (c number keep start t : ℕ) (plan : List Segment)
+pub booked-halted : (entries : List Entry) (c number keep start t : ℕ) (plan : List Segment)
     → held_as number (state_after entries).held ≡ Some (admitted_play number start plan)
     → booked_in (state_after (entries ++ halt_by c number keep)) t + share_at t (whole_play start plan)
     ≡ booked_in (state_after entries) t + share_at t (cut_play start plan keep)
@@ -286,239 +283,3 @@ balanced-play entries seats heard c play e inside number maker is free balanced 
           subst A (sym is)
           (All-push P held new (fresh-more (length entries) (length (entries ++ e ∷ [])) held (omega (arith, n)) balanced.fresh) (omega (arith, number, n)));
     }
-
--- ---- a slot comes
-pause-share : (b : Bool) (t : ℕ) (stop : Booked) (rest : Rest) → (b ≡ true → share_at t stop ≡ 0) → share_of t (cond b (Paused rest) (Pausing stop rest)) ≡ share_at t stop
-pause-share true t stop rest none = sym (none refl)
-pause-share false t stop rest none = refl
-
-pub pausing-share : (t slot : ℕ) (stop : Booked) (rest : Rest) → slot < t → share_of t (pausing slot stop rest) ≡ share_at t stop
-pausing-share t slot stop rest later =
-    pause-share (sent_by stop slot == stop.keep) t stop rest (λ all. share-done t slot stop later (eqb-true (sent_by stop slot) stop.keep all))
-
-sending-share : (t slot : ℕ) (seat : Seat) → slot < t → share_of t (after_sending slot seat) ≡ share_of t seat
-sending-share t slot Idle later = refl
-sending-share t slot (Playing play) later = refl
-sending-share t slot (Pausing stop rest) later = pausing-share t slot stop rest later
-sending-share t slot (Paused rest) later = refl
-
-sending-shares : (t slot : ℕ) (seats : List Seat) → slot < t → sum_by (share_of t) (map (after_sending slot) seats) ≡ sum_by (share_of t) seats
-sending-shares t slot [] later = refl
-sending-shares t slot (seat ∷ seats) later =
-    omega (
-      arith,
-      sending-share t slot seat later,
-      sending-shares t slot seats later,
-      sum_by-cons (share_of t) seat seats,
-      sum_by-cons (share_of t) (after_sending slot seat) (map (after_sending slot) seats),
-    )
-
-pause-held : (b : Bool) (entries : List Entry) (c : ℕ) (stop : Booked) (rest : Rest) → AreHeldOf entries c (cond b (Paused rest) (Pausing stop rest))
-pause-held true entries c stop rest = tt
-pause-held false entries c stop rest = tt
-
-sending-held : (entries : List Entry) (c slot : ℕ) (seat : Seat) → AreHeldOf entries c seat → AreHeldOf entries c (after_sending slot seat)
-sending-held entries c slot Idle its = tt
-sending-held entries c slot (Playing play) its = its
-sending-held entries c slot (Pausing stop rest) its = pause-held (sent_by stop slot == stop.keep) entries c stop rest
-sending-held entries c slot (Paused rest) its = tt
-
-pub balanced-sending : (entries : List Entry) (seats : List Seat) (heard slot : ℕ) → heard ≤ slot → IsBalanced entries seats heard
-    → IsBalanced entries (map (after_sending slot) seats) slot
-balanced-sending entries seats heard slot le balanced = record {
-  each = λ t later. balanced.each t (omega (arith, le, later)) ∙ sym (sending-shares t slot seats later);
-  held = λ c within.
-      let inside : c < length seats = omega (arith, within, length-map seats (after_sending slot)) in
-      let C : Seat → Type 0 = λ x. AreHeldOf entries c x in
-      subst C (sym (get_or-map (after_sending slot) seats c Idle Idle inside)) (sending-held entries c slot (get_or seats c Idle) (balanced.held c inside));
-  fresh = balanced.fresh;
-}
-
-both-true : (a b : Bool) → (a && b) ≡ true → b ≡ true
-both-true true b h = h
-both-true false b h = cc h
-
--- a play that is done is halted
-done-shares : (t slot : ℕ) (play : Play) → slot < t → is_done slot play ≡ true → share_of t Idle ≡ share_at t (cut_play play.start play.plan (total_bytes play.plan))
-done-shares t slot play later done =
-    let all : (sent_by (booking_of play) slot == total_bytes play.plan) ≡ true = both-true (nat_le play.start slot) (sent_by (booking_of play) slot == total_bytes play.plan) done in
-    sym (share-done t slot (booking_of play) later (eqb-true (sent_by (booking_of play) slot) (total_bytes play.plan) all))
-
-left-alone : (slot c : ℕ) (entries : List Entry) (seats : List Seat) (seat : Seat) → get_or seats c Idle ≡ seat → IsBalanced entries seats slot
-    → IsBalanced (entries ++ []) (set seats c seat) slot
-left-alone slot c entries seats seat at balanced =
-    let E : List Entry → Type 0 = λ es. IsBalanced es (set seats c seat) slot in
-    let S : List Seat → Type 0 = λ l. IsBalanced entries l slot in
-    let same : seats ≡ set seats c seat = sym (ap (set seats c) (sym at) ∙ set-get_or seats c Idle) in
-    subst E (sym (append-nil entries)) (subst S same balanced)
-
--- ---- what is booked in past slots stays
-abbrev Stays : ℕ → List Entry → List Entry → Type 0
-Stays slot old new = (t : ℕ) → t ≤ slot → booked_in (state_after new) t ≡ booked_in (state_after old) t
-
-pub stays-none : (slot : ℕ) (entries : List Entry) → Stays slot entries (entries ++ [])
-stays-none slot entries t past = ap (λ es. booked_in (state_after es) t) (append-nil entries)
-
--- a play books in past slots what it did, where it keeps what was sent
-past-share : (t slot start keep : ℕ) (plan : List Segment) → t ≤ slot → sent_by (whole_play start plan) slot ≤ keep → keep ≤ total_bytes plan
-    → share_at t (whole_play start plan) ≡ share_at t (cut_play start plan keep)
-past-share t slot start keep plan past sent most =
-    omega (
-      arith,
-      sent,
-      most,
-      sent-rises plan start t (t + 1) (omega arith),
-      sent-rises plan start (t + 1) (slot + 1) (omega (arith, past)),
-    )
-
-pub stays-halt : (entries : List Entry) (c keep slot : ℕ) (play : Play)
-    → held_as play.number (state_after entries).held ≡ Some (admitted_play play.number play.start play.plan) → sent_by (booking_of play) slot ≤ keep
-    → keep ≤ total_bytes play.plan → Stays slot entries (entries ++ halt_by c play.number keep)
-stays-halt entries c keep slot play held sent most t past =
-    omega (
-      arith,
-      booked-halted entries c play.number keep play.start t play.plan held,
-      past-share t slot play.start keep play.plan past sent most,
-    )
-
--- ---- the halts of a slot, or of a day's end
-record IsStep (slot : ℕ) (old new : List Entry) (seats : List Seat) : Type 0 where
-  balanced : IsBalanced new seats slot
-  stays : Stays slot old new
-
-kept-step : (slot c : ℕ) (entries : List Entry) (seats : List Seat) (seat : Seat) → get_or seats c Idle ≡ seat → IsBalanced entries seats slot
-    → IsStep slot entries (entries ++ []) (set seats c seat)
-kept-step slot c entries seats seat at balanced =
-    record { balanced = left-alone slot c entries seats seat at balanced; stays = stays-none slot entries }
-
-pub its-held : (entries : List Entry) (seats : List Seat) (heard c : ℕ) (play : Play) → c < length seats → get_or seats c Idle ≡ Playing play → IsBalanced entries seats heard
-    → held_as play.number (state_after entries).held ≡ Some (admitted_play play.number play.start play.plan)
-its-held entries seats heard c play inside at balanced =
-    let H : Seat → Type 0 = λ s. AreHeldOf entries c s in
-    let its : IsHeld entries c play = subst H at (balanced.held c inside) in
-    its.held
-
-step-play : (slot c : ℕ) (entries : List Entry) (seats : List Seat) (play : Play) (done : Bool) → is_done slot play ≡ done → c < length seats
-    → get_or seats c Idle ≡ Playing play → IsBalanced entries seats slot
-    → IsStep slot entries (entries ++ cond done (halt_by c play.number (total_bytes play.plan)) []) (set seats c (cond done Idle (Playing play)))
-step-play slot c entries seats play true done inside at balanced = record {
-  balanced = balanced-halt entries seats slot c (total_bytes play.plan) play Idle inside at tt (λ t later. done-shares t slot play later done) balanced;
-  stays = stays-halt entries c (total_bytes play.plan) slot play (its-held entries seats slot c play inside at balanced) (omega arith) (omega arith);
-}
-step-play slot c entries seats play false done inside at balanced = kept-step slot c entries seats (Playing play) at balanced
-
-step-seat : (slot c : ℕ) (entries : List Entry) (seats : List Seat) (seat : Seat) → c < length seats → get_or seats c Idle ≡ seat → IsBalanced entries seats slot
-    → IsStep slot entries (entries ++ done_halt slot c seat) (set seats c (after_play slot seat))
-step-seat slot c entries seats Idle inside at balanced = kept-step slot c entries seats Idle at balanced
-step-seat slot c entries seats (Playing play) inside at balanced = step-play slot c entries seats play (is_done slot play) refl inside at balanced
-step-seat slot c entries seats (Pausing stop rest) inside at balanced = kept-step slot c entries seats (Pausing stop rest) at balanced
-step-seat slot c entries seats (Paused rest) inside at balanced = kept-step slot c entries seats (Paused rest) at balanced
-
-open-seat : (slot c : ℕ) (entries : List Entry) (seats : List Seat) (seat : Seat) → c < length seats → get_or seats c Idle ≡ seat → IsBalanced entries seats slot
-    → IsStep slot entries (entries ++ open_halt slot c seat) (set seats c (after_open seat))
-open-seat slot c entries seats Idle inside at balanced = kept-step slot c entries seats Idle at balanced
-open-seat slot c entries seats (Playing play) inside at balanced =
-    let keep = sent_by (booking_of play) slot in
-    record {
-      balanced =
-          balanced-halt entries seats slot c keep play Idle inside at tt
-          (λ t later. sym (share-done t slot (cut_play play.start play.plan keep) later (omega arith))) balanced;
-      stays = stays-halt entries c keep slot play (its-held entries seats slot c play inside at balanced) (omega arith) (omega arith);
-    }
-open-seat slot c entries seats (Pausing stop rest) inside at balanced = kept-step slot c entries seats (Pausing stop rest) at balanced
-open-seat slot c entries seats (Paused rest) inside at balanced = kept-step slot c entries seats (Paused rest) at balanced
-
-abbrev IsStepOf : ℕ → (ℕ → Seat → List Entry) → (Seat → Seat) → Type 0
-IsStepOf slot halt after =
-    (c : ℕ) (entries : List Entry) (seats : List Seat) (seat : Seat) → c < length seats → get_or seats c Idle ≡ seat → IsBalanced entries seats slot
-    → IsStep slot entries (entries ++ halt c seat) (set seats c (after seat))
-
-record Ending (slot n : ℕ) (halt : ℕ → Seat → List Entry) (after : Seat → Seat) (begun : List Entry) (old : List Seat) : Type 0 where
-  entries : List Entry
-  seats : List Seat
-  swept : IsSwept after n old seats
-  entries_are : entries ≡ begun ++ halts halt 0 (take n old)
-  balanced : IsBalanced entries seats slot
-  stays : Stays slot begun entries
-
-ending : (slot : ℕ) (halt : ℕ → Seat → List Entry) (after : Seat → Seat) (begun : List Entry) (old : List Seat) (n : ℕ) → IsStepOf slot halt after → n ≤ length old
-    → IsBalanced begun old slot → Ending slot n halt after begun old
-ending slot halt after begun old zero step most balanced = record {
-  entries = begun;
-  seats = old;
-  swept = swept-none after old;
-  entries_are = sym (append-nil begun);
-  balanced = balanced;
-  stays = λ t past. refl;
-}
-ending slot halt after begun old (suc n) step most balanced =
-    let e = ending slot halt after begun old n step (omega (arith, most)) balanced in
-    let seat = get_or old n Idle in
-    let one : n + 1 ≡ suc n = omega arith in
-    let inside : n < length old = omega (arith, most) in
-    let next = step n e.entries e.seats seat (omega (arith, inside, e.swept.count)) (e.swept.later n (omega arith)) e.balanced in
-    let E : ℕ → Type 0 = λ k. Ending slot k halt after begun old in
-    subst E one (record {
-      entries = e.entries ++ halt n seat;
-      seats = set e.seats n (after seat);
-      swept = swept-set after n old e.seats (after seat) inside refl e.swept;
-      entries_are = entries-more halt old n begun e.entries (e.entries ++ halt n seat) (halt n seat) inside e.entries_are refl refl;
-      balanced = next.balanced;
-      stays = λ t past. next.stays t past ∙ e.stays t past;
-    })
-
-pub balanced-slot : (old : Moment) (slot : ℕ) → old.heard ≤ slot → IsBalanced old.entries old.seats old.heard
-    → IsBalanced (at_slot old slot).entries (at_slot old slot).seats slot
-balanced-slot old slot le balanced =
-    let sent = map (after_sending slot) old.seats in
-    let n = length sent in
-    let e = ending slot (done_halt slot) (after_play slot) old.entries sent n (step-seat slot) (omega arith) (balanced-sending old.entries old.seats old.heard slot le balanced) in
-    let seats : e.seats ≡ map (after_play slot) sent = swept-all (after_play slot) n sent e.seats (omega arith) e.swept in
-    let entries : e.entries ≡ old.entries ++ halts (done_halt slot) 0 old.seats =
-    e.entries_are ∙ ap (λ l. old.entries ++ halts (done_halt slot) 0 l) (take_all n sent (omega arith))
-    ∙ ap (λ es. old.entries ++ es) (halts-sent slot 0 old.seats) in
-    let E : List Entry → Type 0 = λ es. IsBalanced es (map (after_play slot) sent) slot in
-    let S : List Seat → Type 0 = λ l. IsBalanced e.entries l slot in
-    subst E entries (subst S seats e.balanced)
-
-pub slot-stays : (old : Moment) (slot t : ℕ) → old.heard ≤ slot → t ≤ slot → IsBalanced old.entries old.seats old.heard
-    → booked_in (state_after (at_slot old slot).entries) t ≡ booked_in (state_after old.entries) t
-slot-stays old slot t le past balanced =
-    let sent = map (after_sending slot) old.seats in
-    let n = length sent in
-    let e = ending slot (done_halt slot) (after_play slot) old.entries sent n (step-seat slot) (omega arith) (balanced-sending old.entries old.seats old.heard slot le balanced) in
-    let entries : e.entries ≡ old.entries ++ halts (done_halt slot) 0 old.seats =
-    e.entries_are ∙ ap (λ l. old.entries ++ halts (done_halt slot) 0 l) (take_all n sent (omega arith))
-    ∙ ap (λ es. old.entries ++ es) (halts-sent slot 0 old.seats) in
-    sym (ap (λ es. booked_in (state_after es) t) entries) ∙ e.stays t past
-
--- a day ends
-pub last-stays : (m : Moment) (t : ℕ) → t ≤ m.heard → IsBalanced m.entries m.seats m.heard
-    → booked_in (state_after (last_journal m)) t ≡ booked_in (state_after m.entries) t
-last-stays m t past balanced =
-    let n = length m.seats in
-    let e = ending m.heard (open_halt m.heard) after_open m.entries m.seats n (open-seat m.heard) (omega arith) balanced in
-    let entries : e.entries ≡ last_journal m = e.entries_are ∙ ap (λ l. m.entries ++ halts (open_halt m.heard) 0 l) (take_all n m.seats (omega arith)) in
-    sym (ap (λ es. booked_in (state_after es) t) entries) ∙ e.stays t past
-
--- a play was admitted after the slot that was heard last
-pub play-stays : (entries : List Entry) (e : Entry) (number start heard t : ℕ) (plan : List Segment) → heard < start → t ≤ heard
-    → (state_after (entries ++ e ∷ [])).held ≡ (state_after entries).held ++ admitted_play number start plan ∷ []
-    → booked_in (state_after (entries ++ e ∷ [])) t ≡ booked_in (state_after entries) t
-play-stays entries e number start heard t plan early past is =
-    let held = (state_after entries).held in
-    let none : t + 1 - start ≡ 0 = omega (arith, early, past) in
-    let sent : sent_before plan start (t + 1) ≡ 0 = ap (λ n. sum (take n (plan_slots plan))) none in
-    let b : booked_in (state_after (entries ++ e ∷ [])) t ≡ booked_in (state_after entries) t + share_at t (whole_play start plan) =
-    ap (λ hs. sum_by (share_at t) (map (λ (x : Held). x.play) hs)) is ∙ ap (sum_by (share_at t)) (map-append (λ (x : Held). x.play) held (admitted_play number start plan ∷ []))
-    ∙ sum_by_push (share_at t) (map (λ (x : Held). x.play) held) (whole_play start plan) in
-    omega (arith, b, sent)
-
-pub last-later : (m : Moment) (t : ℕ) → m.heard < t → IsBalanced m.entries m.seats m.heard
-    → booked_in (state_after (last_journal m)) t ≡ sum_by (share_of t) (map after_open m.seats)
-last-later m t later balanced =
-    let n = length m.seats in
-    let e = ending m.heard (open_halt m.heard) after_open m.entries m.seats n (open-seat m.heard) (omega arith) balanced in
-    let entries : e.entries ≡ last_journal m = e.entries_are ∙ ap (λ l. m.entries ++ halts (open_halt m.heard) 0 l) (take_all n m.seats (omega arith)) in
-    let seats : e.seats ≡ map after_open m.seats = swept-all after_open n m.seats e.seats (omega arith) e.swept in
-    sym (ap (λ es. booked_in (state_after es) t) entries) ∙ e.balanced.each t later ∙ ap (sum_by (share_of t)) seats

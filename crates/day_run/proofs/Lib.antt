@@ -15,10 +15,12 @@ pub mod FullLines
 pub mod FairDraws
 pub mod FairTurns
 pub mod FairLaws
+pub mod SoundClients
 pub mod OneDay
 pub mod PastSlots
 pub mod FairLines
 pub mod Balances
+pub mod BalancedSlots
 pub mod BalancedLines
 pub mod SourceTracks
 pub mod TraceReels
@@ -26,3 +28,7 @@ pub mod SlotSums
 pub mod Drawn
 pub mod TriedTexts
 pub mod TextSteps
+pub mod OfferLaws
+pub mod SpelledLines
+pub mod SpelledScripts
+pub mod ScriptEnds

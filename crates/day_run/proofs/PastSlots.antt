@@ -22,10 +22,10 @@ use Rattle.day_run.specs.Days.{AreRun, IsAsked, IsHaltedPlay, IsLine, IsLookLine
 use Rattle.day_run.specs.FairDays.{AreTurns, IsDone, IsTurn, Turn, after_turn, at_later, client_of, turn_booked, turn_peak}
 use Rattle.day_run.specs.Scripts.{AreLines, StandsAfter}
 use Rattle.day_run.specs.Seats.{Idle, Playing, Pausing, Paused, Play, Rest, Seat, booking_of, sent_by}
-use Rattle.day_run.proofs.Balances.{its-held, last-later, last-stays, play-stays, slot-stays, stays-halt}
+use Rattle.day_run.proofs.BalancedSlots.{its-held, last-later, last-stays, play-stays, slot-stays, stays-halt}
 use Rattle.day_run.proofs.BalancedLines.{morning-ready, run-ready}
 use Rattle.day_run.proofs.FairLaws.{done-heard, later-heard, turn-ready, later-ready}
-use Rattle.day_run.proofs.OneDay.{kept-most}
+use Rattle.day_run.proofs.SoundClients.{kept-most}
 use Rattle.day_run.proofs.Peaks.{peak-slots}
 use Rattle.day_run.proofs.SlotSums.{sum-slots}
 

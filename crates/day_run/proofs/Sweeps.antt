@@ -10,7 +10,7 @@ use Rattle.day_run.specs.declared.clients.Client.TheVariants as clients
 use Rattle.day_run.specs.declared.clients.Halt.{Halt}
 use Rattle.std.specs.Prelude.{OnSome, IfNone}
 use Rattle.day_run.specs.Clients.{AreSteps, AreTimed, AreUndone, IsStep, IsTimed, IsUndone, halts_of, seat_after, seat_of}
-use Rattle.day_run.specs.Days.{at_slot, done_halt, halts}
+use Rattle.day_run.specs.Days.{Moment, at_slot, done_halt, halts}
 use Rattle.day_run.specs.Seats.{Seat, Idle, after_play, after_sending, sent_between}
 
 -- the clients before a place were changed so, and those from it on weren't
@@ -271,6 +271,12 @@ undone-next i cs ds none (Some halt) inside own some left undone =
 written : {X : Type 0} → (n : ℕ) (es xs : List X) → length es ≡ n → take n (es ++ drop (length es) xs) ≡ es
 written n es xs same = take_at es (drop (length es) xs) n same
 
+abbrev moment-as : ℕ → List Entry → List Seat → Moment
+moment-as slot entries seats = record { entries = entries; seats = seats; heard = slot }
+
+moment-same : (slot : ℕ) (xs ys : List Entry) (one other : List Seat) → xs ≡ ys → one ≡ other → moment-as slot xs one ≡ moment-as slot ys other
+moment-same slot xs ys one other e s = ap (λ l. moment-as slot l one) e ∙ ap (moment-as slot ys) s
+
 -- a day at a slot
 pub slot-moment : (n : ℕ) (entries ys : List Entry) (old xs ds zs es : List Client) (heard slot sent : ℕ) → n ≡ length old → xs ≡ old
     → zs ≡ take n (ds ++ drop (length ds) old) → heard ≤ slot → AreTimed heard old
@@ -303,6 +309,6 @@ slot-moment n entries ys old xs ds zs es heard slot sent len x z le timed steppe
       length-map old seat_of,
       len,
     ) in
-    ap (λ l. record { entries = ys; seats = map seat_of l; heard = slot }) (written n es (take n (ds ++ drop (length ds) old)) e-len)
-    ∙ ap (λ l. record { entries = l; seats = map seat_of es; heard = slot }) y
-    ∙ ap (λ l. record { entries = entries ++ halts (done_halt slot) 0 (map seat_of old); seats = l; heard = slot }) s
+    moment-same slot ys (entries ++ halts (done_halt slot) 0 (map seat_of old))
+    (map seat_of (take n (es ++ drop (length es) (take n (ds ++ drop (length ds) old))))) (map (after_play slot) (map (after_sending slot) (map seat_of old))) y
+    (ap (map seat_of) (written n es (take n (ds ++ drop (length ds) old)) e-len) ∙ s)

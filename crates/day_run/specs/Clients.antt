@@ -17,9 +17,11 @@ use Rattle.day_run.specs.declared.clients.Halt.{Halt}
 use Rattle.day_run.specs.declared.clients.Play.{Play}
 use Rattle.day_run.specs.declared.clients.Rest.{Rest}
 use Rattle.day_run.specs.declared.clients.Stop.{Stop}
+use Rattle.day_run.specs.declared.clients.Which.{Which}
+use Rattle.day_run.specs.declared.clients.Which.TheVariants.{Done, Open}
 use Rattle.day_run.specs.Reels.{reel_pieces, reel_sizes}
 use Rattle.day_run.specs.Seats as seats
-use Rattle.day_run.specs.Days.{halt_by}
+use Rattle.day_run.specs.Days.{done_halt, halt_by, open_halt}
 
 -- A rest can be sent on: it is a run of all of its reel's units, of which whole frames and reports
 -- were sent, and what was sent and isn't played fits in the client's buffer.
@@ -170,6 +172,16 @@ after_open seats.Idle = seats.Idle
 after_open (seats.Playing play) = seats.Idle
 after_open (seats.Pausing stop rest) = seats.Pausing stop rest
 after_open (seats.Paused rest) = seats.Paused rest
+
+-- the halts of such plays, and what such a client does then: at a slot its play is halted if it is
+-- done, and at a day's end in any case
+abbrev pub halt_for : Which → ℕ → ℕ → seats.Seat → List Entry
+halt_for Done = done_halt
+halt_for Open = open_halt
+
+abbrev pub seat_for : Which → ℕ → seats.Seat → seats.Seat
+seat_for Done = seats.after_play
+seat_for Open = λ heard. after_open
 
 -- a client isn't paused
 abbrev pub IsUnpaused : Client → Type 0

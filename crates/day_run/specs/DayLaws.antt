@@ -1,19 +1,24 @@
 -- What holds of every day.
-use Rattle.std.specs.Prelude.{ℕ, ◌≡◌, ◌-◌, ◌*◌, ◌<◌, ◌≤◌, List, fold, length, map, max, slice_index_or, sum_by}
+use Rattle.std.specs.Prelude.{ℕ, ◌≡◌, ◌+◌, ◌-◌, ◌*◌, ◌<◌, ◌≤◌, ◌++◌, List, Option, Some, None, codes, flat_map, fold, length, map, max, slice_index_or, sum_by}
 use Rattle.std.specs.List.{range_with_len}
-use Rattle.admission.specs.Histories.{booked_after}
+use Rattle.admission.specs.Histories.{booked_after, state_after}
+use Rattle.admission.specs.Machine.{start_after}
+use Rattle.early_start.specs.declared.Tried.{Tried}
+use Rattle.report.specs.Fields.{field}
+use Rattle.slot_calendar.specs.Calendars.{HasRoom, IsFirstOverflow}
+use Rattle.plan_cert.specs.declared.Segment.{Segment}
 use Rattle.slot_calendar.specs.declared.profiles.CapStep.{CapStep}
 use Rattle.slot_calendar.specs.Profiles.{capacity_at}
 use Rattle.admission.specs.declared.entries.Entry.{Entry}
 use Rattle.day_run.specs.declared.counts.Counts.{Counts}
 use Rattle.plan_cert.specs.Slots.{sum_through, total_bytes}
 use Rattle.film_run.specs.Units.{IsTrace}
-use Rattle.day_run.specs.Days.{Link}
+use Rattle.day_run.specs.Days.{Link, Moment}
 use Rattle.film_frames.specs.Tracks.{IsBoundary}
 use Rattle.film_run.specs.Plans.{CanPlay, IsPlanOf}
 use Rattle.day_run.specs.Seats.{Idle, Playing, Pausing, Paused, Play as ClientPlay, Rest, Seat, Track}
 use Rattle.day_run.specs.FairDays.{made_of}
-use Rattle.day_run.specs.Prints.{fair_text}
+use Rattle.day_run.specs.Prints.{fair_text, start_words, tried_text}
 use Rattle.day_run.specs.declared.scripts.Line.{Line}
 use Rattle.day_run.specs.declared.scripts.Line.TheVariants.{Play, Pause, Resume, Look, Slot, Offer}
 
@@ -59,6 +64,49 @@ IsSoundSeat heard Idle = Unit {0}
 IsSoundSeat heard (Playing play) = IsSoundPlay heard play
 IsSoundSeat heard (Pausing stop rest) = IsSoundRest rest
 IsSoundSeat heard (Paused rest) = IsSoundRest rest
+
+-- a plan that begins in a slot has room in each slot, beside all that is booked at a moment
+abbrev pub HasRoomFor : Link → Moment → List Segment → ℕ → Type 0
+HasRoomFor link moment plan start =
+    HasRoom 0 (booked_after moment.entries) (capacity_at link.steps) start plan
+
+-- a start at which it has none, with the first slot without room
+pub record IsWithoutRoom (link : Link) (moment : Moment) (plan : List Segment) (start : ℕ)
+    (tried : Tried) : Type 0 where
+  pub start_is : tried.start ≡ start
+  pub over : IsFirstOverflow 0 (booked_after moment.entries) (capacity_at link.steps) start plan
+      tried.over
+
+-- of the starts from one up to another this is the least that fits; None where none fits
+abbrev pub IsLeast : (ℕ → Type 0) → ℕ → ℕ → Option ℕ → Type 0
+IsLeast FitsAt first last (Some start) =
+    (first ≤ start) × (start ≤ last) × FitsAt start
+    × ((earlier : ℕ) → first ≤ earlier → earlier < start → ¬ FitsAt earlier)
+IsLeast FitsAt first last None =
+    (start : ℕ) → first ≤ start → start ≤ last → ¬ FitsAt start
+
+-- so many starts were tried in vain, from the first one on
+abbrev pub IsCount : ℕ → ℕ → Option ℕ → ℕ → Type 0
+IsCount first last (Some start) count = first + count ≡ start
+IsCount first last None count = first + count ≡ last + 1
+
+-- What an offer tells at a moment: of the starts from the one that a play would get which is asked
+-- for in the slot that was heard last, up to the wait, the least at which the whole plan has room
+-- beside all that is booked; and for each earlier one, in order, the first slot without room.
+pub record IsOfferTold (link : Link) (rest : Rest) (wait : ℕ) (moment : Moment) (text : List ℕ)
+    : Type 0 where
+  pub plan : List Segment
+  pub plan_is : IsPlanOf rest.sizes rest.playback rest.run plan
+  pub first : ℕ
+  pub first_is : first ≡ start_after (state_after moment.entries) moment.heard
+  pub start : Option ℕ
+  pub least : IsLeast (HasRoomFor link moment plan) first (first + wait) start
+  pub tried : List Tried
+  pub count : IsCount first (first + wait) start (length tried)
+  pub each : (i : ℕ) (none : Tried) → i < length tried →
+      IsWithoutRoom link moment plan (first + i) (slice_index_or tried i none)
+  pub text_is : text ≡ flat_map tried_text tried
+      ++ (start_words start ++ field (codes " tried=") (length tried) ++ codes "\n")
 
 -- what the line of a large day says: a turn brings at most three slots; as many bytes were sent as
 -- the journal books in all slots up to the last; the peak is the most that it books in one of them,

@@ -1,6 +1,7 @@
 pub mod Lines
 pub mod Sayings
 pub mod Readings
+pub mod Spelling
 pub mod Scripts
 pub mod Reels
 pub mod Sources

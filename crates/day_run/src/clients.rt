@@ -10,7 +10,7 @@ ghost use Rattle.film_frames.specs.Tracks.{IsBoundary};
 ghost use Rattle.day_run.specs.Reels.{reel_pieces, reel_sizes};
 ghost use Rattle.day_run.specs.Clients.{IsBooked, IsGoing, IsHaltOf, IsPauseOf, IsPlaying, IsQuiet, IsRest, IsStep, IsTimed, IsUndone, IsUnpaused};
 ghost use Rattle.day_run.specs.declared.clients.Client.TheVariants.{Paused};
-ghost use Rattle.day_run.specs.Clients.{after_open, halts_of, play_of, seat_after, seat_of};
+ghost use Rattle.day_run.specs.Clients.{after_open, halt_for, halts_of, play_of, seat_after, seat_for, seat_of};
 ghost use Rattle.day_run.specs.Days.{done_halt, open_halt};
 ghost use Rattle.day_run.specs.Seats.{IsPause, after_play, is_busy};
 
@@ -64,6 +64,14 @@ pub(crate) enum Client<'r> {
 pub(crate) struct Halt {
     pub(crate) number: u64,
     pub(crate) keep: u64,
+}
+
+/// Which plays are halted: those that are done, which keep all their bytes, or all that are open,
+/// which keep what is due.
+#[derive(Clone, Copy)]
+pub(crate) enum Which {
+    Done,
+    Open,
 }
 
 /// Sends what is due in a slot, and tells how many bytes that was.
@@ -126,7 +134,7 @@ impl<'r> Client<'r> {
     }
 
     /// Its play, if it is done and so keeps all its bytes.
-    pub(crate) fn done(&self) -> Option<Halt>
+    fn done(&self) -> Option<Halt>
         ensures some { IfSome result (IsHaltOf self.now) }
         ensures none { IfNone result (IsUndone self.now) }
         ensures halt { (slot client : ℕ) → IsGoing self.now → IsTimed slot self.now →
@@ -150,9 +158,9 @@ impl<'r> Client<'r> {
     }
 
     /// Its play, which keeps what is due.
-    pub(crate) fn open(&self) -> Option<Halt>
+    fn open(&self) -> Option<Halt>
         ensures some { IfSome result (IsHaltOf self.now) }
-        ensures none { IfNone result (IsQuiet self.now) }
+        ensures none { IfNone result (IsUndone self.now) }
         ensures halt { (heard client : ℕ) → IsGoing self.now → IsTimed heard self.now →
             open_halt heard client (seat_of self.now) ≡ halts_of client result }
         ensures seat { after_open (seat_of self.now) ≡ seat_after result (seat_of self.now) }
@@ -163,6 +171,21 @@ impl<'r> Client<'r> {
                 keep: play.pacer.due(),
             }),
             _ => None,
+        }
+    }
+
+    /// How its play is to be halted, if it has one and that is such a play.
+    pub(crate) fn halt_of(&self, which: Which) -> Option<Halt>
+        ensures some { IfSome result (IsHaltOf self.now) }
+        ensures none { IfNone result (IsUndone self.now) }
+        ensures halt { (slot client : ℕ) → IsGoing self.now → IsTimed slot self.now →
+            halt_for which slot client (seat_of self.now) ≡ halts_of client result }
+        ensures seat { (slot : ℕ) → IsGoing self.now → IsTimed slot self.now →
+            seat_for which slot (seat_of self.now) ≡ seat_after result (seat_of self.now) }
+    {
+        match which {
+            Which::Done => self.done(),
+            Which::Open => self.open(),
         }
     }
 

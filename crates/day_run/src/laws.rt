@@ -1,15 +1,21 @@
-ghost use Rattle.std.specs.Prelude.{ℕ, List, ◌≡◌, ◌≤◌, ◌<◌, length, map, sum_by};
+ghost use Rattle.std.specs.Prelude.{ℕ, List, ◌≡◌, ◌≤◌, ◌<◌, ◌+◌, ◌-◌, ◌⊎◌, ◌++◌, ◌∷◌, false, true, length, map, sum_by, All, [], ◌≢◌, slice_index};
+ghost use Rattle.std.specs.List.{list_all, range_with_len};
 ghost use Rattle.day_run.specs.declared.scripts.Line.{Line};
 ghost use Rattle.day_run.specs.declared.scripts.Line.TheVariants as Lines;
 ghost use Rattle.slot_calendar.specs.declared.profiles.CapStep.{CapStep};
+ghost use Rattle.slot_calendar.specs.Profiles.{capacity_at};
 ghost use Rattle.admission.specs.declared.entries.Entry.{Entry};
 ghost use Rattle.admission.specs.Histories.{IsLegal, booked_after, state_after};
 ghost use Rattle.day_run.specs.Balanced.{share_of};
 ghost use Rattle.day_run.specs.Clients.{after_open};
-ghost use Rattle.day_run.specs.DayLaws.{AreClients, IsClient, IsFairLine, IsLink, IsSoundSeat};
-ghost use Rattle.day_run.specs.Days.{AreRun, IsDay, IsLine, Link, Moment, booked_up_to, last_journal, morning, seat_at, sent_up_to};
+ghost use Rattle.day_run.specs.DayLaws.{AreClients, IsClient, IsFairLine, IsLink, IsOfferTold, IsSoundSeat};
+ghost use Rattle.day_run.specs.Days.{AreRun, IsDay, IsFaulty, IsLine, Link, Moment, booked_up_to, last_journal, morning, rest_at, seat_at, sent_up_to};
 ghost use Rattle.day_run.specs.FairDays.{IsFair};
-ghost use Rattle.day_run.specs.Scripts.{AreLines, StandsAfter};
+ghost use Rattle.day_run.specs.declared.scripts.Script.{Script};
+ghost use Rattle.day_run.specs.Lines.{lines_of_script};
+ghost use Rattle.day_run.specs.Readings.{IsBadLine, IsScript, Name, Reading, lines_read, names_of};
+ghost use Rattle.day_run.specs.Scripts.{AreLines, StandsAfter, latest_slot};
+ghost use Rattle.day_run.specs.Spelling.{AreWritten, IsInWords, MayStand, is_verb, is_word, line_text, names_used, script_text, spaced};
 
 /// After lines of a script, what the clients are sent in the slots up to any later one, after the
 /// slot that was heard last, is what is booked in those slots.
@@ -18,6 +24,16 @@ pub fn law_sent()
         (moment : Moment)
         (slot : ℕ) → AreClients lines → AreLines sources lines → AreRun link lines texts morning moment →
         moment.heard ≤ slot → sent_up_to moment slot ≡ booked_up_to moment slot }
+{}
+
+/// After lines of a script, where the journal is legal, what the clients are sent in the slots up to
+/// any later one, after the slot that was heard last, is no more than the capacity of those slots.
+pub fn law_capacity_kept()
+    ensures { (link : Link) (sources : ℕ) (lines : List Line) (texts : List (List ℕ))
+        (moment : Moment) (slot : ℕ) → AreClients lines → AreLines sources lines →
+        AreRun link lines texts morning moment → IsLegal link.steps moment.entries →
+        moment.heard ≤ slot → sent_up_to moment slot ≤ sum_by (capacity_at link.steps)
+        (range_with_len (moment.heard + 1) (slot - moment.heard)) }
 {}
 
 /// A day prints one text for each line of its script.
@@ -34,6 +50,41 @@ pub fn law_fair()
         IsFairLine steps plays text journal }
 {}
 
+/// A script that is spelled line by line is read as that script. A line whose numbers are out of
+/// their ranges, whose name is none that a file may have, whose slot isn't later, or whose first word
+/// is none of the six verbs with its number of words, is named as the first bad one, whatever stands
+/// after it.
+pub fn law_script_read_back()
+    ensures read { (script : Script) →
+        AreWritten (names_of script.named.items) script.lines.items →
+        names_used script.lines.items ≡ length (names_of script.named.items) →
+        IsScript (script_text (names_of script.named.items) script.lines.items) script }
+    ensures range { (names : List Name) (lines : List Line) (line : Line) (rest : List ℕ) →
+        AreWritten names lines → IsInWords names line → ¬ MayStand (latest_slot lines) names line →
+        IsBadLine (script_text names lines ++ (line_text names line ++ 10 ∷ rest))
+        (length lines + 1) }
+    ensures verb { (names : List Name) (lines : List Line) (verb : List ℕ)
+        (words : List (List ℕ)) (rest : List ℕ) → AreWritten names lines →
+        list_all is_word (verb ∷ words) ≡ true → 0 < length (spaced (verb ∷ words)) →
+        is_verb (length (verb ∷ words)) verb ≡ false →
+        IsBadLine (script_text names lines ++ (spaced (verb ∷ words) ++ 10 ∷ rest))
+        (length lines + 1) }
+{}
+
+/// A line of a script is ended by LF or CR LF, the last one also by the end of the text; an empty
+/// line says nothing.
+pub fn law_script_lines()
+    ensures ended { (line rest : List ℕ) → All (λ b. b ≢ 10) line →
+        slice_index line (length line - 1) ≢ 13 →
+        lines_of_script (line ++ 10 ∷ rest) ≡ line ∷ lines_of_script rest }
+    ensures returned { (line rest : List ℕ) → All (λ b. b ≢ 10) line →
+        lines_of_script (line ++ 13 ∷ 10 ∷ rest) ≡ line ∷ lines_of_script rest }
+    ensures last { (line : List ℕ) → All (λ b. b ≢ 10) line → line ≢ [] →
+        lines_of_script line ≡ line ∷ [] }
+    ensures empty { (reading : Reading) (before after : List (List ℕ)) →
+        lines_read reading (before ++ [] ∷ after) ≡ lines_read reading (before ++ after) }
+{}
+
 /// A look changes no client, no booking and no slot, only the journal; an offer changes nothing.
 pub fn law_looks()
     ensures look { (link : Link) (slot : ℕ) (old new : Moment) (text : List ℕ) →
@@ -42,6 +93,16 @@ pub fn law_looks()
     ensures offer { (link : Link) (client source buffer delay wait : ℕ) (old new : Moment)
         (text : List ℕ) → IsLine link (Lines.Offer client source buffer delay wait) old new text →
         new ≡ old }
+{}
+
+/// An offer tells the least start within its wait at which the play's plan has room beside all that
+/// is booked, from the start on that a play would get which is asked for in the slot that was heard
+/// last; or the fault of the curves. For each earlier start it names the first slot without room.
+pub fn law_offers()
+    ensures { (link : Link) (client source buffer delay wait : ℕ) (old new : Moment)
+        (text : List ℕ) → IsLine link (Lines.Offer client source buffer delay wait) old new text →
+        IsFaulty (rest_at link source buffer delay) old new text
+        ⊎ IsOfferTold link (rest_at link source buffer delay) wait old text }
 {}
 
 /// What is booked in the slots that were heard stays: no line of a script changes it, nor does the

@@ -2,6 +2,8 @@
 //! against one calendar.
 #![tactic(auto)]
 
+mod all_clients;
+mod beginnings;
 mod clients;
 mod counts;
 mod days;
@@ -16,12 +18,14 @@ mod sayings;
 mod scripts;
 mod sources;
 mod splits;
+mod sums;
 mod texts;
 
 pub use days::{Day, run_script};
 pub use fairs::fair;
 pub use laws::{
-    law_clients, law_end, law_fair, law_looks, law_one_day, law_past, law_sent, law_texts,
+    law_capacity_kept, law_clients, law_end, law_fair, law_looks, law_offers, law_one_day, law_past,
+    law_script_lines, law_script_read_back, law_sent, law_texts,
 };
 pub use reading::read_script;
 pub use reels::Source;

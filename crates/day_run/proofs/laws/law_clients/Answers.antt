@@ -1,4 +1,4 @@
-use Rattle.day_run.proofs.OneDay.{day-sound}
+use Rattle.day_run.proofs.SoundClients.{day-sound}
 use Rattle.day_run.proofs.laws.law_clients.Goals as goal
 
 pub returns : goal.returns

@@ -8,7 +8,7 @@ use Rattle.admission.specs.Machine.{booked_in}
 use Rattle.slot_calendar.proofs.Capacities.{capacity-most}
 use Rattle.day_run.proofs.Peaks.{peak-next, peak-past}
 use Rattle.day_run.proofs.SlotSums.{booked-fits, booked-more, booked-next, sum-past}
-use Rattle.day_run.proofs.runners.booked_between.Goals as goal
+use Rattle.day_run.proofs.sums.booked_between.Goals as goal
 
 pub overflow_add-booked : goal.overflow_add-booked
 overflow_add-booked c =

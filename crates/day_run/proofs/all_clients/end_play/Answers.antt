@@ -9,7 +9,7 @@ use Rattle.day_run.specs.declared.clients.Halt.{Halt as ClientHalt}
 use Rattle.day_run.specs.Clients.{AreBooked, IsHaltOf}
 use Rattle.day_run.proofs.Bookings.{booked-halt, going-set}
 use Rattle.day_run.proofs.DaySteps.{halted-now, open-halt}
-use Rattle.day_run.proofs.runners.end_play.Goals as goal
+use Rattle.day_run.proofs.all_clients.end_play.Goals as goal
 
 pub returns-in-Some-clause-going : goal.returns-in-Some-clause-going
 returns-in-Some-clause-going c = going-set c.args.clients.now c.args.client Idle tt c.requires.going

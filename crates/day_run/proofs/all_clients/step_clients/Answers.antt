@@ -3,7 +3,7 @@ use Rattle.admission.specs.declared.entries.Entry.{Entry}
 use Rattle.day_run.specs.Clients.{AreBooked}
 use Rattle.day_run.proofs.Bookings.{booked-same, going-set}
 use Rattle.day_run.proofs.Sweeps.{steps-all, steps-next}
-use Rattle.day_run.proofs.runners.step_clients.Goals as goal
+use Rattle.day_run.proofs.all_clients.step_clients.Goals as goal
 
 pub loop-client-preserved : goal.loop-client-preserved
 loop-client-preserved c =

@@ -3,7 +3,7 @@ use Rattle.std.specs.Prelude.{sum_by}
 use Rattle.std.specs.List.{fold, range_with_len}
 use Rattle.admission.specs.Histories.{state_after}
 use Rattle.admission.specs.Machine.{booked_in}
-use Rattle.day_run.proofs.runners.booked_between.Given as goal
+use Rattle.day_run.proofs.sums.booked_between.Given as goal
 
 abbrev pub invariant-loop-slot : goal.invariant-loop-slot
 invariant-loop-slot l = record {

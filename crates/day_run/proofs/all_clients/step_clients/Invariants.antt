@@ -2,7 +2,7 @@ use Rattle.std.proofs.Common.{◌≤◌, ◌*◌, ◌^◌, ℕ, List}
 use Rattle.admission.specs.declared.entries.Entry.{Entry}
 use Rattle.day_run.specs.Clients.{AreBooked, AreGoing, AreTimed}
 use Rattle.day_run.proofs.Sweeps.{AreStepsTo}
-use Rattle.day_run.proofs.runners.step_clients.Given as goal
+use Rattle.day_run.proofs.all_clients.step_clients.Given as goal
 
 abbrev pub invariant-loop-client : goal.invariant-loop-client
 invariant-loop-client l = record {

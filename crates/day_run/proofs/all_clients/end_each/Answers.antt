@@ -1,0 +1,31 @@
+use Rattle.std.proofs.Common.{◌<◌, length, ◌∙◌, arith}
+use Rattle.day_run.specs.Clients.{halt_for, seat_for}
+use Rattle.day_run.proofs.Sweeps.{ended-next, ended-seats, undone-next}
+use Rattle.day_run.proofs.all_clients.end_each.Goals as goal
+
+pub loop-client-preserved : goal.loop-client-preserved
+loop-client-preserved c =
+    let inv = c.loop-client.invariant in
+    let cs = c.loop-client.clients in
+    let i = c.loop-client.client in
+    let none = c.index-clients-client.result in
+    let halt = c.halt_of-halt.result in
+    let done = c.end_play.ensures in
+    let inside : i < length cs = omega arith in
+    record {
+      going = done.going;
+      booked = done.booked;
+      steps = done.steps ∙ inv.steps;
+      now = done.now ∙ inv.now;
+      undone = undone-next i cs c.end_play.new.clients none halt inside c.halt_of-halt.ensures.none done.ended done.left inv.undone;
+      limit = done.limit ∙ inv.limit;
+      ended = λ slot timed.
+          ended-next (halt_for c.args.which slot) (seat_for c.args.which slot) slot i c.args.book.now.entries c.loop-client.book.entries c.end_play.new.book.entries
+          c.args.clients.now cs c.end_play.new.clients none halt inside (λ t. c.halt_of-halt.ensures.halt slot i (inv.going.each i none inside) t)
+          (λ t. c.halt_of-halt.ensures.seat slot (inv.going.each i none inside) t) done.entries done.ended done.left (inv.ended slot timed);
+    }
+
+pub returns-clause-seats : goal.returns-clause-seats
+returns-clause-seats c = λ slot timed.
+    ended-seats (halt_for c.args.which slot) (seat_for c.args.which slot) slot c.loop-client.client c.args.book.now.entries c.loop-client.book.entries
+    c.args.clients.now c.loop-client.clients (omega arith) (c.loop-client.invariant.ended slot timed)

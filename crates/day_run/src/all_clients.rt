@@ -1,0 +1,93 @@
+//! What all clients of a day do: they come to a slot, and plays are halted.
+
+ghost use Rattle.std.specs.Prelude.{◌≡◌, ◌≤◌, ◌<◌, ◌++◌, ℕ, List, length, map, slice_set, slice_index_or, IfSome, IfNone, IfOk, OnSome};
+ghost use Rattle.admission.specs.declared.entries.Entry.{Entry};
+ghost use Rattle.admission.specs.Histories.{state_after};
+ghost use Rattle.day_run.specs.declared.clients.Client.{Client};
+ghost use Rattle.day_run.specs.declared.clients.Client.TheVariants.{Idle};
+ghost use Rattle.day_run.specs.Clients.{AreBooked, AreGoing, AreIdle, AreSteps, AreTimed, AreUndone};
+ghost use Rattle.day_run.specs.Clients.{IsHaltOf, halt_for, halts_of, seat_for, seat_of};
+ghost use Rattle.day_run.specs.Days.{halts};
+
+use crate::clients::{Client, Halt, Which};
+use admission::Book;
+use std::alloc::Global;
+use vod_base::NoMemory;
+
+/// How many clients a day has.
+const CLIENTS: usize = 256;
+
+/// Clients that play nothing.
+pub(crate) fn idle_clients<'r>(alloc: Global) -> Result<Vec<Client<'r>>, NoMemory>
+    ensures count { IfOk result (λ clients. length clients.items ≡ 256) }
+    ensures idle { IfOk result (λ clients. AreIdle clients.items) }
+{
+    let mut clients = Vec::with_capacity(alloc, CLIENTS)?;
+    for client in 0..CLIENTS {
+        clients.push(Client::Idle)?;
+    }
+    Ok(clients)
+}
+
+/// Comes to a slot with each client, and tells how many bytes were sent.
+pub(crate) fn step_clients(clients: &mut [Client<'_>], slot: u64) -> u64
+    requires few { length clients.old ≤ 256 }
+    requires going { AreGoing clients.old }
+    ensures going { AreGoing clients.new }
+    ensures booked { (entries : List Entry) → AreBooked entries clients.old →
+        AreBooked entries clients.new }
+    ensures steps { (heard : ℕ) → heard ≤ slot → AreTimed heard clients.old →
+        AreSteps heard slot clients.old clients.new result }
+{
+    let mut sent = 0;
+    for client in 0..clients.len() {
+        sent += clients[client].step(slot);
+    }
+    sent
+}
+
+/// Halts a client's play.
+fn end_play(book: &mut Book, clients: &mut [Client<'_>], client: usize, halt: Option<Halt>)
+    requires inside { client < length clients.old }
+    requires few { length clients.old ≤ 256 }
+    requires halt { IfSome halt (λ h. (none : Client) →
+        IsHaltOf (slice_index_or clients.old client none) h) }
+    requires going { AreGoing clients.old }
+    requires booked { AreBooked book.old.entries clients.old }
+    ensures going { AreGoing clients.new }
+    ensures booked { AreBooked book.new.entries clients.new }
+    ensures steps { book.new.steps ≡ book.old.steps }
+    ensures now { (state_after book.new.entries).now ≡ (state_after book.old.entries).now }
+    ensures ended { OnSome halt (clients.new ≡ slice_set clients.old client Idle) }
+    ensures left { IfNone halt (clients.new ≡ clients.old) }
+    ensures entries { book.new.entries ≡ book.old.entries ++ halts_of client halt }
+    ensures limit { book.new.limit ≡ book.old.limit }
+{
+    if let Some(halt) = halt {
+        clients[client] = Client::Idle;
+        let _noted = book.halt(client as u32, halt.number, halt.keep);
+    }
+}
+
+/// Halts the plays that are done, or all that are open.
+pub(crate) fn end_each(book: &mut Book, clients: &mut [Client<'_>], which: Which)
+    requires few { length clients.old ≤ 256 }
+    requires going { AreGoing clients.old }
+    requires booked { AreBooked book.old.entries clients.old }
+    ensures going { AreGoing clients.new }
+    ensures booked { AreBooked book.new.entries clients.new }
+    ensures steps { book.new.steps ≡ book.old.steps }
+    ensures now { (state_after book.new.entries).now ≡ (state_after book.old.entries).now }
+    ensures undone { AreUndone (length clients.new) clients.new }
+    ensures limit { book.new.limit ≡ book.old.limit }
+    ensures timed { (slot : ℕ) → AreTimed slot clients.old → AreTimed slot clients.new }
+    ensures entries { (slot : ℕ) → AreTimed slot clients.old → book.new.entries
+        ≡ book.old.entries ++ halts (halt_for which slot) 0 (map seat_of clients.old) }
+    ensures seats { (slot : ℕ) → AreTimed slot clients.old →
+        map seat_of clients.new ≡ map (seat_for which slot) (map seat_of clients.old) }
+{
+    for client in 0..clients.len() {
+        let halt = clients[client].halt_of(which);
+        end_play(book, clients, client, halt);
+    }
+}
