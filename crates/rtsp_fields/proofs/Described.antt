@@ -4,7 +4,7 @@ use Rattle.std.proofs.lemmas.List.{append_assoc, take_all, length-append}
 use Rattle.vod_base.specs.Names.{is_good_name}
 use Rattle.rtsp_text.proofs.OneLines.{one_line-append, one_line-name}
 use Rattle.rtsp_fields.specs.Descriptions.{description_text, seconds_text}
-use Rattle.rtsp_fields.specs.Laws.{IsDescription, ended}
+use Rattle.rtsp_fields.specs.Laws.{IsDescription, whole_line}
 use Rattle.rtsp_fields.specs.Pieces.{IsEnd, HasNone}
 use Rattle.rtsp_fields.specs.Ranges.{IsSpan}
 use Rattle.rtsp_fields.specs.Times.{IsTime}
@@ -66,13 +66,13 @@ described : (name seconds : List ℕ) →
     codes "v=0\r\no=- 0 0 IN IP4 127.0.0.1\r\ns=" ++ name
     ++ codes "\r\nc=IN IP4 0.0.0.0\r\nt=0 0\r\na=control:*\r\na=range:npt=0-" ++ seconds
     ++ codes "\r\nm=video 0 RTP/AVP 32\r\na=control:video\r\n"
-    ≡ flat_map ended (codes "v=0" ∷ codes "o=- 0 0 IN IP4 127.0.0.1" ∷ (codes "s=" ++ name) ∷ codes "c=IN IP4 0.0.0.0" ∷ codes "t=0 0" ∷ codes "a=control:*" ∷ (codes "a=range:" ++ (codes "npt=0-" ++ seconds)) ∷ codes "m=video 0 RTP/AVP 32" ∷ (codes "a=control:" ++ codes "video") ∷ [])
+    ≡ flat_map whole_line (codes "v=0" ∷ codes "o=- 0 0 IN IP4 127.0.0.1" ∷ (codes "s=" ++ name) ∷ codes "c=IN IP4 0.0.0.0" ∷ codes "t=0 0" ∷ codes "a=control:*" ∷ (codes "a=range:" ++ (codes "npt=0-" ++ seconds)) ∷ codes "m=video 0 RTP/AVP 32" ∷ (codes "a=control:" ++ codes "video") ∷ [])
 described name seconds =
     let front = codes "v=0\r\no=- 0 0 IN IP4 127.0.0.1\r\ns=" in
     let middle = codes "\r\nc=IN IP4 0.0.0.0\r\nt=0 0\r\na=control:*\r\na=range:npt=0-" in
     let back = codes "\r\nm=video 0 RTP/AVP 32\r\na=control:video\r\n" in
-    let media = flat_map ended (codes "m=video 0 RTP/AVP 32" ∷ (codes "a=control:" ++ codes "video") ∷ []) in
-    let rest = flat_map ended (codes "c=IN IP4 0.0.0.0" ∷ codes "t=0 0" ∷ codes "a=control:*" ∷ (codes "a=range:" ++ (codes "npt=0-" ++ seconds)) ∷ codes "m=video 0 RTP/AVP 32" ∷ (codes "a=control:" ++ codes "video") ∷ []) in
+    let media = flat_map whole_line (codes "m=video 0 RTP/AVP 32" ∷ (codes "a=control:" ++ codes "video") ∷ []) in
+    let rest = flat_map whole_line (codes "c=IN IP4 0.0.0.0" ∷ codes "t=0 0" ∷ codes "a=control:*" ∷ (codes "a=range:" ++ (codes "npt=0-" ++ seconds)) ∷ codes "m=video 0 RTP/AVP 32" ∷ (codes "a=control:" ++ codes "video") ∷ []) in
     let left : front ++ name ++ middle ++ seconds ++ back ≡ front ++ (name ++ (middle ++ (seconds ++ back))) =
     append_assoc (front ++ name ++ middle) seconds back ∙ append_assoc (front ++ name) middle (seconds ++ back)
     ∙ append_assoc front name (middle ++ (seconds ++ back)) in

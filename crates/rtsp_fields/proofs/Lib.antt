@@ -12,4 +12,5 @@ pub mod Names
 pub mod Described
 pub mod ClockTexts
 pub mod TransportTexts
+pub mod TransportDefaults
 pub mod SessionTexts

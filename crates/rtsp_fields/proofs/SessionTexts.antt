@@ -1,5 +1,5 @@
 -- The id of a session is read back, alone and with parameters after it.
-use Rattle.std.proofs.Common.{◌≡◌, ℕ, ◌+◌, ◌-◌, ◌<◌, ◌&&◌, Bool, true, false, List, [], ◌∷◌, ◌++◌, length, take, get_or, refl, ap, ◌∙◌, arith}
+use Rattle.std.proofs.Common.{◌≡◌, ℕ, ◌-◌, ◌<◌, true, false, List, [], ◌∷◌, ◌++◌, length, get_or, refl, ap, ◌∙◌, arith}
 use Rattle.std.specs.List.{list_all}
 use Rattle.std.specs.Char.{is_ascii_alphanumeric}
 use Rattle.std.proofs.lemmas.Bool.{and_parts, and_from}
@@ -7,7 +7,7 @@ use Rattle.std.proofs.lemmas.List.{take_at, take_all}
 use Rattle.std.proofs.lemmas.List.Folds.{list_all_at}
 use Rattle.std.proofs.lemmas.Grind.{common_steps}
 use Rattle.vod_base.specs.Blanks.{is_blank, trimmed}
-use Rattle.rtsp_fields.specs.Pieces.{HasNone, lower}
+use Rattle.rtsp_fields.specs.Pieces.{lower}
 use Rattle.rtsp_fields.specs.Sessions.{IsSession}
 use Rattle.rtsp_fields.proofs.TransportTexts.{text_of, piece_first, piece_whole, other_than, none_from, bare}
 

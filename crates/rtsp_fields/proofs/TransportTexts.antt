@@ -1,20 +1,19 @@
 -- A Transport value of one alternative, put together, is read back.
-use Rattle.std.proofs.Common.{◌≡◌, ◌≢◌, ℕ, zero, suc, ◌+◌, ◌-◌, ◌<◌, ◌≤◌, ◌⊎◌, ◌&&◌, ◌==◌, Bool, true, false, not}
-use Rattle.std.proofs.Common.{List, [], ◌∷◌, ◌++◌, length, take, drop, get_or, slice_range, slice_index, reverse, map, codes, decimal, refl, sym, ap, subst, ◌∙◌, arith, inl, inr, nat_lt}
+use Rattle.std.proofs.Common.{◌≡◌, ◌≢◌, ℕ, suc, ◌+◌, ◌-◌, ◌<◌, ◌≤◌, ◌⊎◌, ◌==◌, Bool, true, false, not}
+use Rattle.std.proofs.Common.{List, [], ◌∷◌, ◌++◌, length, take, drop, get_or, slice_range, reverse, codes, decimal, refl, sym, ap, subst, ◌∙◌, arith, inl, inr}
 use Rattle.std.proofs.lemmas.Bool.{cases_lt, cond-false}
 use Rattle.std.specs.List.{list_all}
-use Rattle.std.specs.Char.{is_ascii_digit, to_ascii_lowercase}
-use Rattle.std.proofs.lemmas.Bool.{and_parts, and_from, lt-ltb}
+use Rattle.std.specs.Char.{is_ascii_digit}
+use Rattle.std.proofs.lemmas.Bool.{and_parts, and_from}
 use Rattle.std.proofs.lemmas.Fmt.{digits_decimal, decimal_nonempty}
-use Rattle.std.proofs.lemmas.List.{take_at, drop_at, take_all, length-append, length-reverse, get_or_append_left, get_or-append-add, get_or-reverse, append_assoc, reverse-reverse}
+use Rattle.std.proofs.lemmas.List.{take_at, take_all, length-append, length-reverse, get_or_append_left, get_or-append-add, get_or-reverse, append_assoc, reverse-reverse}
 use Rattle.std.proofs.lemmas.List.Folds.{list_all_at, list_all-append}
 use Rattle.std.proofs.lemmas.Grind.{common_steps}
 use Rattle.vod_base.specs.Blanks.{is_blank, without_front_blanks, trimmed}
 use Rattle.vod_base.proofs.Written.{written_read}
 use Rattle.rtsp_fields.specs.Pieces.{HasNone, IsStart, IsEnd, IsPiece, NoPiece, NoneBefore, Begins, lower}
-use Rattle.rtsp_fields.specs.Transports.{IsPair, AreChannels, IsOther, NamesChannels, AreNamed, HasChannels, IsTaken, IsTransport, CanBeTaken, word, after_name}
+use Rattle.rtsp_fields.specs.Transports.{IsPair, AreChannels, IsOther, NamesChannels, AreNamed, IsTaken, IsTransport, word, after_name}
 use Rattle.rtsp_fields.specs.Values.{IsWithin}
-use Rattle.rtsp_fields.specs.declared.transports.Channels.{Channels}
 use Rattle.rtsp_fields.proofs.Digits.{own}
 
 -- ---- a text that a separator cuts: its first piece, and those of the rest
@@ -141,7 +140,7 @@ piece_cases c a rest k end none p = go p.start
               | inr none ↦ inl (omega (arith, none))
             ]
 
-slice_first : (c : ℕ) (a rest : List ℕ) → slice_range (text_of c a rest) 0 (length a) ≡ a
+pub slice_first : (c : ℕ) (a rest : List ℕ) → slice_range (text_of c a rest) 0 (length a) ≡ a
 unfolding text_of
 slice_first c a rest = take_at a (c ∷ rest) (length a - 0) (omega arith)
 
@@ -159,7 +158,7 @@ slice_later c a rest k end order =
         ∙ dropped front rest k
 
 -- no piece is such a text
-none_more : (c : ℕ) (a rest : List ℕ) (P : List ℕ → Type 0) → HasNone c a 0 (length a) → ¬ P a → NoPiece c rest P → NoPiece c (text_of c a rest) P
+pub none_more : (c : ℕ) (a rest : List ℕ) (P : List ℕ → Type 0) → HasNone c a 0 (length a) → ¬ P a → NoPiece c rest P → NoPiece c (text_of c a rest) P
 none_more c a rest P none first more = λ k end p. go k end p (piece_cases c a rest k end none p)
   where
     go : (k end : ℕ) → IsPiece c (text_of c a rest) k end → ((k ≡ 0) × (end ≡ length a)) ⊎ Later c a rest k end → ¬ P (slice_range (text_of c a rest) k end)
@@ -172,7 +171,7 @@ none_more c a rest P none first more = λ k end p. go k end p (piece_cases c a r
         let E : ℕ → Type 0 = λ n. P (slice_range (text_of c a rest) (length a + 1 + l.from) n) in
         more l.from l.to l.piece (subst P (slice_later c a rest l.from l.to l.piece.end.after) (subst E l.to_is (subst S l.from_is is)))
 
-none_whole : (c : ℕ) (a : List ℕ) (P : List ℕ → Type 0) → HasNone c a 0 (length a) → ¬ P a → NoPiece c a P
+pub none_whole : (c : ℕ) (a : List ℕ) (P : List ℕ → Type 0) → HasNone c a 0 (length a) → ¬ P a → NoPiece c a P
 none_whole c a P none other = λ k end p. go k end p p.start
   where
     go : (k end : ℕ) → IsPiece c a k end → IsStart c a k → ¬ P (slice_range a k end)
@@ -280,7 +279,7 @@ value_none m n small fits =
     none_from 44 (value m n) (list_all-append (other_than 44) (codes "RTP/AVP/TCP;unicast;interleaved=") (numbers m n)
     ∙ and_from (list_all (other_than 44) (codes "RTP/AVP/TCP;unicast;interleaved=")) (list_all (other_than 44) (numbers m n)) refl (all_numbers 44 m n refl (omega arith) small fits))
 
-protocol_none : HasNone 59 (codes "RTP/AVP/TCP") 0 (length (codes "RTP/AVP/TCP"))
+pub protocol_none : HasNone 59 (codes "RTP/AVP/TCP") 0 (length (codes "RTP/AVP/TCP"))
 unfolding other_than
 protocol_none = none_from 59 (codes "RTP/AVP/TCP") refl
 
@@ -289,7 +288,7 @@ unfolding other_than
 unicast_none = none_from 59 (codes "unicast") refl
 
 -- what a part that begins with another letter isn't
-first_letter : (part : List ℕ) (c : ℕ) → get_or (word part) 0 0 ≡ c → c ≢ 109 → ¬ IsOther part
+pub first_letter : (part : List ℕ) (c : ℕ) → get_or (word part) 0 0 ≡ c → c ≢ 109 → ¬ IsOther part
 first_letter part c is other = go
   where
     go : IsOther part → ⊥
@@ -300,7 +299,7 @@ first_letter part c is other = go
         begins [] b = absurd (let e : 0 ≡ 5 = ap length b in omega (arith, e))
         begins (x ∷ text) b = ap (λ (l : List ℕ). get_or l 0 0) b
 
-names_none : (part : List ℕ) (c : ℕ) → get_or (word part) 0 0 ≡ c → c ≢ 105 → ¬ NamesChannels part
+pub names_none : (part : List ℕ) (c : ℕ) → get_or (word part) 0 0 ≡ c → c ≢ 105 → ¬ NamesChannels part
 names_none part c is other = λ names. other (sym is ∙ begins (word part) names)
   where
     begins : (text : List ℕ) → Begins (codes "interleaved=") text → get_or text 0 0 ≡ 105

@@ -1,13 +1,18 @@
--- What a description tells a player, in the words of RFC 4566 section 5 and RFC 2326 appendix C.
-use Rattle.std.specs.Prelude.{◌≡◌, ℕ, true, List, [], ◌∷◌, ◌++◌, Some, codes, flat_map}
+-- What a description tells a player, in the words of RFC 4566 section 5 and RFC 2326 appendix C;
+-- parameters of a transport.
+use Rattle.std.specs.Prelude.{◌≡◌, ◌≢◌, ◌==◌, ℕ, true, not, List, [], ◌∷◌, ◌++◌, Some, codes}
+use Rattle.std.specs.Prelude.{flat_map, slice_index}
+use Rattle.std.specs.List.{list_all}
+use Rattle.vod_base.specs.Blanks.{trimmed}
 use Rattle.rtsp_text.specs.Lines.{is_one_line}
+use Rattle.rtsp_fields.specs.Pieces.{lower}
 use Rattle.rtsp_fields.specs.Ranges.{IsSpan}
 use Rattle.rtsp_fields.specs.Urls.{IsStream}
 use Rattle.rtsp_fields.specs.declared.ranges.Origin.TheVariants.{At}
 
 -- a line with its end
-abbrev pub ended : List ℕ → List ℕ
-ended line = line ++ codes "\r\n"
+abbrev pub whole_line : List ℕ → List ℕ
+whole_line line = line ++ codes "\r\n"
 
 -- The lines that a description must have, in their order: of the session the version, its origin,
 -- its name, the connection, no bounded time, and attributes; of its one medium the kind with the
@@ -16,10 +21,19 @@ ended line = line ++ codes "\r\n"
 pub record IsDescription (text name : List ℕ) (end : ℕ) : Type 0 where
   pub range : List ℕ
   pub stream : List ℕ
-  pub lines : text ≡ flat_map ended (codes "v=0" ∷ codes "o=- 0 0 IN IP4 127.0.0.1" ∷ (codes "s="
+  pub lines : text ≡ flat_map whole_line (codes "v=0" ∷ codes "o=- 0 0 IN IP4 127.0.0.1" ∷ (codes "s="
       ++ name) ∷ codes "c=IN IP4 0.0.0.0" ∷ codes "t=0 0" ∷ codes "a=control:*" ∷ (codes "a=range:"
       ++ range) ∷ codes "m=video 0 RTP/AVP 32" ∷ (codes "a=control:" ++ stream) ∷ [])
   pub name_is : is_one_line name ≡ true
   pub range_is : is_one_line range ≡ true
   pub whole : IsSpan range (record { from = At 0; to = Some end })
   pub stream_is : IsStream (codes "/" ++ stream)
+
+-- a parameter of a transport (RFC 2326 section 12.39) that is neither `multicast` nor `mode` nor
+-- `interleaved`: its first letter is no `m` and no `i`, as those of `unicast`, `ttl` and all others
+-- are; it has no `;` and no `,`
+pub record IsOtherParameter (part : List ℕ) : Type 0 where
+  pub no_mode : slice_index (lower (trimmed part)) 0 ≢ 109
+  pub no_channels : slice_index (lower (trimmed part)) 0 ≢ 105
+  pub no_semicolon : list_all (λ byte. not (byte == 59)) part ≡ true
+  pub no_comma : list_all (λ byte. not (byte == 44)) part ≡ true

@@ -1,10 +1,10 @@
 ghost use Rattle.std.specs.Prelude.{◌≡◌, ◌≢◌, ◌+◌, ◌*◌, ◌^◌, ◌<◌, ◌≤◌, ◌∷◌, ◌++◌, ◌↔◌, ℕ};
-ghost use Rattle.std.specs.Prelude.{List, codes, decimal, length, true};
+ghost use Rattle.std.specs.Prelude.{All, List, codes, decimal, flat_map, length, true};
 ghost use Rattle.std.specs.Char.{is_ascii_alphanumeric};
 ghost use Rattle.std.specs.List.{list_all};
 ghost use Rattle.vod_base.specs.Names.{is_good_name};
 ghost use Rattle.rtsp_text.specs.Grammar.{IsUrl};
-ghost use Rattle.rtsp_fields.specs.Laws.{IsDescription};
+ghost use Rattle.rtsp_fields.specs.Laws.{IsDescription, IsOtherParameter};
 ghost use Rattle.rtsp_fields.specs.Ranges.{IsSpan};
 ghost use Rattle.rtsp_fields.specs.Descriptions.{description_text, seconds_text};
 ghost use Rattle.rtsp_fields.specs.Sessions.{IsSession};
@@ -101,6 +101,14 @@ pub fn law_transport_read()
         IsTransport
         (codes "RTP/AVP/TCP;unicast;interleaved=" ++ (decimal media ++ 45 ∷ decimal control))
         (record { media = media; control = control }) }
+{}
+
+/// Where a Transport value asks for delivery on the connection itself and names no channels, these
+/// are 0 and 1; whatever other parameters it has (RFC 2326 sections 10.12 and 12.39).
+pub fn law_transport_default()
+    ensures { (parts : List (List ℕ)) → All IsOtherParameter parts →
+        IsTransport (codes "RTP/AVP/TCP" ++ flat_map (λ part. codes ";" ++ part) parts)
+        (record { media = 0; control = 1 }) }
 {}
 
 /// The id of a session, one or more letters and digits, is read as itself, alone and with

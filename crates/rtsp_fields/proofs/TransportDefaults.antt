@@ -1,0 +1,97 @@
+-- A Transport value of one alternative that names no channels.
+use Rattle.std.proofs.Common.{◌≡◌, ℕ, ◌-◌, true, List, [], ◌∷◌, ◌++◌, All, codes, flat_map, length, get_or, slice_range, refl, sym, ap, subst, ◌∙◌, arith, inr}
+use Rattle.std.specs.List.{list_all}
+use Rattle.std.proofs.lemmas.Bool.{and_from}
+use Rattle.std.proofs.lemmas.List.{take_all, append-nil}
+use Rattle.std.proofs.lemmas.List.Elements.{All-head, All-tail}
+use Rattle.std.proofs.lemmas.List.Folds.{list_all-append}
+use Rattle.rtsp_fields.specs.Laws.{IsOtherParameter}
+use Rattle.rtsp_fields.specs.Pieces.{HasNone, IsPiece, NoPiece}
+use Rattle.rtsp_fields.specs.Transports.{IsOther, NamesChannels, IsTaken, IsTransport, word}
+use Rattle.rtsp_fields.specs.declared.transports.Channels.{Channels}
+use Rattle.rtsp_fields.proofs.TransportTexts.{text_of, other_than, none_from, piece_first, piece_whole, none_more, none_whole, first_letter, names_none, slice_first, protocol_none}
+
+-- a part and those after it
+joined : List ℕ → List (List ℕ) → List ℕ
+joined part [] = part
+joined part (next ∷ more) = text_of 59 part (joined next more)
+
+joined_is : (part : List ℕ) (parts : List (List ℕ)) → joined part parts ≡ part ++ flat_map (λ p. codes ";" ++ p) parts
+unfolding joined text_of
+joined_is part [] = sym (append-nil part)
+joined_is part (next ∷ more) = ap (λ l. part ++ 59 ∷ l) (joined_is next more)
+
+-- such a part is none that asks for another thing or names channels
+plain : (part : List ℕ) → IsOtherParameter part → ¬ IsOther part
+plain part other = first_letter part (get_or (word part) 0 0) refl other.no_mode
+
+nameless : (part : List ℕ) → IsOtherParameter part → ¬ NamesChannels part
+nameless part other = names_none part (get_or (word part) 0 0) refl other.no_channels
+
+no_semicolon : (part : List ℕ) → IsOtherParameter part → HasNone 59 part 0 (length part)
+unfolding other_than
+no_semicolon part other = none_from 59 part other.no_semicolon
+
+-- none of the parts is such a text
+none_of : (P : List ℕ → Type 0) → ((part : List ℕ) → IsOtherParameter part → ¬ P part) → (part : List ℕ) (parts : List (List ℕ)) → HasNone 59 part 0 (length part) → ¬ P part →
+    All IsOtherParameter parts → NoPiece 59 (joined part parts) P
+unfolding joined
+none_of P is_other part [] none here all = none_whole 59 part P none here
+none_of P is_other part (next ∷ more) none here all =
+    let other = All-head IsOtherParameter next more all in
+    none_more 59 part (joined next more) P none here
+    (none_of P is_other next more (no_semicolon next other) (is_other next other) (All-tail IsOtherParameter next more all))
+
+first_of : (part : List ℕ) (parts : List (List ℕ)) → HasNone 59 part 0 (length part) → IsPiece 59 (joined part parts) 0 (length part)
+unfolding joined
+first_of part [] none = piece_whole 59 part none
+first_of part (next ∷ more) none = piece_first 59 part (joined next more) none
+
+front_of : (part : List ℕ) (parts : List (List ℕ)) → slice_range (joined part parts) 0 (length part) ≡ part
+unfolding joined
+front_of part [] = take_all (length part - 0) part (omega arith)
+front_of part (next ∷ more) = slice_first 59 part (joined next more)
+
+no_comma : (part : List ℕ) (parts : List (List ℕ)) → list_all (other_than 44) part ≡ true → All IsOtherParameter parts → list_all (other_than 44) (joined part parts) ≡ true
+unfolding joined text_of other_than
+no_comma part [] none all = none
+no_comma part (next ∷ more) none all =
+    list_all-append (other_than 44) part (59 ∷ joined next more)
+    ∙ and_from (list_all (other_than 44) part) (list_all (other_than 44) (59 ∷ joined next more)) none
+    (no_comma next more (All-head IsOtherParameter next more all).no_comma (All-tail IsOtherParameter next more all))
+
+abbrev protocol : List ℕ
+protocol = codes "RTP/AVP/TCP"
+
+abbrev default : Channels
+default = record { media = 0; control = 1 }
+
+taken : (parts : List (List ℕ)) → All IsOtherParameter parts → IsTaken (joined protocol parts) default
+taken parts all = record {
+  end = 11;
+  first = first_of protocol parts protocol_none;
+  protocol = ap word (front_of protocol parts);
+  plain = none_of IsOther plain protocol parts protocol_none (first_letter protocol 114 refl (omega arith)) all;
+  has = inr (record {
+    none = none_of NamesChannels nameless protocol parts protocol_none (names_none protocol 114 refl (omega arith)) all;
+    media = refl;
+    control = refl;
+  });
+}
+
+comma_free : list_all (other_than 44) protocol ≡ true
+unfolding other_than
+comma_free = refl
+
+-- the channels are 0 and 1
+pub default_read : (parts : List (List ℕ)) → All IsOtherParameter parts → IsTransport (codes "RTP/AVP/TCP" ++ flat_map (λ p. codes ";" ++ p) parts) (record { media = 0; control = 1 })
+default_read parts all =
+    let text = joined protocol parts in
+    let whole : slice_range text 0 (length text) ≡ text = take_all (length text - 0) text (omega arith) in
+    subst (λ (t : List ℕ). IsTransport t default) (joined_is protocol parts) (record {
+      from = 0;
+      to = length text;
+      piece = piece_whole 44 text (none_from 44 text (no_comma protocol parts comma_free all));
+      taken = subst (λ (t : List ℕ). IsTaken t default) (sym whole) (taken parts all);
+      first = λ k end below p. absurd (omega (arith, below));
+    })
