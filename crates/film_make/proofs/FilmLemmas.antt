@@ -1,26 +1,29 @@
 -- One more byte, slice and picture.
-use Rattle.std.proofs.Common.{ℕ, zero, suc, ◌+◌, ◌%◌, ◌≤◌, take, ◌≡◌, List, [], ◌∷◌, ◌++◌, sym, ◌∙◌, ap, refl, arith, add-one}
+use Rattle.std.proofs.Common.{ℕ, zero, suc, ◌+◌, ◌-◌, ◌%◌, ◌≤◌, take, ◌≡◌, List, [], ◌∷◌, ◌++◌, sym, ◌∙◌}
+use Rattle.std.proofs.Common.{ap, refl, arith, add-one}
 use Rattle.std.specs.List.{flat_map, range_with_len}
 use Rattle.std.proofs.lemmas.List.{append_assoc, append-nil, map-id}
 use Rattle.std.proofs.lemmas.List.Concat.{flat_map-append}
 use Rattle.std.proofs.lemmas.List.FromFn.{map-range_with_len_more}
 use Rattle.film_make.specs.declared.pictures.CodingType.{CodingType}
-use Rattle.film_make.specs.Generator.{after, joined}
+use Rattle.film_make.specs.Generator.{after, concat}
 use Rattle.film_make.proofs.GeneratorLemmas.{after-at, after-after}
-use Rattle.film_make.specs.Film.{least_body, body_lengths, body_length, body_of, slice_of, slice_words, after_slice, picture_words, picture_of, film_of, sequence_and_group, sequence_end, coding_type}
+use Rattle.film_make.specs.Film.{least_body, body_lengths, body_length, body_of, slice_of}
+use Rattle.film_make.specs.Film.{slice_words, after_slice, picture_words, picture_of, pictures_of, film_of}
+use Rattle.film_make.specs.Film.{sequence_and_group, sequence_end, coding_type}
 
-pub joined-none : (piece : ℕ → List ℕ) → joined piece 0 ≡ []
-unfolding joined
-joined-none piece = refl
+pub concat-none : (piece : ℕ → List ℕ) → concat piece 0 ≡ []
+unfolding concat
+concat-none piece = refl
 
 range-more : (n : ℕ) → range_with_len 0 (n + 1) ≡ range_with_len 0 n ++ n ∷ []
 range-more n =
     sym (map-id (range_with_len 0 (n + 1))) ∙ map-range_with_len_more (λ (i : ℕ). i) 0 n n (omega arith)
     ∙ ap (λ (places : List ℕ). places ++ n ∷ []) (map-id (range_with_len 0 n))
 
-pub joined-more : (piece : ℕ → List ℕ) (n : ℕ) → joined piece (n + 1) ≡ joined piece n ++ piece n
-unfolding joined
-joined-more piece n =
+pub concat-more : (piece : ℕ → List ℕ) (n : ℕ) → concat piece (n + 1) ≡ concat piece n ++ piece n
+unfolding concat
+concat-more piece n =
     ap (flat_map piece) (range-more n) ∙ flat_map-append piece (range_with_len 0 n) (n ∷ [])
     ∙ ap (λ (last : List ℕ). flat_map piece (range_with_len 0 n) ++ last) (append-nil (piece n))
 
@@ -62,10 +65,10 @@ pub after-step : (words left : ℕ → ℕ) (i : ℕ) → left ≡ after i words
 after-step words left i rest = ap (after 1) rest ∙ after-after 1 i words
 
 -- a piece more, which is drawn from what is left
-pub piece-step : (start was : List ℕ) (piece : ℕ → List ℕ) (i : ℕ) → was ≡ start ++ joined piece i → was ++ piece i ≡ start ++ joined piece (i + 1)
+pub piece-step : (start was : List ℕ) (piece : ℕ → List ℕ) (i : ℕ) → was ≡ start ++ concat piece i → was ++ piece i ≡ start ++ concat piece (i + 1)
 piece-step start was piece i bytes =
-    ap (λ (l : List ℕ). l ++ piece i) bytes ∙ append_assoc start (joined piece i) (piece i)
-    ∙ ap (λ (l : List ℕ). start ++ l) (sym (joined-more piece i))
+    ap (λ (l : List ℕ). l ++ piece i) bytes ∙ append_assoc start (concat piece i) (piece i)
+    ∙ ap (λ (l : List ℕ). start ++ l) (sym (concat-more piece i))
 
 -- at the start nothing is added
 pub none-added : (out bytes : List ℕ) → bytes ≡ [] → out ≡ out ++ bytes
@@ -90,9 +93,9 @@ unfolding after_slice
 after_slice-step words left end kind n length rest last =
     last ∙ ap (after n) rest ∙ after-after n 1 words ∙ ap (λ m. after (1 + m) words) length
 
-joined-first : (piece : ℕ → List ℕ) (n : ℕ) → (rest : List ℕ) × (joined piece (suc n) ≡ piece 0 ++ rest)
-unfolding joined
-joined-first piece n = (flat_map piece (range_with_len (0 + 1) n), refl)
+concat-first : (piece : ℕ → List ℕ) (n : ℕ) → (rest : List ℕ) × (concat piece (suc n) ≡ piece 0 ++ rest)
+unfolding concat
+concat-first piece n = (flat_map piece (range_with_len (0 + 1) n), refl)
 
 picture-first : (words : ℕ → ℕ) (rest : List ℕ) → take 20 (picture_of words 0 ++ rest) ≡ sequence_and_group
 unfolding picture_of
@@ -103,7 +106,22 @@ pub film-begins : (words : ℕ → ℕ) (n : ℕ) → 1 ≤ n → take 20 (film_
 film-begins words zero some = absurd (omega arith)
 film-begins words (suc n) some =
     let piece = λ (k : ℕ). picture_of (picture_words words k) k in
-    let first = joined-first piece n in
+    let first = concat-first piece n in
     ap (λ (l : List ℕ). take 20 (l ++ sequence_end)) first.1
     ∙ ap (take 20) (append_assoc (piece 0) first.0 sequence_end)
     ∙ picture-first (picture_words words 0) (first.0 ++ sequence_end)
+
+-- fewer pieces stand in front of more
+concat-front : (piece : ℕ → List ℕ) (m d : ℕ) → (rest : List ℕ) × (concat piece (m + d) ≡ concat piece m ++ rest)
+concat-front piece m zero = ([], ap (concat piece) (let same : m + 0 ≡ m = omega arith in same) ∙ sym (append-nil (concat piece m)))
+concat-front piece m (suc d) =
+    let fewer = concat-front piece m d in (
+      fewer.0 ++ piece (m + d),
+      ap (concat piece) (let same : m + suc d ≡ m + d + 1 = omega arith in same) ∙ concat-more piece (m + d)
+          ∙ ap (λ (l : List ℕ). l ++ piece (m + d)) fewer.1 ∙ append_assoc (concat piece m) fewer.0 (piece (m + d)),
+    )
+
+pub pictures-front : (words : ℕ → ℕ) (m n : ℕ) → m ≤ n → (rest : List ℕ) × (pictures_of words n ≡ pictures_of words m ++ rest)
+pictures-front words m n few =
+    let front = concat-front (λ (k : ℕ). picture_of (picture_words words k) k) m (n - m) in
+    (front.0, ap (pictures_of words) (let same : n ≡ m + (n - m) = omega (arith, few) in same) ∙ front.1)

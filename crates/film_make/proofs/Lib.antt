@@ -2,3 +2,5 @@ pub mod GeneratorLemmas
 pub mod FilmLemmas
 pub mod TraceLemmas
 pub mod PackLemmas
+pub mod SystemLemmas
+pub mod SizeLemmas

@@ -1,10 +1,12 @@
 -- The film of a number's words: MPEG-1 video (ISO/IEC 11172-2), twelve pictures to a group.
-use Rattle.std.specs.Prelude.{ℕ, zero, suc, ◌+◌, ◌-◌, ◌*◌, ◌/◌, ◌%◌, ◌^◌, ◌==◌, List, [], ◌∷◌, ◌++◌, if◌then◌else◌, map, fold, drop}
+use Rattle.std.specs.Prelude.{ℕ, zero, suc, ◌+◌, ◌-◌, ◌*◌, ◌/◌, ◌%◌, ◌^◌, ◌==◌, List, [], ◌∷◌, ◌++◌}
+use Rattle.std.specs.Prelude.{if◌then◌else◌, map, fold, drop}
 use Rattle.std.specs.Int.{w64, to_be_bytes}
 use Rattle.std.specs.List.{range_with_len, sum_by}
 use Rattle.film_make.specs.declared.pictures.CodingType.{CodingType}
-use Rattle.film_make.specs.declared.pictures.CodingType.TheVariants.{Intra, Predicted, Bidirectional}
-use Rattle.film_make.specs.Generator.{after, joined}
+use Rattle.film_make.specs.declared.pictures.CodingType.TheVariants.{Intra, Predicted}
+use Rattle.film_make.specs.declared.pictures.CodingType.TheVariants.{Bidirectional}
+use Rattle.film_make.specs.Generator.{after, concat}
 
 -- fields from the highest bit on, each a value and its number of bits, as one number
 abbrev pub in_bits : List (ℕ × ℕ) → ℕ
@@ -89,7 +91,7 @@ picture_words words (suc k) = slice_words (coding_type (k % 12)) (picture_words 
 
 -- the first n slices of a picture, with codes from 1 on
 abbrev pub slices_of : (ℕ → ℕ) → CodingType → ℕ → List ℕ
-slices_of words kind n = joined (λ s. slice_of (slice_words kind words s) kind (s + 1)) n
+slices_of words kind n = concat (λ s. slice_of (slice_words kind words s) kind (s + 1)) n
 
 -- picture k: the sequence and group headers where it is the first of its group, its header, and
 -- slices 1 to 4
@@ -100,7 +102,7 @@ picture_of words k =
 
 -- the first n pictures of a film
 abbrev pub pictures_of : (ℕ → ℕ) → ℕ → List ℕ
-pictures_of words n = joined (λ k. picture_of (picture_words words k) k) n
+pictures_of words n = concat (λ k. picture_of (picture_words words k) k) n
 
 -- the film of n pictures
 abbrev pub film_of : (ℕ → ℕ) → ℕ → List ℕ

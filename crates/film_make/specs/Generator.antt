@@ -21,5 +21,5 @@ unfoldable pub after : ℕ → (ℕ → ℕ) → ℕ → ℕ
 after n words = λ k. words (n + k)
 
 -- pieces 0 to n - 1, end to end
-unfoldable pub joined : (ℕ → List ℕ) → ℕ → List ℕ
-joined piece n = flat_map piece (range_with_len 0 n)
+unfoldable pub concat : (ℕ → List ℕ) → ℕ → List ℕ
+concat piece n = flat_map piece (range_with_len 0 n)

@@ -2,3 +2,4 @@ pub mod Generator
 pub mod Trace
 pub mod Film
 pub mod System
+pub mod Headers

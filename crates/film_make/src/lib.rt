@@ -4,12 +4,16 @@
 
 mod draws;
 mod films;
+mod laws;
 mod pictures;
 mod systems;
 mod traces;
 
 pub use draws::Draws;
 pub use films::make_film;
+pub use laws::{
+    law_film_headers, law_more_pictures, law_picture_sizes, law_system_unwraps, law_trace,
+};
 pub use systems::make_system;
 pub use traces::{draw_sizes, draw_trace, make_trace};
 

@@ -1,6 +1,10 @@
-ghost use Rattle.std.specs.Prelude.{◌≡◌, ℕ, ◌+◌, ◌++◌, ◌%◌, ◌<◌, ◌≤◌, ◌==◌, [], if◌then◌else◌, OnOk};
+ghost use Rattle.std.specs.Prelude.{◌≡◌, ℕ, ◌+◌, ◌++◌, ◌%◌, ◌<◌, ◌≤◌, ◌==◌, [], if◌then◌else◌};
+ghost use Rattle.std.specs.Prelude.{OnOk};
 ghost use Rattle.film_make.specs.Generator.{after, words_left};
-ghost use Rattle.film_make.specs.Film.{after_slice, body_lengths, body_of, coding_type, in_bytes, least_body, picture_fields, picture_header, picture_of, sequence_and_group, slice_of, slice_words, slices_of, temporal_reference};
+ghost use Rattle.film_make.specs.Film.{after_slice, body_lengths, body_of, coding_type, in_bytes};
+ghost use Rattle.film_make.specs.Film.{least_body, picture_fields, picture_header, picture_of};
+ghost use Rattle.film_make.specs.Film.{sequence_and_group, slice_of, slice_words, slices_of};
+ghost use Rattle.film_make.specs.Film.{temporal_reference};
 
 use crate::draws::Draws;
 use std::alloc::AllocError;

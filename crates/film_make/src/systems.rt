@@ -44,7 +44,7 @@ fn write_packs(video: &[u8], out: &mut Vec<u8>) -> Result<(), AllocError>
 }
 
 // Video as a system stream.
-fn wrapped(alloc: Global, video: &[u8]) -> Result<Vec<u8>, AllocError>
+fn wrap(alloc: Global, video: &[u8]) -> Result<Vec<u8>, AllocError>
     ensures { IfOk result (λ stream. stream.items ≡ system_of video.now) }
 {
     let mut stream = Vec::new(alloc);
@@ -62,5 +62,5 @@ pub fn make_system(alloc: Global, number: u64, pictures: u32) -> Result<Vec<u8>,
         system_of (film_of (words_of number) pictures)) }
 {
     let film = make_film(alloc, number, pictures)?;
-    wrapped(alloc, &film).map_err(|_| NoMemory)
+    wrap(alloc, &film).map_err(|_| NoMemory)
 }

@@ -1,4 +1,5 @@
-ghost use Rattle.std.specs.Prelude.{◌≡◌, ℕ, ◌++◌, ◌≤◌, IfOk, ◌*◌, ◌+◌, ◌%◌, ◌==◌, [], ◌∷◌, if◌then◌else◌, decimal, OnOk};
+ghost use Rattle.std.specs.Prelude.{◌≡◌, ℕ, ◌++◌, ◌≤◌, IfOk, ◌*◌, ◌+◌, ◌%◌, ◌==◌, [], ◌∷◌};
+ghost use Rattle.std.specs.Prelude.{if◌then◌else◌, decimal, OnOk};
 ghost use Rattle.film_make.specs.Generator.{after, words_left, words_of};
 ghost use Rattle.film_make.specs.Trace.{sizes_of, trace_of, trace_size};
 

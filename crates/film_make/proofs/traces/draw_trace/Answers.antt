@@ -1,12 +1,12 @@
 use Rattle.std.proofs.Common.{sym, ◌∙◌}
 use Rattle.film_make.proofs.GeneratorLemmas.{after-zero}
-use Rattle.film_make.proofs.FilmLemmas.{joined-none, after-step}
+use Rattle.film_make.proofs.FilmLemmas.{concat-none, after-step}
 use Rattle.film_make.proofs.TraceLemmas.{line-step}
 use Rattle.film_make.proofs.traces.draw_trace.Goals as goal
 
 pub loop-index-init : goal.loop-index-init
 loop-index-init c = record {
-  bytes = c.new-trace.ensures.items ∙ sym (joined-none _);
+  bytes = c.new-trace.ensures.items ∙ sym (concat-none _);
   left = sym (after-zero _);
 }
 

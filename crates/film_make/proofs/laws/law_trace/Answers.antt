@@ -1,0 +1,6 @@
+use Rattle.film_make.proofs.TraceLemmas.{first-range, other-range, each-size, sizes-count}
+use Rattle.film_make.proofs.TraceLemmas.{sizes-front, trace-lines}
+use Rattle.film_make.proofs.laws.law_trace.Goals as goal
+
+pub returns : goal.returns
+returns c = record { count = sizes-count; first = first-range; other = other-range; each = each-size; front = sizes-front; lines = trace-lines }

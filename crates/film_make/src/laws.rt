@@ -1,0 +1,63 @@
+ghost use Rattle.std.specs.Prelude.{◌≡◌, ◌≢◌, ℕ, ◌+◌, ◌*◌, ◌%◌, ◌<◌, ◌≤◌, ◌++◌, [], ◌∷◌, List, decimal};
+ghost use Rattle.std.specs.Prelude.{drop, flat_map, length, take};
+ghost use Rattle.mpeg_scan.specs.Standard.{backward_vector, forward_vector, picture_coding_type};
+ghost use Rattle.mpeg_scan.specs.Standard.{temporal_reference};
+ghost use Rattle.sys_demux.specs.Streams.{IsSystem};
+ghost use Rattle.film_make.specs.Film.{picture_of, pictures_of, sequence_and_group};
+ghost use Rattle.film_make.specs.Headers.{IsGroupHeader, IsSequenceHeader, IsWithin, field_of};
+ghost use Rattle.film_make.specs.System.{system_of};
+ghost use Rattle.film_make.specs.Trace.{sizes_of, trace_of, trace_size};
+
+/// The sizes of a trace: as many as pictures were asked for, the first of each twelve from 800 to
+/// 7,996 bytes, every other from 200 to 1,999, where each size comes of some word; fewer pictures
+/// have the first of them. Its text has them line by line.
+pub fn law_trace()
+    ensures count { (words : ℕ → ℕ) (n : ℕ) → length (sizes_of words n) ≡ n }
+    ensures first { (words : ℕ → ℕ) (k : ℕ) → k % 12 ≡ 0 → IsWithin 800 7996 (trace_size words k) }
+    ensures other { (words : ℕ → ℕ) (k : ℕ) → k % 12 ≢ 0 → IsWithin 200 1999 (trace_size words k) }
+    ensures each { (k size : ℕ) → k % 12 ≢ 0 → IsWithin 200 1999 size →
+        (words : ℕ → ℕ) × (trace_size words k ≡ size) }
+    ensures front { (words : ℕ → ℕ) (m n : ℕ) → m ≤ n →
+        take m (sizes_of words n) ≡ sizes_of words m }
+    ensures lines { (words : ℕ → ℕ) (n : ℕ) →
+        trace_of words n ≡ flat_map (λ size. decimal size ++ 10 ∷ []) (sizes_of words n) }
+{}
+
+/// The headers of a film say what is meant: pictures of 352 by 288 square samples, 25 a second, in
+/// closed groups; and of the twelve pictures of a group, in the order of the stream, the types (1
+/// is I, 2 P, 3 B), the places in the order of showing, and the vectors' fields (0 full-pel, f-code
+/// 1).
+pub fn law_film_headers()
+    ensures sequence { IsSequenceHeader (take 12 sequence_and_group) }
+    ensures group { IsGroupHeader (drop 12 sequence_and_group) }
+    ensures types { field_of picture_coding_type ≡
+        1 ∷ 2 ∷ 3 ∷ 2 ∷ 3 ∷ 2 ∷ 3 ∷ 2 ∷ 3 ∷ 2 ∷ 3 ∷ 2 ∷ [] }
+    ensures shown { field_of temporal_reference ≡
+        0 ∷ 2 ∷ 1 ∷ 4 ∷ 3 ∷ 6 ∷ 5 ∷ 8 ∷ 7 ∷ 10 ∷ 9 ∷ 11 ∷ [] }
+    ensures forward { field_of forward_vector ≡
+        0 ∷ 1 ∷ 1 ∷ 1 ∷ 1 ∷ 1 ∷ 1 ∷ 1 ∷ 1 ∷ 1 ∷ 1 ∷ 1 ∷ [] }
+    ensures backward { field_of backward_vector ≡
+        0 ∷ 0 ∷ 1 ∷ 0 ∷ 1 ∷ 0 ∷ 1 ∷ 0 ∷ 1 ∷ 0 ∷ 1 ∷ 0 ∷ [] }
+{}
+
+/// The bytes of a picture with its headers: four slices, each with its code and 300 to 1,499 bytes
+/// of an I picture, 60 to 459 of a P picture and 30 to 229 of a B picture.
+pub fn law_picture_sizes()
+    ensures intra { (words : ℕ → ℕ) (k : ℕ) → k % 12 ≡ 0 →
+        IsWithin (28 + 4 * (4 + 300)) (28 + 4 * (4 + 1499)) (length (picture_of words k)) }
+    ensures predicted { (words : ℕ → ℕ) (k : ℕ) → k % 12 % 2 ≡ 1 →
+        IsWithin (9 + 4 * (4 + 60)) (9 + 4 * (4 + 459)) (length (picture_of words k)) }
+    ensures bidirectional { (words : ℕ → ℕ) (k : ℕ) → 0 < k % 12 → k % 12 % 2 ≡ 0 →
+        IsWithin (9 + 4 * (4 + 30)) (9 + 4 * (4 + 229)) (length (picture_of words k)) }
+{}
+
+/// A film of fewer pictures is the front of a film of more, but for its end.
+pub fn law_more_pictures()
+    ensures { (words : ℕ → ℕ) (m n : ℕ) → m ≤ n →
+        (rest : List ℕ) × (pictures_of words n ≡ pictures_of words m ++ rest) }
+{}
+
+/// A made system stream is one, and its video is the film that was wrapped.
+pub fn law_system_unwraps()
+    ensures { (video : List ℕ) → IsSystem (system_of video) video }
+{}
