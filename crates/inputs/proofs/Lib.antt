@@ -8,3 +8,5 @@ pub mod Tokens
 pub mod TokenLaws
 pub mod LoadLemmas
 pub mod SmallNumbers
+pub mod Words
+pub mod TraceWords

@@ -14,7 +14,7 @@ use Rattle.troubles.specs.declared.faults.Trouble.TheVariants.{Usage, Refused, S
 use Rattle.inputs.specs.Files.{IsFront, IsNamed}
 use Rattle.inputs.specs.Films.{IsBytesTrouble, IsFilmTrouble}
 use Rattle.inputs.specs.Scans.{HoldsVideo}
-use Rattle.inputs.specs.Videos.{IsRefusedAbove, IsStreamFault, IsStreamFaultFrom, IsVideo, IsVideoFrom, moved, pack_in}
+use Rattle.inputs.specs.Videos.{IsRefusedAbove, IsStreamFault, IsStreamFaultFrom, IsVideo, IsVideoFrom, fault_from, pack_in}
 use Rattle.inputs.proofs.ReadLemmas.{first_front}
 use Rattle.inputs.proofs.Tokens.{slice_from}
 
@@ -34,7 +34,7 @@ stream_is file video from pack system =
     subst (λ (o : Option ℕ). IsVideoFrom o file video) (sym pack) (subst (λ (l : List ℕ). IsSystem l video) (slice_from file from) system)
 
 pub fault_is : (file : List ℕ) (from : ℕ) (own fault : SystemFault) → pack_in file ≡ Some from → from ≤ length file → length file ≤ 2 ^ 40 → IsRefused (take (length file - from) (drop from file)) own →
-    ((bytes : List ℕ) → IsRefused bytes own → from + length bytes ≤ 2 ^ 40 → fault ≡ moved from own) → IsStreamFault file fault
+    ((bytes : List ℕ) → IsRefused bytes own → from + length bytes ≤ 2 ^ 40 → fault ≡ fault_from from own) → IsStreamFault file fault
 fault_is file from own fault pack within short refused moves =
     let stream : IsRefused (drop from file) own = subst (λ (l : List ℕ). IsRefused l own) (slice_from file from) refused in
     let its : IsStreamFaultFrom (Some from) file fault = (own, (stream, moves (drop from file) stream (omega (arith, length-drop from file, within, short)))) in

@@ -21,11 +21,11 @@ use Rattle.rtp_pack.specs.Sizes.{Measure, begun, frames_of, measured, with_slice
 use Rattle.rtp_pack.proofs.SizeLemmas.{slices-append}
 use Rattle.film_frames.specs.Pieces.{wire_size}
 use Rattle.film_frames.proofs.PieceLemmas.{unit-bound, unit-le}
-use Rattle.inputs.specs.Sizes.{AreSizesWithin, IsSized, Sized, next_sized, none_sized, sized_after, sizes_of}
+use Rattle.inputs.specs.Sizes.{AreSizesWithin, IsSized, Sizing, sizing_after_call, first_sizing, sizing_after, sizes_of}
 
-pub sized-append : (s : Sized) (xs ys : List Call) → sized_after s (xs ++ ys) ≡ sized_after (sized_after s xs) ys
+pub sized-append : (s : Sizing) (xs ys : List Call) → sizing_after s (xs ++ ys) ≡ sizing_after (sizing_after s xs) ys
 sized-append s [] ys = refl
-sized-append s (x ∷ xs) ys = sized-append (next_sized s x) xs ys
+sized-append s (x ∷ xs) ys = sized-append (sizing_after_call s x) xs ys
 
 lengths-more : (cur : List ℕ) (at b : ℕ) → lengths_to b (cur ++ at ∷ []) ≡ lengths_to at cur ++ (b - at) ∷ []
 lengths-more [] at b = refl
@@ -74,13 +74,13 @@ unit-size unit from head_end at n past rest m begin head end slices count so_far
     ap (λ (u : Measure). cond unit.starts_group 52 0 + frames_of u)
     (so_far.unit_is ∙ ap (λ h. measured h (lengths_to at so_far.cur)) head_is ∙ ap (λ (l : List ℕ). measured (unit.head_end - unit.from) l) lengths)
 
-sizes-told : (calls : List Call) (part : Part) (k : Count) (to : ℕ) (past : List ℕ) (s : Sized) → parts_after (Some part) calls ≡ Some (between to) →
+sizes-told : (calls : List Call) (part : Part) (k : Count) (to : ℕ) (past : List ℕ) (s : Sizing) → parts_after (Some part) calls ≡ Some (between to) →
     IsSome (counts_after (Some k) calls) → k.slices ≡ length past → Measures part past s.unit →
-    (sized_after s calls).sizes ≡ s.sizes ++ map (λ u. wire_size (past ++ slices_in calls) u) (units_in calls)
+    (sizing_after s calls).sizes ≡ s.sizes ++ map (λ u. wire_size (past ++ slices_in calls) u) (units_in calls)
 sizes-told [] part k to past s parts counts slices so_far = sym (append-nil s.sizes)
 sizes-told (head_call a b ∷ calls) (between at) k to past s parts counts slices so_far =
     let fits = part-fits (eqb a at && (ltb a b && leb (b - a) 1380)) (within a b b 0) calls to parts in
-    sizes-told calls (within a b b 0) k to past (next_sized s (head_call a b)) fits.1 counts slices
+    sizes-told calls (within a b b 0) k to past (sizing_after_call s (head_call a b)) fits.1 counts slices
     (record { before = past; cur = []; past_is = sym (append-nil past); count = refl; unit_is = refl })
 sizes-told (slice_call a b ∷ calls) (between at) k to past s parts counts slices so_far = absurd (false≢true (part-fits false (between at) calls to parts).0)
 sizes-told (unit_call unit ∷ calls) (between at) k to past s parts counts slices so_far = absurd (false≢true (part-fits false (between at) calls to parts).0)
@@ -92,7 +92,7 @@ sizes-told (slice_call a b ∷ calls) (within from head_end at n) k to past s pa
     ap (λ (m : Measure). with_slice m (b - a)) (so_far.unit_is ∙ ap (λ t. measured (head_end - from) (lengths_to t so_far.cur)) (sym same))
     ∙ sym (slices-append (lengths_to a so_far.cur) (begun (head_end - from)) (b - a))
     ∙ ap (λ (l : List ℕ). measured (head_end - from) l) (sym (lengths-more so_far.cur a b)) in
-    sizes-told calls (within from head_end b (n + 1)) (record k { slices = k.slices + 1 }) to (past ++ a ∷ []) (next_sized s (slice_call a b)) fits.1 counts
+    sizes-told calls (within from head_end b (n + 1)) (record k { slices = k.slices + 1 }) to (past ++ a ∷ []) (sizing_after_call s (slice_call a b)) fits.1 counts
     (omega (arith, slices, length-append past (a ∷ [])))
     (record {
       before = so_far.before;
@@ -115,7 +115,7 @@ sizes-told (unit_call unit ∷ calls) (within from head_end at n) k to past s pa
     unit-size unit from head_end at n past (slices_in calls) s.unit (eqb-true unit.from from first.0) (eqb-true unit.head_end head_end places.0) (eqb-true unit.to at places.1)
     (eqb-true unit.slices n (and_parts (eqb unit.slices n) (ltb 0 n) both.1).0) (count ∙ slices) so_far in
     let rest : List ℕ = map (λ u. wire_size (past ++ slices_in calls) u) (units_in calls) in
-    sizes-told calls (between at) next to past (next_sized s (unit_call unit)) fits.1 counted.1 slices tt
+    sizes-told calls (between at) next to past (sizing_after_call s (unit_call unit)) fits.1 counted.1 slices tt
     ∙ append_assoc s.sizes ((cond unit.starts_group 52 0 + frames_of s.unit) ∷ []) rest
     ∙ ap (λ n. s.sizes ++ n ∷ rest) size
 
@@ -123,21 +123,21 @@ sizes-told (unit_call unit ∷ calls) (within from head_end at n) k to past s pa
 pub film-sizes : (film : List ℕ) (unit : Measure) (sizes : List ℕ) → refusal film ≡ None → IsSized unit sizes (told_of film) → sizes ≡ sizes_of film
 film-sizes film unit sizes accepted sized =
     sized.sizes_are
-    ∙ sizes-told (told_of film) (between (first_of (codes_of (read [] film)))) no_count (length (read [] film)) [] none_sized (film-tiles (read [] film) accepted)
+    ∙ sizes-told (told_of film) (between (first_of (codes_of (read [] film)))) no_count (length (read [] film)) [] first_sizing (film-tiles (read [] film) accepted)
     (film-numbered (read [] film) accepted) refl tt
 
 -- a part more
 pub sized-more : (calls : List Call) (call : Call) (unit unit' : Measure) (sizes sizes' : List ℕ) → IsSized unit sizes calls →
-    unit' ≡ (next_sized (record { unit = unit; sizes = sizes }) call).unit → sizes' ≡ (next_sized (record { unit = unit; sizes = sizes }) call).sizes →
+    unit' ≡ (sizing_after_call (record { unit = unit; sizes = sizes }) call).unit → sizes' ≡ (sizing_after_call (record { unit = unit; sizes = sizes }) call).sizes →
     IsSized unit' sizes' (calls ++ call ∷ [])
 sized-more calls call unit unit' sizes sizes' so_far unit_is sizes_are =
-    let before : Sized = record { unit = unit; sizes = sizes } in
-    let after : Sized = sized_after none_sized calls in
+    let before : Sizing = record { unit = unit; sizes = sizes } in
+    let after : Sizing = sizing_after first_sizing calls in
     let same : before ≡ after =
     ap (λ (u : Measure). record { unit = u; sizes = sizes }) so_far.unit_is ∙ ap (λ (s : List ℕ). record { unit = after.unit; sizes = s }) so_far.sizes_are in
     record {
-      unit_is = unit_is ∙ ap (λ (s : Sized). (next_sized s call).unit) same ∙ ap (λ (s : Sized). s.unit) (sym (sized-append none_sized calls (call ∷ [])));
-      sizes_are = sizes_are ∙ ap (λ (s : Sized). (next_sized s call).sizes) same ∙ ap (λ (s : Sized). s.sizes) (sym (sized-append none_sized calls (call ∷ [])));
+      unit_is = unit_is ∙ ap (λ (s : Sizing). (sizing_after_call s call).unit) same ∙ ap (λ (s : Sizing). s.unit) (sym (sized-append first_sizing calls (call ∷ [])));
+      sizes_are = sizes_are ∙ ap (λ (s : Sizing). (sizing_after_call s call).sizes) same ∙ ap (λ (s : Sizing). s.sizes) (sym (sized-append first_sizing calls (call ∷ [])));
     }
 
 -- ---- the limits of a film's sizes

@@ -29,4 +29,9 @@ pub number_is : (text : List ℕ) (number : ℕ) → 0 < length text → list_al
     → number ≡ digits_value 10 text → number < 2 ^ 64 → number_of text ≡ Some number
 number_is text number some digits is small = grind (arith, common_steps)
 
-pub ruleset small_steps = (number_is, take_all)
+-- a number that is read is that of its digits
+pub number_read : (text : List ℕ) (number : ℕ) → number_of text ≡ Some number
+    → (0 < length text) × (list_all is_ascii_digit text ≡ true) × (digits_value 10 text ≡ number)
+number_read text number is = grind (arith, common_steps)
+
+pub ruleset digit_steps = (take_all)

@@ -21,7 +21,7 @@ use Rattle.inputs.specs.Scans.{HasEnded, HasHeard, HasRefused, HasStreamed, HasS
 use Rattle.inputs.specs.declared.streams.StreamRefused.{StreamRefused}
 use Rattle.inputs.specs.declared.streams.StreamRefused.TheVariants.{Fault as StreamFault, NoMemory as NoRoom}
 use Rattle.inputs.proofs.Tokens.{slice_from}
-use Rattle.inputs.specs.Videos.{IsStreamFaultFrom, IsVideo, IsVideoFrom, moved, pack_in, place_of}
+use Rattle.inputs.specs.Videos.{IsStreamFaultFrom, IsVideo, IsVideoFrom, fault_from, pack_in, place_of}
 use Rattle.inputs.proofs.ReadLemmas.{front_rest, one_file}
 use Rattle.inputs.proofs.ScanLemmas.{none_told}
 
@@ -127,7 +127,7 @@ stream_rest before rest whole from is long =
 -- the stream of a file, and one of its faults
 stream_fault : (held : List File) (name : List ℕ) (size from : ℕ) (whole stream : List ℕ) (own fault : SystemFault) → IsOpened held name size (Some from) → file_named held name ≡ Some whole →
     size ≤ 2 ^ 40 → drop from whole ≡ stream → IsRefused stream own →
-    ((bytes : List ℕ) → IsRefused bytes own → from + length bytes ≤ 2 ^ 40 → fault ≡ moved from own) → IsFilmRefused held name (System fault)
+    ((bytes : List ℕ) → IsRefused bytes own → from + length bytes ≤ 2 ^ 40 → fault ≡ fault_from from own) → IsFilmRefused held name (System fault)
 stream_fault held name size from whole stream own fault opened found short is refused moves =
     let same : whole ≡ opened.file = one_file held name whole opened.file found opened.found in
     let pack : pack_in whole ≡ Some from = ap pack_in same ∙ opened.pack in
@@ -138,7 +138,7 @@ stream_fault held name size from whole stream own fault opened found short is re
 
 pub piece_fault : (held : List File) (name : List ℕ) (size from : ℕ) (seen piece : List ℕ) (own fault : SystemFault) → (front : IsStreamFront size from (seen ++ piece) held name) →
     IsOpened held name size (Some from) → size ≤ 2 ^ 40 → ((more : List ℕ) → IsRefused (seen ++ piece ++ more) own) →
-    ((bytes : List ℕ) → IsRefused bytes own → from + length bytes ≤ 2 ^ 40 → fault ≡ moved from own) → IsFilmRefused held name (System fault)
+    ((bytes : List ℕ) → IsRefused bytes own → from + length bytes ≤ 2 ^ 40 → fault ≡ fault_from from own) → IsFilmRefused held name (System fault)
 piece_fault held name size from seen piece own fault front opened short refused moves =
     let rest : List ℕ = drop (length (front.0 ++ (seen ++ piece))) front.1.1.whole in
     let whole : front.0 ++ (seen ++ piece ++ rest) ≡ front.1.1.whole =
@@ -165,7 +165,7 @@ all_streamed Heard told name size from place unwrapper scanner so_far within end
 
 pub end_fault : (Heard : List Call → Type 0) (told : Option (List File)) (held : List File) (name : List ℕ) (size from : ℕ) (unwrapper : Unwrapper) (scanner : Scanner) (own fault : SystemFault) →
     (so_far : HasStreamedAll Heard told name size from unwrapper scanner) → told ≡ Some held → WasOpened told name size (Some from) → size ≤ 2 ^ 40 → IsRefused so_far.seen own →
-    ((bytes : List ℕ) → IsRefused bytes own → from + length bytes ≤ 2 ^ 40 → fault ≡ moved from own) → IsFilmRefused held name (System fault)
+    ((bytes : List ℕ) → IsRefused bytes own → from + length bytes ≤ 2 ^ 40 → fault ≡ fault_from from own) → IsFilmRefused held name (System fault)
 end_fault Heard told held name size from unwrapper scanner own fault so_far is opened short refused moves =
     stream_fault held name size from (so_far.whole held is).0 so_far.seen own fault (opened held is) (so_far.whole held is).1.0 short (so_far.whole held is).1.1 refused moves
 

@@ -1,19 +1,10 @@
 -- The tokens of a text are its words, and no other list of tokens is.
 use Rattle.std.proofs.Common.{◌≡◌, ℕ, ◌+◌, ◌<◌, Bool, true, false, not, ◌&&◌, List, [], ◌∷◌, ◌++◌, length, refl, sym, ap, ◌∙◌, arith, if◌then◌else◌, subst, inl, inr}
-use Rattle.std.proofs.lemmas.Bool.{and_parts, cases_Bool, false≢true}
+use Rattle.std.proofs.lemmas.Bool.{and_from, and_parts, cases_Bool, false≢true, not_from_false}
 use Rattle.std.proofs.lemmas.List.{append-nil}
 use Rattle.std.specs.List.{list_all}
 use Rattle.inputs.specs.Traces.{AreSeparated, IsWord, Token, begins_token, is_blank, joined, tokens_from}
 use Rattle.inputs.proofs.Tokens.{tokens-blanks, word_list}
-
-both : (a b : Bool) → a ≡ true → b ≡ true → (a && b) ≡ true
-both true true p q = refl
-both true false p q = q
-both false b p q = p
-
-not_false : (a : Bool) → a ≡ false → not a ≡ true
-not_false true h = sym h
-not_false false h = refl
 
 -- what is separated so is read so
 pub separated_only : (at : ℕ) (text : List ℕ) (tokens : List Token) → AreSeparated at text tokens → tokens ≡ tokens_from at text
@@ -32,14 +23,14 @@ separated_only at text (token ∷ tokens) h =
 
 -- a blank more in front
 blank_front : (at b : ℕ) (rest : List ℕ) (tokens : List Token) → is_blank b ≡ true → AreSeparated (at + 1) rest tokens → AreSeparated at (b ∷ rest) tokens
-blank_front at b rest [] blank h = both (is_blank b) (list_all is_blank rest) blank h
+blank_front at b rest [] blank h = and_from (is_blank b) (list_all is_blank rest) blank h
 blank_front at b rest (token ∷ tokens) blank h = (
   b ∷ h.0,
   (
     h.1.0,
     (
       ap (λ (l : List ℕ). b ∷ l) h.1.1.0,
-      both (is_blank b) (list_all is_blank h.0) blank h.1.1.1,
+      and_from (is_blank b) (list_all is_blank h.0) blank h.1.1.1,
       h.1.1.2,
       h.1.1.3,
       omega (arith, h.1.1.4),
@@ -61,7 +52,7 @@ first_word at b rest token tokens [] after begins word h =
         (
           ap (λ (l : List ℕ). b ∷ l) h.0,
           refl,
-          (omega arith, both (not (is_blank b)) (list_all (λ x. not (is_blank x)) token.bytes) (not_false (is_blank b) word) h.2.1),
+          (omega arith, and_from (not (is_blank b)) (list_all (λ x. not (is_blank x)) token.bytes) (not_from_false (is_blank b) word) h.2.1),
           h.3,
           omega arith,
           subst (λ (n : ℕ). AreSeparated n after tokens) next h.5,
@@ -76,7 +67,7 @@ first_word at b rest token tokens (x ∷ front) after begins word h =
 word_front : (at b : ℕ) (rest : List ℕ) (tokens : List Token) (begins : Bool) → begins_token rest ≡ begins → is_blank b ≡ false → AreSeparated (at + 1) rest tokens →
     AreSeparated at (b ∷ rest) (joined at b begins tokens)
 word_front at b rest tokens false begins word h =
-    ([], (rest, (refl, refl, (omega arith, both (not (is_blank b)) true (not_false (is_blank b) word) refl), begins, omega arith, h)))
+    ([], (rest, (refl, refl, (omega arith, and_from (not (is_blank b)) true (not_from_false (is_blank b) word) refl), begins, omega arith, h)))
 word_front at b [] [] true begins word h = absurd (false≢true begins)
 word_front at b (x ∷ rest) [] true begins word h =
     let blank : is_blank x ≡ true = (and_parts (is_blank x) (list_all is_blank rest) h).0 in

@@ -1,5 +1,6 @@
 -- The tokens of a text, from the front on, and the traces that they write.
 use Rattle.std.proofs.Common.{◌≡◌, ℕ, ◌+◌, ◌-◌, ◌<◌, ◌≤◌, ◌^◌, Bool, true, false, not, ◌&&◌, List, [], ◌∷◌, ◌++◌, length, take, drop, map, sum, Some, Option, refl, sym, ap, ◌∙◌, arith, add-zero, if◌then◌else◌, slice_range, get_or, length-append, length-drop}
+use Rattle.std.proofs.lemmas.Bool.{and_parts, not-true}
 use Rattle.std.proofs.lemmas.List.{take-append-drop, drop-drop, length-take-le, take_all, map-append, append_assoc}
 use Rattle.std.proofs.Math.Seq.{get_or-append_seam}
 use Rattle.std.proofs.lemmas.List.Elements.{All-append, All-cons, All-nil}
@@ -8,25 +9,13 @@ use Rattle.std.specs.List.{list_all}
 use Rattle.vod_base.specs.Numbers.{number_of}
 use Rattle.inputs.specs.Traces.{is_blank, Token, begins_token, joined, tokens_from, IsTrace, IsBadTrace, AddsSize}
 
-and_left : (a b : Bool) → (a && b) ≡ true → a ≡ true
-and_left true b h = refl
-and_left false b h = h
-
-and_right : (a b : Bool) → (a && b) ≡ true → b ≡ true
-and_right true b h = h
-and_right false b h = cc
-
-not_true : (a : Bool) → not a ≡ true → a ≡ false
-not_true true h = sym h
-not_true false h = refl
-
 -- blanks in front are passed over
 pub tokens-blanks : (at : ℕ) (blanks rest : List ℕ) → list_all is_blank blanks ≡ true → tokens_from at (blanks ++ rest) ≡ tokens_from (at + length blanks) rest
 tokens-blanks at [] rest h = ap (λ (n : ℕ). tokens_from n rest) (sym (add-zero at))
 tokens-blanks at (b ∷ blanks) rest h =
     ap (λ (v : Bool). if v then tokens_from (at + 1) (blanks ++ rest) else joined at b (begins_token (blanks ++ rest)) (tokens_from (at + 1) (blanks ++ rest)))
-    (and_left (is_blank b) (list_all is_blank blanks) h)
-    ∙ tokens-blanks (at + 1) blanks rest (and_right (is_blank b) (list_all is_blank blanks) h)
+    (and_parts (is_blank b) (list_all is_blank blanks) h).0
+    ∙ tokens-blanks (at + 1) blanks rest (and_parts (is_blank b) (list_all is_blank blanks) h).1
     ∙ ap (λ (n : ℕ). tokens_from n rest) (omega arith)
 
 -- the bytes up to a blank or the end are one token
@@ -36,20 +25,20 @@ tokens-word at b [] rest first others ends =
     ap (λ (v : Bool). if v then tokens_from (at + 1) rest else joined at b (begins_token rest) (tokens_from (at + 1) rest)) first
     ∙ ap (λ (v : Bool). joined at b v (tokens_from (at + 1) rest)) ends
 tokens-word at b (c ∷ word) rest first others ends =
-    let next : is_blank c ≡ false = not_true (is_blank c) (and_left (not (is_blank c)) (list_all (λ x. not (is_blank x)) word) others) in
-    let behind : List Token = tokens_from (at + 1) (c ∷ (word ++ rest)) in
-    ap (λ (v : Bool). if v then behind else joined at b (not (is_blank c)) behind) first
-    ∙ ap (λ (v : Bool). joined at b (not v) behind) next
+    let next : is_blank c ≡ false = not-true (is_blank c) (and_parts (not (is_blank c)) (list_all (λ x. not (is_blank x)) word) others).0 in
+    let rest_tokens : List Token = tokens_from (at + 1) (c ∷ (word ++ rest)) in
+    ap (λ (v : Bool). if v then rest_tokens else joined at b (not (is_blank c)) rest_tokens) first
+    ∙ ap (λ (v : Bool). joined at b (not v) rest_tokens) next
     ∙ ap (λ (ts : List Token). joined at b true ts)
-    (tokens-word (at + 1) c word rest next (and_right (not (is_blank c)) (list_all (λ x. not (is_blank x)) word) others) ends)
+    (tokens-word (at + 1) c word rest next (and_parts (not (is_blank c)) (list_all (λ x. not (is_blank x)) word) others).1 ends)
     ∙ ap (λ (n : ℕ). (record { from = at; bytes = b ∷ c ∷ word }) ∷ tokens_from n rest) (omega arith)
 
 pub word_list : (at : ℕ) (word rest : List ℕ) → 0 < length word → list_all (λ x. not (is_blank x)) word ≡ true → begins_token rest ≡ false →
     tokens_from at (word ++ rest) ≡ (record { from = at; bytes = word }) ∷ tokens_from (at + length word) rest
 word_list at [] rest some all ends = absurd (omega arith)
 word_list at (b ∷ word) rest some all ends =
-    tokens-word at b word rest (not_true (is_blank b) (and_left (not (is_blank b)) (list_all (λ x. not (is_blank x)) word) all))
-    (and_right (not (is_blank b)) (list_all (λ x. not (is_blank x)) word) all) ends
+    tokens-word at b word rest (not-true (is_blank b) (and_parts (not (is_blank b)) (list_all (λ x. not (is_blank x)) word) all).0)
+    (and_parts (not (is_blank b)) (list_all (λ x. not (is_blank x)) word) all).1 ends
 
 -- the blanks at a place of a text are passed over
 blanks_at : (text : List ℕ) (at n : ℕ) → n ≤ length (drop at text) → list_all is_blank (take n (drop at text)) ≡ true →
@@ -65,7 +54,7 @@ pub blanks_step : (text front : List ℕ) (at n : ℕ) → front ≡ drop at tex
 blanks_step text front at n are fits blank = blanks_at text at n (rw (← are) fits) (rw (← are) blank)
 
 -- the bytes up to a blank at a place of a text are a token
-word_at : (text : List ℕ) (from m : ℕ) → m ≤ length (drop from text) → 0 < m →
+pub word_at : (text : List ℕ) (from m : ℕ) → m ≤ length (drop from text) → 0 < m →
     list_all (λ x. not (is_blank x)) (take m (drop from text)) ≡ true → begins_token (drop m (drop from text)) ≡ false →
     tokens_from from (drop from text) ≡ (record { from = from; bytes = slice_range text from (from + m) }) ∷ tokens_from (from + m) (drop (from + m) text)
 word_at text from m fits some word ends =
@@ -78,22 +67,9 @@ word_at text from m fits some word ends =
     ∙ ap (λ (rest : List ℕ). (record { from = from; bytes = take m (drop from text) }) ∷ tokens_from (from + m) rest) (drop-drop m from text)
     ∙ ap (λ (k : ℕ). (record { from = from; bytes = take k (drop from text) }) ∷ tokens_from (from + m) (drop (from + m) text)) (sym same)
 
-pub word_step : (text front : List ℕ) (from m : ℕ) → front ≡ drop from text → m ≤ length front → 0 < m →
-    list_all (λ x. not (is_blank x)) (take m front) ≡ true → begins_token (drop m front) ≡ false →
-    tokens_from from (drop from text) ≡ (record { from = from; bytes = slice_range text from (from + m) }) ∷ tokens_from (from + m) (drop (from + m) text)
-word_step text front from m are fits some word ends = word_at text from m (rw (← are) fits) some (rw (← are) word) (rw (← are) ends)
-
 -- a slice from a place on is what is left there
 pub slice_from : (text : List ℕ) (at : ℕ) → take (length text - at) (drop at text) ≡ drop at text
 slice_from text at = take_all (length text - at) (drop at text) (omega (arith, length-drop at text))
-
--- where the blanks end before the end of the text, a token begins
-pub begins_behind : (text : List ℕ) (at n : ℕ) →
-    (n < length (take (length text - at) (drop at text)) → begins_token (drop n (take (length text - at) (drop at text))) ≡ true) →
-    at ≤ length text → at + n < length text → begins_token (take (length text - (at + n)) (drop (at + n) text)) ≡ true
-begins_behind text at n behind starts inside =
-    let long : n < length (take (length text - at) (drop at text)) = omega (arith, ap length (slice_from text at), length-drop at text) in
-    ap begins_token (slice_from text (at + n)) ∙ ap begins_token (sym (drop-drop n at text)) ∙ ap (λ (ts : List ℕ). begins_token (drop n ts)) (sym (slice_from text at)) ∙ behind long
 
 -- the tokens before `at` write the sizes, whose sum is `total`
 pub record HasRead (text : List ℕ) (at : ℕ) (sizes : List ℕ) (total : ℕ) : Type 0 where
@@ -115,9 +91,9 @@ split_last f (t ∷ good) bad [] more h g = (0, ((cc), (cc)))
 split_last f (t ∷ good) bad (s ∷ sizes) [] h g = (0, ((cc), (cc)))
 split_last f (t ∷ good) bad (s ∷ sizes) (u ∷ more) h g =
     let before : map f good ≡ map (λ size. Some size) sizes = cc in
-    let behind : map f (good ++ bad ∷ []) ≡ map (λ size. Some size) more = cc in
+    let after : map f (good ++ bad ∷ []) ≡ map (λ size. Some size) more = cc in
     let first : u ≡ s = cc in
-    let rest : (x : ℕ) × ((more ≡ sizes ++ x ∷ []) × (f bad ≡ Some x)) = split_last f good bad sizes more before behind in
+    let rest : (x : ℕ) × ((more ≡ sizes ++ x ∷ []) × (f bad ≡ Some x)) = split_last f good bad sizes more before after in
     (rest.0, (ap (λ (n : ℕ). n ∷ more) first ∙ ap (λ (ns : List ℕ). s ∷ ns) rest.1.0, rest.1.1))
 
 -- what a number more at the end means for a list

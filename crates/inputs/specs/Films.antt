@@ -4,7 +4,8 @@ use Rattle.vod_base.specs.Outside.{File}
 use Rattle.mpeg_scan.specs.declared.faults.FilmFault.{FilmFault}
 use Rattle.sys_demux.specs.Streams.{IsRefused}
 use Rattle.inputs.specs.declared.streams.StreamRefused.{StreamRefused}
-use Rattle.inputs.specs.declared.streams.StreamRefused.TheVariants.{Fault as StreamFault, NoMemory as NoRoom}
+use Rattle.inputs.specs.declared.streams.StreamRefused.TheVariants.{Fault as StreamFault}
+use Rattle.inputs.specs.declared.streams.StreamRefused.TheVariants.{NoMemory as NoRoom}
 use Rattle.inputs.specs.Videos.{IsRefusedAbove, IsVideoRefused}
 use Rattle.troubles.specs.declared.faults.Fault.{Fault}
 use Rattle.troubles.specs.declared.faults.Fault.TheVariants.{Film, FilmTooLarge}

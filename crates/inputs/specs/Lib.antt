@@ -6,3 +6,4 @@ pub mod Sizes
 pub mod Traces
 pub mod TraceRefusals
 pub mod Films
+pub mod Words

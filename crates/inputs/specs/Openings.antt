@@ -1,7 +1,9 @@
 -- The first start code of a file, looked for from its front on.
 use Rattle.std.specs.Prelude.{◌≡◌, ℕ, ◌≤◌, List, [], ◌++◌, Some, None}
 use Rattle.mpeg_scan.specs.declared.codes.Prefix.{Prefix as PrefixRead}
-use Rattle.mpeg_scan.specs.declared.codes.Prefix.TheVariants.{Nothing as NothingRead, Zero as ZeroRead, Zeros as ZerosRead, Whole as WholeRead}
+use Rattle.mpeg_scan.specs.declared.codes.Prefix.TheVariants.{Nothing as NothingRead}
+use Rattle.mpeg_scan.specs.declared.codes.Prefix.TheVariants.{Zero as ZeroRead, Zeros as ZerosRead}
+use Rattle.mpeg_scan.specs.declared.codes.Prefix.TheVariants.{Whole as WholeRead}
 use Rattle.mpeg_scan.specs.Codes.{codes_of, latest_prefix, read}
 use Rattle.inputs.specs.Videos.{pack_in}
 use Rattle.inputs.specs.declared.openings.Prefix.{Prefix}

@@ -1,5 +1,6 @@
 -- Scanning a film of a library piece by piece.
-use Rattle.std.specs.Prelude.{◌≡◌, ◌⊎◌, ℕ, ◌+◌, ◌≤◌, ◌^◌, List, [], ◌++◌, length, drop, Option, Some, None, IfSome}
+use Rattle.std.specs.Prelude.{◌≡◌, ◌⊎◌, ℕ, ◌+◌, ◌≤◌, ◌^◌, List, [], ◌++◌, length, drop, Option}
+use Rattle.std.specs.Prelude.{Some, None, IfSome}
 use Rattle.vod_base.specs.Outside.{File, file_named}
 use Rattle.mpeg_scan.specs.declared.faults.FilmFault.{FilmFault}
 use Rattle.mpeg_scan.specs.declared.faults.ScanRefused.TheVariants.{Fault as FaultAnswer}
@@ -15,7 +16,8 @@ use Rattle.sys_demux.specs.States.{WasFed}
 use Rattle.sys_demux.specs.declared.unwrapper.Unwrapper.{Unwrapper}
 use Rattle.sys_demux.specs.Streams.{IsRefused}
 use Rattle.inputs.specs.declared.streams.StreamRefused.{StreamRefused}
-use Rattle.inputs.specs.declared.streams.StreamRefused.TheVariants.{Fault as StreamFault, NoMemory as NoRoom}
+use Rattle.inputs.specs.declared.streams.StreamRefused.TheVariants.{Fault as StreamFault}
+use Rattle.inputs.specs.declared.streams.StreamRefused.TheVariants.{NoMemory as NoRoom}
 use Rattle.inputs.specs.Files.{IsFront}
 use Rattle.inputs.specs.Sizes.{sizes_of}
 pub use Rattle.inputs.specs.Videos.{IsFilmRefused, IsVideo, pack_in}

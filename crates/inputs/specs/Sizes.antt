@@ -1,5 +1,6 @@
 -- The sizes of a film's units on the wire, counted while its parts are told.
-use Rattle.std.specs.Prelude.{◌≡◌, ℕ, ◌+◌, ◌-◌, ◌^◌, ◌≤◌, if◌then◌else◌, List, [], ◌∷◌, ◌++◌, length, map, sum}
+use Rattle.std.specs.Prelude.{◌≡◌, ℕ, ◌+◌, ◌-◌, ◌^◌, ◌≤◌, if◌then◌else◌, List, [], ◌∷◌, ◌++◌}
+use Rattle.std.specs.Prelude.{length, map, sum}
 use Rattle.mpeg_scan.specs.Calls.{Call, head_call, slice_call, unit_call}
 use Rattle.mpeg_scan.specs.Films.{told_of, slices_in, units_in}
 use Rattle.rtp_pack.specs.Sizes.{Measure, begun, with_slice, frames_of}
@@ -10,32 +11,32 @@ abbrev pub sizes_of : List ℕ → List ℕ
 sizes_of film = map (λ unit. wire_size (slices_in (told_of film)) unit) (units_in (told_of film))
 
 -- the unit that is being told, and the sizes of those that have ended
-pub record Sized : Type 0 where
+pub record Sizing : Type 0 where
   pub unit : Measure
   pub sizes : List ℕ
 
 -- a report of 52 bytes stands before each unit that starts a group
-abbrev pub next_sized : Sized → Call → Sized
-next_sized s (head_call from to) = record s { unit = begun (to - from) }
-next_sized s (slice_call from to) = record s { unit = with_slice s.unit (to - from) }
-next_sized s (unit_call unit) =
+abbrev pub sizing_after_call : Sizing → Call → Sizing
+sizing_after_call s (head_call from to) = record s { unit = begun (to - from) }
+sizing_after_call s (slice_call from to) = record s { unit = with_slice s.unit (to - from) }
+sizing_after_call s (unit_call unit) =
     record {
       unit = begun 1;
       sizes = s.sizes ++ ((if unit.starts_group then 52 else 0) + frames_of s.unit) ∷ [];
     }
 
-abbrev pub sized_after : Sized → List Call → Sized
-sized_after s [] = s
-sized_after s (call ∷ calls) = sized_after (next_sized s call) calls
+abbrev pub sizing_after : Sizing → List Call → Sizing
+sizing_after s [] = s
+sizing_after s (call ∷ calls) = sizing_after (sizing_after_call s call) calls
 
 -- before the first part
-abbrev pub none_sized : Sized
-none_sized = record { unit = begun 1; sizes = [] }
+abbrev pub first_sizing : Sizing
+first_sizing = record { unit = begun 1; sizes = [] }
 
 -- the sizes after these parts
 pub record IsSized (unit : Measure) (sizes : List ℕ) (calls : List Call) : Type 0 where
-  pub unit_is : unit ≡ (sized_after none_sized calls).unit
-  pub sizes_are : sizes ≡ (sized_after none_sized calls).sizes
+  pub unit_is : unit ≡ (sizing_after first_sizing calls).unit
+  pub sizes_are : sizes ≡ (sizing_after first_sizing calls).sizes
 
 -- the rate code and the sizes of an accepted film are within these limits
 pub record AreSizesWithin (rate : ℕ) (sizes : List ℕ) : Type 0 where

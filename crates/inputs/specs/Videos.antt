@@ -1,6 +1,7 @@
 -- The video of a file: its bytes, or, where its first start code is that of a pack, what the
 -- packets of this system stream carry (ISO/IEC 11172-1).
-use Rattle.std.specs.Prelude.{◌≡◌, ℕ, ◌+◌, ◌==◌, ◌≤◌, ◌<◌, ◌^◌, ◌⊎◌, if◌then◌else◌, List, [], ◌∷◌, length, drop, Option, Some, None}
+use Rattle.std.specs.Prelude.{◌≡◌, ℕ, ◌+◌, ◌==◌, ◌≤◌, ◌<◌, ◌^◌, ◌⊎◌, if◌then◌else◌, List, [], ◌∷◌}
+use Rattle.std.specs.Prelude.{length, drop, Option, Some, None}
 use Rattle.vod_base.specs.Outside.{File, file_named}
 use Rattle.mpeg_scan.specs.declared.codes.Code.{Code}
 use Rattle.mpeg_scan.specs.declared.faults.FilmFault.TheVariants.{TooLong}
@@ -8,7 +9,8 @@ use Rattle.mpeg_scan.specs.Codes.{codes_of, read}
 use Rattle.mpeg_scan.specs.Films.{refusal}
 use Rattle.sys_demux.specs.Streams.{IsSystem, IsRefused}
 use Rattle.sys_demux.specs.declared.faults.SystemFault.{SystemFault}
-use Rattle.sys_demux.specs.declared.faults.SystemFault.TheVariants.{NotPack, BadCode, BadPacket, Truncated}
+use Rattle.sys_demux.specs.declared.faults.SystemFault.TheVariants.{NotPack, BadCode, BadPacket}
+use Rattle.sys_demux.specs.declared.faults.SystemFault.TheVariants.{Truncated}
 use Rattle.inputs.specs.Files.{IsMissing}
 use Rattle.troubles.specs.declared.faults.Fault.{Fault}
 use Rattle.troubles.specs.declared.faults.Fault.TheVariants.{Film, System}
@@ -38,16 +40,16 @@ place_of (BadPacket at) = at
 place_of (Truncated at) = at
 
 -- a fault of a stream that begins at a place of the file
-abbrev pub moved : ℕ → SystemFault → SystemFault
-moved place (NotPack at) = NotPack (place + at)
-moved place (BadCode at) = BadCode (place + at)
-moved place (BadPacket at) = BadPacket (place + at)
-moved place (Truncated at) = Truncated (place + at)
+abbrev pub fault_from : ℕ → SystemFault → SystemFault
+fault_from place (NotPack at) = NotPack (place + at)
+fault_from place (BadCode at) = BadCode (place + at)
+fault_from place (BadPacket at) = BadPacket (place + at)
+fault_from place (Truncated at) = Truncated (place + at)
 
 abbrev pub IsStreamFaultFrom : Option ℕ → List ℕ → SystemFault → Type 0
 IsStreamFaultFrom None file fault = ⊥
 IsStreamFaultFrom (Some place) file fault = (own : SystemFault)
-    × (IsRefused (drop place file) own × (fault ≡ moved place own))
+    × (IsRefused (drop place file) own × (fault ≡ fault_from place own))
 
 abbrev pub IsStreamFault : List ℕ → SystemFault → Type 0
 IsStreamFault file fault = IsStreamFaultFrom (pack_in file) file fault

@@ -1,4 +1,5 @@
-ghost use Rattle.std.specs.Prelude.{◌≡◌, ◌<◌, ◌≤◌, ◌+◌, ◌++◌, Some, ℕ, List, length, take, option_map, vec_len, true, IfErr, IfOk};
+ghost use Rattle.std.specs.Prelude.{◌≡◌, ◌<◌, ◌≤◌, ◌+◌, ◌++◌, Some, ℕ, List, length, take};
+ghost use Rattle.std.specs.Prelude.{option_map, vec_len, true, IfErr, IfOk};
 ghost use Rattle.vod_base.specs.Outside.{File, file_named};
 ghost use Rattle.troubles.specs.Causes.{IsReadOnly, IsReadTrouble};
 ghost use Rattle.inputs.specs.Files.{IsFront, IsMissing, IsNamed, IsNever};

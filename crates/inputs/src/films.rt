@@ -1,4 +1,5 @@
-ghost use Rattle.std.specs.Prelude.{◌≡◌, ◌≤◌, ◌^◌, Some, List, length, vec_len, IfErr, IfOk, string_bytes};
+ghost use Rattle.std.specs.Prelude.{◌≡◌, ◌≤◌, ◌^◌, Some, List, length, vec_len, IfErr, IfOk};
+ghost use Rattle.std.specs.Prelude.{string_bytes};
 ghost use Rattle.vod_base.specs.Outside.{File};
 ghost use Rattle.mpeg_scan.specs.Films.{refusal};
 ghost use Rattle.sys_demux.specs.Streams.{IsSystem};
@@ -10,6 +11,7 @@ ghost use Rattle.inputs.specs.Videos.{IsFilmRefused, IsRefusedAbove, IsVideo};
 
 use crate::files::{find_file, read_bytes};
 use crate::openings::pack_in;
+use crate::scans::FILM;
 use crate::streams::{StreamRefused, move_fault};
 use film_frames::Stored;
 use mpeg_scan::{Film, FilmFault, ScanRefused, scan};
@@ -20,9 +22,6 @@ use vod_base::{Library, NoMemory};
 
 /// The most bytes of a film that a server holds.
 const HELD: u64 = 1 << 30;
-
-/// The most bytes of a film.
-const FILM: u64 = 1 << 40;
 
 /// The film under its name, with its table of frames.
 fn store(alloc: Global, name: &str, film: Film) -> Result<Stored, NoMemory>

@@ -1,10 +1,12 @@
-ghost use Rattle.std.specs.Prelude.{◌≡◌, ◌<◌, ◌≤◌, ◌+◌, ◌^◌, Some, None, ℕ, List, [], length, IfErr, IfOk, OnOk};
+ghost use Rattle.std.specs.Prelude.{◌≡◌, ◌<◌, ◌≤◌, ◌+◌, ◌^◌, Some, None, ℕ, List, [], length};
+ghost use Rattle.std.specs.Prelude.{IfErr, IfOk, OnOk};
 ghost use Rattle.vod_base.specs.Outside.{File};
 ghost use Rattle.mpeg_scan.specs.Scans.{IsReady, bytes_fed};
 ghost use Rattle.troubles.specs.Causes.{IsReadOnly, IsReadTrouble};
 ghost use Rattle.inputs.specs.Files.{IsNamed};
 ghost use Rattle.inputs.specs.Films.{IsFilmTrouble};
-ghost use Rattle.inputs.specs.Scans.{HasEnded, HasHeard, HasScanned, HasScannedAll, HasTaken, IsFilmRefused, IsRefusedAtEnd, WasOpened};
+ghost use Rattle.inputs.specs.Scans.{HasEnded, HasHeard, HasScanned, HasScannedAll, HasTaken};
+ghost use Rattle.inputs.specs.Scans.{IsFilmRefused, IsRefusedAtEnd, WasOpened};
 
 use crate::files::{PIECE, find_file, read_at, zeros};
 use crate::openings::find_pack;
@@ -15,7 +17,7 @@ use troubles::{Fault, Trouble};
 use vod_base::Library;
 
 /// The most bytes of a film.
-const FILM: u64 = 1 << 40;
+pub(crate) const FILM: u64 = 1 << 40;
 
 /// Reads one piece of the film at `at`, feeds it to the scanner, and answers how many bytes it had:
 /// 0 at the end.

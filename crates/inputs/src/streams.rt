@@ -1,11 +1,13 @@
-ghost use Rattle.std.specs.Prelude.{◌≡◌, ◌<◌, ◌≤◌, ◌+◌, ◌^◌, ◌++◌, Some, ℕ, List, [], length, take, IfErr, IfOk, OnOk};
+ghost use Rattle.std.specs.Prelude.{◌≡◌, ◌<◌, ◌≤◌, ◌+◌, ◌^◌, ◌++◌, Some, ℕ, List, [], length, take};
+ghost use Rattle.std.specs.Prelude.{IfErr, IfOk, OnOk};
 ghost use Rattle.vod_base.specs.Outside.{File};
 ghost use Rattle.mpeg_scan.specs.Scans.{IsReady, bytes_fed};
 ghost use Rattle.sys_demux.specs.Streams.{IsRefused};
 ghost use Rattle.troubles.specs.Causes.{IsReadOnly, IsReadTrouble};
 ghost use Rattle.inputs.specs.Files.{IsNamed};
-ghost use Rattle.inputs.specs.Videos.{moved};
-ghost use Rattle.inputs.specs.Scans.{HasHeard, HasStreamed, HasStreamedAll, HasTaken, HasUnwrapped, IsFilmRefused, IsPieceRefused, WasOpened};
+ghost use Rattle.inputs.specs.Videos.{fault_from};
+ghost use Rattle.inputs.specs.Scans.{HasHeard, HasStreamed, HasStreamedAll, HasTaken, HasUnwrapped};
+ghost use Rattle.inputs.specs.Scans.{IsFilmRefused, IsPieceRefused, WasOpened};
 
 use crate::files::read_at;
 use crate::scans::end_film;
@@ -26,7 +28,7 @@ pub(crate) enum StreamRefused {
 /// The fault of a stream that begins at a place of the file. A place in a file is below 2^64.
 pub(crate) fn move_fault(place: u64, fault: SystemFault) -> SystemFault
     ensures { (bytes : List ℕ) → IsRefused bytes fault → place + length bytes ≤ 2 ^ 40 →
-        result ≡ moved place fault }
+        result ≡ fault_from place fault }
 {
     match fault {
         SystemFault::NotPack(at) => SystemFault::NotPack(place.saturating_add(at)),

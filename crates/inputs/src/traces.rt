@@ -1,12 +1,15 @@
-ghost use Rattle.std.specs.Prelude.{◌≡◌, ◌<◌, ◌≤◌, ◌+◌, ◌^◌, ◌∷◌, ℕ, List, [], Some, not, true, false, length, take, drop, slice_range, MatchOption, IfOk, IfErr, IfSome};
+ghost use Rattle.std.specs.Prelude.{◌≡◌, ◌<◌, ◌≤◌, ◌+◌, ◌^◌, ◌⊎◌, ℕ, List, [], true, false};
+ghost use Rattle.std.specs.Prelude.{length, take, drop, slice_index, MatchOption, IfOk, IfErr};
 ghost use Rattle.std.specs.List.{list_all};
-ghost use Rattle.vod_base.specs.Numbers.{number_of};
-ghost use Rattle.inputs.specs.Traces.{is_blank, begins_token, tokens_from, AreSeparated, IsTraceText, AddsSize, Token as TextToken};
+ghost use Rattle.std.specs.Char.{is_ascii_digit};
+ghost use Rattle.std.specs.Str.Parse.{digits_value};
+ghost use Rattle.inputs.specs.Traces.{is_blank, begins_token, tokens_from, Token};
+ghost use Rattle.inputs.specs.Traces.{AddsSize, AreSeparated, IsTraceText};
+ghost use Rattle.inputs.specs.Words.{word_length, first_word, WritesSize};
 ghost use Rattle.inputs.specs.TraceRefusals.{IsTraceRefused};
 
 use std::alloc::Global;
 use thiserror::Error;
-use vod_base::read_number;
 
 /// The most pictures of a trace.
 const MOST_PICTURES: usize = 1_000_000;
@@ -29,13 +32,14 @@ pub enum TraceRefused {
     NoMemory,
 }
 
-/// The places of a token in its text: its first byte, and the place after its last.
+/// A number that stands at the front of a text, and how many bytes write it.
 #[derive(Clone, Copy)]
-struct Token {
-    from: usize,
-    to: usize,
+struct Number {
+    value: u64,
+    len: usize,
 }
 
+#[inline(always)]
 fn is_blank(byte: u8) -> bool
     ensures { result ≡ is_blank byte }
 {
@@ -43,10 +47,11 @@ fn is_blank(byte: u8) -> bool
 }
 
 /// How many blanks stand in front.
+#[inline(always)]
 fn blank_len(rest: &[u8]) -> usize
     ensures within { result ≤ length rest.now }
     ensures blanks { list_all is_blank (take result rest.now) ≡ true }
-    ensures behind { result < length rest.now → begins_token (drop result rest.now) ≡ true }
+    ensures next { result < length rest.now → begins_token (drop result rest.now) ≡ true }
 {
     for (place, byte) in rest.iter().enumerate() {
         if !is_blank(*byte) {
@@ -56,74 +61,71 @@ fn blank_len(rest: &[u8]) -> usize
     rest.len()
 }
 
-/// How many bytes stand before the first blank.
-fn word_len(rest: &[u8]) -> usize
-    ensures within { result ≤ length rest.now }
-    ensures bytes { list_all (λ b. not (is_blank b)) (take result rest.now) ≡ true }
-    ensures behind { begins_token (drop result rest.now) ≡ false }
-    ensures some { begins_token rest.now ≡ true → 0 < result }
-{
-    for (place, byte) in rest.iter().enumerate() {
-        if is_blank(*byte) {
-            return place;
-        }
-    }
-    rest.len()
-}
-
-/// The first token at or after `at`.
-fn next_token(text: &[u8], at: usize) -> Option<Token>
+/// The place of the first token at or after `at`.
+#[inline(always)]
+fn next_place(text: &[u8], at: usize) -> Option<usize>
     requires { at ≤ length text.now }
-    ensures { MatchOption result (tokens_from at (drop at text.now) ≡
-        []) (λ token. (at ≤ token.from) × (token.from < token.to) × (token.to ≤ length text.now)
-        × (tokens_from at (drop at text.now) ≡
-        (record {
-          from = token.from;
-          bytes = slice_range text.now token.from token.to;
-        }) ∷ tokens_from token.to
-        (drop token.to text.now))) }
+    ensures { MatchOption result (tokens_from at (drop at text.now) ≡ [])
+        (λ from. (at ≤ from) × (from < length text.now) × (begins_token (drop from text.now) ≡ true)
+        × (tokens_from at (drop at text.now) ≡ tokens_from from (drop from text.now))) }
 {
     let from = at + blank_len(&text[at..]);
-    if from == text.len() {
-        return None;
-    }
-    let to = from + word_len(&text[from..]);
-    Some(Token { from, to })
+    if from < text.len() { Some(from) } else { None }
 }
 
-#[tactic(auto, using(crate::proofs::SmallNumbers::small_steps))]
-/// The number of a token, as [`read_number`] answers it, in one pass over its digits; None for most
-/// tokens that write none, or one above [`MOST_SIZE`].
-fn small_number(token: &[u8]) -> Option<u64>
-    ensures { IfSome result (λ number. number_of token.now ≡ Some number) }
+#[tactic(auto, using(crate::proofs::SmallNumbers::digit_steps))]
+/// The digits in front, as far as they write a number up to [`MOST_SIZE`] or the first above it.
+#[inline(always)]
+fn digits_in_front(rest: &[u8]) -> Number
+    ensures within { result.len ≤ length rest.now }
+    ensures digits { list_all is_ascii_digit (take result.len rest.now) ≡ true }
+    ensures value { result.value ≡ digits_value 10 (take result.len rest.now) }
+    ensures ends { result.len < length rest.now →
+        (2 ^ 32 < result.value) ⊎ (is_ascii_digit (slice_index rest.now result.len) ≡ false) }
 {
-    if token.is_empty() {
+    let mut value = 0u64;
+    for (place, byte) in rest.iter().enumerate() {
+        if !byte.is_ascii_digit() || value > MOST_SIZE {
+            return Number { value, len: place };
+        }
+        value = value * 10 + u64::from(*byte - b'0');
+    }
+    Number {
+        value,
+        len: rest.len(),
+    }
+}
+
+/// The number of the word in front, where it writes one up to 2^32.
+#[inline(always)]
+fn number_in_front(rest: &[u8]) -> Option<Number>
+    ensures { MatchOption result ((size : ℕ) → WritesSize rest.now size → ⊥)
+        (λ number. (number.len ≡ word_length rest.now) × WritesSize rest.now number.value) }
+{
+    let number = digits_in_front(rest);
+    if number.len == 0 || number.value > MOST_SIZE {
         return None;
     }
-    let mut number = 0u64;
-    for digit in token {
-        if !digit.is_ascii_digit() || number > MOST_SIZE {
-            return None;
-        }
-        number = number * 10 + u64::from(*digit - b'0');
+    if number.len < rest.len() && !is_blank(rest[number.len]) {
+        return None;
     }
     Some(number)
 }
 
-/// The size that a token adds to a trace of `count` sizes with `total` bytes, where it may.
-fn next_size(token: &[u8], count: usize, total: u64) -> Option<u64>
+/// The size that the word in front adds to a trace of `count` sizes with `total` bytes, where it
+/// may.
+#[inline(always)]
+fn next_size(rest: &[u8], count: usize, total: u64) -> Option<Number>
     requires { total ≤ 2 ^ 40 }
-    ensures { MatchOption result ((size : ℕ) → AddsSize token.now count total size →
-        ⊥) (AddsSize token.now count total) }
+    ensures { MatchOption result ((size : ℕ) → AddsSize (first_word rest.now) count total size → ⊥)
+        (λ number. (number.len ≡ word_length rest.now)
+        × AddsSize (first_word rest.now) count total number.value) }
 {
-    let number = match small_number(token) {
-        Some(number) => Ok(number),
-        None => read_number(token),
-    };
-    match number {
-        Ok(size) if count < MOST_PICTURES && size <= MOST_SIZE && total + size <= MOST_TOTAL =>
-            Some(size),
-        _ => None,
+    let number = number_in_front(rest)?;
+    if count < MOST_PICTURES && total + number.value <= MOST_TOTAL {
+        Some(number)
+    } else {
+        None
     }
 }
 
@@ -133,18 +135,21 @@ pub fn read_trace(alloc: Global, text: &[u8]) -> Result<Vec<u64>, TraceRefused>
     ensures trace { IfOk result (λ sizes. IsTraceText text.now sizes.items) }
     ensures refused { IfErr result (IsTraceRefused text.now) }
 {
-    let mut sizes = Vec::new(alloc);
+    let most = (text.len() / 2 + 1).min(MOST_PICTURES);
+    let Ok(mut sizes) = Vec::with_capacity(alloc, most) else {
+        return Err(TraceRefused::NoMemory);
+    };
     let mut total = 0u64;
     let mut at = 0usize;
-    while let Some(token) = next_token(text, at) {
-        let Some(size) = next_size(&text[token.from..token.to], sizes.len(), total) else {
-            return Err(TraceRefused::BadTrace(token.from as u64));
+    while let Some(from) = next_place(text, at) {
+        let Some(size) = next_size(&text[from..], sizes.len(), total) else {
+            return Err(TraceRefused::BadTrace(from as u64));
         };
-        if sizes.push(size).is_err() {
+        if sizes.push(size.value).is_err() {
             return Err(TraceRefused::NoMemory);
         }
-        total += size;
-        at = token.to;
+        total += size.value;
+        at = from + size.len;
     }
     Ok(sizes)
 }
@@ -154,6 +159,6 @@ pub fn read_trace(alloc: Global, text: &[u8]) -> Result<Vec<u64>, TraceRefused>
 /// so.
 pub fn law_tokens()
     ensures are { (text : List ℕ) → AreSeparated 0 text (tokens_from 0 text) }
-    ensures only { (text : List ℕ) (tokens : List TextToken) → AreSeparated 0 text tokens →
+    ensures only { (text : List ℕ) (tokens : List Token) → AreSeparated 0 text tokens →
         tokens ≡ tokens_from 0 text }
 {}

@@ -1,17 +1,25 @@
-use Rattle.std.proofs.Common.{◌≡◌, length, arith, rules, ◌++◌, ◌∷◌, []}
-use Rattle.inputs.proofs.Tokens.{more_read, bad_read}
+use Rattle.std.proofs.Common.{◌≡◌, length, arith, rules, ◌++◌, ◌∷◌, [], ◌-◌, take, drop}
+use Rattle.inputs.proofs.Tokens.{slice_from}
+use Rattle.inputs.proofs.TraceWords.{next_read, next_bad}
 use Rattle.inputs.proofs.traces.read_trace.Goals as goal
 
 pub returns-in_default-next_size-clause-refused : goal.returns-in_default-next_size-clause-refused
 returns-in_default-next_size-clause-refused c =
-    let counted : c.len.result ≡ length c.loop-token.sizes.items = omega (arith, c.len.ensures, c.loop-token.sizes.ok) in
-    bad_read c.args.text.now c.loop-token.at c.in-Some.token.from c.in-Some.token.to c.loop-token.sizes.items c.loop-token.total c.len.result
-    c.loop-token.invariant counted (c.in-Some.ensures {u = tt}).3 (c.in_default-next_size.ensures {u = tt})
+    let text = c.args.text.now in
+    let from = c.in-Some.from in
+    let place = c.in-Some.ensures {u = tt} in
+    let counted : c.len.result ≡ length c.loop-from.sizes.items = omega (arith, c.len.ensures, c.loop-from.sizes.ok) in
+    next_bad text (take (length text - from) (drop from text)) c.loop-from.at from c.loop-from.sizes.items c.loop-from.total c.len.result
+    c.loop-from.invariant counted place.3 place.2 (slice_from text from) (c.in_default-next_size.ensures {u = tt})
 
-pub loop-token-preserved : goal.loop-token-preserved
-loop-token-preserved c =
-    let counted : c.len.result ≡ length c.loop-token.sizes.items = omega (arith, c.len.ensures, c.loop-token.sizes.ok) in
-    let read = more_read c.args.text.now c.loop-token.at c.in-Some.token.from c.in-Some.token.to c.loop-token.sizes.items c.loop-token.total c.len.result c.in-Some-next_size.size
-    c.loop-token.invariant counted (c.in-Some.ensures {u = tt}).3 (c.in-Some.ensures {u = tt}).2 (c.in-Some-next_size.ensures {u = tt}) in
-    let pushed : c.push.new.self.items ≡ c.loop-token.sizes.items ++ c.in-Some-next_size.size ∷ [] = search rules in
+pub loop-from-preserved : goal.loop-from-preserved
+loop-from-preserved c =
+    let text = c.args.text.now in
+    let from = c.in-Some.from in
+    let place = c.in-Some.ensures {u = tt} in
+    let size = c.in-Some-next_size.ensures {u = tt} in
+    let counted : c.len.result ≡ length c.loop-from.sizes.items = omega (arith, c.len.ensures, c.loop-from.sizes.ok) in
+    let read = next_read text (take (length text - from) (drop from text)) c.loop-from.at from c.in-Some-next_size.size.len c.loop-from.sizes.items c.loop-from.total
+    c.len.result c.in-Some-next_size.size.value c.loop-from.invariant counted place.3 place.2 place.1 (slice_from text from) size.0 size.1 in
+    let pushed : c.push.new.self.items ≡ c.loop-from.sizes.items ++ c.in-Some-next_size.size.value ∷ [] = search rules in
     rw pushed read

@@ -1,0 +1,48 @@
+-- A trace read word by word.
+use Rattle.std.proofs.Common.{◌≡◌, ℕ, ◌+◌, ◌-◌, ◌<◌, ◌≤◌, true, not, List, [], ◌∷◌, ◌++◌, length, length-drop, take, drop, slice_range, refl, sym, ap, ◌∙◌, arith, subst}
+use Rattle.std.proofs.lemmas.List.{drop-drop}
+use Rattle.std.proofs.lemmas.List.Sums.{prefix_len-le-length}
+use Rattle.inputs.specs.Traces.{Token, is_blank, begins_token, tokens_from, IsBadTrace, AddsSize}
+use Rattle.inputs.specs.Words.{word_length, first_word}
+use Rattle.inputs.proofs.Tokens.{HasRead, more_read, bad_read}
+use Rattle.inputs.proofs.Words.{word_token}
+
+-- where the blanks end before the end of the text, a token begins
+pub begins_after : (text front : List ℕ) (at n : ℕ) → front ≡ drop at text →
+    (n < length front → begins_token (drop n front) ≡ true) → at + n < length text → begins_token (drop (at + n) text) ≡ true
+begins_after text front at n are begins inside =
+    ap begins_token (sym (drop-drop n at text)) ∙ ap (λ (ts : List ℕ). begins_token (drop n ts)) (sym are)
+    ∙ begins (omega (arith, inside, ap length are, length-drop at text))
+
+-- the bytes of a token that begins at a place
+word_slice : (text : List ℕ) (from : ℕ) → first_word (drop from text) ≡ slice_range text from (from + word_length (drop from text))
+word_slice text from =
+    let same : word_length (drop from text) ≡ from + word_length (drop from text) - from = omega arith in
+    ap (λ (n : ℕ). take n (drop from text)) same
+
+-- the tokens from a place on, where one begins after blanks
+after_blanks : (text : List ℕ) (at from : ℕ) → tokens_from at (drop at text) ≡ tokens_from from (drop from text) → begins_token (drop from text) ≡ true →
+    tokens_from at (drop at text) ≡ (record { from = from; bytes = slice_range text from (from + word_length (drop from text)) }) ∷ tokens_from (from + word_length (drop from text)) (drop (from + word_length (drop from text)) text)
+after_blanks text at from same begins = same ∙ word_token text from begins
+
+-- a word more, with its size
+pub next_read : (text rest : List ℕ) (at from len : ℕ) (sizes : List ℕ) (total count size : ℕ) → HasRead text at sizes total → count ≡ length sizes →
+    tokens_from at (drop at text) ≡ tokens_from from (drop from text) → begins_token (drop from text) ≡ true → from < length text → rest ≡ drop from text →
+    len ≡ word_length rest → AddsSize (first_word rest) count total size → HasRead text (from + len) (sizes ++ size ∷ []) (total + size)
+next_read text rest at from len sizes total count size read counted same begins inside are long adds =
+    let word : len ≡ word_length (drop from text) = long ∙ ap word_length are in
+    let within : from + word_length (drop from text) ≤ length text =
+    omega (arith, inside, prefix_len-le-length (λ b. not (is_blank b)) (drop from text), length-drop from text) in
+    let bytes : first_word rest ≡ slice_range text from (from + word_length (drop from text)) = ap first_word are ∙ word_slice text from in
+    subst (λ (n : ℕ). HasRead text (from + n) (sizes ++ size ∷ []) (total + size)) (sym word)
+    (more_read text at from (from + word_length (drop from text)) sizes total count size read counted (after_blanks text at from same begins) within
+    (subst (λ (ts : List ℕ). AddsSize ts count total size) bytes adds))
+
+-- a word with which the tokens so far write no sizes
+pub next_bad : (text rest : List ℕ) (at from : ℕ) (sizes : List ℕ) (total count : ℕ) → HasRead text at sizes total → count ≡ length sizes →
+    tokens_from at (drop at text) ≡ tokens_from from (drop from text) → begins_token (drop from text) ≡ true → rest ≡ drop from text →
+    ((size : ℕ) → AddsSize (first_word rest) count total size → ⊥) → IsBadTrace text from
+next_bad text rest at from sizes total count read counted same begins are none =
+    let bytes : first_word rest ≡ slice_range text from (from + word_length (drop from text)) = ap first_word are ∙ word_slice text from in
+    bad_read text at from (from + word_length (drop from text)) sizes total count read counted (after_blanks text at from same begins)
+    (λ size adds. none size (subst (λ (ts : List ℕ). AddsSize ts count total size) (sym bytes) adds))

@@ -1,0 +1,23 @@
+use Rattle.std.proofs.Common.{◌≡◌, ◌∙◌, ◌<◌, ◌+◌, ◌-◌, length, length-drop, drop, take, ap, arith, List, ℕ}
+use Rattle.std.proofs.lemmas.List.{drop_all}
+use Rattle.inputs.specs.Traces.{tokens_from}
+use Rattle.inputs.proofs.Tokens.{blanks_step, slice_from}
+use Rattle.inputs.proofs.TraceWords.{begins_after}
+use Rattle.inputs.proofs.traces.next_place.Goals as goal
+
+pub returns-then-from-text : goal.returns-then-from-text
+returns-then-from-text c =
+    let text = c.args.text.now in
+    let front : List ℕ = take (length text - c.args.at) (drop c.args.at text) in (
+      omega arith,
+      omega (arith, c.if-from-text.true),
+      begins_after text front c.args.at c.blank_len.result (slice_from text c.args.at) c.blank_len.ensures.next (omega (arith, c.if-from-text.true)),
+      blanks_step text front c.args.at c.blank_len.result (slice_from text c.args.at) c.blank_len.ensures.within c.blank_len.ensures.blanks,
+    )
+
+pub returns-else-from-text : goal.returns-else-from-text
+returns-else-from-text c =
+    let text = c.args.text.now in
+    blanks_step text (take (length text - c.args.at) (drop c.args.at text)) c.args.at c.blank_len.result
+    (slice_from text c.args.at) c.blank_len.ensures.within c.blank_len.ensures.blanks
+    ∙ ap (tokens_from (c.args.at + c.blank_len.result)) (drop_all (c.args.at + c.blank_len.result) text (omega (arith, c.if-from-text.false)))
