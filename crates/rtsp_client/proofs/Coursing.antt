@@ -1,7 +1,7 @@
 -- Events, one after another, up to the answer.
-use Rattle.std.proofs.Common.{◌≡◌, ℕ, zero, suc, ◌+◌, ◌<◌, ◌≤◌, ◌^◌, List, [], ◌∷◌, ◌++◌, length, take, Option, Some, None, Ok, Err, IfSome, refl, sym, ap, subst, ◌∙◌, append_assoc, arith, inl, inr}
+use Rattle.std.proofs.Common.{◌≡◌, ℕ, ◌+◌, ◌<◌, List, [], ◌∷◌, ◌++◌, take, Option, Some, Ok, IfSome, refl, sym, ap, subst, ◌∙◌, append_assoc, inl, inr}
 use Rattle.std.proofs.lemmas.List.{append-nil, length-append}
-use Rattle.vod_base.specs.Links.{Doing, HeardBytes, HeardEnd, HeardSlot, IsFrontTold, sends, told_more}
+use Rattle.vod_base.specs.Links.{Doing, HeardBytes, HeardEnd, HeardSlot, sends, told_more}
 use Rattle.vod_base.specs.Outside.{more}
 use Rattle.interleave.specs.Pieces.{IsFirst}
 use Rattle.interleave.specs.declared.pieces.Step.TheVariants.{More}
@@ -13,9 +13,9 @@ use Rattle.rtsp_client.specs.declared.wishes.WatchEnd.{WatchEnd}
 use Rattle.rtsp_client.specs.declared.wishes.WatchEnd.TheVariants.{Fault, LinkFault, NoMemory}
 use Rattle.rtsp_client.specs.declared.wishes.WatchFault.TheVariants.{EndedEarly, TurnsSpent}
 use Rattle.rtsp_client.specs.Requests.{setup_text}
-use Rattle.rtsp_client.specs.Moments.{History, Moment, Slot, session, sizes}
-use Rattle.rtsp_client.specs.Answers.{GoOn, after, cut_bytes, moments_in, payloads_of, requests_after}
-use Rattle.rtsp_client.specs.Courses.{Ends, HasCourse, HasNotBegun, HasWatched, IsFront, Round, Runs, RunsAll, Stage, moments_of_rounds, rounds_doings, stage}
+use Rattle.rtsp_client.specs.Moments.{History, Slot}
+use Rattle.rtsp_client.specs.Answers.{after, cut_bytes, moments_in, payloads_of, requests_after}
+use Rattle.rtsp_client.specs.Courses.{Ends, HasWatched, Round, Runs, RunsAll, Stage, moments_of_rounds, rounds_doings, stage}
 use Rattle.rtsp_client.specs.Keeps.{Keeps, KeepsState}
 use Rattle.rtsp_client.specs.States.{after_slot, new_state}
 use Rattle.rtsp_client.specs.Takings.{HasEnded, HasRound, HasRun, HasStopped, HasTaken, IsUnsent, Sight, sight, sight_more}

@@ -1,6 +1,6 @@
 -- What a frame, a report and a slot come to.
-use Rattle.std.proofs.Common.{◌≡◌, ◌≢◌, ℕ, ◌+◌, ◌<◌, ◌≤◌, ◌==◌, ◌&&◌, Bool, true, false, cond, List, [], ◌∷◌, ◌++◌, length, take, drop, Option, Some, None, is_some, refl, sym, ap, subst, ◌∙◌, arith, inl, inr}
-use Rattle.std.proofs.lemmas.Bool.{cond-true, cond-false, ne_eqb, true≢false}
+use Rattle.std.proofs.Common.{◌≡◌, ℕ, ◌≤◌, ◌==◌, true, false, List, [], ◌∷◌, length, take, drop, Option, Some, None, is_some, refl, sym, ap, subst, ◌∙◌, inr}
+use Rattle.std.proofs.lemmas.Bool.{cond-true, cond-false, ne_eqb}
 use Rattle.vod_base.specs.Links.{Doing, IsFrontTold, sends, told_more}
 use Rattle.vod_base.specs.Outside.{IsFrontMore, more}
 use Rattle.rtsp_client.specs.declared.clients.Client.{Client}
@@ -11,12 +11,12 @@ use Rattle.rtsp_client.specs.declared.wishes.WatchEnd.{WatchEnd}
 use Rattle.rtsp_client.specs.declared.wishes.WatchEnd.TheVariants.{Fault, LinkFault, SinkFault, NoMemory}
 use Rattle.rtsp_client.specs.declared.wishes.WatchFault.TheVariants.{BadFrame}
 use Rattle.rtsp_client.specs.Requests.{teardown_text}
-use Rattle.rtsp_client.specs.Moments.{History, Moment, Frame, Reply, Report, Slot, session}
-use Rattle.rtsp_client.specs.Films.{is_complete, is_good_frame}
-use Rattle.rtsp_client.specs.Answers.{GoesOn, block_moments, payload_of, request_after}
+use Rattle.rtsp_client.specs.Moments.{History, Frame, Report, session}
+use Rattle.rtsp_client.specs.Films.{is_complete}
+use Rattle.rtsp_client.specs.Answers.{GoesOn, block_moments, request_after}
 use Rattle.rtsp_client.specs.Courses.{Fails, IsFront}
 use Rattle.rtsp_client.specs.Keeps.{Keeps, KeepsState}
-use Rattle.rtsp_client.specs.States.{State, after_frame, after_report, has_all, source_with}
+use Rattle.rtsp_client.specs.States.{after_frame, after_report, has_all, source_with}
 use Rattle.rtsp_client.specs.Takings.{HasEndedAt, HasPassed, Sight, sight, sight_more}
 use Rattle.rtsp_client.proofs.Keeping.{complete-is, good-is, keeps-frame, keeps-report}
 use Rattle.rtsp_client.proofs.Replying.{gives, passed-one}

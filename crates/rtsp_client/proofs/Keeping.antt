@@ -1,6 +1,6 @@
 -- What a client keeps, one moment after another.
-use Rattle.std.proofs.Common.{◌≡◌, ◌≢◌, ℕ, zero, suc, ◌+◌, ◌-◌, ◌*◌, ◌/◌, ◌%◌, ◌^◌, ◌<◌, ◌≤◌, ◌==◌, ◌&&◌, Bool, true, false, not, nat_lt, nat_le, cond, List, [], ◌∷◌, ◌++◌, length, take, drop, sum, get_or, max, Option, Some, None, Result, Ok, Err, is_some, is_ok, unwrap_or, refl, sym, ap, subst, ◌∙◌, arith, inl, inr}
-use Rattle.std.proofs.lemmas.Bool.{cases_Bool, cases_lt, cond-true, cond-false, eqb-true, eqb-false, eq-eqb, ne_eqb, lt-ltb, le-ltb, true≢false}
+use Rattle.std.proofs.Common.{◌≡◌, ℕ, ◌+◌, ◌-◌, ◌%◌, ◌^◌, ◌<◌, ◌≤◌, ◌==◌, ◌&&◌, Bool, true, false, not, nat_lt, nat_le, cond, List, [], ◌∷◌, ◌++◌, length, drop, sum, get_or, Option, Some, None, Result, Ok, Err, is_some, is_ok, unwrap_or, refl, sym, ap, subst, ◌∙◌, arith, inl, inr}
+use Rattle.std.proofs.lemmas.Bool.{cases_lt, cond-true, cond-false, eq-eqb, ne_eqb, lt-ltb, le-ltb, true≢false}
 use Rattle.std.proofs.lemmas.List.{length-append, length-drop, take-append-le, take_all}
 use Rattle.std.proofs.lemmas.List.Sums.{sum_by-append}
 use Rattle.std.proofs.Math.ListN.{get_or-append}
@@ -13,11 +13,11 @@ use Rattle.rtsp_client.specs.declared.plays.Play.{Play}
 use Rattle.rtsp_client.specs.declared.wishes.Wish.{Wish}
 use Rattle.rtsp_client.specs.declared.wishes.Watched.{Watched}
 use Rattle.rtsp_client.specs.Replies.{play_range, play_start}
-use Rattle.rtsp_client.specs.Moments.{History, Moment, Frame, Reply, Report, Slot, end_ms, first_frame, frames, is_inside, is_last, is_playing, last_slot, latest_frame, payloads, pending, received, replies, reports, session, sizes, slot_before, start}
-use Rattle.rtsp_client.specs.Films.{begins_film, is_complete, is_first_good, is_good_frame, is_next_good, rate_code, time_in, units, units_until}
+use Rattle.rtsp_client.specs.Moments.{History, Frame, Reply, Report, end_ms, first_frame, frames, is_inside, is_last, is_playing, last_slot, payloads, pending, received, replies, reports, sizes, slot_before, start}
+use Rattle.rtsp_client.specs.Films.{begins_film, is_complete, is_first_good, is_good_frame, is_next_good, time_in, units, units_until}
 use Rattle.rtsp_client.specs.Meters.{watched_in}
-use Rattle.rtsp_client.specs.States.{State, after_frame, after_play, after_report, after_slot, first_source, has_all, is_all, is_between, new_state, report_in, next_source, source_after, source_played, source_read, source_with}
-use Rattle.rtsp_client.specs.Keeps.{AreSumsOf, IsPlay, IsPlayOf, IsSource, IsSourceOf, KeepsState}
+use Rattle.rtsp_client.specs.States.{State, after_frame, after_play, after_report, has_all, is_all, is_between, new_state, report_in, source_after, source_played, source_read, source_with}
+use Rattle.rtsp_client.specs.Keeps.{AreSumsOf, IsPlayOf, IsSource, IsSourceOf, KeepsState}
 
 -- ---- nothing was heard
 

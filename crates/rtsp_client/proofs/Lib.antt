@@ -12,3 +12,5 @@ pub mod Cutting
 pub mod Outcomes
 pub mod Promising
 pub mod Handing
+pub mod Asking
+pub mod AskedTexts

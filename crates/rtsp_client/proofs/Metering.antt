@@ -1,21 +1,21 @@
 -- What the meter reads of what a client keeps.
-use Rattle.std.proofs.Common.{◌≡◌, ◌≢◌, ℕ, zero, suc, ◌+◌, ◌-◌, ◌*◌, ◌/◌, ◌%◌, ◌<◌, ◌≤◌, ◌==◌, ◌&&◌, Bool, true, false, not, nat_lt, nat_le, cond, List, [], ◌∷◌, ◌++◌, length, take, drop, sum, get_or, max, min, Option, Some, None, refl, sym, ap, subst, ◌∙◌, arith, inl, inr}
-use Rattle.std.proofs.lemmas.Bool.{cases_Bool, cases_lt, cases_eq, cond-true, cond-false, cond_both, eqb-true, eqb-false, eq-eqb, ne_eqb, lt-ltb, le-ltb, le-leb, lt-leb, true≢false}
+use Rattle.std.proofs.Common.{◌≡◌, ℕ, suc, ◌+◌, ◌-◌, ◌*◌, ◌/◌, ◌<◌, ◌≤◌, ◌==◌, ◌&&◌, Bool, true, false, not, nat_lt, nat_le, cond, List, [], ◌∷◌, length, take, sum, get_or, max, min, Option, Some, None, refl, sym, ap, subst, ◌∙◌, arith, inl, inr}
+use Rattle.std.proofs.lemmas.Bool.{cases_lt, cases_eq, cond-true, cond-false, cond_both, eq-eqb, ne_eqb, lt-ltb, le-ltb, le-leb, lt-leb}
 use Rattle.std.proofs.lemmas.List.{take_all}
 use Rattle.std.proofs.lemmas.List.Sums.{sum_by-cons}
 use Rattle.std.proofs.lemmas.Nat.{le-div, div_below}
-use Rattle.std.proofs.Math.Nat.{mul-le-mul_right, mul-lt-mul_of_pos_right}
+use Rattle.std.proofs.Math.Nat.{mul-le-mul_right}
 use Rattle.std.proofs.lemmas.Grind.{div_ceil_times}
 use Rattle.std.specs.Int.{div_ceil}
 use Rattle.rtsp_client.specs.declared.frames.Source.{Source}
 use Rattle.rtsp_client.specs.declared.plays.Play.{Play}
 use Rattle.rtsp_client.specs.declared.wishes.Wish.{Wish}
 use Rattle.rtsp_client.specs.declared.wishes.Watched.{Watched}
-use Rattle.rtsp_client.specs.Moments.{History, Moment, Frame, Reply, Report, Slot, end_ms, first_frame, frames, is_inside, is_last, is_playing, last_slot, latest_frame, payloads, pending, received, replies, session, sizes, slot_before, start}
-use Rattle.rtsp_client.specs.Films.{is_complete, time_in, units}
+use Rattle.rtsp_client.specs.Moments.{History, Frame, Reply, Report, Slot, first_frame, frames, is_playing, last_slot, received, replies, sizes, slot_before, start}
+use Rattle.rtsp_client.specs.Films.{is_complete, time_in}
 use Rattle.rtsp_client.specs.Meters.{is_read, lacks, place_in, played_before, time, use_slot, used_before, waiting, watched_in}
-use Rattle.rtsp_client.specs.States.{State, after_reading, after_slot, has_all, is_lacking, place_of, played_of, reading_at, time_of, used_bytes}
-use Rattle.rtsp_client.specs.Keeps.{AreSumsOf, IsPlay, IsPlayOf, IsSource, IsSourceOf, KeepsState}
+use Rattle.rtsp_client.specs.States.{State, after_reading, after_slot, is_lacking, place_of, played_of, reading_at, time_of, used_bytes}
+use Rattle.rtsp_client.specs.Keeps.{AreSumsOf, IsPlayOf, IsSourceOf, KeepsState}
 use Rattle.rtsp_client.proofs.Keeping.{complete-is}
 
 -- a unit is used before a slot exactly where its number is below that count

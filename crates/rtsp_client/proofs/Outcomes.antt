@@ -1,5 +1,5 @@
 -- Facts on what a call answered.
-use Rattle.std.proofs.Common.{◌≡◌, Bool, true, false, Result, Ok, Err, OnOk, OnErr, IfErr, is_err, sym}
+use Rattle.std.proofs.Common.{◌≡◌, true, false, Result, Ok, Err, OnOk, OnErr, IfErr, is_err, sym}
 use Rattle.std.proofs.lemmas.Bool.{true≢false}
 
 pub on-ok : {A E P Q R : Type 0} (r : Result A E) → OnOk r P → OnOk r Q → (P → Q → R) → OnOk r R

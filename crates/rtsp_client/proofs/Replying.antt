@@ -1,28 +1,26 @@
 -- What a reply comes to.
-use Rattle.std.proofs.Common.{◌≡◌, ◌≢◌, ℕ, zero, suc, ◌+◌, ◌<◌, ◌≤◌, ◌==◌, ◌&&◌, ◌||◌, Bool, true, false, nat_lt, cond, List, [], ◌∷◌, ◌++◌, length, take, Option, Some, None, is_some, unwrap_or, refl, sym, ap, subst, ◌∙◌, arith, inl, inr}
+use Rattle.std.proofs.Common.{◌≡◌, ◌≢◌, ℕ, ◌+◌, ◌==◌, ◌&&◌, ◌||◌, true, false, nat_lt, List, [], ◌∷◌, ◌++◌, take, Option, Some, None, is_some, unwrap_or, refl, sym, ap, subst, ◌∙◌, arith, inl, inr}
 use Rattle.std.specs.Prelude.{MatchOption}
-use Rattle.std.proofs.lemmas.Bool.{cond-true, cond-false, eq-eqb, ne_eqb, true≢false}
+use Rattle.std.proofs.lemmas.Bool.{cond-true, cond-false, eq-eqb, ne_eqb}
 use Rattle.std.proofs.lemmas.List.{append-nil}
 use Rattle.vod_base.specs.Links.{Doing, IsFrontTold, sends, told_more}
 use Rattle.rtsp_client.specs.declared.clients.Client.{Client}
 use Rattle.rtsp_client.specs.declared.wishes.Wish.{Wish}
 use Rattle.rtsp_client.specs.declared.wishes.Watched.{Watched}
 use Rattle.rtsp_client.specs.declared.wishes.WatchEnd.{WatchEnd}
-use Rattle.rtsp_client.specs.declared.wishes.WatchEnd.TheVariants.{Done, Fault, LinkFault, SinkFault, NoMemory}
-use Rattle.rtsp_client.specs.declared.wishes.WatchFault.TheVariants.{Refused, BadReply, BadFrame}
+use Rattle.rtsp_client.specs.declared.wishes.WatchEnd.TheVariants.{Done, Fault, LinkFault, NoMemory}
+use Rattle.rtsp_client.specs.declared.wishes.WatchFault.TheVariants.{Refused, BadReply}
 use Rattle.rtsp_client.specs.Replies.{IsAnswer, play_range, play_start, session_in}
 use Rattle.rtsp_client.specs.Requests.{play_text}
-use Rattle.rtsp_client.specs.Moments.{History, Moment, Frame, Reply, Report, Slot, replies, session}
-use Rattle.rtsp_client.specs.Films.{is_complete}
-use Rattle.rtsp_client.specs.Meters.{watched_in}
-use Rattle.rtsp_client.specs.Answers.{Gives, GoesOn, IsBadReply, IsGoodReply, IsOrderly, has_fields, is_awaited, payload_of, request_after}
+use Rattle.rtsp_client.specs.Moments.{History, Moment, Reply, replies, session}
+use Rattle.rtsp_client.specs.Answers.{Gives, GoesOn, IsOrderly, has_fields, is_awaited, payload_of, request_after}
 use Rattle.rtsp_client.specs.Courses.{Fails, IsFront}
 use Rattle.rtsp_client.specs.Keeps.{Keeps, KeepsState}
 use Rattle.rtsp_client.specs.Standing.{IsAwaited}
 use Rattle.rtsp_client.specs.States.{after_play, has_all}
 use Rattle.rtsp_client.specs.Takings.{HasEndedAt, HasPassed, Sight, sight, sight_more}
 use Rattle.rtsp_client.proofs.Keeping.{complete-is, keeps-first, keeps-play}
-use Rattle.rtsp_client.proofs.Sighting.{no-front, sight-none, sight-sent, told-none}
+use Rattle.rtsp_client.proofs.Sighting.{no-front, sight-none, sight-sent}
 
 awaited-is : (wish : Wish) (h : History) (c : Client) → Keeps wish h c → (nat_lt c.replies 2 || has_all c.watching) ≡ is_awaited h
 awaited-is wish h c k =

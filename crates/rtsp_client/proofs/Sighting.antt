@@ -1,5 +1,5 @@
 -- What the link and the output tell, one thing after another.
-use Rattle.std.proofs.Common.{◌≡◌, ℕ, ◌≤◌, List, [], ◌∷◌, ◌++◌, length, take, Option, Some, None, refl, sym, ap, ◌∙◌, append_assoc, arith}
+use Rattle.std.proofs.Common.{◌≡◌, ℕ, List, [], ◌++◌, length, Option, Some, None, refl, sym, ap, ◌∙◌, append_assoc, arith}
 use Rattle.std.proofs.lemmas.List.{append-nil, map-append, take_all}
 use Rattle.vod_base.specs.Links.{Doing, Sent, sends, told_more}
 use Rattle.vod_base.specs.Outside.{more}

@@ -1,27 +1,24 @@
 -- Pieces and events, one after another.
-use Rattle.std.proofs.Common.{◌≡◌, ◌≢◌, ℕ, zero, suc, ◌+◌, ◌<◌, ◌≤◌, ◌==◌, ◌&&◌, ◌||◌, Bool, true, false, cond, List, [], ◌∷◌, ◌++◌, length, take, drop, map, get_or, Option, Some, None, Ok, Err, refl, sym, ap, subst, ◌∙◌, append_assoc, arith, inl, inr}
-use Rattle.std.proofs.lemmas.Bool.{cond-true, cond-false, true≢false}
-use Rattle.std.proofs.lemmas.List.{append-nil, get_or-take, length-append, length-take-le}
-use Rattle.vod_base.specs.Links.{Doing, HeardBytes, HeardEnd, HeardSlot, sends, told_more}
-use Rattle.vod_base.specs.Outside.{more}
+use Rattle.std.proofs.Common.{◌≡◌, ℕ, suc, ◌<◌, ◌≤◌, ◌==◌, true, false, cond, List, [], ◌∷◌, ◌++◌, length, take, drop, map, get_or, Ok, Err, refl, sym, ap, subst, ◌∙◌, append_assoc, arith, inl, inr}
+use Rattle.std.proofs.lemmas.Bool.{cond-true, cond-false}
+use Rattle.std.proofs.lemmas.List.{append-nil, get_or-take, length-take-le}
 use Rattle.interleave.specs.Heads.{is_line_end}
-use Rattle.interleave.specs.Pieces.{AreLineEnds, IsFirst, StartsBlock, StartsRequest, block_length}
-use Rattle.interleave.specs.Streams.{AreCut, IsPieceLength, WholeBlock, WholeRequest, LineEnd, told_pieces}
-use Rattle.interleave.specs.declared.pieces.Step.TheVariants.{Block, More, Request, Skip}
+use Rattle.interleave.specs.Pieces.{AreLineEnds, IsFirst}
+use Rattle.interleave.specs.Streams.{AreCut, IsPieceLength, WholeBlock, WholeRequest}
+use Rattle.interleave.specs.declared.pieces.Step.TheVariants.{Block, Request, Skip}
 use Rattle.interleave.specs.declared.pieces.DemuxFault.{DemuxFault}
 use Rattle.interleave.proofs.Streams.{next_pieces}
 use Rattle.rtsp_client.specs.declared.clients.Client.{Client}
 use Rattle.rtsp_client.specs.declared.wishes.Wish.{Wish}
-use Rattle.rtsp_client.specs.declared.wishes.Watched.{Watched}
 use Rattle.rtsp_client.specs.declared.wishes.WatchEnd.{WatchEnd}
-use Rattle.rtsp_client.specs.declared.wishes.WatchEnd.TheVariants.{Fault, LinkFault, NoMemory}
-use Rattle.rtsp_client.specs.declared.wishes.WatchFault.TheVariants.{EndedEarly, Framing, TurnsSpent}
-use Rattle.rtsp_client.specs.Moments.{History, Moment, Frame, Reply, Report, Slot, payloads, sizes}
-use Rattle.rtsp_client.specs.Answers.{GoOn, GoesOn, after, block_moments, cut_bytes, moments_in, moments_of, payload_of, payloads_of, request_after, requests_after}
-use Rattle.rtsp_client.specs.Courses.{Brings, Ends, Fails, HasCourse, IsNext, Round, Runs, RunsAll, Stage, Stops, StopsAt, moments_of_rounds, rounds_doings, stage}
+use Rattle.rtsp_client.specs.declared.wishes.WatchEnd.TheVariants.{Fault}
+use Rattle.rtsp_client.specs.declared.wishes.WatchFault.TheVariants.{Framing}
+use Rattle.rtsp_client.specs.Moments.{History, Moment, Frame, Reply}
+use Rattle.rtsp_client.specs.Answers.{GoOn, after, block_moments, moments_in, moments_of, payload_of, payloads_of, request_after, requests_after}
+use Rattle.rtsp_client.specs.Courses.{Stops, stage}
 use Rattle.rtsp_client.specs.Keeps.{Keeps, KeepsState}
-use Rattle.rtsp_client.specs.Takings.{HasEnded, HasEndedAt, HasPassed, HasRound, HasRun, HasStopped, HasTaken, Sight, sight, sight_more}
-use Rattle.rtsp_client.proofs.Sighting.{out-on, sends-on, sight-none, sight-on, told-none, told-on, out-none}
+use Rattle.rtsp_client.specs.Takings.{HasEndedAt, HasPassed, HasStopped, HasTaken, Sight, sight_more}
+use Rattle.rtsp_client.proofs.Sighting.{sight-none, sight-on}
 
 -- ---- lists of moments
 

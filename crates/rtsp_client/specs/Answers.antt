@@ -1,14 +1,17 @@
 -- What a moment comes to: the watching goes on, with what is then asked for and handed on; or it
 -- gives the answer.
-use Rattle.std.specs.Prelude.{◌≡◌, ◌≢◌, ℕ, ◌+◌, ◌<◌, ◌≤◌, ◌⊎◌, ◌==◌, ◌&&◌, ◌||◌, ⊤, Bool, true, false, if◌then◌else◌, nat_lt, nat_le, List, [], ◌∷◌, ◌++◌, length, take, drop, flat_map, slice_index, Option, is_some, unwrap_or, Ok, Err}
+use Rattle.std.specs.Prelude.{◌≡◌, ◌≢◌, ℕ, ◌+◌, ◌<◌, ◌⊎◌, ◌==◌, ◌&&◌, ◌||◌, ⊤, Bool, true}
+use Rattle.std.specs.Prelude.{false, if◌then◌else◌, nat_lt, List, [], ◌∷◌, ◌++◌, length}
+use Rattle.std.specs.Prelude.{drop, slice_index, is_some, unwrap_or}
 use Rattle.interleave.specs.Heads.{is_line_end}
 use Rattle.rtsp_client.specs.declared.wishes.Wish.{Wish}
 use Rattle.rtsp_client.specs.declared.wishes.WatchEnd.{WatchEnd}
-use Rattle.rtsp_client.specs.declared.wishes.WatchEnd.TheVariants.{Done, Fault, LinkFault, SinkFault, NoMemory}
+use Rattle.rtsp_client.specs.declared.wishes.WatchEnd.TheVariants.{Done, Fault}
 use Rattle.rtsp_client.specs.declared.wishes.WatchFault.TheVariants.{Refused, BadReply, BadFrame}
 use Rattle.rtsp_client.specs.Replies.{IsAnswer, play_range, play_start, session_in}
 use Rattle.rtsp_client.specs.Requests.{play_text, teardown_text}
-use Rattle.rtsp_client.specs.Moments.{History, Moment, Frame, Reply, Report, Slot, frames, replies, session}
+use Rattle.rtsp_client.specs.Moments.{History, Moment, Frame, Reply, Report, Slot, frames, replies}
+use Rattle.rtsp_client.specs.Moments.{session}
 use Rattle.rtsp_client.specs.Films.{is_complete, is_good_frame}
 use Rattle.rtsp_client.specs.Meters.{watched_in}
 

@@ -1,5 +1,6 @@
 -- A watching from its first request to its answer, event by event.
-use Rattle.std.specs.Prelude.{◌≡◌, ◌≢◌, ℕ, ◌+◌, ◌^◌, ◌<◌, ◌≤◌, ◌⊎◌, ⊤, List, [], ◌∷◌, ◌++◌, length, take, drop, Option, Some, None, Ok, Err}
+use Rattle.std.specs.Prelude.{◌≡◌, ℕ, ◌^◌, ◌<◌, ◌≤◌, ◌⊎◌, List, [], ◌∷◌, ◌++◌, length}
+use Rattle.std.specs.Prelude.{take, Option, Ok, Err}
 use Rattle.vod_base.specs.Links.{Doing, HeardBytes, HeardEnd, HeardSlot, Sent, sends, told_more}
 use Rattle.vod_base.specs.Outside.{more}
 use Rattle.interleave.specs.Pieces.{IsFirst}
@@ -8,12 +9,14 @@ use Rattle.interleave.specs.declared.pieces.Step.TheVariants.{More}
 use Rattle.interleave.specs.declared.pieces.DemuxFault.{DemuxFault}
 use Rattle.rtsp_client.specs.declared.wishes.Wish.{Wish}
 use Rattle.rtsp_client.specs.declared.wishes.WatchEnd.{WatchEnd}
-use Rattle.rtsp_client.specs.declared.wishes.WatchEnd.TheVariants.{Done, Fault, LinkFault, SinkFault, NoMemory}
-use Rattle.rtsp_client.specs.declared.wishes.WatchFault.{WatchFault}
-use Rattle.rtsp_client.specs.declared.wishes.WatchFault.TheVariants.{EndedEarly, Framing, TurnsSpent}
+use Rattle.rtsp_client.specs.declared.wishes.WatchEnd.TheVariants.{Done, Fault, LinkFault}
+use Rattle.rtsp_client.specs.declared.wishes.WatchEnd.TheVariants.{SinkFault, NoMemory}
+use Rattle.rtsp_client.specs.declared.wishes.WatchFault.TheVariants.{EndedEarly, Framing}
+use Rattle.rtsp_client.specs.declared.wishes.WatchFault.TheVariants.{TurnsSpent}
 use Rattle.rtsp_client.specs.Moments.{History, Moment, Slot, sizes}
 use Rattle.rtsp_client.specs.Requests.{setup_text}
-use Rattle.rtsp_client.specs.Answers.{Gives, GoOn, GoesOn, after, cut_bytes, moments_in, moments_of, payload_of, payloads_of, request_after, requests_after}
+use Rattle.rtsp_client.specs.Answers.{Gives, GoOn, GoesOn, after, cut_bytes, moments_in, moments_of}
+use Rattle.rtsp_client.specs.Answers.{payload_of, payloads_of, request_after, requests_after}
 
 -- where a watching stands: what was heard, and the bytes that wait
 pub record Stage : Type 0 where

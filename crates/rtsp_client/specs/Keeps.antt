@@ -1,11 +1,14 @@
 -- What a client keeps is what its history comes to.
-use Rattle.std.specs.Prelude.{◌≡◌, ℕ, ◌+◌, ◌<◌, true, false, not, List, length, drop, slice_index, sum, take, Option, Some, None}
+use Rattle.std.specs.Prelude.{◌≡◌, ℕ, ◌+◌, ◌<◌, true, false, not, List, length, drop, slice_index}
+use Rattle.std.specs.Prelude.{sum, take, Option, Some, None}
 use Rattle.rtp_pack.specs.Heads.{head_at}
 use Rattle.rtsp_client.specs.declared.clients.Client.{Client}
 use Rattle.rtsp_client.specs.declared.frames.Source.{Source}
 use Rattle.rtsp_client.specs.declared.plays.Play.{Play}
 use Rattle.rtsp_client.specs.declared.wishes.Wish.{Wish}
-use Rattle.rtsp_client.specs.Moments.{History, end_ms, first_frame, frames, is_inside, is_last, is_playing, last_slot, latest_frame, pending, received, replies, session, sizes, slot_before, start}
+use Rattle.rtsp_client.specs.Moments.{History, end_ms, first_frame, frames, is_inside, is_last}
+use Rattle.rtsp_client.specs.Moments.{is_playing, last_slot, latest_frame, pending, received}
+use Rattle.rtsp_client.specs.Moments.{replies, session, sizes, slot_before, start}
 use Rattle.rtsp_client.specs.Films.{time_in, units}
 use Rattle.rtsp_client.specs.Meters.{watched_in}
 use Rattle.rtsp_client.specs.States.{State, is_between}

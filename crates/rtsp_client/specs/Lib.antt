@@ -13,3 +13,4 @@ pub mod Courses
 pub mod Keeps
 pub mod Takings
 pub mod Promises
+pub mod Asked

@@ -1,8 +1,11 @@
 -- The meter of a client's buffer. It is read at each new slot from the play's first one on.
-use Rattle.std.specs.Prelude.{◌≡◌, ℕ, ◌+◌, ◌-◌, ◌*◌, ◌/◌, ◌==◌, ◌&&◌, ◌||◌, Bool, true, false, not, max, nat_le, nat_lt, if◌then◌else◌, List, [], ◌∷◌, length}
+use Rattle.std.specs.Prelude.{ℕ, ◌+◌, ◌-◌, ◌*◌, ◌/◌, ◌==◌, ◌&&◌, Bool, not}
+use Rattle.std.specs.Prelude.{max, nat_le, nat_lt, if◌then◌else◌, List, [], ◌∷◌, length}
 use Rattle.rtsp_client.specs.declared.wishes.Wish.{Wish}
 use Rattle.rtsp_client.specs.declared.wishes.Watched.{Watched}
-use Rattle.rtsp_client.specs.Moments.{History, Moment, Frame, Reply, Report, Slot, first_frame, frames, is_playing, last_slot, payloads, received, reports, sizes, slot_before, start}
+use Rattle.rtsp_client.specs.Moments.{History, Frame, Reply, Report, Slot, first_frame}
+use Rattle.rtsp_client.specs.Moments.{frames, is_playing, last_slot, payloads, received, reports}
+use Rattle.rtsp_client.specs.Moments.{sizes, slot_before, start}
 use Rattle.rtsp_client.specs.Films.{is_complete, time_in}
 
 -- in which slot of the play a unit is used, where a picture takes so many 1/360,000 seconds

@@ -1,7 +1,8 @@
 -- What a client hears after its first request, piece by piece and slot by slot. A history is a list
 -- of moments, the latest first.
-use Rattle.std.specs.Prelude.{◌≡◌, ℕ, ◌+◌, ◌-◌, ◌*◌, ◌/◌, ◌%◌, ◌==◌, ◌&&◌, ◌||◌, Bool, true, false, not, max, nat_le, nat_lt, if◌then◌else◌, List, [], ◌∷◌, ◌++◌, length, drop, slice_index, unwrap_or}
-use Rattle.mpeg_scan.specs.Rates.{picture_time}
+use Rattle.std.specs.Prelude.{ℕ, ◌+◌, ◌==◌, ◌&&◌, Bool, false}
+use Rattle.std.specs.Prelude.{not, max, nat_lt, if◌then◌else◌, List, [], ◌∷◌, ◌++◌, length}
+use Rattle.std.specs.Prelude.{drop, unwrap_or}
 use Rattle.rtp_pack.specs.Heads.{head_at}
 use Rattle.rtsp_client.specs.Replies.{play_range, play_start, session_in}
 

@@ -2,7 +2,8 @@
 -- curves at each reading.
 use Rattle.std.specs.Prelude.{◌≡◌, ℕ, ◌+◌, ◌<◌, ◌≤◌, ⊤, true, List, [], ◌∷◌, length, sum, take}
 use Rattle.rtsp_client.specs.declared.wishes.Wish.{Wish}
-use Rattle.rtsp_client.specs.Moments.{History, Moment, Frame, Reply, Report, Slot, frames, received, sizes}
+use Rattle.rtsp_client.specs.Moments.{History, Moment, Frame, Reply, Report, Slot, frames, received}
+use Rattle.rtsp_client.specs.Moments.{sizes}
 use Rattle.rtsp_client.specs.Films.{units}
 use Rattle.rtsp_client.specs.Meters.{is_read, place_in, time, used_before}
 

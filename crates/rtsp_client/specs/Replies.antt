@@ -1,7 +1,8 @@
 -- What a client reads in a reply (RFC 2326 sections 7 and 12).
-use Rattle.std.specs.Prelude.{◌≡◌, ℕ, ◌+◌, ◌-◌, ◌*◌, ◌^◌, ◌==◌, ◌&&◌, ◌||◌, Bool, not, if◌then◌else◌, nat_eq, nat_le, nat_lt, List, length, take, drop, slice_index, Option, Some, None, option_map, option_and_then, codes}
+use Rattle.std.specs.Prelude.{◌≡◌, ℕ, ◌+◌, ◌-◌, ◌*◌, ◌^◌, ◌==◌, ◌&&◌, Bool, not}
+use Rattle.std.specs.Prelude.{if◌then◌else◌, nat_eq, nat_le, nat_lt, List, length, take, drop}
+use Rattle.std.specs.Prelude.{slice_index, Option, Some, None, option_map, option_and_then, codes}
 use Rattle.std.specs.List.{before_first, starts_with}
-use Rattle.std.specs.Str.Parse.{digits_value}
 use Rattle.vod_base.specs.Blanks.{trimmed}
 use Rattle.vod_base.specs.Numbers.{number_of}
 use Rattle.rtsp_text.specs.Lines.{first_line}

@@ -1,6 +1,7 @@
 -- What a client has done as moments, pieces and events were taken up, by what its link and its
 -- output tell.
-use Rattle.std.specs.Prelude.{◌≡◌, ℕ, ◌<◌, ◌≤◌, ◌⊎◌, ◌++◌, ◌∷◌, [], List, length, Option, Some, None, Ok}
+use Rattle.std.specs.Prelude.{◌≡◌, ℕ, ◌<◌, ◌⊎◌, ◌∷◌, [], List, length, Option}
+use Rattle.std.specs.Prelude.{Ok}
 use Rattle.vod_base.specs.Links.{Doing, IsFrontTold, sends, told_more}
 use Rattle.vod_base.specs.Outside.{more}
 use Rattle.interleave.specs.Pieces.{IsFirst}
@@ -12,8 +13,10 @@ use Rattle.rtsp_client.specs.declared.wishes.WatchEnd.{WatchEnd}
 use Rattle.rtsp_client.specs.declared.wishes.WatchEnd.TheVariants.{LinkFault, NoMemory}
 use Rattle.rtsp_client.specs.Requests.{setup_text}
 use Rattle.rtsp_client.specs.Moments.{History, Moment}
-use Rattle.rtsp_client.specs.Answers.{Gives, GoOn, GoesOn, after, moments_in, payloads_of, requests_after}
-use Rattle.rtsp_client.specs.Courses.{Ends, Fails, Round, Runs, Stops, StopsAt, moments_of_rounds, rounds_doings, stage, RunsAll, Stage}
+use Rattle.rtsp_client.specs.Answers.{Gives, GoOn, GoesOn, after, moments_in, payloads_of}
+use Rattle.rtsp_client.specs.Answers.{requests_after}
+use Rattle.rtsp_client.specs.Courses.{Ends, Fails, Round, Runs, StopsAt, moments_of_rounds}
+use Rattle.rtsp_client.specs.Courses.{rounds_doings, stage, RunsAll}
 use Rattle.rtsp_client.specs.Keeps.{Keeps}
 
 -- what the link and the output tell

@@ -1,6 +1,8 @@
 //! A client between two events: what it asked for, what was replied, and what waits of its input.
 
-ghost use Rattle.std.specs.Prelude.{◌≡◌, ◌+◌, ◌^◌, ◌<◌, ◌≤◌, ◌||◌, ◌∷◌, ℕ, false, true, Ok, List, [], Option, nat_lt, take, length as list_length, IfOk, IfErr, IfSome, OnOk, OnErr, MatchOption};
+ghost use Rattle.std.specs.Prelude.{◌≡◌, ◌+◌, ◌^◌, ◌<◌, ◌≤◌, ◌||◌, ◌∷◌, ℕ, false, true, Ok, List};
+ghost use Rattle.std.specs.Prelude.{[], Option, nat_lt, take, length as list_length, IfOk, IfErr};
+ghost use Rattle.std.specs.Prelude.{IfSome, OnOk, OnErr, MatchOption};
 ghost use Rattle.vod_base.specs.Links.{IsWithin, doing_of, sends, told_more};
 ghost use Rattle.interleave.specs.Pieces.{IsFirst, IsRequestLength};
 ghost use Rattle.interleave.specs.declared.pieces.Step.TheVariants.{Block, More, Request};
@@ -11,11 +13,12 @@ ghost use Rattle.rtsp_client.specs.Moments.{History, Frame, Reply};
 ghost use Rattle.rtsp_client.specs.Requests.{setup_text};
 ghost use Rattle.rtsp_client.specs.Standing.{GoesOnFrom, IsAwaited, IsGoing, bytes_in};
 ghost use Rattle.rtsp_client.specs.States.{has_all, new_state};
-ghost use Rattle.rtsp_client.specs.Takings.{HasEnded, HasEndedAt, HasPassed, HasRound, HasStopped, HasTaken, IsUnsent, Sight, sight};
+ghost use Rattle.rtsp_client.specs.Takings.{HasEnded, HasEndedAt, HasPassed, HasRound, HasStopped};
+ghost use Rattle.rtsp_client.specs.Takings.{HasTaken, IsUnsent, Sight, sight};
 ghost use Rattle.rtsp_client.specs.Wishes.{IsWish};
 
 use crate::replies::{play_range, play_start, reply_code, session_in};
-use crate::requests::{copied, play_request, setup_request, teardown_request};
+use crate::requests::{copy_of, play_request, setup_request, teardown_request};
 use crate::watching::Watching;
 use crate::wishes::{WatchEnd, WatchFault, Wish};
 use interleave::{Demux, Step};
@@ -436,7 +439,7 @@ impl Client {
         let Ok(request) = play_request(self.alloc, wish, session) else {
             return Err(WatchEnd::NoMemory);
         };
-        let Ok(kept) = copied(self.alloc, session) else {
+        let Ok(kept) = copy_of(self.alloc, session) else {
             return Err(WatchEnd::NoMemory);
         };
         if link.send(request.as_slice()).is_err() {

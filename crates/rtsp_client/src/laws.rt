@@ -1,14 +1,18 @@
 //! What the definitions of a watching come to.
 
-ghost use Rattle.std.specs.Prelude.{◌≡◌, ◌-◌, ◌<◌, ◌≤◌, ℕ, List, length, take, drop};
+ghost use Rattle.std.specs.Prelude.{◌≡◌, ◌-◌, ◌^◌, ◌<◌, ◌≤◌, ℕ, List, length, take, drop};
 ghost use Rattle.rtp_pack.specs.Packets.{OfUnit};
 ghost use Rattle.film_frames.specs.Laws.{run_frames};
 ghost use Rattle.film_frames.specs.Runs.{run_of};
 ghost use Rattle.rtsp_client.specs.Answers.{payloads_of};
+ghost use Rattle.rtsp_client.specs.Asked.{IsAsked, IsSessionId};
+ghost use Rattle.rtsp_client.specs.Asked.{play_parts, setup_parts, teardown_parts};
 ghost use Rattle.rtsp_client.specs.Meters.{most, over, under};
 ghost use Rattle.rtsp_client.specs.Moments.{History, Moment};
 ghost use Rattle.rtsp_client.specs.Promises.{IsBetweenAlways, frames_of};
+ghost use Rattle.rtsp_client.specs.Requests.{play_text, setup_text, teardown_text};
 ghost use Rattle.rtsp_client.specs.Wishes.{IsWish};
+ghost use Rattle.rtsp_client.specs.declared.wishes.Wish.{Wish};
 
 use crate::wishes::Wish;
 use film_frames::law_film_comes_back;
@@ -39,3 +43,17 @@ pub fn law_film_watched(film: &Film, first_unit: usize, end_unit: usize, identit
 {
     law_film_comes_back(film, first_unit, end_unit, identity);
 }
+
+/// The texts that a client sends are whole requests of RTSP 1.0, whatever comes after them, and are
+/// read as what it asks for: their method, URL and sequence number, and each name has the value of
+/// the client's first field of that name: Transport, `x-Buffer` and `x-Startup` in SETUP, Session
+/// and Range in PLAY, Session in TEARDOWN (RFC 2326 sections 6, 10 and 12).
+pub fn law_requests_read()
+    ensures setup { (wish : Wish) → IsWish wish → wish.port < 2 ^ 16 →
+        IsAsked (setup_text wish) (setup_parts wish) 1 }
+    ensures play { (wish : Wish) (session : List ℕ) → IsWish wish → wish.port < 2 ^ 16 →
+        IsSessionId session → IsAsked (play_text wish session) (play_parts wish session) 2 }
+    ensures teardown { (wish : Wish) (session : List ℕ) → IsWish wish → wish.port < 2 ^ 16 →
+        IsSessionId session →
+        IsAsked (teardown_text wish session) (teardown_parts wish session) 3 }
+{}

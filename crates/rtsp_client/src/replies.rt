@@ -1,9 +1,12 @@
 //! What a client reads in a reply (RFC 2326 sections 7 and 12).
 
-ghost use Rattle.std.specs.Prelude.{◌≡◌, ◌^◌, ◌<◌, ◌≤◌, ◌==◌, ℕ, length, option_map, IfSome, MatchOption};
+ghost use Rattle.std.specs.Prelude.{◌≡◌, ◌^◌, ◌<◌, ◌≤◌, ◌==◌, ℕ, length, option_map, IfSome};
+ghost use Rattle.std.specs.Prelude.{MatchOption};
 ghost use Rattle.std.specs.List.{position_or_len};
 ghost use Rattle.interleave.specs.Pieces.{IsRequestLength};
-ghost use Rattle.rtsp_client.specs.Replies.{IsAnswer, has_point, milliseconds, number_in, play_range, play_start, range_end, session_id, session_in, time_in};
+ghost use Rattle.rtsp_client.specs.Replies.{IsAnswer, has_point, milliseconds, number_in};
+ghost use Rattle.rtsp_client.specs.Replies.{play_range, play_start, range_end, session_id};
+ghost use Rattle.rtsp_client.specs.Replies.{session_in, time_in};
 
 use rtsp_text::{header_of, read_reply};
 use vod_base::{read_number, trimmed};

@@ -9,7 +9,7 @@ use std::alloc::Global;
 use vod_base::NoMemory;
 
 /// A copy of a text.
-pub(crate) fn copied(alloc: Global, text: &[u8]) -> Result<Vec<u8>, NoMemory>
+pub(crate) fn copy_of(alloc: Global, text: &[u8]) -> Result<Vec<u8>, NoMemory>
     ensures { IfOk result (λ copy. copy.items ≡ text.now) }
 {
     match Vec::from_slice(alloc, text) {

@@ -1,8 +1,11 @@
 //! What is heard of a film, and the meter of the client's buffer.
 
-ghost use Rattle.std.specs.Prelude.{◌≡◌, ◌+◌, ◌^◌, ◌<◌, ◌≤◌, ℕ, Option, Some, None, true, false, length, IfSome, OnOk};
+ghost use Rattle.std.specs.Prelude.{◌≡◌, ◌+◌, ◌^◌, ◌<◌, ◌≤◌, ℕ, Option, Some, None, true, false};
+ghost use Rattle.std.specs.Prelude.{length, IfSome, OnOk};
 ghost use Rattle.rtsp_client.specs.Sound.{IsSource};
-ghost use Rattle.rtsp_client.specs.States.{after_frame, after_play, after_reading, after_report, after_slot, has_all, is_between, is_lacking, new_state, place_of, played_of, source_after, source_with};
+ghost use Rattle.rtsp_client.specs.States.{after_frame, after_play, after_reading, after_report};
+ghost use Rattle.rtsp_client.specs.States.{after_slot, has_all, is_between, is_lacking, new_state};
+ghost use Rattle.rtsp_client.specs.States.{place_of, played_of, source_after, source_with};
 
 use crate::frames::Source;
 use crate::plays::Play;

@@ -1,4 +1,4 @@
-use Rattle.std.proofs.Common.{◌==◌, ℕ, sym, eq-eqb, arith}
+use Rattle.std.proofs.Common.{◌==◌, sym, eq-eqb, arith}
 use Rattle.std.proofs.lemmas.List.Sums.{position_or_len_is}
 use Rattle.rtsp_client.proofs.replies.id_end.Goals as goal
 

@@ -1,5 +1,5 @@
-use Rattle.std.proofs.Common.{◌≡◌, ◌+◌, ℕ, List, [], ◌∷◌, length, Option, Ok, rules, refl, sym, ap, ◌∙◌, arith, inl, inr}
-use Rattle.vod_base.specs.Links.{Doing, doing_of, told_more}
+use Rattle.std.proofs.Common.{◌≡◌, List, length, Option, rules, refl, ap, arith, inl}
+use Rattle.vod_base.specs.Links.{Doing, doing_of}
 use Rattle.rtsp_client.specs.declared.wishes.WatchEnd.TheVariants.{LinkFault}
 use Rattle.rtsp_client.specs.States.{State}
 use Rattle.rtsp_client.specs.Takings.{sight}

@@ -1,4 +1,4 @@
-use Rattle.std.proofs.Common.{◌≤◌, ◌*◌, ℕ, length, Ok}
+use Rattle.std.proofs.Common.{◌≤◌, ◌*◌, length, Ok}
 use Rattle.interleave.specs.Pieces.{IsFirst}
 use Rattle.interleave.specs.declared.pieces.Step.TheVariants.{More}
 use Rattle.rtsp_client.specs.Standing.{bytes_in}

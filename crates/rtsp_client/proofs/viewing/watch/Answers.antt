@@ -1,4 +1,4 @@
-use Rattle.std.proofs.Common.{rules, refl}
+use Rattle.std.proofs.Common.{refl}
 use Rattle.rtsp_client.proofs.Coursing.{watched-not, watched-unsent}
 use Rattle.rtsp_client.proofs.viewing.watch.Goals as goal
 

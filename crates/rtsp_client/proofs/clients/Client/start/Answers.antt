@@ -1,4 +1,4 @@
-use Rattle.std.proofs.Common.{◌≡◌, rules, refl, sym, ap, subst, ◌∙◌, inr}
+use Rattle.std.proofs.Common.{◌≡◌, refl, sym, ap, subst, ◌∙◌, inr}
 use Rattle.vod_base.specs.Links.{IsFrontTold, sends, told_more}
 use Rattle.rtsp_client.specs.Requests.{setup_text}
 use Rattle.rtsp_client.proofs.Outcomes.{err-of, ok-of}

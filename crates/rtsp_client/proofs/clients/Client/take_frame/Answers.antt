@@ -1,4 +1,4 @@
-use Rattle.std.proofs.Common.{◌≡◌, ◌≤◌, ℕ, List, Some, None, true, false, length, take, drop, rules, refl, sym, ap, subst, ◌∙◌, ◌-◌, arith}
+use Rattle.std.proofs.Common.{◌≡◌, ◌≤◌, ℕ, List, true, false, length, take, drop, rules, refl, sym, ap, subst, ◌∙◌, ◌-◌, arith}
 use Rattle.std.proofs.lemmas.List.{length-drop, length-take-le, take_all}
 use Rattle.vod_base.specs.Links.{IsFrontTold, sends, told_more}
 use Rattle.vod_base.specs.Outside.{IsFrontMore, more}

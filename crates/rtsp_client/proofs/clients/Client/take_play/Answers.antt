@@ -1,4 +1,4 @@
-use Rattle.std.proofs.Common.{◌≡◌, ◌&&◌, ℕ, Option, Some, None, is_some, take, rules, refl, sym, ap, ◌∙◌}
+use Rattle.std.proofs.Common.{◌≡◌, ◌&&◌, Some, None, is_some, take, refl, sym, ap, ◌∙◌}
 use Rattle.rtsp_client.specs.declared.wishes.WatchEnd.TheVariants.{Fault}
 use Rattle.rtsp_client.specs.declared.wishes.WatchFault.TheVariants.{BadReply}
 use Rattle.rtsp_client.specs.Replies.{play_range, play_start}

@@ -1,4 +1,4 @@
-use Rattle.std.proofs.Common.{◌≡◌, ◌+◌, ℕ, List, take, rules, refl, subst}
+use Rattle.std.proofs.Common.{◌+◌, ℕ, List, take, refl, subst}
 use Rattle.rtsp_client.specs.declared.wishes.WatchEnd.TheVariants.{Fault}
 use Rattle.rtsp_client.specs.declared.wishes.WatchFault.TheVariants.{BadReply, Refused}
 use Rattle.rtsp_client.specs.Standing.{IsAwaited}

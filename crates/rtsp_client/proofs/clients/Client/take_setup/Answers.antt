@@ -1,4 +1,4 @@
-use Rattle.std.proofs.Common.{◌≡◌, ℕ, List, Option, Some, None, take, rules, refl, sym, ap, subst, ◌∙◌}
+use Rattle.std.proofs.Common.{◌≡◌, Some, None, take, rules, refl, sym, ap, subst, ◌∙◌}
 use Rattle.vod_base.specs.Links.{IsFrontTold, sends, told_more}
 use Rattle.rtsp_client.specs.declared.wishes.WatchEnd.TheVariants.{Fault, LinkFault, NoMemory}
 use Rattle.rtsp_client.specs.declared.wishes.WatchFault.TheVariants.{BadReply}
@@ -22,8 +22,8 @@ returns-in_default-play_request-clause-ended g c = λ h out k.
     (sight (g.K.Link.told c.args.link.now) out) k c.requires.first c.requires.good
     (ap (λ i. session_in (take c.args.length i)) (sym c.waiting.ensures) ∙ here) refl
 
-pub returns-in_default-copied-clause-ended : goal.returns-in_default-copied-clause-ended
-returns-in_default-copied-clause-ended g c = λ h out k.
+pub returns-in_default-copy_of-clause-ended : goal.returns-in_default-copy_of-clause-ended
+returns-in_default-copy_of-clause-ended g c = λ h out k.
     let here : session_in (take c.args.length c.waiting.result.now) ≡ Some c.in-Some.session.now = search rules in
     setup-starved c.args.wish.now h c.args.self.now (take c.args.length c.args.self.now.input) c.in-Some.session.now NoMemory
     (sight (g.K.Link.told c.args.link.now) out) k c.requires.first c.requires.good

@@ -1,4 +1,4 @@
-use Rattle.std.proofs.Common.{◌≤◌, ℕ, length}
+use Rattle.std.proofs.Common.{◌≤◌, length}
 use Rattle.rtsp_client.specs.Keeps.{Keeps}
 use Rattle.rtsp_client.specs.Moments.{History}
 use Rattle.rtsp_client.specs.Standing.{GoesOnFrom}

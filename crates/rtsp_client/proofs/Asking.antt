@@ -1,0 +1,266 @@
+-- A client's requests are requests of RTSP 1.0.
+use Rattle.std.proofs.Common.{◌≡◌, ℕ, ◌+◌, ◌-◌, ◌^◌, ◌<◌, ◌≤◌, ◌&&◌, ◌==◌, Bool, reverse, true, false, not, nat_lt, nat_le, List, [], ◌∷◌, ◌++◌, All, codes, decimal, string_bytes, length, get_or, rules, refl, sym, ap, subst, ◌∙◌, arith, inr}
+use Rattle.std.specs.List.{list_all}
+use Rattle.std.specs.Char.{is_ascii_digit}
+use Rattle.std.specs.Str.Parse.{digits_value}
+use Rattle.std.proofs.lemmas.Bool.{and_parts, and_from, cond-false}
+use Rattle.std.proofs.lemmas.Bool.Decides.{nat_tests}
+use Rattle.std.proofs.lemmas.Fmt.{digits_decimal, length-decimal-le}
+use Rattle.std.proofs.lemmas.Grind.{common_steps}
+use Rattle.std.proofs.lemmas.List.{append_assoc, append-nil, length-append, length-reverse, get_or-reverse, reverse-reverse}
+use Rattle.std.proofs.lemmas.List.Elements.{All-nil, All-cons}
+use Rattle.std.proofs.lemmas.List.Folds.{list_all-append, list_all_at}
+use Rattle.std.proofs.lemmas.Str.Parse.{IsNumeralModel, numerals_by_value}
+use Rattle.vod_base.specs.Blanks.{is_blank, without_front_blanks, trimmed}
+use Rattle.vod_base.specs.Names.{is_name_byte}
+use Rattle.rtsp_text.specs.Grammar.{is_token, is_url_byte, is_value_byte, IsUrl, IsRtspUrl}
+use Rattle.rtsp_text.specs.Replies.{Field, value_named}
+use Rattle.rtsp_text.specs.Spelled.{Parts, request_head, request_text, IsHeaderField, AreFront, AreRequest, AreShort}
+use Rattle.rtsp_text.proofs.WordTexts.{word_of, value_of}
+use Rattle.rtsp_text.proofs.SpelledTexts.{request_found, request_of, values_of}
+use Rattle.rtsp_client.specs.Wishes.{IsWish}
+use Rattle.rtsp_client.specs.Requests.{film_url, setup_text, play_text, teardown_text}
+use Rattle.rtsp_client.specs.Asked.{setup_parts, play_parts, teardown_parts, IsSessionId, IsAsked}
+use Rattle.rtsp_client.specs.declared.wishes.Wish.{Wish}
+use Rattle.rtsp_client.proofs.AskedTexts.{setup_is, play_is, teardown_is}
+
+own : IsNumeralModel (λ ds. list_all is_ascii_digit ds ≡ true) (digits_value 10)
+own = numerals_by_value (λ ds. list_all is_ascii_digit ds ≡ true) (search rules)
+
+-- bytes of one kind are bytes of another
+all_of : (p q : ℕ → Bool) → ((c : ℕ) → p c ≡ true → q c ≡ true) → (text : List ℕ) → list_all p text ≡ true → list_all q text ≡ true
+all_of p q is [] all = refl
+all_of p q is (c ∷ text) all =
+    let parts = and_parts (p c) (list_all p text) all in
+    and_from (q c) (list_all q text) (is c parts.0) (all_of p q is text parts.1)
+
+digit_in_url : (c : ℕ) → is_ascii_digit c ≡ true → is_url_byte c ≡ true
+digit_in_url c digit = grind arith
+
+name_in_url : (c : ℕ) → is_name_byte c ≡ true → is_url_byte c ≡ true
+name_in_url c is = grind arith
+
+no_slash : (c : ℕ) → is_ascii_digit c ≡ true → not (c == 47) ≡ true
+no_slash c digit = grind arith
+
+url_in_value : (c : ℕ) → is_url_byte c ≡ true → is_value_byte c ≡ true
+url_in_value c is = grind arith
+
+not_blank : (c : ℕ) → is_url_byte c ≡ true → is_blank c ≡ false
+not_blank c is = grind arith
+
+-- printable bytes have no blanks around them
+byte_at : (text : List ℕ) (k : ℕ) → list_all is_url_byte text ≡ true → k < length text → is_url_byte (get_or text k 0) ≡ true
+byte_at text k all inside = grind (arith, common_steps, list_all_at)
+
+bare_front : (text : List ℕ) → (0 < length text → is_blank (get_or text 0 0) ≡ false) → without_front_blanks text ≡ text
+bare_front [] other = refl
+bare_front (c ∷ text) other = cond-false (is_blank c) (without_front_blanks text) (c ∷ text) (other (omega arith))
+
+bare : (text : List ℕ) → list_all is_url_byte text ≡ true → trimmed text ≡ text
+bare text all =
+    let back : 0 < length (reverse text) → is_blank (get_or (reverse text) 0 0) ≡ false = λ some.
+    let long : 0 < length text = omega (arith, some, length-reverse text) in
+    let last : get_or (reverse text) 0 0 ≡ get_or text (length text - 1 - 0) 0 = get_or-reverse text 0 0 long in
+    ap is_blank last ∙ not_blank (get_or text (length text - 1 - 0) 0) (byte_at text (length text - 1 - 0) all (omega (arith, long))) in
+    ap (λ l. reverse (without_front_blanks (reverse l))) (bare_front text (λ some. not_blank (get_or text 0 0) (byte_at text 0 all some)))
+    ∙ ap reverse (bare_front (reverse text) back) ∙ reverse-reverse text
+
+digits : (n : ℕ) → n < 2 ^ 64 → list_all is_url_byte (decimal n) ≡ true
+digits n small = all_of is_ascii_digit is_url_byte digit_in_url (decimal n) (digits_decimal own n small)
+
+-- the film's URL
+record IsFilm (wish : Wish) : Type 0 where
+  is_wish : IsWish wish
+  port : wish.port < 2 ^ 16
+
+name_bytes : (wish : Wish) → IsFilm wish → list_all is_url_byte (string_bytes wish.name) ≡ true
+name_bytes wish film =
+    let name = string_bytes wish.name in
+    all_of is_name_byte is_url_byte name_in_url name
+    (and_parts (nat_lt 0 (length name) && nat_le (length name) 64 && not (get_or name 0 0 == 46)) (list_all is_name_byte name) film.is_wish.name).1
+
+both : (a b : List ℕ) → list_all is_url_byte a ≡ true → list_all is_url_byte b ≡ true → list_all is_url_byte (a ++ b) ≡ true
+both a b one other = list_all-append is_url_byte a b ∙ and_from (list_all is_url_byte a) (list_all is_url_byte b) one other
+
+film_bytes : (wish : Wish) → IsFilm wish → list_all is_url_byte (film_url wish) ≡ true
+film_bytes wish film =
+    both (codes "rtsp://127.0.0.1:") (decimal wish.port ++ (codes "/" ++ string_bytes wish.name)) refl
+    (both (decimal wish.port) (codes "/" ++ string_bytes wish.name) (digits wish.port (omega (arith, film.port)))
+    (both (codes "/") (string_bytes wish.name) refl (name_bytes wish film)))
+
+rtsp_url : (wish : Wish) (tail : List ℕ) → IsFilm wish → IsRtspUrl (film_url wish ++ tail)
+rtsp_url wish tail film = record {
+  scheme = codes "rtsp://";
+  authority = codes "127.0.0.1:" ++ decimal wish.port;
+  path = codes "/" ++ (string_bytes wish.name ++ tail);
+  parts = append_assoc (codes "rtsp://127.0.0.1:") (decimal wish.port ++ (codes "/" ++ string_bytes wish.name)) tail
+      ∙ ap (λ l. codes "rtsp://127.0.0.1:" ++ l) (append_assoc (decimal wish.port) (codes "/" ++ string_bytes wish.name) tail);
+  scheme_is = refl;
+  some = omega (arith, length-append (codes "127.0.0.1:") (decimal wish.port));
+  no_slash = list_all-append (λ c. not (c == 47)) (codes "127.0.0.1:") (decimal wish.port)
+      ∙ and_from (list_all (λ c. not (c == 47)) (codes "127.0.0.1:")) (list_all (λ c. not (c == 47)) (decimal wish.port)) refl
+      (all_of is_ascii_digit (λ c. not (c == 47)) no_slash (decimal wish.port) (digits_decimal own wish.port (omega (arith, film.port))));
+  path_begins = λ some. refl;
+}
+
+film_is_url : (wish : Wish) → IsFilm wish → IsUrl (film_url wish)
+film_is_url wish film = record {
+  bytes = film_bytes wish film;
+  form = inr (subst IsRtspUrl (append-nil (film_url wish)) (rtsp_url wish [] film));
+}
+
+video_is_url : (wish : Wish) → IsFilm wish → IsUrl (film_url wish ++ codes "/video")
+video_is_url wish film = record {
+  bytes = both (film_url wish) (codes "/video") (film_bytes wish film) refl;
+  form = inr (rtsp_url wish (codes "/video") film);
+}
+
+-- a field of printable bytes
+field_of : (name value : List ℕ) → is_token name ≡ true → list_all is_url_byte value ≡ true → IsHeaderField (record { name = name; value = value })
+field_of name value token all = record {
+  name_is = word_of name token;
+  value_is = value_of value (all_of is_url_byte is_value_byte url_in_value value all);
+  bare = bare value all;
+}
+
+-- one field more
+field_more : (name value : List ℕ) (more : List Field) → is_token name ≡ true → list_all is_url_byte value ≡ true → All IsHeaderField more → All IsHeaderField (record { name = name; value = value } ∷ more)
+field_more name value more token all rest = All-cons IsHeaderField (record { name = name; value = value }) more (field_of name value token all) rest
+
+-- how long the parts are
+decimal_short : (n : ℕ) → n < 2 ^ 64 → length (decimal n) ≤ 20
+decimal_short n small = length-decimal-le 20 n (omega arith) (omega (arith, small)) small
+
+film_short : (wish : Wish) → IsFilm wish → length (film_url wish) ≤ 102
+film_short wish film =
+    let name = string_bytes wish.name in
+    let fits : nat_le (length name) 64 ≡ true =
+    (and_parts (nat_lt 0 (length name)) (nat_le (length name) 64) (and_parts (nat_lt 0 (length name) && nat_le (length name) 64) (not (get_or name 0 0 == 46))
+    (and_parts (nat_lt 0 (length name) && nat_le (length name) 64 && not (get_or name 0 0 == 46)) (list_all is_name_byte name) film.is_wish.name).0).0).1 in
+    let short : length name ≤ 64 = grind (arith, nat_tests) in
+    omega (
+      arith,
+      length-append (codes "rtsp://127.0.0.1:") (decimal wish.port ++ (codes "/" ++ name)),
+      length-append (decimal wish.port) (codes "/" ++ name),
+      short,
+      decimal_short wish.port (omega (arith, film.port)),
+    )
+
+-- a request of these parts is asked by its text
+asked : (text : List ℕ) (parts : Parts) (sequence : ℕ) → text ≡ request_text parts → AreRequest parts sequence → AreShort parts → IsAsked text parts sequence
+asked text parts sequence is request short = subst (λ (t : List ℕ). IsAsked t parts sequence) (sym is) (record {
+  found = λ later. request_found parts sequence later request short;
+  read = request_of parts sequence request;
+  values = values_of parts request.front;
+})
+
+five_long : (a b d e f : List ℕ) → length ((((a ++ b) ++ d) ++ e) ++ f) ≡ length a + length b + length d + length e + length f
+five_long a b d e f = simp length-append
+
+nine_long : (a b d e f g i j k : List ℕ) → length ((((((((a ++ b) ++ d) ++ e) ++ f) ++ g) ++ i) ++ j) ++ k)
+    ≡ length a + length b + length d + length e + length f + length g + length i + length j + length k
+nine_long a b d e f g i j k = simp length-append
+
+-- a head is as long as the text of a request without a body
+head_long : (text : List ℕ) (parts : Parts) → text ≡ request_text parts → parts.body ≡ [] → length (request_head parts) ≡ length text
+head_long text parts is none =
+    ap length (sym (append-nil (request_head parts)) ∙ ap (λ l. request_head parts ++ l) (sym none) ∙ sym is)
+
+-- SETUP
+setup_front : (wish : Wish) → IsFilm wish → AreFront (setup_parts wish)
+setup_front wish film = record {
+  method_is = word_of (codes "SETUP") refl;
+  url_is = video_is_url wish film;
+  fields_are = field_more (codes "CSeq") (codes "1") (record { name = codes "Transport"; value = codes "RTP/AVP/TCP;unicast;interleaved=0-1" } ∷ record { name = codes "x-Buffer"; value = decimal wish.buffer } ∷ record { name = codes "x-Startup"; value = decimal wish.startup } ∷ []) refl refl
+      (field_more (codes "Transport") (codes "RTP/AVP/TCP;unicast;interleaved=0-1") (record { name = codes "x-Buffer"; value = decimal wish.buffer } ∷ record { name = codes "x-Startup"; value = decimal wish.startup } ∷ []) refl refl
+      (field_more (codes "x-Buffer") (decimal wish.buffer) (record { name = codes "x-Startup"; value = decimal wish.startup } ∷ []) refl (digits wish.buffer (omega (arith, film.is_wish.most_buffer)))
+      (field_more (codes "x-Startup") (decimal wish.startup) [] refl (digits wish.startup (omega (arith, film.is_wish.startup)))
+      (All-nil IsHeaderField))));
+}
+
+setup_request : (wish : Wish) → IsFilm wish → AreRequest (setup_parts wish) 1
+unfolding value_named
+setup_request wish film = record { front = setup_front wish film; sequence_is = refl; length_is = refl }
+
+setup_short : (wish : Wish) → IsFilm wish → AreShort (setup_parts wish)
+setup_short wish film = record {
+  head_is = omega (
+    arith,
+    head_long (setup_text wish) (setup_parts wish) (setup_is wish) refl,
+    nine_long (codes "SETUP ") (film_url wish) (codes "/video RTSP/1.0\r\nCSeq: 1\r\n") (codes "Transport: RTP/AVP/TCP;unicast;interleaved=0-1\r\n") (codes "x-Buffer: ") (decimal wish.buffer)
+        (codes "\r\nx-Startup: ") (decimal wish.startup) (codes "\r\n\r\n"),
+    film_short wish film,
+    decimal_short wish.buffer (omega (arith, film.is_wish.most_buffer)),
+    decimal_short wish.startup (omega (arith, film.is_wish.startup)),
+  );
+  body_is = omega arith;
+}
+
+pub setup_asked : (wish : Wish) → IsWish wish → wish.port < 2 ^ 16 → IsAsked (setup_text wish) (setup_parts wish) 1
+setup_asked wish is port =
+    let film : IsFilm wish = record { is_wish = is; port = port } in
+    asked (setup_text wish) (setup_parts wish) 1 (setup_is wish) (setup_request wish film) (setup_short wish film)
+
+-- PLAY
+play_front : (wish : Wish) (session : List ℕ) → IsFilm wish → IsSessionId session → AreFront (play_parts wish session)
+play_front wish session film id = record {
+  method_is = word_of (codes "PLAY") refl;
+  url_is = film_is_url wish film;
+  fields_are = field_more (codes "CSeq") (codes "2") (record { name = codes "Session"; value = session } ∷ record { name = codes "Range"; value = codes "npt=0-" } ∷ []) refl refl
+      (field_more (codes "Session") (session) (record { name = codes "Range"; value = codes "npt=0-" } ∷ []) refl id.bytes
+      (field_more (codes "Range") (codes "npt=0-") [] refl refl
+      (All-nil IsHeaderField)));
+}
+
+play_request : (wish : Wish) (session : List ℕ) → IsFilm wish → IsSessionId session → AreRequest (play_parts wish session) 2
+unfolding value_named
+play_request wish session film id = record { front = play_front wish session film id; sequence_is = refl; length_is = refl }
+
+play_short : (wish : Wish) (session : List ℕ) → IsFilm wish → IsSessionId session → AreShort (play_parts wish session)
+play_short wish session film id = record {
+  head_is = omega (
+    arith,
+    head_long (play_text wish session) (play_parts wish session) (play_is wish session) refl,
+    five_long (codes "PLAY ") (film_url wish) (codes " RTSP/1.0\r\nCSeq: 2\r\nSession: ") session (codes "\r\nRange: npt=0-\r\n\r\n"),
+    film_short wish film,
+    id.short,
+  );
+  body_is = omega arith;
+}
+
+pub play_asked : (wish : Wish) (session : List ℕ) → IsWish wish → wish.port < 2 ^ 16 → IsSessionId session → IsAsked (play_text wish session) (play_parts wish session) 2
+play_asked wish session is port id =
+    let film : IsFilm wish = record { is_wish = is; port = port } in
+    asked (play_text wish session) (play_parts wish session) 2 (play_is wish session) (play_request wish session film id) (play_short wish session film id)
+
+-- TEARDOWN
+teardown_front : (wish : Wish) (session : List ℕ) → IsFilm wish → IsSessionId session → AreFront (teardown_parts wish session)
+teardown_front wish session film id = record {
+  method_is = word_of (codes "TEARDOWN") refl;
+  url_is = film_is_url wish film;
+  fields_are = field_more (codes "CSeq") (codes "3") (record { name = codes "Session"; value = session } ∷ []) refl refl
+      (field_more (codes "Session") (session) [] refl id.bytes
+      (All-nil IsHeaderField));
+}
+
+teardown_request : (wish : Wish) (session : List ℕ) → IsFilm wish → IsSessionId session → AreRequest (teardown_parts wish session) 3
+unfolding value_named
+teardown_request wish session film id = record { front = teardown_front wish session film id; sequence_is = refl; length_is = refl }
+
+teardown_short : (wish : Wish) (session : List ℕ) → IsFilm wish → IsSessionId session → AreShort (teardown_parts wish session)
+teardown_short wish session film id = record {
+  head_is = omega (
+    arith,
+    head_long (teardown_text wish session) (teardown_parts wish session) (teardown_is wish session) refl,
+    five_long (codes "TEARDOWN ") (film_url wish) (codes " RTSP/1.0\r\nCSeq: 3\r\nSession: ") session (codes "\r\n\r\n"),
+    film_short wish film,
+    id.short,
+  );
+  body_is = omega arith;
+}
+
+pub teardown_asked : (wish : Wish) (session : List ℕ) → IsWish wish → wish.port < 2 ^ 16 → IsSessionId session → IsAsked (teardown_text wish session) (teardown_parts wish session) 3
+teardown_asked wish session is port id =
+    let film : IsFilm wish = record { is_wish = is; port = port } in
+    asked (teardown_text wish session) (teardown_parts wish session) 3 (teardown_is wish session) (teardown_request wish session film id) (teardown_short wish session film id)
