@@ -1,10 +1,8 @@
 -- Each connection of a server, and what its report tells of the journal.
-use Rattle.std.proofs.Common.{◌≡◌, ◌∙◌, ◌⊎◌, ◌+◌, ◌<◌, ℕ, List, [], ◌∷◌, ◌++◌, length, Option, Some, None, inl, inr, sym, ap, subst, refl, suc, zero, arith, zero-add, get_or}
+use Rattle.std.proofs.Common.{◌≡◌, ◌≢◌, ◌∙◌, ◌+◌, ◌<◌, ℕ, List, [], ◌∷◌, ◌++◌, length, Option, Some, None, inl, inr, sym, ap, subst, refl, suc, zero, arith, get_or}
 use Rattle.std.specs.Prelude.{All, IfSome, map, slice_index_or}
-use Rattle.std.specs.List.{Contains}
 use mathlib.Core.List.{IsPrefix}
-use Rattle.std.proofs.lemmas.List.{append-nil, append_assoc}
-use Rattle.std.proofs.lemmas.List.Elements.{All-append, All-cons, All-head, All-map, All-nil, All-tail, All-weaker, Contains-append_left, Contains-append_right}
+use Rattle.std.proofs.lemmas.List.Elements.{All-append, All-cons, All-head, All-map, All-nil, All-tail}
 use Rattle.vod_base.specs.Gates.{Content, Part, Returned}
 use Rattle.film_frames.specs.declared.stores.Stored.{Stored}
 use Rattle.admission.specs.declared.entries.Entry.{Entry}
@@ -16,22 +14,16 @@ use Rattle.station.specs.Seats.{Sitting}
 use Rattle.station.proofs.Makers.{IsAt, all-at}
 use Rattle.turnstile.proofs.Prefixes.{prefix_self, prefix_trans}
 use Rattle.conn.specs.Keeping.{entry_receipts, receipt_for}
-use Rattle.conn.specs.Parts.{AreOf, AreServed, AreTold, Duty, HasServed, HasServedOne, Outlet, duty, entries_told}
+use Rattle.conn.specs.Parts.{AreServed, AreTold, Duty, HasServed, HasServedOne, Outlet, duty, entries_told}
 use Rattle.conn.specs.declared.reports.ConnReport.{ConnReport}
-use Rattle.conn.specs.declared.reports.PartEnd.{PartEnd}
-use Rattle.conn.specs.declared.reports.PartEnd.TheVariants.{AllTaken, GateFault as PartFault, NoMemory as PartNoMemory}
+use Rattle.conn.specs.declared.reports.PartEnd.TheVariants.{NoMemory as PartNoMemory}
 use Rattle.conn.specs.declared.reports.PartReport.{PartReport}
 use Rattle.command_words.specs.Words.{Serving}
-use Rattle.troubles.specs.Statuses.{status_of}
-use Rattle.troubles.specs.declared.faults.Trouble.{Trouble}
-use Rattle.troubles.specs.declared.faults.Trouble.TheVariants.{Usage, Refused, StoreFault, SinkFault, NoMemory, GateFault, LinkFault}
-use Rattle.vodserve.specs.Laws.{HasServedAll, IsReceiptIn, IsReportIn, IsServedBy, IsServedPart, ServesEach, TellsItsJournal}
-use Rattle.vodserve.specs.Run.{Ends, HasServed as HasServedFilms, World}
-use Rattle.vodserve.specs.Served.{IsPrinted}
+use Rattle.vodserve.specs.Laws.{IsReceiptIn, IsReportIn, IsServedPart, ServesEach, TellsItsJournal}
+use Rattle.vodserve.specs.Run.{HasServed as HasServedFilms, World}
 use Rattle.vodserve.specs.declared.run.Ended.{Ended}
 use Rattle.vodserve.specs.Worked.{AllWorked, HasBack, HasWorked, all_reports, settings_of}
-use Rattle.vodserve.proofs.ServeLemmas.{worker_worked}
-use Rattle.vodserve.proofs.ServeLaws.{not_none}
+use Rattle.vodserve.proofs.ServeLaws.{HasRunAll, ended_whole, given_back, run_all, worker_of}
 
 all_left : {A : Type 0} (P : A → Type 0) (xs ys : List A) → All P (xs ++ ys) → All P xs
 all_left P [] ys all = All-nil P
@@ -79,13 +71,18 @@ told_receipts journal seat (report ∷ reports) all =
     (all_receipts journal seat report.receipts.items (all_left (IsReceiptIn journal seat) own (entries_told reports) all))
     (told_receipts journal seat reports (all_right (IsReceiptIn journal seat) own (entries_told reports) all))
 
+-- all that a worker's seat made was made by its connections
+made_all : (by : Duty) (journal : List Entry) (gate gate' : Outlet) (report : PartReport) (worked : HasWorked by journal gate gate' report) →
+    worked.served.entries.made ≡ made_by (by.worker + 1) journal
+made_all by journal gate gate' report worked =
+    ap (λ (m : List Placed). m ++ worked.served.entries.made) (sym worked.mine) ∙ sym worked.served.entries.mine_is ∙ worked.made
+
 -- the reports of a worker
 part_told : (by : Duty) (journal : List Entry) (gate gate' : Outlet) (report : PartReport) → HasWorked by journal gate gate' report →
     All (IsReportIn journal) report.reports.items
 part_told by journal gate gate' report worked =
     let entries : HasServed worked.seat.mine report.reports.items worked.left.mine = worked.served.entries in
-    let made : entries.made ≡ made_by (by.worker + 1) journal =
-    ap (λ (m : List Placed). m ++ entries.made) (sym worked.mine) ∙ sym entries.mine_is ∙ worked.made in
+    let made : entries.made ≡ made_by (by.worker + 1) journal = made_all by journal gate gate' report worked in
     let receipts : All (IsReceiptIn journal (by.worker + 1)) (entries_told report.reports.items) =
     subst (All (IsReceiptIn journal (by.worker + 1))) (ap (map receipt_for) (sym made) ∙ sym entries.receipts_are) (made_receipts journal (by.worker + 1)) in
     let all = told_receipts journal (by.worker + 1) report.reports.items receipts in
@@ -100,42 +97,11 @@ parts_told films settings seed journal gate gate' from (part ∷ parts) all =
     All-append (IsReportIn journal) part.reports.items (all_reports parts) (part_told (duty films settings seed from) journal gate gate' part all.0)
     (parts_told films settings seed journal gate gate' (from + 1) parts all.1)
 
-memory_fault : PartNoMemory ≡ PartFault → ⊥
-memory_fault e = cc
-
-memory_taken : PartNoMemory ≡ AllTaken → ⊥
-memory_taken e = cc
-
--- a text of a part that found no memory is never all there was to do, nor cut short by the gate
-not_memory : (faults faults' : ℕ) (told told' : Option (List ℕ)) (text : List ℕ) (trouble : Trouble) →
-    IsPrinted faults faults' told told' text PartNoMemory (Some trouble) → (status_of trouble ≡ 0) ⊎ (status_of trouble ≡ 7) → ⊥
-not_memory faults faults' told told' text Usage printed (inl status) = omega (arith, status)
-not_memory faults faults' told told' text Usage printed (inr status) = omega (arith, status)
-not_memory faults faults' told told' text (Refused name fault) printed (inl status) = omega (arith, status)
-not_memory faults faults' told told' text (Refused name fault) printed (inr status) = omega (arith, status)
-not_memory faults faults' told told' text (StoreFault name) printed (inl status) = omega (arith, status)
-not_memory faults faults' told told' text (StoreFault name) printed (inr status) = omega (arith, status)
-not_memory faults faults' told told' text SinkFault printed (inl status) = omega (arith, status)
-not_memory faults faults' told told' text SinkFault printed (inr status) = omega (arith, status)
-not_memory faults faults' told told' text NoMemory printed (inl status) = omega (arith, status)
-not_memory faults faults' told told' text NoMemory printed (inr status) = omega (arith, status)
-not_memory faults faults' told told' text GateFault printed status = memory_fault printed.1
-not_memory faults faults' told told' text LinkFault printed (inl status) = omega (arith, status)
-not_memory faults faults' told told' text LinkFault printed (inr status) = omega (arith, status)
-
-ended_whole : (before after : World) (text : List ℕ) (end : PartEnd) (ended : Ended) → Ends before.out after.out before.err after.err text end ended →
-    (ended.status ≡ 0) ⊎ (ended.status ≡ 7) → end ≡ PartNoMemory → ⊥
-ended_whole before after text end ended (inl whole) status memory = memory_taken (sym memory ∙ whole.0.1)
-ended_whole before after text end ended (inr wrong) status memory =
-    not_memory before.out.faults after.out.faults before.out.told after.out.told text wrong.0
-    (subst (λ (e : PartEnd). IsPrinted before.out.faults after.out.faults before.out.told after.out.told text e (Some wrong.0)) memory wrong.1.0)
-    (elim status [ inl is ↦ inl (sym wrong.1.1.status ∙ is) | inr is ↦ inr (sym wrong.1.1.status ∙ is) ])
-
 -- the reports are those of the workers
 reports_whole : (before after : World) (seed : List ℕ) (serving : Serving) (ended : Ended) (served : HasServedFilms before after seed serving ended) →
-    (ended.status ≡ 0) ⊎ (ended.status ≡ 7) → ended.reports.items ≡ all_reports served.worked.parts
-reports_whole before after seed serving ended served status = elim served.worked.left.whole [
-  | inl memory ↦ absurd (ended_whole before after _ served.end ended served.ends status memory)
+    served.end ≢ PartNoMemory → ended.reports.items ≡ all_reports served.worked.parts
+reports_whole before after seed serving ended served found = elim served.worked.left.whole [
+  | inl memory ↦ absurd (found memory)
   | inr whole ↦ whole
 ]
 
@@ -143,108 +109,106 @@ pub tells_its_journal : TellsItsJournal
 tells_its_journal before after seed serving ended (inl kept) status =
     subst (All (IsReportIn ended.journal.items)) (sym kept.1.2.1) (All-nil (IsReportIn ended.journal.items))
 tells_its_journal before after seed serving ended (inr served) status =
-    subst (All (IsReportIn ended.journal.items)) (sym (reports_whole before after seed serving ended served status))
+    subst (All (IsReportIn ended.journal.items)) (sym (reports_whole before after seed serving ended served (ended_whole before after _ served.end ended served.ends status)))
     (parts_told served.films (settings_of serving) seed ended.journal.items before.gate after.gate 0 served.worked.parts served.worked.each)
 
 -- ---- connections
 
--- a connection adds to what its seat made
-mine_on : (films : List Stored) (settings : Settings) (returned : Returned) (report : ConnReport) (old new : Sitting) → HasServedOne films settings returned report old new →
-    IsPrefix old.mine new.mine
-mine_on films settings returned report old new one = elim one.served [
-  | inl from ↦ prefix_trans old.mine from.ended.seat.mine new.mine (_, sym from.course.noted.mine) (_, sym from.closes.noted.mine)
-  | inr nothing ↦ subst (λ (s : Sitting). IsPrefix old.mine s.mine) (sym nothing.seat) (prefix_self old.mine)
+-- a connection adds to what its seat made and to what it has seen
+pub record GoesOn (old new : Sitting) : Type 0 where
+  pub mine : IsPrefix old.mine new.mine
+  pub seen : IsPrefix old.seen new.seen
+
+same_on : (old new : Sitting) → new ≡ old → GoesOn old new
+same_on old new same = subst (GoesOn old) (sym same) (record { mine = prefix_self old.mine; seen = prefix_self old.seen })
+
+one_on : (films : List Stored) (settings : Settings) (returned : Returned) (report : ConnReport) (old new : Sitting) → HasServedOne films settings returned report old new →
+    GoesOn old new
+one_on films settings returned report old new one = elim one.served [
+  | inl from ↦ record {
+    mine = prefix_trans old.mine from.ended.seat.mine new.mine (_, sym from.course.noted.mine) (_, sym from.closes.noted.mine);
+    seen = prefix_trans old.seen from.ended.seat.seen new.seen from.course.noted.seat.longer from.closes.noted.seat.longer;
+  }
+  | inr nothing ↦ same_on old new nothing.seat
 ]
 
 all_on : (films : List Stored) (settings : Settings) (old : Sitting) (back : List Returned) (reports : List ConnReport) (new : Sitting) →
-    AreServed films settings old back reports new → IsPrefix old.mine new.mine
-all_on films settings old [] [] new served = subst (λ (s : Sitting). IsPrefix old.mine s.mine) (sym served) (prefix_self old.mine)
+    AreServed films settings old back reports new → GoesOn old new
+all_on films settings old [] [] new served = same_on old new served
 all_on films settings old [] (report ∷ reports) new served = absurd served
 all_on films settings old (returned ∷ back) [] new served = absurd served
 all_on films settings old (returned ∷ back) (report ∷ reports) new served =
-    prefix_trans old.mine served.0.mine new.mine (mine_on films settings returned report old served.0 served.1.0) (all_on films settings served.0 back reports new served.1.1)
+    let one = one_on films settings returned report old served.0 served.1.0 in
+    let rest = all_on films settings served.0 back reports new served.1.1 in
+    record {
+      mine = prefix_trans old.mine served.0.mine new.mine one.mine rest.mine;
+      seen = prefix_trans old.seen served.0.seen new.seen one.seen rest.seen;
+    }
 
--- one of the connections that came back, with its report
-record IsOne (films : List Stored) (settings : Settings) (returned : Returned) (reports : List ConnReport) (left : Sitting) : Type 0 where
-  report : ConnReport
-  inside : Contains reports report
+-- one of the connections that came back, with the report at its place
+record IsOne (films : List Stored) (settings : Settings) (returned : Returned) (report : ConnReport) (left : Sitting) : Type 0 where
   old : Sitting
   new : Sitting
   served : HasServedOne films settings returned report old new
-  entries : IsPrefix new.mine left.mine
+  on : GoesOn new left
 
 one_at : (films : List Stored) (settings : Settings) (old : Sitting) (back : List Returned) (reports : List ConnReport) (new : Sitting) →
-    AreServed films settings old back reports new → (k : ℕ) (none : Returned) → k < length back → IsOne films settings (slice_index_or back k none) reports new
-one_at films settings old [] reports new served k none inside = absurd (omega (arith, inside))
-one_at films settings old (returned ∷ back) [] new served k none inside = absurd served
-one_at films settings old (returned ∷ back) (report ∷ reports) new served zero none inside = record {
-  report = report;
-  inside = (0, omega arith, refl);
+    AreServed films settings old back reports new → (k : ℕ) (none : Returned) (no_report : ConnReport) → k < length back →
+    IsOne films settings (slice_index_or back k none) (slice_index_or reports k no_report) new
+one_at films settings old [] reports new served k none no_report inside = absurd (omega (arith, inside))
+one_at films settings old (returned ∷ back) [] new served k none no_report inside = absurd served
+one_at films settings old (returned ∷ back) (report ∷ reports) new served zero none no_report inside = record {
   old = old;
   new = served.0;
   served = served.1.0;
-  entries = all_on films settings served.0 back reports new served.1.1;
+  on = all_on films settings served.0 back reports new served.1.1;
 }
-one_at films settings old (returned ∷ back) (report ∷ reports) new served (suc k) none inside =
-    let one : IsOne films settings (slice_index_or back k none) reports new = one_at films settings served.0 back reports new served.1.1 k none (omega (arith, inside)) in
-    record {
-      report = one.report;
-      inside = Contains-append_right (report ∷ []) reports one.report one.inside;
-      old = one.old;
-      new = one.new;
-      served = one.served;
-      entries = one.entries;
-    }
+one_at films settings old (returned ∷ back) (report ∷ reports) new served (suc k) none no_report inside =
+    one_at films settings served.0 back reports new served.1.1 k none no_report (omega (arith, inside))
 
--- the reports of each part are among all
-among_all : (parts : List PartReport) (k : ℕ) (none : PartReport) (report : ConnReport) → k < length parts → Contains (slice_index_or parts k none).reports.items report →
-    Contains (all_reports parts) report
-among_all [] k none report inside among = absurd (omega (arith, inside))
-among_all (part ∷ parts) zero none report inside among = Contains-append_left part.reports.items (all_reports parts) report among
-among_all (part ∷ parts) (suc k) none report inside among =
-    Contains-append_right part.reports.items (all_reports parts) report (among_all parts k none report (omega (arith, inside)) among)
-
-part_served : (films : List Stored) (serving : Serving) (seed : List ℕ) (ended : Ended) (gate gate' : Outlet) (content : Content) (worker : ℕ) (report : PartReport) →
-    HasWorked (duty films (settings_of serving) seed worker) ended.journal.items gate gate' report → gate'.told ≡ Some content →
-    ((r : ConnReport) → Contains report.reports.items r → Contains ended.reports.items r) →
-    (part : Part) × ((slice_index_or content.parts worker None ≡ Some part) × IsServedPart films serving ended worker part)
-part_served films serving seed ended gate gate' content worker report worked told among =
+part_served : (films : List Stored) (serving : Serving) (seed : List ℕ) (journal : List Entry) (gate gate' : Outlet) (content : Content) (worker : ℕ) (report : PartReport) →
+    HasWorked (duty films (settings_of serving) seed worker) journal gate gate' report → gate'.told ≡ Some content →
+    (part : Part) × ((slice_index_or content.parts worker None ≡ Some part) × IsServedPart films seed serving journal worker part report.reports.items)
+part_served films serving seed journal gate gate' content worker report worked told =
+    let settings = settings_of serving in
+    let reports = report.reports.items in
     let back : HasBack worker worked.after.told content = subst (λ (t : Option Content). IfSome t (HasBack worker worked.after.told)) told worked.back in
-    let served : AreServed films (settings_of serving) worked.seat back.0.own.back report.reports.items worked.left =
-    subst (λ (t : Option Content). AreTold films (settings_of serving) t report.reports.items worked.seat worked.left) back.1.0 worked.served.connections in (
+    let served : AreServed films settings worked.seat back.0.own.back reports worked.left =
+    subst (λ (t : Option Content). AreTold films settings t reports worked.seat worked.left) back.1.0 worked.served.connections in
+    let long : length back.0.own.back ≡ length reports = (given_back worked.part back.0 worked.after.told (length reports) worked.served.served back.1.0).1 in (
       back.0.own,
       (
         back.1.1,
         record {
-          each = λ k none inside.
-              let one : IsOne films (settings_of serving) (slice_index_or back.0.own.back k none) report.reports.items worked.left =
-              one_at films (settings_of serving) worked.seat back.0.own.back report.reports.items worked.left served k none inside in
+          count = sym long;
+          each = λ k none no_report inside.
+              let one : IsOne films settings (slice_index_or back.0.own.back k none) (slice_index_or reports k no_report) worked.left =
+              one_at films settings worked.seat back.0.own.back reports worked.left served k none no_report inside in
               record {
-                report = one.report;
-                left = among one.report one.inside;
+                worker_is = worked.served.reports.worker_is k no_report (omega (arith, inside, long));
+                words_are = worked.served.reports.words_are k no_report (omega (arith, inside, long));
                 old = one.old;
                 new = one.new;
                 served = one.served;
-                entries = subst (λ (m : List Placed). IsPrefix one.new.mine m) worked.made one.entries;
+                entries = subst (λ (m : List Placed). IsPrefix one.new.mine m) worked.made one.on.mine;
+                seen = prefix_trans one.new.seen worked.left.seen journal one.on.seen worked.seen;
               };
+          entries = worked.served.entries.receipts_are ∙ ap (map receipt_for) (made_all (duty films settings seed worker) journal gate gate' report worked);
         },
       ),
     )
 
 pub serves_each : ServesEach
-serves_each before after seed serving ended gate (inl kept) status told = absurd (not_none kept.0 (sym kept.1.3.status ∙ status))
-serves_each before after seed serving ended gate (inr served) status told =
-    let parts : List PartReport = served.worked.parts in
-    let none : PartReport = record { end = AllTaken; reports = ended.reports } in
+serves_each before after seed serving ended gate serves told have_run =
+    let run : HasRunAll before after seed serving ended = run_all before after seed serving ended gate serves told have_run in
+    let worked = run.served.worked in
     record {
-      films = served.films;
-      loaded = served.loaded;
-      each = λ worker inside.
-          let within : worker < length parts = omega (arith, inside, served.worked.count) in
-          part_served served.films serving seed ended before.gate after.gate gate worker (slice_index_or parts worker none)
-          (subst (λ (n : ℕ). HasWorked (duty served.films (settings_of serving) seed n) ended.journal.items before.gate after.gate (slice_index_or parts worker none)) (zero-add worker)
-          (worker_worked served.films (settings_of serving) seed ended.journal.items before.gate after.gate 0 parts served.worked.each worker none within)) told
-          (λ report among.
-          subst (λ (rs : List ConnReport). Contains rs report) (sym (reports_whole before after seed serving ended served (inl status)))
-          (among_all parts worker none report within among));
+      films = run.served.films;
+      loaded = run.served.loaded;
+      parts = worked.parts;
+      count = worked.count;
+      reports = reports_whole before after seed serving ended run.served run.found;
+      each = λ worker none inside.
+          part_served run.served.films serving seed ended.journal.items before.gate after.gate gate worker (slice_index_or worked.parts worker none)
+          (worker_of run.served.films seed serving ended.journal.items before.gate after.gate worked.parts worked.each worker none (omega (arith, inside, worked.count))) told;
     }

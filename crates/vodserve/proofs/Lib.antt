@@ -10,3 +10,5 @@ pub mod JournalLemmas
 pub mod ServeLaws
 pub mod ConnectionLaws
 pub mod DayLemmas
+pub mod FieldLemmas
+pub mod TextReading

@@ -1,22 +1,25 @@
 -- The laws over a server's run.
-use Rattle.std.proofs.Common.{◌≡◌, ◌∙◌, ◌<◌, ℕ, List, [], ◌∷◌, length, Option, Some, None, inl, inr, sym, subst, refl, arith, zero-add}
+use Rattle.std.proofs.Common.{◌≡◌, ◌≢◌, ◌⊎◌, ◌∙◌, ◌<◌, ℕ, List, [], ◌∷◌, length, Option, Some, None, inl, inr, sym, subst, refl, arith, zero-add}
 use Rattle.std.specs.Prelude.{All, IfSome, slice_index_or}
-use Rattle.vod_base.specs.Outside.{HasRisen}
-use Rattle.vod_base.specs.Gates.{Content, NoMore, Part}
+use Rattle.vod_base.specs.Outside.{File, HasRisen}
+use Rattle.vod_base.specs.Gates.{Content, Failed, NoMore, Part}
 use Rattle.admission.specs.declared.entries.Entry.{Entry}
 use Rattle.conn.specs.Parts.{Duty, IsServed, Outlet, duty}
+use Rattle.conn.specs.declared.reports.ConnReport.{ConnReport}
 use Rattle.conn.specs.declared.reports.PartReport.{PartReport}
 use Rattle.conn.specs.declared.reports.PartEnd.{PartEnd}
-use Rattle.conn.specs.declared.reports.PartEnd.TheVariants.{AllTaken, GateFault as PartFault}
+use Rattle.conn.specs.declared.reports.PartEnd.TheVariants.{AllTaken, GateFault as PartFault, NoMemory as PartNoMemory}
 use Rattle.film_frames.specs.declared.stores.Stored.{Stored}
 use Rattle.command_words.specs.Words.{Serving}
 use Rattle.troubles.specs.Statuses.{status_of}
 use Rattle.troubles.specs.declared.faults.Trouble.{Trouble}
 use Rattle.troubles.specs.declared.faults.Trouble.TheVariants.{Usage, Refused, StoreFault, SinkFault, NoMemory, GateFault, LinkFault}
-use Rattle.vodserve.specs.Laws.{HasNoFault, IsEmptied, IsServable, LeavesNoneOut, ServesWhatItMay}
-use Rattle.vodserve.specs.Run.{World}
-use Rattle.vodserve.specs.Served.{IsPrinted, IsServeTrouble}
-use Rattle.vodserve.specs.Worked.{AllWorked, HasBack, HasWorked, IsOpenAs, HasParts, opening_of, settings_of}
+use Rattle.vodserve.specs.Laws.{GivesEachBack, HasGivenBack, HasNoFault, HaveRun, IsServable, LeavesNoneOut, ServesWhatItMay}
+use Rattle.vodserve.specs.Run.{Ends, HasServed, Serves, World}
+use Rattle.vodserve.specs.Served.{HasFewer, IsPrinted, IsServeTrouble}
+use Rattle.vodserve.specs.declared.run.Ended.{Ended}
+use Rattle.vodserve.specs.Worked.{AllWorked, AreLeft, HasBack, HasWorked, IsOpenAs, HasParts, opening_of, settings_of}
+use Rattle.vodserve.proofs.WorkerLemmas.{risen_some}
 use Rattle.vodserve.proofs.ServeLemmas.{worker_worked}
 
 -- what keeps from serving, where nothing is refused and nothing failed, is want of memory
@@ -59,42 +62,184 @@ not_none NoMemory is = omega (arith, is)
 not_none GateFault is = omega (arith, is)
 not_none LinkFault is = omega (arith, is)
 
--- a part that was served is told whole
-emptied : (old : Option Content) (new : Content) (told : Option Content) (count : ℕ) → IsServed old told count → told ≡ Some new → IfSome told (λ c. c.own.last ≡ NoMore) →
-    IsEmptied new.own
-emptied None new None count served is last = let bad : ⊥ = cc in absurd bad
-emptied None new (Some c) count served is last = let bad : ⊥ = cc in absurd bad
-emptied (Some old) new None count served is last = absurd served
-emptied (Some old) new (Some c) count served is last =
+-- ---- how a server's run ended
+
+-- want of memory in a worker is told by status 6
+not_memory : (faults faults' : ℕ) (told told' : Option (List ℕ)) (text : List ℕ) (trouble : Trouble) →
+    IsPrinted faults faults' told told' text PartNoMemory (Some trouble) → status_of trouble ≢ 6 → ⊥
+not_memory faults faults' told told' text Usage printed status = printed
+not_memory faults faults' told told' text (Refused name fault) printed status = printed
+not_memory faults faults' told told' text (StoreFault name) printed status = printed
+not_memory faults faults' told told' text SinkFault printed status = printed.2 refl
+not_memory faults faults' told told' text NoMemory printed status = status refl
+not_memory faults faults' told told' text GateFault printed status = apart printed.1
+  where
+    apart : PartNoMemory ≡ PartFault → ⊥
+    apart e = cc
+not_memory faults faults' told told' text LinkFault printed status = printed
+
+pub ended_whole : (before after : World) (text : List ℕ) (end : PartEnd) (ended : Ended) → Ends before.out after.out before.err after.err text end ended →
+    ended.status ≢ 6 → end ≢ PartNoMemory
+ended_whole before after text end ended (inl whole) status memory = apart (sym memory ∙ whole.0.1)
+  where
+    apart : PartNoMemory ≡ AllTaken → ⊥
+    apart e = cc
+ended_whole before after text end ended (inr wrong) status memory =
+    not_memory before.out.faults after.out.faults before.out.told after.out.told text wrong.0
+    (subst (λ (e : PartEnd). IsPrinted before.out.faults after.out.faults before.out.told after.out.told text e (Some wrong.0)) memory wrong.1.0)
+    (λ six. status (wrong.1.1.status ∙ six))
+
+-- a status with which the workers ran
+abbrev IsOfRun : ℕ → Type 0 → Type 0
+IsOfRun status AllParts = (status ≡ 0) ⊎ ((status ≡ 5) ⊎ ((status ≡ 7) × AllParts))
+
+other_status : (status : ℕ) (AllParts : Type 0) → status ≢ 0 → status ≢ 5 → status ≢ 7 → IsOfRun status AllParts → ⊥
+other_status status AllParts no_zero no_five no_seven of_run = elim of_run [
+  | inl zero ↦ no_zero zero
+  | inr more ↦ elim more [
+    | inl five ↦ no_five five
+    | inr seven ↦ no_seven seven.0
+  ]
+]
+
+-- what kept a server from its work is told by other statuses, or parts are wanting
+not_kept : (serving : Serving) (told : Option (List File)) (faults faults' : ℕ) (gate gate' : Outlet) (content : Content) (trouble : Trouble) →
+    IsServeTrouble serving told faults faults' gate gate' trouble → gate'.told ≡ Some content →
+    IsOfRun (status_of trouble) (length content.parts ≡ serving.listening.workers) → ⊥
+not_kept serving told faults faults' gate gate' content Usage is tells of_run = is
+not_kept serving told faults faults' gate gate' content (Refused name fault) is tells of_run =
+    other_status 3 (length content.parts ≡ serving.listening.workers) (λ e. omega (arith, e)) (λ e. omega (arith, e)) (λ e. omega (arith, e)) of_run
+not_kept serving told faults faults' gate gate' content (StoreFault name) is tells of_run =
+    other_status 4 (length content.parts ≡ serving.listening.workers) (λ e. omega (arith, e)) (λ e. omega (arith, e)) (λ e. omega (arith, e)) of_run
+not_kept serving told faults faults' gate gate' content SinkFault is tells of_run = is
+not_kept serving told faults faults' gate gate' content NoMemory is tells of_run =
+    other_status 6 (length content.parts ≡ serving.listening.workers) (λ e. omega (arith, e)) (λ e. omega (arith, e)) (λ e. omega (arith, e)) of_run
+not_kept serving told faults faults' gate gate' content GateFault is tells of_run =
+    let fewer : length content.parts < serving.listening.workers = subst (HasFewer serving.listening.workers) tells is.1 in
+    elim of_run [
+      | inl zero ↦ omega (arith, zero)
+      | inr more ↦ elim more [
+        | inl five ↦ omega (arith, five)
+        | inr seven ↦ omega (arith, seven.1, fewer)
+      ]
+    ]
+not_kept serving told faults faults' gate gate' content LinkFault is tells of_run = is
+
+-- a server whose workers ran, and none of them lacked memory
+pub record HasRunAll (before after : World) (seed : List ℕ) (serving : Serving) (ended : Ended) : Type 0 where
+  pub served : HasServed before after seed serving ended
+  pub found : served.end ≢ PartNoMemory
+
+pub run_all : (before after : World) (seed : List ℕ) (serving : Serving) (ended : Ended) (gate : Content) → Serves before after seed serving ended → after.gate.told ≡ Some gate →
+    HaveRun serving ended gate → HasRunAll before after seed serving ended
+run_all before after seed serving ended gate (inl kept) told have_run =
+    let AllParts = length gate.parts ≡ serving.listening.workers in
+    absurd (not_kept serving before.store.told before.store.faults after.store.faults before.gate after.gate gate kept.0 kept.1.0 told
+    (subst (λ (n : ℕ). IsOfRun n AllParts) kept.1.3.status have_run))
+run_all before after seed serving ended gate (inr served) told have_run =
+    let AllParts = length gate.parts ≡ serving.listening.workers in
+    record {
+      served = served;
+      found = ended_whole before after _ served.end ended served.ends
+          (λ six. other_status 6 AllParts (λ e. omega (arith, e)) (λ e. omega (arith, e)) (λ e. omega (arith, e)) (subst (λ (n : ℕ). IsOfRun n AllParts) six have_run));
+    }
+
+-- ---- parts that came back
+
+-- a part that was served got back what it gave, as many as there are reports
+pub given_back : (old : Option Content) (new : Content) (told : Option Content) (count : ℕ) → IsServed old told count → told ≡ Some new →
+    (length new.own.back ≡ new.own.given) × (length new.own.back ≡ count)
+given_back None new None count served is = let bad : ⊥ = cc in absurd bad
+given_back None new (Some c) count served is = let bad : ⊥ = cc in absurd bad
+given_back (Some old) new None count served is = absurd served
+given_back (Some old) new (Some c) count served is =
     let same : c ≡ new = cc in
-    subst (λ (content : Content). IsEmptied content.own) same (record { last = last; back = served.back ∙ sym served.given })
+    subst (λ (content : Content). (length content.own.back ≡ content.own.given) × (length content.own.back ≡ count)) same (served.back ∙ sym served.given, served.back)
 
-part_emptied : (by : Duty) (journal : List Entry) (gate gate' : Outlet) (content : Content) (report : PartReport) → HasWorked by journal gate gate' report →
-    report.end ≡ AllTaken → gate'.told ≡ Some content → (part : Part) × ((slice_index_or content.parts by.worker None ≡ Some part) × IsEmptied part)
-part_emptied by journal gate gate' content report worked taken told =
+-- the last time that a part was asked for a connection
+abbrev LastOf : World → World → Part → Type 0
+LastOf before after part = (part.last ≡ NoMore) ⊎ ((part.last ≡ Failed) × HasRisen before.gate.faults after.gate.faults)
+
+last_of : (before after : World) (by : Duty) (journal : List Entry) (report : PartReport) (end : PartEnd) (new : Content) →
+    (worked : HasWorked by journal before.gate after.gate report) → report.end ≡ end → end ≢ PartNoMemory → worked.after.told ≡ Some new → LastOf before after new.own
+last_of before after by journal report AllTaken new worked is found told =
+    inl (subst (λ (t : Option Content). IfSome t (λ c. c.own.last ≡ NoMore)) told (worked.served.all is))
+last_of before after by journal report PartFault new worked is found told =
+    inr (
+      subst (λ (t : Option Content). IfSome t (λ c. c.own.last ≡ Failed)) told (worked.served.failed is),
+      worked.counted (risen_some 0 worked.after.faults (worked.served.fault is)),
+    )
+last_of before after by journal report PartNoMemory new worked is found told = absurd (found refl)
+
+-- the part of a worker is back in the gate
+pub part_back : (before after : World) (by : Duty) (journal : List Entry) (content : Content) (report : PartReport) → HasWorked by journal before.gate after.gate report →
+    report.end ≢ PartNoMemory → after.gate.told ≡ Some content → (part : Part) × ((slice_index_or content.parts by.worker None ≡ Some part) × HasGivenBack before after part)
+part_back before after by journal content report worked found told =
+    let back : HasBack by.worker worked.after.told content = subst (λ (t : Option Content). IfSome t (HasBack by.worker worked.after.told)) told worked.back in (
+      back.0.own,
+      (
+        back.1.1,
+        record {
+          back = (given_back worked.part back.0 worked.after.told (length report.reports.items) worked.served.served back.1.0).0;
+          last = last_of before after by journal report report.end back.0 worked refl found back.1.0;
+        },
+      ),
+    )
+
+-- the worker of a number, from 0 on
+pub worker_of : (films : List Stored) (seed : List ℕ) (serving : Serving) (journal : List Entry) (gate gate' : Outlet) (parts : List PartReport) →
+    AllWorked films (settings_of serving) seed journal gate gate' 0 parts → (worker : ℕ) (none : PartReport) → worker < length parts →
+    HasWorked (duty films (settings_of serving) seed worker) journal gate gate' (slice_index_or parts worker none)
+worker_of films seed serving journal gate gate' parts all worker none inside =
+    subst (λ (n : ℕ). HasWorked (duty films (settings_of serving) seed n) journal gate gate' (slice_index_or parts worker none)) (zero-add worker)
+    (worker_worked films (settings_of serving) seed journal gate gate' 0 parts all worker none inside)
+
+-- each worker found memory
+pub each_found : (parts : List PartReport) (end : PartEnd) (reports : List ConnReport) → AreLeft parts end reports → end ≢ PartNoMemory →
+    All (λ (part : PartReport). part.end ≢ PartNoMemory) parts
+each_found parts end reports left found = elim left.memory [
+  | inl none ↦ absurd (found none)
+  | inr each ↦ each
+]
+
+pub gives_each_back : GivesEachBack
+gives_each_back before after seed serving ended gate serves told have_run =
+    let run : HasRunAll before after seed serving ended = run_all before after seed serving ended gate serves told have_run in
+    let worked = run.served.worked in
+    let none : PartReport = record { end = AllTaken; reports = ended.reports } in
+    record {
+      opening = subst (IsOpenAs (opening_of serving)) told worked.open_as;
+      count = subst (HasParts serving.listening.workers) told worked.split;
+      each = λ worker inside.
+          let within : worker < length worked.parts = omega (arith, inside, worked.count) in
+          part_back before after (duty run.served.films (settings_of serving) seed worker) ended.journal.items gate (slice_index_or worked.parts worker none)
+          (worker_of run.served.films seed serving ended.journal.items before.gate after.gate worked.parts worked.each worker none within)
+          (each_found worked.parts run.served.end ended.reports.items worked.left run.found worker none within) told;
+    }
+
+-- with status 0 each worker's part had no more connections
+all_taken : (before after : World) (text : List ℕ) (end : PartEnd) (ended : Ended) → Ends before.out after.out before.err after.err text end ended → ended.status ≡ 0 →
+    end ≡ AllTaken
+all_taken before after text end ended (inl whole) status = whole.0.1
+all_taken before after text end ended (inr wrong) status = absurd (not_none wrong.0 (sym wrong.1.1.status ∙ status))
+
+part_taken : (by : Duty) (journal : List Entry) (gate gate' : Outlet) (content : Content) (report : PartReport) → HasWorked by journal gate gate' report →
+    report.end ≡ AllTaken → gate'.told ≡ Some content → (part : Part) × ((slice_index_or content.parts by.worker None ≡ Some part) × (part.last ≡ NoMore))
+part_taken by journal gate gate' content report worked taken told =
     let back : HasBack by.worker worked.after.told content = subst (λ (t : Option Content). IfSome t (HasBack by.worker worked.after.told)) told worked.back in
-    (back.0.own, (back.1.1, emptied worked.part back.0 worked.after.told (length report.reports.items) worked.served.served back.1.0 (worked.served.all taken)))
-
-worker_emptied : (films : List Stored) (seed : List ℕ) (serving : Serving) (journal : List Entry) (gate gate' : Outlet) (content : Content) (parts : List PartReport) →
-    AllWorked films (settings_of serving) seed journal gate gate' 0 parts → All (λ (part : PartReport). part.end ≡ AllTaken) parts → gate'.told ≡ Some content →
-    (worker : ℕ) → worker < length parts → (part : Part) × ((slice_index_or content.parts worker None ≡ Some part) × IsEmptied part)
-worker_emptied films seed serving journal gate gate' content [] all taken told worker inside = absurd (omega (arith, inside))
-worker_emptied films seed serving journal gate gate' content (first ∷ parts) all taken told worker inside =
-    part_emptied (duty films (settings_of serving) seed worker) journal gate gate' content (slice_index_or (first ∷ parts) worker first)
-    (subst (λ (n : ℕ). HasWorked (duty films (settings_of serving) seed n) journal gate gate' (slice_index_or (first ∷ parts) worker first)) (zero-add worker)
-    (worker_worked films (settings_of serving) seed journal gate gate' 0 (first ∷ parts) all worker first inside)) (taken worker first inside) told
+    (back.0.own, (back.1.1, subst (λ (t : Option Content). IfSome t (λ c. c.own.last ≡ NoMore)) back.1.0 (worked.served.all taken)))
 
 pub leaves_none_out : LeavesNoneOut
 leaves_none_out before after seed serving ended gate (inl kept) status told = absurd (not_none kept.0 (sym kept.1.3.status ∙ status))
 leaves_none_out before after seed serving ended gate (inr served) status told =
     let worked = served.worked in
-    elim served.ends [
-      | inl whole ↦ record {
-        opening = subst (IsOpenAs (opening_of serving)) told worked.open_as;
-        count = subst (HasParts serving.listening.workers) told worked.split;
-        each = λ worker inside.
-            worker_emptied served.films seed serving ended.journal.items before.gate after.gate gate worked.parts worked.each (worked.left.taken whole.0.1) told
-            worker (omega (arith, inside, worked.count));
-      }
-      | inr wrong ↦ absurd (not_none wrong.0 (sym wrong.1.1.status ∙ status))
-    ]
+    let none : PartReport = record { end = AllTaken; reports = ended.reports } in
+    record {
+      opening = subst (IsOpenAs (opening_of serving)) told worked.open_as;
+      count = subst (HasParts serving.listening.workers) told worked.split;
+      each = λ worker inside.
+          let within : worker < length worked.parts = omega (arith, inside, worked.count) in
+          part_taken (duty served.films (settings_of serving) seed worker) ended.journal.items before.gate after.gate gate (slice_index_or worked.parts worker none)
+          (worker_of served.films seed serving ended.journal.items before.gate after.gate worked.parts worked.each worker none within)
+          (worked.left.taken (all_taken before after _ served.end ended served.ends status) worker none within) told;
+    }

@@ -1,5 +1,5 @@
 -- Workers that are made, run and joined.
-use Rattle.std.proofs.Common.{◌≡◌, ◌≢◌, ◌∙◌, ◌+◌, ◌<◌, ◌≤◌, ◌-◌, ◌^◌, ℕ, List, [], ◌∷◌, ◌++◌, length, Option, Some, None, inl, inr, sym, ap, subst, refl, suc, zero, arith, add-zero, zero-add, length-append}
+use Rattle.std.proofs.Common.{◌≡◌, ◌≢◌, ◌⊎◌, ◌∙◌, ◌+◌, ◌<◌, ◌≤◌, ◌-◌, ◌^◌, ℕ, List, [], ◌∷◌, ◌++◌, length, Option, Some, None, inl, inr, sym, ap, subst, refl, suc, zero, arith, add-zero, zero-add, length-append}
 use Rattle.std.specs.Prelude.{IfSome, IsSome, All, map, option_map, slice_index_or, slice_set}
 use Rattle.std.specs.List.{remove}
 use mathlib.Core.List.{IsPrefix}
@@ -238,6 +238,22 @@ one_last end parts part is = record {
   ended = λ none. ap (λ (r : PartReport). r.end) (get_or-append_seam parts part [] none) ∙ is;
 }
 
+-- a worker more lacks memory, or each found it
+found_more : (parts : List PartReport) (part : PartReport) (end : PartEnd) → All (λ (p : PartReport). p.end ≢ NoMemory) parts → (part.end ≡ NoMemory → end ≡ NoMemory) →
+    (end ≡ NoMemory) ⊎ All (λ (p : PartReport). p.end ≢ NoMemory) (parts ++ part ∷ [])
+found_more parts part end found none = by part.end refl
+  where
+    by : (is : PartEnd) → part.end ≡ is → (end ≡ NoMemory) ⊎ All (λ (p : PartReport). p.end ≢ NoMemory) (parts ++ part ∷ [])
+    by NoMemory is = inl (none is)
+    by AllTaken is = inr (all_push (λ (p : PartReport). p.end ≢ NoMemory) parts part found (λ e. other (sym is ∙ e)))
+      where
+        other : AllTaken ≡ NoMemory → ⊥
+        other e = cc
+    by PartFault is = inr (all_push (λ (p : PartReport). p.end ≢ NoMemory) parts part found (λ e. other (sym is ∙ e)))
+      where
+        other : PartFault ≡ NoMemory → ⊥
+        other e = cc
+
 pub left_more : (parts : List PartReport) (part : PartReport) (end end' : PartEnd) (reports : List ConnReport) → AreLeft parts end reports → IsWorse end part.end end' →
     AreLeft (parts ++ part ∷ []) end' (reports ++ part.reports.items)
 left_more parts part end end' reports left worse = record {
@@ -246,8 +262,12 @@ left_more parts part end end' reports left worse = record {
     | inl one ↦ one_before PartFault parts part (left.failed one)
     | inr other ↦ one_last PartFault parts part other
   ];
+  memory = elim left.memory [
+    | inl none ↦ inl (worse.memory (inl none))
+    | inr found ↦ found_more parts part end' found (λ none. worse.memory (inr none))
+  ];
   whole = elim left.whole [
-    | inl none ↦ inl (worse.memory none)
+    | inl none ↦ inl (worse.memory (inl none))
     | inr all ↦ inr (ap (λ (rs : List ConnReport). rs ++ part.reports.items) all ∙ sym (reports_push parts part))
   ];
 }
@@ -256,6 +276,7 @@ pub left_short : (parts : List PartReport) (reports : List ConnReport) → AreLe
 left_short parts reports = record {
   taken = λ e. let bad : ⊥ = cc in absurd bad;
   failed = λ e. let bad : ⊥ = cc in absurd bad;
+  memory = inl refl;
   whole = inl refl;
 }
 

@@ -1,21 +1,24 @@
 -- What a server's run means to who stands outside: laws over its definition.
-use Rattle.std.specs.Prelude.{◌≡◌, ◌⊎◌, ℕ, ◌+◌, ◌<◌, ⊤, List, All, length, slice_index_or, Option, Some, None}
+use Rattle.std.specs.Prelude.{◌≡◌, ◌≢◌, ◌⊎◌, ℕ, ◌+◌, ◌<◌, ⊤, List, All, length, map, slice_index_or, Option, Some, None}
 use Rattle.std.specs.List.{Contains}
 use Rattle.vod_base.specs.Outside.{File, HasRisen}
 use mathlib.Core.List.{IsPrefix}
-use Rattle.vod_base.specs.Gates.{Content, NoMore, Part, Returned}
+use Rattle.vod_base.specs.Gates.{Content, Failed, NoMore, Part, Returned}
 use Rattle.film_frames.specs.declared.stores.Stored.{Stored}
 use Rattle.admission.specs.declared.entries.Entry.{Entry}
 use Rattle.admission.specs.Makers.{made_by}
 use Rattle.session.specs.declared.notes.Receipt.{Receipt}
 use Rattle.session.specs.declared.notes.Receipt.TheVariants.{Entry as EntryReceipt, Full as FullReceipt}
 use Rattle.station.specs.Seats.{Sitting}
-use Rattle.conn.specs.Parts.{HasServedOne}
+use Rattle.conn.specs.Keeping.{receipt_for}
+use Rattle.conn.specs.Parts.{HasServedOne, entries_told}
+use Rattle.conn.specs.Words.{words_of}
 use Rattle.conn.specs.declared.reports.ConnReport.{ConnReport}
+use Rattle.conn.specs.declared.reports.PartReport.{PartReport}
 use Rattle.inputs.specs.Films.{IsHeldRefused}
 use Rattle.troubles.specs.declared.faults.Fault.{Fault}
 use Rattle.command_words.specs.Words.{Serving}
-use Rattle.vodserve.specs.Worked.{AreLoaded, opening_of, settings_of}
+use Rattle.vodserve.specs.Worked.{AreLoaded, all_reports, opening_of, settings_of}
 use Rattle.vodserve.specs.Run.{Serves, World}
 use Rattle.vodserve.specs.declared.run.Ended.{Ended}
 
@@ -40,24 +43,40 @@ ServesWhatItMay =
     Serves before after seed serving ended → IsServable serving before.store.told →
     HasNoFault before after → (ended.status ≡ 0) ⊎ (ended.status ≡ 6)
 
--- a part gave connections until there were no more, and each came back
-pub record IsEmptied (part : Part) : Type 0 where
-  pub last : part.last ≡ NoMore
-  pub back : length part.back ≡ part.given
+-- the workers of a server ran: with status 0 or 5, and with 7 where as many parts as workers were
+-- split from the gate
+abbrev pub HaveRun : Serving → Ended → Content → Type 0
+HaveRun serving ended gate =
+    (ended.status ≡ 0) ⊎ ((ended.status ≡ 5)
+    ⊎ ((ended.status ≡ 7) × (length gate.parts ≡ serving.listening.workers)))
 
--- a gate was opened as the words say, and each worker's part of it is emptied
-pub record IsWholeGate (serving : Serving) (gate : Content) : Type 0 where
+-- a part got back each connection that it gave; the last time it was asked for one it had no more,
+-- or it failed, and the gate counted that
+pub record HasGivenBack (before after : World) (part : Part) : Type 0 where
+  pub back : length part.back ≡ part.given
+  pub last : (part.last ≡ NoMore)
+      ⊎ ((part.last ≡ Failed) × HasRisen before.gate.faults after.gate.faults)
+
+-- a gate was opened as the words say, and something holds of each worker's part of it
+pub record IsGateOf (IsPart : Part → Type 0) (serving : Serving) (gate : Content) : Type 0 where
   pub opening : gate.opening ≡ Some (opening_of serving)
   pub count : length gate.parts ≡ serving.listening.workers
   pub each : (worker : ℕ) → worker < serving.listening.workers → (part : Part)
-      × ((slice_index_or gate.parts worker None ≡ Some part) × IsEmptied part)
+      × ((slice_index_or gate.parts worker None ≡ Some part) × IsPart part)
 
--- status 0 says that no connection was left out
+-- where the workers ran, each connection that was given came back
+abbrev pub GivesEachBack : Type 0
+GivesEachBack =
+    (before after : World) (seed : List ℕ) (serving : Serving) (ended : Ended) (gate : Content) →
+    Serves before after seed serving ended → after.gate.told ≡ Some gate →
+    HaveRun serving ended gate → IsGateOf (HasGivenBack before after) serving gate
+
+-- status 0 says that no connection was left out: each part gave connections until it had no more
 abbrev pub LeavesNoneOut : Type 0
 LeavesNoneOut =
     (before after : World) (seed : List ℕ) (serving : Serving) (ended : Ended) (gate : Content) →
     Serves before after seed serving ended → ended.status ≡ 0 →
-    after.gate.told ≡ Some gate → IsWholeGate serving gate
+    after.gate.told ≡ Some gate → IsGateOf (λ part. part.last ≡ NoMore) serving gate
 
 -- a receipt of a seat tells an entry of the journal: the one at its place, with its answer
 abbrev pub IsReceiptIn : List Entry → ℕ → Receipt → Type 0
@@ -72,42 +91,55 @@ abbrev pub IsReportIn : List Entry → ConnReport → Type 0
 IsReportIn journal report =
     All (IsReceiptIn journal (report.worker + 1)) report.receipts.items
 
--- no report tells of an entry that the journal hasn't
+-- but for want of memory no report tells of an entry that the journal hasn't
 abbrev pub TellsItsJournal : Type 0
 TellsItsJournal =
     (before after : World) (seed : List ℕ) (serving : Serving) (ended : Ended) →
-    Serves before after seed serving ended → (ended.status ≡ 0) ⊎ (ended.status ≡ 7) →
+    Serves before after seed serving ended → ended.status ≢ 6 →
     All (IsReportIn ended.journal.items) ended.reports.items
 
--- a connection of a worker: it was served as its report tells and kept what it promises, and what
--- its seat made up to its end are the first of the journal's entries of that seat
-pub record IsServedBy (films : List Stored) (serving : Serving) (ended : Ended) (worker : ℕ)
-    (returned : Returned) : Type 0 where
-  pub report : ConnReport
-  pub left : Contains ended.reports.items report
+-- a connection of a worker, the one of that place among those of its part, from 0: its report has
+-- the worker's number and the connection's words, it was served as the report tells and kept what
+-- it promises, what its seat made up to its end are the first of the journal's entries of that
+-- seat, and all that the seat had seen by then is the journal's front
+pub record IsServedBy (films : List Stored) (seed : List ℕ) (serving : Serving)
+    (journal : List Entry) (worker place : ℕ) (returned : Returned) (report : ConnReport)
+    : Type 0 where
+  pub worker_is : report.worker ≡ worker
+  pub words_are : report.words ≡ words_of seed worker place
   pub old : Sitting
   pub new : Sitting
   pub served : HasServedOne films (settings_of serving) returned report old new
-  pub entries : IsPrefix new.mine (made_by (worker + 1) ended.journal.items)
+  pub entries : IsPrefix new.mine (made_by (worker + 1) journal)
+  pub seen : IsPrefix new.seen journal
 
--- each connection of a part was served
-pub record IsServedPart (films : List Stored) (serving : Serving) (ended : Ended) (worker : ℕ)
-    (part : Part) : Type 0 where
-  pub each : (k : ℕ) (none : Returned) → k < length part.back →
-      IsServedBy films serving ended worker (slice_index_or part.back k none)
+-- each connection of a part was served: it has the report at its place, and the entries that the
+-- reports tell are those that the journal has of the worker's seat, in order
+pub record IsServedPart (films : List Stored) (seed : List ℕ) (serving : Serving)
+    (journal : List Entry) (worker : ℕ) (part : Part) (reports : List ConnReport) : Type 0 where
+  pub count : length reports ≡ length part.back
+  pub each : (k : ℕ) (none : Returned) (no_report : ConnReport) → k < length part.back →
+      IsServedBy films seed serving journal worker k (slice_index_or part.back k none)
+      (slice_index_or reports k no_report)
+  pub entries : entries_told reports ≡ map receipt_for (made_by (worker + 1) journal)
 
--- the films are those of the library, and each connection of each worker was served
-pub record HasServedAll (before : World) (serving : Serving) (ended : Ended) (gate : Content)
-    : Type 0 where
+-- the films are those of the library, each connection of each worker was served, and the reports
+-- are those of the first worker, then those of the next, and so on
+pub record HasServedAll (before : World) (seed : List ℕ) (serving : Serving) (ended : Ended)
+    (gate : Content) : Type 0 where
   pub films : List Stored
   pub loaded : AreLoaded before.store.told serving.films films
-  pub each : (worker : ℕ) → worker < serving.listening.workers →
+  pub parts : List PartReport
+  pub count : length parts ≡ serving.listening.workers
+  pub reports : ended.reports.items ≡ all_reports parts
+  pub each : (worker : ℕ) (none : PartReport) → worker < serving.listening.workers →
       (part : Part) × ((slice_index_or gate.parts worker None ≡ Some part)
-      × IsServedPart films serving ended worker part)
+      × IsServedPart films seed serving ended.journal.items worker part
+      (slice_index_or parts worker none).reports.items)
 
--- status 0 says that each connection was served
+-- where the workers ran, each connection was served
 abbrev pub ServesEach : Type 0
 ServesEach =
     (before after : World) (seed : List ℕ) (serving : Serving) (ended : Ended) (gate : Content) →
-    Serves before after seed serving ended → ended.status ≡ 0 → after.gate.told ≡ Some gate →
-    HasServedAll before serving ended gate
+    Serves before after seed serving ended → after.gate.told ≡ Some gate →
+    HaveRun serving ended gate → HasServedAll before seed serving ended gate

@@ -11,3 +11,4 @@ pub mod Workers
 pub mod Served
 pub mod Laws
 pub mod Days
+pub mod TextLaws

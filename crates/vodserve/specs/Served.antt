@@ -1,5 +1,5 @@
 -- What a server prints and leaves.
-use Rattle.std.specs.Prelude.{◌≡◌, ℕ, ◌+◌, ◌<◌, List, [], ◌∷◌, ◌++◌, length, codes, decimal, Option, Some, None, IfSome}
+use Rattle.std.specs.Prelude.{◌≡◌, ◌≢◌, ℕ, ◌+◌, ◌<◌, List, [], ◌∷◌, ◌++◌, length, codes, decimal, Option, Some, None, IfSome}
 use Rattle.std.specs.List.{Contains}
 use Rattle.vod_base.specs.Outside.{File, HasRisen, IsFrontMore, more}
 use Rattle.vod_base.specs.Gates.{Content}
@@ -10,7 +10,7 @@ use Rattle.admission.specs.Histories.{IsLegal, state_after}
 use Rattle.admission.specs.Makers.{AreHaltsOwn, made_by}
 use Rattle.conn.specs.Parts.{Outlet}
 use Rattle.conn.specs.declared.reports.PartEnd.{PartEnd}
-use Rattle.conn.specs.declared.reports.PartEnd.TheVariants.{AllTaken, GateFault as PartFault}
+use Rattle.conn.specs.declared.reports.PartEnd.TheVariants.{AllTaken, GateFault as PartFault, NoMemory as PartNoMemory}
 use Rattle.report.specs.EntryLines.{entry_line}
 use Rattle.report.specs.CalendarTexts.{calendar_text}
 use Rattle.inputs.specs.Films.{IsHeldRefused}
@@ -73,13 +73,13 @@ abbrev pub IsWordNamed : List ℕ → List ℕ → Type 0
 IsWordNamed word name = setting_value (codes "film") word ≡ Some name
 
 -- the text was written whole and each part of the gate gave all its connections; or what went
--- wrong: a fault of the output, which was counted, left a front of it; want of memory left a front
--- of it; a part of the gate failed
+-- wrong: want of memory left a front of it; where no worker lacked memory a fault of the output,
+-- which was counted, left a front of it; else a part of the gate failed
 abbrev pub IsPrinted : ℕ → ℕ → Option (List ℕ) → Option (List ℕ) → List ℕ → PartEnd →
     Option Trouble → Type 0
 IsPrinted faults faults' told told' text end None = (told' ≡ more told text) × (end ≡ AllTaken)
 IsPrinted faults faults' told told' text end (Some SinkFault) = HasRisen faults faults'
-    × IsFrontMore told told' text
+    × IsFrontMore told told' text × (end ≢ PartNoMemory)
 IsPrinted faults faults' told told' text end (Some NoMemory) = IsFrontMore told told' text
 IsPrinted faults faults' told told' text end (Some GateFault) = (told' ≡ more told text)
     × (end ≡ PartFault)

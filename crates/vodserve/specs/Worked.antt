@@ -1,5 +1,5 @@
 -- What a server serves with, and what its workers did.
-use Rattle.std.specs.Prelude.{◌≡◌, ◌⊎◌, ℕ, ◌+◌, ◌<◌, ⊤, List, [], ◌∷◌, ◌++◌, All, length, slice_index_or, string_bytes, Option, Some, None, IfSome}
+use Rattle.std.specs.Prelude.{◌≡◌, ◌≢◌, ◌⊎◌, ℕ, ◌+◌, ◌<◌, ⊤, List, [], ◌∷◌, ◌++◌, All, length, slice_index_or, string_bytes, Option, Some, None, IfSome}
 use mathlib.Core.List.{IsPrefix}
 use Rattle.vod_base.specs.Outside.{File, HasRisen}
 use Rattle.vod_base.specs.Gates.{Content}
@@ -98,7 +98,7 @@ all_reports (part ∷ parts) = part.reports.items ++ all_reports parts
 pub record IsWorse (one other end : PartEnd) : Type 0 where
   pub fault : end ≡ GateFault → (one ≡ GateFault) ⊎ (other ≡ GateFault)
   pub taken : end ≡ AllTaken → (one ≡ AllTaken) × (other ≡ AllTaken)
-  pub memory : one ≡ NoMemory → end ≡ NoMemory
+  pub memory : (one ≡ NoMemory) ⊎ (other ≡ NoMemory) → end ≡ NoMemory
 
 -- a worker ended so
 pub record HasOne (end : PartEnd) (parts : List PartReport) : Type 0 where
@@ -107,11 +107,12 @@ pub record HasOne (end : PartEnd) (parts : List PartReport) : Type 0 where
   pub ended : (none : PartReport) → (slice_index_or parts worker none).end ≡ end
 
 -- how workers ended in all, and what is left of their connections: all have taken all; or one part
--- failed; without want of memory all reports are left
+-- failed; without want of memory no worker lacked it, and all reports are left
 pub record AreLeft (parts : List PartReport) (end : PartEnd) (reports : List ConnReport)
     : Type 0 where
   pub taken : end ≡ AllTaken → All (λ part. part.end ≡ AllTaken) parts
   pub failed : end ≡ GateFault → HasOne GateFault parts
+  pub memory : (end ≡ NoMemory) ⊎ All (λ part. part.end ≢ NoMemory) parts
   pub whole : (end ≡ NoMemory) ⊎ (reports ≡ all_reports parts)
 
 -- The workers of a server: as many as the words say, each over a part of a gate that was opened as

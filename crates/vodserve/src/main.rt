@@ -26,6 +26,7 @@ mod served;
 mod serving;
 #[cfg(test)]
 mod tests;
+mod text_laws;
 mod texts;
 mod traces;
 #[cfg(test)]

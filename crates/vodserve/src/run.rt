@@ -10,7 +10,7 @@ ghost use Rattle.vodserve.specs.Carrying.{IsChecked, IsDone, IsInputRefused, IsP
 ghost use Rattle.command_words.specs.Orders.{serving_of};
 ghost use Rattle.command_words.specs.Ranges.{IsServingInRange};
 ghost use Rattle.vodserve.specs.Served.{served_text};
-ghost use Rattle.vodserve.specs.Laws.{LeavesNoneOut, ServesEach, ServesWhatItMay, TellsItsJournal};
+ghost use Rattle.vodserve.specs.Laws.{GivesEachBack, LeavesNoneOut, ServesEach, ServesWhatItMay, TellsItsJournal};
 ghost use Rattle.vodserve.specs.Run.{Ends, Fails, HasServedNothing, Printed, Ran, Serves, gate_seen, seen, world};
 
 use crate::checks::check_viewer;
@@ -187,23 +187,25 @@ pub fn law_serves()
     ensures { ServesWhatItMay }
 {}
 
-/// A law: with status 0 the gate was opened as the words say, and each part of it gave connections
-/// until there were no more and got each one back.
+/// A law: where the workers ran, the gate was opened as the words say, and each part of it got back
+/// every connection that it gave. With status 0 each part gave connections until it had no more.
 pub fn law_all_served()
-    ensures { LeavesNoneOut }
+    ensures each_back { GivesEachBack }
+    ensures none_out { LeavesNoneOut }
 {}
 
-/// A law: with status 0 or 7 each receipt of a report tells an entry of the journal in `Ended`: the
-/// one at its place, of the seat of the report's worker, with its answer.
+/// A law: with every status but 6 each receipt of a report tells an entry of the journal in
+/// `Ended`: the one at its place, of the seat of the report's worker, with its answer.
 pub fn law_tells_its_journal()
     ensures { TellsItsJournal }
 {}
 
-/// A law: with status 0 each connection that a part of the gate gave was served over the films of
-/// the library, as its own report in `Ended` tells, and what its seat made is in the journal. In
-/// its whole course each play was kept between its client's two curves with the least excess, no
-/// play was refused but for a slot without room or a full journal, and no slot was ever booked
-/// above its capacity.
+/// A law: where the workers ran, each connection that a part of the gate gave was served over the
+/// films of the library, as its own report in `Ended` tells, and what its seat made and had seen is
+/// in the journal. In its whole course each play was kept between its client's two curves with the
+/// least excess, no play was refused but for a slot without room or a full journal, and no slot was
+/// ever booked above its capacity. The workers ran where the status is 0 or 5, and where it is 7
+/// and as many parts as workers were split from the gate.
 pub fn law_serves_each()
     ensures { ServesEach }
 {}

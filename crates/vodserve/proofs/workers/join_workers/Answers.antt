@@ -33,6 +33,7 @@ loop-workers-init g c = (
     left = record {
       taken = λ e. All-nil (λ (p : PartReport). _);
       failed = λ e. let bad : ⊥ = cc in absurd bad;
+      memory = inr (All-nil (λ (p : PartReport). _));
       whole = inr c.requires.none;
     };
     opened = λ opening is. is;

@@ -1,0 +1,324 @@
+-- The texts of a scan, a verdict, a server and a client are read back.
+use Rattle.std.proofs.Common.{◌≡◌, ◌≢◌, ◌∙◌, ℕ, suc, zero, ◌+◌, ◌<◌, ◌≤◌, ◌^◌, ◌==◌, ◌&&◌, not, if◌then◌else◌, Bool, true, false, List, [], ◌∷◌, ◌++◌, All, length, map, flat_map, get_or, Option, Some, None, codes, decimal, refl, sym, ap, subst, arith}
+use Rattle.std.specs.Prelude.{IfSome}
+use Rattle.std.specs.List.{AllZip, list_all, slice_split}
+use Rattle.std.specs.Int.{IsInRange}
+use Rattle.std.specs.Str.{bytes_eq}
+use Rattle.std.proofs.lemmas.Fmt.{decimal_injective}
+use Rattle.std.proofs.lemmas.List.{append-nil, append_assoc, append_cancel_left, append_cancel_right}
+use Rattle.std.proofs.lemmas.List.Elements.{All-append, All-cons, All-head, All-nil, All-tail}
+use Rattle.mpeg_scan.specs.declared.units.Kind.{Kind}
+use Rattle.mpeg_scan.specs.declared.units.Kind.TheVariants.{I, P, B, D}
+use Rattle.mpeg_scan.specs.declared.units.Unit.{Unit as PictureUnit}
+use Rattle.admission.specs.declared.entries.Entry.{Entry}
+use Rattle.admission.specs.Machine.{booked_in}
+use Rattle.admission.specs.Histories.{state_after}
+use Rattle.report.specs.CalendarTexts.{booked_slots, calendar_text, first_words, slot_line}
+use Rattle.cert_check.specs.declared.CertFault.{CertFault}
+use Rattle.cert_check.specs.declared.CertFault.TheVariants.{EmptySegment, WrongLength, WrongTotal, BelowLow, AboveUp, EqualSlopes, RiseOffUpper, FallOffLower}
+use Rattle.plan_cert.proofs.Decimals.{not_in_decimal}
+use Rattle.troubles.specs.Said.{number_text}
+use Rattle.troubles.proofs.WordLemmas.{AreShort, HasNo, none_by, numbers_back, numbers_of, split, split_words}
+use Rattle.vodserve.specs.ScanText.{film_line, kind_text, mark, scan_text, unit_line, unit_lines, unit_marks, unit_name, unit_places}
+use Rattle.vodserve.specs.Served.{journal_lines, last_line, served_text}
+use Rattle.vodserve.specs.TextLaws.{AreAlike, IsSameScan, IsShortFault, IsShortUnit, refused_line}
+use Rattle.vodserve.specs.Verdict.{cert_fault_text, fault_name, fault_number}
+use Rattle.vodserve.proofs.FieldLemmas.{AreCut, AreSame, field_cut, last_cut, line_cut, two_cut}
+
+-- ---- a scan
+
+-- a kind by its letter
+kind_from : ℕ → Kind
+kind_from b = if b == 73 then I else if b == 80 then P else if b == 66 then B else D
+
+kind_byte : Kind → ℕ
+kind_byte I = 73
+kind_byte P = 80
+kind_byte B = 66
+kind_byte D = 68
+
+kind_shape : (kind : Kind) → kind_text kind ≡ kind_byte kind ∷ []
+unfolding kind_byte
+kind_shape I = refl
+kind_shape P = refl
+kind_shape B = refl
+kind_shape D = refl
+
+kind_back : (kind : Kind) → kind_from (kind_byte kind) ≡ kind
+unfolding kind_from kind_byte
+kind_back I = refl
+kind_back P = refl
+kind_back B = refl
+kind_back D = refl
+
+-- the words at the end of a unit's line
+sequence_of : List ℕ → Bool
+sequence_of text = (get_or text 0 0 == 32) && (get_or text 1 0 == 115)
+
+group_of : List ℕ → Bool
+group_of text = if sequence_of text then get_or text 9 0 == 32 else get_or text 0 0 == 32
+
+abbrev marks : Bool → Bool → List ℕ
+marks sequence group = mark sequence (codes " sequence") ++ mark group (codes " group") ++ codes "\n"
+
+sequence_back : (sequence group : Bool) (rest : List ℕ) → sequence_of (marks sequence group ++ rest) ≡ sequence
+unfolding sequence_of
+sequence_back true true rest = refl
+sequence_back true false rest = refl
+sequence_back false true rest = refl
+sequence_back false false rest = refl
+
+group_back : (sequence group : Bool) (rest : List ℕ) → group_of (marks sequence group ++ rest) ≡ group
+unfolding group_of sequence_of
+group_back true true rest = refl
+group_back true false rest = refl
+group_back false true rest = refl
+group_back false false rest = refl
+
+-- the first byte of those words, which is no digit, and the others
+mark_first : Bool → Bool → ℕ
+mark_first true group = 32
+mark_first false true = 32
+mark_first false false = 10
+
+mark_rest : Bool → Bool → List ℕ → List ℕ
+mark_rest true group rest = codes "sequence" ++ (mark group (codes " group") ++ codes "\n" ++ rest)
+mark_rest false true rest = codes "group\n" ++ rest
+mark_rest false false rest = rest
+
+mark_shape : (sequence group : Bool) (rest : List ℕ) → marks sequence group ++ rest ≡ mark_first sequence group ∷ mark_rest sequence group rest
+unfolding mark_first mark_rest
+mark_shape true true rest = refl
+mark_shape true false rest = refl
+mark_shape false true rest = refl
+mark_shape false false rest = refl
+
+no_digit : (sequence group : Bool) (n : ℕ) → n < 2 ^ 64 → All (λ b. b ≢ mark_first sequence group) (decimal n)
+unfolding mark_first
+no_digit true group n small = not_in_decimal 32 n small (λ within. omega (arith, within.0))
+no_digit false true n small = not_in_decimal 32 n small (λ within. omega (arith, within.0))
+no_digit false false n small = not_in_decimal 10 n small (λ within. omega (arith, within.0))
+
+-- what the words at the end of a line tell, with what follows
+record AreMarked (sequence sequence' group group' : Bool) (xs ys : List ℕ) : Type 0 where
+  sequence_is : sequence ≡ sequence'
+  group_is : group ≡ group'
+  rest : xs ≡ ys
+
+marks_told : (sequence sequence' group group' : Bool) (xs ys : List ℕ) → marks sequence group ++ xs ≡ marks sequence' group' ++ ys → AreMarked sequence sequence' group group' xs ys
+marks_told sequence sequence' group group' xs ys e =
+    let s : sequence ≡ sequence' = sym (sequence_back sequence group xs) ∙ ap sequence_of e ∙ sequence_back sequence' group' ys in
+    let g : group ≡ group' = sym (group_back sequence group xs) ∙ ap group_of e ∙ group_back sequence' group' ys in
+    let same : marks sequence' group' ≡ marks sequence group = ap (λ (b : Bool). marks b group') (sym s) ∙ ap (marks sequence) (sym g) in
+    record {
+      sequence_is = s;
+      group_is = g;
+      rest = append_cancel_left (marks sequence group) xs ys (e ∙ ap (λ (m : List ℕ). m ++ ys) same);
+    }
+
+-- the number of slices, the words after it, and what follows
+record AreEnded (n m : ℕ) (sequence sequence' group group' : Bool) (xs ys : List ℕ) : Type 0 where
+  number : n ≡ m
+  marked : AreMarked sequence sequence' group group' xs ys
+
+ends_told : (n m : ℕ) (sequence sequence' group group' : Bool) (xs ys : List ℕ) → n < 2 ^ 64 → m < 2 ^ 64 →
+    decimal n ++ (marks sequence group ++ xs) ≡ decimal m ++ (marks sequence' group' ++ ys) → AreEnded n m sequence sequence' group group' xs ys
+ends_told n m sequence sequence' group group' xs ys small small' e =
+    let cut = two_cut (mark_first sequence group) (mark_first sequence' group') (decimal n) (decimal m) (mark_rest sequence group xs) (mark_rest sequence' group' ys)
+    (ap (λ (l : List ℕ). decimal n ++ l) (sym (mark_shape sequence group xs)) ∙ e ∙ ap (λ (l : List ℕ). decimal m ++ l) (mark_shape sequence' group' ys))
+    (no_digit sequence' group' n small) (no_digit sequence group m small') in
+    record {
+      number = decimal_injective n m small small' cut.front;
+      marked = marks_told sequence sequence' group group' xs ys (mark_shape sequence group xs ∙ cut.rest ∙ sym (mark_shape sequence' group' ys));
+    }
+
+-- a unit's line, from its kind on, with what follows
+after_number : PictureUnit → List ℕ → List ℕ
+after_number unit rest =
+    kind_byte unit.kind ∷ (codes " show=" ++ (decimal unit.presentation ++ 32 ∷ (codes "from=" ++ (decimal unit.from ++ 32 ∷ (codes "head=" ++ (decimal unit.head_end ++ 32 ∷ (codes "to="
+    ++ (decimal unit.to ++ 32 ∷ (codes "slices=" ++ (decimal unit.slices ++ (marks unit.has_sequence unit.starts_group ++ rest)))))))))))
+
+unit_shape : (number : ℕ) (unit : PictureUnit) (rest : List ℕ) → unit_line number unit ++ rest ≡ decimal number ++ 32 ∷ after_number unit rest
+unfolding after_number
+unit_shape number unit rest =
+    ap (λ (k : List ℕ). (decimal number ++ codes " " ++ k ++ codes " show=" ++ decimal unit.presentation ++ unit_places unit ++ unit_marks unit) ++ rest) (kind_shape unit.kind)
+    ∙ (simp append_assoc)
+
+-- units that are alike, with what follows
+record AreTold (unit other : PictureUnit) (xs ys : List ℕ) : Type 0 where
+  alike : AreAlike unit other
+  rest : xs ≡ ys
+
+tail_of : List ℕ → List ℕ
+tail_of [] = []
+tail_of (b ∷ text) = text
+
+unit_told : (unit other : PictureUnit) (xs ys : List ℕ) → IsShortUnit unit → IsShortUnit other → after_number unit xs ≡ after_number other ys → AreTold unit other xs ys
+unfolding after_number tail_of
+unit_told unit other xs ys short short' e =
+    let kind : unit.kind ≡ other.kind = sym (kind_back unit.kind) ∙ ap (λ (l : List ℕ). kind_from (get_or l 0 0)) e ∙ kind_back other.kind in
+    let show = field_cut (codes "from=") unit.presentation other.presentation _ _ short.presentation short'.presentation
+    (append_cancel_left (codes " show=") _ _ (ap tail_of e)) in
+    let from = field_cut (codes "head=") unit.from other.from _ _ short.from short'.from show.rest in
+    let head = field_cut (codes "to=") unit.head_end other.head_end _ _ short.head_end short'.head_end from.rest in
+    let to = field_cut (codes "slices=") unit.to other.to _ _ short.to short'.to head.rest in
+    let end = ends_told unit.slices other.slices unit.has_sequence other.has_sequence unit.starts_group other.starts_group xs ys short.slices short'.slices to.rest in
+    record {
+      alike = record {
+        kind = kind;
+        presentation = show.number;
+        from = from.number;
+        head_end = head.number;
+        to = to.number;
+        slices = end.number;
+        sequence = end.marked.sequence_is;
+        group = end.marked.group_is;
+      };
+      rest = end.marked.rest;
+    }
+
+-- the lines of as many units, with what follows
+units_told : (number : ℕ) (units others : List PictureUnit) (xs : List ℕ) → length units ≡ length others → number + length units < 2 ^ 64 → All IsShortUnit units → All IsShortUnit others →
+    unit_lines number units ++ xs ≡ unit_lines number others ++ xs → AllZip AreAlike units others
+unfolding tail_of
+units_told number [] [] xs long few short short' e = tt
+units_told number [] (other ∷ others) xs long few short short' e = absurd (omega (arith, long))
+units_told number (unit ∷ units) [] xs long few short short' e = absurd (omega (arith, long))
+units_told number (unit ∷ units) (other ∷ others) xs long few short short' e =
+    let more = unit_lines (number + 1) units ++ xs in
+    let more' = unit_lines (number + 1) others ++ xs in
+    let line : decimal number ++ 32 ∷ after_number unit more ≡ decimal number ++ 32 ∷ after_number other more' =
+    sym (append_assoc (unit_line number unit) (unit_lines (number + 1) units) xs ∙ unit_shape number unit more) ∙ e
+    ∙ append_assoc (unit_line number other) (unit_lines (number + 1) others) xs ∙ unit_shape number other more' in
+    let told = unit_told unit other more more' (All-head IsShortUnit unit units short) (All-head IsShortUnit other others short')
+    (ap tail_of (append_cancel_left (decimal number) (32 ∷ after_number unit more) (32 ∷ after_number other more') line)) in (
+      told.alike,
+      units_told (number + 1) units others xs (omega (arith, long)) (omega (arith, few)) (All-tail IsShortUnit unit units short) (All-tail IsShortUnit other others short') told.rest,
+    )
+
+film_shape : (bytes rate pictures : ℕ) (rest : List ℕ) →
+    film_line bytes rate pictures ++ rest ≡ codes "film bytes=" ++ (decimal bytes ++ 32 ∷ (codes "rate=" ++ (decimal rate ++ 32 ∷ (codes "pictures=" ++ (decimal pictures ++ 10 ∷ rest)))))
+film_shape bytes rate pictures rest = simp append_assoc
+
+pub scan_told : (bytes bytes' rate rate' : ℕ) (units units' : List PictureUnit) → bytes < 2 ^ 64 → bytes' < 2 ^ 64 → rate < 2 ^ 64 → rate' < 2 ^ 64 → length units < 2 ^ 64 →
+    length units' < 2 ^ 64 → All IsShortUnit units → All IsShortUnit units' → scan_text bytes rate units ≡ scan_text bytes' rate' units' → IsSameScan bytes bytes' rate rate' units units'
+scan_told bytes bytes' rate rate' units units' b b' r r' n n' short short' e =
+    let more = unit_lines 0 units ++ codes "end\n" in
+    let more' = unit_lines 0 units' ++ codes "end\n" in
+    let shape = append_assoc (film_line bytes rate (length units)) (unit_lines 0 units) (codes "end\n") ∙ film_shape bytes rate (length units) more in
+    let shape' = append_assoc (film_line bytes' rate' (length units')) (unit_lines 0 units') (codes "end\n") ∙ film_shape bytes' rate' (length units') more' in
+    let first = field_cut (codes "rate=") bytes bytes' _ _ b b' (append_cancel_left (codes "film bytes=") _ _ (sym shape ∙ e ∙ shape')) in
+    let second = field_cut (codes "pictures=") rate rate' _ _ r r' first.rest in
+    let third = line_cut (length units) (length units') more more' n n' second.rest in
+    record {
+      bytes_are = first.number;
+      rate_is = second.number;
+      units_are = units_told 0 units units' (codes "end\n") third.number (omega (arith, n)) short short' third.rest;
+    }
+
+-- ---- a verdict
+numbers_after : CertFault → List ℕ
+numbers_after (EmptySegment i) = i ∷ []
+numbers_after WrongLength = []
+numbers_after WrongTotal = []
+numbers_after (BelowLow t) = t ∷ []
+numbers_after (AboveUp t) = t ∷ []
+numbers_after (EqualSlopes i) = i ∷ []
+numbers_after (RiseOffUpper i) = i ∷ []
+numbers_after (FallOffLower i) = i ∷ []
+
+abbrev first_or : CertFault → List ℕ → (ℕ → CertFault) → CertFault
+first_or none [] fault = none
+first_or none (n ∷ ns) fault = fault n
+
+fault_of : List (List ℕ) → CertFault
+fault_of [] = WrongLength
+fault_of (name ∷ words) =
+    if bytes_eq name (codes "EmptySegment") then first_or WrongLength (numbers_of words) EmptySegment
+    else if bytes_eq name (codes "WrongTotal") then WrongTotal
+    else if bytes_eq name (codes "BelowLow") then first_or WrongLength (numbers_of words) BelowLow
+    else if bytes_eq name (codes "AboveUp") then first_or WrongLength (numbers_of words) AboveUp
+    else if bytes_eq name (codes "EqualSlopes") then first_or WrongLength (numbers_of words) EqualSlopes
+    else if bytes_eq name (codes "RiseOffUpper") then first_or WrongLength (numbers_of words) RiseOffUpper
+    else if bytes_eq name (codes "FallOffLower") then first_or WrongLength (numbers_of words) FallOffLower
+    else WrongLength
+
+-- what is known of each fault
+record IsRead (fault : CertFault) : Type 0 where
+  shape : cert_fault_text fault ≡ fault_name fault ++ flat_map number_text (numbers_after fault)
+  word : HasNo 32 (fault_name fault)
+  short : IsShortFault fault → AreShort (numbers_after fault)
+  back : AreShort (numbers_after fault) → fault_of (fault_name fault ∷ map decimal (numbers_after fault)) ≡ fault
+
+lone : (name : List ℕ) → name ≡ name ++ flat_map number_text []
+lone name = sym (append-nil name)
+
+placed : (name : List ℕ) (n : ℕ) → name ++ number_text n ≡ name ++ flat_map number_text (n ∷ [])
+placed name n = ap (λ (l : List ℕ). name ++ l) (sym (append-nil (number_text n)))
+
+one_short : (n : ℕ) → n < 2 ^ 64 → AreShort (n ∷ [])
+one_short n small = All-cons (λ k. k < 2 ^ 64) n [] small (All-nil (λ k. k < 2 ^ 64))
+
+one_back : (fault : ℕ → CertFault) (n : ℕ) → AreShort (n ∷ []) → first_or WrongLength (numbers_of (map decimal (n ∷ []))) fault ≡ fault n
+one_back fault n short = ap (λ (ns : List ℕ). first_or WrongLength ns fault) (numbers_back (n ∷ []) short)
+
+fault_read : (fault : CertFault) → IsRead fault
+unfolding numbers_after fault_of
+fault_read (EmptySegment i) = record { shape = placed (codes "EmptySegment") i; word = none_by 32 (codes "EmptySegment") refl; short = one_short i; back = one_back EmptySegment i }
+fault_read WrongLength = record { shape = lone (codes "WrongLength"); word = none_by 32 (codes "WrongLength") refl; short = λ _. All-nil (λ k. k < 2 ^ 64); back = λ _. refl }
+fault_read WrongTotal = record { shape = lone (codes "WrongTotal"); word = none_by 32 (codes "WrongTotal") refl; short = λ _. All-nil (λ k. k < 2 ^ 64); back = λ _. refl }
+fault_read (BelowLow t) = record { shape = placed (codes "BelowLow") t; word = none_by 32 (codes "BelowLow") refl; short = one_short t; back = one_back BelowLow t }
+fault_read (AboveUp t) = record { shape = placed (codes "AboveUp") t; word = none_by 32 (codes "AboveUp") refl; short = one_short t; back = one_back AboveUp t }
+fault_read (EqualSlopes i) = record { shape = placed (codes "EqualSlopes") i; word = none_by 32 (codes "EqualSlopes") refl; short = one_short i; back = one_back EqualSlopes i }
+fault_read (RiseOffUpper i) = record { shape = placed (codes "RiseOffUpper") i; word = none_by 32 (codes "RiseOffUpper") refl; short = one_short i; back = one_back RiseOffUpper i }
+fault_read (FallOffLower i) = record { shape = placed (codes "FallOffLower") i; word = none_by 32 (codes "FallOffLower") refl; short = one_short i; back = one_back FallOffLower i }
+
+text_read : (fault : CertFault) → IsShortFault fault → fault_of (split 32 (cert_fault_text fault)) ≡ fault
+text_read fault short =
+    let own = fault_read fault in
+    ap (λ (t : List ℕ). fault_of (split 32 t)) own.shape
+    ∙ ap fault_of (split_words (fault_name fault) (numbers_after fault) own.word (own.short short)) ∙ own.back (own.short short)
+
+pub fault_told : (fault fault' : CertFault) → IsShortFault fault → IsShortFault fault' → refused_line fault ≡ refused_line fault' → fault ≡ fault'
+fault_told fault fault' short short' e =
+    let texts : cert_fault_text fault ≡ cert_fault_text fault' =
+    append_cancel_left (codes "refused ") (cert_fault_text fault) (cert_fault_text fault')
+    (append_cancel_right (codes "refused " ++ cert_fault_text fault) (codes "refused " ++ cert_fault_text fault') (codes "\n") e) in
+    sym (text_read fault short) ∙ ap (λ (t : List ℕ). fault_of (split 32 t)) texts ∙ text_read fault' short'
+
+pub not_least : (fault : CertFault) → refused_line fault ≢ codes "least\n"
+not_least fault e = let first : 114 ≡ 108 = ap (λ (l : List ℕ). get_or l 0 0) e in omega (arith, first)
+
+-- ---- a server
+-- all but the last line, and the last line without its end
+record HasLastLine (entries : List Entry) (connections : ℕ) : Type 0 where
+  front : List ℕ
+  shape : served_text entries connections ≡ (front ++ 10 ∷ (codes "served connections=" ++ (decimal connections ++ 32 ∷ (codes "entries=" ++ decimal (length entries))))) ++ codes "\n"
+
+last_line_of : (entries : List Entry) (connections : ℕ) → HasLastLine entries connections
+last_line_of entries connections =
+    let slots = flat_map (slot_line (booked_in (state_after entries))) (booked_slots (state_after entries).now (booked_in (state_after entries))) in
+    record {
+      front = journal_lines 0 entries ++ (first_words (state_after entries).now ++ (codes "\n" ++ (slots ++ codes "end")));
+      shape = simp append_assoc;
+    }
+
+last_clean : (connections entries : ℕ) → connections < 2 ^ 64 → entries < 2 ^ 64 →
+    All (λ b. b ≢ 10) (codes "served connections=" ++ (decimal connections ++ 32 ∷ (codes "entries=" ++ decimal entries)))
+last_clean connections entries small small' =
+    let digits : (n : ℕ) → n < 2 ^ 64 → HasNo 10 (decimal n) = λ (n : ℕ) few. not_in_decimal 10 n few (λ within. omega (arith, within.0)) in
+    All-append (λ b. b ≢ 10) (codes "served connections=") (decimal connections ++ 32 ∷ (codes "entries=" ++ decimal entries)) (none_by 10 (codes "served connections=") refl)
+    (All-append (λ b. b ≢ 10) (decimal connections) (32 ∷ (codes "entries=" ++ decimal entries)) (digits connections small)
+    (All-append (λ b. b ≢ 10) (codes " entries=") (decimal entries) (none_by 10 (codes " entries=") refl) (digits entries small')))
+
+pub counts_told : (entries entries' : List Entry) (connections connections' : ℕ) → connections < 2 ^ 64 → connections' < 2 ^ 64 → length entries < 2 ^ 64 → length entries' < 2 ^ 64 →
+    served_text entries connections ≡ served_text entries' connections' → (connections ≡ connections') × (length entries ≡ length entries')
+counts_told entries entries' connections connections' c c' n n' e =
+    let one = last_line_of entries connections in
+    let other = last_line_of entries' connections' in
+    let line = codes "served connections=" ++ (decimal connections ++ 32 ∷ (codes "entries=" ++ decimal (length entries))) in
+    let line' = codes "served connections=" ++ (decimal connections' ++ 32 ∷ (codes "entries=" ++ decimal (length entries'))) in
+    let whole = append_cancel_right (one.front ++ 10 ∷ line) (other.front ++ 10 ∷ line') (codes "\n") (sym one.shape ∙ e ∙ other.shape) in
+    let last = last_cut 10 one.front other.front line line' whole (last_clean connections (length entries) c n) (last_clean connections' (length entries') c' n') in
+    let first = field_cut (codes "entries=") connections connections' (decimal (length entries)) (decimal (length entries')) c c' (append_cancel_left (codes "served connections=") _ _ last) in
+    (first.number, decimal_injective (length entries) (length entries') n n' first.rest)

@@ -1,0 +1,10 @@
+use Rattle.vodserve.proofs.TextReading.{counts_told}
+use Rattle.vodserve.proofs.text_laws.law_served_tells_counts.Goals as goal
+
+pub returns-clause-connections : goal.returns-clause-connections
+returns-clause-connections c = λ entries entries' connections connections' few few' short short' same.
+    (counts_told entries entries' connections connections' few few' short short' same).0
+
+pub returns-clause-entries : goal.returns-clause-entries
+returns-clause-entries c = λ entries entries' connections connections' few few' short short' same.
+    (counts_told entries entries' connections connections' few few' short short' same).1

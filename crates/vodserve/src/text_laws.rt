@@ -1,0 +1,42 @@
+//! What a reader of the output can tell from it: laws over the texts that are printed.
+
+ghost use Rattle.std.specs.Prelude.{◌≡◌, ◌≢◌, ◌<◌, ◌^◌, ℕ, List, All, codes, length};
+ghost use Rattle.mpeg_scan.specs.declared.units.Unit.{Unit};
+ghost use Rattle.cert_check.specs.declared.CertFault.{CertFault};
+ghost use Rattle.admission.specs.declared.entries.Entry.{Entry};
+ghost use Rattle.vodserve.specs.ScanText.{scan_text};
+ghost use Rattle.vodserve.specs.Served.{served_text};
+ghost use Rattle.vodserve.specs.TextLaws.{IsSameScan, IsShortFault, IsShortUnit, refused_line};
+
+/// A law: the text of a scan tells the film's size, its rate code and its units, one for each line
+/// between the first and the last: scans with the same text tell the same of each.
+pub fn law_scan_tells_units()
+    ensures { (bytes bytes' rate rate' : ℕ) (units units' : List Unit) → bytes < 2 ^ 64 →
+        bytes' < 2 ^ 64 → rate < 2 ^ 64 → rate' < 2 ^ 64 → length units < 2 ^ 64 →
+        length units' < 2 ^ 64 → All IsShortUnit units → All IsShortUnit units' →
+        scan_text bytes rate units ≡ scan_text bytes' rate' units' →
+        IsSameScan bytes bytes' rate rate' units units' }
+{}
+
+/// A law: the line of a refused certificate tells its fault, with its number, and is another than
+/// that of the best plan.
+pub fn law_verdict_tells_fault()
+    ensures tells { (fault fault' : CertFault) → IsShortFault fault → IsShortFault fault' →
+        refused_line fault ≡ refused_line fault' → fault ≡ fault' }
+    ensures not_least { (fault : CertFault) → refused_line fault ≢ codes "least\n" }
+{}
+
+/// A law: the text of a server tells, in its last line, how many connections were served and how
+/// many entries its journal has.
+pub fn law_served_tells_counts()
+    ensures connections { (entries entries' : List Entry) (connections connections' : ℕ) →
+        connections < 2 ^ 64 → connections' < 2 ^ 64 → length entries < 2 ^ 64 →
+        length entries' < 2 ^ 64 →
+        served_text entries connections ≡ served_text entries' connections' →
+        connections ≡ connections' }
+    ensures entries { (entries entries' : List Entry) (connections connections' : ℕ) →
+        connections < 2 ^ 64 → connections' < 2 ^ 64 → length entries < 2 ^ 64 →
+        length entries' < 2 ^ 64 →
+        served_text entries connections ≡ served_text entries' connections' →
+        length entries ≡ length entries' }
+{}
