@@ -52,6 +52,7 @@ served_agrees visit old new served seat =
         runs = course.runs;
         last = served.ended.stage;
         ends = course.ends;
+        few = course.few;
         closed = served.closed;
         closes = served.closes.closes;
         report_is = served.report_is;

@@ -16,13 +16,13 @@ use Rattle.session.specs.Sendings.{is_between, is_sending}
 use Rattle.session.specs.Standings.{Standing}
 use Rattle.session.specs.Steps.{settled}
 use Rattle.conn.specs.Turns.{Outcome, Part, Text}
-use Rattle.conn.proofs.Filming.{sent_through, slot_is}
+use Rattle.conn.proofs.Filming.{sent_through, slot_is, stopped_is}
 use Rattle.transcript.specs.Places.{AreSentAt, IsSentAt}
 use Rattle.transcript.specs.Plays.{Asking, Asks, FilmPlay, admitted, begun, due_by as all_due, due_of, kept_by, kept_in, kept_with, plays_of}
 use Rattle.transcript.specs.Replies.{placed_text, placed_texts}
 use Rattle.transcript.proofs.Films.{IsOnTime, IsSound, play_with, through_time}
 use Rattle.transcript.proofs.Places.{AreLater, StandAt, from_lower, later_lower, none_due, over_at, text_at}
-use Rattle.transcript.proofs.Slots.{ended_at, ending_cases, going_cases, parts_of, stands_here, state_after, stopped_is, waits_after}
+use Rattle.transcript.proofs.Slots.{ended_at, ending_cases, going_cases, parts_of, stands_here, state_after, waits_after}
 use Rattle.transcript.proofs.Turning.{Begins, Ends, Ending, Going, Halts, Idle, IsStill, Sends, Starts, Stays, TurnsAs, pacing_for, sends_in}
 use Rattle.transcript.proofs.Waits.{Fits, GoesTo, IsHeld, Stand, after_slot, at_here, due_far, due_going, due_here, goes_same, held_here, parts_in, slot_at, still_held}
 

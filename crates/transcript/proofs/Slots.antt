@@ -4,7 +4,7 @@ use Rattle.std.proofs.lemmas.Bool.{eqb-true, true≢false}
 use Rattle.std.proofs.lemmas.List.{append-nil}
 use Rattle.film_frames.specs.Tracks.{IsBoundary, framed}
 use Rattle.pacer.specs.Pacings.{IsPacing, Pacing, due_by, next_boundary, plan_bytes, raised, slots_by, stands_at_boundary, step_end, stepped}
-use Rattle.pacer.proofs.PacingLemmas.{boundary-from, due-of-both}
+use Rattle.pacer.proofs.PacingLemmas.{boundary-from}
 use Rattle.session.specs.declared.states.Play.{Play as Played}
 use Rattle.session.specs.declared.states.Stop.{Stop}
 use Rattle.session.specs.declared.states.Setup.{Setup}
@@ -13,7 +13,7 @@ use Rattle.session.specs.declared.states.State.TheVariants.{Init, Ready, Playing
 use Rattle.session.specs.Sendings.{is_between, is_sending, step_bytes, stepped_in}
 use Rattle.session.specs.Steps.{settled}
 use Rattle.conn.specs.Turns.{Part, Film, Text, film_bytes}
-use Rattle.conn.proofs.Filming.{sent_through, slot_bytes, slot_is}
+use Rattle.conn.proofs.Filming.{sent_through, slot_bytes, slot_is, stopped_is}
 use Rattle.transcript.specs.Plays.{plays_of}
 use Rattle.transcript.proofs.Films.{IsAtLast, IsOnTime, IsSound, film_over, through_film, through_time}
 use Rattle.transcript.proofs.Steps.{GoesOn}
@@ -128,18 +128,6 @@ going_on p heard slot waits sound later = record {
   sound = (through_time p heard slot sound.0 later, sound.1);
   later = omega (arith, later);
   rest = λ askings end more on is. through_film p slot end _ (plays_of askings) more sound.0.pacing is;
-}
-
-pub stopped_is : (slot : ℕ) (p : Pacing) → IsPacing p → IsPacing (stepped true slot p)
-stopped_is slot p is = record {
-  plan = is.plan;
-  whole = is.whole;
-  short = is.short;
-  begins = is.begins;
-  ends = is.ends;
-  most = is.most;
-  due = due-of-both p.plan p.passed (slots_by p slot) p.keep p.due is.due;
-  sent = omega arith;
 }
 
 -- the rest of a halted play goes on, or is over

@@ -8,13 +8,13 @@ use Rattle.pacer.specs.Pacings.{IsPacing, Pacing, due_by, first_slots, next_boun
 use Rattle.pacer.proofs.PacingLemmas.{boundary-from, boundary-is, first-slots-rise}
 use Rattle.plan_cert.specs.Slots.{total_bytes}
 use Rattle.conn.specs.Turns.{Part, Film, Text}
-use Rattle.conn.proofs.Filming.{few_slots, sent_through, slot_is}
+use Rattle.conn.proofs.Filming.{few_slots, sent_through, slot_is, stopped_is}
 use Rattle.transcript.specs.Places.{AreSentAt}
 use Rattle.transcript.specs.Plays.{Asking, FilmPlay, due_of, kept_in, plays_of}
 use Rattle.transcript.specs.Replies.{placed_texts}
 use Rattle.transcript.proofs.Films.{IsOnTime, play_with, through_time}
 use Rattle.transcript.proofs.Places.{AreFrom, AreLater, IsAtNext, StandAt, film_at, later_lower, text_at, with_pending}
-use Rattle.transcript.proofs.Slots.{stands_here, stopped_is}
+use Rattle.transcript.proofs.Slots.{stands_here}
 use Rattle.transcript.proofs.Turning.{Ending, Going, Idle, Sends}
 
 -- what was sent and what is sent from here on, with the slots in which the requests were taken up whose replies come

@@ -1,12 +1,12 @@
 -- When what a link told and a report go with a journal.
-use Rattle.std.specs.Prelude.{◌≡◌, ℕ, List, [], ◌∷◌, ◌++◌, length}
+use Rattle.std.specs.Prelude.{◌≡◌, ℕ, ◌+◌, ◌≤◌, ◌^◌, List, [], ◌∷◌, ◌++◌, length}
 use Rattle.vod_base.specs.Links.{Doing}
 use Rattle.film_frames.specs.declared.stores.Stored.{Stored}
 use Rattle.admission.specs.declared.entries.Entry.{Entry}
 use Rattle.admission.specs.Histories.{IsLegal}
 use Rattle.session.specs.declared.settings.Settings.{Settings}
 use Rattle.session.specs.Standings.{Standing, open_of}
-use Rattle.conn.specs.Rounds.{Ending, Ends, Round, RunsAll, ending_doings, ending_outcomes, rounds_doings, rounds_outcomes}
+use Rattle.conn.specs.Rounds.{Ending, Ends, Round, RunsAll, ending_doings, ending_events, ending_outcomes, rounds_doings, rounds_outcomes}
 use Rattle.conn.specs.Journals.{AgreeWith, Terms}
 use Rattle.conn.specs.Served.{IsToldOf}
 use Rattle.conn.specs.Turns.{IsClosed, Outcome, Stage}
@@ -35,6 +35,7 @@ pub record HasDone (films : List Stored) (settings : Settings) (words : List ℕ
   pub runs : RunsAll (first_stage films settings words) doings.rounds mid
   pub last : Stage
   pub ends : Ends mid (length doings.rounds) doings.ending report.end last
+  pub few : length doings.rounds + length (ending_events doings.ending) ≤ 2 ^ 40
   pub closed : Standing
   pub closes : IsClosed (open_of last.session) last.session doings.halt closed
   pub report_is : IsToldOf closed report

@@ -5,3 +5,8 @@ pub mod Replies
 pub mod Cuttings
 pub mod Places
 pub mod Requests
+pub mod Carried
+pub mod Played
+pub mod Replied
+pub mod Notes
+pub mod Failures

@@ -1,7 +1,7 @@
-ghost use Rattle.std.specs.Prelude.{◌≡◌, ◌++◌, ◌∷◌, [], ℕ, List, Some, map};
+ghost use Rattle.std.specs.Prelude.{◌≡◌, ◌+◌, ◌++◌, ◌∷◌, [], ℕ, List, Some, map};
 ghost use mathlib.Core.List.{IsPrefix};
 ghost use Rattle.vod_base.specs.Gates.{Returned};
-ghost use Rattle.vod_base.specs.Links.{Doing};
+ghost use Rattle.vod_base.specs.Links.{Doing, HeardSlot};
 ghost use Rattle.film_frames.specs.declared.stores.Stored.{Stored};
 ghost use Rattle.admission.specs.declared.entries.Entry.{Entry};
 ghost use Rattle.admission.specs.Histories.{IsLegal};
@@ -11,15 +11,17 @@ ghost use Rattle.session.specs.declared.settings.Settings.{Settings};
 ghost use Rattle.conn.specs.Films.{rounds_film};
 ghost use Rattle.conn.specs.Journals.{Terms, terms_of};
 ghost use Rattle.conn.specs.Parts.{HasServedOne};
-ghost use Rattle.conn.specs.Rounds.{IsStopped, Round, Runs, RunsAll, entries_in, rounds_outcomes};
-ghost use Rattle.conn.specs.Turns.{Outcome, Stage};
+ghost use Rattle.conn.specs.Rounds.{EndsInReply, HasFailedInSlot, IsStopped, Round, Runs, RunsAll, entries_in, round_bytes, rounds_outcomes};
+ghost use Rattle.conn.specs.Turns.{Answered, Outcome, Stage, reply_parts};
 ghost use Rattle.conn.specs.declared.reports.ConnEnd.{ConnEnd};
 ghost use Rattle.conn.specs.declared.reports.ConnEnd.TheVariants.{NoMemory};
 ghost use Rattle.conn.specs.declared.reports.ConnReport.{ConnReport};
-ghost use Rattle.transcript.specs.Agreement.{Agrees, Visit};
+ghost use Rattle.transcript.specs.Agreement.{Agrees, Doings, HasDone, Visit, doings_outcomes};
 ghost use Rattle.transcript.specs.Courses.{Course, Follows, IsParted, course_film, course_plays};
-ghost use Rattle.transcript.specs.Courses.{greatest_slot, rounds_bytes};
+ghost use Rattle.transcript.specs.Courses.{first_stage, greatest_slot, rounds_bytes};
 ghost use Rattle.transcript.specs.Cuttings.{AllLackAlike, AreFronts, AreSameAnswers, Beginning, Cutting, HearAlike, Hearing, SendAlike, TakesUp};
+ghost use Rattle.transcript.specs.Failures.{IsCutShort};
+ghost use Rattle.transcript.specs.Notes.{ending_missed, notes_of, outcome_of, rounds_missed, turns_of};
 ghost use Rattle.transcript.specs.Places.{AreSentAt, slots_from};
 ghost use Rattle.transcript.specs.Plays.{AreOver, booked_plays, booking_of};
 ghost use Rattle.transcript.specs.Requests.{AreTaken};
@@ -99,6 +101,46 @@ pub fn law_two_cuttings()
         → AreSameAnswers (one ++ more) (other ++ further) → AreSameAnswers one other }
     ensures memory { (one more other further : List Hearing)
         → AllLackAlike (one ++ more) (other ++ further) → AllLackAlike one other }
+{}
+
+/// Where a send fails, all is sent that the course sent up to there, and a front of what it sends
+/// after the last event: where that was a slot, with no request taken up after it; and where it was
+/// the reply to a request, with those alone that were taken up before.
+pub fn law_sent_at_failure()
+    ensures slot { (course : Course) (slot : ℕ) (front : List ℕ) (new : Stage)
+        → HasFailedInSlot course.last slot front new
+        → IsCutShort course (HeardSlot slot) [] (rounds_bytes course.rounds ++ front) }
+    ensures reply { (course : Course) (round : Round) (message : List ℕ) (outcome : Outcome)
+        (front : List ℕ) (new : Stage)
+        → (ends : EndsInReply course.last round message outcome front new)
+        → IsCutShort course round.event
+        (round.takings ++ Answered message outcome (reply_parts ends.fails.answered) ∷ [])
+        (rounds_bytes course.rounds ++ (round_bytes round ++ front)) }
+{}
+
+/// A report's notes of plays are, place by place, those of the plays that the connection's entries
+/// admitted: with the plan and the start of the entry, what the play's halt keeps, and the run that
+/// was asked for as the session was set up then.
+pub fn law_plays_noted()
+    ensures notes { (films : List Stored) (settings : Settings) (words : List ℕ)
+        (doings : Doings) (report : ConnReport)
+        → (done : HasDone films settings words doings report)
+        → report.plays.items ≡ notes_of (turns_of films settings words doings report done) }
+    ensures turns { (films : List Stored) (settings : Settings) (words : List ℕ)
+        (doings : Doings) (report : ConnReport)
+        → (done : HasDone films settings words doings report)
+        → map outcome_of (turns_of films settings words doings report done)
+        ≡ doings_outcomes doings }
+{}
+
+/// A report's missed slots are those that were not heard while a play, or its rest, was being sent:
+/// at each slot that was heard then, the slots before it that are later than the last one heard,
+/// from the play's first one on.
+pub fn law_missed_told()
+    ensures { (films : List Stored) (settings : Settings) (words : List ℕ) (doings : Doings)
+        (report : ConnReport) → (done : HasDone films settings words doings report)
+        → report.late ≡ rounds_missed (first_stage films settings words) doings.rounds done.mid
+        done.runs + ending_missed done.mid.session doings.ending }
 {}
 
 /// What a connection's link told and its report agree with the journal that its seat has seen then,

@@ -1,1 +1,1 @@
-pub mod TwoFilms
+pub mod ServerFilms

@@ -17,18 +17,76 @@ use std::sync::Wait;
 use std::test::Fail;
 use vod_base::NoMemory;
 
+/// Lines that stand for others: a session set up for `b.mpg` with a start delay of two slots and
+/// its play from the first picture, the replies to these requests, and the film's report and
+/// pictures.
+const PHRASES: [(&str, &str); 5] = [
+    (
+        "asks SETUP and PLAY",
+        "hears SETUP rtsp://h/b.mpg RTSP/1.0|CSeq: 1|\
+        Transport: RTP/AVP/TCP;unicast;interleaved=0-1|x-Startup: 2||\n\
+        hears PLAY rtsp://h/b.mpg RTSP/1.0|CSeq: 2|Session: 0123456789abcdef||",
+    ),
+    (
+        "answers SETUP and PLAY",
+        "says RTSP/1.0 200 OK|CSeq: 1|Transport: RTP/AVP/TCP;unicast;interleaved=0-1;ssrc=01020304|\
+        Session: 0123456789abcdef||\n\
+        says RTSP/1.0 200 OK|CSeq: 2|Session: 0123456789abcdef|Range: npt=0.000-0.080|\
+        RTP-Info: url=rtsp://h/b.mpg/video;seq=1;rtptime=0|x-Start: 1||",
+    ),
+    (
+        "sends the report",
+        "sends 24010030 80c80006 01020304 00000000 00000000 00000000 00000000 00000000 \
+        81ca0004 01020304 0108766f 64736572 76650000",
+    ),
+    (
+        "sends the first picture",
+        "sends 24000032 80a00001 00000000 01020304 00003900 000001b316012013ffffe0a0 \
+        000001b800080040 00000100000ffff8 000001011234",
+    ),
+    (
+        "sends the second picture",
+        "sends 2400001f 80a00002 00000e10 01020304 00011a01 000001000057fff880 000001011234",
+    ),
+];
+
+/// What a line stands for.
+fn phrase_of(line: &'static str) -> &'static str {
+    for (short, long) in PHRASES {
+        if line == short {
+            return long;
+        }
+    }
+    line
+}
+
+/// A script with all its lines in full.
+fn in_full(alloc: Global, script: &'static str) -> Result<String, NoMemory> {
+    let mut text = String::new(alloc);
+    for (place, line) in script.lines().enumerate() {
+        if 0 < place {
+            text.push('\n')?;
+        }
+        text.push_str(phrase_of(line))?;
+    }
+    Ok(text)
+}
+
 /// Serves the scenes of a script.
-fn serve_script<R: Wait + Abort>(rt: &R, alloc: Global, script: &str) -> Result<(), NoMemory> {
+fn serve_script<R: Wait + Abort>(
+    rt: &R,
+    alloc: Global,
+    script: &'static str,
+) -> Result<(), NoMemory> {
     let films = server_films(rt, alloc)?;
-    serve_all(rt, alloc, &films, script)
+    serve_all(rt, alloc, &films, &in_full(alloc, script)?)
 }
 
 /// Plays of the film of two pictures.
 const PLAYS: &str = "\
 50000 1024
 # a pause within the report: its reply stands after the report's last byte
-hears SETUP rtsp://h/b.mpg RTSP/1.0|CSeq: 1|Transport: RTP/AVP/TCP;unicast;interleaved=0-1|x-Startup: 2||
-hears PLAY rtsp://h/b.mpg RTSP/1.0|CSeq: 2|Session: 0123456789abcdef||
+asks SETUP and PLAY
 slot 1
 hears PAUSE rtsp://h/b.mpg RTSP/1.0|CSeq: 3|Session: 0123456789abcdef||
 slot 2
@@ -36,11 +94,11 @@ slot 3
 hears PLAY rtsp://h/b.mpg RTSP/1.0|CSeq: 4|Session: 0123456789abcdef||
 slot 4
 serve
-says RTSP/1.0 200 OK|CSeq: 1|Transport: RTP/AVP/TCP;unicast;interleaved=0-1;ssrc=01020304|Session: 0123456789abcdef||
-says RTSP/1.0 200 OK|CSeq: 2|Session: 0123456789abcdef|Range: npt=0.000-0.080|RTP-Info: url=rtsp://h/b.mpg/video;seq=1;rtptime=0|x-Start: 1||
-sends 24010030 80c80006 01020304 00000000 00000000 00000000 00000000 00000000 81ca0004 01020304 0108766f 64736572 76650000
+answers SETUP and PLAY
+sends the report
 says RTSP/1.0 200 OK|CSeq: 3|Session: 0123456789abcdef||
-says RTSP/1.0 200 OK|CSeq: 4|Session: 0123456789abcdef|Range: npt=0.000-0.080|RTP-Info: url=rtsp://h/b.mpg/video;seq=1;rtptime=0|x-Start: 1||
+says RTSP/1.0 200 OK|CSeq: 4|Session: 0123456789abcdef|Range: npt=0.000-0.080|RTP-Info: \
+url=rtsp://h/b.mpg/video;seq=1;rtptime=0|x-Start: 1||
 sends 24000032 80a00001 00000000 01020304 00003900 0000
 ends Ended 0
 journal
@@ -54,29 +112,28 @@ end
 
 36 1024
 # the last room: the one plays, the other reads where there is none, and gets no offer
-hears SETUP rtsp://h/b.mpg RTSP/1.0|CSeq: 1|Transport: RTP/AVP/TCP;unicast;interleaved=0-1|x-Startup: 2||
-hears PLAY rtsp://h/b.mpg RTSP/1.0|CSeq: 2|Session: 0123456789abcdef||
+asks SETUP and PLAY
 slot 1
 slot 2
 slot 3
 slot 4
 serve
-says RTSP/1.0 200 OK|CSeq: 1|Transport: RTP/AVP/TCP;unicast;interleaved=0-1;ssrc=01020304|Session: 0123456789abcdef||
-says RTSP/1.0 200 OK|CSeq: 2|Session: 0123456789abcdef|Range: npt=0.000-0.080|RTP-Info: url=rtsp://h/b.mpg/video;seq=1;rtptime=0|x-Start: 1||
-sends 24010030 80c80006 01020304 00000000 00000000 00000000 00000000 00000000 81ca0004 01020304 0108766f 64736572 76650000
-sends 24000032 80a00001 00000000 01020304 00003900 000001b316012013ffffe0a0 000001b800080040 00000100000ffff8 000001011234
-sends 2400001f 80a00002 00000e10 01020304 00011a01 000001000057fff880 000001011234
+answers SETUP and PLAY
+sends the report
+sends the first picture
+sends the second picture
 ends Ended 0
-hears SETUP rtsp://h/b.mpg RTSP/1.0|CSeq: 1|Transport: RTP/AVP/TCP;unicast;interleaved=0-1|x-Startup: 2||
-hears PLAY rtsp://h/b.mpg RTSP/1.0|CSeq: 2|Session: 0123456789abcdef||
+asks SETUP and PLAY
 hears GET_PARAMETER rtsp://h/b.mpg RTSP/1.0|CSeq: 3|x-Wait: 0|Content-Length: 7||x-Offer
 hears GET_PARAMETER rtsp://h/b.mpg RTSP/1.0|CSeq: 4|x-Wait: 256|Content-Length: 7||x-Offer
 slot 1
 slot 2
 serve
-says RTSP/1.0 200 OK|CSeq: 1|Transport: RTP/AVP/TCP;unicast;interleaved=0-1;ssrc=01020304|Session: 0123456789abcdef||
+says RTSP/1.0 200 OK|CSeq: 1|Transport: RTP/AVP/TCP;unicast;interleaved=0-1;ssrc=01020304|\
+Session: 0123456789abcdef||
 says RTSP/1.0 453 Not Enough Bandwidth|CSeq: 2|x-Slot: 1|x-Booked: 35|x-Asked: 35||
-says RTSP/1.0 200 OK|CSeq: 3|Content-Type: text/parameters|Content-Length: 34||x-Start: none|x-Over: 1 1 35 35|
+says RTSP/1.0 200 OK|CSeq: 3|Content-Type: text/parameters|Content-Length: 34||x-Start: none|\
+x-Over: 1 1 35 35|
 says RTSP/1.0 451 Parameter Not Understood|CSeq: 4||
 ends Ended 0
 journal
@@ -92,30 +149,26 @@ end
 
 50000 1024
 # slots 3 and 4 are missed
-hears SETUP rtsp://h/b.mpg RTSP/1.0|CSeq: 1|Transport: RTP/AVP/TCP;unicast;interleaved=0-1|x-Startup: 2||
-hears PLAY rtsp://h/b.mpg RTSP/1.0|CSeq: 2|Session: 0123456789abcdef||
+asks SETUP and PLAY
 slot 1
 slot 2
 slot 5
 serve
-says RTSP/1.0 200 OK|CSeq: 1|Transport: RTP/AVP/TCP;unicast;interleaved=0-1;ssrc=01020304|Session: 0123456789abcdef||
-says RTSP/1.0 200 OK|CSeq: 2|Session: 0123456789abcdef|Range: npt=0.000-0.080|RTP-Info: url=rtsp://h/b.mpg/video;seq=1;rtptime=0|x-Start: 1||
-sends 24010030 80c80006 01020304 00000000 00000000 00000000 00000000 00000000 81ca0004 01020304 0108766f 64736572 76650000
-sends 24000032 80a00001 00000000 01020304 00003900 000001b316012013ffffe0a0 000001b800080040 00000100000ffff8 000001011234
-sends 2400001f 80a00002 00000e10 01020304 00011a01 000001000057fff880 000001011234
+answers SETUP and PLAY
+sends the report
+sends the first picture
+sends the second picture
 ends Ended 2
 # slots 2 to 5 are missed: the play is done, and there is nothing to pause
-hears SETUP rtsp://h/b.mpg RTSP/1.0|CSeq: 1|Transport: RTP/AVP/TCP;unicast;interleaved=0-1|x-Startup: 2||
-hears PLAY rtsp://h/b.mpg RTSP/1.0|CSeq: 2|Session: 0123456789abcdef||
+asks SETUP and PLAY
 slot 1
 slot 6
 hears PAUSE rtsp://h/b.mpg RTSP/1.0|CSeq: 3|Session: 0123456789abcdef||
 serve
-says RTSP/1.0 200 OK|CSeq: 1|Transport: RTP/AVP/TCP;unicast;interleaved=0-1;ssrc=01020304|Session: 0123456789abcdef||
-says RTSP/1.0 200 OK|CSeq: 2|Session: 0123456789abcdef|Range: npt=0.000-0.080|RTP-Info: url=rtsp://h/b.mpg/video;seq=1;rtptime=0|x-Start: 1||
-sends 24010030 80c80006 01020304 00000000 00000000 00000000 00000000 00000000 81ca0004 01020304 0108766f 64736572 76650000
-sends 24000032 80a00001 00000000 01020304 00003900 000001b316012013ffffe0a0 000001b800080040 00000100000ffff8 000001011234
-sends 2400001f 80a00002 00000e10 01020304 00011a01 000001000057fff880 000001011234
+answers SETUP and PLAY
+sends the report
+sends the first picture
+sends the second picture
 says RTSP/1.0 455 Method Not Valid In This State|CSeq: 3||
 ends Ended 4
 journal
@@ -132,18 +185,17 @@ end
 
 50000 1024
 # a look within the report: its reply stands after the report
-hears SETUP rtsp://h/b.mpg RTSP/1.0|CSeq: 1|Transport: RTP/AVP/TCP;unicast;interleaved=0-1|x-Startup: 2||
-hears PLAY rtsp://h/b.mpg RTSP/1.0|CSeq: 2|Session: 0123456789abcdef||
+asks SETUP and PLAY
 slot 1
 hears GET_PARAMETER rtsp://h/b.mpg RTSP/1.0|CSeq: 3|Content-Length: 8||x-Booked
 slot 2
 slot 3
 serve
-says RTSP/1.0 200 OK|CSeq: 1|Transport: RTP/AVP/TCP;unicast;interleaved=0-1;ssrc=01020304|Session: 0123456789abcdef||
-says RTSP/1.0 200 OK|CSeq: 2|Session: 0123456789abcdef|Range: npt=0.000-0.080|RTP-Info: url=rtsp://h/b.mpg/video;seq=1;rtptime=0|x-Start: 1||
-sends 24010030 80c80006 01020304 00000000 00000000 00000000 00000000 00000000 81ca0004 01020304 0108766f 64736572 76650000
-says RTSP/1.0 200 OK|CSeq: 3|Content-Type: text/parameters|Content-Length: 35||x-Now: 0|x-Slot: 1|x-Booked: 35|
-sends 24000032 80a00001 00000000 01020304 00003900 000001b316012013ffffe0a0 000001b800080040 00000100000ffff8 000001011234
+answers SETUP and PLAY
+sends the report
+says RTSP/1.0 200 OK|CSeq: 3|Content-Type: text/parameters|Content-Length: 35||x-Now: 0|x-Slot: 1|\
+x-Booked: 35|
+sends the first picture
 ends Ended 0
 journal
 0 seat=0 play slot=0 slots=4 bytes=141 admitted start=1
@@ -174,8 +226,7 @@ end
 
 50000 1024
 # requests that wait for the report's end fill the room for input
-hears SETUP rtsp://h/b.mpg RTSP/1.0|CSeq: 1|Transport: RTP/AVP/TCP;unicast;interleaved=0-1|x-Startup: 2||
-hears PLAY rtsp://h/b.mpg RTSP/1.0|CSeq: 2|Session: 0123456789abcdef||
+asks SETUP and PLAY
 slot 1
 hears GET_PARAMETER rtsp://h/b.mpg RTSP/1.0|CSeq: 3||
 hears GET_PARAMETER rtsp://h/b.mpg RTSP/1.0|CSeq: 4|Content-Length: 65536||
@@ -184,8 +235,7 @@ hears GET_PARAMETER rtsp://h/b.mpg RTSP/1.0|CSeq: 5|Content-Length: 65536||
 fill 65536
 slot 2
 serve
-says RTSP/1.0 200 OK|CSeq: 1|Transport: RTP/AVP/TCP;unicast;interleaved=0-1;ssrc=01020304|Session: 0123456789abcdef||
-says RTSP/1.0 200 OK|CSeq: 2|Session: 0123456789abcdef|Range: npt=0.000-0.080|RTP-Info: url=rtsp://h/b.mpg/video;seq=1;rtptime=0|x-Start: 1||
+answers SETUP and PLAY
 sends 24010030 80c80006 01020304 00000000 00000000 00000000 00000000 00000000 81ca00
 ends TooMuchInput 0
 journal
@@ -197,13 +247,11 @@ end
 
 50000 1024
 # the third send fails, of the report's first 35 bytes: the booking keeps what is due
-hears SETUP rtsp://h/b.mpg RTSP/1.0|CSeq: 1|Transport: RTP/AVP/TCP;unicast;interleaved=0-1|x-Startup: 2||
-hears PLAY rtsp://h/b.mpg RTSP/1.0|CSeq: 2|Session: 0123456789abcdef||
+asks SETUP and PLAY
 slot 1
 slot 2
 serve 3
-says RTSP/1.0 200 OK|CSeq: 1|Transport: RTP/AVP/TCP;unicast;interleaved=0-1;ssrc=01020304|Session: 0123456789abcdef||
-says RTSP/1.0 200 OK|CSeq: 2|Session: 0123456789abcdef|Range: npt=0.000-0.080|RTP-Info: url=rtsp://h/b.mpg/video;seq=1;rtptime=0|x-Start: 1||
+answers SETUP and PLAY
 ends LinkFault 0
 journal
 0 seat=0 play slot=0 slots=4 bytes=141 admitted start=1
@@ -214,15 +262,14 @@ end
 
 50000 2
 # a journal of two entries has room for a play and its halt; what waits after a TEARDOWN isn't heard
-hears SETUP rtsp://h/b.mpg RTSP/1.0|CSeq: 1|Transport: RTP/AVP/TCP;unicast;interleaved=0-1|x-Startup: 2||
-hears PLAY rtsp://h/b.mpg RTSP/1.0|CSeq: 2|Session: 0123456789abcdef||
+asks SETUP and PLAY
 hears PAUSE rtsp://h/b.mpg RTSP/1.0|CSeq: 3|Session: 0123456789abcdef||
 hears PLAY rtsp://h/b.mpg RTSP/1.0|CSeq: 4|Session: 0123456789abcdef||
 hears GET_PARAMETER rtsp://h/b.mpg RTSP/1.0|CSeq: 5|Content-Length: 8||x-Booked
-hears TEARDOWN rtsp://h/b.mpg RTSP/1.0|CSeq: 6|Session: 0123456789ABCDEF;timeout=60||OPTIONS * RTSP/1.0|CSeq: 7||
+hears TEARDOWN rtsp://h/b.mpg RTSP/1.0|CSeq: 6|Session: 0123456789ABCDEF;timeout=60||OPTIONS * \
+RTSP/1.0|CSeq: 7||
 serve
-says RTSP/1.0 200 OK|CSeq: 1|Transport: RTP/AVP/TCP;unicast;interleaved=0-1;ssrc=01020304|Session: 0123456789abcdef||
-says RTSP/1.0 200 OK|CSeq: 2|Session: 0123456789abcdef|Range: npt=0.000-0.080|RTP-Info: url=rtsp://h/b.mpg/video;seq=1;rtptime=0|x-Start: 1||
+answers SETUP and PLAY
 says RTSP/1.0 200 OK|CSeq: 3|Session: 0123456789abcdef||
 says RTSP/1.0 503 Service Unavailable|CSeq: 4|x-Entries: 2|x-Open: 0||
 says RTSP/1.0 503 Service Unavailable|CSeq: 5|x-Entries: 2|x-Open: 0||
@@ -238,9 +285,12 @@ end";
 const NEWS: &str = "\
 50000 1024
 hears OPTIONS * RTSP/1.0|CSeq: 1||DESCRIBE rtsp://127.0.0.1:8554/news.mpg RTSP/1.0|CSeq: 2||
-hears SETUP rtsp://127.0.0.1:8554/news.mpg/video RTSP/1.0|CSeq: 3|Transport: RTP/AVP;unicast;client_port=5000-5001||
-hears SETUP rtsp://127.0.0.1:8554/news.mpg/video RTSP/1.0|CSeq: 4|Transport: RTP/AVP/TCP;unicast;interleaved=0-1||
-hears PLAY rtsp://127.0.0.1:8554/news.mpg RTSP/1.0|CSeq: 5|Session: 0123456789abcdef|Range: npt=0.000-||
+hears SETUP rtsp://127.0.0.1:8554/news.mpg/video RTSP/1.0|CSeq: 3|Transport: RTP/AVP;unicast;\
+client_port=5000-5001||
+hears SETUP rtsp://127.0.0.1:8554/news.mpg/video RTSP/1.0|CSeq: 4|Transport: RTP/AVP/TCP;unicast;\
+interleaved=0-1||
+hears PLAY rtsp://127.0.0.1:8554/news.mpg RTSP/1.0|CSeq: 5|Session: 0123456789abcdef|Range: \
+npt=0.000-||
 slots 1 100
 # a receiver report, in two parts
 gets 24 01 0008 80c9
@@ -249,11 +299,15 @@ slots 101 275
 hears GET_PARAMETER rtsp://127.0.0.1:8554/news.mpg RTSP/1.0|CSeq: 6|Session: 0123456789abcdef||
 hears TEARDOWN rtsp://127.0.0.1:8554/news.mpg RTSP/1.0|CSeq: 7|Session: 0123456789abcdef||
 serve
-says RTSP/1.0 200 OK|CSeq: 1|Public: OPTIONS, DESCRIBE, SETUP, PLAY, PAUSE, TEARDOWN, GET_PARAMETER||
-says RTSP/1.0 200 OK|CSeq: 2|Content-Base: rtsp://127.0.0.1:8554/news.mpg/|Content-Type: application/sdp|Content-Length: 142||\
-v=0|o=- 0 0 IN IP4 127.0.0.1|s=news.mpg|c=IN IP4 0.0.0.0|t=0 0|a=control:*|a=range:npt=0-10.000|m=video 0 RTP/AVP 32|a=control:video|
+says RTSP/1.0 200 OK|CSeq: 1|Public: OPTIONS, DESCRIBE, SETUP, PLAY, PAUSE, TEARDOWN, \
+GET_PARAMETER||
+says RTSP/1.0 200 OK|CSeq: 2|Content-Base: rtsp://127.0.0.1:8554/news.mpg/|Content-Type: \
+application/sdp|Content-Length: 142||\
+v=0|o=- 0 0 IN IP4 127.0.0.1|s=news.mpg|c=IN IP4 0.0.0.0|t=0 0|a=control:*|a=range:npt=0-10.000|\
+m=video 0 RTP/AVP 32|a=control:video|
 says RTSP/1.0 461 Unsupported Transport|CSeq: 3||
-says RTSP/1.0 200 OK|CSeq: 4|Transport: RTP/AVP/TCP;unicast;interleaved=0-1;ssrc=01020304|Session: 0123456789abcdef||
+says RTSP/1.0 200 OK|CSeq: 4|Transport: RTP/AVP/TCP;unicast;interleaved=0-1;ssrc=01020304|\
+Session: 0123456789abcdef||
 says RTSP/1.0 200 OK|CSeq: 5|Session: 0123456789abcdef|Range: npt=0.000-10.000|\
 RTP-Info: url=rtsp://127.0.0.1:8554/news.mpg/video;seq=1;rtptime=0|x-Start: 1||
 film
@@ -262,7 +316,8 @@ ends TornDown 0";
 
 /// A play of the film of two pictures in the slots 1, 2 and 5, and its end.
 const FAILS: &str = "\
-hears SETUP rtsp://h/b.mpg RTSP/1.0|CSeq: 1|Transport: RTP/AVP/TCP|x-Startup: 2||PLAY rtsp://h/b.mpg RTSP/1.0|CSeq: 2|Session: 0123456789abcdef||
+hears SETUP rtsp://h/b.mpg RTSP/1.0|CSeq: 1|Transport: RTP/AVP/TCP|x-Startup: 2||PLAY \
+rtsp://h/b.mpg RTSP/1.0|CSeq: 2|Session: 0123456789abcdef||
 slot 1
 slot 2
 slot 5
@@ -351,7 +406,7 @@ fn fail_everywhere<R: Wait + Abort>(rt: &R, alloc: Global) -> Result<(), NoMemor
 }
 
 /// Runs a script. Where memory is refused, that is said by its name, and the script runs once more.
-fn passes<R: Wait + Abort>(rt: &R, alloc: Global, script: &str) -> Result<(), Fail> {
+fn passes<R: Wait + Abort>(rt: &R, alloc: Global, script: &'static str) -> Result<(), Fail> {
     if serve_script(rt, alloc, script).is_err() {
         serve_script(rt, alloc, script)?;
     }

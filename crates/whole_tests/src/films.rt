@@ -25,7 +25,7 @@ fn stored(alloc: Global, name: &str, bytes: Vec<u8>) -> Result<Stored, NoMemory>
 }
 
 /// The server's films: `b.mpg` of two pictures, and `news.mpg` of 250, 10 seconds.
-#[tactic(auto, using(crate::proofs::TwoFilms::two_films))]
+#[tactic(auto, using(crate::proofs::ServerFilms::two_films))]
 pub(crate) fn server_films(rt: &impl Abort, alloc: Global) -> Result<Vec<Stored>, NoMemory>
     ensures { IfOk result (λ films. AreFilms films.items) }
 {
@@ -35,4 +35,19 @@ pub(crate) fn server_films(rt: &impl Abort, alloc: Global) -> Result<Vec<Stored>
     assert!(rt; good_name(long.name.as_bytes()));
     assert!(rt; short.name.len() < long.name.len());
     Ok(Vec::from_array(alloc, [short, long])?)
+}
+
+/// A server's film of so many pictures, 1 to 100,000: `film.mpg`.
+#[tactic(auto, using(crate::proofs::ServerFilms::one_film))]
+pub(crate) fn film_of<R: Abort>(
+    rt: &R,
+    alloc: Global,
+    pictures: u32,
+) -> Result<Vec<Stored>, NoMemory>
+    ensures { IfOk result (λ films. AreFilms films.items) }
+{
+    assert!(rt; 1 <= pictures && pictures <= 100_000);
+    let film = stored(alloc, "film.mpg", make_film(alloc, 1, pictures)?)?;
+    assert!(rt; good_name(film.name.as_bytes()));
+    Ok(Vec::from_array(alloc, [film])?)
 }

@@ -1,5 +1,5 @@
 //! Tests across crates: sessions and connections by scripts of whole requests, replies and frames,
-//! failing links, and long films.
+//! failing links, long films, and a film that is served and watched.
 //!
 //! Each test is a script, as data, that one reader of its kind runs; so a row more costs no proof.
 //! Nothing here is public.
@@ -16,6 +16,10 @@ mod long_films;
 #[cfg(test)]
 mod scripts;
 #[cfg(test)]
+mod session_plays;
+#[cfg(test)]
 mod sessions;
 #[cfg(test)]
 mod talks;
+#[cfg(test)]
+mod watches;

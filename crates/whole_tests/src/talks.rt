@@ -303,9 +303,8 @@ impl<'a> Talk<'a> {
     }
 }
 
-const SETUP: &[u8] =
-    b"SETUP rtsp://h/b.mpg RTSP/1.0\r\nCSeq: 1\r\nTransport: RTP/AVP/TCP;unicast;interleaved=0-1\r\n\
-                       x-Startup: 2\r\n\r\n";
+const SETUP: &[u8] = b"SETUP rtsp://h/b.mpg RTSP/1.0\r\nCSeq: 1\r\n\
+    Transport: RTP/AVP/TCP;unicast;interleaved=0-1\r\nx-Startup: 2\r\n\r\n";
 
 const PLAY: &[u8] = b"PLAY rtsp://h/b.mpg RTSP/1.0\r\nCSeq: 2\r\nSession: 0123456789abcdef\r\n\r\n";
 

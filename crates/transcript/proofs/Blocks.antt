@@ -1,0 +1,143 @@
+-- The blocks of a run, unit by unit: a report before a unit that starts a group, and its frames.
+use Rattle.std.proofs.Common.{◌≡◌, ℕ, ◌+◌, ◌*◌, ◌<◌, Bool, true, false, nat_le, cond, List, [], ◌∷◌, ◌++◌, map, refl, ap, ◌∙◌, arith, inl, inr}
+use Rattle.mpeg_scan.specs.declared.units.Unit.{Unit as PictureUnit}
+use Rattle.mpeg_scan.specs.Rates.{picture_time}
+use Rattle.rtp_pack.specs.declared.payloads.Packet.{Packet}
+use Rattle.rtp_pack.specs.Heads.{bit, head_bytes, packet_head}
+use Rattle.rtp_pack.specs.Packets.{unit_packets}
+use Rattle.rtp_pack.specs.Reports.{report_bytes, unit_report}
+use Rattle.film_frames.specs.Laws.{frames_among}
+use Rattle.film_frames.specs.Pieces.{count_of, octets_of, unit_of, unit_pieces}
+use Rattle.film_frames.specs.Runs.{Run, blocks_from, interleaved, payload, piece_bytes}
+use Rattle.rtsp_client.specs.Answers.{block_moments, moments_of}
+use Rattle.rtsp_client.specs.Moments.{Frame, Report, is_last}
+use Rattle.transcript.proofs.Sums.{AreOneBlocks, blocks-one-append}
+
+-- the pieces of a run: what their units are taken of
+abbrev pub Domain : {A : Type 0} {B : Type 0} → (A → B) → Type 0
+Domain {A} f = A
+
+abbrev pub Part : Type 0
+Part = Domain unit_of
+
+-- the numbers of frames and octets after pieces
+abbrev pub frames_after : ℕ → List Part → ℕ
+frames_after f [] = f
+frames_after f (x ∷ xs) = frames_after (f + count_of x) xs
+
+abbrev pub octets_after : ℕ → List Part → ℕ
+octets_after o [] = o
+octets_after o (x ∷ xs) = octets_after (o + octets_of x) xs
+
+pub blocks-append : (run : Run) (f o : ℕ) (xs ys : List Part)
+    → blocks_from run f o (xs ++ ys) ≡ blocks_from run f o xs ++ blocks_from run (frames_after f xs) (octets_after o xs) ys
+blocks-append run f o [] ys = refl
+blocks-append run f o (x ∷ xs) ys = ap (λ bs. piece_bytes run f o x ∷ bs) (blocks-append run (f + count_of x) (o + octets_of x) xs ys)
+
+-- ---- a unit
+
+abbrev pub frame_block : Run → PictureUnit → Packet → ℕ → List ℕ
+frame_block run unit p f =
+    interleaved run.identity.channel (head_bytes (packet_head run.identity (picture_time run.rate) unit p f) ++ payload run.film p)
+
+abbrev pub report_block : Run → PictureUnit → ℕ → ℕ → List ℕ
+report_block run unit f o = interleaved run.identity.control (report_bytes (unit_report run.identity (picture_time run.rate) unit f o))
+
+abbrev pub frame_blocks : Run → PictureUnit → ℕ → List Packet → List (List ℕ)
+frame_blocks run unit f [] = []
+frame_blocks run unit f (p ∷ packets) = frame_block run unit p f ∷ frame_blocks run unit (f + 1) packets
+
+abbrev pub report_if : Bool → Run → PictureUnit → ℕ → ℕ → List (List ℕ)
+report_if starts run unit f o = cond starts (report_block run unit f o ∷ []) []
+
+abbrev pub unit_blocks : Run → List ℕ → PictureUnit → ℕ → ℕ → List (List ℕ)
+unit_blocks run starts unit f o = report_if unit.starts_group run unit f o ++ frame_blocks run unit f (unit_packets starts unit)
+
+-- frames are made of packets
+pub record IsMaker (run : Run) (unit : PictureUnit) (make : Packet → Part) : Type 0 where
+  pub bytes : (p : Packet) (f o : ℕ) → piece_bytes run f o (make p) ≡ frame_block run unit p f
+  pub count : (p : Packet) → count_of (make p) ≡ 1
+  pub among : (p : Packet) (ps : List Part) (b : List ℕ) (bs : List (List ℕ)) → frames_among (make p ∷ ps) (b ∷ bs) ≡ b ∷ frames_among ps bs
+
+frames-made : (run : Run) (unit : PictureUnit) (make : Packet → Part) (f o : ℕ) (packets : List Packet) → IsMaker run unit make
+    → blocks_from run f o (map make packets) ≡ frame_blocks run unit f packets
+frames-made run unit make f o [] is = refl
+frames-made run unit make f o (p ∷ packets) is =
+    ap (λ b. b ∷ blocks_from run (f + count_of (make p)) (o + octets_of (make p)) (map make packets)) (is.bytes p f o)
+    ∙ (ap (λ n. frame_block run unit p f ∷ blocks_from run (f + n) (o + octets_of (make p)) (map make packets)) (is.count p)
+    ∙ ap (λ bs. frame_block run unit p f ∷ bs) (frames-made run unit make (f + 1) (o + octets_of (make p)) packets is))
+
+plain : (f : ℕ) → f + 0 ≡ f
+plain f = omega arith
+
+with-report : (starts : Bool) (run : Run) (unit : PictureUnit) (make : Packet → Part) (report : Part) (f o : ℕ) (packets : List Packet)
+    → IsMaker run unit make → piece_bytes run f o report ≡ report_block run unit f o → count_of report ≡ 0
+    → blocks_from run f o (cond starts (report ∷ []) [] ++ map make packets) ≡ report_if starts run unit f o ++ frame_blocks run unit f packets
+with-report false run unit make report f o packets is bytes count = frames-made run unit make f o packets is
+with-report true run unit make report f o packets is bytes count =
+    ap (λ b. b ∷ blocks_from run (f + count_of report) (o + octets_of report) (map make packets)) bytes
+    ∙ (ap (λ n. report_block run unit f o ∷ blocks_from run n (o + octets_of report) (map make packets)) (ap (λ n. f + n) count ∙ plain f)
+    ∙ ap (λ bs. report_block run unit f o ∷ bs) (frames-made run unit make f (o + octets_of report) packets is))
+
+pub unit-made : (run : Run) (f o : ℕ) (starts : List ℕ) (unit : PictureUnit) → blocks_from run f o (unit_pieces starts unit) ≡ unit_blocks run starts unit f o
+unit-made run f o starts unit =
+    with-report unit.starts_group run unit _ _ f o (unit_packets starts unit) (record { bytes = λ p g n. refl; count = λ p. refl; among = λ p ps b bs. refl }) refl refl
+
+-- ---- the frames among them
+
+frames-among-made : (run : Run) (unit : PictureUnit) (make : Packet → Part) (f : ℕ) (packets : List Packet) (ps : List Part) (bs : List (List ℕ))
+    → IsMaker run unit make → frames_among (map make packets ++ ps) (frame_blocks run unit f packets ++ bs) ≡ frame_blocks run unit f packets ++ frames_among ps bs
+frames-among-made run unit make f [] ps bs is = refl
+frames-among-made run unit make f (p ∷ packets) ps bs is =
+    is.among p (map make packets ++ ps) (frame_block run unit p f) (frame_blocks run unit (f + 1) packets ++ bs)
+    ∙ ap (λ l. frame_block run unit p f ∷ l) (frames-among-made run unit make (f + 1) packets ps bs is)
+
+among-report : (starts : Bool) (run : Run) (unit : PictureUnit) (make : Packet → Part) (report : Part) (f o : ℕ) (packets : List Packet) (ps : List Part)
+    (bs : List (List ℕ)) → IsMaker run unit make
+    → ((qs : List Part) (b : List ℕ) (cs : List (List ℕ)) → frames_among (report ∷ qs) (b ∷ cs) ≡ frames_among qs cs)
+    → frames_among ((cond starts (report ∷ []) [] ++ map make packets) ++ ps) ((report_if starts run unit f o ++ frame_blocks run unit f packets) ++ bs)
+    ≡ frame_blocks run unit f packets ++ frames_among ps bs
+among-report false run unit make report f o packets ps bs is none = frames-among-made run unit make f packets ps bs is
+among-report true run unit make report f o packets ps bs is none =
+    none (map make packets ++ ps) (report_block run unit f o) (frame_blocks run unit f packets ++ bs) ∙ frames-among-made run unit make f packets ps bs is
+
+pub unit-among : (run : Run) (f o : ℕ) (starts : List ℕ) (unit : PictureUnit) (ps : List Part) (bs : List (List ℕ))
+    → frames_among (unit_pieces starts unit ++ ps) (unit_blocks run starts unit f o ++ bs) ≡ frame_blocks run unit f (unit_packets starts unit) ++ frames_among ps bs
+unit-among run f o starts unit ps bs =
+    among-report unit.starts_group run unit _ _ f o (unit_packets starts unit) ps bs
+    (record { bytes = λ p g n. refl; count = λ p. refl; among = λ p qs b cs. refl }) (λ qs b cs. refl)
+
+-- ---- what a client reads of them
+
+bit-read : (m : Bool) → nat_le 128 (bit m * 128 + 32) ≡ m
+bit-read true = refl
+bit-read false = refl
+
+pub last-is : (run : Run) (f : ℕ) (unit : PictureUnit) (p : Packet) → is_last (frame_block run unit p f) ≡ p.marker
+last-is run f unit p = bit-read p.marker
+
+pub frame-moment : (run : Run) (f : ℕ) (unit : PictureUnit) (p : Packet) → run.identity.channel ≡ 0
+    → moments_of (frame_block run unit p f) ≡ Frame (frame_block run unit p f) ∷ []
+frame-moment run f unit p media = ap (λ c. block_moments c (frame_block run unit p f)) media
+
+pub report-moment : (run : Run) (f o : ℕ) (unit : PictureUnit) → run.identity.control ≡ 1
+    → moments_of (report_block run unit f o) ≡ Report (report_block run unit f o) ∷ []
+report-moment run f o unit control = ap (λ c. block_moments c (report_block run unit f o)) control
+
+pub frames-one : (run : Run) (f : ℕ) (unit : PictureUnit) (packets : List Packet) → run.identity.channel ≡ 0 → AreOneBlocks (frame_blocks run unit f packets)
+frames-one run f unit [] media = tt
+frames-one run f unit (p ∷ packets) media =
+    let c : run.identity.channel < 2 = omega (arith, media) in
+    (record { moment = inl (frame-moment run f unit p media); starts = refl; channel = c }, frames-one run (f + 1) unit packets media)
+
+reports-one : (starts : Bool) (run : Run) (f o : ℕ) (unit : PictureUnit) → run.identity.control ≡ 1 → AreOneBlocks (report_if starts run unit f o)
+reports-one true run f o unit control =
+    let c : run.identity.control < 2 = omega (arith, control) in
+    (record { moment = inr (report-moment run f o unit control); starts = refl; channel = c }, tt)
+reports-one false run f o unit control = tt
+
+pub unit-one : (run : Run) (f o : ℕ) (starts : List ℕ) (unit : PictureUnit) → run.identity.channel ≡ 0 → run.identity.control ≡ 1
+    → AreOneBlocks (unit_blocks run starts unit f o)
+unit-one run f o starts unit media control =
+    blocks-one-append (report_if unit.starts_group run unit f o) (frame_blocks run unit f (unit_packets starts unit))
+    (reports-one unit.starts_group run f o unit control) (frames-one run f unit (unit_packets starts unit) media)

@@ -1,0 +1,159 @@
+-- What a client has heard, event by event: the pieces in front of the bytes that came.
+use Rattle.std.proofs.Common.{◌≡◌, ℕ, ◌+◌, ◌<◌, ◌≤◌, ◌==◌, ◌||◌, Bool, true, false, nat_lt, List, [], ◌∷◌, ◌++◌, take, refl, sym, ap, ap₂, subst, ◌∙◌, append_assoc, arith, inl, inr}
+use Rattle.std.proofs.lemmas.Bool.{cond-false, ne_eqb}
+use Rattle.std.proofs.lemmas.List.{append-nil}
+use Rattle.vod_base.specs.Links.{Doing, HeardBytes, HeardEnd, HeardSlot, Sent}
+use Rattle.interleave.specs.Streams.{AreCut, IsPieceLength}
+use Rattle.interleave.proofs.Streams.{cuts_join}
+use Rattle.rtsp_client.specs.declared.wishes.Wish.{Wish}
+use Rattle.rtsp_client.specs.declared.wishes.Watched.{Watched}
+use Rattle.rtsp_client.specs.declared.wishes.WatchEnd.TheVariants.{Done}
+use Rattle.rtsp_client.specs.Answers.{GoOn, Gives, after, cut_bytes, moments_in, moments_of, payloads_of}
+use Rattle.rtsp_client.specs.Courses.{Brings, IsNext, Round, Runs, RunsAll, Stage, moments_of_rounds, stage}
+use Rattle.rtsp_client.specs.Films.{is_complete}
+use Rattle.rtsp_client.specs.Meters.{first_slot, watched_in}
+use Rattle.rtsp_client.specs.Moments.{History, Moment, Frame, Reply, Report, Slot, replies, slot_before, start}
+use Rattle.rtsp_client.proofs.Taking.{after-on}
+use Rattle.transcript.specs.Requests.{bytes_in}
+use Rattle.transcript.proofs.Firsts.{HasGoneOn, gone-on}
+use Rattle.transcript.proofs.Sums.{Sum, replies-grow, steps, steps-on, sum-after, sum_of}
+use Rattle.transcript.proofs.Units.{moments-parts}
+
+-- the bytes that were heard
+abbrev pub rounds_heard : List Round → List ℕ
+rounds_heard [] = []
+rounds_heard (round ∷ rounds) = bytes_in round.event ++ rounds_heard rounds
+
+abbrev pub no_sum : Sum
+no_sum = sum_of []
+
+-- where a client stands that heard these bytes
+pub record Heard (bytes : List ℕ) (at : Stage) : Type 0 where
+  pub pieces : List (List ℕ)
+  pub cut : AreCut bytes pieces at.rest
+  pub sum : sum_of at.history ≡ steps no_sum (moments_in pieces)
+  pub gone : HasGoneOn at.history
+
+pub heard-none : Heard [] (stage [] [])
+heard-none = record { pieces = []; cut = refl; sum = refl; gone = tt }
+
+-- with further pieces
+pub heard-more : (bytes more : List ℕ) (old : Stage) (pieces : List (List ℕ)) (rest : List ℕ) (heard : Heard bytes old) → AreCut (old.rest ++ more) pieces rest
+    → GoOn old.history (moments_in pieces) → Heard (bytes ++ more) (stage (after old.history (moments_in pieces)) rest)
+heard-more bytes more old pieces rest heard cut good = record {
+  pieces = heard.pieces ++ pieces;
+  cut = cuts_join bytes more heard.pieces pieces old.rest rest heard.cut cut;
+  sum = sum-after old.history (moments_in pieces)
+      ∙ (ap (λ s. steps s (moments_in pieces)) heard.sum
+      ∙ (sym (steps-on no_sum (moments_in heard.pieces) (moments_in pieces)) ∙ ap (steps no_sum) (sym (moments-parts heard.pieces pieces))));
+  gone = gone-on old.history (moments_in pieces) heard.gone good;
+}
+
+same-stage : (new : Stage) (h : History) (rest : List ℕ) → new.history ≡ h → new.rest ≡ rest → stage h rest ≡ new
+same-stage new h rest history same = ap (λ x. stage x rest) (sym history) ∙ ap (λ x. stage new.history x) (sym same)
+
+heard-event : (event : Doing) (moments : List Moment) (bytes : List ℕ) (old new : Stage) → Heard bytes old → Brings event old.rest moments new.rest
+    → GoOn old.history moments → new.history ≡ after old.history moments → Heard (bytes ++ bytes_in event) new
+heard-event (HeardBytes more) moments bytes old new heard brings good history =
+    let G : List Moment → Type 0 = λ ms. GoOn old.history ms in
+    let is : stage (after old.history (moments_in brings.0)) new.rest ≡ new =
+    same-stage new (after old.history (moments_in brings.0)) new.rest (history ∙ ap (after old.history) brings.1.1) refl in
+    subst (Heard (bytes ++ more)) is (heard-more bytes more old brings.0 new.rest heard brings.1.0 (subst G brings.1.1 good))
+heard-event (HeardSlot slot) moments bytes old new heard brings good history =
+    let cut = cut_bytes old.rest in
+    let G : List Moment → Type 0 = λ ms. GoOn old.history ms in
+    let good2 : GoOn old.history (Slot slot cut ∷ []) = subst G brings.0 good in
+    let is : stage (Slot slot cut ∷ old.history) old.rest ≡ new =
+    same-stage new (Slot slot cut ∷ old.history) old.rest (history ∙ ap (after old.history) brings.0) brings.1 in
+    let mid : Heard bytes (stage (Slot slot cut ∷ old.history) old.rest) =
+    record { pieces = heard.pieces; cut = heard.cut; sum = heard.sum; gone = (tt, heard.gone) } in
+    let B : List ℕ → Type 0 = λ b. Heard b new in
+    subst B (sym (append-nil bytes)) (subst (Heard bytes) is mid)
+heard-event HeardEnd moments bytes old new heard brings good history = absurd brings
+heard-event (Sent byte) moments bytes old new heard brings good history = absurd brings
+
+pub heard-round : (bytes : List ℕ) (old new : Stage) (round : Round) → Heard bytes old → Runs old round new → Heard (bytes ++ bytes_in round.event) new
+heard-round bytes old new round heard runs = heard-event round.event round.moments bytes old new heard runs.brings runs.good runs.history_is
+
+pub heard-all : (bytes : List ℕ) (old new : Stage) (rounds : List Round) → Heard bytes old → RunsAll old rounds new → Heard (bytes ++ rounds_heard rounds) new
+heard-all bytes old new [] heard all =
+    let P : List ℕ → Type 0 = λ b. Heard b new in subst P (sym (append-nil bytes)) (subst (Heard bytes) (sym all) heard)
+heard-all bytes old new (round ∷ rounds) heard all =
+    let P : List ℕ → Type 0 = λ b. Heard b new in
+    subst P (append_assoc bytes (bytes_in round.event) (rounds_heard rounds))
+    (heard-all (bytes ++ bytes_in round.event) all.0 new rounds (heard-round bytes old all.0 round heard all.1.0) all.1.2)
+
+-- ---- what later moments leave
+
+pub history-later : (old new : Stage) (rounds : List Round) → RunsAll old rounds new → new.history ≡ after old.history (moments_of_rounds rounds)
+history-later old new [] all = ap (λ (s : Stage). s.history) all
+history-later old new (round ∷ rounds) all =
+    history-later all.0 new rounds all.1.2
+    ∙ (ap (λ h. after h (moments_of_rounds rounds)) all.1.0.history_is ∙ sym (after-on old.history round.moments (moments_of_rounds rounds)))
+
+pub replies-later : (h : History) (ms : List Moment) → replies h ≤ replies (after h ms)
+replies-later h ms = omega (arith, replies-grow (sum_of h) ms, ap (λ (s : Sum). s.replies) (sum-after h ms))
+
+-- the play's first slot stays, once its reply was heard
+slot-once : (h : History) (m : Moment) → 1 < replies h → (first_slot (m ∷ h) ≡ first_slot h) × (1 < replies (m ∷ h))
+slot-once h (Reply m) playing =
+    let other : (replies h == 1) ≡ false = ne_eqb (replies h) 1 (λ one. omega (arith, one, playing)) in (
+      ap₂ (λ a b. a + b) (cond-false (replies h == 1) _ (start h) other)
+          (cond-false (replies h == 1) _ (slot_before h) other),
+      omega (arith, playing),
+    )
+slot-once h (Frame b) playing = (refl, playing)
+slot-once h (Report b) playing = (refl, playing)
+slot-once h (Slot t cut) playing = (refl, playing)
+
+pub slot-stays : (h : History) (ms : List Moment) → 1 < replies h → first_slot (after h ms) ≡ first_slot h
+slot-stays h [] playing = refl
+slot-stays h (m ∷ ms) playing = let one = slot-once h m playing in slot-stays (m ∷ h) ms one.1 ∙ one.0
+
+-- ---- how a watching is done
+
+-- the next piece is the last reply
+pub record IsDone (wish : Wish) (watched : Watched) (bytes out : List ℕ) : Type 0 where
+  pub at : Stage
+  pub heard : Heard bytes at
+  pub message : List ℕ
+  pub length_ : ℕ
+  pub whole : IsPieceLength at.rest length_
+  pub moment : moments_of (take length_ at.rest) ≡ Reply message ∷ []
+  pub replies_are : replies at.history ≡ 2
+  pub complete : is_complete at.history ≡ true
+  pub watched_is : watched ≡ watched_in wish at.history
+  pub moments : List Moment
+  pub out_is : out ≡ payloads_of moments
+  pub history_is : at.history ≡ after [] moments
+
+complete-then : (n : ℕ) (complete : Bool) → n ≡ 2 → (nat_lt n 2 || complete) ≡ true → complete ≡ true
+complete-then n complete two awaited =
+    let P : ℕ → Type 0 = λ k. (nat_lt k 2 || complete) ≡ true in subst P two awaited
+
+-- the done stage, with its moments
+pub at-done : (wish : Wish) (watched : Watched) (bytes out : List ℕ) (moments : List Moment) (at : Stage) (moment : Moment)
+    → Heard bytes at → IsNext at.rest moment → Gives wish at.history moment (Done watched) → at.history ≡ after [] moments → out ≡ payloads_of moments
+    → ((done : IsDone wish watched bytes out) × (done.at ≡ at))
+at-done wish watched bytes out moments at (Reply message) heard next (inl bad) history is = absurd (let no : ⊥ = cc in no)
+at-done wish watched bytes out moments at (Reply message) heard next (inr (inl refused)) history is = absurd (let no : ⊥ = cc in no)
+at-done wish watched bytes out moments at (Reply message) heard next (inr (inr good)) history is = (
+  record {
+    at = at;
+    heard = heard;
+    message = message;
+    length_ = next.0;
+    whole = next.1.0;
+    moment = next.1.1;
+    replies_are = good.1;
+    complete = complete-then (replies at.history) (is_complete at.history) good.1 good.0.0.awaited;
+    watched_is = let same : watched ≡ watched_in wish at.history = cc in same;
+    moments = moments;
+    out_is = is;
+    history_is = history;
+  },
+  refl,
+)
+at-done wish watched bytes out moments at (Frame block) heard next gives history is = absurd (let no : ⊥ = cc in no)
+at-done wish watched bytes out moments at (Report block) heard next gives history is = absurd gives
+at-done wish watched bytes out moments at (Slot slot cut) heard next gives history is = absurd gives

@@ -1,0 +1,187 @@
+-- What was sent where a send failed is a front of what a longer course sends.
+use Rattle.std.proofs.Common.{◌≡◌, ℕ, ◌≤◌, ◌+◌, ◌++◌, ◌&&◌, if◌then◌else◌, Bool, true, false, List, [], ◌∷◌, Option, length, drop, take, arith, refl, sym, ap, subst, ◌∙◌}
+use Rattle.std.proofs.lemmas.Bool.{and_from, cond-true}
+use Rattle.std.proofs.lemmas.List.{append_assoc, append-nil, length-append, take_at, take_all}
+use Rattle.std.proofs.Math.Seq.{take-append-add}
+use Rattle.vod_base.specs.Links.{Doing, HeardSlot}
+use Rattle.admission.specs.declared.entries.Answer.TheVariants.{Halted}
+use Rattle.admission.specs.declared.entries.Command.TheVariants.{Halt as HaltCommand}
+use Rattle.admission.specs.Makers.{Placed}
+use Rattle.session.specs.declared.states.Awaited.{Awaited}
+use Rattle.session.specs.declared.states.Awaited.TheVariants.{Nothing, Play, Halt, Look, Offer}
+use Rattle.session.specs.declared.states.Next.TheVariants.{Done}
+use Rattle.session.specs.Hearings.{after_halt}
+use Rattle.session.specs.Sendings.{can_reply, due_bytes, finished, is_between, is_done_in, is_sending, is_taken, sent_due, sent_in, sent_reply, sent_slot, slotted, step_bytes, stepped_in}
+use Rattle.session.specs.Standings.{Standing, awaits, awaits_of}
+use Rattle.conn.specs.Rounds.{EndsInReply, HasFailedInReply, HasFailedInSlot, IsFront, Round, Runs, round_bytes, takings_bytes}
+use Rattle.conn.specs.Turns.{Answered, Entered, Film, IsFinished, Outcome, Part, Passed, Stage, Taking, TakesAll, Text, Unasked, after_reply, due_parts, parts_bytes, reply_parts, slot_parts, stage}
+use Rattle.transcript.specs.Courses.{Course, Follows, first_stage, rounds_bytes}
+use Rattle.transcript.specs.Failures.{IsCutShort}
+use Rattle.transcript.proofs.Filming.{Stands, course_step, stands_by}
+use Rattle.transcript.specs.Courses.{askings_of}
+use Rattle.conn.specs.Films.{rounds_film}
+
+-- ---- fronts
+front-of : (xs ys : List ℕ) → IsFront xs (xs ++ ys)
+front-of xs ys = (length xs, (omega (arith, length-append xs ys), sym (take_at xs ys (length xs) refl)))
+
+front-after : (xs front ys : List ℕ) → IsFront front ys → IsFront (xs ++ front) (xs ++ ys)
+front-after xs front ys is = (
+  length xs + is.0,
+  (omega (arith, is.1.0, length-append xs ys), ap (λ f. xs ++ f) is.1.1 ∙ sym (take-append-add xs ys is.0)),
+)
+
+bytes-append : (xs ys : List Round) → rounds_bytes (xs ++ ys) ≡ rounds_bytes xs ++ rounds_bytes ys
+bytes-append [] ys = refl
+bytes-append (x ∷ xs) ys = ap (λ bs. round_bytes x ++ bs) (bytes-append xs ys) ∙ sym (append_assoc (round_bytes x) (rounds_bytes xs) (rounds_bytes ys))
+
+takings-append : (xs ys : List Taking) → takings_bytes (xs ++ ys) ≡ takings_bytes xs ++ takings_bytes ys
+takings-append [] ys = refl
+takings-append (Passed n ∷ xs) ys = takings-append xs ys
+takings-append (Answered message outcome parts ∷ xs) ys =
+    ap (λ bs. parts_bytes parts ++ bs) (takings-append xs ys) ∙ sym (append_assoc (parts_bytes parts) (takings_bytes xs) (takings_bytes ys))
+
+-- ---- one event more
+follows-more : (old mid new : Stage) (rounds : List Round) (round : Round) → Follows old rounds mid → Runs mid round new → Follows old (rounds ++ round ∷ []) new
+follows-more old mid new [] round follows runs = (new, (subst (λ s. Runs s round new) follows runs, refl))
+follows-more old mid new (first ∷ rounds) round follows runs =
+    (follows.0, (follows.1.0, follows-more follows.0 mid new rounds round follows.1.1 runs))
+
+cut-short : (course : Course) (round : Round) (new : Stage) (sent : List ℕ) → Runs course.last round new → IsFront sent (round_bytes round)
+    → IsCutShort course round.event round.takings (rounds_bytes course.rounds ++ sent)
+cut-short course round new sent runs front =
+    let longer : Course = record {
+      films = course.films;
+      settings = course.settings;
+      words = course.words;
+      rounds = course.rounds ++ round ∷ [];
+      last = new;
+      follows = follows-more (first_stage course.films course.settings course.words) course.last new course.rounds round course.follows runs;
+    } in
+    let all : rounds_bytes longer.rounds ≡ rounds_bytes course.rounds ++ round_bytes round =
+    bytes-append course.rounds (round ∷ []) ∙ ap (λ bs. rounds_bytes course.rounds ++ bs) (append-nil (round_bytes round)) in
+    let F : List ℕ → Type 0 = λ bs. IsFront (rounds_bytes course.rounds ++ sent) bs in
+    record {
+      longer = longer;
+      films = refl;
+      settings = refl;
+      words = refl;
+      round = round;
+      event_is = refl;
+      takings_are = refl;
+      rounds = refl;
+      begun = front-of (rounds_bytes course.rounds) sent;
+      front = subst F (sym all) (front-after (rounds_bytes course.rounds) sent (round_bytes round) front);
+    }
+
+-- ---- a slot
+-- a play that is done can be halted
+record CanFinish (s : Standing) : Type 0 where
+  halt : Outcome
+  new : Standing
+  finished : IsFinished (awaits s) s halt new
+
+finish-none : (s : Standing) → s.awaited ≡ Nothing → CanFinish s
+finish-none s rest =
+    let F : Awaited → Type 0 = λ a. IsFinished (awaits_of a) s Unasked s in
+    record { halt = Unasked; new = s; finished = subst F (sym rest) refl }
+
+finish-halt : (s : Standing) (keep : ℕ) → s.awaited ≡ Halt keep Done → CanFinish s
+finish-halt s keep halts =
+    let placed : Placed = record { place = 0; entry = record { maker = 0; command = HaltCommand 0 keep; answer = Halted } } in
+    let F : Awaited → Type 0 = λ a. IsFinished (awaits_of a) s (Entered placed) (after_halt s 0) in
+    record {
+      halt = Entered placed;
+      new = after_halt s 0;
+      finished = subst F (sym halts) (record { number = 0; command = refl; answer = refl; halts = refl });
+    }
+
+finish-if : (done : Bool) (s : Standing) (keep : ℕ) → s.awaited ≡ (if done then Halt keep Done else Nothing) → CanFinish s
+finish-if true s keep is = finish-halt s keep is
+finish-if false s keep is = finish-none s is
+
+reply-rest : (goes : Bool) (s : Standing) → (if goes then sent_reply s else s).awaited ≡ s.awaited
+reply-rest true s = refl
+reply-rest false s = refl
+
+finish-sent : (s : Standing) → s.awaited ≡ Nothing → CanFinish (finished s)
+finish-sent s rest = finish-if (is_done_in s.state) (finished s) (sent_in s.state) (ap (λ a. if is_done_in s.state then Halt (sent_in s.state) Done else a) rest)
+
+finish-slotted : (old : Standing) (slot : ℕ) (taken sending : Bool) → old.awaited ≡ Nothing
+    → CanFinish (if taken then (if sending then finished (sent_slot old slot) else record old { heard = slot }) else old)
+finish-slotted old slot true true rest =
+    finish-sent (sent_slot old slot) (reply-rest (old.waits && is_between (stepped_in true slot old.state)) (sent_due old slot) ∙ rest)
+finish-slotted old slot true false rest = finish-none (record old { heard = slot }) rest
+finish-slotted old slot false sending rest = finish-none old rest
+
+between-bytes : (old : Standing) (slot : ℕ) (between : Bool)
+    → parts_bytes (if between then Text old.text ∷ Film (step_bytes false slot (stepped_in true slot old.state)) ∷ [] else [])
+    ≡ (if between then old.text ++ step_bytes false slot (stepped_in true slot old.state) else [])
+between-bytes old slot true = ap (λ bs. old.text ++ bs) (append-nil (step_bytes false slot (stepped_in true slot old.state)))
+between-bytes old slot false = refl
+
+due-as : (old : Standing) (slot : ℕ) (waits : Bool)
+    → parts_bytes (if waits then Film (step_bytes true slot old.state)
+    ∷ (if is_between (stepped_in true slot old.state) then Text old.text ∷ Film (step_bytes false slot (stepped_in true slot old.state)) ∷ [] else [])
+    else Film (step_bytes false slot old.state) ∷ []) ≡ due_bytes waits old.state old.text slot
+due-as old slot true = ap (λ bs. step_bytes true slot old.state ++ bs) (between-bytes old slot (is_between (stepped_in true slot old.state)))
+due-as old slot false = append-nil (step_bytes false slot old.state)
+
+pub failed-slot : (course : Course) (slot : ℕ) (front : List ℕ) (new : Stage) → HasFailedInSlot course.last slot front new
+    → IsCutShort course (HeardSlot slot) [] (rounds_bytes course.rounds ++ front)
+failed-slot course slot front new failed =
+    let old = course.last in
+    let first = first_stage course.films course.settings course.words in
+    let stands : Stands old.session =
+    stands_by first.session old.session (askings_of first course.rounds old course.follows) (rounds_film course.rounds)
+    (course_step first old course.rounds course.follows (record { rest = refl; sound = tt })) in
+    let can = finish-slotted old.session slot (is_taken old.session slot) (is_sending old.session.state) stands.rest in
+    let round : Round = record { event = HeardSlot slot; due = slot_parts old.session slot; halt = can.halt; takings = [] } in
+    let opened : Stage = stage can.new old.input in
+    let runs : Runs old round opened = record {
+      opened = opened;
+      comes = (refl, record { parts_are = refl; finished = can.finished });
+      takes = refl;
+    } in
+    let both : (is_taken old.session slot && is_sending old.session.state) ≡ true =
+    and_from (is_taken old.session slot) (is_sending old.session.state) failed.taken failed.sending in
+    let bytes : round_bytes round ≡ due_bytes old.session.waits old.session.state old.session.text slot =
+    append-nil (parts_bytes (slot_parts old.session slot))
+    ∙ ap parts_bytes (cond-true (is_taken old.session slot && is_sending old.session.state) (due_parts old.session slot) [] both)
+    ∙ due-as old.session slot old.session.waits in
+    let F : List ℕ → Type 0 = λ bs. IsFront front bs in
+    cut-short course round opened front runs (subst F (sym bytes) failed.front_is)
+
+-- ---- a reply
+takes-more : (old mid new : Stage) (takings : List Taking) (taking : Taking) → TakesAll old takings mid → TakesAll mid (taking ∷ []) new
+    → TakesAll old (takings ++ taking ∷ []) new
+takes-more old mid new [] taking takes more =
+    let T : Stage → Type 0 = λ s. TakesAll s (taking ∷ []) new in
+    subst T takes more
+takes-more old mid new (first ∷ takings) taking takes more = (takes.0, (takes.1.0, takes-more takes.0 mid new takings taking takes.1.1 more))
+
+pub failed-reply : (course : Course) (round : Round) (message : List ℕ) (outcome : Outcome) (front : List ℕ) (new : Stage)
+    → (ends : EndsInReply course.last round message outcome front new)
+    → IsCutShort course round.event (round.takings ++ Answered message outcome (reply_parts ends.fails.answered) ∷ [])
+    (rounds_bytes course.rounds ++ (round_bytes round ++ front))
+failed-reply course round message outcome front new ends =
+    let failed = ends.fails in
+    let answered = failed.answered in
+    let parts = reply_parts answered in
+    let last : Stage = stage (after_reply answered) (drop (length message) ends.mid.input) in
+    let taking = Answered message outcome parts in
+    let more : TakesAll ends.mid (taking ∷ []) last =
+    (last, (record { next = failed.next; answered = answered; heard = failed.heard; parts_are = refl; new_is = refl }, refl)) in
+    let longer : Round = record { event = round.event; due = round.due; halt = round.halt; takings = round.takings ++ taking ∷ [] } in
+    let runs : Runs course.last longer last = record {
+      opened = ends.runs.opened;
+      comes = ends.runs.comes;
+      takes = takes-more ends.runs.opened ends.mid last round.takings taking ends.runs.takes more;
+    } in
+    let text : takings_bytes (taking ∷ []) ≡ answered.text =
+    append-nil (parts_bytes parts) ∙ ap parts_bytes (cond-true (can_reply answered) (Text answered.text ∷ []) [] failed.can) ∙ append-nil answered.text in
+    let bytes : round_bytes longer ≡ round_bytes round ++ answered.text =
+    ap (λ bs. parts_bytes round.due ++ bs) (takings-append round.takings (taking ∷ []) ∙ ap (λ bs. takings_bytes round.takings ++ bs) text)
+    ∙ sym (append_assoc (parts_bytes round.due) (takings_bytes round.takings) answered.text) in
+    let F : List ℕ → Type 0 = λ bs. IsFront (round_bytes round ++ front) bs in
+    cut-short course longer last (round_bytes round ++ front) runs (subst F (sym bytes) (front-after (round_bytes round) front answered.text failed.front_is))

@@ -1,0 +1,187 @@
+-- What a client reads of a whole film's blocks: the sizes of its units, the time of its pictures,
+-- and its bytes.
+use Rattle.std.proofs.Common.{◌≡◌, ℕ, ◌+◌, ◌-◌, ◌<◌, ◌≤◌, ◌==◌, true, nat_lt, min, List, [], ◌∷◌, length, take, drop, map, sum, Some, slice_get, refl, sym, ap, subst, ◌∙◌, arith, inl, inr}
+use Rattle.std.proofs.lemmas.Bool.{cases_lt, cond-false, eqb-true, ltb-true, ne_eqb}
+use Rattle.std.proofs.lemmas.List.{length-take-le, take_all}
+use Rattle.std.proofs.lemmas.List.Sums.{sum_by-take-le}
+use Rattle.mpeg_scan.specs.declared.films.Film.{Film}
+use Rattle.mpeg_scan.specs.declared.units.Unit.{Unit as PictureUnit}
+use Rattle.mpeg_scan.specs.Layout.{AreLaid}
+use Rattle.mpeg_scan.specs.Rates.{picture_time}
+use Rattle.mpeg_scan.proofs.FirstLemmas.{film-begins, film-some}
+use Rattle.rtp_pack.specs.declared.reports.Identity.{Identity}
+use Rattle.film_frames.specs.Laws.{frames_among, payloads as joined}
+use Rattle.film_frames.specs.Pieces.{pieces_of, wire_size}
+use Rattle.film_frames.specs.Runs.{Run, blocks_from, count_ended, run_of, run_pieces}
+use Rattle.film_frames.specs.Tracks.{framed}
+use Rattle.film_frames.proofs.BackLemmas.{comes-back, run-sum}
+use Rattle.film_frames.proofs.FilmLemmas.{laid-film}
+use Rattle.rtsp_client.specs.Answers.{cut_bytes, moments_in, payloads_of}
+use Rattle.rtsp_client.specs.Courses.{Stage}
+use Rattle.rtsp_client.specs.Films.{begins_film, is_complete, time_in, units, units_until}
+use Rattle.rtsp_client.specs.Meters.{time}
+use Rattle.rtsp_client.specs.Moments.{History, end_ms, first_frame, frames, payloads, received, sizes}
+use Rattle.rtsp_client.specs.Promises.{IsHeardOf}
+use Rattle.rtsp_client.proofs.Handing.{payloads-are}
+use Rattle.transcript.proofs.Counting.{count-whole}
+use Rattle.transcript.proofs.Firsts.{HasGoneOn, and-left, and-right, first-frame, first-good, time-is}
+use Rattle.transcript.proofs.Reading.{IsReadingOf, Stream, begun_sum, film_place}
+use Rattle.transcript.proofs.Sums.{Sum, blocks-one-take, blocks-received, blocks-same, steps, steps-payloads, sum_of}
+use Rattle.transcript.proofs.Units.{HasCome, units-come, units-told}
+
+abbrev pub film_run : Film → Identity → Run
+film_run film identity = run_of film 0 (length film.units.items) identity
+
+abbrev pub film_sizes : Film → List ℕ
+film_sizes film = map (λ u. wire_size film.slice_starts.items u) film.units.items
+
+-- the blocks of a stream are those of a whole film
+pub record IsFilmIn (film : Film) (identity : Identity) (x : Stream) : Type 0 where
+  pub media : identity.channel ≡ 0
+  pub control : identity.control ≡ 1
+  pub blocks : x.blocks ≡ blocks_from (film_run film identity) 0 0 (pieces_of film.slice_starts.items film.units.items)
+
+-- all units are the run's
+units-all : (film : Film) → take (length film.units.items - 0) (drop 0 film.units.items) ≡ film.units.items
+units-all film = take_all (length film.units.items - 0) film.units.items (omega arith)
+
+pub run-blocks : (film : Film) (identity : Identity)
+    → run_pieces (film_run film identity) ≡ blocks_from (film_run film identity) 0 0 (pieces_of film.slice_starts.items film.units.items)
+run-blocks film identity = ap (λ us. blocks_from (film_run film identity) 0 0 (pieces_of film.slice_starts.items us)) (units-all film)
+
+-- ---- sizes
+
+come : (film : Film) (identity : Identity) (x : Stream) (d : ℕ) → IsFilmIn film identity x
+    → HasCome (film_sizes film) d (begun_sum x) (steps (begun_sum x) (moments_in (take (count_ended d x.blocks) x.blocks)))
+come film identity x d is =
+    let P : List (List ℕ) → Type 0 = λ bs. HasCome (film_sizes film) d (begun_sum x) (steps (begun_sum x) (moments_in (take (count_ended d bs) bs))) in
+    subst P (sym is.blocks) (units-come (film_run film identity) 0 0 d film.slice_starts.items film.units.items (begun_sum x) is.media is.control (laid-film film) refl refl refl)
+
+-- ---- the time of a picture
+
+time-by : (film : Film) (identity : Identity) (x : Stream) (k : ℕ) (items : List PictureUnit) → items ≡ film.units.items → IsFilmIn film identity x
+    → let t : Sum = steps (begun_sum x) (moments_in (take k x.blocks)) in
+    0 < t.frames → begins_film (drop 20 t.first) ≡ true → time_in t.first ≡ picture_time film.rate
+time-by film identity x k [] items_are is =
+    λ some good. absurd (omega (arith, ap (λ (l : List PictureUnit). length l) items_are, film-some film.bytes.items film.rate film.units.items film.slice_starts.items film.grammar))
+time-by film identity x k (unit ∷ items) items_are is =
+    let run = film_run film identity in
+    let starts = film.slice_starts.items in
+    let L : List PictureUnit → Type 0 = λ us. AreLaid (length film.bytes.items) starts us in
+    let laid = subst L (sym items_are) (laid-film film) in
+    let at : slice_get film.units.items 0 ≡ Some unit = ap (λ us. slice_get us 0) (sym items_are) in
+    let begins = film-begins film.bytes.items film.rate film.units.items starts film.grammar unit at in
+    let blocks : blocks_from run 0 0 (pieces_of starts (unit ∷ items)) ≡ x.blocks = ap (λ us. blocks_from run 0 0 (pieces_of starts us)) items_are ∙ sym is.blocks in
+    let P : List (List ℕ) → Type 0 = λ bs. 0 < (steps (begun_sum x) (moments_in (take k bs))).frames
+    → begins_film (drop 20 (steps (begun_sum x) (moments_in (take k bs))).first) ≡ true
+    → time_in (steps (begun_sum x) (moments_in (take k bs))).first ≡ picture_time film.rate in
+    subst P blocks (λ some good.
+    time-is run starts unit 0 film.rate (steps (begun_sum x) (moments_in (take k (blocks_from run 0 0 (pieces_of starts (unit ∷ items)))))).first laid.0.1
+    (first-frame run 0 0 k starts unit items (begun_sum x) is.media is.control refl some) begins good)
+
+-- the time of a picture and the number of units, by what was heard
+pub record IsTimed (film : Film) (x : Stream) (h : History) : Type 0 where
+  pub time_is : 0 < frames h → time h ≡ picture_time film.rate
+  pub units_are : 0 < frames h → units h ≡ units_until (begun_sum x).end_ms (picture_time film.rate)
+
+pub timed : (film : Film) (identity : Identity) (x : Stream) (k : ℕ) (h : History) → IsFilmIn film identity x → HasGoneOn h
+    → sum_of h ≡ steps (begun_sum x) (moments_in (take k x.blocks)) → IsTimed film x h
+timed film identity x k h is gone sum_is =
+    let t = steps (begun_sum x) (moments_in (take k x.blocks)) in
+    let first : first_frame h ≡ t.first = ap (λ (s : Sum). s.first) sum_is in
+    let count : frames h ≡ t.frames = ap (λ (s : Sum). s.frames) sum_is in
+    let end : end_ms h ≡ (begun_sum x).end_ms = ap (λ (s : Sum). s.end_ms) sum_is ∙ (blocks-same (take k x.blocks) (begun_sum x) (blocks-one-take k x.blocks x.blocks_are)).end_ms in
+    let B : List ℕ → Type 0 = λ f. begins_film (drop 20 f) ≡ true in
+    let frame_time : 0 < frames h → time_in (first_frame h) ≡ picture_time film.rate = λ some.
+    ap time_in first ∙ time-by film identity x k film.units.items refl is (omega (arith, count, some)) (subst B first (first-good h gone some)) in
+    record {
+      time_is = λ some. cond-false (frames h == 0) 0 (time_in (first_frame h)) (ne_eqb (frames h) 0 (λ none. omega (arith, some, none))) ∙ frame_time some;
+      units_are = λ some.
+          cond-false (frames h == 0) 0 (units_until (end_ms h) (time_in (first_frame h))) (ne_eqb (frames h) 0 (λ none. omega (arith, some, none)))
+          ∙ (ap (λ e. units_until e (time_in (first_frame h))) end ∙ ap (units_until (begun_sum x).end_ms) (frame_time some));
+    }
+
+-- ---- a reading
+
+min-below : (a b : ℕ) → min a b ≤ a
+min-below a b = omega arith
+
+pub heard-of : (film : Film) (identity : Identity) (x : Stream) (c : ℕ) (at : Stage) → IsFilmIn film identity x → HasGoneOn at.history → IsReadingOf x c at
+    → units_until (begun_sum x).end_ms (picture_time film.rate) ≡ length (film_sizes film)
+    → IsHeardOf (film_sizes film) (picture_time film.rate) at.history (cut_bytes at.rest)
+    × (received at.history + cut_bytes at.rest ≡ min (film_place x c) (length (framed x.blocks)))
+heard-of film identity x c at is gone reading count =
+    let d = film_place x c in
+    let k = count_ended d x.blocks in
+    let t = steps (begun_sum x) (moments_in (take k x.blocks)) in
+    let its = come film identity x d is in
+    let all = film_sizes film in
+    let are : sizes at.history ≡ take its.count all = ap (λ (s : Sum). s.sizes) reading.sum ∙ its.sizes_are in
+    let many : length (sizes at.history) ≡ its.count = ap (λ (l : List ℕ). length l) are ∙ length-take-le its.count all its.among in
+    let bytes = ap (λ (s : Sum). s.received) reading.sum ∙ blocks-received (take k x.blocks) (begun_sum x) (blocks-one-take k x.blocks x.blocks_are) refl in
+    let came : received at.history + cut_bytes at.rest ≡ min d (length (framed x.blocks)) = omega (arith, bytes, reading.cut) in
+    let its_time = timed film identity x k at.history is gone reading.sum in (
+      record {
+        sizes_are = are ∙ ap (λ n. take n all) (sym many);
+        among = omega (arith, many, its.among);
+        time_is = its_time.time_is;
+        units_are = λ some. its_time.units_are some ∙ count;
+        next = λ fewer.
+            let less : d < sum (take (its.count + 1) all) = its.next (omega (arith, fewer, many)) in
+            omega (arith, came, less, ap (λ n. sum (take (n + 1) all)) many);
+      },
+      came,
+    )
+
+-- ---- all of it
+
+sum-most : (xs : List ℕ) (a : ℕ) → sum (take a xs) ≤ sum xs
+sum-most xs a = sum_by-take-le (λ (x : ℕ). x) xs a
+
+pub blocks-sum : (film : Film) (identity : Identity) (x : Stream) → IsFilmIn film identity x → length (framed x.blocks) ≡ sum (film_sizes film)
+blocks-sum film identity x is =
+    ap (λ bs. length (framed bs)) (is.blocks ∙ sym (run-blocks film identity))
+    ∙ ((run-sum film 0 (length film.units.items) identity (omega arith) (omega arith)).1
+    ∙ ap (λ us. sum (map (λ u. wire_size film.slice_starts.items u) us)) (units-all film))
+
+-- what was heard of a whole film
+pub record IsWholeOf (film : Film) (x : Stream) (h : History) : Type 0 where
+  pub sizes_are : sizes h ≡ film_sizes film
+  pub count : units_until (begun_sum x).end_ms (picture_time film.rate) ≡ length (film_sizes film)
+
+pub whole-of : (film : Film) (identity : Identity) (x : Stream) (h : History) → IsFilmIn film identity x → HasGoneOn h
+    → sum_of h ≡ steps (begun_sum x) (moments_in x.blocks) → is_complete h ≡ true → IsWholeOf film x h
+whole-of film identity x h is gone sum_is complete =
+    let all = film_sizes film in
+    let total = length (framed x.blocks) in
+    let k = count_ended total x.blocks in
+    let front : take k x.blocks ≡ x.blocks = take_all k x.blocks (omega (arith, count-whole x.blocks total (omega arith))) in
+    let its = come film identity x total is in
+    let sum_here : sum_of h ≡ steps (begun_sum x) (moments_in (take k x.blocks)) = sum_is ∙ ap (λ l. steps (begun_sum x) (moments_in l)) (sym front) in
+    let every : its.count ≡ length all = elim (cases_lt its.count (length all)) [
+      | inl fewer ↦ absurd (omega (arith, its.next fewer, blocks-sum film identity x is, sum-most all (its.count + 1)))
+      | inr more ↦ omega (arith, more, its.among)
+    ] in
+    let are : sizes h ≡ all = ap (λ (s : Sum). s.sizes) sum_here ∙ (its.sizes_are ∙ take_all its.count all (omega (arith, every))) in
+    let some : 0 < frames h = ltb-true 0 (frames h) (and-left (nat_lt 0 (frames h)) (length (sizes h) == units h) complete) in
+    let same : length (sizes h) ≡ units h = eqb-true (length (sizes h)) (units h) (and-right (nat_lt 0 (frames h)) (length (sizes h) == units h) complete) in
+    let its_time = timed film identity x k h is gone sum_here in
+    record { sizes_are = are; count = sym (its_time.units_are some) ∙ (sym same ∙ ap (λ (l : List ℕ). length l) are) }
+
+pub film-back : (film : Film) (identity : Identity) (x : Stream) (h : History) (first last : PictureUnit) → IsFilmIn film identity x
+    → sum_of h ≡ steps (begun_sum x) (moments_in x.blocks) → slice_get film.units.items 0 ≡ Some first
+    → slice_get film.units.items (length film.units.items - 1) ≡ Some last
+    → payloads h ≡ take (last.to - first.from) (drop first.from film.bytes.items)
+film-back film identity x h first last is sum_is at_first at_last =
+    let run = film_run film identity in
+    let starts = film.slice_starts.items in
+    let items = film.units.items in
+    let bs = blocks_from run 0 0 (pieces_of starts items) in
+    let some = film-some film.bytes.items film.rate film.units.items film.slice_starts.items film.grammar in
+    ap (λ (s : Sum). s.payloads) sum_is
+    ∙ (steps-payloads (begun_sum x) (moments_in x.blocks)
+    ∙ (ap (λ l. payloads_of (moments_in l)) is.blocks
+    ∙ (payloads-are (moments_in bs)
+    ∙ (ap joined (units-told run 0 0 starts items is.media is.control)
+    ∙ (ap (λ us. joined (frames_among (pieces_of starts us) (blocks_from run 0 0 (pieces_of starts us)))) (sym (units-all film))
+    ∙ comes-back film 0 (length items) identity first last some at_first at_last)))))

@@ -1,0 +1,86 @@
+-- A watching that is done has heard all of a film's blocks.
+use Rattle.std.proofs.Common.{◌≡◌, ℕ, ◌+◌, ◌≤◌, List, [], ◌∷◌, ◌++◌, take, drop, refl, sym, ap, subst, ◌∙◌, append_assoc, arith, inl, inr, ◌⊎◌}
+use Rattle.std.proofs.lemmas.List.{take-append-drop}
+use Rattle.film_frames.specs.Runs.{count_ended}
+use Rattle.film_frames.specs.Tracks.{framed}
+use Rattle.rtsp_client.specs.declared.wishes.Wish.{Wish}
+use Rattle.rtsp_client.specs.declared.wishes.Watched.{Watched}
+use Rattle.rtsp_client.specs.Answers.{moments_in, moments_of}
+use Rattle.rtsp_client.specs.Moments.{Moment, Frame, Reply, Report}
+use Rattle.transcript.proofs.ClientHearing.{IsDone, no_sum}
+use Rattle.transcript.proofs.Reading.{AreTexts, Stream, all_of, begun_sum, two-moments}
+use Rattle.transcript.proofs.Streaming.{cut-front}
+use Rattle.transcript.proofs.Sums.{AreOneBlocks, Sum, replies-grow, step, steps, sum_of}
+
+-- a block is no reply
+no-reply : (b x : List ℕ) (m : List ℕ) → (moments_of b ≡ Frame b ∷ []) ⊎ (moments_of b ≡ Report b ∷ []) → moments_of x ≡ Reply m ∷ [] → x ≡ b → ⊥
+no-reply b x m (inl frame) reply same =
+    let clash : Reply m ∷ [] ≡ Frame b ∷ [] = sym reply ∙ (ap moments_of same ∙ frame) in cc
+no-reply b x m (inr report) reply same =
+    let clash : Reply m ∷ [] ≡ Report b ∷ [] = sym reply ∙ (ap moments_of same ∙ report) in cc
+
+more-reply : (y : List ℕ) (ys : List (List ℕ)) (s : Sum) → moments_of y ≡ Reply y ∷ [] → s.replies + 1 ≤ (steps s (moments_in (y ∷ ys))).replies
+more-reply y ys s is =
+    let P : List Moment → Type 0 = λ l. s.replies + 1 ≤ (steps s (l ++ moments_in ys)).replies in
+    subst P (sym is) (replies-grow (step (Reply y) s) (moments_in ys))
+
+block-reply : (b : List ℕ) (ys : List (List ℕ)) (s : Sum) (n : ℕ) → (moments_of b ≡ Frame b ∷ []) ⊎ (moments_of b ≡ Report b ∷ [])
+    → (steps s (moments_in (b ∷ ys))).replies ≡ s.replies → (t : Sum) × ((steps t (moments_in ys)).replies ≡ t.replies)
+block-reply b ys s n (inl frame) same =
+    let P : List Moment → Type 0 = λ l. (steps s (l ++ moments_in ys)).replies ≡ s.replies in (step (Frame b) s, subst P frame same)
+block-reply b ys s n (inr report) same =
+    let P : List Moment → Type 0 = λ l. (steps s (l ++ moments_in ys)).replies ≡ s.replies in (step (Report b) s, subst P report same)
+
+-- pieces before a reply, and none of them a reply, are all the blocks
+all-blocks : (bs later ps : List (List ℕ)) (x : List ℕ) (tail : List (List ℕ)) (m : List ℕ) (s : Sum) → AreOneBlocks bs → AreTexts later
+    → moments_of x ≡ Reply m ∷ [] → ps ++ x ∷ tail ≡ bs ++ later → (steps s (moments_in ps)).replies ≡ s.replies → ps ≡ bs
+all-blocks [] later [] x tail m s are texts reply all same = refl
+all-blocks [] [] (y ∷ ys) x tail m s are texts reply all same = absurd (let no : ⊥ = cc in no)
+all-blocks [] (z ∷ zs) (y ∷ ys) x tail m s are texts reply all same =
+    let first : z ≡ y = cc in
+    let P : List ℕ → Type 0 = λ q. moments_of q ≡ Reply q ∷ [] in
+    absurd (omega (arith, same, more-reply y ys s (subst P first texts.0.moment)))
+all-blocks (b ∷ bs) later [] x tail m s are texts reply all same =
+    let first : x ≡ b = cc in absurd (no-reply b x m are.0.moment reply first)
+all-blocks (b ∷ bs) later (y ∷ ys) x tail m s are texts reply all same =
+    let first : y ≡ b = cc in
+    let rest : ys ++ x ∷ tail ≡ bs ++ later = cc in
+    let P : List ℕ → Type 0 = λ q. (steps s (moments_in (q ∷ ys))).replies ≡ s.replies in
+    let next = block-reply b ys s 0 are.0.moment (subst P first same) in
+    ap (λ q. q ∷ ys) first ∙ ap (λ l. b ∷ l) (all-blocks bs later ys x tail m next.0 are.1 texts reply rest next.1)
+
+-- with the two first replies before them
+all-pieces : (x : Stream) (ps : List (List ℕ)) (p : List ℕ) (tail : List (List ℕ)) (m : List ℕ) → moments_of p ≡ Reply m ∷ []
+    → all_of x ≡ ps ++ p ∷ tail → (steps no_sum (moments_in ps)).replies ≡ 2 → ps ≡ x.first ∷ x.second ∷ x.blocks
+all-pieces x [] p tail m reply all two = absurd (omega (arith, two))
+all-pieces x (a ∷ []) p tail m reply all two =
+    let first : x.first ≡ a = cc in
+    let P : List ℕ → Type 0 = λ q. moments_of q ≡ Reply q ∷ [] in
+    let one : steps no_sum (moments_in (a ∷ [])) ≡ steps no_sum (Reply a ∷ []) = ap (λ l. steps no_sum (l ++ [])) (subst P first x.first_is.moment) in
+    absurd (omega (arith, two, ap (λ (s : Sum). s.replies) one))
+all-pieces x (a ∷ b ∷ ps) p tail m reply all two =
+    let first : x.first ≡ a = cc in
+    let second : x.second ≡ b = cc in
+    let rest : ps ++ p ∷ tail ≡ x.blocks ++ x.later = cc in
+    let P : List ℕ → List ℕ → Type 0 = λ q r. (steps no_sum (moments_in (q ∷ r ∷ ps))).replies ≡ 2 in
+    let there : (steps no_sum (moments_in (x.first ∷ x.second ∷ ps))).replies ≡ 2 =
+    subst (λ r. P x.first r) (sym second) (subst (λ q. P q b) (sym first) two) in
+    let same : (steps (begun_sum x) (moments_in ps)).replies ≡ 2 = sym (ap (λ (s : Sum). s.replies) (two-moments x ps)) ∙ there in
+    ap (λ q. q ∷ b ∷ ps) (sym first) ∙ (ap (λ r. x.first ∷ r ∷ ps) (sym second)
+    ∙ ap (λ l. x.first ∷ x.second ∷ l) (all-blocks x.blocks x.later ps p tail m (begun_sum x) x.blocks_are x.later_are reply rest same))
+
+pub done-sum : (x : Stream) (wish : Wish) (watched : Watched) (bytes out : List ℕ) (c : ℕ) (done : IsDone wish watched bytes out)
+    → bytes ≡ take c (framed (all_of x)) → sum_of done.at.history ≡ steps (begun_sum x) (moments_in x.blocks)
+done-sum x wish watched bytes out c done is =
+    let all = all_of x in
+    let k = count_ended c all in
+    let p = take done.length_ done.at.rest in
+    let front = cut-front all c bytes done.heard.pieces done.at.rest done.length_ x.alone is done.heard.cut done.whole in
+    let tail = front.0 ++ drop k all in
+    let whole : all ≡ done.heard.pieces ++ p ∷ tail =
+    sym (take-append-drop k all)
+    ∙ (ap (λ l. l ++ drop k all) front.1
+    ∙ (append_assoc (done.heard.pieces ++ p ∷ []) front.0 (drop k all) ∙ append_assoc done.heard.pieces (p ∷ []) tail)) in
+    let two : (steps no_sum (moments_in done.heard.pieces)).replies ≡ 2 = sym (ap (λ (s : Sum). s.replies) done.heard.sum) ∙ done.replies_are in
+    let are = all-pieces x done.heard.pieces p tail done.message done.moment whole two in
+    done.heard.sum ∙ (ap (λ l. steps no_sum (moments_in l)) are ∙ two-moments x x.blocks)

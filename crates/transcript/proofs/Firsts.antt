@@ -1,0 +1,132 @@
+-- The first frame that a client hears of a film, and the time of a picture in it.
+use Rattle.std.proofs.Common.{◌≡◌, ℕ, zero, suc, ◌+◌, ◌-◌, ◌%◌, ◌<◌, ◌≤◌, ◌==◌, ◌&&◌, Bool, true, false, not, nat_le, cond, List, [], ◌∷◌, ◌++◌, length, take, drop, get_or, is_ok, refl, sym, ap, subst, ◌∙◌, append_assoc, min, arith, inl, inr}
+use Rattle.std.proofs.lemmas.Bool.{cases_eq, cond-true, cond-false, eq-eqb, ne_eqb, leb-true}
+use Rattle.std.proofs.lemmas.List.{get_or-drop, get_or-take, length-take}
+use Rattle.mpeg_scan.specs.declared.units.Unit.{Unit as PictureUnit}
+use Rattle.mpeg_scan.specs.Layout.{BeginsSequence, IsLaid}
+use Rattle.mpeg_scan.specs.Rates.{picture_time}
+use Rattle.rtp_pack.specs.declared.payloads.Packet.{Packet}
+use Rattle.rtp_pack.specs.Heads.{head_of}
+use Rattle.rtp_pack.specs.Packets.{DoCover, unit_packets}
+use Rattle.rtp_pack.proofs.UnitLemmas.{packets-cover}
+use Rattle.film_frames.specs.Pieces.{pieces_of, unit_pieces}
+use Rattle.film_frames.specs.Runs.{Run, blocks_from, payload}
+use Rattle.rtsp_client.specs.Answers.{GoOn, GoesOn, after, moments_in}
+use Rattle.rtsp_client.specs.Films.{begins_film, is_complete, is_first_good, is_next_good, time_in, units_until}
+use Rattle.rtsp_client.specs.Moments.{History, Moment, Frame, Reply, Report, Slot, end_ms, first_frame, frames, is_playing}
+use Rattle.transcript.proofs.Blocks.{frame_block, frame_blocks, frame-moment, frames-one, frames_after, octets_after, report_block, report_if, report-moment}
+use Rattle.transcript.proofs.Sums.{AreOneBlocks, Sum, blocks-first, blocks-one-append, blocks-one-take, step, steps}
+use Rattle.transcript.proofs.Units.{blocks-one, frame-sizes, more-blocks, packets-there, report-sizes}
+
+-- at each of its moments a watching went on
+abbrev pub HasGoneOn : History → Type 0
+HasGoneOn [] = Unit {0}
+HasGoneOn (m ∷ h) = GoesOn h m × HasGoneOn h
+
+pub gone-on : (h : History) (ms : List Moment) → HasGoneOn h → GoOn h ms → HasGoneOn (after h ms)
+gone-on h [] gone good = gone
+gone-on h (m ∷ ms) gone good = gone-on (m ∷ h) ms (good.0, gone) good.1
+
+pub and-left : (a b : Bool) → (a && b) ≡ true → a ≡ true
+and-left true b both = refl
+and-left false b both = both
+
+pub and-right : (a b : Bool) → (a && b) ≡ true → b ≡ true
+and-right true b both = both
+and-right false b both = absurd (let no : ⊥ = cc in no)
+
+-- its first frame begins a film
+pub first-good : (h : History) → HasGoneOn h → 0 < frames h → begins_film (drop 20 (first_frame h)) ≡ true
+first-good [] gone some = absurd (omega (arith, some))
+first-good (Reply m ∷ h) gone some = first-good h gone.1 some
+first-good (Report b ∷ h) gone some = first-good h gone.1 some
+first-good (Slot t cut ∷ h) gone some = first-good h gone.1 some
+first-good (Frame b ∷ h) gone some =
+    let P : List ℕ → Type 0 = λ f. begins_film (drop 20 f) ≡ true in
+    let head : Bool = is_ok (head_of (drop 4 b)) in
+    let last : Bool = cond (frames h == 0) (is_first_good h b) (is_next_good h b) in
+    let all : last ≡ true = and-right head last (and-right (not (is_complete h)) (head && last) (and-right (is_playing h) (not (is_complete h) && (head && last)) gone.0)) in
+    elim (cases_eq (frames h) 0) [
+      | inl none ↦
+          let is : is_first_good h b ≡ true = sym (cond-true (frames h == 0) (is_first_good h b) (is_next_good h b) (eq-eqb (frames h) 0 none)) ∙ all in
+          subst P (sym (cond-true (frames h == 0) b (first_frame h) (eq-eqb (frames h) 0 none)))
+          (and-left (begins_film (drop 20 b)) (nat_le 1 (units_until (end_ms h) (time_in b)) && nat_le (units_until (end_ms h) (time_in b)) 4194304) is)
+      | inr more ↦
+          subst P (sym (cond-false (frames h == 0) b (first_frame h) (ne_eqb (frames h) 0 more)))
+          (first-good h gone.1 (omega (arith, more)))
+    ]
+
+-- ---- the first frame of a run
+
+lead : (starts : Bool) (run : Run) (f o k : ℕ) (unit : PictureUnit) (p : Packet) (rest : List (List ℕ)) (s : Sum) → run.identity.channel ≡ 0
+    → run.identity.control ≡ 1 → AreOneBlocks rest → s.frames ≡ 0
+    → 0 < (steps s (moments_in (take k (report_if starts run unit f o ++ (frame_block run unit p f ∷ rest))))).frames
+    → (steps s (moments_in (take k (report_if starts run unit f o ++ (frame_block run unit p f ∷ rest))))).first ≡ frame_block run unit p f
+lead false run f o zero unit p rest s media control are none some = absurd (omega (arith, none, some))
+lead false run f o (suc k) unit p rest s media control are none some =
+    let b = frame_block run unit p f in
+    frame-sizes b (take k rest) s (λ t. t.first ≡ b) (frame-moment run f unit p media)
+    (blocks-first (take k rest) (step (Frame b) s) (blocks-one-take k rest are) (omega arith)
+    ∙ cond-true (s.frames == 0) b s.first (eq-eqb s.frames 0 none))
+lead true run f o zero unit p rest s media control are none some = absurd (omega (arith, none, some))
+lead true run f o (suc k) unit p rest s media control are none some =
+    let r = report_block run unit f o in
+    let b = frame_block run unit p f in
+    let is = report-moment run f o unit control in
+    report-sizes r (take k (b ∷ rest)) s (λ t. 0 < t.frames → t.first ≡ b) is
+    (λ more. lead false run f o k unit p rest (step (Report r) s) media control are none more) some
+
+pub record IsLed (run : Run) (starts : List ℕ) (unit : PictureUnit) (f : ℕ) (first : List ℕ) : Type 0 where
+  pub packet : Packet
+  pub packets : List Packet
+  pub are : unit_packets starts unit ≡ packet ∷ packets
+  pub first_is : first ≡ frame_block run unit packet f
+
+pub first-frame : (run : Run) (f o k : ℕ) (starts : List ℕ) (unit : PictureUnit) (units : List PictureUnit) (s : Sum) → run.identity.channel ≡ 0
+    → run.identity.control ≡ 1 → s.frames ≡ 0
+    → let t : Sum = steps s (moments_in (take k (blocks_from run f o (pieces_of starts (unit ∷ units))))) in
+    0 < t.frames → IsLed run starts unit f t.first
+first-frame run f o k starts unit units s media control none some =
+    let there = packets-there starts unit in
+    let rest = blocks_from run (frames_after f (unit_pieces starts unit))
+    (octets_after o (unit_pieces starts unit)) (pieces_of starts units) in
+    let front = report_if unit.starts_group run unit f o in
+    let frames_rest = frame_blocks run unit (f + 1) there.packets in
+    let all : blocks_from run f o (pieces_of starts (unit ∷ units)) ≡ front ++ (frame_block run unit there.packet f ∷ (frames_rest ++ rest)) =
+    more-blocks run f o starts unit units
+    ∙ (ap (λ ps. (front ++ frame_blocks run unit f ps) ++ rest) there.are
+    ∙ append_assoc front (frame_block run unit there.packet f ∷ frames_rest) rest) in
+    let are : AreOneBlocks (frames_rest ++ rest) =
+    blocks-one-append frames_rest rest (frames-one run (f + 1) unit there.packets media)
+    (blocks-one run (frames_after f (unit_pieces starts unit))
+    (octets_after o (unit_pieces starts unit)) starts units media control) in
+    let P : List (List ℕ) → Type 0 = λ bs. 0 < (steps s (moments_in (take k bs))).frames → (steps s (moments_in (take k bs))).first ≡ frame_block run unit there.packet f in
+    record {
+      packet = there.packet;
+      packets = there.packets;
+      are = there.are;
+      first_is = (subst P (sym all) (λ more. lead unit.starts_group run f o k unit there.packet (frames_rest ++ rest) s media control are none more)) some;
+    }
+
+-- ---- the time of a picture
+
+min-left : (a b n : ℕ) → n ≤ min a b → n ≤ a
+min-left a b n less = omega (arith, less)
+
+-- a first frame that begins a film tells its rate
+pub time-is : (run : Run) (starts : List ℕ) (unit : PictureUnit) (f rate : ℕ) (first : List ℕ) → IsLaid starts unit → IsLed run starts unit f first
+    → BeginsSequence run.film rate unit.from → begins_film (drop 20 first) ≡ true → time_in first ≡ picture_time rate
+time-is run starts unit f rate first laid led begins good =
+    let p = led.packet in
+    let its : List ℕ = payload run.film p in
+    let Q : List ℕ → Type 0 = λ b. begins_film (drop 20 b) ≡ true in
+    let all : begins_film its ≡ true = subst Q led.first_is good in
+    let long : 12 ≤ length its = leb-true 12 (length its) (and-left (nat_le 12 (length its)) _ (and-left _ _ (and-left _ _ all))) in
+    let count : length its ≡ min (p.to - p.from) (length (drop p.from run.film)) = length-take (p.to - p.from) (drop p.from run.film) in
+    let many : 7 < p.to - p.from = omega (arith, long, count) in
+    let P : List Packet → Type 0 = λ ps. DoCover unit.from ps unit.to in
+    let cover = subst P led.are (packets-cover starts unit laid) in
+    let byte : get_or its 7 0 ≡ get_or run.film (unit.from + 7) 0 =
+    get_or-take (p.to - p.from) (drop p.from run.film) 7 0 many
+    ∙ (get_or-drop p.from run.film 7 0 ∙ ap (λ n. get_or run.film (n + 7) 0) cover.0) in
+    ap time_in led.first_is ∙ ap picture_time (ap (λ n. n % 16) byte ∙ begins.rate_is)

@@ -1,0 +1,340 @@
+-- The notes of a connection's report, event by event.
+use Rattle.std.proofs.Common.{◌≡◌, ℕ, ◌<◌, ◌++◌, ◌&&◌, if◌then◌else◌, Bool, true, false, List, [], ◌∷◌, Option, Some, None, length, map, refl, sym, ap, subst, ◌∙◌, inl, inr}
+use Rattle.std.proofs.lemmas.List.{append_assoc, append-nil, map-append}
+use Rattle.vod_base.specs.Links.{Doing, HeardBytes, HeardEnd, HeardSlot, Sent}
+use Rattle.film_frames.specs.declared.stores.Stored.{Stored}
+use Rattle.admission.specs.Makers.{Placed}
+use Rattle.session.specs.declared.notes.PlayNote.{PlayNote}
+use Rattle.session.specs.declared.settings.Settings.{Settings}
+use Rattle.session.specs.declared.states.Awaited.{Awaited}
+use Rattle.session.specs.declared.states.Awaited.TheVariants.{Nothing, Play, Halt, Look, Offer}
+use Rattle.session.specs.declared.states.Next.{Next}
+use Rattle.session.specs.declared.states.Play.{Play as Played}
+use Rattle.session.specs.declared.states.Setup.{Setup}
+use Rattle.session.specs.declared.states.State.{State}
+use Rattle.session.specs.declared.states.State.TheVariants.{Init, Ready, Playing, Stopping}
+use Rattle.session.specs.Sendings.{can_reply, due_state, finished, is_between, is_sending, is_taken, kept_of, sent_due, sent_reply, sent_slot, slotted, stepped_in}
+use Rattle.session.specs.Standings.{NoAnswer, Open, Standing, awaits, awaits_of, open_in, open_of}
+use Rattle.session.specs.Steps.{IsCarried, settled}
+use Rattle.conn.specs.Rounds.{Comes, Ending, Unheard, PeerEnded, Overfull, AtPiece, InSlot, InReply, EndsInReply, Ends, Round, Runs, RunsAll, ending_outcomes, round_outcomes, rounds_outcomes, takings_outcomes}
+use Rattle.conn.specs.Turns.{IsClosed, IsFinished, IsHalted, Outcome, Unasked, Entered, WasFull, Offered, Part, Stage, Taking, Passed, Answered, TakesAll, after_reply, film_bytes}
+use Rattle.conn.specs.declared.reports.ConnEnd.{ConnEnd}
+use Rattle.conn.specs.declared.reports.ConnReport.{ConnReport}
+use Rattle.transcript.specs.Agreement.{Doings, HasDone, doings_outcomes}
+use Rattle.conn.specs.Films.{rounds_film}
+use Rattle.transcript.specs.Courses.{askings_of, first_stage, round_askings}
+use Rattle.transcript.specs.Notes.{Turn, asking_at, ending_turns, noted, noted_entry, notes_of, outcome_of, round_turns, rounds_turns, takings_turns, turn_of, turns_of}
+use Rattle.transcript.proofs.Filming.{Stands, course_step, round_step, stands_by, turn_after}
+use Rattle.transcript.proofs.Turning.{turns_as}
+use Rattle.transcript.proofs.Following.{follows_all}
+use Rattle.transcript.proofs.Noting.{Carries, IsKept, carries-as, carries-none, carries-then, halt-turn, halted-open, heard-on, no-halt-note, no-note, notes_until, open_note, unasked-turn}
+
+abbrev CarriesOf : Standing → List Turn → Standing → Type 0
+CarriesOf old turns new = Carries old.plays old.state turns new.plays new.state
+
+-- the same notes and the same play under way
+record IsSame (old new : Standing) : Type 0 where
+  plays : new.plays ≡ old.plays
+  open-same : (later : List Turn) → open_note new.state later ≡ open_note old.state later
+
+same-then : (a b c : Standing) → IsSame a b → IsSame b c → IsSame a c
+same-then a b c one two = record { plays = two.plays ∙ one.plays; open-same = λ later. two.open-same later ∙ one.open-same later }
+
+from-same : (old mid new : Standing) (turns : List Turn) → IsSame old mid → CarriesOf mid turns new → CarriesOf old turns new
+from-same old mid new turns same on =
+    carries-as old.plays mid.plays new.plays new.plays old.state mid.state new.state new.state turns (sym same.plays) (λ later. sym (same.open-same later)) refl
+    (λ later. refl) on
+
+to-same : (old mid new : Standing) (turns : List Turn) → IsSame mid new → CarriesOf old turns mid → CarriesOf old turns new
+to-same old mid new turns same on =
+    carries-as old.plays old.plays new.plays mid.plays old.state old.state new.state mid.state turns refl (λ later. refl) same.plays same.open-same on
+
+-- ---- slots
+stepped-open : (stop : Bool) (slot : ℕ) (state : State) (later : List Turn) → open_note (stepped_in stop slot state) later ≡ open_note state later
+stepped-open stop slot Init later = refl
+stepped-open stop slot (Ready setup paused) later = refl
+stepped-open stop slot (Playing setup play) later = refl
+stepped-open stop slot (Stopping setup stopping) later = refl
+
+between-open : (between : Bool) (slot : ℕ) (state : State) (later : List Turn)
+    → open_note (if between then stepped_in false slot (stepped_in true slot state) else stepped_in true slot state) later ≡ open_note state later
+between-open true slot state later = stepped-open false slot (stepped_in true slot state) later ∙ stepped-open true slot state later
+between-open false slot state later = stepped-open true slot state later
+
+due-open : (waits : Bool) (slot : ℕ) (state : State) (later : List Turn) → open_note (due_state waits state slot) later ≡ open_note state later
+due-open true slot state later = between-open (is_between (stepped_in true slot state)) slot state later
+due-open false slot state later = stepped-open false slot state later
+
+settled-open : (state : State) (later : List Turn) → open_note (settled state) later ≡ open_note state later
+settled-open Init later = refl
+settled-open (Ready setup paused) later = refl
+settled-open (Playing setup play) later = refl
+settled-open (Stopping setup stop) later = refl
+
+reply-same : (goes : Bool) (s : Standing) → IsSame s (if goes then sent_reply s else s)
+reply-same true s = record { plays = refl; open-same = λ later. settled-open s.state later }
+reply-same false s = record { plays = refl; open-same = λ later. refl }
+
+due-same : (old : Standing) (slot : ℕ) → IsSame old (sent_due old slot)
+due-same old slot = record { plays = refl; open-same = λ later. due-open old.waits slot old.state later }
+
+slot-same : (old : Standing) (slot : ℕ) → IsSame old (sent_slot old slot)
+slot-same old slot =
+    same-then old (sent_due old slot) (sent_slot old slot) (due-same old slot)
+    (reply-same (old.waits && is_between (stepped_in true slot old.state)) (sent_due old slot))
+
+slotted-if : (old : Standing) (slot : ℕ) (taken sending : Bool)
+    → IsSame old (if taken then (if sending then finished (sent_slot old slot) else record old { heard = slot }) else old)
+slotted-if old slot true true =
+    let same = slot-same old slot in
+    record { plays = same.plays; open-same = same.open-same }
+slotted-if old slot true false = record { plays = refl; open-same = λ later. refl }
+slotted-if old slot false sending = record { plays = refl; open-same = λ later. refl }
+
+slotted-same : (old : Standing) (slot : ℕ) → IsSame old (slotted old slot)
+slotted-same old slot = slotted-if old slot (is_taken old slot) (is_sending old.state)
+
+kept-halt : (state : State) (awaited : Awaited) (keep : ℕ) (next : Next) → awaited ≡ Halt keep next → IsKept state awaited keep
+kept-halt Init awaited keep next is = tt
+kept-halt (Ready setup paused) awaited keep next is = tt
+kept-halt (Playing setup play) awaited keep next is = ap (λ a. kept_of a play.pacer.due) is
+kept-halt (Stopping setup stop) awaited keep next is = tt
+
+unasked-finished : (s new : Standing) (halt : Outcome) → IsFinished NoAnswer s halt new → CarriesOf s (turn_of s halt ∷ []) new
+unasked-finished s new Unasked is =
+    let C : Standing → Type 0 = λ n. CarriesOf s (turn_of s Unasked ∷ []) n in
+    subst C (sym is) (unasked-turn s.plays s.state s)
+unasked-finished s new (Entered placed) is = absurd is
+unasked-finished s new (WasFull more entries live) is = absurd is
+unasked-finished s new (Offered at_slot note) is = absurd is
+
+finished-turn : (s new : Standing) (awaited : Awaited) (halt : Outcome) → s.awaited ≡ awaited → IsFinished (awaits_of awaited) s halt new
+    → CarriesOf s (turn_of s halt ∷ []) new
+finished-turn s new Nothing halt asks is = unasked-finished s new halt is
+finished-turn s new (Play prepared) halt asks is = absurd is
+finished-turn s new (Halt keep next) halt asks is =
+    halt-turn s new s keep halt (kept-halt s.state s.awaited keep next asks) is (no-halt-note s.state s.awaited keep next asks)
+finished-turn s new (Look sequence) halt asks is = absurd is
+finished-turn s new (Offer sequence) halt asks is = absurd is
+
+-- ---- events
+comes-turn : (old opened : Stage) (event : Doing) (due : List Part) (halt : Outcome) → Comes old event due halt opened
+    → CarriesOf old.session (turn_of (asking_at old.session event) halt ∷ []) opened.session
+comes-turn old opened (HeardBytes bytes) due halt comes =
+    let same : opened.session ≡ old.session = ap (λ (s : Stage). s.session) comes.3 in
+    let C : Standing → Outcome → Type 0 = λ s h. CarriesOf old.session (turn_of old.session h ∷ []) s in
+    subst (C opened.session) (sym comes.1) (subst (λ s. C s Unasked) (sym same) (unasked-turn old.session.plays old.session.state old.session))
+comes-turn old opened (HeardSlot slot) due halt comes =
+    from-same old.session (slotted old.session slot) opened.session (turn_of (slotted old.session slot) halt ∷ []) (slotted-same old.session slot)
+    (finished-turn (slotted old.session slot) opened.session (slotted old.session slot).awaited halt refl comes.1.finished)
+comes-turn old opened HeardEnd due halt comes = absurd comes
+comes-turn old opened (Sent byte) due halt comes = absurd comes
+
+takes-turns : (old new : Stage) (takings : List Taking) (takes : TakesAll old takings new) → CarriesOf old.session (takings_turns old takings new takes) new.session
+takes-turns old new [] takes =
+    let C : Stage → Type 0 = λ s. CarriesOf old.session [] s.session in
+    subst C (sym takes) (carries-none old.session.plays old.session.state)
+takes-turns old new (Passed n ∷ takings) takes =
+    let same : takes.0.session ≡ old.session = ap (λ (s : Stage). s.session) takes.1.0.2 in
+    let C : Standing → Type 0 = λ s. CarriesOf s (takings_turns takes.0 takings new takes.1.1) new.session in
+    subst C same (takes-turns takes.0 new takings takes.1.1)
+takes-turns old new (Answered message outcome parts ∷ takings) takes =
+    let replied = takes.1.0 in
+    let turn = turn_of replied.heard.asking outcome in
+    let one : CarriesOf old.session (turn ∷ []) replied.answered = heard-on old.session replied.answered message outcome replied.heard in
+    let sent : CarriesOf old.session (turn ∷ []) (after_reply replied.answered) =
+    to-same old.session replied.answered (after_reply replied.answered) (turn ∷ []) (reply-same (can_reply replied.answered) replied.answered) one in
+    let C : Stage → Type 0 = λ s. CarriesOf old.session (turn ∷ []) s.session in
+    carries-then old.session.plays takes.0.session.plays new.session.plays old.session.state takes.0.session.state new.session.state (turn ∷ [])
+    (takings_turns takes.0 takings new takes.1.1) (subst C (sym replied.new_is) sent) (takes-turns takes.0 new takings takes.1.1)
+
+round-carries : (old new : Stage) (round : Round) (runs : Runs old round new) → CarriesOf old.session (round_turns old round new runs) new.session
+round-carries old new round runs =
+    carries-then old.session.plays runs.opened.session.plays new.session.plays old.session.state runs.opened.session.state new.session.state
+    (turn_of (asking_at old.session round.event) round.halt ∷ []) (takings_turns runs.opened round.takings new runs.takes)
+    (comes-turn old runs.opened round.event round.due round.halt runs.comes) (takes-turns runs.opened new round.takings runs.takes)
+
+rounds-carry : (old new : Stage) (rounds : List Round) (runs : RunsAll old rounds new) → CarriesOf old.session (rounds_turns old rounds new runs) new.session
+rounds-carry old new [] runs =
+    let C : Stage → Type 0 = λ s. CarriesOf old.session [] s.session in
+    subst C (sym runs) (carries-none old.session.plays old.session.state)
+rounds-carry old new (round ∷ rounds) runs =
+    carries-then old.session.plays runs.0.session.plays new.session.plays old.session.state runs.0.session.state new.session.state
+    (round_turns old round runs.0 runs.1.0) (rounds_turns runs.0 rounds new runs.1.2) (round-carries old runs.0 round runs.1.0)
+    (rounds-carry runs.0 new rounds runs.1.2)
+
+-- a play that a failed send leaves as it was
+carried-open : (old new : State) → IsCarried old new → (later : List Turn) → open_note new later ≡ open_note old later
+carried-open Init Init carried later = refl
+carried-open Init (Ready s p) carried later = absurd carried
+carried-open Init (Playing s p) carried later = absurd carried
+carried-open Init (Stopping s p) carried later = absurd carried
+carried-open (Ready setup paused) Init carried later = absurd carried
+carried-open (Ready setup paused) (Ready s p) carried later = refl
+carried-open (Ready setup paused) (Playing s p) carried later = absurd carried
+carried-open (Ready setup paused) (Stopping s p) carried later = absurd carried
+carried-open (Playing setup play) Init carried later = absurd carried
+carried-open (Playing setup play) (Ready s p) carried later = absurd carried
+carried-open (Playing setup play) (Playing s p) carried later = rw carried.0 (rw carried.1 (rw carried.2 (rw carried.3 (rw carried.4 refl))))
+carried-open (Playing setup play) (Stopping s p) carried later = absurd carried
+carried-open (Stopping setup stop) Init carried later = absurd carried
+carried-open (Stopping setup stop) (Ready s p) carried later = absurd carried
+carried-open (Stopping setup stop) (Playing s p) carried later = absurd carried
+carried-open (Stopping setup stop) (Stopping s p) carried later = refl
+
+-- ---- ends
+ending-carries : (old new : Stage) (count : ℕ) (ending : Ending) (end : ConnEnd) (ends : Ends old count ending end new)
+    → CarriesOf old.session (ending_turns old count ending end new ends) new.session
+ending-carries old new count Unheard end ends =
+    let C : Stage → Type 0 = λ s. CarriesOf old.session [] s.session in
+    subst C (sym ends.1) (carries-none old.session.plays old.session.state)
+ending-carries old new count PeerEnded end ends =
+    let C : Stage → Type 0 = λ s. CarriesOf old.session [] s.session in
+    subst C (sym ends.1) (carries-none old.session.plays old.session.state)
+ending-carries old new count (Overfull bytes) end ends =
+    let C : Stage → Type 0 = λ s. CarriesOf old.session [] s.session in
+    subst C (sym ends.3) (carries-none old.session.plays old.session.state)
+ending-carries old new count (AtPiece round) end ends = round-carries old new round ends.0
+ending-carries old new count (InSlot slot front) end ends =
+    let failed = ends.1 in
+    to-same old.session old.session new.session [] (record {
+      plays = failed.plays;
+      open-same = carried-open old.session.state new.session.state failed.carried;
+    }) (carries-none old.session.plays old.session.state)
+ending-carries old new count (InReply round message outcome front) end ends =
+    let e = ends.1 in
+    let failed = e.fails in
+    let turn = turn_of failed.heard.asking outcome in
+    let last : CarriesOf e.mid.session (turn ∷ []) failed.answered = heard-on e.mid.session failed.answered message outcome failed.heard in
+    let C : Stage → Type 0 = λ s. CarriesOf e.mid.session (turn ∷ []) s.session in
+    carries-then old.session.plays e.mid.session.plays new.session.plays old.session.state e.mid.session.state new.session.state
+    (round_turns old round e.mid e.runs) (turn ∷ []) (round-carries old e.mid round e.runs) (subst C (sym failed.new_is) last)
+
+-- ---- between doings nothing is awaited
+stands-all : (old new : Stage) (rounds : List Round) → RunsAll old rounds new → Stands old.session → Stands new.session
+stands-all old new rounds runs stands =
+    let follows = follows_all old new rounds runs in
+    stands_by old.session new.session (askings_of old rounds new follows) (rounds_film rounds) (course_step old new rounds follows stands)
+
+stands-round : (old new : Stage) (round : Round) → Runs old round new → Stands old.session → Stands new.session
+stands-round old new round runs stands =
+    stands_by old.session new.session (round_askings old round new runs) (film_bytes round.due) (round_step old new round runs stands)
+
+at-rest : (awaited : Awaited) → awaits_of awaited ≡ NoAnswer → awaited ≡ Nothing
+at-rest Nothing rest = refl
+at-rest (Play prepared) rest = absurd (let never : ⊥ = cc rest in never)
+at-rest (Halt keep next) rest = absurd (let never : ⊥ = cc rest in never)
+at-rest (Look sequence) rest = absurd (let never : ⊥ = cc rest in never)
+at-rest (Offer sequence) rest = absurd (let never : ⊥ = cc rest in never)
+
+ending-rest : (old new : Stage) (count : ℕ) (ending : Ending) (end : ConnEnd) → Ends old count ending end new → Stands old.session → new.session.awaited ≡ Nothing
+ending-rest old new count Unheard end ends stands = ap (λ (s : Stage). s.session.awaited) ends.1 ∙ stands.rest
+ending-rest old new count PeerEnded end ends stands = ap (λ (s : Stage). s.session.awaited) ends.1 ∙ stands.rest
+ending-rest old new count (Overfull bytes) end ends stands = ap (λ (s : Stage). s.session.awaited) ends.3 ∙ stands.rest
+ending-rest old new count (AtPiece round) end ends stands = (stands-round old new round ends.0 stands).rest
+ending-rest old new count (InSlot slot front) end ends stands = at-rest new.session.awaited ends.1.rest
+ending-rest old new count (InReply round message outcome front) end ends stands =
+    let e = ends.1 in
+    let failed = e.fails in
+    let turns = turns_as e.mid.session message outcome failed.answered failed.heard (stands-round old e.mid round e.runs stands).rest in
+    ap (λ (s : Stage). s.session.awaited) failed.new_is ∙ (turn_after e.mid.session failed.answered failed.heard.asking.awaited outcome turns).awaited
+
+-- ---- the halt of a booking that is open at the end
+record IsShut (last closed : Standing) (halt : Outcome) : Type 0 where
+  on : CarriesOf last (turn_of last halt ∷ []) closed
+  none : (later : List Turn) → open_note closed.state later ≡ []
+
+shut-none : (last closed : Standing) (halt : Outcome) → ((later : List Turn) → open_note last.state later ≡ []) → IsClosed None last halt closed → IsShut last closed halt
+shut-none last closed Unasked none closes =
+    let C : Standing → Type 0 = λ s. IsShut last s Unasked in
+    subst C (sym closes) (record { on = unasked-turn last.plays last.state last; none = none })
+shut-none last closed (Entered placed) none closes = absurd closes
+shut-none last closed (WasFull more entries live) none closes = absurd closes
+shut-none last closed (Offered at_slot note) none closes = absurd closes
+
+shut-halted : (last closed : Standing) (keep : ℕ) (halt : Outcome) → IsKept last.state last.awaited keep → last.awaited ≡ Nothing → IsHalted last keep halt closed
+    → IsShut last closed halt
+shut-halted last closed keep Unasked kept rest halted = absurd halted
+shut-halted last closed keep (Entered placed) kept rest halted = record {
+  on = halt-turn last closed last keep (Entered placed) kept halted
+      (λ made later. no-note last.state last.awaited made later (λ prepared asks. let no : Nothing ≡ Play prepared = sym rest ∙ asks in cc no));
+  none = λ later. ap (λ (s : Standing). open_note s.state later) halted.halts ∙ halted-open last.state last.awaited later;
+}
+shut-halted last closed keep (WasFull more entries live) kept rest halted = absurd halted
+shut-halted last closed keep (Offered at_slot note) kept rest halted = absurd halted
+
+shut-in : (state : State) (last closed : Standing) (halt : Outcome) → last.state ≡ state → last.awaited ≡ Nothing → IsClosed (open_in state) last halt closed
+    → IsShut last closed halt
+shut-in Init last closed halt is rest closes = shut-none last closed halt (λ later. ap (λ s. open_note s later) is) closes
+shut-in (Ready setup paused) last closed halt is rest closes = shut-none last closed halt (λ later. ap (λ s. open_note s later) is) closes
+shut-in (Playing setup play) last closed halt is rest closes =
+    let K : State → Awaited → Type 0 = λ s a. IsKept s a play.pacer.due in
+    let kept : IsKept last.state last.awaited play.pacer.due =
+    subst (λ s. K s last.awaited) (sym is) (subst (K (Playing setup play)) (sym rest) refl) in
+    shut-halted last closed play.pacer.due halt kept rest closes
+shut-in (Stopping setup stop) last closed halt is rest closes = shut-none last closed halt (λ later. ap (λ s. open_note s later) is) closes
+
+-- ---- all notes
+until-none : (turns : List Turn) → notes_until turns [] ≡ notes_of turns
+until-none [] = refl
+until-none (turn ∷ turns) =
+    ap (λ ts. noted turn.asking turn.outcome ts ++ notes_until turns []) (append-nil turns) ∙ ap (λ ns. noted turn.asking turn.outcome turns ++ ns) (until-none turns)
+
+pub plays-noted : (films : List Stored) (settings : Settings) (words : List ℕ) (doings : Doings) (report : ConnReport)
+    (done : HasDone films settings words doings report) → report.plays.items ≡ notes_of (turns_of films settings words doings report done)
+plays-noted films settings words doings report done =
+    let first = first_stage films settings words in
+    let count = length doings.rounds in
+    let begun : Stands first.session = record { rest = refl; sound = tt } in
+    let mid = stands-all first done.mid doings.rounds done.runs begun in
+    let rest = ending-rest done.mid done.last count doings.ending report.end done.ends mid in
+    let shut = shut-in done.last.session.state done.last.session done.closed doings.halt refl rest done.closes in
+    let heard = rounds_turns first doings.rounds done.mid done.runs in
+    let ended = ending_turns done.mid count doings.ending report.end done.last done.ends in
+    let turns = turns_of films settings words doings report done in
+    let before : CarriesOf first.session (heard ++ ended) done.last.session =
+    carries-then first.session.plays done.mid.session.plays done.last.session.plays first.session.state done.mid.session.state done.last.session.state heard ended
+    (rounds-carry first done.mid doings.rounds done.runs) (ending-carries done.mid done.last count doings.ending report.end done.ends) in
+    let all : CarriesOf first.session turns done.closed =
+    carries-then first.session.plays done.last.session.plays done.closed.plays first.session.state done.last.session.state done.closed.state (heard ++ ended)
+    (turn_of done.last.session doings.halt ∷ []) before shut.on in
+    done.report_is.plays ∙ sym (append-nil done.closed.plays) ∙ ap (λ ns. done.closed.plays ++ ns) (sym (shut.none [])) ∙ sym (all.on []) ∙ until-none turns
+
+-- ---- the answers of turns are those of the doings
+takes-outcomes : (old new : Stage) (takings : List Taking) (takes : TakesAll old takings new)
+    → map outcome_of (takings_turns old takings new takes) ≡ takings_outcomes takings
+takes-outcomes old new [] takes = refl
+takes-outcomes old new (Passed n ∷ takings) takes = takes-outcomes takes.0 new takings takes.1.1
+takes-outcomes old new (Answered message outcome parts ∷ takings) takes = ap (λ os. outcome ∷ os) (takes-outcomes takes.0 new takings takes.1.1)
+
+round-outcomes : (old new : Stage) (round : Round) (runs : Runs old round new) → map outcome_of (round_turns old round new runs) ≡ round_outcomes round
+round-outcomes old new round runs = ap (λ os. round.halt ∷ os) (takes-outcomes runs.opened new round.takings runs.takes)
+
+rounds-outcomes : (old new : Stage) (rounds : List Round) (runs : RunsAll old rounds new) → map outcome_of (rounds_turns old rounds new runs) ≡ rounds_outcomes rounds
+rounds-outcomes old new [] runs = refl
+rounds-outcomes old new (round ∷ rounds) runs =
+    map-append outcome_of (round_turns old round runs.0 runs.1.0) (rounds_turns runs.0 rounds new runs.1.2)
+    ∙ ap (λ os. os ++ map outcome_of (rounds_turns runs.0 rounds new runs.1.2)) (round-outcomes old runs.0 round runs.1.0)
+    ∙ ap (λ os. round_outcomes round ++ os) (rounds-outcomes runs.0 new rounds runs.1.2)
+
+ending-outcomes : (old new : Stage) (count : ℕ) (ending : Ending) (end : ConnEnd) (ends : Ends old count ending end new)
+    → map outcome_of (ending_turns old count ending end new ends) ≡ ending_outcomes ending
+ending-outcomes old new count Unheard end ends = refl
+ending-outcomes old new count PeerEnded end ends = refl
+ending-outcomes old new count (Overfull bytes) end ends = refl
+ending-outcomes old new count (AtPiece round) end ends = round-outcomes old new round ends.0
+ending-outcomes old new count (InSlot slot front) end ends = refl
+ending-outcomes old new count (InReply round message outcome front) end ends =
+    map-append outcome_of (round_turns old round ends.1.mid ends.1.runs) (turn_of ends.1.fails.heard.asking outcome ∷ [])
+    ∙ ap (λ os. os ++ outcome ∷ []) (round-outcomes old ends.1.mid round ends.1.runs)
+
+pub turns-told : (films : List Stored) (settings : Settings) (words : List ℕ) (doings : Doings) (report : ConnReport)
+    (done : HasDone films settings words doings report) → map outcome_of (turns_of films settings words doings report done) ≡ doings_outcomes doings
+turns-told films settings words doings report done =
+    let first = first_stage films settings words in
+    let heard = rounds_turns first doings.rounds done.mid done.runs in
+    let ended = ending_turns done.mid (length doings.rounds) doings.ending report.end done.last done.ends in
+    map-append outcome_of (heard ++ ended) (turn_of done.last.session doings.halt ∷ [])
+    ∙ ap (λ os. os ++ doings.halt ∷ []) (map-append outcome_of heard ended
+    ∙ ap (λ os. os ++ map outcome_of ended) (rounds-outcomes first done.mid doings.rounds done.runs)
+    ∙ ap (λ os. rounds_outcomes doings.rounds ++ os) (ending-outcomes done.mid done.last (length doings.rounds) doings.ending report.end done.ends))

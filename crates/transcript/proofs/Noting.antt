@@ -1,0 +1,310 @@
+-- A report's notes are those of the plays that were admitted.
+use Rattle.std.proofs.Common.{◌≡◌, ℕ, ◌<◌, ◌++◌, ◌&&◌, if◌then◌else◌, Bool, true, false, List, [], ◌∷◌, Option, Some, None, length, map, refl, sym, ap, subst, ◌∙◌, inl, inr}
+use Rattle.std.proofs.lemmas.Bool.{true≢false}
+use Rattle.std.proofs.lemmas.List.{append_assoc, append-nil, map-append}
+use Rattle.vod_base.specs.Links.{Doing, HeardBytes, HeardEnd, HeardSlot, Sent}
+use Rattle.plan_cert.specs.declared.Segment.{Segment}
+use Rattle.plan_cert.specs.Slots.{total_bytes}
+use Rattle.slot_calendar.specs.Plays.{whole_play}
+use Rattle.film_frames.specs.declared.stores.Stored.{Stored}
+use Rattle.film_run.specs.declared.runs.Run.{Run}
+use Rattle.early_start.specs.Offered.{Found}
+use Rattle.admission.specs.Histories.{play_admitted}
+use Rattle.admission.specs.Makers.{Placed}
+use Rattle.admission.specs.declared.entries.Answer.{Answer}
+use Rattle.admission.specs.declared.entries.Answer.TheVariants.{Admitted, Halted, Looked, Overflow}
+use Rattle.admission.specs.declared.entries.Command.TheVariants.{Halt as HaltCommand}
+use Rattle.station.specs.Ledgers.{look_at, play_of}
+use Rattle.session.specs.declared.asks.Ask.{Ask}
+use Rattle.session.specs.declared.asks.Ask.TheVariants.{Reply as AskReply, Play as AskPlay, Halt as AskHalt, Look as AskLook, Offer as AskOffer}
+use Rattle.session.specs.declared.notes.PlayNote.{PlayNote}
+use Rattle.session.specs.declared.settings.Settings.{Settings}
+use Rattle.session.specs.declared.states.Awaited.{Awaited}
+use Rattle.session.specs.declared.states.Awaited.TheVariants.{Nothing, Play, Halt, Look, Offer}
+use Rattle.session.specs.declared.states.Next.{Next}
+use Rattle.session.specs.declared.states.Next.TheVariants.{Done, Paused, Torn}
+use Rattle.session.specs.declared.states.Play.{Play as Played}
+use Rattle.session.specs.declared.states.Prepared.{Prepared}
+use Rattle.session.specs.declared.states.Setup.{Setup}
+use Rattle.session.specs.declared.states.State.{State}
+use Rattle.session.specs.declared.states.State.TheVariants.{Init, Ready, Playing, Stopping}
+use Rattle.session.specs.Hearings.{after_admission, after_halt}
+use Rattle.session.specs.Sendings.{admitted_in, halted_in, halted_notes, kept_of, note_of, state_after}
+use Rattle.session.specs.Standings.{Standing}
+use Rattle.session.proofs.Shapes.{HearsAs, Replies, SetsUp, AsksPlay, Stops, AsksLook, AsksOffer, hears_as}
+use Rattle.conn.specs.Turns.{HasHeard, IsAnswered, IsHaltAnswered, IsHalted, IsLookAnswered, IsPlayAnswered, Outcome, Unasked, Entered, WasFull, Offered}
+use Rattle.transcript.specs.Notes.{Turn, kept_later, note_for, noted, noted_entry, noted_for, notes_of, turn_of}
+use Rattle.transcript.specs.Plays.{kept_by, kept_with}
+
+-- the note of a play that is under way, by what comes later
+abbrev pub open_note : State → List Turn → List PlayNote
+open_note Init turns = []
+open_note (Ready setup paused) turns = []
+open_note (Playing setup play) turns = note_of setup play (kept_later turns (total_bytes play.plan)) ∷ []
+open_note (Stopping setup stop) turns = []
+
+-- the notes of turns, by what comes later
+abbrev pub notes_until : List Turn → List Turn → List PlayNote
+notes_until [] later = []
+notes_until (turn ∷ turns) later = noted turn.asking turn.outcome (turns ++ later) ++ notes_until turns later
+
+-- what was noted and what is under way go on through turns
+pub record Carries (plays : List PlayNote) (state : State) (turns : List Turn) (next : List PlayNote) (after : State) : Type 0 where
+  pub on : (later : List Turn) → (plays ++ open_note state (turns ++ later)) ++ notes_until turns later ≡ next ++ open_note after later
+
+pub carries-none : (plays : List PlayNote) (state : State) → Carries plays state [] plays state
+carries-none plays state = record { on = λ later. append-nil (plays ++ open_note state later) }
+
+until-append : (ts us later : List Turn) → notes_until (ts ++ us) later ≡ notes_until ts (us ++ later) ++ notes_until us later
+until-append [] us later = refl
+until-append (t ∷ ts) us later =
+    ap (λ ns. noted t.asking t.outcome ns ++ notes_until (ts ++ us) later) (append_assoc ts us later)
+    ∙ ap (λ ns. noted t.asking t.outcome (ts ++ (us ++ later)) ++ ns) (until-append ts us later)
+    ∙ sym (append_assoc (noted t.asking t.outcome (ts ++ (us ++ later))) (notes_until ts (us ++ later)) (notes_until us later))
+
+pub carries-then : (p q r : List PlayNote) (a b c : State) (ts us : List Turn) → Carries p a ts q b → Carries q b us r c → Carries p a (ts ++ us) r c
+carries-then p q r a b c ts us one two = record {
+  on = λ later.
+      ap (λ ns. (p ++ open_note a ns) ++ notes_until (ts ++ us) later) (append_assoc ts us later)
+      ∙ ap (λ ns. (p ++ open_note a (ts ++ (us ++ later))) ++ ns) (until-append ts us later)
+      ∙ sym (append_assoc (p ++ open_note a (ts ++ (us ++ later))) (notes_until ts (us ++ later)) (notes_until us later))
+      ∙ ap (λ ns. ns ++ notes_until us later) (one.on (us ++ later)) ∙ two.on later;
+}
+
+-- the same notes, and the same play under way
+pub carries-as : (p q r s : List PlayNote) (a b c d : State) (ts : List Turn) → p ≡ q → ((later : List Turn) → open_note a later ≡ open_note b later)
+    → r ≡ s → ((later : List Turn) → open_note c later ≡ open_note d later) → Carries q b ts s d → Carries p a ts r c
+carries-as p q r s a b c d ts plays state next after on = record {
+  on = λ later.
+      ap (λ ns. (ns ++ open_note a (ts ++ later)) ++ notes_until ts later) plays
+      ∙ ap (λ ns. (q ++ ns) ++ notes_until ts later) (state (ts ++ later)) ∙ on.on later
+      ∙ ap (λ ns. s ++ ns) (sym (after later)) ∙ ap (λ ns. ns ++ open_note c later) (sym next);
+}
+
+-- a turn that neither begins nor halts a play
+open-kept : (state : State) (turn : Turn) (later : List Turn) → ((k : ℕ) → kept_with turn.outcome k ≡ k) → open_note state (turn ∷ later) ≡ open_note state later
+open-kept Init turn later kept = refl
+open-kept (Ready setup paused) turn later kept = refl
+open-kept (Playing setup play) turn later kept = ap (λ k. note_of setup play k ∷ []) (kept (kept_later later (total_bytes play.plan)))
+open-kept (Stopping setup stop) turn later kept = refl
+
+still-turn : (plays : List PlayNote) (state : State) (asking : Standing) (outcome : Outcome) → ((later : List Turn) → noted asking outcome later ≡ [])
+    → ((k : ℕ) → kept_with outcome k ≡ k) → Carries plays state (turn_of asking outcome ∷ []) plays state
+still-turn plays state asking outcome none kept = record {
+  on = λ later.
+      ap (λ ns. (plays ++ open_note state (turn_of asking outcome ∷ later)) ++ (ns ++ [])) (none later)
+      ∙ append-nil (plays ++ open_note state (turn_of asking outcome ∷ later))
+      ∙ ap (λ ns. plays ++ ns) (open-kept state (turn_of asking outcome) later kept);
+}
+
+pub unasked-turn : (plays : List PlayNote) (state : State) (asking : Standing) → Carries plays state (turn_of asking Unasked ∷ []) plays state
+unasked-turn plays state asking = still-turn plays state asking Unasked (λ later. refl) (λ k. refl)
+
+-- nothing is noted where no play was asked for
+pub no-note : (state : State) (awaited : Awaited) (placed : Placed) (later : List Turn) → ((prepared : Prepared) → awaited ≡ Play prepared → ⊥)
+    → noted_entry state awaited placed later ≡ []
+no-note Init awaited placed later other = refl
+no-note (Ready setup paused) Nothing placed later other = refl
+no-note (Ready setup paused) (Play prepared) placed later other = absurd (other prepared refl)
+no-note (Ready setup paused) (Halt keep next) placed later other = refl
+no-note (Ready setup paused) (Look sequence) placed later other = refl
+no-note (Ready setup paused) (Offer sequence) placed later other = refl
+no-note (Playing setup play) awaited placed later other = refl
+no-note (Stopping setup stop) awaited placed later other = refl
+
+-- ---- a halt
+after-open : (setup : Setup) (play : Played) (next : Next) (later : List Turn) → open_note (state_after setup play next) later ≡ []
+after-open setup play Done later = refl
+after-open setup play (Paused run) later = refl
+after-open setup play Torn later = refl
+
+pub halted-open : (state : State) (awaited : Awaited) (later : List Turn) → open_note (halted_in state awaited) later ≡ []
+halted-open Init awaited later = refl
+halted-open (Ready setup paused) awaited later = refl
+halted-open (Playing setup play) awaited later = after-open setup play _ later
+halted-open (Stopping setup stop) awaited later = refl
+
+-- what is due of a play that is under way
+abbrev pub IsKept : State → Awaited → ℕ → Type 0
+IsKept Init awaited keep = Unit {0}
+IsKept (Ready setup paused) awaited keep = Unit {0}
+IsKept (Playing setup play) awaited keep = kept_of awaited play.pacer.due ≡ keep
+IsKept (Stopping setup stop) awaited keep = Unit {0}
+
+halted-as : (state : State) (awaited : Awaited) (keep : ℕ) (turn : Turn) (later : List Turn) → IsKept state awaited keep → ((k : ℕ) → kept_with turn.outcome k ≡ keep)
+    → open_note state (turn ∷ later) ≡ halted_notes state awaited
+halted-as Init awaited keep turn later is kept = refl
+halted-as (Ready setup paused) awaited keep turn later is kept = refl
+halted-as (Playing setup play) awaited keep turn later is kept =
+    ap (λ k. note_of setup play k ∷ []) (kept (kept_later later (total_bytes play.plan)) ∙ sym is)
+halted-as (Stopping setup stop) awaited keep turn later is kept = refl
+
+pub halt-turn : (s new asking : Standing) (keep : ℕ) (halt : Outcome) → IsKept s.state s.awaited keep → IsHalted s keep halt new
+    → ((placed : Placed) (later : List Turn) → noted_entry asking.state asking.awaited placed later ≡ [])
+    → Carries s.plays s.state (turn_of asking halt ∷ []) new.plays new.state
+halt-turn s new asking keep Unasked kept halted none = absurd halted
+halt-turn s new asking keep (Entered placed) kept halted none =
+    let turn = turn_of asking (Entered placed) in
+    let is : new ≡ after_halt s placed.place = halted.halts in
+    let plays : new.plays ≡ s.plays ++ halted_notes s.state s.awaited = ap (λ (n : Standing). n.plays) is in
+    let state : new.state ≡ halted_in s.state s.awaited = ap (λ (n : Standing). n.state) is in
+    record {
+      on = λ later.
+          ap (λ ns. (s.plays ++ open_note s.state (turn ∷ later)) ++ (ns ++ [])) (none placed later)
+          ∙ append-nil (s.plays ++ open_note s.state (turn ∷ later))
+          ∙ ap (λ ns. s.plays ++ ns) (halted-as s.state s.awaited keep turn later kept (λ k. ap (λ c. kept_by c k) halted.command))
+          ∙ sym (append-nil (s.plays ++ halted_notes s.state s.awaited))
+          ∙ ap (λ ns. (s.plays ++ halted_notes s.state s.awaited) ++ ns) (sym (ap (λ x. open_note x later) state ∙ halted-open s.state s.awaited later))
+          ∙ ap (λ ns. ns ++ open_note new.state later) (sym plays);
+    }
+halt-turn s new asking keep (WasFull more entries live) kept halted none = absurd halted
+halt-turn s new asking keep (Offered at_slot note) kept halted none = absurd halted
+
+-- ---- a request
+abbrev CarriesOn : Standing → Standing → Outcome → Standing → Type 0
+CarriesOn old asking outcome new = Carries old.plays old.state (turn_of asking outcome ∷ []) new.plays new.state
+
+stays-on : (old asking new : Standing) (outcome : Outcome) → new.plays ≡ old.plays → new.state ≡ old.state → ((later : List Turn) → noted asking outcome later ≡ [])
+    → ((k : ℕ) → kept_with outcome k ≡ k) → CarriesOn old asking outcome new
+stays-on old asking new outcome plays state none kept =
+    carries-as old.plays old.plays new.plays old.plays old.state old.state new.state old.state (turn_of asking outcome ∷ []) refl (λ later. refl) plays
+    (λ later. ap (λ s. open_note s later) state) (still-turn old.plays old.state asking outcome none kept)
+
+-- the session's own reply
+replied-on : (old asking new : Standing) (outcome : Outcome) → IsAnswered asking AskReply outcome new → asking.plays ≡ old.plays
+    → ((later : List Turn) → open_note asking.state later ≡ open_note old.state later) → CarriesOn old asking outcome new
+replied-on old asking new Unasked answered plays state =
+    carries-as old.plays old.plays new.plays old.plays old.state old.state new.state old.state (turn_of asking Unasked ∷ []) refl (λ later. refl)
+    (ap (λ (s : Standing). s.plays) answered ∙ plays) (λ later. ap (λ (s : Standing). open_note s.state later) answered ∙ state later) (unasked-turn old.plays old.state asking)
+replied-on old asking new (Entered placed) answered plays state = absurd answered
+replied-on old asking new (WasFull more entries live) answered plays state = absurd answered
+replied-on old asking new (Offered at_slot note) answered plays state = absurd answered
+
+-- a play that begins
+begun-state : (state : State) (awaited : Awaited) (setup : Setup) (paused : Option Run) (prepared : Prepared) (place start : ℕ) (later : List Turn)
+    → state ≡ Ready setup paused → awaited ≡ Play prepared
+    → open_note (admitted_in state awaited place start) later
+    ≡ note_for setup prepared.run place (whole_play start prepared.plan) (kept_later later (total_bytes prepared.plan)) ∷ []
+begun-state state awaited setup paused prepared place start later ready asks =
+    ap (λ s. open_note (admitted_in s awaited place start) later) ready
+    ∙ ap (λ a. open_note (admitted_in (Ready setup paused) a place start) later) asks
+
+begun-note : (asking : Standing) (setup : Setup) (paused : Option Run) (prepared : Prepared) (placed : Placed) (answer : Answer) (later : List Turn)
+    → asking.state ≡ Ready setup paused → asking.awaited ≡ Play prepared → placed.entry.command ≡ play_of asking.heard prepared.plan → placed.entry.answer ≡ answer
+    → noted asking (Entered placed) later ≡ noted_for setup prepared.run placed.place (play_admitted (play_of asking.heard prepared.plan) answer) later
+begun-note asking setup paused prepared placed answer later ready asks command is =
+    ap (λ s. noted_entry s asking.awaited placed later) ready ∙ ap (λ a. noted_entry (Ready setup paused) a placed later) asks
+    ∙ ap (λ c. noted_for setup prepared.run placed.place (play_admitted c placed.entry.answer) later) command
+    ∙ ap (λ a. noted_for setup prepared.run placed.place (play_admitted (play_of asking.heard prepared.plan) a) later) is
+
+play-on : (old asking new : Standing) (setup : Setup) (paused : Option Run) (prepared : Prepared) (placed : Placed) (answer : Answer) → placed.entry.answer ≡ answer
+    → placed.entry.command ≡ play_of asking.heard prepared.plan → IsPlayAnswered asking placed answer new → old.state ≡ Ready setup paused → asking.state ≡ old.state
+    → asking.plays ≡ old.plays → asking.awaited ≡ Play prepared → CarriesOn old asking (Entered placed) new
+play-on old asking new setup paused prepared placed (Admitted start) is command answered ready state plays awaited =
+    let there : asking.state ≡ Ready setup paused = state ∙ ready in
+    let note : List Turn → PlayNote = λ later. note_for setup prepared.run placed.place (whole_play start prepared.plan) (kept_later later (total_bytes prepared.plan)) in
+    let new-plays : new.plays ≡ old.plays = ap (λ (s : Standing). s.plays) answered.1 ∙ plays in
+    let new-state : new.state ≡ admitted_in asking.state asking.awaited placed.place start = ap (λ (s : Standing). s.state) answered.1 in
+    record {
+      on = λ later.
+          ap (λ s. (old.plays ++ open_note s (turn_of asking (Entered placed) ∷ later)) ++ (noted asking (Entered placed) later ++ [])) ready
+          ∙ ap (λ ns. ns ++ (noted asking (Entered placed) later ++ [])) (append-nil old.plays)
+          ∙ ap (λ ns. old.plays ++ ns) (append-nil (noted asking (Entered placed) later)
+          ∙ begun-note asking setup paused prepared placed (Admitted start) later there awaited command is)
+          ∙ ap (λ ns. old.plays ++ ns) (sym (ap (λ s. open_note s later) new-state
+          ∙ begun-state asking.state asking.awaited setup paused prepared placed.place start later there awaited))
+          ∙ ap (λ ns. ns ++ open_note new.state later) (sym new-plays);
+    }
+play-on old asking new setup paused prepared placed (Overflow slot booked asks) is command answered ready state plays awaited =
+    stays-on old asking new (Entered placed) (ap (λ (s : Standing). s.plays) answered ∙ plays) (ap (λ (s : Standing). s.state) answered ∙ state)
+    (λ later. begun-note asking setup paused prepared placed (Overflow slot booked asks) later (state ∙ ready) awaited command is)
+    (λ k. ap (λ c. kept_by c k) command)
+play-on old asking new setup paused prepared placed Halted is command answered ready state plays awaited = absurd answered
+play-on old asking new setup paused prepared placed (Looked now at booked) is command answered ready state plays awaited = absurd answered
+
+asks-play : (old asking new : Standing) (setup : Setup) (paused : Option Run) (prepared : Prepared) (outcome : Outcome)
+    → IsAnswered asking (AskPlay prepared.plan) outcome new → old.state ≡ Ready setup paused → asking.state ≡ old.state
+    → asking.plays ≡ old.plays → asking.awaited ≡ Play prepared → CarriesOn old asking outcome new
+asks-play old asking new setup paused prepared Unasked answered ready state plays awaited = absurd answered
+asks-play old asking new setup paused prepared (Entered placed) answered ready state plays awaited =
+    play-on old asking new setup paused prepared placed placed.entry.answer refl answered.0 answered.1 ready state plays awaited
+asks-play old asking new setup paused prepared (WasFull more entries live) answered ready state plays awaited =
+    stays-on old asking new (WasFull more entries live) (ap (λ (s : Standing). s.plays) answered.0 ∙ plays) (ap (λ (s : Standing). s.state) answered.0 ∙ state)
+    (λ later. refl) (λ k. refl)
+asks-play old asking new setup paused prepared (Offered at_slot note) answered ready state plays awaited = absurd answered
+
+-- a look
+no-play : (sequence : ℕ) (awaited : Awaited) → awaited ≡ Look sequence → (prepared : Prepared) → awaited ≡ Play prepared → ⊥
+no-play sequence awaited looks prepared asks = let no : Look sequence ≡ Play prepared = sym looks ∙ asks in cc no
+
+look-on : (old asking new : Standing) (placed : Placed) (answer : Answer) (sequence slot : ℕ) → placed.entry.command ≡ look_at slot
+    → IsLookAnswered asking placed answer new → asking.state ≡ old.state → asking.plays ≡ old.plays → asking.awaited ≡ Look sequence
+    → CarriesOn old asking (Entered placed) new
+look-on old asking new placed (Looked now at booked) sequence slot command answered state plays awaited =
+    stays-on old asking new (Entered placed) (ap (λ (s : Standing). s.plays) answered ∙ plays) (ap (λ (s : Standing). s.state) answered ∙ state)
+    (λ later. no-note asking.state asking.awaited placed later (no-play sequence asking.awaited awaited)) (λ k. ap (λ c. kept_by c k) command)
+look-on old asking new placed (Admitted start) sequence slot command answered state plays awaited = absurd answered
+look-on old asking new placed (Overflow over booked asks) sequence slot command answered state plays awaited = absurd answered
+look-on old asking new placed Halted sequence slot command answered state plays awaited = absurd answered
+
+asks-look : (old asking new : Standing) (slot sequence : ℕ) (outcome : Outcome) → IsAnswered asking (AskLook slot) outcome new → asking.state ≡ old.state
+    → asking.plays ≡ old.plays → asking.awaited ≡ Look sequence → CarriesOn old asking outcome new
+asks-look old asking new slot sequence Unasked answered state plays awaited = absurd answered
+asks-look old asking new slot sequence (Entered placed) answered state plays awaited =
+    look-on old asking new placed placed.entry.answer sequence slot answered.0 answered.1 state plays awaited
+asks-look old asking new slot sequence (WasFull more entries live) answered state plays awaited =
+    stays-on old asking new (WasFull more entries live) (ap (λ (s : Standing). s.plays) answered.0 ∙ plays) (ap (λ (s : Standing). s.state) answered.0 ∙ state)
+    (λ later. refl) (λ k. refl)
+asks-look old asking new slot sequence (Offered at_slot note) answered state plays awaited = absurd answered
+
+asks-offer : (old asking new : Standing) (plan : List Segment) (offers : Found) (outcome : Outcome) → IsAnswered asking (AskOffer plan offers) outcome new
+    → asking.state ≡ old.state → asking.plays ≡ old.plays → CarriesOn old asking outcome new
+asks-offer old asking new plan offers Unasked answered state plays = absurd answered
+asks-offer old asking new plan offers (Entered placed) answered state plays = absurd answered
+asks-offer old asking new plan offers (WasFull more entries live) answered state plays = absurd answered
+asks-offer old asking new plan offers (Offered at_slot note) answered state plays =
+    stays-on old asking new (Offered at_slot note) (ap (λ (s : Standing). s.plays) answered.2 ∙ plays) (ap (λ (s : Standing). s.state) answered.2 ∙ state)
+    (λ later. refl) (λ k. refl)
+
+-- a halt that a request asks for
+pub no-halt-note : (state : State) (awaited : Awaited) (keep : ℕ) (next : Next) → awaited ≡ Halt keep next → (placed : Placed) (later : List Turn)
+    → noted_entry state awaited placed later ≡ []
+no-halt-note state awaited keep next halts placed later =
+    no-note state awaited placed later (λ prepared asks. let no : Halt keep next ≡ Play prepared = sym halts ∙ asks in cc no)
+
+asks-halt : (old asking new : Standing) (setup : Setup) (play : Played) (keep : ℕ) (next : Next) (outcome : Outcome) → IsHalted asking keep outcome new
+    → old.state ≡ Playing setup play → asking.state ≡ Playing setup (record play { pacer = record play.pacer { keep = keep } }) → asking.plays ≡ old.plays
+    → asking.awaited ≡ Halt keep next → CarriesOn old asking outcome new
+asks-halt old asking new setup play keep next outcome halted playing state plays awaited =
+    let stopped : Played = record play { pacer = record play.pacer { keep = keep } } in
+    let K : State → Awaited → Type 0 = λ s a. IsKept s a keep in
+    let kept : IsKept asking.state asking.awaited keep =
+    subst (λ s. K s asking.awaited) (sym state) (subst (K (Playing setup stopped)) (sym awaited) refl) in
+    carries-as old.plays asking.plays new.plays new.plays old.state asking.state new.state new.state (turn_of asking outcome ∷ []) (sym plays)
+    (λ later. ap (λ s. open_note s later) playing ∙ sym (ap (λ s. open_note s later) state)) refl (λ later. refl)
+    (halt-turn asking new asking keep outcome kept halted (no-halt-note asking.state asking.awaited keep next awaited))
+
+-- by what was asked
+answered-on : (old asking new : Standing) (ask : Ask) (outcome : Outcome) → IsAnswered asking ask outcome new → HearsAs old ask asking → CarriesOn old asking outcome new
+answered-on old asking new ask outcome answered (Replies text tearing ask_is is) =
+    replied-on old asking new outcome (subst (λ a. IsAnswered asking a outcome new) ask_is answered) (ap (λ (s : Standing). s.plays) is)
+    (λ later. ap (λ (s : Standing). open_note s.state later) is)
+answered-on old asking new ask outcome answered (SetsUp text setup init ask_is is) =
+    replied-on old asking new outcome (subst (λ a. IsAnswered asking a outcome new) ask_is answered) (ap (λ (s : Standing). s.plays) is)
+    (λ later. ap (λ (s : Standing). open_note s.state later) is ∙ sym (ap (λ s. open_note s later) init))
+answered-on old asking new ask outcome answered (AsksPlay setup paused prepared text ready ask_is is) =
+    asks-play old asking new setup paused prepared outcome (subst (λ a. IsAnswered asking a outcome new) ask_is answered) ready
+    (ap (λ (s : Standing). s.state) is) (ap (λ (s : Standing). s.plays) is) (ap (λ (s : Standing). s.awaited) is)
+answered-on old asking new ask outcome answered (Stops setup play keep next text playing told keep_is ask_is is) =
+    asks-halt old asking new setup play keep next outcome (subst (λ a. IsAnswered asking a outcome new) ask_is answered) playing
+    (ap (λ (s : Standing). s.state) is) (ap (λ (s : Standing). s.plays) is) (ap (λ (s : Standing). s.awaited) is)
+answered-on old asking new ask outcome answered (AsksLook looks sequence ask_is is) =
+    asks-look old asking new old.heard sequence outcome (subst (λ a. IsAnswered asking a outcome new) ask_is answered)
+    (ap (λ (s : Standing). s.state) is) (ap (λ (s : Standing). s.plays) is) (ap (λ (s : Standing). s.awaited) is)
+answered-on old asking new ask outcome answered (AsksOffer plan offers sequence ask_is is) =
+    asks-offer old asking new plan offers outcome (subst (λ a. IsAnswered asking a outcome new) ask_is answered)
+    (ap (λ (s : Standing). s.state) is) (ap (λ (s : Standing). s.plays) is)
+
+pub heard-on : (old new : Standing) (message : List ℕ) (outcome : Outcome) (heard : HasHeard old message outcome new)
+    → Carries old.plays old.state (turn_of heard.asking outcome ∷ []) new.plays new.state
+heard-on old new message outcome heard = answered-on old heard.asking new heard.ask outcome heard.answered (hears_as old message heard.ask heard.asking heard.hears)

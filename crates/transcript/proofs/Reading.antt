@@ -1,0 +1,214 @@
+-- What a client reads its meter by, where what came is a front of two replies, a film's blocks and
+-- later replies.
+use Rattle.std.proofs.Common.{◌≡◌, ℕ, zero, suc, ◌+◌, ◌-◌, ◌<◌, ◌≤◌, ◌==◌, ◌&&◌, ◌||◌, Bool, true, false, nat_lt, cond, min, List, [], ◌∷◌, ◌++◌, length, take, get_or, refl, sym, ap, subst, ◌∙◌, arith, inl, inr}
+use Rattle.std.proofs.lemmas.Bool.{cases_lt, cond-true, cond-false, eq-eqb, lt-ltb}
+use Rattle.std.proofs.lemmas.List.{get_or-take, length-take-le, take-append-le, take_all}
+use Rattle.std.proofs.Math.Seq.{take-append-add}
+use Rattle.interleave.specs.Heads.{is_line_end}
+use Rattle.interleave.specs.Pieces.{IsRequestLength, StartsRequest}
+use Rattle.interleave.specs.Streams.{IsPieceLength, IsStream, WholeRequest}
+use Rattle.interleave.proofs.Streams.{stream_once}
+use Rattle.film_frames.specs.Runs.{count_ended}
+use Rattle.film_frames.specs.Tracks.{framed}
+use Rattle.rtsp_client.specs.Answers.{block_moments, cut_bytes, moments_in, moments_of}
+use Rattle.rtsp_client.specs.Courses.{Stage}
+use Rattle.rtsp_client.specs.Moments.{Moment, Reply, replies}
+use Rattle.transcript.proofs.Counting.{count-bytes, count-less, count-more, count-most, count-past, count-whole, count-within, rest-less, rest-more, rest-past, rest-within}
+use Rattle.transcript.proofs.ClientHearing.{Heard, no_sum}
+use Rattle.transcript.proofs.Streaming.{AreAlone, IsAlone, cut-at, rest_at}
+use Rattle.transcript.proofs.Sums.{AreOneBlocks, Sum, blocks-same, step, steps, steps-on, sum_of}
+use Rattle.transcript.proofs.Units.{moments-parts}
+
+-- ---- a reply, as it is heard
+
+pub record IsText (m : List ℕ) : Type 0 where
+  pub moment : moments_of m ≡ Reply m ∷ []
+  pub other : (get_or m 0 0 == 36) ≡ false
+  pub alone : IsAlone m
+
+abbrev pub AreTexts : List (List ℕ) → Type 0
+AreTexts [] = Unit {0}
+AreTexts (m ∷ ms) = IsText m × AreTexts ms
+
+pub text-is : (m : List ℕ) → StartsRequest m → IsRequestLength m (length m) → IsText m
+text-is m starts size = record {
+  moment = cond-false (is_line_end (get_or m 0 0)) [] (cond (get_or m 0 0 == 36) (block_moments (get_or m 1 0) m) (Reply m ∷ [])) starts.1
+      ∙ cond-false (get_or m 0 0 == 36) (block_moments (get_or m 1 0) m) (Reply m ∷ []) starts.2;
+  other = starts.2;
+  alone = record { some = starts.0; whole = WholeRequest starts size (omega arith) };
+}
+
+-- ---- the bytes of a block that isn't whole
+
+take-cut : (m : List ℕ) (d : ℕ) → (get_or m 0 0 == 36) ≡ false → cut_bytes (take d m) ≡ 0
+take-cut m zero other = refl
+take-cut m (suc d) other =
+    let rest = take (suc d) m in
+    let c : Bool = nat_lt (length rest) 2 || nat_lt (get_or rest 1 0) 2 in
+    cond-false ((get_or rest 0 0 == 36) && c) (length rest) 0
+    (ap (λ x. (x == 36) && c) (get_or-take (suc d) m 0 0 (omega arith)) ∙ ap (λ y. y && c) other)
+
+texts-cut : (ms : List (List ℕ)) (d : ℕ) → AreTexts ms → cut_bytes (rest_at d ms) ≡ 0
+texts-cut [] d are = refl
+texts-cut (m ∷ ms) d are =
+    elim (cases_lt d (length m)) [
+      | inl less ↦ ap cut_bytes (rest-less m ms d less) ∙ take-cut m d are.0.other
+      | inr more ↦ ap cut_bytes (rest-more m ms d more) ∙ texts-cut ms (d - length m) are.1
+    ]
+
+or-left : (a b : Bool) → a ≡ true → (a || b) ≡ true
+or-left a b is = ap (λ x. x || b) is
+
+or-right : (a b : Bool) → b ≡ true → (a || b) ≡ true
+or-right true b is = refl
+or-right false b is = is
+
+block-cut : (b : List ℕ) (d : ℕ) → d ≤ length b → get_or b 0 0 ≡ 36 → get_or b 1 0 < 2 → cut_bytes (take d b) ≡ length (take d b)
+block-cut b zero few starts channel = refl
+block-cut b (suc d) few starts channel =
+    let rest = take (suc d) b in
+    let long = length-take-le (suc d) b few in
+    let c : Bool = nat_lt (length rest) 2 || nat_lt (get_or rest 1 0) 2 in
+    let second : c ≡ true = elim (cases_lt (length rest) 2) [
+      | inl short ↦ or-left (nat_lt (length rest) 2) (nat_lt (get_or rest 1 0) 2) (lt-ltb (length rest) 2 short)
+      | inr more ↦
+          let there : get_or rest 1 0 ≡ get_or b 1 0 = get_or-take (suc d) b 1 0 (omega (arith, more, long)) in
+          or-right (nat_lt (length rest) 2) (nat_lt (get_or rest 1 0) 2) (lt-ltb (get_or rest 1 0) 2 (omega (arith, there, channel)))
+    ] in
+    let first : (get_or rest 0 0 == 36) ≡ true = eq-eqb (get_or rest 0 0) 36 (get_or-take (suc d) b 0 0 (omega arith) ∙ starts) in
+    cond-true ((get_or rest 0 0 == 36) && c) (length rest) 0 (ap (λ x. x && c) first ∙ second)
+
+blocks-cut : (bs : List (List ℕ)) (c : ℕ) → AreOneBlocks bs → cut_bytes (rest_at c bs) ≡ length (rest_at c bs)
+blocks-cut [] c are = refl
+blocks-cut (b ∷ bs) c are =
+    elim (cases_lt c (length b)) [
+      | inl less ↦
+          let rest = rest-less b bs c less in
+          ap cut_bytes rest ∙ (block-cut b c (omega (arith, less)) are.0.starts are.0.channel ∙ ap length (sym rest))
+      | inr more ↦
+          let rest = rest-more b bs c more in
+          ap cut_bytes rest ∙ (blocks-cut bs (c - length b) are.1 ∙ ap length (sym rest))
+    ]
+
+-- ---- a stream of two replies, blocks, and later replies
+
+pub record Stream : Type 0 where
+  pub first : List ℕ
+  pub second : List ℕ
+  pub blocks : List (List ℕ)
+  pub later : List (List ℕ)
+  pub first_is : IsText first
+  pub second_is : IsText second
+  pub blocks_are : AreOneBlocks blocks
+  pub later_are : AreTexts later
+  pub alone : AreAlone (first ∷ second ∷ (blocks ++ later))
+
+abbrev pub all_of : Stream → List (List ℕ)
+all_of x = x.first ∷ x.second ∷ (x.blocks ++ x.later)
+
+abbrev pub begun_sum : Stream → Sum
+begun_sum x = steps no_sum (Reply x.first ∷ Reply x.second ∷ [])
+
+abbrev pub film_place : Stream → ℕ → ℕ
+film_place x c = c - length x.first - length x.second
+
+texts-count : (ms : List (List ℕ)) (k : ℕ) (s : Sum) → AreTexts ms → k ≤ length ms → (steps s (moments_in (take k ms))).replies ≡ s.replies + k
+texts-count ms zero s are few = omega arith
+texts-count [] (suc k) s are few = absurd (omega (arith, few))
+texts-count (m ∷ ms) (suc k) s are few =
+    let P : List Moment → Type 0 = λ l. (steps s (l ++ moments_in (take k ms))).replies ≡ s.replies + suc k in
+    subst P (sym are.0.moment) (omega (arith, texts-count ms k (step (Reply m) s) are.1 (omega (arith, few))))
+
+pub two-moments : (x : Stream) (rest : List (List ℕ)) → steps no_sum (moments_in (x.first ∷ x.second ∷ rest)) ≡ steps (begun_sum x) (moments_in rest)
+two-moments x rest =
+    ap (λ l. steps no_sum (l ++ (moments_of x.second ++ moments_in rest))) x.first_is.moment
+    ∙ ap (λ l. steps no_sum (Reply x.first ∷ (l ++ moments_in rest))) x.second_is.moment
+
+-- what was heard at a reading, once the reply to PLAY was heard and before a third one
+pub record IsReadingOf (x : Stream) (c : ℕ) (at : Stage) : Type 0 where
+  pub past : length x.first + length x.second ≤ c
+  pub sum : sum_of at.history ≡ steps (begun_sum x) (moments_in (take (count_ended (film_place x c) x.blocks) x.blocks))
+  pub cut : length (framed (take (count_ended (film_place x c) x.blocks) x.blocks)) + cut_bytes at.rest ≡ min (film_place x c) (length (framed x.blocks))
+
+min-less : (a b : ℕ) → a < b → a ≡ min a b
+min-less a b less = omega (arith, less)
+
+min-more : (a b : ℕ) → b ≤ a → b ≡ min a b
+min-more a b more = omega (arith, more)
+
+-- with the two first replies whole
+reading-film : (x : Stream) (c : ℕ) (at : Stage) → length x.first + length x.second ≤ c
+    → sum_of at.history ≡ steps (begun_sum x) (moments_in (take (count_ended (film_place x c) (x.blocks ++ x.later)) (x.blocks ++ x.later)))
+    → at.rest ≡ rest_at (film_place x c) (x.blocks ++ x.later) → replies at.history ≤ 2 → IsReadingOf x c at
+reading-film x c at past sum rest few =
+    let d = film_place x c in
+    let bs = x.blocks in
+    let total = length (framed bs) in
+    let s = begun_sum x in
+    elim (cases_lt d total) [
+      | inl inside ↦
+          let within = count-within bs x.later d inside in
+          let k = count_ended d bs in
+          let its = rest-within bs x.later d inside in record {
+            past = past;
+            sum = sum ∙ (ap (λ n. steps s (moments_in (take n (bs ++ x.later)))) within.0
+                ∙ ap (λ l. steps s (moments_in l)) (take-append-le k bs x.later (omega (arith, within.1))));
+            cut =
+                let bytes = count-bytes bs d (omega (arith, inside)) in
+                let cut : cut_bytes at.rest ≡ length (rest_at d bs) = ap cut_bytes (rest ∙ its) ∙ blocks-cut bs d x.blocks_are in
+                omega (arith, bytes, cut, inside);
+          }
+      | inr after ↦
+          let k = count_ended (d - total) x.later in
+          let many : count_ended d (bs ++ x.later) ≡ length bs + k = count-past bs x.later d after in
+          let t = steps s (moments_in bs) in
+          let all : sum_of at.history ≡ steps t (moments_in (take k x.later)) =
+          sum ∙ (ap (λ n. steps s (moments_in (take n (bs ++ x.later)))) many
+          ∙ (ap (λ l. steps s (moments_in l)) (take-append-add bs x.later k)
+          ∙ (ap (steps s) (moments-parts bs (take k x.later)) ∙ steps-on s (moments_in bs) (moments_in (take k x.later))))) in
+          let same = (blocks-same bs s x.blocks_are).replies in
+          let counted = texts-count x.later k t x.later_are (count-most x.later (d - total)) in
+          let none : k ≡ 0 = omega (arith, ap (λ (z : Sum). z.replies) all, counted, same, few) in
+          let whole : count_ended d bs ≡ length bs = count-whole bs d after in
+          let front : take (count_ended d bs) bs ≡ bs = take_all (count_ended d bs) bs (omega (arith, whole)) in record {
+            past = past;
+            sum = all ∙ (ap (λ n. steps t (moments_in (take n x.later))) none ∙ ap (λ l. steps s (moments_in l)) (sym front));
+            cut =
+                let cut : cut_bytes at.rest ≡ 0 = ap cut_bytes (rest ∙ rest-past bs x.later d after) ∙ texts-cut x.later (d - total) x.later_are in
+                omega (arith, cut, ap (λ l. length (framed l)) front, after);
+          }
+    ]
+
+pub reading-of : (x : Stream) (bytes : List ℕ) (c : ℕ) (at : Stage) → Heard bytes at → ((n : ℕ) → IsPieceLength at.rest n → ⊥)
+    → bytes ≡ take c (framed (all_of x)) → 1 < replies at.history → replies at.history ≤ 2 → IsReadingOf x c at
+reading-of x bytes c at heard none is playing few =
+    let all = all_of x in
+    let P : List ℕ → Type 0 = λ b. IsStream b (take (count_ended c all) all) (rest_at c all) in
+    let once = stream_once bytes heard.pieces (take (count_ended c all) all) at.rest (rest_at c all) (heard.cut, none) (subst P (sym is) (cut-at all c x.alone)) in
+    let sum : sum_of at.history ≡ steps no_sum (moments_in (take (count_ended c all) all)) = heard.sum ∙ ap (λ l. steps no_sum (moments_in l)) once.0 in
+    let after_first = x.second ∷ (x.blocks ++ x.later) in
+    elim (cases_lt c (length x.first)) [
+      | inl short ↦
+          let nothing = ap (λ n. steps no_sum (moments_in (take n all))) (count-less x.first after_first c short) in
+          absurd (omega (arith, playing, ap (λ (z : Sum). z.replies) (sum ∙ nothing)))
+      | inr long ↦
+          let c1 = c - length x.first in
+          let one = count-more x.first after_first c long in
+          let rest_one = rest-more x.first after_first c long in
+          elim (cases_lt c1 (length x.second)) [
+            | inl short ↦
+                let only : take (count_ended c all) all ≡ x.first ∷ [] =
+                ap (λ n. take n all) (one ∙ ap suc (count-less x.second (x.blocks ++ x.later) c1 short)) in
+                let single : steps no_sum (moments_in (x.first ∷ [])) ≡ steps no_sum (Reply x.first ∷ []) =
+                ap (λ l. steps no_sum (l ++ [])) x.first_is.moment in
+                absurd (omega (arith, playing, ap (λ (z : Sum). z.replies) (sum ∙ (ap (λ l. steps no_sum (moments_in l)) only ∙ single))))
+            | inr more ↦
+                let d = film_place x c in
+                let k = count_ended d (x.blocks ++ x.later) in
+                let two : take (count_ended c all) all ≡ x.first ∷ x.second ∷ take k (x.blocks ++ x.later) =
+                ap (λ n. take n all) (one ∙ ap suc (count-more x.second (x.blocks ++ x.later) c1 more)) in
+                reading-film x c at (omega (arith, long, more))
+                (sum ∙ (ap (λ l. steps no_sum (moments_in l)) two ∙ two-moments x (take k (x.blocks ++ x.later))))
+                (once.1 ∙ (rest_one ∙ rest-more x.second (x.blocks ++ x.later) c1 more)) few
+          ]
+    ]

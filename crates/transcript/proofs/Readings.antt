@@ -1,0 +1,170 @@
+-- At each reading of the meter what came lies between the film's curves.
+use Rattle.std.specs.Prelude.{⊤}
+use Rattle.std.proofs.Common.{◌≡◌, ℕ, ◌+◌, ◌-◌, ◌<◌, ◌≤◌, ◌==◌, ◌&&◌, Bool, true, false, nat_lt, nat_le, cond, min, List, [], ◌∷◌, ◌++◌, length, take, get_or, Ok, refl, sym, ap, subst, ◌∙◌, append_assoc, arith, inl, inr}
+use Rattle.std.proofs.lemmas.Bool.{cases_lt, leb-true, ltb-true}
+use Rattle.std.proofs.lemmas.List.{append-nil, length-append, length-take, take-append-le, take-take, take_all}
+use Rattle.vod_base.specs.Links.{Doing, HeardBytes, HeardEnd, HeardSlot, Sent}
+use Rattle.interleave.specs.Heads.{is_line_end}
+use Rattle.interleave.specs.Pieces.{IsFirst}
+use Rattle.interleave.specs.declared.pieces.Step.TheVariants.{More}
+use Rattle.interleave.proofs.Streams.{tells_none}
+use Rattle.mpeg_scan.specs.declared.films.Film.{Film}
+use Rattle.mpeg_scan.specs.Rates.{picture_time}
+use Rattle.rtp_pack.specs.declared.reports.Identity.{Identity}
+use Rattle.film_frames.specs.Tracks.{framed}
+use Rattle.rtsp_client.specs.declared.wishes.Wish.{Wish}
+use Rattle.rtsp_client.specs.Answers.{after, cut_bytes, moments_in, moments_of}
+use Rattle.rtsp_client.specs.Courses.{Brings, Round, Runs, RunsAll, Stage, moments_of_rounds}
+use Rattle.rtsp_client.specs.Films.{units_until}
+use Rattle.rtsp_client.specs.Meters.{first_slot, is_read, place_in}
+use Rattle.rtsp_client.specs.Moments.{History, Moment, Frame, Reply, Report, Slot, is_playing, last_slot, received, replies}
+use Rattle.rtsp_client.specs.Promises.{IsBetween, IsBetweenAlways, IsHeardOf}
+use Rattle.transcript.proofs.Film.{IsFilmIn, film_sizes, heard-of}
+use Rattle.transcript.proofs.Firsts.{and-left, and-right}
+use Rattle.transcript.specs.Requests.{bytes_in}
+use Rattle.transcript.proofs.ClientHearing.{Heard, heard-round, history-later, replies-later, rounds_heard, slot-stays}
+use Rattle.transcript.proofs.Reading.{Stream, all_of, begun_sum, film_place, reading-of}
+
+-- ---- pieces bring no slot
+
+abbrev HasNoSlot : List Moment → Type 0
+HasNoSlot [] = ⊤
+HasNoSlot (Reply m ∷ ms) = HasNoSlot ms
+HasNoSlot (Frame b ∷ ms) = HasNoSlot ms
+HasNoSlot (Report b ∷ ms) = HasNoSlot ms
+HasNoSlot (Slot t cut ∷ ms) = ⊥
+
+no-slot-append : (a b : List Moment) → HasNoSlot a → HasNoSlot b → HasNoSlot (a ++ b)
+no-slot-append [] b one two = two
+no-slot-append (Reply m ∷ a) b one two = no-slot-append a b one two
+no-slot-append (Frame x ∷ a) b one two = no-slot-append a b one two
+no-slot-append (Report x ∷ a) b one two = no-slot-append a b one two
+no-slot-append (Slot t cut ∷ a) b one two = absurd one
+
+no-slot-if : (c : Bool) (a b : List Moment) → HasNoSlot a → HasNoSlot b → HasNoSlot (cond c a b)
+no-slot-if true a b one two = one
+no-slot-if false a b one two = two
+
+no-slot-of : (line block frame report : Bool) (p : List ℕ) → HasNoSlot (cond line [] (cond block (cond frame (Frame p ∷ []) (cond report (Report p ∷ []) [])) (Reply p ∷ [])))
+no-slot-of line block frame report p =
+    no-slot-if line [] (cond block (cond frame (Frame p ∷ []) (cond report (Report p ∷ []) [])) (Reply p ∷ [])) tt
+    (no-slot-if block (cond frame (Frame p ∷ []) (cond report (Report p ∷ []) [])) (Reply p ∷ [])
+    (no-slot-if frame (Frame p ∷ []) (cond report (Report p ∷ []) []) tt (no-slot-if report (Report p ∷ []) [] tt tt)) tt)
+
+no-slot-in : (ps : List (List ℕ)) → HasNoSlot (moments_in ps)
+no-slot-in [] = tt
+no-slot-in (p ∷ ps) = no-slot-append (moments_of p) (moments_in ps) (no-slot-of (is_line_end (get_or p 0 0)) (get_or p 0 0 == 36) (get_or p 1 0 == 0) (get_or p 1 0 == 1) p) (no-slot-in ps)
+
+always-more : (wish : Wish) (all : List ℕ) (time : ℕ) (h : History) (ms : List Moment) → HasNoSlot ms → IsBetweenAlways wish all time h
+    → IsBetweenAlways wish all time (after h ms)
+always-more wish all time h [] none met = met
+always-more wish all time h (Reply m ∷ ms) none met = always-more wish all time (Reply m ∷ h) ms none met
+always-more wish all time h (Frame b ∷ ms) none met = always-more wish all time (Frame b ∷ h) ms none met
+always-more wish all time h (Report b ∷ ms) none met = always-more wish all time (Report b ∷ h) ms none met
+always-more wish all time h (Slot t cut ∷ ms) none met = absurd none
+
+pub always-pieces : (wish : Wish) (all : List ℕ) (time : ℕ) (h : History) (ps : List (List ℕ)) → IsBetweenAlways wish all time h
+    → IsBetweenAlways wish all time (after h (moments_in ps))
+always-pieces wish all time h ps met = always-more wish all time h (moments_in ps) (no-slot-in ps) met
+
+-- ---- the film that came
+
+take-short : (w : List ℕ) (c : ℕ) → length (take c w) ≤ c
+take-short w c = omega (arith, length-take c w)
+
+pub front-of : (xs ys w : List ℕ) (c : ℕ) → xs ++ ys ≡ take c w → xs ≡ take (length xs) w
+front-of xs ys w c is =
+    let mine : take (length xs) (xs ++ ys) ≡ xs = take-append-le (length xs) xs ys (omega arith) ∙ take_all (length xs) xs (omega arith) in
+    elim (cases_lt c (length xs)) [
+      | inl less ↦
+          let short = take-short w c in
+          absurd (omega (arith, short, ap (λ (l : List ℕ). length l) is, length-append xs ys, less))
+      | inr more ↦ sym mine ∙ (ap (λ l. take (length xs) l) is ∙ take-take (length xs) c w more)
+    ]
+
+-- the film that had come with these bytes lies between the curves of a slot
+pub record IsFed (wish : Wish) (film : Film) (x : Stream) (bytes : List ℕ) (place : ℕ) : Type 0 where
+  pub between : length x.first + length x.second ≤ length bytes
+      → IsBetween wish (film_sizes film) (picture_time film.rate) place (min (film_place x (length bytes)) (length (framed x.blocks)))
+
+-- so it is at each slot of a play that begins in one of the client's
+abbrev pub AreFed : Wish → Film → Stream → ℕ → List ℕ → List Round → Type 0
+AreFed wish film x begin bytes rounds =
+    (before later : List Round) (round : Round) (slot : ℕ) → rounds ≡ before ++ round ∷ later → round.event ≡ HeardSlot slot → begin ≤ slot
+    → IsFed wish film x (bytes ++ rounds_heard before) (slot - begin)
+
+-- ---- a slot
+
+slot-met : (wish : Wish) (film : Film) (identity : Identity) (x : Stream) (begin slot : ℕ) (bytes : List ℕ) (at : Stage) → IsFilmIn film identity x
+    → units_until (begun_sum x).end_ms (picture_time film.rate) ≡ length (film_sizes film) → Heard bytes at → IsFirst at.rest (Ok More)
+    → bytes ≡ take (length bytes) (framed (all_of x)) → replies at.history ≤ 2 → (1 < replies at.history → first_slot at.history ≡ begin)
+    → (begin ≤ slot → IsFed wish film x bytes (slot - begin)) → is_read at.history slot ≡ true
+    → IsHeardOf (film_sizes film) (picture_time film.rate) at.history (cut_bytes at.rest)
+    × IsBetween wish (film_sizes film) (picture_time film.rate) (place_in at.history slot) (received at.history + cut_bytes at.rest)
+slot-met wish film identity x begin slot bytes at is count heard idle front few begins fed read =
+    let h = at.history in
+    let playing : 1 < replies h = ltb-true 1 (replies h) (and-left (is_playing h) (nat_le (first_slot h) slot && nat_lt (last_slot h) slot) read) in
+    let there : first_slot h ≤ slot = leb-true (first_slot h) slot
+    (and-left (nat_le (first_slot h) slot) (nat_lt (last_slot h) slot) (and-right (is_playing h) (nat_le (first_slot h) slot && nat_lt (last_slot h) slot) read)) in
+    let first : first_slot h ≡ begin = begins playing in
+    let reading = reading-of x bytes (length bytes) at heard (tells_none at.rest (Ok More) idle) front playing few in
+    let its = heard-of film identity x (length bytes) at is heard.gone reading count in
+    let between = (fed (omega (arith, there, first))).between reading.past in
+    let P : ℕ → ℕ → Type 0 = λ place came. IsBetween wish (film_sizes film) (picture_time film.rate) place came in
+    (its.0, subst (λ n. P n (received h + cut_bytes at.rest)) (ap (λ n. slot - n) (sym first)) (subst (λ n. P (slot - begin) n) (sym its.1) between))
+
+-- ---- all events
+
+always-round : (event : Doing) (wish : Wish) (film : Film) (identity : Identity) (x : Stream) (begin : ℕ) (bytes : List ℕ) (old new : Stage) (round : Round)
+    → round.event ≡ event → Runs old round new → IsFilmIn film identity x → units_until (begun_sum x).end_ms (picture_time film.rate) ≡ length (film_sizes film)
+    → Heard bytes old → IsFirst old.rest (Ok More) → bytes ≡ take (length bytes) (framed (all_of x)) → replies new.history ≤ 2
+    → (1 < replies new.history → first_slot new.history ≡ begin)
+    → ((slot : ℕ) → event ≡ HeardSlot slot → begin ≤ slot → IsFed wish film x bytes (slot - begin))
+    → IsBetweenAlways wish (film_sizes film) (picture_time film.rate) old.history → IsBetweenAlways wish (film_sizes film) (picture_time film.rate) new.history
+always-round (HeardBytes more) wish film identity x begin bytes old new round event runs is count heard idle front few begins fed met =
+    let B : Doing → Type 0 = λ e. Brings e old.rest round.moments new.rest in
+    let brings = subst B event runs.brings in
+    let A : History → Type 0 = λ h. IsBetweenAlways wish (film_sizes film) (picture_time film.rate) h in
+    subst A (sym (runs.history_is ∙ ap (after old.history) brings.1.1))
+    (always-pieces wish (film_sizes film) (picture_time film.rate) old.history brings.0 met)
+always-round (HeardSlot slot) wish film identity x begin bytes old new round event runs is count heard idle front few begins fed met =
+    let B : Doing → Type 0 = λ e. Brings e old.rest round.moments new.rest in
+    let brings = subst B event runs.brings in
+    let A : History → Type 0 = λ h. IsBetweenAlways wish (film_sizes film) (picture_time film.rate) h in
+    let history : new.history ≡ Slot slot (cut_bytes old.rest) ∷ old.history = runs.history_is ∙ ap (after old.history) brings.0 in
+    let same : replies new.history ≡ replies old.history = ap replies history in
+    let begins_here : 1 < replies old.history → first_slot old.history ≡ begin = λ playing.
+    sym (ap first_slot history) ∙ begins (omega (arith, playing, same)) in
+    subst A (sym history)
+    (met, λ read. slot-met wish film identity x begin slot bytes old is count heard idle front (omega (arith, few, same)) begins_here (fed slot refl) read)
+always-round HeardEnd wish film identity x begin bytes old new round event runs is count heard idle front few begins fed met =
+    let B : Doing → Type 0 = λ e. Brings e old.rest round.moments new.rest in absurd (subst B event runs.brings)
+always-round (Sent byte) wish film identity x begin bytes old new round event runs is count heard idle front few begins fed met =
+    let B : Doing → Type 0 = λ e. Brings e old.rest round.moments new.rest in absurd (subst B event runs.brings)
+
+pub always-all : (wish : Wish) (film : Film) (identity : Identity) (x : Stream) (begin c : ℕ) (bytes : List ℕ) (old new : Stage) (rounds : List Round)
+    → RunsAll old rounds new → IsFilmIn film identity x → units_until (begun_sum x).end_ms (picture_time film.rate) ≡ length (film_sizes film)
+    → Heard bytes old → IsFirst old.rest (Ok More) → bytes ++ rounds_heard rounds ≡ take c (framed (all_of x)) → replies new.history ≤ 2
+    → first_slot new.history ≡ begin → AreFed wish film x begin bytes rounds
+    → IsBetweenAlways wish (film_sizes film) (picture_time film.rate) old.history → IsBetweenAlways wish (film_sizes film) (picture_time film.rate) new.history
+always-all wish film identity x begin c bytes old new [] all is count heard idle front few begins fed met =
+    let A : Stage → Type 0 = λ s. IsBetweenAlways wish (film_sizes film) (picture_time film.rate) s.history in subst A (sym all) met
+always-all wish film identity x begin c bytes old new (round ∷ rounds) all is count heard idle front few begins fed met =
+    let mid = all.0 in
+    let later = history-later mid new rounds all.1.2 in
+    let few_here : replies mid.history ≤ 2 = omega (arith, few, replies-later mid.history (moments_of_rounds rounds), ap replies later) in
+    let begins_here : 1 < replies mid.history → first_slot mid.history ≡ begin = λ playing.
+    sym (slot-stays mid.history (moments_of_rounds rounds) playing) ∙ (sym (ap first_slot later) ∙ begins) in
+    let fed_here : (slot : ℕ) → round.event ≡ HeardSlot slot → begin ≤ slot → IsFed wish film x bytes (slot - begin) = λ slot event after_begin.
+    let F : List ℕ → Type 0 = λ b. IsFed wish film x b (slot - begin) in
+    subst F (append-nil bytes) (fed [] rounds round slot refl event after_begin) in
+    let mine : bytes ≡ take (length bytes) (framed (all_of x)) = front-of bytes (rounds_heard (round ∷ rounds)) (framed (all_of x)) c front in
+    let now = always-round round.event wish film identity x begin bytes old mid round refl all.1.0 is count heard idle mine few_here begins_here fed_here met in
+    let next : (bytes ++ bytes_in round.event) ++ rounds_heard rounds ≡ take c (framed (all_of x)) =
+    append_assoc bytes (bytes_in round.event) (rounds_heard rounds) ∙ front in
+    let fed_next : AreFed wish film x begin (bytes ++ bytes_in round.event) rounds = λ before after_ r slot split event after_begin.
+    let F : List ℕ → Type 0 = λ b. IsFed wish film x b (slot - begin) in
+    subst F (sym (append_assoc bytes (bytes_in round.event) (rounds_heard before)))
+    (fed (round ∷ before) after_ r slot (ap (λ l. round ∷ l) split) event after_begin) in
+    always-all wish film identity x begin c (bytes ++ bytes_in round.event) mid new rounds all.1.2 is count (heard-round bytes old mid round heard all.1.0) all.1.1
+    next few begins fed_next now

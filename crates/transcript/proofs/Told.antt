@@ -1,0 +1,212 @@
+-- What a client reads in the reply to PLAY that a server writes.
+use Rattle.std.proofs.Common.{◌≡◌, ◌≢◌, ℕ, zero, suc, ◌+◌, ◌-◌, ◌*◌, ◌/◌, ◌%◌, ◌^◌, ◌<◌, ◌≤◌, ◌&&◌, ◌==◌, Bool, true, false, cond, not, nat_lt, nat_le, nat_eq, List, [], ◌∷◌, ◌++◌, All, codes, decimal, length, get_or, take, drop, Option, Some, None, refl, sym, ap, subst, ◌∙◌, append_assoc, arith, inl, inr, rules}
+use Rattle.std.specs.Prelude.{option_map, option_and_then}
+use Rattle.std.specs.Str.Parse.{digits_value}
+use Rattle.std.specs.Int.{div_ceil}
+use Rattle.std.proofs.lemmas.Bool.{cases_lt, cond-true, cond-false, eq-eqb, eqb-true, ltb-true, ne_eqb, le-leb, lt-ltb, le-ltb}
+use Rattle.std.proofs.lemmas.Grind.{div_ceil_times}
+use Rattle.std.proofs.lemmas.Fmt.{decimal_digit, decimal_nonempty}
+use Rattle.std.proofs.lemmas.List.{append-nil, length-append, get_or_append_left, get_or-append_right, take_at, drop_at}
+use Rattle.std.proofs.Math.Nat.{mul-le-mul_right}
+use Rattle.mpeg_scan.specs.declared.films.Film.{Film}
+use Rattle.mpeg_scan.specs.Codes.{read}
+use Rattle.mpeg_scan.specs.Rates.{picture_time}
+use Rattle.mpeg_scan.proofs.BoundLemmas.{film-rate}
+use Rattle.session.specs.Films.{length_ms}
+use Rattle.session.specs.Replies.{field, joined, play_fields, play_text}
+use Rattle.transcript.specs.Replied.{IsPlayRead}
+use Rattle.plan_cert.proofs.Decimals.{number_of-decimal, no_leading_zero}
+use Rattle.vod_base.specs.Numbers.{number_of}
+use Rattle.rtsp_fields.specs.Descriptions.{seconds_text}
+use Rattle.rtsp_client.specs.Films.{units_until}
+use Rattle.interleave.specs.Pieces.{IsRequestLength}
+use Rattle.rtsp_text.specs.Fields.{header_value}
+use Rattle.rtsp_text.specs.Replies.{Field, IsPlain, all_fields, reason, reply_front, reply_text, value_named}
+use Rattle.rtsp_text.proofs.ReadBack.{read_back}
+use Rattle.rtsp_client.specs.Replies.{IsAnswer, has_point, milliseconds, play_range, play_start, range_end, session_id, session_in, start_within, time_in}
+
+-- as many pictures as a film has last until its end in whole milliseconds
+units-counted : (n time : ℕ) → 360 ≤ time → units_until (n * time / 360) time ≡ n
+units-counted n time long =
+    let ms = n * time / 360 in
+    let c = div_ceil (ms * 360) time in
+    let times = div_ceil_times (ms * 360) time (omega (arith, long)) in
+    elim (cases_lt c n) [
+      | inl less ↦
+          let rows : (c + 1) * time ≤ n * time = mul-le-mul_right time (omega (arith, less)) in
+          absurd (omega (arith, times, rows, long))
+      | inr more ↦
+          elim (cases_lt n c) [
+            | inl over ↦
+                let rows : (n + 1) * time ≤ c * time = mul-le-mul_right time (omega (arith, over)) in
+                absurd (omega (arith, times, rows))
+            | inr same ↦ omega (arith, more, same)
+          ]
+    ]
+
+three : (a b c : ℕ) → a < 10 → b < 10 → c < 10 → number_of ((48 + a) ∷ (48 + b) ∷ (48 + c) ∷ []) ≡ Some (a * 100 + b * 10 + c)
+three a b c la lb lc = search rules
+
+seconds-is : (ms : ℕ) → seconds_text ms ≡ decimal (ms / 1000) ++ 46 ∷ (48 + ms / 100 % 10) ∷ (48 + ms / 10 % 10) ∷ (48 + ms % 10) ∷ []
+seconds-is ms =
+    let s = decimal (ms / 1000) in
+    let one : decimal (ms / 100 % 10) ≡ (48 + ms / 100 % 10) ∷ [] = decimal_digit (ms / 100 % 10) (omega arith) in
+    let two : decimal (ms / 10 % 10) ≡ (48 + ms / 10 % 10) ∷ [] = decimal_digit (ms / 10 % 10) (omega arith) in
+    let three_ : decimal (ms % 10) ≡ (48 + ms % 10) ∷ [] = decimal_digit (ms % 10) (omega arith) in
+    ap (λ x. (((s ++ codes ".") ++ x) ++ decimal (ms / 10 % 10)) ++ decimal (ms % 10)) one
+    ∙ (ap (λ x. (((s ++ codes ".") ++ (48 + ms / 100 % 10) ∷ []) ++ x) ++ decimal (ms % 10)) two
+    ∙ (ap (λ x. (((s ++ codes ".") ++ (48 + ms / 100 % 10) ∷ []) ++ (48 + ms / 10 % 10) ∷ []) ++ x) three_
+    ∙ (append_assoc ((s ++ codes ".") ++ (48 + ms / 100 % 10) ∷ []) ((48 + ms / 10 % 10) ∷ []) ((48 + ms % 10) ∷ [])
+    ∙ (append_assoc (s ++ codes ".") ((48 + ms / 100 % 10) ∷ []) ((48 + ms / 10 % 10) ∷ (48 + ms % 10) ∷ [])
+    ∙ append_assoc s (codes ".") ((48 + ms / 100 % 10) ∷ (48 + ms / 10 % 10) ∷ (48 + ms % 10) ∷ [])))))
+
+and-three : (a b c : Bool) → a ≡ true → b ≡ true → c ≡ true → (a && b && c) ≡ true
+and-three true true true one two three_ = refl
+and-three true true false one two three_ = three_
+and-three true false c one two three_ = two
+and-three false b c one two three_ = one
+
+-- a first zero of more than one digit
+no-zero : (long zero_ : Bool) → (long ≡ true → zero_ ≡ true → ⊥) → not (long && zero_) ≡ true
+no-zero true true clash = absurd (clash refl refl)
+no-zero true false clash = refl
+no-zero false zero_ clash = refl
+
+-- seconds, a point and three digits are read
+point-read : (text s : List ℕ) (n a b c : ℕ) → text ≡ s ++ 46 ∷ (48 + a) ∷ (48 + b) ∷ (48 + c) ∷ [] → s ≡ decimal n → n < 2 ^ 64
+    → a < 10 → b < 10 → c < 10 → time_in text ≡ Some (n * 1000 + (a * 100 + b * 10 + c))
+point-read text s n a b c is s_is small la lb lc =
+    let tail = 46 ∷ (48 + a) ∷ (48 + b) ∷ (48 + c) ∷ [] in
+    let size : length text ≡ length s + 4 = ap (λ (l : List ℕ). length l) is ∙ length-append s tail in
+    let some : 0 < length s = omega (arith, ap (λ (l : List ℕ). length l) s_is, decimal_nonempty n small) in
+    let at : length text - 4 ≡ length s = omega (arith, size) in
+    let at3 : length text - 3 ≡ length s + 1 = omega (arith, size) in
+    let dot : get_or text (length text - 4) 0 ≡ 46 =
+    ap (λ k. get_or text k 0) at ∙ (ap (λ l. get_or l (length s) 0) is
+    ∙ (get_or-append_right s tail (length s) (length s) 0 refl (omega arith) ∙ ap (λ k. get_or tail k 0) (let z : length s - length s ≡ 0 = omega arith in z))) in
+    let front : get_or text 0 0 ≡ get_or (decimal n) 0 0 =
+    ap (λ l. get_or l 0 0) is ∙ (get_or_append_left s tail 0 0 some ∙ ap (λ l. get_or l 0 0) s_is) in
+    let bare : not (nat_lt 5 (length text) && (get_or text 0 0 == 48)) ≡ true =
+    no-zero (nat_lt 5 (length text)) (get_or text 0 0 == 48) (λ long zero_.
+    let more : 1 < length (decimal n) = omega (arith, ltb-true 5 (length text) long, size, ap (λ (l : List ℕ). length l) s_is) in
+    no_leading_zero n small more (sym front ∙ eqb-true (get_or text 0 0) 48 zero_)) in
+    let point : has_point text ≡ true =
+    and-three (nat_le 4 (length text)) (get_or text (length text - 4) 0 == 46) (not (nat_lt 5 (length text) && (get_or text 0 0 == 48)))
+    (le-leb 4 (length text) (omega (arith, size))) (eq-eqb (get_or text (length text - 4) 0) 46 dot) bare in
+    let seconds : take (length text - 4) text ≡ decimal n =
+    ap (λ k. take k text) at ∙ (ap (λ l. take (length s) l) is ∙ (take_at s tail (length s) refl ∙ s_is)) in
+    let digits : drop (length text - 3) text ≡ (48 + a) ∷ (48 + b) ∷ (48 + c) ∷ [] =
+    ap (λ k. drop k text) at3 ∙ (ap (λ l. drop (length s + 1) l) is
+    ∙ (ap (λ l. drop (length s + 1) l) (sym (append_assoc s (46 ∷ []) ((48 + a) ∷ (48 + b) ∷ (48 + c) ∷ [])))
+    ∙ drop_at (s ++ 46 ∷ []) ((48 + a) ∷ (48 + b) ∷ (48 + c) ∷ []) (length s + 1) (length-append s (46 ∷ [])))) in
+    let read : milliseconds (decimal n) ((48 + a) ∷ (48 + b) ∷ (48 + c) ∷ []) ≡ Some (n * 1000 + (a * 100 + b * 10 + c)) =
+    ap (λ o. option_and_then (λ t. option_map (λ f. t * 1000 + f) (number_of ((48 + a) ∷ (48 + b) ∷ (48 + c) ∷ []))) o) (number_of-decimal n small)
+    ∙ ap (λ o. option_map (λ f. n * 1000 + f) o) (three a b c la lb lc) in
+    cond-true (has_point text) (milliseconds (take (length text - 4) text) (drop (length text - 3) text)) None point
+    ∙ (ap (λ l. milliseconds l (drop (length text - 3) text)) seconds ∙ (ap (milliseconds (decimal n)) digits ∙ read))
+
+time-read : (ms : ℕ) → ms < 2 ^ 64 → time_in (seconds_text ms) ≡ Some ms
+time-read ms small =
+    point-read (seconds_text ms) (decimal (ms / 1000)) (ms / 1000) (ms / 100 % 10) (ms / 10 % 10) (ms % 10) (seconds-is ms) refl
+    (omega (arith, small)) (omega arith) (omega arith) (omega arith)
+    ∙ ap Some (let e : ms / 1000 * 1000 + (ms / 100 % 10 * 100 + ms / 10 % 10 * 10 + ms % 10) ≡ ms = omega arith in e)
+
+-- the range from a film's beginning to its end
+range-read : (ms : ℕ) → ms < 2 ^ 64 → range_end (codes "npt=0.000-" ++ seconds_text ms) ≡ Some ms
+range-read ms small = time-read ms small
+
+-- ---- the reply to PLAY
+
+-- the fields of a reply to PLAY
+abbrev play_named : List ℕ → List ℕ → List ℕ → ℕ → List Field
+play_named id range info slots =
+    record { name = codes "Session"; value = id } ∷ record { name = codes "Range"; value = range } ∷ record { name = codes "RTP-Info"; value = info }
+    ∷ record { name = codes "x-Start"; value = decimal slots } ∷ []
+
+named-session : (id range info : List ℕ) (sequence slots : ℕ)
+    → value_named (codes "Session") (all_fields (Some sequence) (play_named id range info slots)) ≡ Some id
+unfolding value_named
+named-session id range info sequence slots = refl
+
+named-range : (id range info : List ℕ) (sequence slots : ℕ)
+    → value_named (codes "Range") (all_fields (Some sequence) (play_named id range info slots)) ≡ Some range
+unfolding value_named
+named-range id range info sequence slots = refl
+
+named-start : (id range info : List ℕ) (sequence slots : ℕ)
+    → value_named (codes "x-Start") (all_fields (Some sequence) (play_named id range info slots)) ≡ Some (decimal slots)
+unfolding value_named
+named-start id range info sequence slots = refl
+
+named-sequence : (id range info : List ℕ) (sequence slots : ℕ)
+    → value_named (codes "CSeq") (all_fields (Some sequence) (play_named id range info slots)) ≡ Some (decimal sequence)
+unfolding value_named
+named-sequence id range info sequence slots = refl
+
+start-read : (slots : ℕ) → 1 ≤ slots → slots ≤ 2 ^ 62 + 1 → option_and_then start_within (number_of (decimal slots)) ≡ Some slots
+start-read slots some few =
+    ap (λ o. option_and_then start_within o) (number_of-decimal slots (omega (arith, few)))
+    ∙ cond-true (nat_le 1 slots && nat_le slots (2 ^ 62 + 1)) (Some slots) None (ap (λ b. b && nat_le slots (2 ^ 62 + 1)) (le-leb 1 slots some) ∙ le-leb slots (2 ^ 62 + 1) few)
+
+named-read : (message id info : List ℕ) (sequence end_ms slots : ℕ) → IsRequestLength message (length message)
+    → All IsPlain (all_fields (Some sequence) (play_named id (codes "npt=0.000-" ++ seconds_text end_ms) info slots))
+    → message ≡ reply_text 200 (Some sequence) (play_named id (codes "npt=0.000-" ++ seconds_text end_ms) info slots) []
+    → sequence < 2 ^ 64 → end_ms < 2 ^ 64 → 1 ≤ slots → slots ≤ 2 ^ 62 + 1 → IsPlayRead message id sequence end_ms slots
+unfolding reply_text
+named-read message id info sequence end_ms slots size plain is small short some few =
+    let range = codes "npt=0.000-" ++ seconds_text end_ms in
+    let fields = play_named id range info slots in
+    let head = reply_front 200 (Some sequence) fields ++ codes "\r\n" in
+    let back = read_back message 200 (Some sequence) fields [] size refl plain is in
+    let whole : message ≡ head = is ∙ append-nil head in
+    let value : (name : List ℕ) → header_value message name ≡ value_named name (all_fields (Some sequence) fields) = λ name.
+    ap (λ m. header_value m name) whole ∙ back.values name in
+    record {
+      answer = record {
+        reason = reason 200;
+        line = back.reply.line;
+        sequence = ap (λ v. option_and_then number_of v) (value (codes "CSeq") ∙ named-sequence id range info sequence slots) ∙ number_of-decimal sequence small;
+      };
+      session = ap (λ v. option_map session_id v) (value (codes "Session") ∙ named-session id range info sequence slots);
+      range = ap (λ v. option_and_then range_end v) (value (codes "Range") ∙ named-range id range info sequence slots) ∙ range-read end_ms short;
+      start = ap (λ v. option_and_then start_within (option_and_then number_of v)) (value (codes "x-Start") ∙ named-start id range info sequence slots) ∙ start-read slots some few;
+    }
+
+-- no time in front
+zero-text : seconds_text 0 ≡ codes "0.000"
+zero-text = seconds-is 0 ∙ ap (λ d. d ++ 46 ∷ 48 ∷ 48 ∷ 48 ∷ []) (decimal_digit 0 (omega arith))
+
+range-text : (end_ms : ℕ) → joined (codes "npt=" ∷ seconds_text 0 ∷ codes "-" ∷ seconds_text end_ms ∷ []) ≡ codes "npt=0.000-" ++ seconds_text end_ms
+range-text end_ms =
+    ap (λ z. codes "npt=" ++ (z ++ (codes "-" ++ (seconds_text end_ms ++ [])))) zero-text
+    ∙ ap (λ l. codes "npt=0.000-" ++ l) (append-nil (seconds_text end_ms))
+
+pub play-read : (message id authority name : List ℕ) (sequence end_ms number time slots : ℕ) → IsRequestLength message (length message)
+    → message ≡ play_text sequence (play_fields id 0 end_ms authority name number time) slots
+    → All IsPlain (all_fields (Some sequence) (play_fields id 0 end_ms authority name number time ++ field (codes "x-Start") (decimal slots) ∷ []))
+    → sequence < 2 ^ 64 → end_ms < 2 ^ 64 → 1 ≤ slots → slots ≤ 2 ^ 62 + 1 → IsPlayRead message id sequence end_ms slots
+play-read message id authority name sequence end_ms number time slots size is plain small short some few =
+    let info : List ℕ = joined (codes "url=rtsp://" ∷ authority ∷ codes "/" ∷ name ∷ codes "/video;seq=" ∷ decimal number ∷ codes ";rtptime=" ∷ decimal time ∷ []) in
+    let P : List ℕ → Type 0 = λ r. All IsPlain (all_fields (Some sequence) (play_named id r info slots)) in
+    named-read message id info sequence end_ms slots size (subst P (range-text end_ms) plain)
+    (is ∙ ap (λ r. reply_text 200 (Some sequence) (play_named id r info slots) []) (range-text end_ms)) small short some few
+
+-- ---- the number of a film's units
+
+time-long : (rate : ℕ) → 1 ≤ rate → rate ≤ 8 → 360 ≤ picture_time rate
+time-long zero low high = absurd (omega (arith, low))
+time-long (suc zero) low high = omega arith
+time-long (suc (suc zero)) low high = omega arith
+time-long (suc (suc (suc zero))) low high = omega arith
+time-long (suc (suc (suc (suc zero)))) low high = omega arith
+time-long (suc (suc (suc (suc (suc zero))))) low high = omega arith
+time-long (suc (suc (suc (suc (suc (suc zero)))))) low high = omega arith
+time-long (suc (suc (suc (suc (suc (suc (suc zero))))))) low high = omega arith
+time-long (suc (suc (suc (suc (suc (suc (suc (suc zero)))))))) low high = omega arith
+time-long (suc (suc (suc (suc (suc (suc (suc (suc (suc n))))))))) low high = absurd (omega (arith, high))
+
+pub film-counted : (film : Film) → units_until (length_ms film) (picture_time film.rate) ≡ length film.units.items
+film-counted film =
+    let rate = film-rate (read [] film.bytes.items) film.grammar.accepted in
+    units-counted (length film.units.items) (picture_time film.rate)
+    (time-long film.rate (omega (arith, film.grammar.rate, rate.0)) (omega (arith, film.grammar.rate, rate.1)))

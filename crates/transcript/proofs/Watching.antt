@@ -1,0 +1,198 @@
+-- A client that has watched a film over a link on which its bytes lay between the curves.
+use Rattle.std.proofs.Common.{◌≡◌, ℕ, ◌-◌, ◌<◌, ◌≤◌, List, [], ◌∷◌, ◌++◌, length, take, drop, Some, slice_get, refl, sym, ap, subst, ◌∙◌, append_assoc, arith, inl, inr}
+use Rattle.std.proofs.lemmas.List.{append-nil, length-map}
+use Rattle.vod_base.specs.Links.{Doing, HeardBytes, HeardEnd, HeardSlot, Sent, sends}
+use Rattle.mpeg_scan.specs.declared.films.Film.{Film}
+use Rattle.mpeg_scan.specs.declared.units.Unit.{Unit as PictureUnit}
+use Rattle.mpeg_scan.specs.Rates.{picture_time}
+use Rattle.mpeg_scan.proofs.FirstLemmas.{film-some}
+use Rattle.rtp_pack.specs.declared.reports.Identity.{Identity}
+use Rattle.film_frames.specs.Pieces.{wire_size}
+use Rattle.film_frames.specs.Tracks.{framed}
+use Rattle.rtsp_client.specs.declared.wishes.Wish.{Wish}
+use Rattle.rtsp_client.specs.declared.wishes.Watched.{Watched}
+use Rattle.rtsp_client.specs.declared.wishes.WatchEnd.TheVariants.{Done}
+use Rattle.rtsp_client.specs.Answers.{Gives, after, moments_in, payloads_of, requests_after}
+use Rattle.rtsp_client.specs.Courses.{Ends, HasCourse, IsNext, Round, RunsAll, Stage, Stops, StopsAt, moments_of_rounds, rounds_doings, stage}
+use Rattle.rtsp_client.specs.Meters.{first_slot}
+use Rattle.rtsp_client.specs.Moments.{History, Moment, payloads, replies}
+use Rattle.rtsp_client.specs.Promises.{IsBetweenAlways}
+use Rattle.rtsp_client.specs.Requests.{setup_text}
+use Rattle.rtsp_client.specs.Wishes.{IsWish}
+use Rattle.rtsp_client.proofs.Promising.{quiet-always}
+use Rattle.rtsp_client.proofs.Taking.{after-on, payloads-on}
+use Rattle.transcript.specs.Carried.{heard_bytes}
+use Rattle.transcript.proofs.Film.{IsFilmIn, film-back, film_sizes, whole-of}
+use Rattle.transcript.proofs.Finishing.{done-sum}
+use Rattle.transcript.specs.Requests.{bytes_in}
+use Rattle.transcript.proofs.ClientHearing.{Heard, IsDone, at-done, heard-all, heard-more, heard-none, history-later, replies-later, rounds_heard}
+use Rattle.transcript.proofs.Reading.{Stream, all_of}
+use Rattle.transcript.proofs.Readings.{AreFed, always-all, always-pieces, front-of}
+use Rattle.transcript.proofs.Sums.{Sum, steps-payloads, sum-after, sum_of}
+
+-- ---- how the course ends
+
+-- the next moment gives the answer, and nothing more is handed on
+record IsGiven (wish : Wish) (watched : Watched) (at : Stage) (out : List ℕ) : Type 0 where
+  pub moment : Moment
+  pub next : IsNext at.rest moment
+  pub gives : Gives wish at.history moment (Done watched)
+  pub out_none : out ≡ []
+
+stop-of : (wish : Wish) (watched : Watched) (at : Stage) (sent out : List ℕ) → Stops wish at (Done watched) sent out → IsGiven wish watched at out
+stop-of wish watched at sent out (inl framing) = absurd (let no : ⊥ = cc in no)
+stop-of wish watched at sent out (inr (moment, (next, inl gives))) = record { moment = moment; next = next; gives = gives.0; out_none = gives.2 }
+stop-of wish watched at sent out (inr (moment, (next, inr fails))) = absurd fails.1
+
+-- bytes in which a watching that is done ended
+abbrev IsEnd : Wish → Watched → Stage → List Doing → List ℕ → Type 0
+IsEnd wish watched mid doings out = (bytes : List ℕ) × ((sent : List ℕ)
+    × (StopsAt wish (stage mid.history (mid.rest ++ bytes)) (Done watched) sent out × (doings ≡ HeardBytes bytes ∷ sends sent)))
+
+end-of : (wish : Wish) (watched : Watched) (mid : Stage) (count : ℕ) (doings : List Doing) (out : List ℕ) → Ends wish mid count (Done watched) doings out
+    → IsEnd wish watched mid doings out
+end-of wish watched mid count doings out (inl (inl fault, none, empty)) = absurd (let no : ⊥ = cc in no)
+end-of wish watched mid count doings out (inl (inr spent, none, empty)) = absurd (let no : ⊥ = cc in no)
+end-of wish watched mid count doings out (inr (inl early)) = absurd (let no : ⊥ = cc in no)
+end-of wish watched mid count doings out (inr (inr (bytes, (sent, (stops, doings_are, few))))) = (bytes, (sent, (stops, doings_are)))
+
+-- all of a course: the bytes that were heard, and where it is done
+pub record HasWatchedAll (wish : Wish) (watched : Watched) (rounds : List Round) (mid : Stage) (bytes out : List ℕ) : Type 0 where
+  pub done : IsDone wish watched (rounds_heard rounds ++ bytes) out
+  pub pieces : List (List ℕ)
+  pub history : done.at.history ≡ after mid.history (moments_in pieces)
+
+all-watched : (wish : Wish) (watched : Watched) (rounds : List Round) (mid : Stage) (last sent bytes out : List ℕ) → RunsAll (stage [] []) rounds mid
+    → (stops : StopsAt wish (stage mid.history (mid.rest ++ bytes)) (Done watched) sent last) → out ≡ payloads_of (moments_of_rounds rounds) ++ last
+    → HasWatchedAll wish watched rounds mid bytes out
+all-watched wish watched rounds mid last sent bytes out runs stops out_is =
+    let moments = moments_of_rounds rounds in
+    let at = stage (after mid.history (moments_in stops.pieces)) stops.mid in
+    let heard : Heard (rounds_heard rounds) mid = heard-all [] (stage [] []) mid rounds heard-none runs in
+    let h : Heard (rounds_heard rounds ++ bytes) at = heard-more (rounds_heard rounds) bytes mid stops.pieces stops.mid heard stops.cut stops.good in
+    let told : at.history ≡ after [] (moments ++ moments_in stops.pieces) =
+    ap (λ x. after x (moments_in stops.pieces)) (history-later (stage [] []) mid rounds runs) ∙ sym (after-on [] moments (moments_in stops.pieces)) in
+    let given = stop-of wish watched at stops.more_sent stops.more_out stops.stops in
+    let all_out : out ≡ payloads_of (moments ++ moments_in stops.pieces) =
+    out_is ∙ (ap (λ o. payloads_of moments ++ o) (stops.out_is
+    ∙ (ap (λ o. payloads_of (moments_in stops.pieces) ++ o) given.out_none ∙ append-nil (payloads_of (moments_in stops.pieces))))
+    ∙ sym (payloads-on moments (moments_in stops.pieces))) in
+    let done = at-done wish watched (rounds_heard rounds ++ bytes) out (moments ++ moments_in stops.pieces) at given.moment h given.next given.gives told all_out in
+    record { done = done.0; pieces = stops.pieces; history = ap (λ (s : Stage). s.history) done.1 }
+
+-- ---- the promise
+
+pub record IsPromise (wish : Wish) (film : Film) (watched : Watched) (out : List ℕ) : Type 0 where
+  pub over_none : watched.over ≡ 0
+  pub under_none : watched.under ≡ 0
+  pub most_fits : watched.most ≤ wish.buffer
+  pub film_back : (first last : PictureUnit) → slice_get film.units.items 0 ≡ Some first
+      → slice_get film.units.items (length film.units.items - 1) ≡ Some last → out ≡ take (last.to - first.from) (drop first.from film.bytes.items)
+
+pub kept-promise : (wish : Wish) (film : Film) (identity : Identity) (x : Stream) (watched : Watched) (rounds : List Round) (mid : Stage) (bytes out : List ℕ) (c : ℕ)
+    → IsWish wish → 0 < picture_time film.rate → IsFilmIn film identity x → RunsAll (stage [] []) rounds mid → HasWatchedAll wish watched rounds mid bytes out
+    → rounds_heard rounds ++ bytes ≡ take c (framed (all_of x)) → AreFed wish film x (first_slot mid.history) [] rounds → IsPromise wish film watched out
+kept-promise wish film identity x watched rounds mid bytes out c wished timed is runs all front fed =
+    let done = all.done in
+    let h = done.at.history in
+    let sum = done-sum x wish watched (rounds_heard rounds ++ bytes) out c done front in
+    let whole = whole-of film identity x h is done.heard.gone sum done.complete in
+    let few : replies mid.history ≤ 2 = omega (arith, replies-later mid.history (moments_in all.pieces), ap replies all.history, done.replies_are) in
+    let mine : rounds_heard rounds ≡ take (length (rounds_heard rounds)) (framed (all_of x)) = front-of (rounds_heard rounds) bytes (framed (all_of x)) c front in
+    let always = always-all wish film identity x (first_slot mid.history) (length (rounds_heard rounds)) [] (stage [] []) mid rounds runs is whole.count heard-none
+    (inl refl) mine few refl fed tt in
+    let A : History → Type 0 = λ g. IsBetweenAlways wish (film_sizes film) (picture_time film.rate) g in
+    let last = subst A (sym all.history) (always-pieces wish (film_sizes film) (picture_time film.rate) mid.history all.pieces always) in
+    let some = film-some film.bytes.items film.rate film.units.items film.slice_starts.items film.grammar in
+    let quiet = quiet-always wish (film_sizes film) (picture_time film.rate) h (omega (arith, wished.some_units)) timed
+    (omega (arith, some, length-map film.units.items (λ u. wire_size film.slice_starts.items u))) last in
+    record {
+      over_none = ap (λ (w : Watched). w.over) done.watched_is ∙ quiet.over_none;
+      under_none = ap (λ (w : Watched). w.under) done.watched_is ∙ quiet.under_none;
+      most_fits = omega (arith, ap (λ (w : Watched). w.most) done.watched_is, quiet.most_fits);
+      film_back = λ first last_ at_first at_last. done.out_is ∙ (sym (ap (λ (s : Sum). s.payloads) (sum-after [] done.moments) ∙ steps-payloads (sum_of []) done.moments) ∙ (ap payloads (sym done.history_is) ∙ film-back film identity x h first last_ is sum at_first at_last));
+    }
+
+-- ---- what the link told
+
+heard-append : (a b : List Doing) → heard_bytes (a ++ b) ≡ heard_bytes a ++ heard_bytes b
+heard-append [] b = refl
+heard-append (HeardBytes bytes ∷ a) b = ap (λ l. bytes ++ l) (heard-append a b) ∙ sym (append_assoc bytes (heard_bytes a) (heard_bytes b))
+heard-append (HeardSlot slot ∷ a) b = heard-append a b
+heard-append (HeardEnd ∷ a) b = heard-append a b
+heard-append (Sent byte ∷ a) b = heard-append a b
+
+heard-sends : (bytes : List ℕ) → heard_bytes (sends bytes) ≡ []
+heard-sends [] = refl
+heard-sends (b ∷ bytes) = heard-sends bytes
+
+heard-one : (event : Doing) (rest : List Doing) → heard_bytes (event ∷ rest) ≡ bytes_in event ++ heard_bytes rest
+heard-one (HeardBytes bytes) rest = refl
+heard-one (HeardSlot slot) rest = refl
+heard-one HeardEnd rest = refl
+heard-one (Sent byte) rest = refl
+
+heard-rounds : (wish : Wish) (h : History) (rounds : List Round) → heard_bytes (rounds_doings wish h rounds) ≡ rounds_heard rounds
+heard-rounds wish h [] = refl
+heard-rounds wish h (round ∷ rounds) =
+    let sent = sends (requests_after wish h round.moments) in
+    let rest = rounds_doings wish (after h round.moments) rounds in
+    heard-one round.event (sent ++ rest)
+    ∙ ap (λ l. bytes_in round.event ++ l) (heard-append sent rest ∙ (ap (λ l. l ++ heard_bytes rest) (heard-sends (requests_after wish h round.moments)) ∙ heard-rounds wish (after h round.moments) rounds))
+
+-- what it told before a round, and after it
+pub record IsSplit (wish : Wish) (h : History) (before : List Round) (round : Round) (told : List Doing) : Type 0 where
+  pub later : List Doing
+  pub told_is : told ≡ rounds_doings wish h before ++ round.event ∷ later
+
+split-at : (wish : Wish) (h : History) (before later : List Round) (round : Round) → IsSplit wish h before round (rounds_doings wish h (before ++ round ∷ later))
+split-at wish h [] later round = record { later = sends (requests_after wish h round.moments) ++ rounds_doings wish (after h round.moments) later; told_is = refl }
+split-at wish h (first ∷ before) later round =
+    let rest = split-at wish (after h first.moments) before later round in
+    let front = first.event ∷ sends (requests_after wish h first.moments) in
+    record {
+      later = rest.later;
+      told_is = ap (λ l. front ++ l) rest.told_is ∙ sym (append_assoc front (rounds_doings wish (after h first.moments) before) (round.event ∷ rest.later));
+    }
+
+-- the course of a watching that is done, by what its link told
+pub record IsToldCourse (wish : Wish) (watched : Watched) (heard : List Doing) (out : List ℕ) (client : HasCourse wish (Done watched) (Some []) (Some heard) (Some []) (Some out))
+    : Type 0 where
+  pub bytes : List ℕ
+  pub all : HasWatchedAll wish watched client.rounds client.mid bytes out
+  pub heard_is : heard_bytes heard ≡ rounds_heard client.rounds ++ bytes
+  pub split : (before later : List Round) (round : Round) → client.rounds ≡ before ++ round ∷ later
+      → ((front : List Doing) × ((rest : List Doing) × ((heard ≡ front ++ round.event ∷ rest) × (heard_bytes front ≡ rounds_heard before))))
+
+pub told-course : (wish : Wish) (watched : Watched) (heard : List Doing) (out : List ℕ)
+    (client : HasCourse wish (Done watched) (Some []) (Some heard) (Some []) (Some out)) → IsToldCourse wish watched heard out client
+told-course wish watched heard out client =
+    let setup = sends (setup_text wish) in
+    let doings = rounds_doings wish [] client.rounds in
+    let end = end-of wish watched client.mid (length client.rounds) client.last_doings client.last_out client.ends in
+    let told : heard ≡ setup ++ (doings ++ client.last_doings) = let e = client.told in cc in
+    let out_is : out ≡ payloads_of (moments_of_rounds client.rounds) ++ client.last_out = let e = client.out in cc in
+    let last : heard_bytes client.last_doings ≡ end.0 =
+    ap heard_bytes end.1.1.1 ∙ (ap (λ l. end.0 ++ l) (heard-sends end.1.0) ∙ append-nil end.0) in
+    record {
+      bytes = end.0;
+      all = all-watched wish watched client.rounds client.mid client.last_out end.1.0 end.0 out client.runs end.1.1.0 out_is;
+      heard_is = ap heard_bytes told ∙ (heard-append setup (doings ++ client.last_doings)
+          ∙ (ap (λ l. l ++ heard_bytes (doings ++ client.last_doings)) (heard-sends (setup_text wish))
+          ∙ (heard-append doings client.last_doings
+          ∙ (ap (λ l. l ++ heard_bytes client.last_doings) (heard-rounds wish [] client.rounds) ∙ ap (λ l. rounds_heard client.rounds ++ l) last))));
+      split = λ before later round is.
+          let its = split-at wish [] before later round in
+          let mine = rounds_doings wish [] before in (
+            setup ++ mine,
+            (
+              its.later ++ client.last_doings,
+              (
+                told ∙ (ap (λ l. setup ++ (l ++ client.last_doings)) (ap (rounds_doings wish []) is ∙ its.told_is)
+                    ∙ (ap (λ l. setup ++ l) (append_assoc mine (round.event ∷ its.later) client.last_doings)
+                    ∙ sym (append_assoc setup mine (round.event ∷ (its.later ++ client.last_doings))))),
+                heard-append setup mine ∙ (ap (λ l. l ++ heard_bytes mine) (heard-sends (setup_text wish)) ∙ heard-rounds wish [] before),
+              ),
+            ),
+          );
+    }

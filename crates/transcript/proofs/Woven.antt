@@ -1,0 +1,231 @@
+-- What a connection sent as a stream of two replies, a film's blocks, and later replies.
+use Rattle.std.specs.Prelude.{⊤}
+use Rattle.std.proofs.Common.{◌≡◌, ℕ, ◌+◌, ◌-◌, ◌<◌, ◌≤◌, max, min, List, [], ◌∷◌, ◌++◌, length, take, drop, map, refl, sym, ap, subst, ◌∙◌, append_assoc, arith, inl, inr}
+use Rattle.std.proofs.lemmas.Bool.{cases_lt}
+use Rattle.std.proofs.lemmas.List.{append-nil, drop_all, length-append, length-take, take_all}
+use Rattle.std.proofs.Math.Seq.{take-append-add}
+use Rattle.vod_base.specs.Links.{Doing, HeardBytes, HeardEnd, HeardSlot, Sent, sends}
+use Rattle.film_frames.specs.Tracks.{framed}
+use Rattle.conn.specs.Rounds.{Round, round_bytes, rounds_doings}
+use Rattle.conn.specs.Turns.{Film, Part, Text, film_bytes, parts_bytes}
+use Rattle.transcript.specs.Courses.{greatest_slot, rounds_bytes}
+use Rattle.transcript.specs.Replies.{PlacedText, placed_text, placed_texts, text_of, woven}
+use Rattle.transcript.specs.Carried.{latest_slot, sent_bytes}
+use Rattle.transcript.specs.Played.{AreAfter}
+
+-- ---- texts among parts
+
+abbrev pub texts_length : List PlacedText → ℕ
+texts_length [] = 0
+texts_length (placed ∷ texts) = length placed.text + texts_length texts
+
+pub parts-length : (place : ℕ) (parts : List Part) → length (parts_bytes parts) ≡ length (film_bytes parts) + texts_length (placed_texts place parts)
+parts-length place [] = refl
+parts-length place (Film bytes ∷ parts) =
+    omega (arith, parts-length (place + length bytes) parts, length-append bytes (parts_bytes parts), length-append bytes (film_bytes parts))
+parts-length place (Text text ∷ parts) = omega (arith, parts-length place parts, length-append text (parts_bytes parts))
+
+abbrev pub IsFromTo : ℕ → ℕ → List PlacedText → Type 0
+IsFromTo from to [] = ⊤
+IsFromTo from to (placed ∷ texts) = (from ≤ placed.place) × ((placed.place ≤ to) × IsFromTo from to texts)
+
+from-to-wider : (low from to high : ℕ) (texts : List PlacedText) → low ≤ from → to ≤ high → IsFromTo from to texts → IsFromTo low high texts
+from-to-wider low from to high [] less more are = tt
+from-to-wider low from to high (placed ∷ texts) less more are =
+    (omega (arith, less, are.0), (omega (arith, more, are.1.0), from-to-wider low from to high texts less more are.1.1))
+
+pub texts-within : (place : ℕ) (parts : List Part) → IsFromTo place (place + length (film_bytes parts)) (placed_texts place parts)
+texts-within place [] = tt
+texts-within place (Film bytes ∷ parts) =
+    from-to-wider place (place + length bytes) (place + length bytes + length (film_bytes parts)) (place + length (bytes ++ film_bytes parts))
+    (placed_texts (place + length bytes) parts) (omega arith) (omega (arith, length-append bytes (film_bytes parts))) (texts-within (place + length bytes) parts)
+texts-within place (Text text ∷ parts) = (omega arith, (omega arith, texts-within place parts))
+
+pub texts-parts : (place : ℕ) (xs ys : List Part) → placed_texts place (xs ++ ys) ≡ placed_texts place xs ++ placed_texts (place + length (film_bytes xs)) ys
+texts-parts place [] ys = ap (λ n. placed_texts n ys) (let e : place ≡ place + 0 = omega arith in e)
+texts-parts place (Film bytes ∷ xs) ys =
+    texts-parts (place + length bytes) xs ys
+    ∙ ap (λ n. placed_texts (place + length bytes) xs ++ placed_texts n ys)
+    (let e : place + length bytes + length (film_bytes xs) ≡ place + length (bytes ++ film_bytes xs) = omega (arith, length-append bytes (film_bytes xs)) in e)
+texts-parts place (Text text ∷ xs) ys = ap (λ l. placed_text place text ∷ l) (texts-parts place xs ys)
+
+-- ---- how much film there is in a front
+
+pub record IsCounted (first second film total bytes : ℕ) : Type 0 where
+  pub is : first + second ≤ bytes → min (bytes - first - second) total ≡ film
+
+pub counted-by : (setup played : List ℕ) (later front rest : List PlacedText) (film total : ℕ) → 0 < length setup → 0 < length played
+    → front ++ rest ≡ placed_text 0 setup ∷ placed_text 0 played ∷ later → AreAfter total later → IsFromTo 0 film front
+    → ((placed : PlacedText) (texts : List PlacedText) → rest ≡ placed ∷ texts → film ≤ placed.place) → film ≤ total
+    → IsCounted (length setup) (length played) film total (film + texts_length front)
+counted-by setup played later [] rest film total some_setup some_played all after within next few =
+    let none : film ≤ 0 = next (placed_text 0 setup) (placed_text 0 played ∷ later) all in
+    record { is = λ much. absurd (omega (arith, much, none, some_setup)) }
+counted-by setup played later (a ∷ []) rest film total some_setup some_played all after within next few =
+    let first : a ≡ placed_text 0 setup = cc in
+    let second : rest ≡ placed_text 0 played ∷ later = cc in
+    let none : film ≤ 0 = next (placed_text 0 played) later second in
+    let size : length a.text ≡ length setup = ap (λ (p : PlacedText). length p.text) first in
+    record { is = λ much. absurd (omega (arith, much, none, size, some_played)) }
+counted-by setup played later (a ∷ b ∷ []) rest film total some_setup some_played all after within next few =
+    let first : a ≡ placed_text 0 setup = cc in
+    let second : b ≡ placed_text 0 played = cc in
+    let one : length a.text ≡ length setup = ap (λ (p : PlacedText). length p.text) first in
+    let two : length b.text ≡ length played = ap (λ (p : PlacedText). length p.text) second in
+    record { is = λ much. omega (arith, one, two, few) }
+counted-by setup played later (a ∷ b ∷ c ∷ texts) rest film total some_setup some_played all after within next few =
+    let first : a ≡ placed_text 0 setup = cc in
+    let second : b ≡ placed_text 0 played = cc in
+    let third : later ≡ c ∷ (texts ++ rest) = cc in
+    let one : length a.text ≡ length setup = ap (λ (p : PlacedText). length p.text) first in
+    let two : length b.text ≡ length played = ap (λ (p : PlacedText). length p.text) second in
+    let P : List PlacedText → Type 0 = λ l. AreAfter total l in
+    let past = subst P third after in
+    record { is = λ much. omega (arith, one, two, few, past.0, within.1.1.1.0) }
+
+-- ---- all of it, as a front of the stream
+
+pub framed-append : (xs ys : List (List ℕ)) → framed (xs ++ ys) ≡ framed xs ++ framed ys
+framed-append [] ys = refl
+framed-append (x ∷ xs) ys = ap (λ l. x ++ l) (framed-append xs ys) ∙ sym (append_assoc x (framed xs) (framed ys))
+
+take-nil : (n : ℕ) (l : List ℕ) → l ≡ [] → take n l ≡ []
+take-nil n l is = ap (λ x. take n x) is ∙ take_all n [] (omega arith)
+
+drop-nil : (n : ℕ) (l : List ℕ) → l ≡ [] → drop n l ≡ []
+drop-nil n l is = ap (λ x. drop n x) is ∙ drop_all n [] (omega arith)
+
+woven-texts : (from : ℕ) (film : List ℕ) (texts : List PlacedText) → film ≡ [] → woven from film texts ≡ framed (map text_of texts)
+woven-texts from film [] none = none
+woven-texts from film (placed ∷ texts) none =
+    let n = placed.place - from in
+    ap (λ l. l ++ (placed.text ++ woven placed.place (drop n film) texts)) (take-nil n film none)
+    ∙ ap (λ l. placed.text ++ l) (woven-texts placed.place (drop n film) texts (drop-nil n film none))
+
+pub record IsFrontOf (bytes all : List ℕ) : Type 0 where
+  pub count : ℕ
+  pub is : bytes ≡ take count all
+
+front-same : (film blocks : List ℕ) (n : ℕ) → film ≡ take n blocks → film ≡ take (length film) (blocks ++ [])
+front-same film blocks n is =
+    let size : length film ≡ min n (length blocks) = ap (λ (l : List ℕ). length l) is ∙ length-take n blocks in
+    elim (cases_lt n (length blocks)) [
+      | inl less ↦ is ∙ (ap (λ k. take k blocks) (let e : n ≡ length film = omega (arith, size, less) in e) ∙ ap (λ l. take (length film) l) (sym (append-nil blocks)))
+      | inr more ↦
+          let all : film ≡ blocks = is ∙ take_all n blocks more in
+          all ∙ (sym (take_all (length film) blocks (omega (arith, size, more))) ∙ ap (λ l. take (length film) l) (sym (append-nil blocks)))
+    ]
+
+-- after the two first replies
+film-woven : (film blocks : List ℕ) (later : List PlacedText) (n : ℕ) → film ≡ take n blocks → AreAfter (length blocks) later → IsFromTo 0 (length film) later
+    → IsFrontOf (woven 0 film later) (blocks ++ framed (map text_of later))
+film-woven film blocks [] n is after within =
+    record { count = length film; is = front-same film blocks n is }
+film-woven film blocks (placed ∷ texts) n is after within =
+    let long : length blocks ≤ length film = omega (arith, after.0, within.1.0) in
+    let size : length film ≡ min n (length blocks) = ap (λ (l : List ℕ). length l) is ∙ length-take n blocks in
+    let whole : film ≡ blocks = is ∙ take_all n blocks (omega (arith, size, long)) in
+    let n0 : ℕ = placed.place - 0 in
+    let all : woven 0 film (placed ∷ texts) ≡ blocks ++ framed (map text_of (placed ∷ texts)) =
+    ap (λ l. l ++ (placed.text ++ woven placed.place (drop n0 film) texts)) (take_all n0 film (omega (arith, after.0, ap (λ (l : List ℕ). length l) whole)) ∙ whole)
+    ∙ ap (λ l. blocks ++ (placed.text ++ l)) (woven-texts placed.place (drop n0 film) texts (drop_all n0 film (omega (arith, after.0, ap (λ (l : List ℕ). length l) whole)))) in
+    record { count = length (blocks ++ framed (map text_of (placed ∷ texts))); is = all ∙ sym (take_all (length (blocks ++ framed (map text_of (placed ∷ texts)))) (blocks ++ framed (map text_of (placed ∷ texts))) (omega arith)) }
+
+pub all-woven : (film blocks : List ℕ) (setup played : List ℕ) (later : List PlacedText) (n : ℕ) → film ≡ take n blocks → AreAfter (length blocks) later
+    → IsFromTo 0 (length film) later
+    → IsFrontOf (woven 0 film (placed_text 0 setup ∷ placed_text 0 played ∷ later)) (setup ++ (played ++ (blocks ++ framed (map text_of later))))
+all-woven film blocks setup played later n is after within =
+    let rest = film-woven film blocks later n is after within in
+    let all = blocks ++ framed (map text_of later) in
+    let both : setup ++ (played ++ take rest.count all) ≡ take (length setup + (length played + rest.count)) (setup ++ (played ++ all)) =
+    ap (λ l. setup ++ l) (sym (take-append-add played all rest.count)) ∙ sym (take-append-add setup (played ++ all) (length played + rest.count)) in
+    record { count = length setup + (length played + rest.count); is = ap (λ l. setup ++ (played ++ l)) rest.is ∙ both }
+
+-- ---- what the link told of rounds
+
+sent-append : (a b : List Doing) → sent_bytes (a ++ b) ≡ sent_bytes a ++ sent_bytes b
+sent-append [] b = refl
+sent-append (HeardBytes bytes ∷ a) b = sent-append a b
+sent-append (HeardSlot slot ∷ a) b = sent-append a b
+sent-append (HeardEnd ∷ a) b = sent-append a b
+sent-append (Sent byte ∷ a) b = ap (λ l. byte ∷ l) (sent-append a b)
+
+sent-sends : (bytes : List ℕ) → sent_bytes (sends bytes) ≡ bytes
+sent-sends [] = refl
+sent-sends (b ∷ bytes) = ap (λ l. b ∷ l) (sent-sends bytes)
+
+latest-append : (a b : List Doing) → latest_slot (a ++ b) ≡ max (latest_slot a) (latest_slot b)
+latest-append [] b = omega arith
+latest-append (d ∷ a) b = omega (arith, latest-append a b)
+
+latest-sends : (bytes : List ℕ) → latest_slot (sends bytes) ≡ 0
+latest-sends [] = refl
+latest-sends (b ∷ bytes) = omega (arith, latest-sends bytes)
+
+-- an event that isn't a byte that was sent
+abbrev pub IsEvent : Doing → Type 0
+IsEvent (HeardBytes bytes) = ⊤
+IsEvent (HeardSlot slot) = ⊤
+IsEvent HeardEnd = ⊤
+IsEvent (Sent byte) = ⊥
+
+abbrev pub AreEvents : List Round → Type 0
+AreEvents [] = ⊤
+AreEvents (round ∷ rounds) = IsEvent round.event × AreEvents rounds
+
+event-sent : (event : Doing) (rest : List Doing) → IsEvent event → sent_bytes (event ∷ rest) ≡ sent_bytes rest
+event-sent (HeardBytes bytes) rest is = refl
+event-sent (HeardSlot slot) rest is = refl
+event-sent HeardEnd rest is = refl
+event-sent (Sent byte) rest is = absurd is
+
+pub rounds-sent : (rounds : List Round) → AreEvents rounds → sent_bytes (rounds_doings rounds) ≡ rounds_bytes rounds
+rounds-sent [] are = refl
+rounds-sent (round ∷ rounds) are =
+    let sent = sends (round_bytes round) in
+    event-sent round.event (sent ++ rounds_doings rounds) are.0
+    ∙ (sent-append sent (rounds_doings rounds) ∙ (ap (λ l. l ++ sent_bytes (rounds_doings rounds)) (sent-sends (round_bytes round)) ∙ ap (λ l. round_bytes round ++ l) (rounds-sent rounds are.1)))
+
+pub rounds-latest : (rounds : List Round) → latest_slot (rounds_doings rounds) ≡ greatest_slot rounds
+rounds-latest [] = refl
+rounds-latest (round ∷ rounds) =
+    let sent = sends (round_bytes round) in
+    omega (arith, latest-append sent (rounds_doings rounds), latest-sends (round_bytes round), rounds-latest rounds)
+
+-- a front that no byte follows is that of whole rounds
+pub record AreWhole (rounds : List Round) (front : List Doing) : Type 0 where
+  pub first : List Round
+  pub later : List Round
+  pub parts : rounds ≡ first ++ later
+  pub front_is : front ≡ rounds_doings first
+
+past-sends : (bytes : List ℕ) (rest front after : List Doing) → sends bytes ++ rest ≡ front ++ after → ((byte : ℕ) (later : List Doing) → after ≡ Sent byte ∷ later → ⊥)
+    → ((more : List Doing) × ((front ≡ sends bytes ++ more) × (rest ≡ more ++ after)))
+past-sends [] rest front after is whole = (front, (refl, is))
+past-sends (b ∷ bytes) rest [] after is whole =
+    let next : after ≡ Sent b ∷ (sends bytes ++ rest) = sym is in absurd (whole b (sends bytes ++ rest) next)
+past-sends (b ∷ bytes) rest (d ∷ front) after is whole =
+    let first : d ≡ Sent b = cc in
+    let tail : sends bytes ++ rest ≡ front ++ after = cc in
+    let next = past-sends bytes rest front after tail whole in
+    (next.0, (ap (λ l. d ∷ l) next.1.0 ∙ ap (λ x. x ∷ (sends bytes ++ next.0)) first, next.1.1))
+
+joined-front : (event d : Doing) (front sent more rest : List Doing) → d ≡ event → front ≡ sent ++ more → more ≡ rest → d ∷ front ≡ (event ∷ sent) ++ rest
+joined-front event d front sent more rest first is same =
+    ap (λ x. x ∷ front) first ∙ (ap (λ l. event ∷ l) is ∙ ap (λ l. event ∷ (sent ++ l)) same)
+
+pub whole-rounds : (rounds : List Round) (front after : List Doing) → rounds_doings rounds ≡ front ++ after
+    → ((byte : ℕ) (later : List Doing) → after ≡ Sent byte ∷ later → ⊥) → AreWhole rounds front
+whole-rounds rounds [] after is whole = record { first = []; later = rounds; parts = refl; front_is = refl }
+whole-rounds [] (d ∷ front) after is whole = absurd (let no : ⊥ = cc in no)
+whole-rounds (round ∷ rounds) (d ∷ front) after is whole =
+    let first : d ≡ round.event = cc in
+    let tail : sends (round_bytes round) ++ rounds_doings rounds ≡ front ++ after = cc in
+    let next = past-sends (round_bytes round) (rounds_doings rounds) front after tail whole in
+    let rest = whole-rounds rounds next.0 after next.1.1 whole in
+    record {
+      first = round ∷ rest.first;
+      later = rest.later;
+      parts = ap (λ l. round ∷ l) rest.parts;
+      front_is = joined-front round.event d front (sends (round_bytes round)) next.0 (rounds_doings rest.first) first next.1.0 rest.front_is;
+    }

@@ -1,0 +1,8 @@
+use Rattle.transcript.proofs.Failing.{failed-reply, failed-slot}
+use Rattle.transcript.proofs.laws.law_sent_at_failure.Goals as goal
+
+pub returns-clause-slot : goal.returns-clause-slot
+returns-clause-slot c = failed-slot
+
+pub returns-clause-reply : goal.returns-clause-reply
+returns-clause-reply c = failed-reply

@@ -1,0 +1,150 @@
+-- What a connection's report notes: its plays, and the slots that were missed.
+use Rattle.std.specs.Prelude.{ℕ, ◌+◌, ◌&&◌, if◌then◌else◌, List, [], ◌∷◌, ◌++◌, length, Option, Some, None}
+use Rattle.vod_base.specs.Links.{Doing, HeardBytes, HeardEnd, HeardSlot, Sent}
+use Rattle.slot_calendar.specs.Plays.{Play as Booked}
+use Rattle.film_run.specs.declared.runs.Run.{Run}
+use Rattle.admission.specs.Histories.{play_admitted}
+use Rattle.admission.specs.Makers.{Placed}
+use Rattle.session.specs.declared.notes.PlayNote.{PlayNote}
+use Rattle.session.specs.declared.states.Awaited.{Awaited}
+use Rattle.session.specs.declared.states.Awaited.TheVariants.{Nothing, Play, Halt, Look, Offer}
+use Rattle.session.specs.declared.states.Setup.{Setup}
+use Rattle.session.specs.declared.states.State.{State}
+use Rattle.session.specs.declared.states.State.TheVariants.{Init, Ready, Playing, Stopping}
+use Rattle.session.specs.PlayLaws.{slots_missed}
+use Rattle.session.specs.Sendings.{is_sending, is_taken, slotted, start_in}
+use Rattle.session.specs.Standings.{Standing}
+use Rattle.conn.specs.Rounds.{Ending, Unheard, PeerEnded, Overfull, AtPiece, InSlot, InReply, Ends, Round, Runs, RunsAll}
+use Rattle.conn.specs.Turns.{Outcome, Unasked, Entered, WasFull, Offered, Stage, Taking, Passed, Answered, TakesAll, stage}
+use Rattle.transcript.specs.Agreement.{Doings, HasDone}
+use Rattle.transcript.specs.Courses.{first_stage}
+use Rattle.transcript.specs.Plays.{kept_with}
+use Rattle.film_frames.specs.declared.stores.Stored.{Stored}
+use Rattle.session.specs.declared.settings.Settings.{Settings}
+use Rattle.conn.specs.declared.reports.ConnEnd.{ConnEnd}
+use Rattle.conn.specs.declared.reports.ConnReport.{ConnReport}
+
+-- a session as the station was asked, and what the station answered
+pub record Turn : Type 0 where
+  pub asking : Standing
+  pub outcome : Outcome
+
+abbrev pub turn_of : Standing → Outcome → Turn
+turn_of asking outcome = record { asking = asking; outcome = outcome }
+
+abbrev pub outcome_of : Turn → Outcome
+outcome_of turn = turn.outcome
+
+-- as an event came, as pieces were taken up, and in all
+abbrev pub asking_at : Standing → Doing → Standing
+asking_at session (HeardBytes bytes) = session
+asking_at session (HeardSlot slot) = slotted session slot
+asking_at session HeardEnd = session
+asking_at session (Sent byte) = session
+
+abbrev pub takings_turns : (old : Stage) (takings : List Taking) (new : Stage)
+    → TakesAll old takings new → List Turn
+takings_turns old [] new takes = []
+takings_turns old (Passed n ∷ takings) new takes = takings_turns takes.0 takings new takes.1.1
+takings_turns old (Answered message outcome parts ∷ takings) new takes =
+    turn_of takes.1.0.heard.asking outcome ∷ takings_turns takes.0 takings new takes.1.1
+
+abbrev pub round_turns : (old : Stage) (round : Round) (new : Stage) → Runs old round new
+    → List Turn
+round_turns old round new runs =
+    turn_of (asking_at old.session round.event) round.halt
+    ∷ takings_turns runs.opened round.takings new runs.takes
+
+abbrev pub rounds_turns : (old : Stage) (rounds : List Round) (new : Stage) → RunsAll old rounds new
+    → List Turn
+rounds_turns old [] new runs = []
+rounds_turns old (round ∷ rounds) new runs =
+    round_turns old round runs.0 runs.1.0 ++ rounds_turns runs.0 rounds new runs.1.2
+
+abbrev pub ending_turns : (old : Stage) (count : ℕ) (ending : Ending) (end : ConnEnd) (new : Stage)
+    → Ends old count ending end new → List Turn
+ending_turns old count Unheard end new ends = []
+ending_turns old count PeerEnded end new ends = []
+ending_turns old count (Overfull bytes) end new ends = []
+ending_turns old count (AtPiece round) end new ends = round_turns old round new ends.0
+ending_turns old count (InSlot slot front) end new ends = []
+ending_turns old count (InReply round message outcome front) end new ends =
+    round_turns old round ends.1.mid ends.1.runs ++ turn_of ends.1.fails.heard.asking outcome ∷ []
+
+-- with the halt of a booking that was open at the end
+abbrev pub turns_of : (films : List Stored) (settings : Settings) (words : List ℕ)
+    (doings : Doings) (report : ConnReport) → HasDone films settings words doings report → List Turn
+turns_of films settings words doings report done =
+    (rounds_turns (first_stage films settings words) doings.rounds done.mid done.runs
+    ++ ending_turns done.mid (length doings.rounds) doings.ending report.end done.last done.ends)
+    ++ turn_of done.last.session doings.halt ∷ []
+
+-- what is kept of a play by the answers after its own: what the next halt keeps, or all
+abbrev pub kept_later : List Turn → ℕ → ℕ
+kept_later [] all = all
+kept_later (turn ∷ turns) all = kept_with turn.outcome (kept_later turns all)
+
+-- the note of a play: where its entry stands in the journal, its plan and its start as the entry
+-- tells them, what is kept of it, and the run that was asked for as the session was set up
+abbrev pub note_for : Setup → Run → ℕ → Booked → ℕ → PlayNote
+note_for setup run place booked keep = record {
+  place = place;
+  film = setup.film;
+  first_unit = run.first_unit;
+  end_unit = run.end_unit;
+  from_unit = run.from_unit;
+  buffer = setup.buffer;
+  delay = setup.delay;
+  played = run.played;
+  sent_before = run.sent;
+  plan = booked.segments;
+  start = booked.start;
+  keep = keep;
+}
+
+abbrev pub noted_for : Setup → Run → ℕ → Option Booked → List Turn → List PlayNote
+noted_for setup run place None turns = []
+noted_for setup run place (Some booked) turns =
+    note_for setup run place booked (kept_later turns booked.keep) ∷ []
+
+abbrev pub noted_entry : State → Awaited → Placed → List Turn → List PlayNote
+noted_entry (Ready setup paused) (Play prepared) placed turns =
+    noted_for setup prepared.run placed.place
+    (play_admitted placed.entry.command placed.entry.answer) turns
+noted_entry _ _ placed turns = []
+
+abbrev pub noted : Standing → Outcome → List Turn → List PlayNote
+noted asking Unasked turns = []
+noted asking (Entered placed) turns = noted_entry asking.state asking.awaited placed turns
+noted asking (WasFull more entries live) turns = []
+noted asking (Offered at_slot note) turns = []
+
+-- one note for each play that was admitted, in order
+abbrev pub notes_of : List Turn → List PlayNote
+notes_of [] = []
+notes_of (turn ∷ turns) = noted turn.asking turn.outcome turns ++ notes_of turns
+
+-- the slots that an event missed: a slot was heard while a play, or its rest, was being sent
+abbrev pub missed_in : Standing → ℕ → ℕ
+missed_in session slot = if is_taken session slot && is_sending session.state
+    then slots_missed session.heard slot (start_in session.state) else 0
+
+abbrev pub missed_by : Standing → Doing → ℕ
+missed_by session (HeardBytes bytes) = 0
+missed_by session (HeardSlot slot) = missed_in session slot
+missed_by session HeardEnd = 0
+missed_by session (Sent byte) = 0
+
+abbrev pub rounds_missed : (old : Stage) (rounds : List Round) (new : Stage)
+    → RunsAll old rounds new → ℕ
+rounds_missed old [] new runs = 0
+rounds_missed old (round ∷ rounds) new runs =
+    missed_by old.session round.event + rounds_missed runs.0 rounds new runs.1.2
+
+abbrev pub ending_missed : Standing → Ending → ℕ
+ending_missed session Unheard = 0
+ending_missed session PeerEnded = 0
+ending_missed session (Overfull bytes) = 0
+ending_missed session (AtPiece round) = missed_by session round.event
+ending_missed session (InSlot slot front) = missed_in session slot
+ending_missed session (InReply round message outcome front) = missed_by session round.event

@@ -1,0 +1,81 @@
+//! What a client makes of what a connection sends: the promise to its meter, and what it reads in
+//! replies.
+
+ghost use Rattle.std.specs.Prelude.{◌≡◌, ◌≤◌, ◌<◌, ◌-◌, ◌+◌, ◌^◌, ◌++◌, ◌∷◌, All, List, Some, [], ℕ, codes, decimal, length, take, drop};
+ghost use Rattle.film_frames.specs.declared.stores.Stored.{Stored};
+ghost use Rattle.interleave.specs.Pieces.{IsRequestLength};
+ghost use Rattle.mpeg_scan.specs.Rates.{picture_time};
+ghost use Rattle.mpeg_scan.specs.declared.films.Film.{Film};
+ghost use Rattle.rtp_pack.specs.Packets.{OfUnit};
+ghost use Rattle.rtsp_client.specs.Films.{units_until};
+ghost use Rattle.rtsp_text.specs.Replies.{IsPlain, all_fields};
+ghost use Rattle.film_run.specs.Laws.{IsSending};
+ghost use Rattle.film_run.specs.Units.{stored_sizes};
+ghost use Rattle.plan_cert.specs.declared.Segment.{Segment};
+ghost use Rattle.session.specs.Films.{length_ms};
+ghost use Rattle.session.specs.Playing.{IsPlayable};
+ghost use Rattle.session.specs.declared.settings.Settings.{Settings};
+ghost use Rattle.session.specs.declared.states.Counts.{Counts};
+ghost use Rattle.session.specs.declared.states.Setup.{Setup};
+ghost use Rattle.session.specs.declared.states.Source.{Source};
+ghost use Rattle.session.specs.Replies.{field, play_fields, play_text};
+ghost use Rattle.vod_base.specs.Links.{Doing};
+ghost use Rattle.conn.specs.Rounds.{rounds_doings};
+ghost use Rattle.rtsp_client.specs.Courses.{HasCourse};
+ghost use Rattle.rtsp_client.specs.Meters.{first_slot};
+ghost use Rattle.rtsp_client.specs.Wishes.{IsWish};
+ghost use Rattle.rtsp_client.specs.declared.wishes.WatchEnd.TheVariants.{Done};
+ghost use Rattle.rtsp_client.specs.declared.wishes.Watched.{Watched};
+ghost use Rattle.rtsp_client.specs.declared.wishes.Wish.{Wish};
+ghost use Rattle.transcript.specs.Carried.{IsCarried};
+ghost use Rattle.transcript.specs.Played.{IsPlayed, IsSetUpFor, playback_of, whole_run};
+ghost use Rattle.transcript.specs.Replied.{IsPlayRead};
+ghost use Rattle.transcript.specs.Courses.{Course};
+
+/// A film that is watched over a link that carries, slot by slot, what a server's connection sent
+/// of its one play, of the whole film and for the client's own buffer, start delay and slot, comes
+/// back from its first picture to its last one; and at each reading no picture lacks that is used,
+/// and what waits fits in the buffer (Salehi, Zhang, Kurose and Towsley 1998).
+pub fn law_watched_whole()
+    ensures { (wish : Wish) (stored : Stored) (course : Course) (watched : Watched)
+        (heard : List Doing) (out : List ℕ) → IsWish wish
+        → (played : IsPlayed wish stored course)
+        → (client : HasCourse wish (Done watched) (Some []) (Some heard) (Some []) (Some out))
+        → IsCarried (rounds_doings course.rounds) heard played.play.start
+        (first_slot client.mid.history)
+        → (watched.over ≡ 0) × (watched.under ≡ 0) × (watched.most ≤ wish.buffer)
+        × OfUnit stored.film.units.items 0 (λ first.
+        OfUnit stored.film.units.items (length stored.film.units.items - 1) (λ last.
+        out ≡ take (last.to - first.from) (drop first.from stored.film.bytes.items))) }
+{}
+
+/// A client reads in the reply to PLAY what the server writes in it: its code and number, the
+/// session, the film's end and the play's start. The reply is a whole message, and its fields'
+/// values have no LF and no blanks around them.
+pub fn law_play_read()
+    ensures { (message id authority name : List ℕ) (sequence end_ms number time slots : ℕ)
+        → IsRequestLength message (length message)
+        → message ≡ play_text sequence (play_fields id 0 end_ms authority name number time) slots
+        → All IsPlain (all_fields (Some sequence)
+        (play_fields id 0 end_ms authority name number time
+        ++ field (codes "x-Start") (decimal slots) ∷ []))
+        → sequence < 2 ^ 64 → end_ms < 2 ^ 64 → 1 ≤ slots → slots ≤ 2 ^ 62 + 1
+        → IsPlayRead message id sequence end_ms slots }
+{}
+
+/// The end that a server tells of a whole film, in whole milliseconds, and the time of a picture
+/// give the number of the film's units.
+pub fn law_units_counted()
+    ensures { (film : Film) → units_until (length_ms film) (picture_time film.rate) ≡ length
+        film.units.items }
+{}
+
+/// The plan with which a session asks for a whole film is the film's plan for the client for whom
+/// the session was set up.
+pub fn law_whole_asked()
+    ensures { (wish : Wish) (stored : Stored) (source : Source) (settings : Settings)
+        (setup : Setup) (counts : Counts) (plan : List Segment) → IsWish wish
+        → IsSetUpFor wish settings setup
+        → IsPlayable stored source settings setup counts (whole_run stored) plan
+        → IsSending (stored_sizes stored) (playback_of wish stored) (whole_run stored) plan }
+{}

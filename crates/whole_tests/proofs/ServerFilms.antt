@@ -1,0 +1,35 @@
+-- A server of one film, and of two, whose names are good and differ.
+use Rattle.std.proofs.Common.{ℕ, ◌≡◌, ◌≢◌, ◌<◌, ◌≤◌, true, List, [], ◌∷◌, length, ap, arith, suc, zero, string_bytes}
+use Rattle.std.specs.Prelude.{All, slice_index_or}
+use Rattle.std.proofs.lemmas.List.Elements.{All-cons, All-nil}
+use Rattle.vod_base.specs.Names.{is_good_name}
+use Rattle.film_frames.specs.declared.stores.Stored.{Stored}
+use Rattle.session.specs.Ranges.{AreFilms, names_of}
+
+one_apart : (x : List ℕ) → (i j : ℕ) → i < j → j < 1 → slice_index_or (x ∷ []) i [] ≢ slice_index_or (x ∷ []) j []
+one_apart x i j before inside = absurd (omega (arith, before, inside))
+
+pub one_film : (a : Stored) → is_good_name (string_bytes a.name) ≡ true → AreFilms (a ∷ [])
+one_film a good = record {
+  few = omega arith;
+  good = All-cons (λ (film : Stored). is_good_name (string_bytes film.name) ≡ true) a [] good
+      (All-nil (λ (film : Stored). is_good_name (string_bytes film.name) ≡ true));
+  differ = one_apart (string_bytes a.name);
+}
+
+two_apart : (x y : List ℕ) → x ≢ y → (i j : ℕ) → i < j → j < 2 → slice_index_or (x ∷ y ∷ []) i [] ≢ slice_index_or (x ∷ y ∷ []) j []
+two_apart x y other zero zero before inside = absurd (omega (arith, before))
+two_apart x y other zero (suc zero) before inside = other
+two_apart x y other zero (suc (suc j)) before inside = absurd (omega (arith, inside))
+two_apart x y other (suc i) zero before inside = absurd (omega (arith, before))
+two_apart x y other (suc i) (suc j) before inside = absurd (omega (arith, before, inside))
+
+pub two_films : (a b : Stored) → is_good_name (string_bytes a.name) ≡ true → is_good_name (string_bytes b.name) ≡ true
+    → length (string_bytes a.name) < length (string_bytes b.name) → AreFilms (a ∷ b ∷ [])
+two_films a b good_a good_b shorter = record {
+  few = omega arith;
+  good = All-cons (λ (film : Stored). is_good_name (string_bytes film.name) ≡ true) a (b ∷ []) good_a
+      (All-cons (λ (film : Stored). is_good_name (string_bytes film.name) ≡ true) b [] good_b
+      (All-nil (λ (film : Stored). is_good_name (string_bytes film.name) ≡ true)));
+  differ = two_apart (string_bytes a.name) (string_bytes b.name) (λ same. absurd (omega (arith, shorter, ap length same)));
+}
