@@ -148,7 +148,22 @@ at 4 booked=35
 end
 
 50000 1024
-# slots 3 and 4 are missed
+# in its first slot 35 bytes are sent, and 35 in its second
+asks SETUP and PLAY
+slot 1
+serve
+answers SETUP and PLAY
+sends 24010030 80c80006 01020304 00000000 00000000 00000000 00000000 00000000 81ca00
+ends Ended 0
+asks SETUP and PLAY
+slot 1
+slot 2
+serve
+answers SETUP and PLAY
+sends the report
+sends 24000032 80a00001 00000000 01020304 0000
+ends Ended 0
+# slots 3 and 4 are missed: the fifth sends 71 bytes
 asks SETUP and PLAY
 slot 1
 slot 2
@@ -173,12 +188,16 @@ says RTSP/1.0 455 Method Not Valid In This State|CSeq: 3||
 ends Ended 4
 journal
 0 seat=0 play slot=0 slots=4 bytes=141 admitted start=1
-1 seat=0 halt number=0 keep=141 halted
+1 seat=0 halt number=0 keep=35 halted
 2 seat=0 play slot=0 slots=4 bytes=141 admitted start=1
-3 seat=0 halt number=2 keep=141 halted
+3 seat=0 halt number=2 keep=70 halted
+4 seat=0 play slot=0 slots=4 bytes=141 admitted start=1
+5 seat=0 halt number=4 keep=141 halted
+6 seat=0 play slot=0 slots=4 bytes=141 admitted start=1
+7 seat=0 halt number=6 keep=141 halted
 calendar from=0
-at 1 booked=70
-at 2 booked=70
+at 1 booked=140
+at 2 booked=105
 at 3 booked=72
 at 4 booked=70
 end
