@@ -11,6 +11,8 @@ mod days;
 mod done;
 #[cfg(test)]
 mod film_tests;
+#[cfg(test)]
+mod loopback_tests;
 mod makes;
 #[cfg(test)]
 mod meeting_tests;

@@ -1,0 +1,146 @@
+//! A server and a client over the loopback interface: the film that was served is the film that is
+//! watched.
+
+use crate::run::run;
+use net_edge::{DialGate, TcpGate};
+use std::alloc::Global;
+use std::net::{Net, TcpListener, TcpStream};
+use std::sync::Wait;
+use std::test::Fail;
+use std::thread::{self, Threads};
+use std::time::{Clock, Duration};
+use vod_base::{Gate, MemoryLibrary, MemorySink, NoMemory, Opening};
+
+/// Two pictures: a sequence header, a group header, an I picture of one slice, and a P picture of
+/// one slice.
+const FILM: &[u8] =
+    b"\x00\x00\x01\xb3\x16\x01\x20\x13\xff\xff\xe0\xa0\x00\x00\x01\xb8\x00\x08\x00\x40\
+\x00\x00\x01\x00\x00\x0f\xff\xf8\x00\x00\x01\x01\x12\x34\x00\x00\x01\x00\x00\x57\xff\xf8\x80\x00\x00\x01\x01\x12\x34";
+
+/// How often a client asks for a server that isn't there yet.
+const MOST_DIALS: u32 = 1_000;
+
+/// What a run left.
+#[derive(Drop)]
+struct Left {
+    status: u8,
+    out: Vec<u8>,
+    err: Vec<u8>,
+}
+
+/// Carries out words over a library of the film.
+fn carry_out<R: Threads + Wait + Sync, G: Gate + Send + Drop>(
+    rt: &R,
+    alloc: Global,
+    line: &str,
+    gate: &mut G,
+) -> Result<Left, NoMemory>
+where
+    G::Conn: Send,
+{
+    let mut words = Vec::new(alloc);
+    for word in line.split_whitespace() {
+        words.push(String::from_str(alloc, word)?)?;
+    }
+    let mut held = Vec::new(alloc);
+    held.push((
+        String::from_str(alloc, "b.mpg")?,
+        Vec::from_slice(alloc, FILM)?,
+    ))?;
+    let mut library = MemoryLibrary::new(held, Vec::new(alloc));
+    let mut out = MemorySink::new(alloc, 1 << 10, Vec::new(alloc))?;
+    let mut err = MemorySink::new(alloc, 1 << 10, Vec::new(alloc))?;
+    let ended = run(
+        rt,
+        alloc,
+        &words,
+        &mut library,
+        &mut out,
+        &mut err,
+        gate,
+        [7; 32],
+    );
+    Ok(Left {
+        status: ended.status,
+        out: Vec::from_slice(alloc, out.bytes())?,
+        err: Vec::from_slice(alloc, err.bytes())?,
+    })
+}
+
+/// A port of this machine that nobody listens at.
+fn free_port<R: Net<Listener = TcpListener, Stream = TcpStream> + Clock>(
+    rt: &R,
+    alloc: Global,
+) -> u16 {
+    let mut gate = TcpGate::new(rt, alloc);
+    let opening = Opening {
+        port: 0,
+        all: false,
+        connections: 1,
+        slot_units: 3_600,
+    };
+    match gate.open(&opening) {
+        Ok(()) => gate.port().unwrap_or(1),
+        Err(_) => 1,
+    }
+}
+
+/// Serves one connection.
+fn serve<R: Net<Listener = TcpListener, Stream = TcpStream> + Clock + Threads + Wait + Sync>(
+    rt: &R,
+    alloc: Global,
+    port: u16,
+) -> Result<Left, NoMemory> {
+    let line = format!(in alloc; "serve film=b.mpg workers=1 connections=1 slot=3600 port={port}")?;
+    carry_out(rt, alloc, line.as_str(), &mut TcpGate::new(rt, alloc))
+}
+
+/// Watches the film, as soon as the server is there.
+fn watch<R: Net<Listener = TcpListener, Stream = TcpStream> + Clock + Threads + Wait + Sync>(
+    rt: &R,
+    alloc: Global,
+    port: u16,
+) -> Result<Left, NoMemory> {
+    let line = format!(in alloc; "watch film=b.mpg startup=2 slot=3600 port={port}")?;
+    for _ in 0..MOST_DIALS {
+        match carry_out(rt, alloc, line.as_str(), &mut DialGate::new(rt, alloc)) {
+            Ok(left) if left.status != 6 && left.status != 7 => return Ok(left),
+            _ => {}
+        }
+        thread::sleep(rt, Duration::from_millis(5));
+    }
+    Err(NoMemory)
+}
+
+/// Serves and watches side by side. Want of memory is the error.
+fn meet<R: Net<Listener = TcpListener, Stream = TcpStream> + Clock + Threads + Wait + Sync>(
+    rt: &R,
+    alloc: Global,
+) -> Result<(Left, Left), NoMemory> {
+    let port = free_port(rt, alloc);
+    let (served, watched) = thread::join(rt, || serve(rt, alloc, port), || watch(rt, alloc, port));
+    let (served, watched) = (served?, watched?);
+    if served.status == 6 {
+        return Err(NoMemory);
+    }
+    Ok((served, watched))
+}
+
+#[test]
+fn watches_what_is_served(rt: HostRuntime) -> Result<(), Fail> {
+    let alloc = rt.alloc();
+    let (served, watched) = match meet(&rt, alloc) {
+        Ok(left) => left,
+        Err(NoMemory) => meet(&rt, alloc)?,
+    };
+    assert_eq!(rt; (served.status, watched.status), (0, 0));
+    assert_eq!(rt; watched.out.as_slice(), FILM);
+    assert!(rt;
+        watched
+            .err
+            .starts_with(b"watched units=2 bytes=49 frames=2 reports=1 most=")
+    );
+    assert!(rt; served.out.ends_with(b"served connections=1 entries=2\n"));
+    assert!(rt; served.err.is_empty());
+    Ok(())
+}
