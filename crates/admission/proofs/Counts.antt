@@ -9,7 +9,7 @@ use Rattle.admission.specs.declared.entries.Command.TheVariants.{Play, Halt, Loo
 use Rattle.admission.specs.declared.entries.Answer.{Answer}
 use Rattle.admission.specs.declared.entries.Answer.TheVariants.{Admitted, Overflow, Halted, Looked}
 use Rattle.admission.specs.Machine.{State, IsAnswer, next_state, open_plays}
-use Rattle.admission.specs.Histories.{IsLegal, asked_in, is_admission, is_halt, latest_asked, live, state_after}
+use Rattle.admission.specs.Histories.{IsLegal, asked_in, is_admission, is_halt, latest_asked, open_count, state_after}
 use Rattle.admission.proofs.Runs.{legal-at, no_entry, state-next}
 use Rattle.admission.proofs.Journals.{open-asked, open-halted}
 
@@ -47,7 +47,7 @@ now-next steps state place (Look slot) (Overflow over booked asked) is = absurd 
 now-next steps state place (Look slot) Halted is = absurd is
 
 record IsCounted (entries : List Entry) : Type 0 where
-  open_are : live entries + halts_of entries ≡ admissions_of entries
+  open_are : open_count entries + halts_of entries ≡ admissions_of entries
   now_is : (state_after entries).now ≡ latest_asked entries
 
 counted-at : (steps : List CapStep) (xs : List Entry) (n : ℕ) → IsLegal steps xs → n ≤ length xs → IsCounted (take n xs)
@@ -60,7 +60,7 @@ counted-at steps xs (suc n) legal few =
     let answered = legal-at steps xs n legal inside in
     let at : n + 1 ≡ suc n = omega arith in
     let next = state-next xs n inside in
-    let open_is : live (take (suc n) xs) ≡ open_plays (next_state state n e.command e.answer) = ap open_plays next in
+    let open_is : open_count (take (suc n) xs) ≡ open_plays (next_state state n e.command e.answer) = ap open_plays next in
     let now_is : (state_after (take (suc n) xs)).now ≡ (next_state state n e.command e.answer).now = ap (λ (s : State). s.now) next in
     let halts : halts_of (take (suc n) xs) ≡ halts_of (take n xs) + cond (is_halt e.command) 1 0 =
     ap (λ k. halts_of (take k xs)) (sym at) ∙ sum_by_more (λ (x : Entry). cond (is_halt x.command) 1 0) xs n no_entry inside in
@@ -73,7 +73,7 @@ counted-at steps xs (suc n) legal few =
       now_is = now_is ∙ now-next steps state n e.command e.answer answered ∙ ap (λ k. max k (asked_in e.command)) before.now_is ∙ sym latest;
     }
 
-pub counted : (steps : List CapStep) (xs : List Entry) → IsLegal steps xs → (live xs + halts_of xs ≡ admissions_of xs) × ((state_after xs).now ≡ latest_asked xs)
+pub counted : (steps : List CapStep) (xs : List Entry) → IsLegal steps xs → (open_count xs + halts_of xs ≡ admissions_of xs) × ((state_after xs).now ≡ latest_asked xs)
 counted steps xs legal =
     let is = subst IsCounted (take_all (length xs) xs (omega arith)) (counted-at steps xs (length xs) legal (omega arith)) in
     (is.open_are, is.now_is)

@@ -12,7 +12,7 @@ use Rattle.admission.specs.declared.entries.Command.TheVariants.{Play, Halt}
 use Rattle.admission.specs.declared.entries.Answer.{Answer}
 use Rattle.admission.specs.declared.entries.Answer.TheVariants.{Admitted, Overflow, Halted, Looked}
 use Rattle.admission.specs.Machine.{State, Held, CanHalt, IsAnswer, halted_play, next_state, open_plays, admitted_play}
-use Rattle.admission.specs.Histories.{IsAnswered, IsLegal, is_admission, live, state_after}
+use Rattle.admission.specs.Histories.{IsAnswered, IsLegal, is_admission, open_count, state_after}
 use Rattle.admission.specs.Books.{IsNoted, Journal}
 use Rattle.admission.specs.Kept.{Follows, IsKept}
 use Rattle.admission.proofs.Runs.{legal-push, next_of, state-push}
@@ -53,7 +53,7 @@ kept-push calendar new xs ys e limit count more room wide kept answered is steps
     let state : state_after ys ≡ next_of (state_after xs) (length xs) e = ap state_after is ∙ state-push xs e in
     let L : List Entry → Type 0 = λ l. IsLegal calendar.steps l in
     let S : List CapStep → Type 0 = λ s. IsLegal s ys in
-    let open_is : live ys ≡ more = ap open_plays state ∙ sym more_is in
+    let open_is : open_count ys ≡ more = ap open_plays state ∙ sym more_is in
     record {
       legal = subst S (sym steps) (subst L (sym is) (legal-push calendar.steps xs e kept.legal answered));
       follows = subst (Follows new) (sym state) follows;

@@ -13,7 +13,7 @@ use Rattle.admission.specs.declared.entries.Answer.{Answer}
 use Rattle.admission.specs.declared.entries.Answer.TheVariants.{Admitted, Overflow, Halted, Looked}
 use Rattle.admission.specs.Books.{places_taken}
 use Rattle.admission.specs.Machine.{State, IsAnswer}
-use Rattle.admission.specs.Histories.{IsLegal, is_admission, is_halt, live, state_after}
+use Rattle.admission.specs.Histories.{IsLegal, is_admission, is_halt, open_count, state_after}
 use Rattle.admission.proofs.Counts.{admissions_of, counted, halts_of}
 use Rattle.admission.proofs.Runs.{legal-take}
 

@@ -6,7 +6,7 @@ use Rattle.admission.specs.declared.entries.Entry.{Entry}
 use Rattle.admission.specs.declared.entries.Full.{Full}
 use Rattle.admission.specs.declared.entries.Noted.{Noted}
 use Rattle.admission.specs.Machine.{IsAnswer}
-use Rattle.admission.specs.Histories.{IsLegal, live, state_after}
+use Rattle.admission.specs.Histories.{IsLegal, open_count, state_after}
 
 -- what contracts see of a book: the steps of the link's capacity, the most entries, and the entries
 pub record Journal : Type 0 where
@@ -16,7 +16,7 @@ pub record Journal : Type 0 where
 
 -- the entries that were made, and one for the halt of each open play
 abbrev pub places_taken : List Entry → ℕ
-places_taken entries = length entries + live entries
+places_taken entries = length entries + open_count entries
 
 -- an entry was made: the machine's answer in the state after the entries before it, at the next
 -- place, and nothing else was changed
@@ -35,4 +35,4 @@ pub record IsNoted (old : Journal) (maker : ℕ) (command : Command) (noted : No
 -- what is told of a journal that has no room
 pub record IsFull (journal : Journal) (full : Full) : Type 0 where
   pub entries_are : full.entries ≡ length journal.entries
-  pub live_is : full.live ≡ live journal.entries
+  pub live_is : full.live ≡ open_count journal.entries

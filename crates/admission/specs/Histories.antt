@@ -28,8 +28,8 @@ abbrev pub booked_after : List Entry → ℕ → ℕ
 booked_after entries t = booked_in (state_after entries) t
 
 -- how many plays are open after them
-abbrev pub live : List Entry → ℕ
-live entries = open_plays (state_after entries)
+abbrev pub open_count : List Entry → ℕ
+open_count entries = open_plays (state_after entries)
 
 -- the answer of an entry is the machine's in this state
 abbrev pub IsAnswered : List CapStep → State → Entry → Type 0

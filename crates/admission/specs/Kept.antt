@@ -4,7 +4,7 @@ use Rattle.std.specs.Prelude.{ℕ, ◌≡◌, ◌≤◌, List}
 use Rattle.slot_calendar.specs.Calendars.{Entries as Calendar, StandsFor}
 use Rattle.admission.specs.declared.entries.Entry.{Entry}
 use Rattle.admission.specs.Machine.{State, plays_of}
-use Rattle.admission.specs.Histories.{IsLegal, live, state_after}
+use Rattle.admission.specs.Histories.{IsLegal, open_count, state_after}
 use Rattle.admission.specs.Books.{places_taken}
 
 -- a calendar has come to the state's now and has booked what its plays book
@@ -16,7 +16,7 @@ pub record Follows (calendar : Calendar) (state : State) : Type 0 where
 pub record IsKept (calendar : Calendar) (entries : List Entry) (limit count room : ℕ) : Type 0 where
   pub legal : IsLegal calendar.steps entries
   pub follows : Follows calendar (state_after entries)
-  pub count_is : count ≡ live entries
+  pub count_is : count ≡ open_count entries
   pub within : places_taken entries ≤ limit
   pub few : limit ≤ 1048576
   pub reserved : limit ≤ room

@@ -159,7 +159,7 @@ impl Book {
         let slot = slot.min(LATEST_SLOT);
         let now = self.calendar.now();
         let at = now.max(slot);
-        let booked = self.calendar.booked(at);
+        let booked = self.calendar.booked_bytes(at);
         Ok(note(
             &mut self.entries,
             maker,

@@ -13,7 +13,7 @@ ghost use Rattle.admission.specs.Machine.{State, Held, CanHalt, IsStep, admitted
 ghost use Rattle.admission.specs.Machine.{held_as};
 ghost use Rattle.admission.specs.Histories.{IsAdmission, IsHalt, IsLegal, IsStillOpen, IsUnhalted};
 ghost use Rattle.admission.specs.Histories.{booked_after, is_admission, is_halt, latest_asked};
-ghost use Rattle.admission.specs.Histories.{live, state_after};
+ghost use Rattle.admission.specs.Histories.{open_count, state_after};
 ghost use Rattle.admission.specs.Makers.{AreHaltsOwn, IsOpenAmong, made_by};
 
 /// A history that is legal is legal up to each place.
@@ -82,7 +82,7 @@ pub fn law_one_history()
 /// latest slot in which a play was asked for, or 0.
 pub fn law_counts()
     ensures live { (steps : List CapStep) (entries : List Entry) → IsLegal steps entries →
-        live entries + count_by (λ (e : Entry). is_halt e.command) entries
+        open_count entries + count_by (λ (e : Entry). is_halt e.command) entries
         ≡ count_by (λ (e : Entry). is_admission e.answer) entries }
     ensures now { (steps : List CapStep) (entries : List Entry) → IsLegal steps entries →
         (state_after entries).now ≡ latest_asked entries }

@@ -150,7 +150,7 @@ fn run(
     for (index, want) in booked.iter().enumerate() {
         let slot = calendar.now().saturating_add(index as u64);
         assert!(rt; slot >= calendar.now());
-        assert_eq!(rt; calendar.booked(slot), *want, "slot {slot}");
+        assert_eq!(rt; calendar.booked_bytes(slot), *want, "slot {slot}");
     }
     Ok(())
 }

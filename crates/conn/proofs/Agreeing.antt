@@ -2,7 +2,7 @@
 use Rattle.std.proofs.Common.{◌≡◌, ℕ, List, [], ◌∷◌, ◌++◌, Option, Some, None, option_map, refl, ap}
 use Rattle.std.proofs.Common.{sym, ◌∙◌, subst, inl, inr}
 use Rattle.std.specs.Prelude.{IfSome}
-use Rattle.vod_base.specs.Gates.{Content, Returned, LastTake, gave, gave_none, got_back}
+use Rattle.vod_base.specs.Gates.{Content, Returned, LastTake, after_take, after_empty_take, after_return}
 use Rattle.vod_base.specs.Links.{Doing, told_more}
 use Rattle.vod_base.specs.Outside.{HasRisen}
 use Rattle.film_frames.specs.declared.stores.Stored.{Stored}
@@ -61,16 +61,16 @@ told_first films settings (Some part) seat reports untouched none =
     subst (λ bs. AreServed films settings seat bs reports seat) (sym untouched.back) (subst (λ rs. AreServed films settings seat [] rs seat) (sym none) refl)
 
 pub told_one : (films : List Stored) (settings : Settings) (mid taken new : Option Content) (old between next : Sitting) (reports more : List ConnReport) (returned : Returned) (report : ConnReport) →
-    AreTold films settings mid reports old between → taken ≡ option_map gave mid → new ≡ option_map (got_back returned) taken → more ≡ reports ++ report ∷ [] →
+    AreTold films settings mid reports old between → taken ≡ option_map after_take mid → new ≡ option_map (after_return returned) taken → more ≡ reports ++ report ∷ [] →
     HasServedOne films settings returned report between next → AreTold films settings new more old next
 told_one films settings None taken new old between next reports more returned report are is back items one =
-    subst (λ c. AreTold films settings c more old next) (sym (back ∙ ap (option_map (got_back returned)) is)) tt
+    subst (λ c. AreTold films settings c more old next) (sym (back ∙ ap (option_map (after_return returned)) is)) tt
 told_one films settings (Some mid) taken new old between next reports more returned report are is back items one =
-    subst (λ c. AreTold films settings c more old next) (sym (back ∙ ap (option_map (got_back returned)) is))
+    subst (λ c. AreTold films settings c more old next) (sym (back ∙ ap (option_map (after_return returned)) is))
     (subst (λ rs. AreServed films settings old (mid.own.back ++ returned ∷ []) rs next) (sym items)
     (served_more films settings old between next mid.own.back reports returned report are one))
 
 pub told_end : (films : List Stored) (settings : Settings) (mid new : Option Content) (old next : Sitting) (reports : List ConnReport) (last : LastTake) → AreTold films settings mid reports old next →
-    new ≡ option_map (gave_none last) mid → AreTold films settings new reports old next
+    new ≡ option_map (after_empty_take last) mid → AreTold films settings new reports old next
 told_end films settings None new old next reports last are is = subst (λ c. AreTold films settings c reports old next) (sym is) tt
 told_end films settings (Some mid) new old next reports last are is = subst (λ c. AreTold films settings c reports old next) (sym is) are

@@ -2,7 +2,7 @@
 use Rattle.std.proofs.Common.{◌≡◌, ℕ, ◌+◌, ◌-◌, ◌<◌, [], take, drop, refl, ap, sym, ◌∙◌, subst}
 use Rattle.std.proofs.Common.{arith}
 use Rattle.film_frames.specs.Runs.{run_pieces}
-use Rattle.film_frames.specs.Tracks.{framed}
+use Rattle.film_frames.specs.Tracks.{framed_bytes}
 use Rattle.pacer.specs.Pacings.{first_slots, whole_pacing}
 use Rattle.admission.specs.declared.entries.Answer.TheVariants.{Admitted}
 use Rattle.admission.specs.Makers.{Placed}
@@ -39,7 +39,7 @@ nothing_sent prepared place start heard later is =
       start = refl;
       passed = sym none;
       sent = refl;
-      film_is = ap (λ n. take (first_slots prepared.paced n) (drop prepared.run.sent (framed (run_pieces prepared.frames)))) (sym none);
+      film_is = ap (λ n. take (first_slots prepared.paced n) (drop prepared.run.sent (framed_bytes (run_pieces prepared.frames)))) (sym none);
     }
 
 admitted_is : (state : State) (setup : Setup) (prepared : Prepared) (place start : ℕ) → IsReady setup state →

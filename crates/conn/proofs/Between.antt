@@ -12,7 +12,7 @@ use Rattle.film_run.specs.Plans.{rest_sizes, timing_of}
 use Rattle.film_run.proofs.CurveLaws.{low-at-slot, low-slots, up-at-slot}
 use Rattle.film_run.proofs.PlayLaws.{sending-best, sending-keeps, sending-limits}
 use Rattle.wire_curve.specs.declared.film.Timing.{Timing}
-use Rattle.wire_curve.specs.FilmCurves.{due, slot_count, total_of, used_before}
+use Rattle.wire_curve.specs.FilmCurves.{due_slot, slot_count, total_of, used_before}
 use Rattle.wire_curve.proofs.Sums.{sum_by-range-all, sum_by-range-le}
 use Rattle.wire_curve.proofs.UseLaws.{cond_le, used_before-all, used_before_rises}
 use Rattle.pacer.specs.Pacings.{first_slots}
@@ -21,8 +21,8 @@ use Rattle.conn.specs.Films.{IsBetween}
 -- no more is used than there is
 used_most : (sizes : List ℕ) (timing : Timing) (t : ℕ) → used_before sizes timing t ≤ total_of sizes timing
 used_most sizes timing t =
-    let below = sum_by-range-le (λ k. cond (ltb (due timing k) t) (get_or sizes k 0) 0) (λ k. get_or sizes k 0) 0 (length sizes)
-    (λ k l u. cond_le (ltb (due timing k) t) (get_or sizes k 0)) in
+    let below = sum_by-range-le (λ k. cond (ltb (due_slot timing k) t) (get_or sizes k 0) 0) (λ k. get_or sizes k 0) 0 (length sizes)
+    (λ k l u. cond_le (ltb (due_slot timing k) t) (get_or sizes k 0)) in
     omega (arith, below, sum_by-range-all sizes)
 
 -- by the end of any slot of a play, also one after its plan's last, what its plan has through it lies between the curves

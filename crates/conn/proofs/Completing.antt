@@ -10,7 +10,7 @@ use Rattle.admission.specs.declared.entries.Answer.{Answer}
 use Rattle.admission.specs.declared.entries.Answer.TheVariants.{Admitted, Halted, Looked, Overflow}
 use Rattle.admission.specs.declared.entries.Command.{Command}
 use Rattle.admission.specs.declared.entries.Entry.{Entry}
-use Rattle.admission.specs.Histories.{IsLegal, booked_after, live, state_after}
+use Rattle.admission.specs.Histories.{IsLegal, booked_after, open_count, state_after}
 use Rattle.admission.specs.Machine.{IsAnswer}
 use Rattle.admission.specs.Makers.{Placed}
 use Rattle.station.specs.Ledgers.{play_of}
@@ -77,7 +77,7 @@ full_turn : (terms : Terms) (journal : List Entry) (from : ℕ) (old asking : St
     IsFullIn terms.limit journal from more entries live_plays → more ≡ 2 → ((sequence : ℕ) × (new.text ≡ full_text sequence entries live_plays)) →
     HasTurn terms journal from old new
 full_turn terms journal from old asking asked more entries live_plays new full two replied =
-    let over : terms.limit < entries + live (take entries journal) + 2 = omega (arith, full.full, full.live_is, two) in record {
+    let over : terms.limit < entries + open_count (take entries journal) + 2 = omega (arith, full.full, full.live_is, two) in record {
       asking = asking;
       asked = asked;
       turn = entries;

@@ -4,7 +4,7 @@ use Rattle.std.proofs.Common.{min, max, List, [], length, take, drop, refl, ap, 
 use Rattle.std.proofs.Common.{arith, inl, inr}
 use Rattle.std.proofs.lemmas.Bool.{cases_lt, true≢false}
 use Rattle.std.proofs.lemmas.List.{append-nil}
-use Rattle.film_frames.specs.Tracks.{framed}
+use Rattle.film_frames.specs.Tracks.{framed_bytes}
 use Rattle.plan_cert.specs.declared.Segment.{Segment}
 use Rattle.plan_cert.specs.Plan.{IsPlan}
 use Rattle.plan_cert.specs.Slots.{plan_slots, total_bytes}
@@ -14,27 +14,27 @@ use Rattle.session.specs.declared.states.Play.{Play as Played}
 use Rattle.conn.specs.Films.{HasSent, planned_bytes}
 use Rattle.pacer.specs.Boundaries.{bytes_between}
 use Rattle.pacer.specs.Pacings.{IsPacing, Pacing, due_by, first_slots, pacing_of, plan_bytes}
-use Rattle.pacer.specs.Pacings.{raised, slots_by, stands_at_boundary, step_end, stepped}
+use Rattle.pacer.specs.Pacings.{at_slot, slots_by, stands_at_boundary, step_end, after_step}
 use Rattle.pacer.proofs.PacingLemmas.{boundary-from, due-of-both}
 use Rattle.pacer.proofs.SendingLemmas.{between-join}
 use Rattle.session.proofs.Boundaries.{stop_between}
 
 -- a pacing through a slot, once all that is due was sent
 abbrev pub sent_through : ℕ → Pacing → Pacing
-sent_through slot p = record (raised slot p) { sent = due_by p slot }
+sent_through slot p = record (at_slot slot p) { sent = due_by p slot }
 
 -- the pacing after a slot, in which a reply waits or none, and the bytes of the film that were sent in it
 abbrev pub slot_pacing : Bool → ℕ → Pacing → Pacing
 slot_pacing waits slot p =
-    if waits then (if stands_at_boundary (stepped true slot p) then stepped false slot (stepped true slot p) else stepped true slot p)
-    else stepped false slot p
+    if waits then (if stands_at_boundary (after_step true slot p) then after_step false slot (after_step true slot p) else after_step true slot p)
+    else after_step false slot p
 
 abbrev pub slot_film : Bool → ℕ → Pacing → List ℕ
 slot_film waits slot p =
-    if waits then plan_bytes p p.sent (step_end true (raised slot p))
-    ++ (if stands_at_boundary (stepped true slot p)
-    then plan_bytes (stepped true slot p) (stepped true slot p).sent (step_end false (raised slot (stepped true slot p))) else [])
-    else plan_bytes p p.sent (step_end false (raised slot p))
+    if waits then plan_bytes p p.sent (step_end true (at_slot slot p))
+    ++ (if stands_at_boundary (after_step true slot p)
+    then plan_bytes (after_step true slot p) (after_step true slot p).sent (step_end false (at_slot slot (after_step true slot p))) else [])
+    else plan_bytes p p.sent (step_end false (at_slot slot p))
 
 pacing_same : (p : Pacing) (passed due sent passed' due' sent' : ℕ) → passed ≡ passed' → due ≡ due' → sent ≡ sent' →
     pacing_of p.pieces p.before p.plan p.start p.keep passed due sent ≡ pacing_of p.pieces p.before p.plan p.start p.keep passed' due' sent'
@@ -44,7 +44,7 @@ pacing_same p passed due sent passed' due' sent' one two three =
     ∙ ap (λ n. pacing_of p.pieces p.before p.plan p.start p.keep passed' due' n) three
 
 -- a step with a stop, and then one without
-both_steps : (slot : ℕ) (p : Pacing) → stepped false slot (stepped true slot p) ≡ sent_through slot p
+both_steps : (slot : ℕ) (p : Pacing) → after_step false slot (after_step true slot p) ≡ sent_through slot p
 both_steps slot p =
     let due : ℕ = due_by p slot in
     let part : ℕ = min (first_slots p.plan (slots_by p slot)) p.keep in
@@ -53,40 +53,40 @@ both_steps slot p =
     (omega arith) again again
 
 -- a step with a stop that ends within a frame has sent all that is due
-stop_inside : (slot : ℕ) (p : Pacing) → IsPacing p → stands_at_boundary (stepped true slot p) ≡ false → step_end true (raised slot p) ≡ due_by p slot
+stop_inside : (slot : ℕ) (p : Pacing) → IsPacing p → stands_at_boundary (after_step true slot p) ≡ false → step_end true (at_slot slot p) ≡ due_by p slot
 stop_inside slot p is inside =
-    elim (cases_lt (step_end true (raised slot p)) (due_by p slot)) [
+    elim (cases_lt (step_end true (at_slot slot p)) (due_by p slot)) [
       | inl less ↦
-          let more : 0 < (stepped true slot p).due - (stepped true slot p).sent = omega (arith, less) in
-          absurd (true≢false (sym (stop_between slot p (stepped true slot p) is refl more) ∙ inside))
+          let more : 0 < (after_step true slot p).due - (after_step true slot p).sent = omega (arith, less) in
+          absurd (true≢false (sym (stop_between slot p (after_step true slot p) is refl more) ∙ inside))
       | inr more ↦
-          let most : step_end true (raised slot p) ≤ due_by p slot = omega arith in
+          let most : step_end true (at_slot slot p) ≤ due_by p slot = omega arith in
           omega (arith, more, most)
     ]
 
 -- after a slot all that is due was sent, with a reply or none
-pub slot_is : (waits between : Bool) (slot : ℕ) (p : Pacing) → IsPacing p → stands_at_boundary (stepped true slot p) ≡ between →
-    (if waits then (if between then stepped false slot (stepped true slot p) else stepped true slot p) else stepped false slot p) ≡ sent_through slot p
+pub slot_is : (waits between : Bool) (slot : ℕ) (p : Pacing) → IsPacing p → stands_at_boundary (after_step true slot p) ≡ between →
+    (if waits then (if between then after_step false slot (after_step true slot p) else after_step true slot p) else after_step false slot p) ≡ sent_through slot p
 slot_is false between slot p is between_is = refl
 slot_is true true slot p is between_is = both_steps slot p
 slot_is true false slot p is between_is =
     let due : ℕ = due_by p slot in
-    pacing_same p (max p.passed (slots_by p slot)) due (step_end true (raised slot p)) (max p.passed (slots_by p slot)) due due refl refl
+    pacing_same p (max p.passed (slots_by p slot)) due (step_end true (at_slot slot p)) (max p.passed (slots_by p slot)) due due refl refl
     (stop_inside slot p is between_is)
 
 -- and these are its bytes
-pub slot_bytes : (waits between : Bool) (slot : ℕ) (p : Pacing) → IsPacing p → stands_at_boundary (stepped true slot p) ≡ between →
-    (if waits then plan_bytes p p.sent (step_end true (raised slot p))
-    ++ (if between then plan_bytes (stepped true slot p) (stepped true slot p).sent (step_end false (raised slot (stepped true slot p))) else [])
-    else plan_bytes p p.sent (step_end false (raised slot p))) ≡ plan_bytes p p.sent (due_by p slot)
+pub slot_bytes : (waits between : Bool) (slot : ℕ) (p : Pacing) → IsPacing p → stands_at_boundary (after_step true slot p) ≡ between →
+    (if waits then plan_bytes p p.sent (step_end true (at_slot slot p))
+    ++ (if between then plan_bytes (after_step true slot p) (after_step true slot p).sent (step_end false (at_slot slot (after_step true slot p))) else [])
+    else plan_bytes p p.sent (step_end false (at_slot slot p))) ≡ plan_bytes p p.sent (due_by p slot)
 slot_bytes false between slot p is between_is = refl
 slot_bytes true false slot p is between_is =
-    append-nil (plan_bytes p p.sent (step_end true (raised slot p))) ∙ ap (plan_bytes p p.sent) (stop_inside slot p is between_is)
+    append-nil (plan_bytes p p.sent (step_end true (at_slot slot p))) ∙ ap (plan_bytes p p.sent) (stop_inside slot p is between_is)
 slot_bytes true true slot p is between_is =
     let due : ℕ = due_by p slot in
-    let mid : ℕ = step_end true (raised slot p) in
-    let end : step_end false (raised slot (stepped true slot p)) ≡ due = ap (λ (q : Pacing). q.sent) (both_steps slot p) in
-    let inside : p.before + p.sent ≤ length (framed p.pieces) = omega (arith, is.whole, is.most, is.due, is.sent) in
+    let mid : ℕ = step_end true (at_slot slot p) in
+    let end : step_end false (at_slot slot (after_step true slot p)) ≡ due = ap (λ (q : Pacing). q.sent) (both_steps slot p) in
+    let inside : p.before + p.sent ≤ length (framed_bytes p.pieces) = omega (arith, is.whole, is.most, is.due, is.sent) in
     let next = boundary-from p.pieces (p.before + p.sent) inside in
     let least : p.sent ≤ mid = omega (arith, next.after, is.sent) in
     let most : mid ≤ due = omega arith in
@@ -94,7 +94,7 @@ slot_bytes true true slot p is between_is =
     ∙ between-join p.pieces (p.before + p.sent) (p.before + mid) (p.before + due) (omega (arith, least)) (omega (arith, most))
 
 -- it is a pacing again, and so it is where less of what is due was sent
-sent_upto : (slot sent : ℕ) (p : Pacing) → IsPacing p → sent ≤ due_by p slot → IsPacing (record (raised slot p) { sent = sent })
+sent_upto : (slot sent : ℕ) (p : Pacing) → IsPacing p → sent ≤ due_by p slot → IsPacing (record (at_slot slot p) { sent = sent })
 sent_upto slot sent p is most = record {
   plan = is.plan;
   whole = is.whole;
@@ -109,8 +109,8 @@ sent_upto slot sent p is most = record {
 pub through_is : (slot : ℕ) (p : Pacing) → IsPacing p → IsPacing (sent_through slot p)
 through_is slot p is = sent_upto slot (due_by p slot) p is (omega arith)
 
-pub stopped_is : (slot : ℕ) (p : Pacing) → IsPacing p → IsPacing (stepped true slot p)
-stopped_is slot p is = sent_upto slot (step_end true (raised slot p)) p is (omega arith)
+pub stopped_is : (slot : ℕ) (p : Pacing) → IsPacing p → IsPacing (after_step true slot p)
+stopped_is slot p is = sent_upto slot (step_end true (at_slot slot p)) p is (omega arith)
 
 pub few_slots : (plan : List Segment) (k : ℕ) → IsPlan plan → first_slots plan k ≤ total_bytes plan
 few_slots plan k is = omega (arith, sum_by-take-le (λ (x : ℕ). x) (plan_slots plan) k, sum-plan_slots plan is.no_empty)
@@ -120,7 +120,7 @@ pub sent_slot : (play : Played) (heard slot : ℕ) (waits : Bool) (film : List �
     HasSent (record play { pacer = slot_pacing waits slot play.pacer }) slot (film ++ slot_film waits slot play.pacer)
 sent_slot play heard slot waits film has later =
     let p = play.pacer in
-    let between : Bool = stands_at_boundary (stepped true slot p) in
+    let between : Bool = stands_at_boundary (after_step true slot p) in
     let q : slot_pacing waits slot p ≡ sent_through slot p = slot_is waits between slot p has.pacing refl in
     let bytes : slot_film waits slot p ≡ plan_bytes p p.sent (due_by p slot) = slot_bytes waits between slot p has.pacing refl in
     let passed : max p.passed (slots_by p slot) ≡ slot + 1 - play.start = omega (arith, has.passed, has.start, later) in
@@ -137,12 +137,12 @@ sent_slot play heard slot waits film has later =
     let old_sent : p.sent ≡ first_slots p.plan old = has.sent ∙ ap (first_slots p.plan) (omega (arith, has.passed, has.start)) in
     let new_sent : due_by p slot ≡ first_slots p.plan new = due ∙ ap (first_slots p.plan) (omega (arith, passed, has.start)) in
     let first : film ≡ bytes_between p.pieces p.before (p.before + p.sent) =
-    has.film_is ∙ ap (λ n. take n (drop p.before (framed p.pieces))) (omega (arith, old_sent)) in
+    has.film_is ∙ ap (λ n. take n (drop p.before (framed_bytes p.pieces))) (omega (arith, old_sent)) in
     let joined : film ++ slot_film waits slot p ≡ bytes_between p.pieces p.before (p.before + due_by p slot) =
     ap (λ bs. bs ++ slot_film waits slot p) first ∙ ap (λ bs. bytes_between p.pieces p.before (p.before + p.sent) ++ bs) bytes
     ∙ between-join p.pieces p.before (p.before + p.sent) (p.before + due_by p slot) (omega arith) (omega (arith, before)) in
     let all : film ++ slot_film waits slot p ≡ planned_bytes p slot =
-    joined ∙ ap (λ n. take n (drop p.before (framed p.pieces))) (omega (arith, new_sent)) in
+    joined ∙ ap (λ n. take n (drop p.before (framed_bytes p.pieces))) (omega (arith, new_sent)) in
     subst (λ (r : Pacing). HasSent (record play { pacer = r }) slot (film ++ slot_film waits slot p)) (sym q) (record {
       pacing = through_is slot p has.pacing;
       plan = has.plan;

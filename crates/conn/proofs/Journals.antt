@@ -10,7 +10,7 @@ use Rattle.plan_cert.specs.declared.Segment.{Segment}
 use Rattle.admission.specs.declared.entries.Answer.{Answer}
 use Rattle.admission.specs.declared.entries.Command.{Command}
 use Rattle.admission.specs.declared.entries.Entry.{Entry}
-use Rattle.admission.specs.Histories.{booked_after, live, state_after}
+use Rattle.admission.specs.Histories.{booked_after, open_count, state_after}
 use Rattle.admission.specs.Machine.{start_after}
 use Rattle.admission.specs.Makers.{Placed, made_by}
 use Rattle.session.specs.declared.notes.OfferNote.{OfferNote}
@@ -34,7 +34,7 @@ agree_lower terms journal low from (Entered placed ∷ outcomes) less agree = (
   record { after = omega (arith, less, agree.0.after); within = agree.0.within; entry = agree.0.entry; maker_is = agree.0.maker_is; room = agree.0.room },
   agree.1,
 )
-agree_lower terms journal low from (WasFull more entries live ∷ outcomes) less agree = (
+agree_lower terms journal low from (WasFull more entries open_count ∷ outcomes) less agree = (
   record { after = omega (arith, less, agree.0.after); within = agree.0.within; live_is = agree.0.live_is; full = agree.0.full },
   agree.1,
 )
@@ -48,8 +48,8 @@ stands_longer : (terms : Terms) (from : ℕ) (journal longer : List Entry) (plac
     → StandsIn terms longer from placed
 stands_longer terms from journal longer placed prefix stands =
     let inside : placed.place ≤ length journal = omega (arith, stands.within) in
-    let same : live (take placed.place longer) ≡ live (take placed.place journal) =
-    ap (λ (xs : List Entry). live xs) (prefix-take journal longer prefix placed.place inside) in record {
+    let same : open_count (take placed.place longer) ≡ open_count (take placed.place journal) =
+    ap (λ (xs : List Entry). open_count xs) (prefix-take journal longer prefix placed.place inside) in record {
       after = stands.after;
       within = omega (arith, stands.within, prefix_length journal longer prefix);
       entry = λ none. prefix-at journal longer prefix placed.place none stands.within ∙ stands.entry none;
@@ -62,7 +62,7 @@ full_longer : (limit from more entries live_plays : ℕ) (journal longer : List 
 full_longer limit from more entries live_plays journal longer prefix full = record {
   after = full.after;
   within = omega (arith, full.within, prefix_length journal longer prefix);
-  live_is = full.live_is ∙ ap (λ (xs : List Entry). live xs) (sym (prefix-take journal longer prefix entries full.within));
+  live_is = full.live_is ∙ ap (λ (xs : List Entry). open_count xs) (sym (prefix-take journal longer prefix entries full.within));
   full = full.full;
 }
 
@@ -85,8 +85,8 @@ agree_longer terms journal longer from (Entered placed ∷ outcomes) prefix agre
   stands_longer terms from journal longer placed prefix agree.0,
   agree_longer terms journal longer (placed.place + 1) outcomes prefix agree.1,
 )
-agree_longer terms journal longer from (WasFull more entries live ∷ outcomes) prefix agree = (
-  full_longer terms.limit from more entries live journal longer prefix agree.0,
+agree_longer terms journal longer from (WasFull more entries open_count ∷ outcomes) prefix agree = (
+  full_longer terms.limit from more entries open_count journal longer prefix agree.0,
   agree_longer terms journal longer entries outcomes prefix agree.1,
 )
 agree_longer terms journal longer from (Offered at_slot note ∷ outcomes) prefix agree = (
@@ -103,8 +103,8 @@ agree_then terms journal longer from (Entered placed ∷ first) more prefix agre
   stands_longer terms from journal longer placed prefix agree.0,
   agree_then terms journal longer (placed.place + 1) first more prefix agree.1 later,
 )
-agree_then terms journal longer from (WasFull asked entries live ∷ first) more prefix agree later = (
-  full_longer terms.limit from asked entries live journal longer prefix agree.0,
+agree_then terms journal longer from (WasFull asked entries open_count ∷ first) more prefix agree later = (
+  full_longer terms.limit from asked entries open_count journal longer prefix agree.0,
   agree_then terms journal longer entries first more prefix agree.1 later,
 )
 agree_then terms journal longer from (Offered at_slot note ∷ first) more prefix agree later = (
@@ -149,7 +149,7 @@ entry_agrees seat next more command place answer kept also same made needed =
     let front : take place next.seen ≡ made.before =
     prefix-take made.before next.seen (e ∷ [], sym made.seen) place (omega (arith, made.place_is))
     ∙ take_whole made.before place made.place_is in
-    let live_is : live (take place next.seen) ≡ live made.before = ap (λ (xs : List Entry). live xs) front in
+    let live_is : open_count (take place next.seen) ≡ open_count made.before = ap (λ (xs : List Entry). open_count xs) front in
     let last = last-place seat next more command place answer made in (
       record {
         after = entry_after seat next more command place answer same.longer.0 kept also same.number same.longer.1 made;
@@ -168,7 +168,7 @@ full_agrees seat next more entries live_plays same full =
       record {
         after = omega (arith, far, full.entries_are);
         within = omega (arith, full.entries_are);
-        live_is = full.live_is ∙ ap (λ (xs : List Entry). live xs) (sym (take_whole next.seen entries full.entries_are));
+        live_is = full.live_is ∙ ap (λ (xs : List Entry). open_count xs) (sym (take_whole next.seen entries full.entries_are));
         full = full.full;
       },
       omega (arith, full.entries_are),

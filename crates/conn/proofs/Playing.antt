@@ -11,17 +11,17 @@ use Rattle.session.specs.declared.asks.Ask.TheVariants.{Reply as AskReply, Play 
 use Rattle.session.specs.declared.asks.Ask.TheVariants.{Halt as AskHalt, Look as AskLook}
 use Rattle.session.specs.declared.asks.Ask.TheVariants.{Offer as AskOffer}
 use Rattle.session.specs.declared.states.Awaited.{Awaited}
-use Rattle.pacer.specs.Pacings.{Pacing, plan_bytes, raised, stands_at_boundary, step_end, stepped}
+use Rattle.pacer.specs.Pacings.{Pacing, plan_bytes, at_slot, stands_at_boundary, step_end, after_step}
 use Rattle.session.specs.declared.states.Play.{Play as Played}
 use Rattle.session.specs.declared.states.Setup.{Setup}
 use Rattle.session.specs.declared.states.State.{State}
 use Rattle.session.specs.declared.states.State.TheVariants.{Playing}
-use Rattle.session.specs.Sendings.{admitted_in, can_reply, due_state, finished, is_between}
-use Rattle.session.specs.Sendings.{is_sending, is_taken, sent_due, sent_reply, sent_slot, slotted}
+use Rattle.session.specs.Sendings.{admitted_in, can_reply, due_state, after_play, is_between}
+use Rattle.session.specs.Sendings.{is_sending, is_taken, sent_due, sent_reply, sent_slot, after_slot}
 use Rattle.session.specs.Sendings.{step_bytes, stepped_in}
 use Rattle.session.specs.Standings.{Awaits, NoAnswer, PlayAnswer, HaltAnswer, LookAnswer}
 use Rattle.session.specs.Standings.{OfferAnswer, Standing, awaits}
-use Rattle.session.specs.Steps.{settled}
+use Rattle.session.specs.Steps.{after_stop}
 use Rattle.conn.specs.Turns.{Outcome, Unasked, Entered, WasFull, Offered, Part, Film, Text, Stage}
 use Rattle.conn.specs.Turns.{Taking, Passed, Answered, HasHeard, IsAnswered, IsFinished, IsHalted}
 use Rattle.conn.specs.Turns.{IsLookAnswered, IsPlayAnswered, Takes, TakesAll, after_reply}
@@ -54,7 +54,7 @@ finished_same LookAnswer old halt new is free = absurd is
 finished_same OfferAnswer old halt new is free = absurd is
 
 -- the state and the heard slot, after a slot that is taken up
-reply_state : (goes : Bool) (s : Standing) → (if goes then sent_reply s else s).state ≡ (if goes then settled s.state else s.state)
+reply_state : (goes : Bool) (s : Standing) → (if goes then sent_reply s else s).state ≡ (if goes then after_stop s.state else s.state)
 reply_state true s = refl
 reply_state false s = refl
 
@@ -62,10 +62,10 @@ reply_heard : (goes : Bool) (s : Standing) → (if goes then sent_reply s else s
 reply_heard true s = refl
 reply_heard false s = refl
 
-finished_state : (s : Standing) → (finished s).state ≡ s.state
+finished_state : (s : Standing) → (after_play s).state ≡ s.state
 finished_state s = refl
 
-finished_heard : (s : Standing) → (finished s).heard ≡ s.heard
+finished_heard : (s : Standing) → (after_play s).heard ≡ s.heard
 finished_heard s = refl
 
 abbrev with_pacer : Setup → Played → Pacing → State
@@ -74,7 +74,7 @@ with_pacer setup play p = Playing setup (record play { pacer = p })
 -- a play's state after a slot, and the film's bytes in it
 state_cases : (waits between : Bool) (setup : Setup) (play : Played) (both one plain : Pacing) →
     (if waits && between
-    then settled (if waits then (if between then with_pacer setup play both else with_pacer setup play one) else with_pacer setup play plain)
+    then after_stop (if waits then (if between then with_pacer setup play both else with_pacer setup play one) else with_pacer setup play plain)
     else (if waits then (if between then with_pacer setup play both else with_pacer setup play one) else with_pacer setup play plain))
     ≡ with_pacer setup play (if waits then (if between then both else one) else plain)
 state_cases false between setup play both one plain = refl
@@ -90,7 +90,7 @@ film_cases true true one after plain text = ap (λ bs. one ++ bs) (append-nil af
 
 abbrev state_after : Bool → State → ℕ → State
 state_after waits state slot =
-    if waits && is_between (stepped_in true slot state) then settled (due_state waits state slot) else due_state waits state slot
+    if waits && is_between (stepped_in true slot state) then after_stop (due_state waits state slot) else due_state waits state slot
 
 abbrev parts_of : Bool → State → List ℕ → ℕ → List Part
 parts_of waits state text slot =
@@ -103,30 +103,30 @@ play_state : (waits : Bool) (setup : Setup) (play : Played) (slot : ℕ) →
     state_after waits (Playing setup play) slot ≡ with_pacer setup play (slot_pacing waits slot play.pacer)
 play_state waits setup play slot =
     let p = play.pacer in
-    state_cases waits (stands_at_boundary (stepped true slot p)) setup play (stepped false slot (stepped true slot p)) (stepped true slot p) (stepped false slot p)
+    state_cases waits (stands_at_boundary (after_step true slot p)) setup play (after_step false slot (after_step true slot p)) (after_step true slot p) (after_step false slot p)
 
 play_film : (waits : Bool) (setup : Setup) (play : Played) (text : List ℕ) (slot : ℕ) →
     film_bytes (parts_of waits (Playing setup play) text slot) ≡ slot_film waits slot play.pacer
 play_film waits setup play text slot =
     let p = play.pacer in
-    let p' = stepped true slot p in
-    film_cases waits (stands_at_boundary p') (plan_bytes p p.sent (step_end true (raised slot p))) (plan_bytes p' p'.sent (step_end false (raised slot p')))
-    (plan_bytes p p.sent (step_end false (raised slot p))) text
+    let p' = after_step true slot p in
+    film_cases waits (stands_at_boundary p') (plan_bytes p p.sent (step_end true (at_slot slot p))) (plan_bytes p' p'.sent (step_end false (at_slot slot p')))
+    (plan_bytes p p.sent (step_end false (at_slot slot p))) text
 
 -- a play goes on by a slot that is taken up
 pub taken_slot : (old : Standing) (slot : ℕ) (setup : Setup) (play : Played) (film : List ℕ) → old.state ≡ Playing setup play → HasSent play old.heard film →
-    old.heard < slot → HasSentOn setup play (finished (sent_slot old slot)) (film ++ film_bytes (due_parts old slot))
+    old.heard < slot → HasSentOn setup play (after_play (sent_slot old slot)) (film ++ film_bytes (due_parts old slot))
 taken_slot old slot setup play film is has later =
     let goes : Bool = old.waits && is_between (stepped_in true slot old.state) in
     let s : Standing = sent_slot old slot in
     let now : Played = record play { pacer = slot_pacing old.waits slot play.pacer } in
-    let state : (finished s).state ≡ Playing setup now =
+    let state : (after_play s).state ≡ Playing setup now =
     finished_state s ∙ reply_state goes (sent_due old slot) ∙ ap (λ st. state_after old.waits st slot) is ∙ play_state old.waits setup play slot in
-    let heard : (finished s).heard ≡ slot = finished_heard s ∙ reply_heard goes (sent_due old slot) in
+    let heard : (after_play s).heard ≡ slot = finished_heard s ∙ reply_heard goes (sent_due old slot) in
     let bytes : film_bytes (due_parts old slot) ≡ slot_film old.waits slot play.pacer =
     ap (λ st. film_bytes (parts_of old.waits st old.text slot)) is ∙ play_film old.waits setup play old.text slot in
     let through : slot_pacing old.waits slot play.pacer ≡ sent_through slot play.pacer =
-    slot_is old.waits (stands_at_boundary (stepped true slot play.pacer)) slot play.pacer has.pacing refl in
+    slot_is old.waits (stands_at_boundary (after_step true slot play.pacer)) slot play.pacer has.pacing refl in
     let sent : HasSent now slot (film ++ slot_film old.waits slot play.pacer) = sent_by play old.heard slot old.waits film has later in record {
       now = now;
       state = state;
@@ -173,11 +173,11 @@ later_slot old slot taken = ltb-true old.heard slot (and_left (nat_lt old.heard 
 
 -- a play goes on by a slot
 pub play_slot : (old : Standing) (slot : ℕ) (halt : Outcome) (new : Standing) (setup : Setup) (play : Played) (film : List ℕ) →
-    old.state ≡ Playing setup play → HasSent play old.heard film → IsFinished (awaits (slotted old slot)) (slotted old slot) halt new → IsUnhalted halt →
+    old.state ≡ Playing setup play → HasSent play old.heard film → IsFinished (awaits (after_slot old slot)) (after_slot old slot) halt new → IsUnhalted halt →
     HasSentOn setup play new (film ++ film_bytes (slot_parts old slot))
 play_slot old slot halt new setup play film is has finishes free =
-    subst (λ s. HasSentOn setup play s (film ++ film_bytes (slot_parts old slot))) (sym (finished_same (awaits (slotted old slot)) (slotted old slot) halt new finishes free))
-    (slot_cases (is_taken old slot) (is_sending old.state) old (finished (sent_slot old slot)) (record old { heard = slot }) (due_parts old slot) setup play film
+    subst (λ s. HasSentOn setup play s (film ++ film_bytes (slot_parts old slot))) (sym (finished_same (awaits (after_slot old slot)) (after_slot old slot) halt new finishes free))
+    (slot_cases (is_taken old slot) (is_sending old.state) old (after_play (sent_slot old slot)) (record old { heard = slot }) (due_parts old slot) setup play film
     (ap is_sending is) (as_it_was old setup play film is has)
     (λ taken. taken_slot old slot setup play film is has (later_slot old slot taken)))
 
@@ -262,8 +262,8 @@ heard_left old message outcome new setup play heard free is =
     (ask_free heard.asking heard.ask outcome new heard.answered free) in
     left_on old heard.asking new asking (answer_left heard.asking heard.ask outcome new setup play (asking.0 ∙ is) heard.answered free)
 
-settled_play : (state : State) (setup : Setup) (play : Played) → state ≡ Playing setup play → settled state ≡ state
-settled_play state setup play is = subst (λ st. settled st ≡ st) (sym is) refl
+settled_play : (state : State) (setup : Setup) (play : Played) → state ≡ Playing setup play → after_stop state ≡ state
+settled_play state setup play is = subst (λ st. after_stop st ≡ st) (sym is) refl
 
 reply_left : (goes : Bool) (s : Standing) (setup : Setup) (play : Played) → s.state ≡ Playing setup play → IsLeft s (if goes then sent_reply s else s)
 reply_left true s setup play is = (settled_play s.state setup play is, refl)

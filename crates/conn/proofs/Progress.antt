@@ -3,8 +3,8 @@ use Rattle.std.proofs.Common.{◌≡◌, ◌+◌, ◌≤◌, List, [], ◌∷◌
 use Rattle.std.proofs.Common.{ap, sym, subst, arith}
 use Rattle.std.specs.Prelude.{IfSome}
 use Rattle.std.proofs.lemmas.List.{length-append}
-use Rattle.vod_base.specs.Gates.{Content, NoMore, Failed, Returned, gave, gave_none}
-use Rattle.vod_base.specs.Gates.{got_back}
+use Rattle.vod_base.specs.Gates.{Content, NoMore, Failed, Returned, after_take, after_empty_take}
+use Rattle.vod_base.specs.Gates.{after_return}
 use Rattle.vod_base.specs.Outside.{HasRisen}
 use Rattle.station.specs.Seats.{IsSameSeat, Sitting}
 use Rattle.conn.specs.declared.reports.ConnReport.{ConnReport}
@@ -52,7 +52,7 @@ pub record IsOneMore (duty : Duty) (reports : List ConnReport) (mid : Option Con
 -- a connection was given, served, and came back
 pub one_served : (duty : Duty) (old_seat mid_seat new_seat : Sitting) (old mid new : Outlet) (taken : Option Content) (reports more : List ConnReport) (report : ConnReport)
     (returned : Returned) → HasServedSoFar duty old_seat mid_seat old mid reports → IsOneMore duty reports mid.told report returned mid_seat new_seat →
-    taken ≡ option_map gave mid.told → new.told ≡ option_map (got_back returned) taken → mid.faults ≤ new.faults → more ≡ reports ++ report ∷ [] →
+    taken ≡ option_map after_take mid.told → new.told ≡ option_map (after_return returned) taken → mid.faults ≤ new.faults → more ≡ reports ++ report ∷ [] →
     HasServedSoFar duty old_seat new_seat old new more
 one_served duty old_seat mid_seat new_seat old mid new taken reports more report returned front one given back count items =
     let size : length reports + 1 ≡ length more = sym (rw items (length-append reports (report ∷ []))) in record {
@@ -81,7 +81,7 @@ ends_early duty old_seat new_seat old new result front is = record {
 
 -- the last take gave none: there are no more
 pub ends_taken : (duty : Duty) (old_seat new_seat : Sitting) (old mid new : Outlet) (result : PartReport) → HasServedSoFar duty old_seat new_seat old mid result.reports.items →
-    result.end ≡ AllTaken → new.told ≡ option_map (gave_none NoMore) mid.told → mid.faults ≤ new.faults → HasServedPart duty old_seat new_seat old new result
+    result.end ≡ AllTaken → new.told ≡ option_map (after_empty_take NoMore) mid.told → mid.faults ≤ new.faults → HasServedPart duty old_seat new_seat old new result
 ends_taken duty old_seat new_seat old mid new result front is last count = record {
   seat = front.seat;
   entries = front.entries;
@@ -96,7 +96,7 @@ ends_taken duty old_seat new_seat old mid new result front is last count = recor
 
 -- or it failed
 pub ends_failed : (duty : Duty) (old_seat new_seat : Sitting) (old mid new : Outlet) (result : PartReport) → HasServedSoFar duty old_seat new_seat old mid result.reports.items →
-    result.end ≡ GateFault → new.told ≡ option_map (gave_none Failed) mid.told → mid.faults ≤ new.faults → HasRisen mid.faults new.faults →
+    result.end ≡ GateFault → new.told ≡ option_map (after_empty_take Failed) mid.told → mid.faults ≤ new.faults → HasRisen mid.faults new.faults →
     HasServedPart duty old_seat new_seat old new result
 ends_failed duty old_seat new_seat old mid new result front is last count risen = record {
   seat = front.seat;

@@ -4,7 +4,7 @@ use Rattle.std.proofs.Common.{List, [], ◌∷◌, length, take, drop, refl, sym
 use Rattle.std.proofs.Common.{inl, Option}
 use Rattle.std.proofs.lemmas.List.{append-nil}
 use Rattle.film_frames.specs.declared.stores.Stored.{Stored}
-use Rattle.film_frames.specs.Tracks.{framed}
+use Rattle.film_frames.specs.Tracks.{framed_bytes}
 use Rattle.film_run.proofs.PlayLaws.{sending-best}
 use Rattle.film_run.specs.declared.runs.Run.{Run}
 use Rattle.film_run.specs.Units.{stored_sizes}
@@ -18,8 +18,8 @@ use Rattle.session.specs.declared.states.State.{State}
 use Rattle.session.specs.declared.states.State.TheVariants.{Init, Playing, Ready, Stopping}
 use Rattle.session.specs.Hearings.{new_standing}
 use Rattle.session.specs.Ranges.{AreSettings}
-use Rattle.session.specs.Sendings.{finished, is_between, is_sending, is_taken, sent_due, sent_reply}
-use Rattle.session.specs.Sendings.{sent_slot, slotted, stepped_in}
+use Rattle.session.specs.Sendings.{after_play, is_between, is_sending, is_taken, sent_due, sent_reply}
+use Rattle.session.specs.Sendings.{sent_slot, after_slot, stepped_in}
 use Rattle.session.specs.Standings.{Standing, taken_up}
 use Rattle.conn.specs.Turns.{Outcome, Part, Stage, film_bytes, slot_parts, stage}
 use Rattle.conn.specs.Rounds.{Comes, Round}
@@ -60,9 +60,9 @@ heard_cases false sending next still old slot one other = refl
 heard_cases true false next still old slot one other = other
 heard_cases true true next still old slot one other = one
 
-slot_heard : (old : Standing) (slot : ℕ) → (slotted old slot).heard ≡ taken_up old.heard slot
+slot_heard : (old : Standing) (slot : ℕ) → (after_slot old slot).heard ≡ taken_up old.heard slot
 slot_heard old slot =
-    heard_cases (is_taken old slot) (is_sending old.state) (finished (sent_slot old slot)) (record old { heard = slot }) old slot
+    heard_cases (is_taken old slot) (is_sending old.state) (after_play (sent_slot old slot)) (record old { heard = slot }) old slot
     (reply_heard (old.waits && is_between (stepped_in true slot old.state)) (sent_due old slot)) refl
 
 -- what was sent of a play, by the play as it was and as it is now
@@ -89,9 +89,9 @@ sent_by old setup play film new heard more its on same =
         sending = its.sending;
         best = sending-best sizes client play.run play.plan its.sending;
         count = count;
-        front = sent.film_is ∙ ap (λ n. take n (drop now.pacer.before (framed now.pacer.pieces))) slots
-            ∙ ap (λ n. take (length more) (drop n (framed now.pacer.pieces))) before
-            ∙ ap (λ ps. take (length more) (drop play.run.sent (framed ps))) pieces;
+        front = sent.film_is ∙ ap (λ n. take n (drop now.pacer.before (framed_bytes now.pacer.pieces))) slots
+            ∙ ap (λ n. take (length more) (drop n (framed_bytes now.pacer.pieces))) before
+            ∙ ap (λ ps. take (length more) (drop play.run.sent (framed_bytes ps))) pieces;
         between = λ slot at.
             let through : heard + 1 - play.start ≡ slot + 1 = omega (arith, at) in
             planned_between sizes client play.run play.plan slot (length more) is_plan its.sending (count ∙ ap (first_slots play.plan) through);
@@ -108,7 +108,7 @@ kept_event old new (HeardBytes bytes) due halt setup play film its is comes =
     (sent_by old.session setup play film old.session old.session.heard film its (as_it_was old.session setup play film is its.sent) refl))
 kept_event old new (HeardSlot slot) due halt setup play film its is comes =
     subst (λ ps. (stored : Stored) × IsSentBy old.session stored setup play (taken_up old.session.heard slot) (film ++ film_bytes ps)) (sym comes.1.parts_are)
-    (sent_by old.session setup play film (slotted old.session slot) (taken_up old.session.heard slot) (film ++ film_bytes (slot_parts old.session slot)) its
+    (sent_by old.session setup play film (after_slot old.session slot) (taken_up old.session.heard slot) (film ++ film_bytes (slot_parts old.session slot)) its
     (slot_play old.session slot setup play film is its.sent) (slot_heard old.session slot))
 kept_event old new HeardEnd due halt setup play film its is comes = absurd comes
 kept_event old new (Sent byte) due halt setup play film its is comes = absurd comes

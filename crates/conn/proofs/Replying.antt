@@ -3,9 +3,9 @@ use Rattle.std.proofs.Common.{◌≡◌, ℕ, ◌+◌, ◌-◌, ◌≤◌, ◌++
 use Rattle.std.proofs.Common.{List, [], ◌∷◌, length, take, drop, refl, ap, sym, ◌∙◌, subst, arith}
 use Rattle.std.proofs.lemmas.Bool.{eqb-true, true≢false}
 use Rattle.std.proofs.lemmas.List.{append-nil, append_assoc, length-append}
-use Rattle.film_frames.specs.Tracks.{IsBoundary, framed}
-use Rattle.pacer.specs.Pacings.{IsPacing, Pacing, first_slots, next_boundary, plan_bytes, raised}
-use Rattle.pacer.specs.Pacings.{stands_at_boundary, step_end, stepped}
+use Rattle.film_frames.specs.Tracks.{IsBoundary, framed_bytes}
+use Rattle.pacer.specs.Pacings.{IsPacing, Pacing, first_slots, next_boundary, plan_bytes, at_slot}
+use Rattle.pacer.specs.Pacings.{stands_at_boundary, step_end, after_step}
 use Rattle.pacer.proofs.PacingLemmas.{boundary-from}
 use Rattle.pacer.proofs.SendingLemmas.{between-length}
 use Rattle.vod_base.specs.Links.{Doing, HeardBytes, HeardEnd, HeardSlot, Sent}
@@ -32,9 +32,9 @@ film_count play heard film has =
     let p = play.pacer in
     let n : ℕ = first_slots p.plan (heard + 1 - p.start) in
     let few : n ≤ p.keep = omega (arith, few_slots p.plan (heard + 1 - p.start) has.pacing.plan, has.kept) in
-    let whole : p.before + n ≤ length (framed p.pieces) = omega (arith, few, has.pacing.whole, has.pacing.most) in
+    let whole : p.before + n ≤ length (framed_bytes p.pieces) = omega (arith, few, has.pacing.whole, has.pacing.most) in
     let exact : (p.before + n) - p.before ≡ n = omega arith in
-    ap length has.film_is ∙ ap (λ k. length (take k (drop p.before (framed p.pieces)))) (sym exact)
+    ap length has.film_is ∙ ap (λ k. length (take k (drop p.before (framed_bytes p.pieces)))) (sym exact)
     ∙ between-length p.pieces p.before (p.before + n) (omega arith) whole ∙ exact ∙ ap (λ s. first_slots p.plan (heard + 1 - s)) has.start
 
 -- what was sent of a play ends where its film does
@@ -46,21 +46,21 @@ sent_place play heard film has =
 -- a pacing that stands at a boundary
 boundary_here : (p : Pacing) → IsPacing p → stands_at_boundary p ≡ true → IsBoundary p.pieces (p.before + p.sent)
 boundary_here p is stands =
-    let inside : p.before + p.sent ≤ length (framed p.pieces) = omega (arith, is.whole, is.most, is.due, is.sent) in
+    let inside : p.before + p.sent ≤ length (framed_bytes p.pieces) = omega (arith, is.whole, is.most, is.due, is.sent) in
     let next = boundary-from p.pieces (p.before + p.sent) inside in
     let same : next_boundary p ≡ p.sent = eqb-true (next_boundary p) p.sent stands in
     subst (IsBoundary p.pieces) (omega (arith, same, next.after)) next.boundary
 
 -- as far as a step with a stop goes
-stopped_place : (slot : ℕ) (p : Pacing) → IsPacing p → (p.before + p.sent) + length (plan_bytes p p.sent (step_end true (raised slot p)))
-    ≡ p.before + (stepped true slot p).sent
+stopped_place : (slot : ℕ) (p : Pacing) → IsPacing p → (p.before + p.sent) + length (plan_bytes p p.sent (step_end true (at_slot slot p)))
+    ≡ p.before + (after_step true slot p).sent
 stopped_place slot p is =
-    let mid : ℕ = step_end true (raised slot p) in
-    let inside : p.before + p.sent ≤ length (framed p.pieces) = omega (arith, is.whole, is.most, is.due, is.sent) in
+    let mid : ℕ = step_end true (at_slot slot p) in
+    let inside : p.before + p.sent ≤ length (framed_bytes p.pieces) = omega (arith, is.whole, is.most, is.due, is.sent) in
     let next = boundary-from p.pieces (p.before + p.sent) inside in
     let least : p.sent ≤ mid = omega (arith, next.after, is.sent) in
     let now = stopped_is slot p is in
-    let most : p.before + mid ≤ length (framed p.pieces) = omega (arith, now.whole, now.most, now.due, now.sent) in
+    let most : p.before + mid ≤ length (framed_bytes p.pieces) = omega (arith, now.whole, now.most, now.due, now.sent) in
     omega (arith, least, between-length p.pieces (p.before + p.sent) (p.before + mid) (omega (arith, least)) most)
 
 stand-append : (pieces : List (List ℕ)) (place : ℕ) (xs ys : List Part) → StandBetween pieces place xs →
@@ -85,7 +85,7 @@ due_stand session slot setup play film is has =
     let State' : State → Type 0 = λ st. (is_between (stepped_in true slot st) ≡ true → IsBoundary p.pieces ((p.before + length film) + length (step_bytes true slot st))) in
     let stands : State' (Playing setup play) =
     λ between. subst (IsBoundary p.pieces) (omega (arith, sent_place play session.heard film has, stopped_place slot p has.pacing))
-    (boundary_here (stepped true slot p) (stopped_is slot p has.pacing) between) in
+    (boundary_here (after_step true slot p) (stopped_is slot p has.pacing) between) in
     slot_stands session.waits (is_between (stepped_in true slot session.state)) p.pieces (p.before + length film) (step_bytes true slot session.state)
     (step_bytes false slot (stepped_in true slot session.state)) (step_bytes false slot session.state) session.text
     (subst State' (sym is) stands)

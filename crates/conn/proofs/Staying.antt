@@ -29,17 +29,17 @@ use Rattle.session.specs.declared.states.Source.{Source}
 use Rattle.session.specs.declared.states.State.{State}
 use Rattle.session.specs.declared.states.State.TheVariants.{Init, Playing, Ready, Stopping}
 use Rattle.session.specs.declared.states.Stop.{Stop}
-use Rattle.pacer.specs.Pacings.{stands_at_boundary, stepped}
+use Rattle.pacer.specs.Pacings.{stands_at_boundary, after_step}
 use Rattle.session.specs.Films.{sending_of}
 use Rattle.session.specs.Hearings.{after_admission, after_halt, counts_of}
 use Rattle.session.specs.Playing.{playback_of}
 use Rattle.session.specs.Ranges.{AreSettings, IsSetup}
-use Rattle.session.specs.Sendings.{can_reply, due_state, finished, halted_in, is_between}
+use Rattle.session.specs.Sendings.{can_reply, due_state, after_play, halted_in, is_between}
 use Rattle.session.specs.Sendings.{is_sending, is_taken, next_of, sent_due, sent_reply, sent_slot}
-use Rattle.session.specs.Sendings.{slotted, state_after, stepped_in}
+use Rattle.session.specs.Sendings.{after_slot, state_after, stepped_in}
 use Rattle.session.specs.Standings.{Awaits, NoAnswer, PlayAnswer, HaltAnswer, LookAnswer}
 use Rattle.session.specs.Standings.{OfferAnswer, Standing, awaits}
-use Rattle.session.specs.Steps.{IsPlayIn, settled}
+use Rattle.session.specs.Steps.{IsPlayIn, after_stop}
 use Rattle.conn.specs.Turns.{Outcome, Unasked, Entered, WasFull, Offered, Part, Text, Stage, Taking}
 use Rattle.conn.specs.Turns.{Passed, Answered, HasHeard, IsAnswered, IsFinished, IsHalted}
 use Rattle.conn.specs.Turns.{IsLookAnswered, IsPlayAnswered, Takes, TakesAll, after_reply}
@@ -168,7 +168,7 @@ heard_well old message outcome new film well heard =
 
 -- a reply that was sent
 settled_well : (films : List Stored) (source : Source) (settings : Settings) (counts : Counts) (heard : ℕ) (film : List ℕ) (state : State) →
-    IsStateOf films source settings counts heard film state → IsStateOf films source settings counts heard film (settled state)
+    IsStateOf films source settings counts heard film state → IsStateOf films source settings counts heard film (after_stop state)
 settled_well films source settings counts heard film Init is = is
 settled_well films source settings counts heard film (Ready setup paused) is = is
 settled_well films source settings counts heard film (Playing setup play) is = is
@@ -218,7 +218,7 @@ sent_ground : (goes : Bool) (old s : Standing) → IsSameSession old s → IsSam
 sent_ground false old s is = is
 sent_ground true old s is = record { films = is.films; source = is.source; settings = is.settings; counts = is.counts }
 
-finished_ground : (old s : Standing) → IsSameSession old s → IsSameSession old (finished s)
+finished_ground : (old s : Standing) → IsSameSession old s → IsSameSession old (after_play s)
 finished_ground old s is = record { films = is.films; source = is.source; settings = is.settings; counts = is.counts }
 
 -- a slot is taken up in a play or its rest, or outside, or not at all
@@ -231,9 +231,9 @@ slot_any P true true next still old goes stays same = goes refl
 same_ground : (s : Standing) → IsSameSession s s
 same_ground s = record { films = refl; source = refl; settings = refl; counts = refl }
 
-slot_ground : (old : Standing) (slot : ℕ) → IsSameSession old (slotted old slot)
+slot_ground : (old : Standing) (slot : ℕ) → IsSameSession old (after_slot old slot)
 slot_ground old slot =
-    slot_any (IsSameSession old) (is_taken old slot) (is_sending old.state) (finished (sent_slot old slot)) (record old { heard = slot }) old
+    slot_any (IsSameSession old) (is_taken old slot) (is_sending old.state) (after_play (sent_slot old slot)) (record old { heard = slot }) old
     (λ sends. finished_ground old (sent_slot old slot)
     (sent_ground (old.waits && is_between (stepped_in true slot old.state)) old (sent_due old slot)
     (record { films = refl; source = refl; settings = refl; counts = refl })))
@@ -264,38 +264,38 @@ off_well old new film more same well off = record {
 -- the rest of a play that was halted
 rest_off : (films : ℕ) (waits between : Bool) (setup : Setup) (both one plain : Stop) → IsSetup films setup →
     IsOff films (if waits && between
-    then settled (if waits then (if between then Stopping setup both else Stopping setup one) else Stopping setup plain)
+    then after_stop (if waits then (if between then Stopping setup both else Stopping setup one) else Stopping setup plain)
     else (if waits then (if between then Stopping setup both else Stopping setup one) else Stopping setup plain))
 rest_off films false between setup both one plain values = values
 rest_off films true false setup both one plain values = values
 rest_off films true true setup both one plain values = values
 
-reply_state : (goes : Bool) (s : Standing) → (if goes then sent_reply s else s).state ≡ (if goes then settled s.state else s.state)
+reply_state : (goes : Bool) (s : Standing) → (if goes then sent_reply s else s).state ≡ (if goes then after_stop s.state else s.state)
 reply_state true s = refl
 reply_state false s = refl
 
 sent_off : (films : ℕ) (old : Standing) (slot : ℕ) (setup : Setup) (stop : Stop) → old.state ≡ Stopping setup stop → IsSetup films setup →
-    IsOff films (finished (sent_slot old slot)).state
+    IsOff films (after_play (sent_slot old slot)).state
 sent_off films old slot setup stop is values =
     let p = stop.pacer in
-    let both : Stop = record stop { pacer = stepped false slot (stepped true slot p) } in
-    let one : Stop = record stop { pacer = stepped true slot p } in
-    let plain : Stop = record stop { pacer = stepped false slot p } in
+    let both : Stop = record stop { pacer = after_step false slot (after_step true slot p) } in
+    let one : Stop = record stop { pacer = after_step true slot p } in
+    let plain : Stop = record stop { pacer = after_step false slot p } in
     subst (IsOff films) (sym (reply_state (old.waits && is_between (stepped_in true slot old.state)) (sent_due old slot)))
-    (subst (λ st. IsOff films (if old.waits && is_between (stepped_in true slot st) then settled (due_state old.waits st slot) else due_state old.waits st slot)) (sym is)
-    (rest_off films old.waits (stands_at_boundary (stepped true slot p)) setup both one plain values))
+    (subst (λ st. IsOff films (if old.waits && is_between (stepped_in true slot st) then after_stop (due_state old.waits st slot) else due_state old.waits st slot)) (sym is)
+    (rest_off films old.waits (stands_at_boundary (after_step true slot p)) setup both one plain values))
 
 -- a slot
-slot_off : (films : ℕ) (old : Standing) (slot : ℕ) → IsOff films old.state → (is_sending old.state ≡ true → IsOff films (finished (sent_slot old slot)).state) →
-    IsOff films (slotted old slot).state
+slot_off : (films : ℕ) (old : Standing) (slot : ℕ) → IsOff films old.state → (is_sending old.state ≡ true → IsOff films (after_play (sent_slot old slot)).state) →
+    IsOff films (after_slot old slot).state
 slot_off films old slot off sent =
-    slot_any (λ s. IsOff films s.state) (is_taken old slot) (is_sending old.state) (finished (sent_slot old slot)) (record old { heard = slot }) old sent off off
+    slot_any (λ s. IsOff films s.state) (is_taken old slot) (is_sending old.state) (after_play (sent_slot old slot)) (record old { heard = slot }) old sent off off
 
 -- a play goes on by a slot
 pub slot_play : (old : Standing) (slot : ℕ) (setup : Setup) (play : Played) (film : List ℕ) → old.state ≡ Playing setup play → HasSent play old.heard film →
-    HasSentOn setup play (slotted old slot) (film ++ film_bytes (slot_parts old slot))
+    HasSentOn setup play (after_slot old slot) (film ++ film_bytes (slot_parts old slot))
 slot_play old slot setup play film is has =
-    slot_cases (is_taken old slot) (is_sending old.state) old (finished (sent_slot old slot)) (record old { heard = slot }) (due_parts old slot) setup play film
+    slot_cases (is_taken old slot) (is_sending old.state) old (after_play (sent_slot old slot)) (record old { heard = slot }) (due_parts old slot) setup play film
     (ap is_sending is) (as_it_was old setup play film is has)
     (λ taken. taken_slot old slot setup play film is has (later_slot old slot taken))
 
@@ -322,21 +322,21 @@ play_on old new setup play film more same well is on =
     }
 
 slot_state : (state : State) (old : Standing) (slot : ℕ) (film : List ℕ) → old.state ≡ state → IsWell old film →
-    IsWell (slotted old slot) (film ++ film_bytes (slot_parts old slot))
+    IsWell (after_slot old slot) (film ++ film_bytes (slot_parts old slot))
 slot_state Init old slot film is well =
-    off_well old (slotted old slot) film (film ++ film_bytes (slot_parts old slot)) (slot_ground old slot) well
+    off_well old (after_slot old slot) film (film ++ film_bytes (slot_parts old slot)) (slot_ground old slot) well
     (slot_off (length old.films) old slot (subst (IsOff (length old.films)) (sym is) tt) (λ sends. absurd (true≢false (sym sends ∙ ap is_sending is))))
 slot_state (Ready setup paused) old slot film is well =
     let values = subst (IsStateOf old.films old.source old.settings old.counts old.heard film) is well.state in
-    off_well old (slotted old slot) film (film ++ film_bytes (slot_parts old slot)) (slot_ground old slot) well
+    off_well old (after_slot old slot) film (film ++ film_bytes (slot_parts old slot)) (slot_ground old slot) well
     (slot_off (length old.films) old slot (subst (IsOff (length old.films)) (sym is) values) (λ sends. absurd (true≢false (sym sends ∙ ap is_sending is))))
 slot_state (Playing setup play) old slot film is well =
     let was = subst (IsStateOf old.films old.source old.settings old.counts old.heard film) is well.state in
-    play_on old (slotted old slot) setup play film (film ++ film_bytes (slot_parts old slot)) (slot_ground old slot) well is
+    play_on old (after_slot old slot) setup play film (film ++ film_bytes (slot_parts old slot)) (slot_ground old slot) well is
     (slot_play old slot setup play film is was.1.sent)
 slot_state (Stopping setup stop) old slot film is well =
     let values = subst (IsStateOf old.films old.source old.settings old.counts old.heard film) is well.state in
-    off_well old (slotted old slot) film (film ++ film_bytes (slot_parts old slot)) (slot_ground old slot) well
+    off_well old (after_slot old slot) film (film ++ film_bytes (slot_parts old slot)) (slot_ground old slot) well
     (slot_off (length old.films) old slot (subst (IsOff (length old.films)) (sym is) values) (λ sends. sent_off (length old.films) old slot setup stop is values))
 
 -- a play that is done is halted
@@ -358,7 +358,7 @@ comes_well old new (HeardBytes bytes) due halt film well comes =
     (subst (λ (s : Stage). IsWell s.session (film ++ [])) (sym comes.3) (subst (IsWell old.session) (sym (append-nil film)) well))
 comes_well old new (HeardSlot slot) due halt film well comes =
     subst (λ ps. IsWell new.session (film ++ film_bytes ps)) (sym comes.1.parts_are)
-    (finish_well (awaits (slotted old.session slot)) (slotted old.session slot) halt new.session (film ++ film_bytes (slot_parts old.session slot))
+    (finish_well (awaits (after_slot old.session slot)) (after_slot old.session slot) halt new.session (film ++ film_bytes (slot_parts old.session slot))
     (slot_state old.session.state old.session slot film refl well) comes.1.finished)
 comes_well old new HeardEnd due halt film well comes = absurd comes
 comes_well old new (Sent byte) due halt film well comes = absurd comes

@@ -31,8 +31,8 @@ use Rattle.session.specs.declared.asks.Ask.TheVariants.{Offer as AskOffer}
 use Rattle.session.specs.Changes.{HasCode, IsNoRefusal, RefusesNone}
 use Rattle.session.specs.Hearings.{after_full, started_text}
 use Rattle.session.specs.Replies.{field, full_text, overflow_text}
-use Rattle.session.specs.Sendings.{can_reply, finished, is_between, is_sending, is_taken, sent_due}
-use Rattle.session.specs.Sendings.{sent_reply, sent_slot, slotted, stepped_in}
+use Rattle.session.specs.Sendings.{can_reply, after_play, is_between, is_sending, is_taken, sent_due}
+use Rattle.session.specs.Sendings.{sent_reply, sent_slot, after_slot, stepped_in}
 use Rattle.session.specs.Standings.{Awaits, NoAnswer, PlayAnswer, HaltAnswer, LookAnswer}
 use Rattle.session.specs.Standings.{OfferAnswer, Standing, awaits}
 use Rattle.conn.specs.Turns.{Outcome, Unasked, Entered, WasFull, Offered, Part, Film, Text, Stage}
@@ -284,9 +284,9 @@ slot_text_cases false sending next still old one other = refl
 slot_text_cases true false next still old one other = other
 slot_text_cases true true next still old one other = one
 
-slot_text : (old : Standing) (slot : ℕ) → (slotted old slot).text ≡ old.text
+slot_text : (old : Standing) (slot : ℕ) → (after_slot old slot).text ≡ old.text
 slot_text old slot =
-    slot_text_cases (is_taken old slot) (is_sending old.state) (finished (sent_slot old slot)) (record old { heard = slot }) old
+    slot_text_cases (is_taken old slot) (is_sending old.state) (after_play (sent_slot old slot)) (record old { heard = slot }) old
     (reply_text_is (old.waits && is_between (stepped_in true slot old.state)) (sent_due old slot)) refl
 
 due_told : (made : List Outcome) (sends waits between : Bool) (one after plain text : List ℕ) → IsTold made text →
@@ -317,7 +317,7 @@ comes_tells made old new (HeardBytes bytes) due halt told comes = record {
   sent = subst (AreTold made) (sym comes.0) tt;
 }
 comes_tells made old new (HeardSlot slot) due halt told comes =
-    let s = slotted old.session slot in
+    let s = after_slot old.session slot in
     let text : new.session.text ≡ old.session.text = finished_text (awaits s) s halt new.session comes.1.finished ∙ slot_text old.session slot in
     record {
       waiting = subst (IsTold made) (sym text) told;

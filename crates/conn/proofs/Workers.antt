@@ -7,7 +7,7 @@ use Rattle.std.proofs.lemmas.List.{get_or_append_left}
 use Rattle.std.proofs.lemmas.List.Sums.{fold-append}
 use Rattle.std.proofs.Math.Seq.{get_or-append_seam}
 use Rattle.std.proofs.lemmas.Bool.{cases_lt}
-use Rattle.vod_base.specs.Gates.{Content, Returned, LastTake, HasOut, gave, gave_none, got_back}
+use Rattle.vod_base.specs.Gates.{Content, Returned, LastTake, HasOut, after_take, after_empty_take, after_return}
 use Rattle.admission.specs.Makers.{Placed}
 use Rattle.session.specs.declared.notes.Receipt.{Receipt}
 use Rattle.station.specs.declared.answers.Booking.{Booking}
@@ -37,18 +37,18 @@ served_none (Some part) untouched = record {
   back = ap length untouched.back;
 }
 
-pub served_out : (old mid new : Option Content) (count : ℕ) → IsServed old mid count → new ≡ option_map gave mid → IfSome new HasOut
-served_out None mid new count served is = subst (λ c. IfSome c HasOut) (sym (is ∙ ap (option_map gave) served)) tt
+pub served_out : (old mid new : Option Content) (count : ℕ) → IsServed old mid count → new ≡ option_map after_take mid → IfSome new HasOut
+served_out None mid new count served is = subst (λ c. IfSome c HasOut) (sym (is ∙ ap (option_map after_take) served)) tt
 served_out (Some old) None new count served is = absurd served
 served_out (Some old) (Some mid) new count served is =
     subst (λ c. IfSome c HasOut) (sym is) (omega (arith, served.given, served.back))
 
-pub served_one : (old mid taken new : Option Content) (count : ℕ) (conn : Returned) → IsServed old mid count → taken ≡ option_map gave mid →
-    new ≡ option_map (got_back conn) taken → IsServed old new (count + 1)
-served_one None mid taken new count conn served is back = back ∙ ap (option_map (got_back conn)) (is ∙ ap (option_map gave) served)
+pub served_one : (old mid taken new : Option Content) (count : ℕ) (conn : Returned) → IsServed old mid count → taken ≡ option_map after_take mid →
+    new ≡ option_map (after_return conn) taken → IsServed old new (count + 1)
+served_one None mid taken new count conn served is back = back ∙ ap (option_map (after_return conn)) (is ∙ ap (option_map after_take) served)
 served_one (Some old) None taken new count conn served is back = absurd served
 served_one (Some old) (Some mid) taken new count conn served is back =
-    subst (λ c. IsServed (Some old) c (count + 1)) (sym (back ∙ ap (option_map (got_back conn)) is)) (record {
+    subst (λ c. IsServed (Some old) c (count + 1)) (sym (back ∙ ap (option_map (after_return conn)) is)) (record {
       opening = served.opening;
       parts = served.parts;
       number = served.number;
@@ -56,8 +56,8 @@ served_one (Some old) (Some mid) taken new count conn served is back =
       back = length-append mid.own.back (conn ∷ []) ∙ ap (λ n. n + 1) served.back;
     })
 
-pub served_last : (old mid new : Option Content) (count : ℕ) (last : LastTake) → IsServed old mid count → new ≡ option_map (gave_none last) mid → IsServed old new count
-served_last None mid new count last served is = is ∙ ap (option_map (gave_none last)) served
+pub served_last : (old mid new : Option Content) (count : ℕ) (last : LastTake) → IsServed old mid count → new ≡ option_map (after_empty_take last) mid → IsServed old new count
+served_last None mid new count last served is = is ∙ ap (option_map (after_empty_take last)) served
 served_last (Some old) None new count last served is = absurd served
 served_last (Some old) (Some mid) new count last served is =
     subst (λ c. IsServed (Some old) c count) (sym is) (record {
@@ -68,7 +68,7 @@ served_last (Some old) (Some mid) new count last served is =
       back = served.back;
     })
 
-pub told_last : (mid new : Option Content) (last : LastTake) → new ≡ option_map (gave_none last) mid → IfSome new (λ c. c.own.last ≡ last)
+pub told_last : (mid new : Option Content) (last : LastTake) → new ≡ option_map (after_empty_take last) mid → IfSome new (λ c. c.own.last ≡ last)
 told_last None new last is = subst (λ c. IfSome c (λ (p : Content). p.own.last ≡ last)) (sym is) tt
 told_last (Some mid) new last is = subst (λ c. IfSome c (λ (p : Content). p.own.last ≡ last)) (sym is) refl
 

@@ -5,7 +5,7 @@ use Rattle.slot_calendar.specs.Calendars.{HasRoom, IsFirstOverflow}
 use Rattle.slot_calendar.specs.Profiles.{capacity_at}
 use Rattle.slot_calendar.specs.declared.calendar.Overflow.{Overflow as Over}
 use Rattle.admission.specs.declared.entries.Entry.{Entry}
-use Rattle.admission.specs.Histories.{IsLegal, booked_after, live, state_after}
+use Rattle.admission.specs.Histories.{IsLegal, booked_after, open_count, state_after}
 use Rattle.admission.specs.Machine.{start_after}
 use Rattle.admission.specs.declared.entries.Answer.{Answer}
 use Rattle.admission.specs.declared.entries.Answer.TheVariants.{Admitted, Halted, Looked, Overflow}
@@ -55,8 +55,8 @@ start_at journal turn heard = start_after (state_after (take turn journal)) (min
 -- admitted with 200.
 pub record IsDecided (terms : Terms) (journal : List Entry) (old : Standing) (plan : List Segment)
     (turn : ℕ) (new : Standing) : Type 0 where
-  pub full : terms.limit < turn + live (take turn journal) + 2
-      → (sequence : ℕ) × (new.text ≡ full_text sequence turn (live (take turn journal)))
+  pub full : terms.limit < turn + open_count (take turn journal) + 2
+      → (sequence : ℕ) × (new.text ≡ full_text sequence turn (open_count (take turn journal)))
   pub over : HasRoomAt terms journal turn 2 → (over : Over)
       → IsFirstOverflow 0 (booked_after (take turn journal)) (capacity_at terms.steps)
       (start_at journal turn old.heard) plan over
@@ -89,6 +89,6 @@ IsPlayCompleted old outcome new =
 abbrev pub IsPlayReplied : Standing → Outcome → Standing → Type 0
 IsPlayReplied old Unasked new = HasCode 500 new.text
 IsPlayReplied old (Entered placed) new = IsEntryReplied old placed placed.entry.answer new
-IsPlayReplied old (WasFull more entries live) new = (sequence : ℕ)
-    × (new.text ≡ full_text sequence entries live)
+IsPlayReplied old (WasFull more entries open_count) new = (sequence : ℕ)
+    × (new.text ≡ full_text sequence entries open_count)
 IsPlayReplied old (Offered at_slot note) new = ⊥

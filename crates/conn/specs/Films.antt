@@ -1,7 +1,7 @@
 -- What was sent of a film, as long as its play isn't halted.
 use Rattle.std.specs.Prelude.{◌≡◌, ℕ, ◌+◌, ◌-◌, ◌≤◌, ⊤, List, [], ◌∷◌, ◌++◌, length, take, drop}
 use Rattle.film_frames.specs.Runs.{run_pieces}
-use Rattle.film_frames.specs.Tracks.{IsBoundary, framed}
+use Rattle.film_frames.specs.Tracks.{IsBoundary, framed_bytes}
 use Rattle.film_run.specs.declared.plans.Playback.{Playback}
 use Rattle.film_run.specs.declared.runs.Run.{Run}
 use Rattle.film_run.specs.Plans.{rest_sizes, timing_of}
@@ -28,7 +28,7 @@ use Rattle.conn.specs.Rounds.{Round, RunsAll, rounds_outcomes, takings_outcomes}
 -- the bytes that a plan sends up to the end of a slot, of frames and reports from a place on
 abbrev pub planned_bytes : Pacing → ℕ → List ℕ
 planned_bytes p slot =
-    take (first_slots p.plan (slot + 1 - p.start)) (drop p.before (framed p.pieces))
+    take (first_slots p.plan (slot + 1 - p.start)) (drop p.before (framed_bytes p.pieces))
 
 -- of a play these bytes were sent up to the heard slot: what its plan has for its slots up to that
 -- one, all in order

@@ -6,7 +6,7 @@ use Rattle.slot_calendar.specs.Profiles.{capacity_at}
 use Rattle.admission.specs.declared.entries.Command.{Command}
 use Rattle.admission.specs.declared.entries.Command.TheVariants.{Play, Halt, Look}
 use Rattle.admission.specs.declared.entries.Entry.{Entry}
-use Rattle.admission.specs.Histories.{booked_after, live, state_after}
+use Rattle.admission.specs.Histories.{booked_after, open_count, state_after}
 use Rattle.admission.specs.Machine.{start_after}
 use Rattle.admission.specs.Makers.{Placed}
 use Rattle.early_start.specs.Offered.{IsOffer}
@@ -34,7 +34,7 @@ entries_needed (Halt number keep) = 0
 -- after its first entries a journal has room for so many more, beside those for the halts of its
 -- open plays
 abbrev pub HasRoomAt : Terms → List Entry → ℕ → ℕ → Type 0
-HasRoomAt terms journal place more = place + live (take place journal) + more ≤ terms.limit
+HasRoomAt terms journal place more = place + open_count (take place journal) + more ≤ terms.limit
 
 -- an entry stands in a journal, at its place, which is from a place on, and there was room for it
 pub record StandsIn (terms : Terms) (journal : List Entry) (from : ℕ) (placed : Placed)
@@ -51,7 +51,7 @@ pub record IsFullIn (limit : ℕ) (journal : List Entry) (from more entries live
     : Type 0 where
   pub after : from ≤ entries
   pub within : entries ≤ length journal
-  pub live_is : live_plays ≡ live (take entries journal)
+  pub live_is : live_plays ≡ open_count (take entries journal)
   pub full : limit < entries + live_plays + more
 
 -- an offer is the one that is made in the state after a front of the journal, from the slot after
@@ -72,7 +72,7 @@ AgreeWith terms journal from (Unasked ∷ outcomes) = AgreeWith terms journal fr
 AgreeWith terms journal from (Entered placed ∷ outcomes) =
     StandsIn terms journal from placed
     × AgreeWith terms journal (placed.place + 1) outcomes
-AgreeWith terms journal from (WasFull more entries live ∷ outcomes) =
-    IsFullIn terms.limit journal from more entries live × AgreeWith terms journal entries outcomes
+AgreeWith terms journal from (WasFull more entries open_count ∷ outcomes) =
+    IsFullIn terms.limit journal from more entries open_count × AgreeWith terms journal entries outcomes
 AgreeWith terms journal from (Offered at_slot note ∷ outcomes) =
     IsOfferedIn terms.steps journal from at_slot note × AgreeWith terms journal note.seen outcomes

@@ -6,7 +6,7 @@ use Rattle.vod_base.specs.Links.{Doing, HeardBytes, HeardEnd, HeardSlot, Sent}
 use Rattle.mpeg_scan.specs.Rates.{picture_time}
 use Rattle.film_frames.specs.declared.stores.Stored.{Stored}
 use Rattle.film_frames.specs.Runs.{run_pieces}
-use Rattle.film_frames.specs.Tracks.{framed}
+use Rattle.film_frames.specs.Tracks.{framed_bytes}
 use Rattle.film_run.specs.declared.plans.Playback.{Playback}
 use Rattle.film_run.specs.Laws.{IsSending}
 use Rattle.film_run.specs.Plans.{IsBestPlanOf}
@@ -82,7 +82,7 @@ pub record IsSentBy (session : Standing) (stored : Stored) (setup : Setup) (play
   pub best : IsBestPlanOf (stored_sizes stored) (client_of session stored setup) play.run play.plan
   pub count : length film ≡ first_slots play.plan (heard + 1 - play.start)
   pub front : film ≡ take (length film)
-      (drop play.run.sent (framed (play_pieces session stored setup play)))
+      (drop play.run.sent (framed_bytes (play_pieces session stored setup play)))
   pub between : (slot : ℕ) → heard ≡ play.start + slot
       → IsBetween (stored_sizes stored) (client_of session stored setup) play.run slot
       (play.run.sent + length film)

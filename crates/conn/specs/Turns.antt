@@ -15,7 +15,7 @@ use Rattle.session.specs.declared.asks.Ask.TheVariants.{Offer as AskOffer}
 use Rattle.session.specs.declared.notes.OfferNote.{OfferNote}
 use Rattle.session.specs.Hearings.{Halts, Hears, after_admission, after_full, after_look}
 use Rattle.session.specs.Hearings.{after_offer, after_overflow}
-use Rattle.session.specs.Sendings.{can_reply, is_between, is_sending, is_taken, sent_reply, slotted}
+use Rattle.session.specs.Sendings.{can_reply, is_between, is_sending, is_taken, sent_reply, after_slot}
 use Rattle.session.specs.Sendings.{step_bytes, stepped_in}
 use Rattle.session.specs.Steps.{IsPlayIn}
 use Rattle.session.specs.Standings.{Awaits, HaltAnswer, NoAnswer, Open, Standing, awaits}
@@ -178,7 +178,7 @@ IsFinished _ _ _ _ = ⊥
 pub record HasStepped (old : Standing) (slot : ℕ) (parts : List Part) (halt : Outcome)
     (new : Standing) : Type 0 where
   pub parts_are : parts ≡ slot_parts old slot
-  pub finished : IsFinished (awaits (slotted old slot)) (slotted old slot) halt new
+  pub finished : IsFinished (awaits (after_slot old slot)) (after_slot old slot) halt new
 
 -- a connection that ends halts its open booking, which keeps what is due
 abbrev pub IsClosed : Option Open → Standing → Outcome → Standing → Type 0

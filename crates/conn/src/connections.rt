@@ -204,7 +204,7 @@ impl<'a> Connection<'a> {
         ensures taken { IsTaken result (list_length self.old.input) self.new }
         ensures counted { HasCounted (end_in result) (K.faults link.old) (K.faults link.new) }
     {
-        if self.session.torn() {
+        if self.session.is_torn() {
             return Taken::End(ConnEnd::TornDown);
         }
         match self.input.look() {
@@ -276,7 +276,7 @@ impl<'a> Connection<'a> {
         seat.holds();
         match station.play(rt, seat, self.session.heard_slot(), plan) {
             Ok(booking) => {
-                self.session.admitted(booking.number, booking.start);
+                self.session.hear_admission(booking.number, booking.start);
                 match mem::replace(&mut self.booking, Some(booking)) {
                     None => {}
                     Some(_) => unreachable!(),
@@ -289,8 +289,8 @@ impl<'a> Connection<'a> {
                     booked,
                     asked,
                 },
-            ) => self.session.overflowed(place, slot, booked, asked),
-            Err(PlayRefused::JournalFull { entries, live, .. }) => self.session.full(entries, live),
+            ) => self.session.hear_overflow(place, slot, booked, asked),
+            Err(PlayRefused::JournalFull { entries, live, .. }) => self.session.hear_full(entries, live),
         }
     }
 
@@ -315,7 +315,7 @@ impl<'a> Connection<'a> {
             unreachable!()
         };
         let place = station.halt(rt, seat, booking, keep);
-        self.session.halted(place);
+        self.session.hear_halt(place);
     }
 
     /// Looks at a slot.
@@ -337,9 +337,9 @@ impl<'a> Connection<'a> {
         match station.look(rt, seat, slot) {
             Ok(looked) => {
                 self.session
-                    .looked(looked.place, looked.now, looked.at, looked.booked)
+                    .hear_look(looked.place, looked.now, looked.at, looked.booked)
             }
-            Err(full) => self.session.full(full.entries, full.live),
+            Err(full) => self.session.hear_full(full.entries, full.live),
         }
     }
 
@@ -367,7 +367,7 @@ impl<'a> Connection<'a> {
         let heard = self.session.heard_slot();
         let offered = station.offer(rt, seat, heard, &plan, &mut offers);
         self.session
-            .offered(offered.seen, offered.first, plan, offers);
+            .hear_offer(offered.seen, offered.first, plan, offers);
     }
 
     /// Ends the connection: an open booking is halted at what is due.

@@ -15,7 +15,7 @@ use Rattle.admission.specs.Machine.{Held, State}
 use Rattle.admission.proofs.Runs.{state-push}
 use Rattle.day_run.specs.declared.scripts.Line.{Line}
 use Rattle.day_run.specs.declared.scripts.Line.TheVariants as lines
-use Rattle.day_run.specs.Days.{AreRun, IsAsked, IsHaltedPlay, IsLine, IsLookLine, IsOfferLine, IsPauseLine, IsPlayLine, IsResumeLine, Link, Moment, at_slot, booked_up_to, entry_by, morning, rest_at, seat_at, sent_up_to, with_play}
+use Rattle.day_run.specs.Days.{AreRun, IsAsked, IsHaltedPlay, IsLine, IsLookLine, IsOfferLine, IsPauseLine, IsPlayLine, IsResumeLine, Link, Moment, at_slot, booked_up_to, entry_by, first_moment, rest_at, seat_at, sent_up_to, with_play}
 use Rattle.day_run.specs.DayLaws.{AreClients, IsClient}
 use Rattle.day_run.specs.Scripts.{AreLines, StandsAfter, slot_after}
 use Rattle.day_run.specs.Seats.{Idle, Playing, Pausing, Paused, Play, Rest, Seat, after_play, after_sending, sent_by}
@@ -147,7 +147,7 @@ idle-held c inside =
     let A : Seat → Type 0 = λ s. AreHeldOf [] c s in
     subst A (sym (get_or-replicate 256 c Idle Idle inside)) tt
 
-pub morning-ready : IsReady morning
+pub morning-ready : IsReady first_moment
 morning-ready = record {
   count = length-replicate 256 Idle;
   balanced = record {
@@ -223,6 +223,6 @@ run-ready link n (l ∷ ls) (t ∷ texts) old new clients stands run ready =
 
 -- after the lines of a script, what is sent up to a slot is what is booked up to there
 pub day-sent : (link : Link) (n : ℕ) (lines : List Line) (texts : List (List ℕ)) (m : Moment) (slot : ℕ) → AreClients lines → AreLines n lines
-    → AreRun link lines texts morning m → m.heard ≤ slot → sent_up_to m slot ≡ booked_up_to m slot
+    → AreRun link lines texts first_moment m → m.heard ≤ slot → sent_up_to m slot ≡ booked_up_to m slot
 day-sent link n lines texts m slot clients are run le =
-    ready-sent m slot le (run-ready link n lines texts morning m clients.each are.each run morning-ready)
+    ready-sent m slot le (run-ready link n lines texts first_moment m clients.each are.each run morning-ready)

@@ -14,7 +14,7 @@ use Rattle.admission.specs.Machine.{Held, admitted_play, booked_in, held_as}
 use Rattle.day_run.specs.Balanced.{AreHeldOf, IsBalanced, IsHeld, share_of}
 use Rattle.day_run.specs.Days.{Moment, at_slot, done_halt, halt_by, halts, last_journal, open_halt}
 use Rattle.day_run.specs.Clients.{after_open}
-use Rattle.day_run.specs.Seats.{Idle, Playing, Pausing, Paused, Play, Rest, Seat, after_play, after_sending, booking_of, is_done, pausing, sent_by}
+use Rattle.day_run.specs.Seats.{Idle, Playing, Pausing, Paused, Play, Rest, Seat, after_play, after_sending, booking_of, is_done, pausing_seat, sent_by}
 use Rattle.day_run.proofs.LineSteps.{halts-sent}
 use Rattle.day_run.proofs.Sweeps.{IsSwept, entries-more, swept-all, swept-none, swept-set}
 use Rattle.day_run.proofs.Balances.{balanced-halt, booked-halted, sent-rises, share-done}
@@ -24,7 +24,7 @@ pause-share : (b : Bool) (t : ℕ) (stop : Booked) (rest : Rest) → (b ≡ true
 pause-share true t stop rest none = sym (none refl)
 pause-share false t stop rest none = refl
 
-pub pausing-share : (t slot : ℕ) (stop : Booked) (rest : Rest) → slot < t → share_of t (pausing slot stop rest) ≡ share_at t stop
+pub pausing-share : (t slot : ℕ) (stop : Booked) (rest : Rest) → slot < t → share_of t (pausing_seat slot stop rest) ≡ share_at t stop
 pausing-share t slot stop rest later =
     pause-share (sent_by stop slot == stop.keep) t stop rest (λ all. share-done t slot stop later (eqb-true (sent_by stop slot) stop.keep all))
 

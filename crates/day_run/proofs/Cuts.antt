@@ -6,7 +6,7 @@ use Rattle.std.proofs.lemmas.List.Elements.{All-head, All-tail}
 use Rattle.std.specs.List.{slice_split, onto_first}
 use Rattle.plan_cert.specs.Reading.{lines_of, IsCut}
 use Rattle.plan_cert.proofs.Grammar.{lines-cut, lines-none}
-use Rattle.day_run.specs.Lines.{is_space, lines_of_script, last_line, shown, without_return}
+use Rattle.day_run.specs.Lines.{is_space, lines_of_script, last_line, texts_at, without_return}
 
 words-front : (front after : List ℕ) → All (λ b. b ≢ 32) front → slice_split is_space (front ++ 32 ∷ after) ≡ front ∷ slice_split is_space after
 words-front [] after none = refl
@@ -41,15 +41,15 @@ script-rest (c ∷ text) some none = script-last c text none
 
 -- one more word was put after those before
 pub words-more : (before after : List (Bor (List ℕ))) (word : Bor (List ℕ)) (rest next : List ℕ) (whole : List (List ℕ)) → after ≡ before ++ word ∷ []
-    → IsCut 32 rest word.now next → shown before ++ slice_split is_space rest ≡ whole → shown after ++ slice_split is_space next ≡ whole
+    → IsCut 32 rest word.now next → texts_at before ++ slice_split is_space rest ≡ whole → texts_at after ++ slice_split is_space next ≡ whole
 words-more before after word rest next whole e cut h =
-    ap (λ ws. shown ws ++ slice_split is_space next) e
+    ap (λ ws. texts_at ws ++ slice_split is_space next) e
     ∙ ap (λ ws. ws ++ slice_split is_space next) (map-append (λ (text : Bor (List ℕ)). text.now) before (word ∷ []))
-    ∙ append_assoc (shown before) (word.now ∷ []) (slice_split is_space next)
-    ∙ ap (λ ws. shown before ++ ws) (sym (words-cut rest word.now next cut)) ∙ h
+    ∙ append_assoc (texts_at before) (word.now ∷ []) (slice_split is_space next)
+    ∙ ap (λ ws. texts_at before ++ ws) (sym (words-cut rest word.now next cut)) ∙ h
 
 pub words-last : (before after : List (Bor (List ℕ))) (word : Bor (List ℕ)) (whole : List (List ℕ)) → after ≡ before ++ word ∷ []
-    → All (λ b. b ≢ 32) word.now → shown before ++ slice_split is_space word.now ≡ whole → shown after ≡ whole
+    → All (λ b. b ≢ 32) word.now → texts_at before ++ slice_split is_space word.now ≡ whole → texts_at after ≡ whole
 words-last before after word whole e none h =
-    ap shown e ∙ map-append (λ (text : Bor (List ℕ)). text.now) before (word ∷ [])
-    ∙ ap (λ ws. shown before ++ ws) (sym (words-none word.now none)) ∙ h
+    ap texts_at e ∙ map-append (λ (text : Bor (List ℕ)). text.now) before (word ∷ [])
+    ∙ ap (λ ws. texts_at before ++ ws) (sym (words-none word.now none)) ∙ h

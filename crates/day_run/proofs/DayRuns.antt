@@ -6,7 +6,7 @@ use Rattle.std.proofs.lemmas.List.{append-nil, append_assoc, drop_all, drop_more
 use Rattle.admission.specs.declared.entries.Entry.{Entry}
 use Rattle.report.specs.EntryLines.{entry_line}
 use Rattle.day_run.specs.declared.scripts.Line.{Line}
-use Rattle.day_run.specs.Days.{AreRun, IsDay, IsLine, Link, Moment, entry_lines, halts_at, last_journal, last_lines, morning}
+use Rattle.day_run.specs.Days.{AreRun, IsDay, IsLine, Link, Moment, entry_lines, halts_at, last_journal, last_lines, first_moment}
 use Rattle.day_run.specs.Runners.{HasRun, IsPrinted}
 use Rattle.day_run.proofs.LineSteps.{more-entries}
 
@@ -65,7 +65,7 @@ slot-printed old slot sent booked from ys before middle after sent-text at y m a
 pub day-of : (link here : Link) (lines : List Line) (text whole : List ℕ) (m : Moment) (journal : List Entry) → here ≡ link → HasRun here lines text m
     → whole ≡ text ++ last_lines m → journal ≡ last_journal m → IsDay link lines whole journal
 day-of link here lines text whole m journal same run w j =
-    let A : Link → Type 0 = λ l. AreRun l lines run.texts morning m in
+    let A : Link → Type 0 = λ l. AreRun l lines run.texts first_moment m in
     record {
       evening = m;
       texts = run.texts;

@@ -6,7 +6,7 @@ use Rattle.film_make.specs.Generator.{words_of}
 use Rattle.slot_calendar.specs.declared.profiles.CapStep.{CapStep}
 use Rattle.admission.specs.declared.entries.Entry.{Entry}
 use Rattle.admission.specs.Histories.{IsLegal, booked_after}
-use Rattle.day_run.specs.Days.{morning}
+use Rattle.day_run.specs.Days.{first_moment}
 use Rattle.day_run.specs.DayLaws.{IsFairLine}
 use Rattle.day_run.specs.FairDays.{IsFair, after_traces, counts_of, fair_link}
 use Rattle.day_run.proofs.BalancedLines.{morning-ready}
@@ -19,17 +19,17 @@ fair-line steps number plays text journal fair legal =
     let link = fair_link steps (words_of number) in
     let words = after_traces 16 (words_of number) in
     let turns = fair.turns in
-    let none : morning.heard ≡ 0 = refl in
+    let none : first_moment.heard ≡ 0 = refl in
     let whole : fair.evening.heard - 0 ≡ fair.evening.heard = omega arith in
-    let past = fair-past link words turns fair.evening journal fair.run fair.journal_is (turns-ready link words turns morning fair.evening fair.run morning-ready) in
+    let past = fair-past link words turns fair.evening journal fair.run fair.journal_is (turns-ready link words turns first_moment fair.evening fair.run morning-ready) in
     record {
       counts = counts_of turns fair.evening;
       text_is = fair.text_is;
       turns_are = fair.count;
-      last = omega (arith, turns-heard link words turns morning fair.evening fair.run, fair.count, none);
-      balanced = turns-balanced link words turns morning fair.evening fair.run morning-ready;
+      last = omega (arith, turns-heard link words turns first_moment fair.evening fair.run, fair.count, none);
+      balanced = turns-balanced link words turns first_moment fair.evening fair.run morning-ready;
       booked_is = past.sum_is ∙ ap (λ k. sum_by (booked_after journal) (range_with_len 1 k)) whole;
       peak_is = past.peak_is ∙ ap (λ k. fold max 0 (map (booked_after journal) (range_with_len 1 k))) whole;
       within = λ most capacity.
-          turns-within link words turns morning fair.evening steps journal most 0 fair.run legal (evening-grown fair.evening journal fair.journal_is) capacity (omega arith);
+          turns-within link words turns first_moment fair.evening steps journal most 0 fair.run legal (evening-grown fair.evening journal fair.journal_is) capacity (omega arith);
     }

@@ -16,7 +16,7 @@ use Rattle.day_run.specs.declared.counts.Made.{Made}
 use Rattle.day_run.specs.declared.clients.Client.{Client}
 use Rattle.day_run.specs.Clients.{seat_of}
 use Rattle.day_run.specs.Balanced.{IsReady}
-use Rattle.day_run.specs.Days.{Link, Moment, at_slot, booked_up_to, last_journal, IsPlayLine, morning, rest_at, seat_at, sent_up_to}
+use Rattle.day_run.specs.Days.{Link, Moment, at_slot, booked_up_to, last_journal, IsPlayLine, first_moment, rest_at, seat_at, sent_up_to}
 use Rattle.day_run.specs.FairDays.{AreTurns, IsDone, IsTurn, Turn, after_traces, after_turn, at_later, counts_of, fair_link, IsFair, is_full_line, is_refused, made_of, most_up_to, turn_booked, turn_peak, turn_sent, words_for}
 use Rattle.day_run.specs.Fairs.{HasCome, HasTurned, after_turns, with_slot, with_turn}
 use Rattle.day_run.specs.Prints.{fair_text}
@@ -122,7 +122,7 @@ counts-more turns turn old new heard =
     ∙ ap (λ k. record { turns = length all; full = count_by is_refused all; last = new.heard; sent = sum_by turn_sent all; booked = k; peak = c.peak }) (sym (sum_by_push turn_booked turns turn))
     ∙ ap (λ k. record { turns = length all; full = count_by is_refused all; last = new.heard; sent = sum_by turn_sent all; booked = sum_by turn_booked all; peak = k }) peak
 
-pub come-none : (link : Link) (words : ℕ → ℕ) (counts : Counts) (moment : Moment) → moment ≡ morning
+pub come-none : (link : Link) (words : ℕ → ℕ) (counts : Counts) (moment : Moment) → moment ≡ first_moment
     → counts ≡ record { turns = 0; full = 0; last = 0; sent = 0; booked = 0; peak = 0 } → HasCome link words words 0 counts moment
 come-none link words counts moment is c =
     record { turns = []; count = refl; run = is; left_is = refl; counts_are = c ∙ ap (counts_of []) (sym is) }
@@ -135,12 +135,12 @@ come-next link here words left next n counts more old new same come turned last 
     let heard : turn.mid.heard ≡ new.heard = sym (ap (λ (c : Counts). c.last) turned.counts_are) ∙ last in
     let L : Link → Type 0 = λ x. IsTurn x left turn in
     let W : (ℕ → ℕ) → Type 0 = λ w. IsTurn link w turn in
-    let M : Moment → Type 0 = λ m. AreTurns link words all morning m in
+    let M : Moment → Type 0 = λ m. AreTurns link words all first_moment m in
     let is : IsTurn link (after_turns words come.turns) turn = subst W come.left_is (subst L same turned.turn_is) in
     record {
       turns = all;
       count = length-append come.turns (turn ∷ []) ∙ ap (λ k. k + 1) come.count;
-      run = subst M turned.new_is (turns-more link words come.turns turn morning old come.run turned.old_is is);
+      run = subst M turned.new_is (turns-more link words come.turns turn first_moment old come.run turned.old_is is);
       left_is = turned.left_is ∙ ap (λ (w : ℕ → ℕ). after_turn w turn) come.left_is ∙ sym (after-more words come.turns turn);
       counts_are = turned.counts_are ∙ ap (λ (c : Counts). with_turn c turn) come.counts_are ∙ counts-more come.turns turn old new heard;
     }
@@ -150,8 +150,8 @@ pub fair-of : (here : Link) (steps : List CapStep) (number plays : ℕ) (words l
     (journal : List Entry) → here ≡ fair_link steps (words_of number) → words ≡ after_traces 16 (words_of number) → HasCome here words left plays counts evening
     → journal ≡ last_journal evening → made ≡ made_of journal → text ≡ fair_text counts made → IsFair steps number plays text journal
 fair-of here steps number plays words left counts made evening text journal same w come j m t =
-    let L : Link → Type 0 = λ x. AreTurns x words come.turns morning evening in
-    let W : (ℕ → ℕ) → Type 0 = λ x. AreTurns (fair_link steps (words_of number)) x come.turns morning evening in
+    let L : Link → Type 0 = λ x. AreTurns x words come.turns first_moment evening in
+    let W : (ℕ → ℕ) → Type 0 = λ x. AreTurns (fair_link steps (words_of number)) x come.turns first_moment evening in
     record {
       turns = come.turns;
       evening = evening;
@@ -193,5 +193,5 @@ pub no-words : (clients : List Client) (c : ℕ) (client : Client) → c < lengt
     → words_for (get_or (map seat_of clients) c Idle) ≡ 0
 no-words clients c client inside at none = ap words_for (seat-at clients c client inside ∙ sym (ap seat_of at)) ∙ none
 
-pub ready-morning : (m : Moment) → m ≡ morning → IsReady m
-ready-morning m is = ready-kept morning m is morning-ready
+pub ready-morning : (m : Moment) → m ≡ first_moment → IsReady m
+ready-morning m is = ready-kept first_moment m is morning-ready

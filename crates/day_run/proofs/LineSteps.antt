@@ -10,7 +10,7 @@ use Rattle.admission.specs.declared.entries.Command.TheVariants as commands
 use Rattle.admission.specs.declared.entries.Entry.{Entry}
 use Rattle.admission.specs.declared.entries.Full.{Full}
 use Rattle.admission.specs.Books.{places_taken}
-use Rattle.admission.specs.Histories.{IsAnswered, is_admission, live, state_after}
+use Rattle.admission.specs.Histories.{IsAnswered, is_admission, open_count, state_after}
 use Rattle.report.specs.EntryLines.{entry_line}
 use Rattle.day_run.specs.declared.clients.Client.{Client}
 use Rattle.day_run.specs.declared.clients.Client.TheVariants as clients
@@ -39,7 +39,7 @@ told-entry place xs ys e at y =
     ap (λ n. entry_lines n (drop n ys)) at ∙ ap (entry_lines (length xs)) (more-entries xs ys (e ∷ []) y) ∙ append-nil (entry_line (length xs) e)
 
 pub told-full : (link : Link) (places : ℕ) (old new : Moment) (full : Full) → link.limit < places_taken old.entries + places
-    → full.entries ≡ length old.entries → full.live ≡ live old.entries → new ≡ old → IsFull link places old new (full_text full)
+    → full.entries ≡ length old.entries → full.live ≡ open_count old.entries → new ≡ old → IsFull link places old new (full_text full)
 told-full link places old new full above entries opened kept = record {
   full = above;
   told = record {

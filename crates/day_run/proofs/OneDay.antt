@@ -6,7 +6,7 @@ use Rattle.plan_cert.specs.declared.Segment.{Segment}
 use Rattle.wire_curve.specs.declared.film.CurveFault.{CurveFault}
 use Rattle.wire_curve.specs.declared.film.CurveFault.TheVariants.{NoPictures, TooManySlots, BufferTooSmall}
 use Rattle.wire_curve.specs.declared.film.Timing.{Timing}
-use Rattle.wire_curve.specs.FilmCurves.{used_in}
+use Rattle.wire_curve.specs.FilmCurves.{bytes_used_in}
 use Rattle.wire_curve.specs.Refusal.{HasFault, IsAccepted}
 use Rattle.film_run.specs.Pauses.{IsLeft}
 use Rattle.film_run.specs.Plans.{rest_sizes, timing_of}
@@ -25,11 +25,11 @@ use Rattle.admission.proofs.Once.{answer-once}
 use Rattle.day_run.specs.declared.scripts.Line.{Line}
 use Rattle.day_run.specs.declared.scripts.Line.TheVariants as lines
 use Rattle.day_run.specs.DayLaws.{AreClients, IsClient, IsLink, IsSoundRest, IsSoundSeat}
-use Rattle.day_run.specs.Days.{AreRun, IsAnsweredPlay, IsAsked, IsDay, IsFull, IsHaltedPlay, IsLine, IsLookLine, IsNoted, IsOfferLine, IsPauseLine, IsPlayLine, IsResumeLine, IsTold, Link, Moment, entry_by, last_journal, last_lines, morning, rest_at, seat_at, with_play}
+use Rattle.day_run.specs.Days.{AreRun, IsAnsweredPlay, IsAsked, IsDay, IsFull, IsHaltedPlay, IsLine, IsLookLine, IsNoted, IsOfferLine, IsPauseLine, IsPlayLine, IsResumeLine, IsTold, Link, Moment, entry_by, last_journal, last_lines, first_moment, rest_at, seat_at, with_play}
 use Rattle.day_run.specs.Prints.{fault_text, offer_text}
 use Rattle.report.specs.EntryLines.{entry_line}
 use Rattle.day_run.specs.Scripts.{AreLines, StandsAfter, slot_after}
-use Rattle.day_run.specs.Seats.{Idle, Playing, Pausing, Paused, Play, Rest, Seat, pausing, slot_sent}
+use Rattle.day_run.specs.Seats.{Idle, Playing, Pausing, Paused, Play, Rest, Seat, pausing_seat, slot_sent}
 use Rattle.day_run.proofs.BalancedLines.{heard-after, morning-ready, stands-rest}
 use Rattle.std.specs.List.{fold}
 use Rattle.day_run.proofs.SoundClients.{IsSound, idle-sound, line-sound, whole-sound}
@@ -47,8 +47,8 @@ fault-once sizes timing (BufferTooSmall slot used least) (TooManySlots n) a b = 
 fault-once sizes timing (BufferTooSmall slot used least) (BufferTooSmall slot' used' least') a b =
     let x = a.2 in
     let y = b.2 in
-    let at-x : timing.buffer < used_in sizes timing slot = omega (arith, x.above_buffer, x.used_is) in
-    let at-y : timing.buffer < used_in sizes timing slot' = omega (arith, y.above_buffer, y.used_is) in
+    let at-x : timing.buffer < bytes_used_in sizes timing slot = omega (arith, x.above_buffer, x.used_is) in
+    let at-y : timing.buffer < bytes_used_in sizes timing slot' = omega (arith, y.above_buffer, y.used_is) in
     let same : slot ≡ slot' = elim (cases_lt slot slot') [
       | inl earlier ↦ absurd (omega (arith, y.first slot earlier, at-x))
       | inr past ↦ elim (cases_lt slot' slot) [
@@ -56,7 +56,7 @@ fault-once sizes timing (BufferTooSmall slot used least) (BufferTooSmall slot' u
         | inr not-past ↦ omega (arith, past, not-past)
       ]
     ] in
-    let uses : used ≡ used' = x.used_is ∙ ap (used_in sizes timing) same ∙ sym y.used_is in
+    let uses : used ≡ used' = x.used_is ∙ ap (bytes_used_in sizes timing) same ∙ sym y.used_is in
     let le : least ≤ least' = omega (arith, y.greatest x.reached.0 x.reached.1, x.reached.2) in
     let ge : least' ≤ least = omega (arith, x.greatest y.reached.0 y.reached.1, y.reached.2) in
     let both : least ≡ least' = omega (arith, le, ge) in
@@ -138,8 +138,8 @@ one-halted link c play old new new' text text' a b =
     let left : a.pause.left ≡ b.pause.left =
     left-one play.rest.sizes play.rest.playback play.rest.run b.pause.left a.pause.left play.plan (slot_sent play.start old.heard) b.keep b.pause.left_is (subst L keep a.pause.left_is) in
     let seat : a.seat ≡ b.seat =
-    a.pause.seat_is ∙ ap (λ k. pausing old.heard (cut_play play.start play.plan k) (record play.rest { run = a.pause.left })) keep
-    ∙ ap (λ r. pausing old.heard (cut_play play.start play.plan b.keep) (record play.rest { run = r })) left ∙ sym b.pause.seat_is in
+    a.pause.seat_is ∙ ap (λ k. pausing_seat old.heard (cut_play play.start play.plan k) (record play.rest { run = a.pause.left })) keep
+    ∙ ap (λ r. pausing_seat old.heard (cut_play play.start play.plan b.keep) (record play.rest { run = r })) left ∙ sym b.pause.seat_is in
     one-noted link _ _ _ _ old new new' text text' (ap (λ k. entry_by c (commands.Halt play.number k) Halted) keep) (ap (set old.seats c) seat) a.noted b.noted
 
 one-pause : (link : Link) (c : ℕ) (seat : Seat) (old new new' : Moment) (text text' : List ℕ) → IsPauseLine link c seat old new text
@@ -227,7 +227,7 @@ one-run link (l ∷ ls) (t ∷ ts) (t' ∷ ts') old new new' link-is clients sta
 pub one-day : (link : Link) (ls : List Line) (text text' : List ℕ) (journal journal' : List Entry) → IsLink link → AreClients ls → AreLines (length link.tracks) ls
     → IsDay link ls text journal → IsDay link ls text' journal' → (text ≡ text') × (journal ≡ journal')
 one-day link ls text text' journal journal' link-is clients are a b =
-    let one = one-run link ls a.texts b.texts morning a.evening b.evening link-is clients.each are.each (record { ready = morning-ready; each = idle-sound }) a.run b.run in (
+    let one = one-run link ls a.texts b.texts first_moment a.evening b.evening link-is clients.each are.each (record { ready = morning-ready; each = idle-sound }) a.run b.run in (
       a.text_is ∙ ap (λ ts. flat_map (λ (t : List ℕ). t) ts ++ last_lines a.evening) one.texts_are
           ∙ ap (λ m. flat_map (λ (t : List ℕ). t) b.texts ++ last_lines m) one.new_is ∙ sym b.text_is,
       a.journal_is ∙ ap last_journal one.new_is ∙ sym b.journal_is,

@@ -18,7 +18,7 @@ use Rattle.day_run.specs.declared.scripts.Line.TheVariants as lines
 use Rattle.day_run.specs.Balanced.{IsReady, share_of}
 use Rattle.day_run.specs.Clients.{after_open}
 use Rattle.day_run.specs.DayLaws.{AreClients, IsClient}
-use Rattle.day_run.specs.Days.{AreRun, IsAsked, IsHaltedPlay, IsLine, IsLookLine, IsOfferLine, IsPauseLine, IsPlayLine, IsResumeLine, Link, Moment, at_slot, entry_by, last_journal, morning, rest_at, seat_at, with_play}
+use Rattle.day_run.specs.Days.{AreRun, IsAsked, IsHaltedPlay, IsLine, IsLookLine, IsOfferLine, IsPauseLine, IsPlayLine, IsResumeLine, Link, Moment, at_slot, entry_by, last_journal, first_moment, rest_at, seat_at, with_play}
 use Rattle.day_run.specs.FairDays.{AreTurns, IsDone, IsTurn, Turn, after_turn, at_later, client_of, turn_booked, turn_peak}
 use Rattle.day_run.specs.Scripts.{AreLines, StandsAfter}
 use Rattle.day_run.specs.Seats.{Idle, Playing, Pausing, Paused, Play, Rest, Seat, booking_of, sent_by}
@@ -123,15 +123,15 @@ line-past link (lines.Offer c source buffer delay wait) n old new text client st
     offer-past link (rest_at link source buffer delay) wait old new text is
 
 pub day-past : (link : Link) (n : ℕ) (ls : List Line) (texts : List (List ℕ)) (m new : Moment) (line : Line) (text : List ℕ) (t : ℕ) → AreClients ls → AreLines n ls
-    → AreRun link ls texts morning m → IsClient line → StandsAfter m.heard n line → IsLine link line m new text → t ≤ m.heard
+    → AreRun link ls texts first_moment m → IsClient line → StandsAfter m.heard n line → IsLine link line m new text → t ≤ m.heard
     → booked_after new.entries t ≡ booked_after m.entries t
 day-past link n ls texts m new line text t clients are run client stands is past =
-    line-past link line n m new text client stands (run-ready link n ls texts morning m clients.each are.each run morning-ready) is t past
+    line-past link line n m new text client stands (run-ready link n ls texts first_moment m clients.each are.each run morning-ready) is t past
 
 pub end-past : (link : Link) (n : ℕ) (ls : List Line) (texts : List (List ℕ)) (m : Moment) (t : ℕ) → AreClients ls → AreLines n ls
-    → AreRun link ls texts morning m → t ≤ m.heard → booked_after (last_journal m) t ≡ booked_after m.entries t
+    → AreRun link ls texts first_moment m → t ≤ m.heard → booked_after (last_journal m) t ≡ booked_after m.entries t
 end-past link n ls texts m t clients are run past =
-    last-stays m t past (run-ready link n ls texts morning m clients.each are.each run morning-ready).balanced
+    last-stays m t past (run-ready link n ls texts first_moment m clients.each are.each run morning-ready).balanced
 
 -- ---- the same of turns
 done-past : (link : Link) (words : ℕ → ℕ) (c : ℕ) (seat : Seat) (old new : Moment) (text : List ℕ) → c < 256 → IsReady old → get_or old.seats c Idle ≡ seat
@@ -287,10 +287,10 @@ turns-past link words (turn ∷ turns) old new booked run ready same =
       λ t past. here t (omega (arith, past, from, later)) ∙ ap (λ (x : Moment). booked_after x.entries t) run.0,
     )
 
-pub fair-past : (link : Link) (words : ℕ → ℕ) (turns : List Turn) (evening : Moment) (journal : List Entry) → AreTurns link words turns morning evening
+pub fair-past : (link : Link) (words : ℕ → ℕ) (turns : List Turn) (evening : Moment) (journal : List Entry) → AreTurns link words turns first_moment evening
     → journal ≡ last_journal evening → IsReady evening → AreBooked (booked_after journal) turns 0 evening.heard
 fair-past link words turns evening journal run is ready =
-    (turns-past link words turns morning evening (booked_after journal) run morning-ready
+    (turns-past link words turns first_moment evening (booked_after journal) run morning-ready
     (λ t past. ap (λ es. booked_after es t) is ∙ last-stays evening t past ready.balanced)).0
 
 -- ---- looks and offers
@@ -310,6 +310,6 @@ offer-leaves link client source buffer delay wait old new text (inl faulty) = fa
 offer-leaves link client source buffer delay wait old new text (inr offered) = offered.told.kept
 
 pub end-later : (link : Link) (n : ℕ) (ls : List Line) (texts : List (List ℕ)) (m : Moment) (t : ℕ) → AreClients ls → AreLines n ls
-    → AreRun link ls texts morning m → m.heard < t → booked_after (last_journal m) t ≡ sum_by (share_of t) (map after_open m.seats)
+    → AreRun link ls texts first_moment m → m.heard < t → booked_after (last_journal m) t ≡ sum_by (share_of t) (map after_open m.seats)
 end-later link n ls texts m t clients are run later =
-    last-later m t later (run-ready link n ls texts morning m clients.each are.each run morning-ready).balanced
+    last-later m t later (run-ready link n ls texts first_moment m clients.each are.each run morning-ready).balanced

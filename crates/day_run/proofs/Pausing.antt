@@ -8,13 +8,13 @@ use Rattle.plan_cert.specs.Slots.{sum_through, total_slots}
 use Rattle.plan_cert.proofs.SlotSums.{sum_through-past}
 use Rattle.film_frames.specs.Tracks.{IsBoundaryAfter}
 use Rattle.film_run.specs.Pauses.{IsHalt}
-use Rattle.pacer.specs.Pacings.{IsPacing, Pacing, first_slots, is_done, slots_through, stepped}
+use Rattle.pacer.specs.Pacings.{IsPacing, Pacing, first_slots, is_done, slots_through, after_step}
 use Rattle.day_run.specs.declared.clients.Play.{Play}
 use Rattle.day_run.specs.declared.clients.Stop.{Stop}
 use Rattle.day_run.specs.Clients.{IsPlaying, IsStopping}
 
 -- a slot was stepped, and what was due in it was sent
-pub playing-stepped : (slot : ℕ) (play : Play) (p : Pacing) → p ≡ stepped false slot play.pacer → IsPacing p → IsPlaying play → IsPlaying (record play { pacer = p })
+pub playing-stepped : (slot : ℕ) (play : Play) (p : Pacing) → p ≡ after_step false slot play.pacer → IsPacing p → IsPlaying play → IsPlaying (record play { pacer = p })
 playing-stepped slot play p e pacing playing = record {
   rest = playing.rest;
   plan = playing.plan;
@@ -26,7 +26,7 @@ playing-stepped slot play p e pacing playing = record {
   all_sent = ap (λ (q : Pacing). q.sent) e ∙ sym (ap (λ (q : Pacing). q.due) e);
 }
 
-pub stopping-stepped : (slot : ℕ) (stop : Stop) (p : Pacing) → p ≡ stepped false slot stop.pacer → IsPacing p → IsStopping stop → IsStopping (record stop { pacer = p })
+pub stopping-stepped : (slot : ℕ) (stop : Stop) (p : Pacing) → p ≡ after_step false slot stop.pacer → IsPacing p → IsStopping stop → IsStopping (record stop { pacer = p })
 stopping-stepped slot stop p e pacing stopping = record {
   rest = stopping.rest;
   keep_is = ap (λ (q : Pacing). q.keep) e ∙ stopping.keep_is;

@@ -1,6 +1,6 @@
 -- Lines that say nothing by the number of their words.
 use Rattle.std.proofs.Common.{◌≡◌, ℕ, List, [], ◌∷◌, length, get_or, None, refl, arith, Bor}
-use Rattle.day_run.specs.Lines.{shown}
+use Rattle.day_run.specs.Lines.{texts_at}
 use Rattle.day_run.specs.Sayings.{asked_in, offer_in, saying_in}
 
 pub quiet : (words : List (List ℕ)) → (length words ≡ 2 → ⊥) → (length words ≡ 6 → ⊥) → (length words ≡ 7 → ⊥) → None ≡ saying_in words
@@ -17,7 +17,7 @@ quiet (a ∷ b ∷ c ∷ d ∷ e ∷ f ∷ g ∷ h ∷ words) two six seven = re
 -- a line of seven words
 pub seven : (words : List (Bor (List ℕ))) (none : Bor (List ℕ)) → length words ≡ 7 →
     offer_in (get_or words 0 none).now (asked_in (get_or words 1 none).now (get_or words 2 none).now (get_or words 4 none).now (get_or words 5 none).now)
-    (get_or words 6 none).now ≡ saying_in (shown words)
+    (get_or words 6 none).now ≡ saying_in (texts_at words)
 seven [] none e = cc e
 seven (a ∷ []) none e = cc e
 seven (a ∷ b ∷ []) none e = cc e

@@ -26,7 +26,7 @@ use Rattle.day_run.specs.declared.scripts.Line.{Line}
 use Rattle.day_run.specs.declared.scripts.Line.TheVariants as lines
 use Rattle.day_run.specs.Balanced.{AreHeldOf, IsHeld, IsReady}
 use Rattle.day_run.specs.DayLaws.{AreClients, IsClient, IsLink, IsSoundPlay, IsSoundRest, IsSoundSeat}
-use Rattle.day_run.specs.Days.{AreRun, IsAsked, IsHaltedPlay, IsLine, IsLookLine, IsOfferLine, IsPauseLine, IsPlayLine, IsResumeLine, Link, Moment, at_slot, entry_by, morning, rest_at, seat_at, with_play}
+use Rattle.day_run.specs.Days.{AreRun, IsAsked, IsHaltedPlay, IsLine, IsLookLine, IsOfferLine, IsPauseLine, IsPlayLine, IsResumeLine, Link, Moment, at_slot, entry_by, first_moment, rest_at, seat_at, with_play}
 use Rattle.day_run.specs.Scripts.{AreLines, IsWish, StandsAfter, slot_after}
 use Rattle.day_run.specs.Seats.{Idle, Playing, Pausing, Paused, IsPause, Play, Rest, Seat, after_play, after_sending, booking_of, is_done, no_track, sent_by, slot_sent}
 use Rattle.day_run.proofs.BalancedLines.{heard-after, line-ready, morning-ready, stands-rest}
@@ -317,6 +317,6 @@ idle-sound c client =
     subst S (sym (get_or-replicate 256 c Idle Idle client)) tt
 
 pub day-sound : (link : Link) (ls : List Line) (texts : List (List ℕ)) (m : Moment) (c : ℕ) → IsLink link → AreClients ls → AreLines (length link.tracks) ls
-    → AreRun link ls texts morning m → c < 256 → IsSoundSeat m.heard (seat_at m c)
+    → AreRun link ls texts first_moment m → c < 256 → IsSoundSeat m.heard (seat_at m c)
 day-sound link ls texts m c link-is clients are run inside =
-    (run-sound link ls texts morning m link-is clients.each are.each (record { ready = morning-ready; each = idle-sound }) run).each c inside
+    (run-sound link ls texts first_moment m link-is clients.each are.each (record { ready = morning-ready; each = idle-sound }) run).each c inside

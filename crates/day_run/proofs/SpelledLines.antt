@@ -12,7 +12,7 @@ use Rattle.std.proofs.lemmas.List.Splits.{slice_split_at, slice_split_none}
 use Rattle.vod_base.specs.Names.{is_good_name}
 use Rattle.vod_base.proofs.Written.{good_is_plain}
 use Rattle.day_run.specs.Lines.{is_space, lines_of_script, without_return}
-use Rattle.day_run.specs.Spelling.{is_word, kind_text, spaced}
+use Rattle.day_run.specs.Spelling.{is_word, kind_text, words_text}
 use Rattle.day_run.proofs.Cuts.{script-cut}
 
 own : IsNumeralModel (λ ds. list_all is_ascii_digit ds ≡ true) (digits_value 10)
@@ -49,25 +49,25 @@ kind-word true = refl
 kind-word false = refl
 
 -- words with a space between two have no other byte below
-spaced-bytes : (words : List (List ℕ)) → list_all is_word words ≡ true → All (λ b. 32 ≤ b) (spaced words)
+spaced-bytes : (words : List (List ℕ)) → list_all is_word words ≡ true → All (λ b. 32 ≤ b) (words_text words)
 spaced-bytes [] plain = All-nil (λ b. 32 ≤ b)
 spaced-bytes (word ∷ []) plain =
     let parts = and_parts (is_word word) true plain in
     All-weaker (λ b. 33 ≤ b) (λ b. 32 ≤ b) (λ b high. omega (arith, high)) word (word-bytes word parts.0)
 spaced-bytes (word ∷ next ∷ words) plain =
     let parts = and_parts (is_word word) (list_all is_word (next ∷ words)) plain in
-    All-append (λ b. 32 ≤ b) word (32 ∷ spaced (next ∷ words))
+    All-append (λ b. 32 ≤ b) word (32 ∷ words_text (next ∷ words))
     (All-weaker (λ b. 33 ≤ b) (λ b. 32 ≤ b) (λ b high. omega (arith, high)) word (word-bytes word parts.0))
-    (All-cons (λ b. 32 ≤ b) 32 (spaced (next ∷ words)) (omega arith) (spaced-bytes (next ∷ words) parts.1))
+    (All-cons (λ b. 32 ≤ b) 32 (words_text (next ∷ words)) (omega arith) (spaced-bytes (next ∷ words) parts.1))
 
 -- they are cut again into the words
-pub spaced-split : (word : List ℕ) (words : List (List ℕ)) → list_all is_word (word ∷ words) ≡ true → slice_split is_space (spaced (word ∷ words)) ≡ word ∷ words
+pub spaced-split : (word : List ℕ) (words : List (List ℕ)) → list_all is_word (word ∷ words) ≡ true → slice_split is_space (words_text (word ∷ words)) ≡ word ∷ words
 spaced-split word [] plain =
     let parts = and_parts (is_word word) true plain in
     slice_split_none is_space word (All-weaker (λ b. 33 ≤ b) (λ b. is_space b ≡ false) (λ b high. ne_eqb b 32 (λ same. absurd (omega (arith, high, same)))) word (word-bytes word parts.0))
 spaced-split word (next ∷ words) plain =
     let parts = and_parts (is_word word) (list_all is_word (next ∷ words)) plain in
-    slice_split_at is_space word 32 (spaced (next ∷ words))
+    slice_split_at is_space word 32 (words_text (next ∷ words))
     (All-weaker (λ b. 33 ≤ b) (λ b. is_space b ≡ false) (λ b high. ne_eqb b 32 (λ same. absurd (omega (arith, high, same)))) word (word-bytes word parts.0)) refl
     ∙ ap (λ ws. word ∷ ws) (spaced-split next words parts.1)
 
@@ -80,9 +80,9 @@ no-return line high =
     ] in
     cond-false (slice_index line (length line - 1) == 13) _ line (ne_eqb (slice_index line (length line - 1)) 13 last)
 
-pub spaced-line : (words : List (List ℕ)) (rest : List ℕ) → list_all is_word words ≡ true → lines_of_script (spaced words ++ 10 ∷ rest) ≡ spaced words ∷ lines_of_script rest
+pub spaced-line : (words : List (List ℕ)) (rest : List ℕ) → list_all is_word words ≡ true → lines_of_script (words_text words ++ 10 ∷ rest) ≡ words_text words ∷ lines_of_script rest
 spaced-line words rest plain =
-    let line = spaced words in
+    let line = words_text words in
     let high = spaced-bytes words plain in
     script-cut (line ++ 10 ∷ rest) line rest (record {
       text_is = refl;

@@ -19,7 +19,7 @@ use Rattle.day_run.specs.declared.scripts.Script.{Script}
 use Rattle.day_run.specs.Readings.{IsBadLine, IsScript, Name, Reading, is_name, line_read, lines_read, names_of, nothing_read, name_as, source_in, with_name, with_named, with_saying, with_words}
 use Rattle.day_run.specs.Sayings.{asked_in, film_in, in_range, number_in, pair_in, saying_in}
 use Rattle.day_run.specs.Scripts.{latest_slot, slot_after}
-use Rattle.day_run.specs.Spelling.{AreStanding, AreWritten, IsAskedInWords, IsAsking, IsInWords, IsNextName, MayStand, asked_words, is_verb, is_word, kind_text, line_text, name_at, names_after, names_used, script_text, spaced, words_of}
+use Rattle.day_run.specs.Spelling.{AreStanding, AreWritten, IsAskedInWords, IsAsking, IsInWords, IsNextName, MayStand, asked_words, is_verb, is_word, kind_text, line_text, name_at, names_after, names_used, script_text, words_text, words_of}
 use Rattle.day_run.proofs.SpelledLines.{decimal-word, kind-word, name-word, spaced-line, spaced-split}
 
 -- ---- numbers
@@ -105,11 +105,11 @@ words-plain names (Offer client source buffer delay wait) own =
 
 -- ---- one line
 -- the words of a line are read
-pub text-read : (r : Reading) (word : List ℕ) (words : List (List ℕ)) → 0 < length (spaced (word ∷ words)) → list_all is_word (word ∷ words) ≡ true
-    → line_read r (spaced (word ∷ words)) ≡ with_words r (word ∷ words)
+pub text-read : (r : Reading) (word : List ℕ) (words : List (List ℕ)) → 0 < length (words_text (word ∷ words)) → list_all is_word (word ∷ words) ≡ true
+    → line_read r (words_text (word ∷ words)) ≡ with_words r (word ∷ words)
 text-read r word words some plain =
-    cond-false (length (spaced (word ∷ words)) == 0) (Some r) (with_words r (slice_split is_space (spaced (word ∷ words))))
-    (ne_eqb (length (spaced (word ∷ words))) 0 (λ none. absurd (omega (arith, some, none))))
+    cond-false (length (words_text (word ∷ words)) == 0) (Some r) (with_words r (slice_split is_space (words_text (word ∷ words))))
+    (ne_eqb (length (words_text (word ∷ words))) 0 (λ none. absurd (omega (arith, some, none))))
     ∙ ap (with_words r) (spaced-split word words plain)
 
 abbrev asked-of : Name → ℕ → ℕ → ℕ → Asked
@@ -419,9 +419,9 @@ range-bad names lines line rest written own not =
     (line-bad (read_so_far names lines (names_used lines) (latest_slot lines)) names line own not)
 
 pub verb-bad : (names : List Name) (lines : List Line) (verb : List ℕ) (words : List (List ℕ)) (rest : List ℕ) → AreWritten names lines
-    → list_all is_word (verb ∷ words) ≡ true → 0 < length (spaced (verb ∷ words)) → is_verb (length (verb ∷ words)) verb ≡ false
-    → IsBadLine (script_text names lines ++ (spaced (verb ∷ words) ++ 10 ∷ rest)) (length lines + 1)
+    → list_all is_word (verb ∷ words) ≡ true → 0 < length (words_text (verb ∷ words)) → is_verb (length (verb ∷ words)) verb ≡ false
+    → IsBadLine (script_text names lines ++ (words_text (verb ∷ words) ++ 10 ∷ rest)) (length lines + 1)
 verb-bad names lines verb words rest written plain some unknown =
     let r = read_so_far names lines (names_used lines) (latest_slot lines) in
-    first-bad names lines (spaced (verb ∷ words)) rest written (spaced-line (verb ∷ words) rest plain)
+    first-bad names lines (words_text (verb ∷ words)) rest written (spaced-line (verb ∷ words) rest plain)
     (text-read r verb words some plain ∙ ap (option_and_then (with_saying r (verb ∷ words))) (verb-unknown verb words unknown))

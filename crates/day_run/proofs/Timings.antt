@@ -2,7 +2,7 @@
 use Rattle.std.proofs.Common.{◌≡◌, ◌<◌, ◌≤◌, ◌+◌, ◌-◌, ◌==◌, ◌&&◌, ℕ, min, nat_lt, nat_le, true, false, Bool, cond, List, [], Option, Some, None, arith, refl, sym, ap, subst, ◌∙◌, inl, inr}
 use Rattle.std.proofs.lemmas.Bool.{cases_lt, cond-true, cond-false, lt-ltb}
 use Rattle.plan_cert.specs.Slots.{total_bytes}
-use Rattle.pacer.specs.Pacings.{IsPacing, Pacing, first_slots, stepped, slots_through, is_done as is_pacing_done}
+use Rattle.pacer.specs.Pacings.{IsPacing, Pacing, first_slots, after_step, slots_through, is_done as is_pacing_done}
 use Rattle.film_frames.specs.Tracks.{IsBoundaryAfter}
 use Rattle.film_run.specs.declared.runs.Run.{Run}
 use Rattle.film_run.specs.Pauses.{IsLeft}
@@ -14,7 +14,7 @@ use Rattle.day_run.specs.declared.clients.Halt.{Halt}
 use Rattle.day_run.specs.Clients.{IsPlaying, IsStopping, IsStep, halts_of, play_of, rest_of, seat_of}
 use Rattle.day_run.specs.Days.{done_halt, open_halt, halt_by}
 use Rattle.day_run.specs.Reels.{reel_pieces, reel_sizes}
-use Rattle.day_run.specs.Seats.{Idle, Playing, Pausing, Paused, IsPause, Rest, Seat, after_play, after_sending, booking_of, growth, is_done, pausing, sent_between, sent_by, slot_sent}
+use Rattle.day_run.specs.Seats.{Idle, Playing, Pausing, Paused, IsPause, Rest, Seat, after_play, after_sending, booking_of, growth, is_done, pausing_seat, sent_between, sent_by, slot_sent}
 
 -- what a pacer sends, as a booking
 abbrev pub paced : Pacing → Booked
@@ -24,14 +24,14 @@ paced p = cut_play p.start p.plan p.keep
 pub due-at : (p : Pacing) (heard : ℕ) → IsPacing p → p.passed ≡ heard + 1 - p.start → p.due ≡ sent_by (paced p) heard
 due-at p heard pacing timed = pacing.due ∙ ap (λ n. min (first_slots p.plan n) p.keep) timed
 
-pub passed-step : (p q : Pacing) (heard slot : ℕ) → q ≡ stepped false slot p → heard ≤ slot → p.passed ≡ heard + 1 - p.start → q.passed ≡ slot + 1 - q.start
+pub passed-step : (p q : Pacing) (heard slot : ℕ) → q ≡ after_step false slot p → heard ≤ slot → p.passed ≡ heard + 1 - p.start → q.passed ≡ slot + 1 - q.start
 passed-step p q heard slot e le timed =
     omega (arith, ap (λ (x : Pacing). x.passed) e, ap (λ (x : Pacing). x.start) e, timed, le)
 
-pub paced-step : (p q : Pacing) (slot : ℕ) → q ≡ stepped false slot p → paced q ≡ paced p
+pub paced-step : (p q : Pacing) (slot : ℕ) → q ≡ after_step false slot p → paced q ≡ paced p
 paced-step p q slot e = ap paced e
 
-pub sent-step : (p q : Pacing) (heard slot : ℕ) → q ≡ stepped false slot p → IsPacing p → IsPacing q → heard ≤ slot → p.passed ≡ heard + 1 - p.start
+pub sent-step : (p q : Pacing) (heard slot : ℕ) → q ≡ after_step false slot p → IsPacing p → IsPacing q → heard ≤ slot → p.passed ≡ heard + 1 - p.start
     → p.sent ≡ p.due → q.sent - p.sent ≡ growth heard slot (paced p)
 sent-step p q heard slot e was is le timed all =
     let q-all : q.sent ≡ q.due = ap (λ (x : Pacing). x.sent) e ∙ sym (ap (λ (x : Pacing). x.due) e) in
@@ -54,7 +54,7 @@ sent-at play heard playing timed =
     playing.all_sent ∙ due-at play.pacer heard playing.pacing timed ∙ ap (λ (b : Booked). sent_by b heard) (whole-paced play playing)
 
 -- a play was stepped
-pub playing-step : (play : Play) (q : Pacing) (heard slot sent : ℕ) → IsPlaying play → q ≡ stepped false slot play.pacer → IsPacing q → heard ≤ slot
+pub playing-step : (play : Play) (q : Pacing) (heard slot sent : ℕ) → IsPlaying play → q ≡ after_step false slot play.pacer → IsPacing q → heard ≤ slot
     → play.pacer.passed ≡ heard + 1 - play.pacer.start → sent ≡ q.sent - play.pacer.sent
     → IsStep heard slot (clients.Playing play) (clients.Playing (record play { pacer = q })) sent
 playing-step play q heard slot sent playing e pacing le timed is = record {
@@ -66,20 +66,20 @@ playing-step play q heard slot sent playing e pacing le timed is = record {
 }
 
 -- a play that was halted was stepped: all that it keeps was sent, or not yet
-pub stop-sent : (stop : Stop) (q : Pacing) (heard slot sent : ℕ) → IsStopping stop → q ≡ stepped false slot stop.pacer → IsPacing q → heard ≤ slot
+pub stop-sent : (stop : Stop) (q : Pacing) (heard slot sent : ℕ) → IsStopping stop → q ≡ after_step false slot stop.pacer → IsPacing q → heard ≤ slot
     → stop.pacer.passed ≡ heard + 1 - stop.pacer.start → sent ≡ q.sent - stop.pacer.sent
     → sent ≡ sent_between heard slot (seat_of (clients.Pausing stop))
 stop-sent stop q heard slot sent stopping e pacing le timed is =
     is ∙ sent-step stop.pacer q heard slot e stopping.pacing pacing le timed stopping.all_sent ∙ ap (growth heard slot) (stop-paced stop stopping)
 
-pub stop-all : (stop : Stop) (q : Pacing) (heard slot : ℕ) → IsStopping stop → q ≡ stepped false slot stop.pacer → IsPacing q → heard ≤ slot
+pub stop-all : (stop : Stop) (q : Pacing) (heard slot : ℕ) → IsStopping stop → q ≡ after_step false slot stop.pacer → IsPacing q → heard ≤ slot
     → stop.pacer.passed ≡ heard + 1 - stop.pacer.start
     → q.sent ≡ sent_by (cut_play stop.pacer.start stop.pacer.plan stop.keep) slot
 stop-all stop q heard slot stopping e pacing le timed =
     ap (λ (x : Pacing). x.sent) e ∙ sym (ap (λ (x : Pacing). x.due) e) ∙ due-at q slot pacing (passed-step stop.pacer q heard slot e le timed)
     ∙ ap (λ (b : Booked). sent_by b slot) (paced-step stop.pacer q slot e ∙ stop-paced stop stopping)
 
-pub paused-step : (stop : Stop) (q : Pacing) (heard slot sent : ℕ) → IsStopping stop → q ≡ stepped false slot stop.pacer → IsPacing q → heard ≤ slot
+pub paused-step : (stop : Stop) (q : Pacing) (heard slot sent : ℕ) → IsStopping stop → q ≡ after_step false slot stop.pacer → IsPacing q → heard ≤ slot
     → stop.pacer.passed ≡ heard + 1 - stop.pacer.start → sent ≡ q.sent - stop.pacer.sent → (q.sent == stop.keep) ≡ true
     → IsStep heard slot (clients.Pausing stop) (clients.Paused stop.rest) sent
 paused-step stop q heard slot sent stopping e pacing le timed is all =
@@ -91,7 +91,7 @@ paused-step stop q heard slot sent stopping e pacing le timed is all =
       seat = sym (cond-true (sent_by b slot == stop.keep) (Paused (rest_of stop.rest)) (Pausing b (rest_of stop.rest)) test);
     }
 
-pub stopping-step : (stop : Stop) (q : Pacing) (heard slot sent : ℕ) → IsStopping stop → q ≡ stepped false slot stop.pacer → IsPacing q → heard ≤ slot
+pub stopping-step : (stop : Stop) (q : Pacing) (heard slot sent : ℕ) → IsStopping stop → q ≡ after_step false slot stop.pacer → IsPacing q → heard ≤ slot
     → stop.pacer.passed ≡ heard + 1 - stop.pacer.start → sent ≡ q.sent - stop.pacer.sent → (q.sent == stop.keep) ≡ false
     → IsStep heard slot (clients.Pausing stop) (clients.Pausing (record stop { pacer = q })) sent
 stopping-step stop q heard slot sent stopping e pacing le timed is not =
@@ -184,7 +184,7 @@ pub pause-of : (play : Play) (heard keep : ℕ) (last : Option ℕ) (left : Run)
     → play.pacer.passed ≡ heard + 1 - play.pacer.start → slots_through last ≡ play.pacer.passed
     → IsBoundaryAfter play.pacer.pieces (play.pacer.before + play.pacer.sent) (play.pacer.before + keep)
     → IsLeft (reel_sizes play.rest.reel.now) play.rest.playback play.rest.run play.plan last keep left
-    → seat ≡ pausing heard (cut_play play.pacer.start play.plan keep) (record (rest_of play.rest) { run = left })
+    → seat ≡ pausing_seat heard (cut_play play.pacer.start play.plan keep) (record (rest_of play.rest) { run = left })
     → IsPause (play_of play) heard keep seat
 pause-of play heard keep last left seat playing timed through boundary is seat-is =
     let B : List (List ℕ) → Type 0 = λ ps. IsBoundaryAfter ps (play.pacer.before + play.pacer.sent) (play.pacer.before + keep) in
@@ -201,14 +201,14 @@ pause-of play heard keep last left seat playing timed through boundary is seat-i
 -- the client whose play keeps no more than was sent, and another one
 pub paused-seat : (play : Play) (heard keep : ℕ) (rest : Rest) → IsPlaying play → play.pacer.passed ≡ heard + 1 - play.pacer.start
     → play.pacer.sent ≤ keep → keep ≤ play.pacer.keep → (play.pacer.sent == keep) ≡ true
-    → Paused rest ≡ pausing heard (cut_play play.pacer.start play.plan keep) rest
+    → Paused rest ≡ pausing_seat heard (cut_play play.pacer.start play.plan keep) rest
 paused-seat play heard keep rest playing timed least most all =
     let b = cut_play play.pacer.start play.plan keep in
     sym (cond-true (sent_by b heard == keep) (Paused rest) (Pausing b rest) (ap (λ n. n == keep) (kept-sent play heard keep playing timed least most) ∙ all))
 
 pub pausing-seat : (play : Play) (q : Pacing) (heard keep : ℕ) (rest : Rest) → IsPlaying play → play.pacer.passed ≡ heard + 1 - play.pacer.start
     → play.pacer.sent ≤ keep → keep ≤ play.pacer.keep → (play.pacer.sent == keep) ≡ false → q ≡ record play.pacer { keep = keep }
-    → Pausing (cut_play q.start q.plan keep) rest ≡ pausing heard (cut_play play.pacer.start play.plan keep) rest
+    → Pausing (cut_play q.start q.plan keep) rest ≡ pausing_seat heard (cut_play play.pacer.start play.plan keep) rest
 pausing-seat play q heard keep rest playing timed least most not e =
     let b = cut_play play.pacer.start play.plan keep in
     let same : cut_play q.start q.plan keep ≡ b =

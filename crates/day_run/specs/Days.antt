@@ -16,7 +16,7 @@ use Rattle.admission.specs.declared.entries.Command.TheVariants as commands
 use Rattle.admission.specs.declared.entries.Entry.{Entry}
 use Rattle.admission.specs.declared.entries.Full.{Full}
 use Rattle.admission.specs.Books.{places_taken}
-use Rattle.admission.specs.Histories.{IsAnswered, live, state_after}
+use Rattle.admission.specs.Histories.{IsAnswered, open_count, state_after}
 use Rattle.admission.specs.Machine.{booked_in}
 use Rattle.early_start.specs.Offered.{Found, IsOffer}
 use Rattle.report.specs.CalendarTexts.{calendar_text}
@@ -51,8 +51,8 @@ pub record Moment : Type 0 where
   pub heard : ℕ
 
 -- no client plays, and no slot was heard
-abbrev pub morning : Moment
-morning = record { entries = []; seats = replicate 256 Idle; heard = 0 }
+abbrev pub first_moment : Moment
+first_moment = record { entries = []; seats = replicate 256 Idle; heard = 0 }
 
 abbrev pub seat_at : Moment → ℕ → Seat
 seat_at moment client = slice_index_or moment.seats client Idle
@@ -83,7 +83,7 @@ pub record IsNoted (link : Link) (entry : Entry) (seats : List Seat) (old new : 
 
 -- the journal has no room for so many more entries
 abbrev pub full_of : List Entry → Full
-full_of entries = record { entries = length entries; live = live entries }
+full_of entries = record { entries = length entries; live = open_count entries }
 
 pub record IsFull (link : Link) (places : ℕ) (old new : Moment) (text : List ℕ) : Type 0 where
   pub full : link.limit < places_taken old.entries + places
@@ -278,6 +278,6 @@ pub record IsDay (link : Link) (lines : List Line) (text : List ℕ) (journal : 
     : Type 0 where
   pub evening : Moment
   pub texts : List (List ℕ)
-  pub run : AreRun link lines texts morning evening
+  pub run : AreRun link lines texts first_moment evening
   pub text_is : text ≡ flat_map (λ (t : List ℕ). t) texts ++ last_lines evening
   pub journal_is : journal ≡ last_journal evening

@@ -15,7 +15,7 @@ use Rattle.admission.specs.Machine.{booked_in}
 use Rattle.day_run.specs.declared.counts.Counts.{Counts}
 use Rattle.day_run.specs.declared.counts.Made.{Made}
 use Rattle.day_run.specs.declared.scripts.Line.TheVariants as lines
-use Rattle.day_run.specs.Days.{IsLine, IsTold, Link, Moment, at_slot, booked_up_to, last_journal, morning, seat_at, sent_up_to}
+use Rattle.day_run.specs.Days.{IsLine, IsTold, Link, Moment, at_slot, booked_up_to, last_journal, first_moment, seat_at, sent_up_to}
 use Rattle.day_run.specs.Prints.{fair_text}
 use Rattle.day_run.specs.Seats.{Seat, Idle, Playing, Pausing, Paused, trace_track}
 
@@ -159,6 +159,6 @@ pub record IsFair (steps : List CapStep) (number plays : ℕ) (text : List ℕ) 
   pub evening : Moment
   pub count : length turns ≡ plays
   pub run : AreTurns (fair_link steps (words_of number)) (after_traces 16 (words_of number)) turns
-      morning evening
+      first_moment evening
   pub journal_is : journal ≡ last_journal evening
   pub text_is : text ≡ fair_text (counts_of turns evening) (made_of journal)

@@ -5,7 +5,7 @@ use Rattle.film_run.specs.Units.{IsTrace}
 use Rattle.admission.specs.declared.entries.Entry.{Entry}
 use Rattle.day_run.specs.declared.counts.Counts.{Counts}
 use Rattle.day_run.specs.declared.runners.Told.{Told}
-use Rattle.day_run.specs.Days.{Link, Moment, booked_up_to, morning, sent_up_to}
+use Rattle.day_run.specs.Days.{Link, Moment, booked_up_to, first_moment, sent_up_to}
 use Rattle.day_run.specs.FairDays.{AreTurns, IsTurn, Turn, after_turn, counts_of, is_refused, most_up_to, turn_booked, turn_peak, turn_sent}
 use Rattle.day_run.specs.Runners.{told_text}
 
@@ -18,9 +18,9 @@ abbrev pub sizes_in : List (Vec ℕ) → List (List ℕ)
 sizes_in traces = map (λ (trace : Vec ℕ). trace.items) traces
 
 -- the text of what a client was told, if it was asked at all
-abbrev pub said : List Entry → Option Told → List ℕ
-said entries None = []
-said entries (Some told) = told_text entries told
+abbrev pub said_text : List Entry → Option Told → List ℕ
+said_text entries None = []
+said_text entries (Some told) = told_text entries told
 
 -- what is counted once the link came to a slot
 abbrev pub with_slot : Counts → Moment → ℕ → Counts
@@ -72,6 +72,6 @@ pub record HasCome (link : Link) (words left : ℕ → ℕ) (plays : ℕ) (count
     (moment : Moment) : Type 0 where
   pub turns : List Turn
   pub count : length turns ≡ plays
-  pub run : AreTurns link words turns morning moment
+  pub run : AreTurns link words turns first_moment moment
   pub left_is : left ≡ after_turns words turns
   pub counts_are : counts ≡ counts_of turns moment

@@ -4,8 +4,8 @@ use Rattle.std.specs.Borrow.{Bor}
 use Rattle.plan_cert.specs.Reading.{lines_of}
 
 -- what references to texts point to
-abbrev pub shown : List (Bor (List ℕ)) → List (List ℕ)
-shown texts = map (λ (text : Bor (List ℕ)). text.now) texts
+abbrev pub texts_at : List (Bor (List ℕ)) → List (List ℕ)
+texts_at texts = map (λ (text : Bor (List ℕ)). text.now) texts
 
 abbrev pub is_space : ℕ → Bool
 is_space c = c == 32

@@ -11,8 +11,8 @@ use Rattle.day_run.specs.declared.reels.Sending.{Sending}
 use Rattle.day_run.specs.declared.reels.Sending.TheVariants as sendings
 
 -- the identity of what is sent, which nobody hears
-abbrev pub nobody : Identity
-nobody = record {
+abbrev pub no_identity : Identity
+no_identity = record {
   channel = 0;
   control = 0;
   ssrc = 0;
@@ -24,7 +24,7 @@ nobody = record {
 
 -- all reports and frames of a film, and all frames of a trace
 abbrev pub film_pieces : Stored → List (List ℕ)
-film_pieces stored = run_pieces (run_of stored.film 0 (length stored.film.units.items) nobody)
+film_pieces stored = run_pieces (run_of stored.film 0 (length stored.film.units.items) no_identity)
 
 abbrev pub reel_sizes : Reel → List ℕ
 reel_sizes (reels.Film stored) = stored_sizes stored.now

@@ -10,7 +10,7 @@ use Rattle.day_run.specs.declared.runners.Runner.{Runner}
 use Rattle.day_run.specs.declared.runners.Told.{Told}
 use Rattle.day_run.specs.declared.runners.Told.TheVariants as tolds
 use Rattle.day_run.specs.Clients.{AreBooked, AreGoing, AreTimed, AreUndone, seat_of}
-use Rattle.day_run.specs.Days.{AreRun, Link, Moment, entry_lines, morning}
+use Rattle.day_run.specs.Days.{AreRun, Link, Moment, entry_lines, first_moment}
 use Rattle.day_run.specs.Prints.{fault_text, full_text, offer_text, state_text}
 use Rattle.day_run.specs.Tracks.{reel_track}
 
@@ -69,7 +69,7 @@ pub record IsPrinted (before after : List ℕ) (Is : List ℕ → Type 0) : Type
 pub record HasRun (link : Link) (lines : List Line) (text : List ℕ) (moment : Moment) : Type 0 where
   pub texts : List (List ℕ)
   pub text_is : text ≡ flat_map (λ (t : List ℕ). t) texts
-  pub run : AreRun link lines texts morning moment
+  pub run : AreRun link lines texts first_moment moment
 
 -- the link and the sources stay
 pub record IsKept (old new : Runner) : Type 0 where

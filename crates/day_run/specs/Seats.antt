@@ -108,14 +108,14 @@ sent_between heard slot (Pausing stop rest) = growth heard slot stop
 sent_between heard slot (Paused rest) = 0
 
 -- a pause is done as soon as all that is kept was sent
-abbrev pub pausing : ℕ → Booked → Rest → Seat
-pausing slot stop rest = if sent_by stop slot == stop.keep then Paused rest else Pausing stop rest
+abbrev pub pausing_seat : ℕ → Booked → Rest → Seat
+pausing_seat slot stop rest = if sent_by stop slot == stop.keep then Paused rest else Pausing stop rest
 
 -- a client once a slot was sent
 abbrev pub after_sending : ℕ → Seat → Seat
 after_sending slot Idle = Idle
 after_sending slot (Playing play) = Playing play
-after_sending slot (Pausing stop rest) = pausing slot stop rest
+after_sending slot (Pausing stop rest) = pausing_seat slot stop rest
 after_sending slot (Paused rest) = Paused rest
 
 -- a play is done once its first slot has come and all its bytes were sent
@@ -143,4 +143,4 @@ pub record IsPause (play : Play) (heard keep : ℕ) (seat : Seat) : Type 0 where
   pub left_is : IsLeft play.rest.sizes play.rest.playback play.rest.run play.plan
       (slot_sent play.start heard) keep left
   pub seat_is : seat ≡
-      pausing heard (cut_play play.start play.plan keep) (record play.rest { run = left })
+      pausing_seat heard (cut_play play.start play.plan keep) (record play.rest { run = left })

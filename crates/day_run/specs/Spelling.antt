@@ -33,13 +33,13 @@ words_of names (Offer client source buffer delay wait) =
     codes "offer" ∷ asked_words (name_at names source) client buffer delay (decimal wait ∷ [])
 
 -- words with a space between two
-abbrev pub spaced : List (List ℕ) → List ℕ
-spaced [] = []
-spaced (word ∷ []) = word
-spaced (word ∷ next ∷ words) = word ++ 32 ∷ spaced (next ∷ words)
+abbrev pub words_text : List (List ℕ) → List ℕ
+words_text [] = []
+words_text (word ∷ []) = word
+words_text (word ∷ next ∷ words) = word ++ 32 ∷ words_text (next ∷ words)
 
 abbrev pub line_text : List Name → Line → List ℕ
-line_text names line = spaced (words_of names line)
+line_text names line = words_text (words_of names line)
 
 -- the text of lines, each ended by LF
 abbrev pub script_text : List Name → List Line → List ℕ

@@ -62,7 +62,7 @@ pub(crate) fn whole_of<'r>(
 }
 
 /// The plan by which a rest is sent, or the fault of its curves.
-pub(crate) fn planned(alloc: Global, rest: &Rest<'_>) -> Result<Result<Plan, CurveFault>, NoMemory>
+pub(crate) fn plan_rest(alloc: Global, rest: &Rest<'_>) -> Result<Result<Plan, CurveFault>, NoMemory>
     requires { IsRest rest.now }
     ensures plan { IfOk result (λ planned. IfOk planned (IsPlanFor rest.now)) }
     ensures fault { IfOk result (λ planned. IfErr planned (HasFault

@@ -2,7 +2,7 @@
 
 ghost use Rattle.std.specs.Prelude.{◌≡◌, ◌+◌, ◌-◌, ◌^◌, ◌≤◌, ◌<◌, ℕ, List, false, IfSome, IfNone, OnSome, IsTrue};
 ghost use Rattle.plan_cert.specs.Slots.{total_bytes};
-ghost use Rattle.pacer.specs.Pacings.{IsPacing, is_done, stepped};
+ghost use Rattle.pacer.specs.Pacings.{IsPacing, is_done, after_step};
 ghost use Rattle.admission.specs.declared.entries.Entry.{Entry};
 ghost use Rattle.film_run.specs.Plans.{IsPlanOf};
 ghost use Rattle.film_run.specs.Pauses.{IsHalt};
@@ -76,12 +76,12 @@ pub(crate) enum Which {
 
 /// Sends what is due in a slot, and tells how many bytes that was.
 fn send(pacer: &mut Pacer<Sending<'_>>, slot: u64) -> u64
-    ensures state { pacer.new ≡ stepped false slot pacer.old }
+    ensures state { pacer.new ≡ after_step false slot pacer.old }
     ensures sent { result ≡ pacer.new.sent - pacer.old.sent }
     ensures pacing { IsPacing pacer.new }
 {
     match pacer.step(slot, false, &mut Drain) {
-        Ok(stepped) => stepped.sent,
+        Ok(sending) => sending.sent,
         Err(_) => unreachable!(),
     }
 }
@@ -134,7 +134,7 @@ impl<'r> Client<'r> {
     }
 
     /// Its play, if it is done and so keeps all its bytes.
-    fn done(&self) -> Option<Halt>
+    fn halt_when_done(&self) -> Option<Halt>
         ensures some { IfSome result (IsHaltOf self.now) }
         ensures none { IfNone result (IsUndone self.now) }
         ensures halt { (slot client : ℕ) → IsGoing self.now → IsTimed slot self.now →
@@ -144,7 +144,7 @@ impl<'r> Client<'r> {
     {
         match self {
             Client::Playing(play) => {
-                if play.pacer.done() {
+                if play.pacer.is_done() {
                     Some(Halt {
                         number: play.number,
                         keep: play.pacer.sent(),
@@ -168,7 +168,7 @@ impl<'r> Client<'r> {
         match self {
             Client::Playing(play) => Some(Halt {
                 number: play.number,
-                keep: play.pacer.due(),
+                keep: play.pacer.bytes_due(),
             }),
             _ => None,
         }
@@ -184,7 +184,7 @@ impl<'r> Client<'r> {
             seat_for which slot (seat_of self.now) ≡ seat_after result (seat_of self.now) }
     {
         match which {
-            Which::Done => self.done(),
+            Which::Done => self.halt_when_done(),
             Which::Open => self.open(),
         }
     }
@@ -205,7 +205,7 @@ impl<'r> Client<'r> {
     {
         match replace(self, Client::Idle) {
             Client::Playing(play) => {
-                let (halt, next) = paused(play);
+                let (halt, next) = pause_play(play);
                 *self = next;
                 Some(halt)
             }
@@ -219,7 +219,7 @@ impl<'r> Client<'r> {
 
 /// A play as it is paused, and how it is to be halted. A pause is done at once where all that it
 /// keeps was sent.
-fn paused<'r>(play: Play<'r>) -> (Halt, Client<'r>)
+fn pause_play<'r>(play: Play<'r>) -> (Halt, Client<'r>)
     requires playing { IsPlaying play }
     requires undone { is_done play.pacer ≡ false }
     ensures number { result.0.number ≡ play.entry.number }

@@ -2,7 +2,7 @@
 
 ghost use Rattle.std.specs.Prelude.{◌≡◌, ◌^◌, ◌≤◌, ◌<◌, ◌++◌, [], drop, length, IfOk, OnOk};
 ghost use Rattle.admission.specs.Histories.{IsLegal};
-ghost use Rattle.day_run.specs.Days.{IsDay, IsLine, entry_lines, last_journal, last_lines, link_of, morning};
+ghost use Rattle.day_run.specs.Days.{IsDay, IsLine, entry_lines, last_journal, last_lines, link_of, first_moment};
 ghost use Rattle.day_run.specs.Runners.{HasRun, IsKept, IsPrinted, IsRunner, link_on, moment_of, offer_lines, told_text};
 ghost use Rattle.day_run.specs.Scripts.{AreLines, StandsAfter, slot_after};
 ghost use Rattle.day_run.specs.Sources.{AreSources};
@@ -154,7 +154,7 @@ fn run_lines(
     requires runner { IsRunner runner.old }
     requires begun { runner.old.heard ≡ 0 }
     requires lines { AreLines (length runner.old.reels.now) lines.now }
-    requires morning { moment_of runner.old ≡ morning }
+    requires morning { moment_of runner.old ≡ first_moment }
     requires empty { text.old.items ≡ [] }
     ensures runner { OnOk result (IsRunner runner.new) }
     ensures kept { OnOk result (IsKept runner.old runner.new) }

@@ -6,9 +6,9 @@ ghost use Rattle.film_run.specs.Units.{IsTrace};
 ghost use Rattle.admission.specs.declared.entries.Entry.{Entry};
 ghost use Rattle.admission.specs.Histories.{IsLegal};
 ghost use Rattle.day_run.specs.Balanced.{IsReady};
-ghost use Rattle.day_run.specs.Days.{IsPlayLine, entry_lines, morning, rest_at, seat_at};
+ghost use Rattle.day_run.specs.Days.{IsPlayLine, entry_lines, first_moment, rest_at, seat_at};
 ghost use Rattle.day_run.specs.FairDays.{IsDone, IsFair, after_traces, at_later, is_full_line, made_of, traces_drawn, words_for};
-ghost use Rattle.day_run.specs.Fairs.{AreTraces, HasCome, HasTurned, IsFitting, said, sizes_in, with_slot};
+ghost use Rattle.day_run.specs.Fairs.{AreTraces, HasCome, HasTurned, IsFitting, said_text, sizes_in, with_slot};
 ghost use Rattle.day_run.specs.Runners.{IsKept, IsRunner, link_on, moment_of, told_text};
 ghost use Rattle.day_run.specs.Seats.{trace_track};
 ghost use Rattle.day_run.specs.Tracks.{reel_track};
@@ -101,7 +101,7 @@ fn turn_client(
     ensures done { IfOk result (λ told.
         IsDone (link_on runner.old) (words_left draws.old) client
         (seat_at (moment_of runner.old) client) (moment_of runner.old) (moment_of runner.new)
-        (said runner.new.book.entries told)) }
+        (said_text runner.new.book.entries told)) }
     ensures left { OnOk result (words_left draws.new
         ≡ after (words_for (seat_at (moment_of runner.old) client)) (words_left draws.old)) }
 {
@@ -160,7 +160,7 @@ fn is_full(told: Told) -> bool
 
 /// Whether a client was told so, if it was asked at all.
 fn is_refused(told: Option<Told>) -> bool
-    ensures { (entries : List Entry) → is_full_line (said entries told) ≡ result }
+    ensures { (entries : List Entry) → is_full_line (said_text entries told) ≡ result }
 {
     match told {
         Some(told) => is_full(told),
@@ -241,7 +241,7 @@ fn run_turns(
     turns: u32,
 ) -> Result<Counts, NoMemory>
     requires runner { IsRunner runner.old }
-    requires morning { moment_of runner.old ≡ morning }
+    requires morning { moment_of runner.old ≡ first_moment }
     requires reels { length runner.old.reels.now ≡ 16 }
     requires few { turns ≤ 100000 }
     ensures runner { OnOk result (IsRunner runner.new) }

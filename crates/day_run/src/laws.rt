@@ -9,20 +9,20 @@ ghost use Rattle.admission.specs.Histories.{IsLegal, booked_after, state_after};
 ghost use Rattle.day_run.specs.Balanced.{share_of};
 ghost use Rattle.day_run.specs.Clients.{after_open};
 ghost use Rattle.day_run.specs.DayLaws.{AreClients, IsClient, IsFairLine, IsLink, IsOfferTold, IsSoundSeat};
-ghost use Rattle.day_run.specs.Days.{AreRun, IsDay, IsFaulty, IsLine, Link, Moment, booked_up_to, last_journal, morning, rest_at, seat_at, sent_up_to};
+ghost use Rattle.day_run.specs.Days.{AreRun, IsDay, IsFaulty, IsLine, Link, Moment, booked_up_to, last_journal, first_moment, rest_at, seat_at, sent_up_to};
 ghost use Rattle.day_run.specs.FairDays.{IsFair};
 ghost use Rattle.day_run.specs.declared.scripts.Script.{Script};
 ghost use Rattle.day_run.specs.Lines.{lines_of_script};
 ghost use Rattle.day_run.specs.Readings.{IsBadLine, IsScript, Name, Reading, lines_read, names_of};
 ghost use Rattle.day_run.specs.Scripts.{AreLines, StandsAfter, latest_slot};
-ghost use Rattle.day_run.specs.Spelling.{AreWritten, IsInWords, MayStand, is_verb, is_word, line_text, names_used, script_text, spaced};
+ghost use Rattle.day_run.specs.Spelling.{AreWritten, IsInWords, MayStand, is_verb, is_word, line_text, names_used, script_text, words_text};
 
 /// After lines of a script, what the clients are sent in the slots up to any later one, after the
 /// slot that was heard last, is what is booked in those slots.
 pub fn law_sent()
     ensures { (link : Link) (sources : ℕ) (lines : List Line) (texts : List (List ℕ))
         (moment : Moment)
-        (slot : ℕ) → AreClients lines → AreLines sources lines → AreRun link lines texts morning moment →
+        (slot : ℕ) → AreClients lines → AreLines sources lines → AreRun link lines texts first_moment moment →
         moment.heard ≤ slot → sent_up_to moment slot ≡ booked_up_to moment slot }
 {}
 
@@ -31,7 +31,7 @@ pub fn law_sent()
 pub fn law_capacity_kept()
     ensures { (link : Link) (sources : ℕ) (lines : List Line) (texts : List (List ℕ))
         (moment : Moment) (slot : ℕ) → AreClients lines → AreLines sources lines →
-        AreRun link lines texts morning moment → IsLegal link.steps moment.entries →
+        AreRun link lines texts first_moment moment → IsLegal link.steps moment.entries →
         moment.heard ≤ slot → sent_up_to moment slot ≤ sum_by (capacity_at link.steps)
         (range_with_len (moment.heard + 1) (slot - moment.heard)) }
 {}
@@ -65,9 +65,9 @@ pub fn law_script_read_back()
         (length lines + 1) }
     ensures verb { (names : List Name) (lines : List Line) (verb : List ℕ)
         (words : List (List ℕ)) (rest : List ℕ) → AreWritten names lines →
-        list_all is_word (verb ∷ words) ≡ true → 0 < length (spaced (verb ∷ words)) →
+        list_all is_word (verb ∷ words) ≡ true → 0 < length (words_text (verb ∷ words)) →
         is_verb (length (verb ∷ words)) verb ≡ false →
-        IsBadLine (script_text names lines ++ (spaced (verb ∷ words) ++ 10 ∷ rest))
+        IsBadLine (script_text names lines ++ (words_text (verb ∷ words) ++ 10 ∷ rest))
         (length lines + 1) }
 {}
 
@@ -110,12 +110,12 @@ pub fn law_offers()
 pub fn law_past()
     ensures line { (link : Link) (sources slot : ℕ) (lines : List Line) (texts : List (List ℕ))
         (moment next : Moment) (line : Line) (text : List ℕ) → AreClients lines →
-        AreLines sources lines → AreRun link lines texts morning moment → IsClient line →
+        AreLines sources lines → AreRun link lines texts first_moment moment → IsClient line →
         StandsAfter moment.heard sources line → IsLine link line moment next text →
         slot ≤ moment.heard → booked_after next.entries slot ≡ booked_after moment.entries slot }
     ensures end { (link : Link) (sources slot : ℕ) (lines : List Line) (texts : List (List ℕ))
         (moment : Moment) → AreClients lines → AreLines sources lines →
-        AreRun link lines texts morning moment → slot ≤ moment.heard →
+        AreRun link lines texts first_moment moment → slot ≤ moment.heard →
         booked_after (last_journal moment) slot ≡ booked_after moment.entries slot }
 {}
 
@@ -124,7 +124,7 @@ pub fn law_past()
 pub fn law_end()
     ensures { (link : Link) (sources slot : ℕ) (lines : List Line) (texts : List (List ℕ))
         (moment : Moment) → AreClients lines → AreLines sources lines →
-        AreRun link lines texts morning moment → moment.heard < slot →
+        AreRun link lines texts first_moment moment → moment.heard < slot →
         booked_after (last_journal moment) slot
         ≡ sum_by (share_of slot) (map after_open moment.seats) }
 {}
@@ -135,7 +135,7 @@ pub fn law_end()
 pub fn law_clients()
     ensures { (link : Link) (lines : List Line) (texts : List (List ℕ)) (moment : Moment)
         (client : ℕ) → IsLink link → AreClients lines → AreLines (length link.tracks) lines →
-        AreRun link lines texts morning moment → client < 256 →
+        AreRun link lines texts first_moment moment → client < 256 →
         IsSoundSeat moment.heard (seat_at moment client) }
 {}
 

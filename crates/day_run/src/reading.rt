@@ -2,7 +2,7 @@
 
 ghost use Rattle.std.specs.Prelude.{◌≡◌, ◌+◌, ◌<◌, ◌≤◌, [], false, true, length, IfOk, IfErr, IfSome, IfNone, OnOk, MatchOption, slice_index_or, string_bytes};
 ghost use Rattle.vod_base.specs.Names.{is_good_name};
-ghost use Rattle.day_run.specs.Lines.{shown};
+ghost use Rattle.day_run.specs.Lines.{texts_at};
 ghost use Rattle.day_run.specs.Sayings.{IsInRange};
 ghost use Rattle.day_run.specs.Scripts.{AreLines, StandsAfter, latest_slot, slot_after};
 ghost use Rattle.day_run.specs.Readings.{IsDraft, IsRefused, IsScript, IsSource, IsTaken, line_read, name_as, named_in, names_of, nothing_read, reading_of, source_in, with_line, with_name, with_saying};
@@ -104,8 +104,8 @@ impl Draft {
     /// The place of the film or trace that is the fourth of these words. None where it is no name.
     fn source(&mut self, words: &[&[u8]], asked: Asked) -> Result<Option<usize>, NoMemory>
         ensures found { IfOk result (λ found. MatchOption found
-            (is_good_name (named_in (shown words.now) asked).name ≡ false)
-            (λ place. IsSource (reading_of self.old) (reading_of self.new) (named_in (shown words.now) asked) place)) }
+            (is_good_name (named_in (texts_at words.now) asked).name ≡ false)
+            (λ place. IsSource (reading_of self.old) (reading_of self.new) (named_in (texts_at words.now) asked) place)) }
         ensures inside { IfOk result (λ found.
             IfSome found (λ place. place < length self.new.named.items)) }
         ensures longer { OnOk result (length self.old.named.items ≤ length self.new.named.items) }
@@ -126,9 +126,9 @@ impl Draft {
         requires draft { IsDraft self.old }
         requires range { IsInRange saying }
         ensures line { IfOk result (λ found. IfSome found
-            (λ line. with_saying (reading_of self.old) (shown words.now) saying ≡ Some (with_line (reading_of self.new) line))) }
+            (λ line. with_saying (reading_of self.old) (texts_at words.now) saying ≡ Some (with_line (reading_of self.new) line))) }
         ensures none { IfOk result (λ found.
-            IfNone found (with_saying (reading_of self.old) (shown words.now) saying ≡ None)) }
+            IfNone found (with_saying (reading_of self.old) (texts_at words.now) saying ≡ None)) }
         ensures stands { IfOk result (λ found. IfSome found
             (λ line. StandsAfter (latest_slot self.old.lines.items) (length self.new.named.items) line)) }
         ensures slot { IfOk result (λ found. IfSome found
@@ -174,7 +174,7 @@ impl Draft {
         requires draft { IsDraft self.old }
         requires range { IsInRange saying }
         ensures taken { IfOk result (λ stands. IsTaken stands (reading_of self.new)
-            (with_saying (reading_of self.old) (shown words.now) saying)) }
+            (with_saying (reading_of self.old) (texts_at words.now) saying)) }
         ensures draft { IfOk result (λ stands. stands ≡ true → IsDraft self.new) }
     {
         match self.line_of(words, saying)? {

@@ -1,7 +1,7 @@
 //! What the plays of a day send: films and traces, unit by unit, and as tracks.
 
 ghost use Rattle.std.specs.Prelude.{ℕ, ◌≡◌, ◌^◌, ◌≤◌, ◌<◌, length, sum, IfOk};
-ghost use Rattle.film_frames.specs.Tracks.{framed};
+ghost use Rattle.film_frames.specs.Tracks.{framed_bytes};
 ghost use Rattle.film_run.specs.Units.{IsTrace};
 ghost use Rattle.day_run.specs.Reels.{reel_pieces, reel_sizes, sending_pieces};
 ghost use Rattle.day_run.specs.Tracks.{reel_track, reel_units};
@@ -83,7 +83,7 @@ impl<'s> Reel<'s> {
     pub(crate) fn sending(&self) -> Sending<'_>
         requires { 0 < length (reel_sizes self.now) }
         ensures pieces { sending_pieces result ≡ reel_pieces self.now }
-        ensures all { length (framed (reel_pieces self.now)) ≡ sum (reel_sizes self.now) }
+        ensures all { length (framed_bytes (reel_pieces self.now)) ≡ sum (reel_sizes self.now) }
     {
         match self {
             Reel::Film(stored) => {

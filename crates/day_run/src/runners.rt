@@ -2,14 +2,14 @@
 
 ghost use Rattle.std.specs.Prelude.{◌≡◌, ◌-◌, ◌*◌, ◌^◌, ◌≤◌, ◌<◌, length, map, min, IfOk, OnOk};
 ghost use Rattle.day_run.specs.Clients.{IsPlanFor, IsRest, rest_of};
-ghost use Rattle.day_run.specs.Days.{at_slot, booked_up_to, last_journal, morning, rest_at, seat_at, sent_up_to};
+ghost use Rattle.day_run.specs.Days.{at_slot, booked_up_to, last_journal, first_moment, rest_at, seat_at, sent_up_to};
 ghost use Rattle.day_run.specs.Days.{IsAsked as IsAskedFor, IsLookLine, IsOfferLine, IsPauseLine, IsPlanned, IsPlayLine, IsResumeLine};
 ghost use Rattle.day_run.specs.FairDays.{most_up_to};
 ghost use Rattle.day_run.specs.Runners.{IsAsked, IsKept, IsRunner, link_on, moment_of, offer_lines, told_text};
 ghost use Rattle.day_run.specs.Tracks.{reel_track};
 
 use crate::all_clients::{end_each, idle_clients, step_clients};
-use crate::beginnings::{begin_play, planned, reel_at, start_of, whole_of};
+use crate::beginnings::{begin_play, plan_rest, reel_at, start_of, whole_of};
 use crate::clients::{Client, Rest, Which};
 use crate::reels::Reel;
 use crate::sums::booked_between;
@@ -79,7 +79,7 @@ impl<'r> Runner<'r> {
         }) }
         ensures heard { IfOk result (λ runner. runner.heard ≡ 0) }
         ensures reels { IfOk result (λ runner. runner.reels.now ≡ reels.entry.now) }
-        ensures begun { IfOk result (λ runner. moment_of runner ≡ morning) }
+        ensures begun { IfOk result (λ runner. moment_of runner ≡ first_moment) }
     {
         let book = Book::new(alloc, profile, limit)?;
         let clients = idle_clients(alloc)?;
@@ -148,7 +148,7 @@ impl<'r> Runner<'r> {
             IsAskedFor (link_on self.old) client (rest_of rest.entry)
             (moment_of self.old) (moment_of self.new) (told_text self.new.book.entries told)) }
     {
-        match planned(alloc, &rest)? {
+        match plan_rest(alloc, &rest)? {
             Ok(plan) => {
                 let paced = plan.copy()?;
                 let kept = plan.copy()?;
@@ -240,7 +240,7 @@ impl<'r> Runner<'r> {
         else {
             return Ok(Err(CurveFault::NoPictures));
         };
-        match planned(alloc, &rest)? {
+        match plan_rest(alloc, &rest)? {
             Ok(plan) => {
                 let mut offers = Offers::new(alloc, wait)?;
                 let _legal = self.book.entries();

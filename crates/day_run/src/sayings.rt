@@ -3,7 +3,7 @@
 ghost use Rattle.std.specs.Prelude.{◌≡◌, ◌≤◌, ◌^◌, IfSome};
 ghost use Rattle.std.specs.Str.{bytes_eq};
 ghost use Rattle.vod_base.specs.Numbers.{number_of};
-ghost use Rattle.day_run.specs.Lines.{shown};
+ghost use Rattle.day_run.specs.Lines.{texts_at};
 ghost use Rattle.day_run.specs.Sayings.{IsAskedInRange, IsInRange, asked_in, film_in, number_in, client_in, pair_in, play_in, offer_in, saying_in};
 
 use vod_base::read_number;
@@ -137,7 +137,7 @@ fn offer_in(verb: &[u8], asked: Option<Asked>, wait: &[u8]) -> Option<Saying>
 
 /// What a line of these words says.
 pub(crate) fn saying_in(words: &[&[u8]]) -> Option<Saying>
-    ensures saying { result ≡ saying_in (shown words.now) }
+    ensures saying { result ≡ saying_in (texts_at words.now) }
     ensures range { IfSome result IsInRange }
 {
     match words {

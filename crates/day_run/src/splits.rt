@@ -3,7 +3,7 @@
 ghost use Rattle.std.specs.Prelude.{◌≡◌, ◌≢◌, ◌==◌, ◌∷◌, ◌<◌, [], All, length, MatchOption, OnOk, IfNone, IfSome, map};
 ghost use Rattle.std.specs.List.{slice_split};
 ghost use Rattle.plan_cert.specs.Reading.{IsCut};
-ghost use Rattle.day_run.specs.Lines.{is_space, lines_of_script, shown, without_return};
+ghost use Rattle.day_run.specs.Lines.{is_space, lines_of_script, texts_at, without_return};
 
 use vod_base::NoMemory;
 
@@ -47,7 +47,7 @@ pub(crate) fn first_line(text: &[u8]) -> Option<(&[u8], &[u8])>
 
 /// The words of a line, one space apart, in place of those before.
 pub(crate) fn split_words<'a>(line: &'a [u8], words: &mut Vec<&'a [u8]>) -> Result<(), NoMemory>
-    ensures { OnOk result (shown words.new.items ≡ slice_split is_space line.now) }
+    ensures { OnOk result (texts_at words.new.items ≡ slice_split is_space line.now) }
 {
     words.clear();
     let mut rest = line;

@@ -31,7 +31,7 @@ pub(crate) fn booked_between(book: &Book, from: u64, to: u64) -> (u64, u64)
     let mut booked = 0;
     let mut peak = 0;
     for slot in from + 1..end + 1 {
-        let here = calendar.booked(slot);
+        let here = calendar.booked_bytes(slot);
         booked += here;
         peak = greater(peak, here);
     }

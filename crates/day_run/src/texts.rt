@@ -133,9 +133,9 @@ fn push_start(out: &mut Vec<u8>, start: Option<u64>) -> Result<(), NoMemory>
 pub(crate) fn push_offer(out: &mut Vec<u8>, offers: &Offers) -> Result<(), NoMemory>
     ensures { OnOk result (out.new.items ≡ out.old.items ++ (offer_text offers.now)) }
 {
-    push_all_tried(out, offers.tried())?;
+    push_all_tried(out, offers.tries())?;
     push_start(out, offers.start())?;
-    push_field(out, b" tried=", offers.tried().len() as u64)?;
+    push_field(out, b" tried=", offers.tries().len() as u64)?;
     push(out, b"\n")
 }
 

@@ -115,7 +115,7 @@ impl Offers {
 
     /// The starts before it, at which the plan doesn't fit, in order; all of them where there is
     /// none. At most `wait() + 1` starts.
-    pub fn tried(&self) -> &[Tried]
+    pub fn tries(&self) -> &[Tried]
         ensures value { result.now ≡ self.now.tried }
         ensures few { length result.now ≤ self.now.wait + 1 }
     {

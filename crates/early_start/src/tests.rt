@@ -31,7 +31,7 @@ fn run(
         offers.find(&calendar, &plan, *first);
         assert_eq!(rt; (offers.wait(), offers.start()), (*wait, *start));
         let mut told = Vec::new(alloc);
-        for Tried { start, over } in offers.tried() {
+        for Tried { start, over } in offers.tries() {
             told.push((*start, over.slot, over.booked, over.asked))?;
         }
         assert_eq!(rt; told.as_slice(), *tried);

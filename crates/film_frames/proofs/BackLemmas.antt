@@ -19,7 +19,7 @@ use Rattle.film_frames.specs.Pieces.{octets_of, pieces_of, unit_pieces, unit_rep
 use Rattle.film_frames.specs.Pieces.{wire_size}
 use Rattle.film_frames.specs.Runs.{Run, blocks_from, payload, piece_bytes, run_of, run_pieces}
 use Rattle.film_frames.specs.Runs.{pieces_in}
-use Rattle.film_frames.specs.Tracks.{framed}
+use Rattle.film_frames.specs.Tracks.{framed_bytes}
 use Rattle.film_frames.proofs.TrackLemmas.{begin-all}
 use Rattle.film_frames.proofs.PieceLemmas.{AreSound, cover-le, pieces-cons, unit-le}
 use Rattle.film_frames.proofs.FilmLemmas.{film-from, film-in_order, laid-film, units-wire}
@@ -149,7 +149,7 @@ comes-back film first_unit end_unit identity first last order first_at last_at =
 
 pub run-sum : (film : Film) (first_unit end_unit : ℕ) (identity : Identity) → first_unit ≤ end_unit → end_unit ≤ length film.units.items
     → AreSound film.bytes.items (pieces_in (run_of film first_unit end_unit identity))
-    × (length (framed (run_pieces (run_of film first_unit end_unit identity)))
+    × (length (framed_bytes (run_pieces (run_of film first_unit end_unit identity)))
     ≡ sum (map (λ u. wire_size film.slice_starts.items u) (take (end_unit - first_unit) (drop first_unit film.units.items))))
 run-sum film first_unit end_unit identity order within =
     let run = run_of film first_unit end_unit identity in

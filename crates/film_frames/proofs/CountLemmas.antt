@@ -12,7 +12,7 @@ use Rattle.rtp_pack.specs.Reports.{report_bytes, unit_report}
 use Rattle.film_frames.specs.Laws.{AreBlocks, IsBlock, HasPieceSize, HaveSizes, frames_among}
 use Rattle.film_frames.specs.Laws.{sequence_of}
 use Rattle.film_frames.specs.Pieces.{count_of, frames_in, octets_of, wire_of}
-use Rattle.film_frames.specs.Runs.{HaveEnded, Run, count_ended, interleaved, blocks_from, payload}
+use Rattle.film_frames.specs.Runs.{HaveEnded, Run, count_ended, interleaved_block, blocks_from, payload}
 use Rattle.film_frames.specs.Runs.{piece_bytes, run_pieces, pieces_in}
 use Rattle.film_frames.specs.Tables.{IsSound}
 use Rattle.film_frames.proofs.PieceLemmas.{AreSound, sound-at}
@@ -21,7 +21,7 @@ use Rattle.film_frames.proofs.RunLemmas.{piece-length}
 
 -- ---- sequence numbers
 
-head-sequence : (channel : ℕ) (head : Head) (rest : List ℕ) → head.sequence < 2 ^ 16 → sequence_of (interleaved channel (head_bytes head ++ rest)) ≡ head.sequence
+head-sequence : (channel : ℕ) (head : Head) (rest : List ℕ) → head.sequence < 2 ^ 16 → sequence_of (interleaved_block channel (head_bytes head ++ rest)) ≡ head.sequence
 head-sequence channel head rest small = omega arith
 
 frame-sequence : (run : Run) (frames octets : ℕ) (piece : Piece) → count_of piece ≡ 1 → sequence_of (piece_bytes run frames octets piece) ≡ (run.identity.sequence + frames) % 2 ^ 16
@@ -67,7 +67,7 @@ have-sizes run sound = record {
 
 -- ---- blocks
 
-block-is : (channel : ℕ) (block : List ℕ) → IsBlock (interleaved channel block)
+block-is : (channel : ℕ) (block : List ℕ) → IsBlock (interleaved_block channel block)
 block-is channel block = ((omega arith, refl), omega arith)
 
 piece-block : (run : Run) (frames octets : ℕ) (piece : Piece) → IsBlock (piece_bytes run frames octets piece)

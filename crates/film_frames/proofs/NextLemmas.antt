@@ -10,13 +10,13 @@ use Rattle.film_frames.specs.declared.pieces.Piece.{Piece}
 use Rattle.film_frames.specs.Pieces.{frames_in, octets_in, wire_of}
 use Rattle.film_frames.specs.Tables.{IsSound}
 use Rattle.film_frames.specs.Runs.{HaveEnded, Run, payload, piece_bytes, run_pieces, pieces_in}
-use Rattle.film_frames.specs.Tracks.{IsBoundary, IsBoundaryAfter, IsNext, begin_of, framed}
+use Rattle.film_frames.specs.Tracks.{IsBoundary, IsBoundaryAfter, IsNext, begin_of, framed_bytes}
 use Rattle.film_frames.proofs.TrackLemmas.{begin-all, begin-le, begin-more, next-found}
 use Rattle.film_frames.proofs.RunLemmas.{blocks_from-at, piece-length}
 
 -- ---- where a place lies
 
-pub count_ended-within : (pieces : List (List ℕ)) (at k : ℕ) → HaveEnded pieces at k → at < length (framed pieces) → k < length pieces
+pub count_ended-within : (pieces : List (List ℕ)) (at k : ℕ) → HaveEnded pieces at k → at < length (framed_bytes pieces) → k < length pieces
 count_ended-within pieces at k have within =
     elim (cases_lt k (length pieces)) [
       | inl l ↦ l
@@ -25,7 +25,7 @@ count_ended-within pieces at k have within =
           absurd (omega (arith, last, begin-all pieces, have.last, within))
     ]
 
-pub boundary-count_ended : (pieces : List (List ℕ)) (at k place : ℕ) → HaveEnded pieces (at - 1) k → 0 < at → at ≤ length (framed pieces) → place ≡ begin_of pieces (k + 1) → IsBoundaryAfter pieces at place
+pub boundary-count_ended : (pieces : List (List ℕ)) (at k place : ℕ) → HaveEnded pieces (at - 1) k → 0 < at → at ≤ length (framed_bytes pieces) → place ≡ begin_of pieces (k + 1) → IsBoundaryAfter pieces at place
 boundary-count_ended pieces at k place have some within is =
     let inside = count_ended-within pieces (at - 1) k have (omega (arith, some, within)) in
     record {
@@ -39,7 +39,7 @@ boundary-count_ended pieces at k place have some within is =
     }
 
 -- the rest of the piece in which a place lies is next, and ends at a boundary
-pub rest-next : (pieces : List (List ℕ)) (at k : ℕ) (bytes : List ℕ) → HaveEnded pieces at k → at < length (framed pieces) → bytes ≡ drop (at - begin_of pieces k) (get_or pieces k [])
+pub rest-next : (pieces : List (List ℕ)) (at k : ℕ) (bytes : List ℕ) → HaveEnded pieces at k → at < length (framed_bytes pieces) → bytes ≡ drop (at - begin_of pieces k) (get_or pieces k [])
     → IsNext pieces at bytes × (at + length bytes ≡ begin_of pieces (k + 1))
 rest-next pieces at k bytes have within are =
     let inside = count_ended-within pieces at k have within in
@@ -109,7 +109,7 @@ pub record IsIn (run : Run) (at k : ℕ) (piece : Piece) : Type 0 where
   pub begins : begin_of (run_pieces run) k ≤ at
   pub number : k < length (run_pieces run)
 
-pub is-in : (run : Run) (at k : ℕ) (piece : Piece) → HaveEnded (run_pieces run) at k → at < length (framed (run_pieces run)) → slice_get (pieces_in run) k ≡ Some piece → IsSound run.film piece → IsIn run at k piece
+pub is-in : (run : Run) (at k : ℕ) (piece : Piece) → HaveEnded (run_pieces run) at k → at < length (framed_bytes (run_pieces run)) → slice_get (pieces_in run) k ≡ Some piece → IsSound run.film piece → IsIn run at k piece
 is-in run at k piece have within found sound =
     let pieces = run_pieces run in
     let number = count_ended-within pieces at k have within in

@@ -17,7 +17,7 @@ use Rattle.film_frames.specs.Pieces.{count_of, frames_in, octets_in, octets_of, 
 use Rattle.film_frames.specs.Pieces.{unit_pieces, wire_size}
 use Rattle.film_frames.specs.Runs.{Run, blocks_from, payload, piece_bytes, run_of, run_pieces}
 use Rattle.film_frames.specs.Runs.{pieces_in}
-use Rattle.film_frames.specs.Tracks.{framed}
+use Rattle.film_frames.specs.Tracks.{framed_bytes}
 use Rattle.film_frames.proofs.BackLemmas.{get-drop, run-sum}
 use Rattle.film_frames.proofs.RunLemmas.{blocks_from-at, blocks_from-count}
 
@@ -70,7 +70,7 @@ sum-next f (u ∷ units) (suc k) unit is =
     ∙ omega (arith, sum-next f units k unit is, sum_by-cons (λ n. n) (f u) (map f (take (k + 1) units)), sum_by-cons (λ n. n) (f u) (map f (take k units)))
 
 pub unit-blocks : (film : Film) (first_unit number : ℕ) (identity : Identity) (unit : PictureUnit) → first_unit ≤ number → number < length film.units.items → slice_get film.units.items number ≡ Some unit
-    → length (framed (run_pieces (run_of film first_unit (number + 1) identity))) ≡ length (framed (run_pieces (run_of film first_unit number identity))) + wire_size film.slice_starts.items unit
+    → length (framed_bytes (run_pieces (run_of film first_unit (number + 1) identity))) ≡ length (framed_bytes (run_pieces (run_of film first_unit number identity))) + wire_size film.slice_starts.items unit
 unit-blocks film first_unit number identity unit order within is =
     let units = drop first_unit film.units.items in
     let k = number - first_unit in

@@ -13,7 +13,7 @@ use Rattle.film_frames.specs.declared.pieces.Piece.TheVariants.{Report, Frame}
 use Rattle.film_frames.specs.Pieces.{count_of, frames_in, octets_in, octets_of, wire_in, wire_of}
 use Rattle.film_frames.specs.Tables.{IsSound}
 use Rattle.film_frames.specs.Runs.{HaveEnded, Run, count_ended, blocks_from, payload, piece_bytes}
-use Rattle.film_frames.specs.Tracks.{begin_of, framed}
+use Rattle.film_frames.specs.Tracks.{begin_of, framed_bytes}
 use Rattle.film_frames.proofs.PieceLemmas.{AreSound}
 use Rattle.film_frames.proofs.TrackLemmas.{AreEnds, begin-all, begin-le, begin-none}
 
@@ -78,7 +78,7 @@ frames-le (Frame unit p ∷ pieces) = omega (arith, frames-le pieces, sum_by-con
 
 -- ---- the pieces that have ended
 
-pub have-count_ended : (base : ℕ) (pieces : List (List ℕ)) (ends : List ℕ) (at upto k : ℕ) → AreEnds base pieces ends → k ≤ length ends → upto ≤ at → (upto < at → upto ≡ length (framed pieces))
+pub have-count_ended : (base : ℕ) (pieces : List (List ℕ)) (ends : List ℕ) (at upto k : ℕ) → AreEnds base pieces ends → k ≤ length ends → upto ≤ at → (upto < at → upto ≡ length (framed_bytes pieces))
     → ((j : ℕ) → j < k → get_or ends j 0 < base + upto + 1) → (k < length ends → base + upto + 1 ≤ get_or ends k 0) → HaveEnded pieces at k
 have-count_ended base pieces ends at upto k are among least cut below from = record {
   among = omega (arith, among, are.count);
@@ -100,7 +100,7 @@ have-count_ended base pieces ends at upto k are among least cut below from = rec
 }
 
 pub begin-cons : (piece : List ℕ) (pieces : List (List ℕ)) (k : ℕ) → begin_of (piece ∷ pieces) (suc k) ≡ length piece + begin_of pieces k
-begin-cons piece pieces k = length-append piece (framed (take k pieces))
+begin-cons piece pieces k = length-append piece (framed_bytes (take k pieces))
 
 pub begin-next : (piece : List ℕ) (pieces : List (List ℕ)) (k : ℕ) → begin_of (piece ∷ pieces) (suc k + 1) ≡ length piece + begin_of pieces (k + 1)
 begin-next piece pieces k =

@@ -12,7 +12,7 @@ use Rattle.film_frames.specs.declared.pieces.Piece.{Piece}
 use Rattle.film_frames.specs.Pieces.{count_of, film_pieces, frames_in, front_pieces, pieces_of}
 use Rattle.film_frames.specs.Pieces.{wire_in, wire_of}
 use Rattle.film_frames.specs.Runs.{Run, run_of, run_pieces, pieces_in}
-use Rattle.film_frames.specs.Tracks.{begin_of, framed}
+use Rattle.film_frames.specs.Tracks.{begin_of, framed_bytes}
 use Rattle.film_frames.proofs.TrackLemmas.{AreEnds, begin-all}
 use Rattle.film_frames.proofs.PieceLemmas.{length-le-wire, AreSound, sound-left, sound-right}
 use Rattle.film_frames.proofs.FilmLemmas.{film-bound, film-sound, film-wire}
@@ -135,7 +135,7 @@ run-ends film first_unit end_unit identity run first end base ends is first_is e
 
 -- the bytes of the run and all before it
 pub run-total : (film : Film) (first_unit end_unit : ℕ) (identity : Identity) (run : Run) → IsRun film first_unit end_unit identity run
-    → wire_in (take (length (front_pieces film first_unit)) (film_pieces film)) + length (framed (run_pieces run)) ≤ 2 ^ 42
+    → wire_in (take (length (front_pieces film first_unit)) (film_pieces film)) + length (framed_bytes (run_pieces run)) ≤ 2 ^ 42
 run-total film first_unit end_unit identity run is =
     let n = length (pieces_in run) in
     let sum = run-wire film first_unit end_unit identity run n (length (front_pieces film first_unit) + n) is (omega arith) refl in

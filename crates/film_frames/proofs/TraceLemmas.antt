@@ -10,16 +10,16 @@ use Rattle.std.proofs.lemmas.List.Sums.{sum_by-cons, sum_by-take-le, sum_by_more
 use Rattle.std.proofs.lemmas.Bool.{cases_lt, cases_eq}
 use Rattle.film_frames.proofs.TrackLemmas.{AreEnds, begin-all, begin-none, begin-more, found-begins}
 use Rattle.film_frames.proofs.TrackLemmas.{next-found}
-use Rattle.film_frames.specs.Tracks.{framed, begin_of, IsNext, IsTrace, zero_frames, differences}
+use Rattle.film_frames.specs.Tracks.{framed_bytes, begin_of, IsNext, IsTrace, zero_frames, differences}
 use Rattle.film_frames.specs.Tracks.{running_sums}
 
-pub length-zeros : (sizes : List ℕ) → length (framed (zero_frames sizes)) ≡ sum sizes
+pub length-zeros : (sizes : List ℕ) → length (framed_bytes (zero_frames sizes)) ≡ sum sizes
 length-zeros [] = refl
 length-zeros (size ∷ sizes) =
-    omega (arith, length-append (replicate size 0) (framed (zero_frames sizes)), length-replicate {A = ℕ} size 0, length-zeros sizes, sum_by-cons (λ x. x) size sizes)
+    omega (arith, length-append (replicate size 0) (framed_bytes (zero_frames sizes)), length-replicate {A = ℕ} size 0, length-zeros sizes, sum_by-cons (λ x. x) size sizes)
 
 begin-zeros : (sizes : List ℕ) (k : ℕ) → begin_of (zero_frames sizes) k ≡ sum (take k sizes)
-begin-zeros sizes k = ap (λ (l : List (List ℕ)). length (framed l)) (take-map (λ size. replicate size 0) k sizes) ∙ length-zeros (take k sizes)
+begin-zeros sizes k = ap (λ (l : List (List ℕ)). length (framed_bytes l)) (take-map (λ size. replicate size 0) k sizes) ∙ length-zeros (take k sizes)
 
 length-running_sums : (from : ℕ) (sizes : List ℕ) → length (running_sums from sizes) ≡ length sizes
 length-running_sums from [] = refl
@@ -66,7 +66,7 @@ trace-track ends now sizes same seen is =
     let Q : List ℕ → Type 0 = λ l. AreEnds 0 (zero_frames l) ends in
     subst P (sym same) (subst Q seen (trace-ends ends is))
 
-pub trace-total : (ends sizes : List ℕ) → differences 0 ends ≡ sizes → IsTrace ends → length (framed (zero_frames sizes)) ≤ 2 ^ 42
+pub trace-total : (ends sizes : List ℕ) → differences 0 ends ≡ sizes → IsTrace ends → length (framed_bytes (zero_frames sizes)) ≤ 2 ^ 42
 trace-total ends sizes seen is =
     let are = trace-track ends ends sizes refl seen is in
     let all = begin-all (zero_frames sizes) in
@@ -79,7 +79,7 @@ trace-total ends sizes seen is =
     ]
 
 -- the last end is the length of all
-pub trace-last-now : (kept ends sizes : List ℕ) → ends ≡ kept → differences 0 kept ≡ sizes → IsTrace kept → 0 < length ends → get_or ends (length ends - 1) 0 ≡ length (framed (zero_frames sizes))
+pub trace-last-now : (kept ends sizes : List ℕ) → ends ≡ kept → differences 0 kept ≡ sizes → IsTrace kept → 0 < length ends → get_or ends (length ends - 1) 0 ≡ length (framed_bytes (zero_frames sizes))
 trace-last-now kept ends sizes now seen is some =
     let are = trace-track kept ends sizes now seen is in
     let last = length ends - 1 in

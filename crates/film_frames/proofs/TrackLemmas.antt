@@ -10,7 +10,7 @@ use Rattle.std.proofs.lemmas.List.Concat.{flat_map-append, length-flat_map}
 use Rattle.std.proofs.lemmas.List.Sums.{sum_by_more, sum_by-take-le}
 use Rattle.std.proofs.lemmas.List.Sorted.{IsNonDecreasingBy-from_default}
 use Rattle.std.proofs.lemmas.Bool.{cases_lt}
-use Rattle.film_frames.specs.Tracks.{framed, begin_of, IsBoundaryAfter, IsNext}
+use Rattle.film_frames.specs.Tracks.{framed_bytes, begin_of, IsBoundaryAfter, IsNext}
 
 -- these are the ends of pieces, counted from a place before the first of them
 pub record AreEnds (base : ℕ) (pieces : List (List ℕ)) (ends : List ℕ) : Type 0 where
@@ -30,8 +30,8 @@ begin-le pieces k j h =
     let same : sum_by length (take k (take j pieces)) ≡ sum_by length (take k pieces) = ap (λ (l : List (List ℕ)). sum_by length l) (take-take k j pieces h) in
     omega (arith, part, same, begin-sum pieces k, begin-sum pieces j)
 
-pub begin-all : (pieces : List (List ℕ)) → begin_of pieces (length pieces) ≡ length (framed pieces)
-begin-all pieces = ap (λ (l : List (List ℕ)). length (framed l)) (take_all (length pieces) pieces (omega arith))
+pub begin-all : (pieces : List (List ℕ)) → begin_of pieces (length pieces) ≡ length (framed_bytes pieces)
+begin-all pieces = ap (λ (l : List (List ℕ)). length (framed_bytes l)) (take_all (length pieces) pieces (omega arith))
 
 pub begin-none : (pieces : List (List ℕ)) (k : ℕ) → k ≡ 0 → begin_of pieces k ≡ 0
 begin-none pieces k none = let P : ℕ → Type 0 = λ n. begin_of pieces n ≡ 0 in subst P (sym none) refl
@@ -42,7 +42,7 @@ ends-rise base pieces ends are = IsNonDecreasingBy-from_default (λ x. x) ends 0
     omega (arith, are.each i (omega (arith, h, l)), are.each j l, begin-le pieces (i + 1) (j + 1) (omega (arith, h))))
 
 -- a search's answer is a piece's number, where not all ends lie below the place
-pub found : (base : ℕ) (pieces : List (List ℕ)) (ends : List ℕ) (at k : ℕ) → AreEnds base pieces ends → 0 < at → at ≤ length (framed pieces)
+pub found : (base : ℕ) (pieces : List (List ℕ)) (ends : List ℕ) (at k : ℕ) → AreEnds base pieces ends → 0 < at → at ≤ length (framed_bytes pieces)
     → k ≤ length ends → ((j : ℕ) → j < k → get_or ends j 0 < base + at) → k < length ends
 found base pieces ends at k are some within count below =
     elim (cases_lt k (length ends)) [
@@ -100,17 +100,17 @@ boundary-zero pieces = record {
 
 -- the bytes of a track within a piece are the piece's
 bytes-within : (pieces : List (List ℕ)) (k o n : ℕ) → k < length pieces → o + n ≤ length (get_or pieces k [])
-    → take n (drop (begin_of pieces k + o) (framed pieces)) ≡ take n (drop o (get_or pieces k []))
+    → take n (drop (begin_of pieces k + o) (framed_bytes pieces)) ≡ take n (drop o (get_or pieces k []))
 bytes-within pieces k o n within fits =
-    let before = framed (take k pieces) in
+    let before = framed_bytes (take k pieces) in
     let piece = get_or pieces k [] in
-    let rest = framed (drop (k + 1) pieces) in
-    let split : framed pieces ≡ before ++ (piece ++ rest) =
-    ap (λ (l : List (List ℕ)). framed l) (sym (take-append-drop k pieces))
+    let rest = framed_bytes (drop (k + 1) pieces) in
+    let split : framed_bytes pieces ≡ before ++ (piece ++ rest) =
+    ap (λ (l : List (List ℕ)). framed_bytes l) (sym (take-append-drop k pieces))
     ∙ flat_map-append (λ (p : List ℕ). p) (take k pieces) (drop k pieces)
-    ∙ ap (λ (l : List (List ℕ)). before ++ framed l) (drop_more pieces k [] within) in
-    let past : drop (length before + o) (framed pieces) ≡ drop o (piece ++ rest) =
-    sym (drop-drop o (length before) (framed pieces))
+    ∙ ap (λ (l : List (List ℕ)). before ++ framed_bytes l) (drop_more pieces k [] within) in
+    let past : drop (length before + o) (framed_bytes pieces) ≡ drop o (piece ++ rest) =
+    sym (drop-drop o (length before) (framed_bytes pieces))
     ∙ ap (λ (l : List ℕ). drop o (drop (length before) l)) split
     ∙ ap (λ (l : List ℕ). drop o l) (drop_at before (piece ++ rest) (length before) refl) in
     ap (λ (l : List ℕ). take n l) (past ∙ drop-append-le o piece rest (omega (arith, fits)))
@@ -127,7 +127,7 @@ next-found pieces at k n bytes within begins some ends are =
     let place : begin_of pieces k + o ≡ at = omega (arith, begins) in
     record {
       some = omega (arith, some, count);
-      bytes_are = are ∙ sym (bytes-within pieces k o n within fits) ∙ ap (λ i. take n (drop i (framed pieces))) place ∙ ap (λ m. take m (drop at (framed pieces))) (sym count);
+      bytes_are = are ∙ sym (bytes-within pieces k o n within fits) ∙ ap (λ i. take n (drop i (framed_bytes pieces))) place ∙ ap (λ m. take m (drop at (framed_bytes pieces))) (sym count);
       one_piece = λ other b h.
           elim (cases_lt k b.number) [
             | inl l ↦ omega (arith, begin-le pieces (k + 1) b.number (omega (arith, l)), b.place_is, ends, count)

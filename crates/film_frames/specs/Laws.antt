@@ -11,7 +11,7 @@ use Rattle.interleave.specs.Pieces.{StartsBlock, block_length}
 use Rattle.film_frames.specs.declared.pieces.Piece.{Piece}
 use Rattle.film_frames.specs.declared.pieces.Piece.TheVariants.{Report, Frame}
 use Rattle.film_frames.specs.Pieces.{frames_in, octets_of}
-use Rattle.film_frames.specs.Runs.{Run, frames_before, interleaved, octets_before, run_pieces}
+use Rattle.film_frames.specs.Runs.{Run, frames_before, interleaved_block, octets_before, run_pieces}
 use Rattle.film_frames.specs.Runs.{pieces_in}
 use Rattle.film_frames.specs.Tracks.{begin_of}
 
@@ -87,7 +87,7 @@ abbrev pub counted_report : Run → PictureUnit → ℕ → List ℕ
 counted_report run unit at =
     let report = unit_report run.identity (picture_time run.rate) unit (frames_before run at)
     (octets_before run at) in
-    interleaved run.identity.control (report_bytes report)
+    interleaved_block run.identity.control (report_bytes report)
 
 abbrev pub DoReportsCount : Run → Type 0
 DoReportsCount run =

@@ -38,8 +38,8 @@ abbrev pub pieces_in : Run → List Piece
 pieces_in run = pieces_of run.slice_starts run.units
 
 -- bytes in an interleaved block: `$`, the channel, the length in two bytes, and the bytes
-abbrev pub interleaved : ℕ → List ℕ → List ℕ
-interleaved channel block = 36 ∷ channel ∷ (length block / 256) ∷ (length block % 256) ∷ block
+abbrev pub interleaved_block : ℕ → List ℕ → List ℕ
+interleaved_block channel block = 36 ∷ channel ∷ (length block / 256) ∷ (length block % 256) ∷ block
 
 -- the bytes of a film that a packet carries
 abbrev pub payload : List ℕ → Packet → List ℕ
@@ -48,10 +48,10 @@ payload film packet = take (packet.to - packet.from) (drop packet.from film)
 -- the bytes of a piece that has so many frames and octets of its run before it
 abbrev pub piece_bytes : Run → ℕ → ℕ → Piece → List ℕ
 piece_bytes run frames octets (Report unit) =
-    interleaved run.identity.control
+    interleaved_block run.identity.control
     (report_bytes (unit_report run.identity (picture_time run.rate) unit frames octets))
 piece_bytes run frames octets (Frame unit packet) =
-    interleaved run.identity.channel
+    interleaved_block run.identity.channel
     (head_bytes (packet_head run.identity (picture_time run.rate) unit packet frames)
     ++ payload run.film packet)
 

@@ -4,12 +4,12 @@ use Rattle.std.specs.Prelude.{ℕ, ◌+◌, ◌-◌, ◌<◌, ◌≤◌, ◌≡�
 use Rattle.std.specs.Prelude.{map, flat_map, replicate, get_or}
 
 -- all bytes of pieces, one piece after another
-abbrev pub framed : List (List ℕ) → List ℕ
-framed pieces = flat_map (λ piece. piece) pieces
+abbrev pub framed_bytes : List (List ℕ) → List ℕ
+framed_bytes pieces = flat_map (λ piece. piece) pieces
 
 -- where the piece of that number begins: the bytes of the pieces before it
 abbrev pub begin_of : List (List ℕ) → ℕ → ℕ
-begin_of pieces number = length (framed (take number pieces))
+begin_of pieces number = length (framed_bytes (take number pieces))
 
 -- a boundary is 0 or the end of a piece
 pub record IsBoundary (pieces : List (List ℕ)) (place : ℕ) : Type 0 where
@@ -26,7 +26,7 @@ pub record IsBoundaryAfter (pieces : List (List ℕ)) (at place : ℕ) : Type 0 
 -- the next bytes of a track from `at` on: at least one, and none after the next boundary
 pub record IsNext (pieces : List (List ℕ)) (at : ℕ) (bytes : List ℕ) : Type 0 where
   pub some : 1 ≤ length bytes
-  pub bytes_are : bytes ≡ take (length bytes) (drop at (framed pieces))
+  pub bytes_are : bytes ≡ take (length bytes) (drop at (framed_bytes pieces))
   pub one_piece : (other : ℕ) → IsBoundary pieces other → at < other → at + length bytes ≤ other
 
 -- frames of zero bytes, of these sizes

@@ -8,7 +8,7 @@ ghost use Rattle.film_frames.specs.Runs.{payload, piece_bytes};
 ghost use Rattle.film_frames.specs.Runs.{run_of, run_pieces, pieces_in};
 ghost use Rattle.film_frames.specs.Tables.{IsCut, IsSound};
 ghost use Rattle.film_frames.specs.declared.pieces.Piece.TheVariants.{Frame, Report};
-ghost use Rattle.film_frames.specs.Tracks.{IsBoundary, IsNext, begin_of, framed};
+ghost use Rattle.film_frames.specs.Tracks.{IsBoundary, IsNext, begin_of, framed_bytes};
 
 use crate::heads::{put_frame_heads, report_block};
 use crate::pieces::{HEADS, Piece, REPORT};
@@ -205,7 +205,7 @@ impl Track for Frames<'_> {
     /// The bytes from `at` on to the end of its report or frame. The payload is lent from the
     /// film's bytes, and a report has none.
     fn part(&self, at: u64, head: &mut [u8; 52]) -> Part<'_>
-        requires { at < length (framed (run_pieces self.now)) }
+        requires { at < length (framed_bytes (run_pieces self.now)) }
         ensures order { result.head_from ≤ result.head_to }
         ensures within { result.head_to ≤ 52 }
         ensures bytes { IsNext (run_pieces self.now) at

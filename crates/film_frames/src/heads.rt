@@ -1,14 +1,14 @@
 ghost use Rattle.std.specs.Prelude.{◌≡◌, ◌+◌, ◌++◌, ◌≤◌, ◌/◌, ◌%◌, ◌∷◌, take};
 ghost use Rattle.rtp_pack.specs.Heads.{head_bytes};
 ghost use Rattle.rtp_pack.specs.Reports.{report_bytes};
-ghost use Rattle.film_frames.specs.Runs.{interleaved};
+ghost use Rattle.film_frames.specs.Runs.{interleaved_block};
 
 use interleave::frame_head;
 use rtp_pack::{Head, Report, write_head, write_report};
 
 /// A report with its interleaved head.
 pub(crate) fn report_block(control: u8, report: &Report) -> [u8; 52]
-    ensures { result ≡ interleaved control (report_bytes report.now) }
+    ensures { result ≡ interleaved_block control (report_bytes report.now) }
 {
     let mut block = [0; 52];
     block[..4].copy_from_slice(&frame_head(control, 48));

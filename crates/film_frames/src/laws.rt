@@ -6,7 +6,7 @@ ghost use Rattle.film_frames.specs.Laws.{run_frames};
 ghost use Rattle.film_frames.specs.Pieces.{frames_in, wire_size};
 ghost use Rattle.film_frames.specs.Runs.{HaveEnded, Run, count_ended, run_of, run_pieces};
 ghost use Rattle.film_frames.specs.Runs.{pieces_in};
-ghost use Rattle.film_frames.specs.Tracks.{framed};
+ghost use Rattle.film_frames.specs.Tracks.{framed_bytes};
 
 use mpeg_scan::Film;
 use rtp_pack::Identity;
@@ -75,7 +75,7 @@ pub fn law_piece_sizes(film: &Film, first_unit: usize, end_unit: usize, identity
     ensures pieces { HaveSizes (pieces_in (run_of film.now first_unit end_unit identity))
         (run_pieces (run_of film.now first_unit end_unit identity)) }
     ensures blocks { AreBlocks (run_pieces (run_of film.now first_unit end_unit identity)) }
-    ensures all { length (framed (run_pieces (run_of film.now first_unit end_unit identity)))
+    ensures all { length (framed_bytes (run_pieces (run_of film.now first_unit end_unit identity)))
         ≡ sum (map (λ u. wire_size film.now.slice_starts.items u)
         (take (end_unit - first_unit) (drop first_unit film.now.units.items))) }
 {
@@ -103,8 +103,8 @@ pub fn law_unit_blocks(film: &Film, first_unit: usize, unit: usize, identity: Id
     requires order { first_unit ≤ unit }
     requires within { unit < length film.now.units.items }
     ensures { OfUnit film.now.units.items unit (λ u.
-        length (framed (run_pieces (run_of film.now first_unit (unit + 1) identity)))
-        ≡ length (framed (run_pieces (run_of film.now first_unit unit identity)))
+        length (framed_bytes (run_pieces (run_of film.now first_unit (unit + 1) identity)))
+        ≡ length (framed_bytes (run_pieces (run_of film.now first_unit unit identity)))
         + wire_size film.now.slice_starts.items u) }
 {
     let _read = (film.bytes.len(), first_unit, unit, identity);

@@ -1,6 +1,6 @@
 ghost use Rattle.std.specs.Prelude.{◌≡◌, ◌++◌, ◌+◌, ◌-◌, ◌^◌, ◌<◌, ◌≤◌, List, ℕ, length, min};
 ghost use Rattle.std.specs.Prelude.{replicate, slice_range, sum, Ok};
-ghost use Rattle.film_frames.specs.Tracks.{IsBoundaryAfter, IsNext, framed, zero_frames};
+ghost use Rattle.film_frames.specs.Tracks.{IsBoundaryAfter, IsNext, framed_bytes, zero_frames};
 
 use crate::searches::ends_below;
 use crate::tracks::{Part, Track};
@@ -76,7 +76,7 @@ impl Track for TraceTrack {
 
     /// The bytes from `at` on, none of them in the head: what is left of the frame, or 1,024 of it.
     fn part(&self, at: u64, _head: &mut [u8; 52]) -> Part<'_>
-        requires { at < length (framed (zero_frames self.now)) }
+        requires { at < length (framed_bytes (zero_frames self.now)) }
         ensures order { result.head_from ≤ result.head_to }
         ensures within { result.head_to ≤ 52 }
         ensures bytes { IsNext (zero_frames self.now) at

@@ -1,5 +1,5 @@
 ghost use Rattle.std.specs.Prelude.{◌≡◌, ◌<◌, ◌≤◌, ◌++◌, ℕ, List, length, slice_range};
-ghost use Rattle.film_frames.specs.Tracks.{IsBoundaryAfter, IsNext, framed};
+ghost use Rattle.film_frames.specs.Tracks.{IsBoundaryAfter, IsNext, framed_bytes};
 
 /// The next bytes of a track: a range of a head that was written, and then a payload.
 #[derive(Debug, Drop)]
@@ -19,18 +19,18 @@ pub trait Track {
 
     /// The length of all pieces, in bytes.
     fn total(&self) -> u64
-        ensures { result ≡ length (framed (pieces self.now)) };
+        ensures { result ≡ length (framed_bytes (pieces self.now)) };
 
     /// The least boundary that is at least `at`. A boundary is 0 or the end of a piece.
     fn boundary_after(&self, at: u64) -> u64
-        requires { at ≤ length (framed (pieces self.now)) }
+        requires { at ≤ length (framed_bytes (pieces self.now)) }
         ensures { IsBoundaryAfter (pieces self.now) at result };
 
     /// The bytes from `at` on: at least one, and none after the end of the piece.
     ///
     /// They are `head[head_from..head_to]` and then the payload.
     fn part(&self, at: u64, head: &mut [u8; 52]) -> Part<'_>
-        requires { at < length (framed (pieces self.now)) }
+        requires { at < length (framed_bytes (pieces self.now)) }
         ensures order { result.head_from ≤ result.head_to }
         ensures within { result.head_to ≤ 52 }
         ensures bytes { IsNext (pieces self.now) at

@@ -5,7 +5,7 @@ use Rattle.plan_cert.specs.declared.Segment.{Segment}
 use Rattle.plan_cert.specs.Slots.{sum_through, total_bytes, total_slots}
 use Rattle.plan_cert.proofs.SlotLaws.{sum_through_rises}
 use Rattle.wire_curve.specs.declared.film.Timing.{Timing}
-use Rattle.wire_curve.specs.FilmCurves.{IsWithinLimits, due, used_before}
+use Rattle.wire_curve.specs.FilmCurves.{IsWithinLimits, due_slot, used_before}
 use Rattle.wire_curve.proofs.UseLaws.{used_before-none}
 use Rattle.film_run.specs.declared.runs.Run.{Run}
 use Rattle.film_run.specs.declared.plans.Playback.{Playback}
@@ -96,7 +96,7 @@ kept-small sizes playback run plan last keep h = omega (
 -- the last picture isn't used before the slot of the stop
 pub goes-on : (sizes : List ℕ) (playback : Playback) (run : Run) (plan : List Segment) (last : Option ℕ) (keep from stop : ℕ)
     → IsHalting sizes playback run plan last keep → run.from_unit ≤ from → from < run.end_unit → stop < total_slots plan
-    → due (timing_of playback run) (from - run.from_unit) < stop → from + 1 < run.end_unit
+    → due_slot (timing_of playback run) (from - run.from_unit) < stop → from + 1 < run.end_unit
 goes-on sizes playback run plan last keep from stop h order within inside used =
     let count = length-between sizes run.from_unit run.end_unit h.is.within in
     let keeps = halting-keeps sizes playback run plan last keep h in
@@ -104,21 +104,21 @@ goes-on sizes playback run plan last keep from stop h order within inside used =
       | inl less ↦ less
       | inr end ↦
           let last_picture : from - run.from_unit ≡ length (rest_sizes sizes run) - 1 = omega arith in
-          let same = ap (due (timing_of playback run)) last_picture in
+          let same = ap (due_slot (timing_of playback run)) last_picture in
           absurd (omega (arith, same, keeps.slots))
     ]
 
 -- the bytes that were played
 pub played-by : (sizes : List ℕ) (playback : Playback) (run : Run) (from stop : ℕ) → IsPlayback playback → IsRun sizes run → run.from_unit ≤ from
-    → from < run.end_unit → ((unit : ℕ) → run.from_unit ≤ unit → unit < from → due (timing_of playback run) (unit - run.from_unit) < stop)
-    → stop ≤ due (timing_of playback run) (from - run.from_unit)
+    → from < run.end_unit → ((unit : ℕ) → run.from_unit ≤ unit → unit < from → due_slot (timing_of playback run) (unit - run.from_unit) < stop)
+    → stop ≤ due_slot (timing_of playback run) (from - run.from_unit)
     → bytes_between sizes run.first_unit from ≡ used_before (rest_sizes sizes run) (timing_of playback run) stop
 played-by sizes playback run from stop plays is order within used unused =
     let n = from - run.from_unit in
     let count = length-between sizes run.from_unit run.end_unit is.within in
     let its = λ (k : ℕ) (lt : k < n).
     let back : (run.from_unit + k) - run.from_unit ≡ k = omega arith in
-    subst (λ u. due (timing_of playback run) u < stop) back (used (run.from_unit + k) (omega arith) (omega arith)) in
+    subst (λ u. due_slot (timing_of playback run) u < stop) back (used (run.from_unit + k) (omega arith) (omega arith)) in
     let front = used-front (rest_sizes sizes run) (timing_of playback run) stop n plays.some_slot_units (omega (arith, count)) its unused in
     let first = bytes-first sizes run.from_unit run.end_unit n (omega arith) in
     let end : run.from_unit + n ≡ from = omega arith in

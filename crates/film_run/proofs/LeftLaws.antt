@@ -3,7 +3,7 @@ use Rattle.std.proofs.Common.{◌≡◌, ℕ, ◌+◌, ◌-◌, ◌<◌, ◌≤�
 use Rattle.std.proofs.lemmas.Bool.{cases_lt}
 use Rattle.plan_cert.specs.declared.Segment.{Segment}
 use Rattle.plan_cert.specs.Slots.{sum_through, total_bytes, total_slots}
-use Rattle.wire_curve.specs.FilmCurves.{due, slot_count, used_before}
+use Rattle.wire_curve.specs.FilmCurves.{due_slot, slot_count, used_before}
 use Rattle.wire_curve.proofs.UseLaws.{used_before-all}
 use Rattle.film_run.specs.declared.runs.Run.{Run}
 use Rattle.film_run.specs.declared.plans.Playback.{Playback}
@@ -96,7 +96,7 @@ halted-plays sizes playback run plan is = λ last keep left halt its.
       | inr past ↦
           let used = its.used (run.end_unit - 1) (omega (arith, can.run_is.rest)) (omega (arith, can.run_is.rest)) in
           let last_picture : (run.end_unit - 1) - run.from_unit ≡ length rest - 1 = omega (arith, count) in
-          let same = ap (due timing) last_picture in
+          let same = ap (due_slot timing) last_picture in
           absurd (omega (arith, used, same, keeps.slots, inside))
     ] in
     let played = played-by sizes playback run left.from_unit its.stop can.playback_is can.run_is its.not_back within its.used its.unused in

@@ -3,7 +3,7 @@ use Rattle.std.proofs.Common.{◌≡◌, ℕ, zero, suc, ◌+◌, ◌-◌, ◌<�
 use Rattle.std.specs.List.{range_with_len}
 use Rattle.plan_cert.specs.declared.Segment.{Segment}
 use Rattle.wire_curve.specs.declared.film.Timing.{Timing}
-use Rattle.wire_curve.specs.FilmCurves.{IsWithinLimits, due, used_before}
+use Rattle.wire_curve.specs.FilmCurves.{IsWithinLimits, due_slot, used_before}
 use Rattle.wire_curve.proofs.Sums.{sum_by-range_more, sum_by-range-le, sum_by-range-take}
 use Rattle.wire_curve.proofs.UseLaws.{cond_le, due_in_range, due_rises}
 use Rattle.film_run.specs.declared.runs.Run.{Run}
@@ -50,7 +50,7 @@ used-more sizes timing t n (suc d) =
     omega (arith, before, more, next)
 
 -- the first pictures are used by a slot
-used-least : (sizes : List ℕ) (timing : Timing) (t n : ℕ) → n ≤ length sizes → ((k : ℕ) → k < n → due timing k < t)
+used-least : (sizes : List ℕ) (timing : Timing) (t n : ℕ) → n ≤ length sizes → ((k : ℕ) → k < n → due_slot timing k < t)
     → timing.played + sum (take n sizes) ≤ used_before sizes timing t
 used-least sizes timing t n fits used =
     let part = used-part sizes timing t n fits used in
@@ -60,14 +60,14 @@ used-least sizes timing t n fits used =
     omega (arith, part, more, all)
 
 -- only the first pictures are
-used-most : (sizes : List ℕ) (timing : Timing) (t n : ℕ) → 1 ≤ timing.slot_units → n ≤ length sizes → t ≤ due timing n
+used-most : (sizes : List ℕ) (timing : Timing) (t n : ℕ) → 1 ≤ timing.slot_units → n ≤ length sizes → t ≤ due_slot timing n
     → used_before sizes timing t ≤ timing.played + sum (take n sizes)
 used-most sizes timing t n some fits unused =
-    let later = λ (k : ℕ) (le : n ≤ k). let rises = due_rises timing n k some le in let h : t ≤ due timing k = omega arith in h in
+    let later = λ (k : ℕ) (le : n ≤ k). let rises = due_rises timing n k some le in let h : t ≤ due_slot timing k = omega arith in h in
     let rest = used-rest sizes timing t n (length sizes - n) later in
     let same : n + (length sizes - n) ≡ length sizes = omega arith in
     let all = ap (λ m. sum_by (used_of sizes timing t) (range_with_len 0 m)) same in
-    let below = sum_by-range-le (used_of sizes timing t) (λ k. get_or sizes k 0) 0 n (λ k l u. cond_le (ltb (due timing k) t) (get_or sizes k 0)) in
+    let below = sum_by-range-le (used_of sizes timing t) (λ k. get_or sizes k 0) 0 n (λ k l u. cond_le (ltb (due_slot timing k) t) (get_or sizes k 0)) in
     omega (arith, rest, all, below, sum_by-range-take sizes n fits)
 
 -- the bytes of a run up to an unplayed unit
@@ -90,9 +90,9 @@ sending-in-time sizes playback run plan is = λ unit at.
     let some = is.can_play.playback_is.some_slot_units in
     let count = length-between sizes run.from_unit run.end_unit is.can_play.run_is.within in
     let range = due_in_range rest timing k some (omega (arith, count, at.from, at.before_end)) in
-    let above = (sending-keeps sizes playback run plan is).above (due timing k) range in
-    let its = λ (j : ℕ) (lt : j < k + 1). let rises = due_rises timing j k some (omega arith) in let h : due timing j < due timing k + 1 = omega (arith, rises) in h in
-    let least = used-least rest timing (due timing k + 1) (k + 1) (omega (arith, count, at.from, at.before_end)) its in
+    let above = (sending-keeps sizes playback run plan is).above (due_slot timing k) range in
+    let its = λ (j : ℕ) (lt : j < k + 1). let rises = due_rises timing j k some (omega arith) in let h : due_slot timing j < due_slot timing k + 1 = omega (arith, rises) in h in
+    let least = used-least rest timing (due_slot timing k + 1) (k + 1) (omega (arith, count, at.from, at.before_end)) its in
     let front = front-bytes sizes playback run plan (unit + 1) is (omega (arith, at.from)) (omega (arith, at.before_end)) in
     let same : (unit + 1) - run.from_unit ≡ k + 1 = omega (arith, at.from) in
     let place = ap (λ n. sum (take n rest)) same in

@@ -4,32 +4,32 @@ use Rattle.std.proofs.lemmas.Bool.{cases_lt}
 use Rattle.plan_cert.specs.declared.Segment.{Segment}
 use Rattle.plan_cert.specs.Slots.{sum_through}
 use Rattle.plan_cert.proofs.SlotLaws.{sum_through_rises}
-use Rattle.wire_curve.specs.FilmCurves.{due}
+use Rattle.wire_curve.specs.FilmCurves.{due_slot}
 use Rattle.wire_curve.proofs.UseLaws.{due_rises}
 use Rattle.film_run.specs.declared.runs.Run.{Run}
 use Rattle.film_run.specs.declared.plans.Playback.{Playback}
 use Rattle.film_run.specs.Plans.{timing_of}
 use Rattle.film_run.specs.Pauses.{IsLeft, IsStop}
-use Rattle.film_run.specs.Laws.{CountsUsed, IsSending, IsUnplayed, IsUsedBy, used_in}
+use Rattle.film_run.specs.Laws.{CountsUsed, IsSending, IsUnplayed, IsUsedBy, use_slot}
 
 -- a picture that is used before the slot of the stop, and one that is used in it or later
 used-before-stop : (playback : Playback) (run : Run) (plan : List Segment) (last : Option ℕ) (keep stop unit : ℕ)
-    → IsStop plan last keep stop → used_in playback run unit < stop → IsUsedBy playback run plan last keep unit
+    → IsStop plan last keep stop → use_slot playback run unit < stop → IsUsedBy playback run plan last keep unit
 used-before-stop playback run plan None keep stop unit is less = absurd (omega arith)
 used-before-stop playback run plan (Some last) keep stop unit is less =
-    elim (cases_lt (used_in playback run unit) last) [
+    elim (cases_lt (use_slot playback run unit) last) [
       | inl before ↦ inl before
-      | inr from ↦ inr (is.1.0.not_before (used_in playback run unit) (omega (arith, is.1.1)))
+      | inr from ↦ inr (is.1.0.not_before (use_slot playback run unit) (omega (arith, is.1.1)))
     ]
 
 unused-from-stop : (playback : Playback) (run : Run) (plan : List Segment) (last : Option ℕ) (keep stop unit : ℕ)
-    → IsStop plan last keep stop → stop ≤ used_in playback run unit → IsUsedBy playback run plan last keep unit → ⊥
+    → IsStop plan last keep stop → stop ≤ use_slot playback run unit → IsUsedBy playback run plan last keep unit → ⊥
 unused-from-stop playback run plan None keep stop unit is from its = its
 unused-from-stop playback run plan (Some last) keep stop unit is from its =
     elim its [
       | inl before ↦ omega (arith, is.1.1)
       | inr early ↦
-          let rises = sum_through_rises plan is.0 (used_in playback run unit) (omega (arith, is.1.1)) in
+          let rises = sum_through_rises plan is.0 (use_slot playback run unit) (omega (arith, is.1.1)) in
           let reached = is.1.0.reached in
           omega arith
     ]

@@ -6,7 +6,7 @@ use Rattle.mpeg_scan.specs.declared.films.Film.{Film}
 use Rattle.rtp_pack.specs.declared.reports.Identity.{Identity}
 use Rattle.film_frames.specs.Tracks.{IsBoundary}
 use Rattle.film_frames.specs.Runs.{run_of, run_pieces}
-use Rattle.wire_curve.specs.FilmCurves.{due}
+use Rattle.wire_curve.specs.FilmCurves.{due_slot}
 use Rattle.film_run.specs.declared.runs.Run.{Run}
 use Rattle.film_run.specs.declared.plans.Playback.{Playback}
 use Rattle.film_run.specs.Runs.{bytes_between}
@@ -20,8 +20,8 @@ pub record IsSending (sizes : List ℕ) (playback : Playback) (run : Run) (plan 
   pub plan_is : IsPlanOf sizes playback run plan
 
 -- the slot of a play in which a unit of its run is used
-abbrev pub used_in : Playback → Run → ℕ → ℕ
-used_in playback run unit = due (timing_of playback run) (unit - run.from_unit)
+abbrev pub use_slot : Playback → Run → ℕ → ℕ
+use_slot playback run unit = due_slot (timing_of playback run) (unit - run.from_unit)
 
 -- a fact of each run that is sent by a plan of its own
 abbrev pub OfSendings : (List ℕ → Playback → Run → List Segment → Type 0) → Type 0
@@ -40,14 +40,14 @@ abbrev pub AreInTime : List ℕ → Playback → Run → List Segment → Type 0
 AreInTime sizes playback run plan =
     (unit : ℕ) → IsUnplayed run unit
     → bytes_between sizes run.first_unit (unit + 1) ≤ run.sent
-    + sum_through plan (used_in playback run unit)
+    + sum_through plan (use_slot playback run unit)
 
 -- The buffer never overflows: what was sent by the end of a slot, without the pictures before one
 -- that is used in that slot or later, fits in it.
 abbrev pub DoesFit : List ℕ → Playback → Run → List Segment → Type 0
 DoesFit sizes playback run plan =
     (slot unit : ℕ) → slot < total_slots plan → IsUnplayed run unit →
-    slot ≤ used_in playback run unit
+    slot ≤ use_slot playback run unit
     → run.sent + sum_through plan slot ≤ bytes_between sizes run.first_unit unit + playback.buffer
 
 -- no other list of segments is the run's plan
@@ -74,7 +74,7 @@ LeavesRun sizes playback run plan =
 abbrev pub IsUsedBy : Playback → Run → List Segment → Option ℕ → ℕ → ℕ → Type 0
 IsUsedBy playback run plan None keep unit = ⊥
 IsUsedBy playback run plan (Some last) keep unit =
-    (used_in playback run unit < last) ⊎ (sum_through plan (used_in playback run unit) < keep)
+    (use_slot playback run unit < last) ⊎ (sum_through plan (use_slot playback run unit) < keep)
 
 -- what counts as played after a halt is exactly what the client has used by then
 abbrev pub CountsUsed : List ℕ → Playback → Run → List Segment → Type 0

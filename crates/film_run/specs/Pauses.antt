@@ -2,7 +2,7 @@
 use Rattle.std.specs.Prelude.{ℕ, ◌≡◌, ◌+◌, ◌-◌, ◌<◌, ◌≤◌, max, List, Option, Some, None}
 use Rattle.plan_cert.specs.declared.Segment.{Segment}
 use Rattle.plan_cert.specs.Slots.{sum_through, total_bytes, total_slots}
-use Rattle.wire_curve.specs.FilmCurves.{due, used_before}
+use Rattle.wire_curve.specs.FilmCurves.{due_slot, used_before}
 use Rattle.film_run.specs.declared.runs.Run.{Run}
 use Rattle.film_run.specs.declared.plans.Playback.{Playback}
 use Rattle.film_run.specs.Plans.{rest_sizes, timing_of}
@@ -40,5 +40,5 @@ pub record IsLeft (sizes : List ℕ) (playback : Playback) (run : Run) (plan : L
   pub played_is : left.played ≡ used_before (rest_sizes sizes run) (timing_of playback run) stop
   pub not_back : run.from_unit ≤ left.from_unit
   pub used : (unit : ℕ) → run.from_unit ≤ unit → unit < left.from_unit
-      → due (timing_of playback run) (unit - run.from_unit) < stop
-  pub unused : stop ≤ due (timing_of playback run) (left.from_unit - run.from_unit)
+      → due_slot (timing_of playback run) (unit - run.from_unit) < stop
+  pub unused : stop ≤ due_slot (timing_of playback run) (left.from_unit - run.from_unit)

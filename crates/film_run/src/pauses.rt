@@ -3,7 +3,7 @@
 ghost use Rattle.std.specs.Prelude.{◌≡◌, ◌+◌, ◌-◌, ◌<◌, ◌≤◌, ℕ, length, None, Some};
 ghost use Rattle.plan_cert.specs.Slots.{sum_through, total_bytes, total_slots};
 ghost use Rattle.plan_cert.specs.Plan.{IsPlan};
-ghost use Rattle.wire_curve.specs.FilmCurves.{due};
+ghost use Rattle.wire_curve.specs.FilmCurves.{due_slot};
 ghost use Rattle.film_run.specs.Runs.{Fits, IsRun};
 ghost use Rattle.film_run.specs.Plans.{IsPlanOf, IsPlayback, timing_of};
 ghost use Rattle.film_run.specs.Pauses.{IsHalt, IsLeft, IsStop, ReachesAt};
@@ -52,7 +52,7 @@ fn stop_slot(plan: &Plan, last: Option<u64>, keep: u64) -> u64
 fn due_slot(playback: &Playback, run: &Run, picture: u64) -> u64
     requires playback { IsPlayback playback.now }
     requires picture { picture < 4194304 }
-    ensures { result ≡ due (timing_of playback.now run.now) picture }
+    ensures { result ≡ due_slot (timing_of playback.now run.now) picture }
 {
     let _run = run;
     picture * u64::from(playback.picture_units) / u64::from(playback.slot_units) + playback.delay

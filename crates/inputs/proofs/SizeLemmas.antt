@@ -17,7 +17,7 @@ use Rattle.mpeg_scan.proofs.CountLemmas.{film-numbered}
 use Rattle.mpeg_scan.proofs.LaidLemmas.{film-chained, film-laid, part-fits}
 use Rattle.mpeg_scan.proofs.TileLemmas.{film-tiles}
 use Rattle.rtp_pack.specs.Packets.{lengths_to, unit_lengths}
-use Rattle.rtp_pack.specs.Sizes.{Measure, begun, frames_of, measured, with_slice}
+use Rattle.rtp_pack.specs.Sizes.{Measure, measure_from_head, frames_of, measure_of, with_slice}
 use Rattle.rtp_pack.proofs.SizeLemmas.{slices-append}
 use Rattle.film_frames.specs.Pieces.{wire_size}
 use Rattle.film_frames.proofs.PieceLemmas.{unit-bound, unit-le}
@@ -47,7 +47,7 @@ record IsMeasured (from head_end at n : ℕ) (past : List ℕ) (unit : Measure) 
   cur : List ℕ
   past_is : past ≡ before ++ cur
   count : n ≡ length cur
-  unit_is : unit ≡ measured (head_end - from) (lengths_to at cur)
+  unit_is : unit ≡ measure_of (head_end - from) (lengths_to at cur)
 
 abbrev Measures : Part → List ℕ → Measure → Type 0
 Measures (between at) past unit = Unit {0}
@@ -72,7 +72,7 @@ unit-size unit from head_end at n past rest m begin head end slices count so_far
     ap (λ t. lengths_to t so_far.cur) (sym end) ∙ ap (λ (l : List ℕ). lengths_to unit.to l) (sym starts) in
     let head_is : head_end - from ≡ unit.head_end - unit.from = ap (λ h. h - from) (sym head) ∙ ap (λ f. unit.head_end - f) (sym begin) in
     ap (λ (u : Measure). cond unit.starts_group 52 0 + frames_of u)
-    (so_far.unit_is ∙ ap (λ h. measured h (lengths_to at so_far.cur)) head_is ∙ ap (λ (l : List ℕ). measured (unit.head_end - unit.from) l) lengths)
+    (so_far.unit_is ∙ ap (λ h. measure_of h (lengths_to at so_far.cur)) head_is ∙ ap (λ (l : List ℕ). measure_of (unit.head_end - unit.from) l) lengths)
 
 sizes-told : (calls : List Call) (part : Part) (k : Count) (to : ℕ) (past : List ℕ) (s : Sizing) → parts_after (Some part) calls ≡ Some (between to) →
     IsSome (counts_after (Some k) calls) → k.slices ≡ length past → Measures part past s.unit →
@@ -88,10 +88,10 @@ sizes-told (head_call a b ∷ calls) (within from head_end at n) k to past s par
 sizes-told (slice_call a b ∷ calls) (within from head_end at n) k to past s parts counts slices so_far =
     let fits = part-fits (eqb a at && leb (a + 4) b) (within from head_end b (n + 1)) calls to parts in
     let same : a ≡ at = eqb-true a at (and_parts (eqb a at) (leb (a + 4) b) fits.0).0 in
-    let unit : with_slice s.unit (b - a) ≡ measured (head_end - from) (lengths_to b (so_far.cur ++ a ∷ [])) =
-    ap (λ (m : Measure). with_slice m (b - a)) (so_far.unit_is ∙ ap (λ t. measured (head_end - from) (lengths_to t so_far.cur)) (sym same))
-    ∙ sym (slices-append (lengths_to a so_far.cur) (begun (head_end - from)) (b - a))
-    ∙ ap (λ (l : List ℕ). measured (head_end - from) l) (sym (lengths-more so_far.cur a b)) in
+    let unit : with_slice s.unit (b - a) ≡ measure_of (head_end - from) (lengths_to b (so_far.cur ++ a ∷ [])) =
+    ap (λ (m : Measure). with_slice m (b - a)) (so_far.unit_is ∙ ap (λ t. measure_of (head_end - from) (lengths_to t so_far.cur)) (sym same))
+    ∙ sym (slices-append (lengths_to a so_far.cur) (measure_from_head (head_end - from)) (b - a))
+    ∙ ap (λ (l : List ℕ). measure_of (head_end - from) l) (sym (lengths-more so_far.cur a b)) in
     sizes-told calls (within from head_end b (n + 1)) (record k { slices = k.slices + 1 }) to (past ++ a ∷ []) (sizing_after_call s (slice_call a b)) fits.1 counts
     (omega (arith, slices, length-append past (a ∷ [])))
     (record {

@@ -3,7 +3,7 @@ use Rattle.std.proofs.Common.{◌≡◌, ℕ, ◌+◌, ◌<◌, Bool, true, fals
 use Rattle.std.proofs.lemmas.Bool.{and_from, and_parts, cases_Bool, false≢true, not_from_false}
 use Rattle.std.proofs.lemmas.List.{append-nil}
 use Rattle.std.specs.List.{list_all}
-use Rattle.inputs.specs.Traces.{AreSeparated, IsWord, Token, begins_token, is_blank, joined, tokens_from}
+use Rattle.inputs.specs.Traces.{AreSeparated, IsWord, Token, begins_token, is_blank, joined_tokens, tokens_from}
 use Rattle.inputs.proofs.Tokens.{tokens-blanks, word_list}
 
 -- what is separated so is read so
@@ -43,7 +43,7 @@ blank_front at b rest (token ∷ tokens) blank h = (
 first_word : (at b : ℕ) (rest : List ℕ) (token : Token) (tokens : List Token) (front after : List ℕ) → begins_token rest ≡ true → is_blank b ≡ false →
     (rest ≡ front ++ (token.bytes ++ after)) × (list_all is_blank front ≡ true) × IsWord token.bytes × (begins_token after ≡ false)
     × (token.from ≡ at + 1 + length front) × AreSeparated (token.from + length token.bytes) after tokens →
-    AreSeparated at (b ∷ rest) (joined at b true (token ∷ tokens))
+    AreSeparated at (b ∷ rest) (joined_tokens at b true (token ∷ tokens))
 first_word at b rest token tokens [] after begins word h =
     let next : token.from + length token.bytes ≡ at + length (b ∷ token.bytes) = omega (arith, h.4) in (
       [],
@@ -65,7 +65,7 @@ first_word at b rest token tokens (x ∷ front) after begins word h =
 
 -- a byte of a word more in front
 word_front : (at b : ℕ) (rest : List ℕ) (tokens : List Token) (begins : Bool) → begins_token rest ≡ begins → is_blank b ≡ false → AreSeparated (at + 1) rest tokens →
-    AreSeparated at (b ∷ rest) (joined at b begins tokens)
+    AreSeparated at (b ∷ rest) (joined_tokens at b begins tokens)
 word_front at b rest tokens false begins word h =
     ([], (rest, (refl, refl, (omega arith, and_from (not (is_blank b)) true (not_from_false (is_blank b) word) refl), begins, omega arith, h)))
 word_front at b [] [] true begins word h = absurd (false≢true begins)
@@ -79,7 +79,7 @@ pub separated_are : (text : List ℕ) (at : ℕ) → AreSeparated at text (token
 separated_are [] at = refl
 separated_are (b ∷ rest) at =
     let next : AreSeparated (at + 1) rest (tokens_from (at + 1) rest) = separated_are rest (at + 1) in
-    let reads : Bool → List Token = λ v. if v then tokens_from (at + 1) rest else joined at b (begins_token rest) (tokens_from (at + 1) rest) in
+    let reads : Bool → List Token = λ v. if v then tokens_from (at + 1) rest else joined_tokens at b (begins_token rest) (tokens_from (at + 1) rest) in
     elim (cases_Bool (is_blank b)) [
       | inl blank ↦ subst (AreSeparated at (b ∷ rest)) (sym (ap reads blank)) (blank_front at b rest (tokens_from (at + 1) rest) blank next)
       | inr word ↦ subst (AreSeparated at (b ∷ rest)) (sym (ap reads word)) (word_front at b rest (tokens_from (at + 1) rest) (begins_token rest) refl word next)

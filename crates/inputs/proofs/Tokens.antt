@@ -7,13 +7,13 @@ use Rattle.std.proofs.lemmas.List.Elements.{All-append, All-cons, All-nil}
 use Rattle.std.proofs.lemmas.List.Sums.{sum_by-append}
 use Rattle.std.specs.List.{list_all}
 use Rattle.vod_base.specs.Numbers.{number_of}
-use Rattle.inputs.specs.Traces.{is_blank, Token, begins_token, joined, tokens_from, IsTrace, IsBadTrace, AddsSize}
+use Rattle.inputs.specs.Traces.{is_blank, Token, begins_token, joined_tokens, tokens_from, IsTrace, IsBadTrace, AddsSize}
 
 -- blanks in front are passed over
 pub tokens-blanks : (at : ℕ) (blanks rest : List ℕ) → list_all is_blank blanks ≡ true → tokens_from at (blanks ++ rest) ≡ tokens_from (at + length blanks) rest
 tokens-blanks at [] rest h = ap (λ (n : ℕ). tokens_from n rest) (sym (add-zero at))
 tokens-blanks at (b ∷ blanks) rest h =
-    ap (λ (v : Bool). if v then tokens_from (at + 1) (blanks ++ rest) else joined at b (begins_token (blanks ++ rest)) (tokens_from (at + 1) (blanks ++ rest)))
+    ap (λ (v : Bool). if v then tokens_from (at + 1) (blanks ++ rest) else joined_tokens at b (begins_token (blanks ++ rest)) (tokens_from (at + 1) (blanks ++ rest)))
     (and_parts (is_blank b) (list_all is_blank blanks) h).0
     ∙ tokens-blanks (at + 1) blanks rest (and_parts (is_blank b) (list_all is_blank blanks) h).1
     ∙ ap (λ (n : ℕ). tokens_from n rest) (omega arith)
@@ -22,14 +22,14 @@ tokens-blanks at (b ∷ blanks) rest h =
 tokens-word : (at b : ℕ) (word rest : List ℕ) → is_blank b ≡ false → list_all (λ x. not (is_blank x)) word ≡ true → begins_token rest ≡ false →
     tokens_from at (b ∷ (word ++ rest)) ≡ (record { from = at; bytes = b ∷ word }) ∷ tokens_from (at + length (b ∷ word)) rest
 tokens-word at b [] rest first others ends =
-    ap (λ (v : Bool). if v then tokens_from (at + 1) rest else joined at b (begins_token rest) (tokens_from (at + 1) rest)) first
-    ∙ ap (λ (v : Bool). joined at b v (tokens_from (at + 1) rest)) ends
+    ap (λ (v : Bool). if v then tokens_from (at + 1) rest else joined_tokens at b (begins_token rest) (tokens_from (at + 1) rest)) first
+    ∙ ap (λ (v : Bool). joined_tokens at b v (tokens_from (at + 1) rest)) ends
 tokens-word at b (c ∷ word) rest first others ends =
     let next : is_blank c ≡ false = not-true (is_blank c) (and_parts (not (is_blank c)) (list_all (λ x. not (is_blank x)) word) others).0 in
     let rest_tokens : List Token = tokens_from (at + 1) (c ∷ (word ++ rest)) in
-    ap (λ (v : Bool). if v then rest_tokens else joined at b (not (is_blank c)) rest_tokens) first
-    ∙ ap (λ (v : Bool). joined at b (not v) rest_tokens) next
-    ∙ ap (λ (ts : List Token). joined at b true ts)
+    ap (λ (v : Bool). if v then rest_tokens else joined_tokens at b (not (is_blank c)) rest_tokens) first
+    ∙ ap (λ (v : Bool). joined_tokens at b (not v) rest_tokens) next
+    ∙ ap (λ (ts : List Token). joined_tokens at b true ts)
     (tokens-word (at + 1) c word rest next (and_parts (not (is_blank c)) (list_all (λ x. not (is_blank x)) word) others).1 ends)
     ∙ ap (λ (n : ℕ). (record { from = at; bytes = b ∷ c ∷ word }) ∷ tokens_from n rest) (omega arith)
 

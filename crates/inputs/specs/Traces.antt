@@ -21,16 +21,16 @@ begins_token (b ∷ rest) = not (is_blank b)
 
 -- a byte that is no blank in front of the tokens: it belongs to the first of them, or is a token by
 -- itself
-abbrev pub joined : ℕ → ℕ → Bool → List Token → List Token
-joined at b false tokens = (record { from = at; bytes = b ∷ [] }) ∷ tokens
-joined at b true [] = (record { from = at; bytes = b ∷ [] }) ∷ []
-joined at b true (token ∷ tokens) = (record { from = at; bytes = b ∷ token.bytes }) ∷ tokens
+abbrev pub joined_tokens : ℕ → ℕ → Bool → List Token → List Token
+joined_tokens at b false tokens = (record { from = at; bytes = b ∷ [] }) ∷ tokens
+joined_tokens at b true [] = (record { from = at; bytes = b ∷ [] }) ∷ []
+joined_tokens at b true (token ∷ tokens) = (record { from = at; bytes = b ∷ token.bytes }) ∷ tokens
 
 -- the tokens of a text that stands at `at`
 abbrev pub tokens_from : ℕ → List ℕ → List Token
 tokens_from at [] = []
 tokens_from at (b ∷ rest) = if is_blank b
-    then tokens_from (at + 1) rest else joined at b (begins_token rest) (tokens_from (at + 1) rest)
+    then tokens_from (at + 1) rest else joined_tokens at b (begins_token rest) (tokens_from (at + 1) rest)
 
 -- the tokens write these sizes: each up to 2^32, 2^40 together, and at most 1,000,000 of them
 pub record IsTrace (tokens : List Token) (sizes : List ℕ) : Type 0 where

@@ -4,7 +4,7 @@ use Rattle.std.specs.Prelude.{codes}
 use Rattle.std.specs.Char.{to_ascii_lowercase}
 use Rattle.std.proofs.lemmas.Bool.{cases_Bool, cases_lt, and_parts, and_from, eqb-true, eq-eqb, ltb-true, lt-ltb, leb-true, le-leb}
 use Rattle.std.proofs.lemmas.List.{length-drop}
-use Rattle.vod_base.specs.Blanks.{trimmed}
+use Rattle.vod_base.specs.Blanks.{without_blanks}
 use Rattle.vod_base.specs.Lines.{IsLine}
 use Rattle.interleave.specs.Heads.{is_line_end, empty_line_ends, HasNoHead, IsHead}
 use Rattle.interleave.specs.Lengths.{IsLengthLine, IsWrittenAt, IsBodyLength, written_length}
@@ -93,7 +93,7 @@ line_found w at f =
 written : (w : List ℕ) (at : ℕ) → (n : ℕ) × IsWrittenAt w at n
 written w at = elim (first_found (feeds w at) (length w)) [
   | inl f ↦ (let line = line_found w at f in
-      (written_length (trimmed (slice_range w at line.0)), inl (record { text_end = line.0; next = f.at + 1; line = line.1; written = refl })))
+      (written_length (without_blanks (slice_range w at line.0)), inl (record { text_end = line.0; next = f.at + 1; line = line.1; written = refl })))
   | inr none ↦ (0, inr (λ k from within is. no_feed w at k from (none k within) is, refl))
 ]
 

@@ -1,7 +1,7 @@
 -- What a search of the head found, as the definitions say it.
 use Rattle.std.proofs.Common.{◌≡◌, ℕ, ◌+◌, ◌-◌, ◌<◌, ◌≤◌, List, Option, Some, None, length, take, refl, ap, arith, inl, true, MatchOption, slice_range}
 use Rattle.std.proofs.lemmas.List.{length-map, length-take, length-drop}
-use Rattle.vod_base.specs.Blanks.{trimmed}
+use Rattle.vod_base.specs.Blanks.{without_blanks}
 use Rattle.vod_base.specs.Lines.{IsLine}
 use Rattle.interleave.specs.Heads.{empty_line_ends, HasNoHead, IsHead}
 use Rattle.interleave.specs.Lengths.{written_length, IsLengthLine, IsWrittenAt, IsLongAt, IsBodyLength, IsLongBody}
@@ -18,7 +18,7 @@ found_head w k h e none = record {
 
 -- a length that was read from the text at `at`
 pub read_value : (o : Option ℕ) (head text : List ℕ) (at text_end next : ℕ) → IsLine head at text_end next →
-    text ≡ trimmed (slice_range head at text_end) →
+    text ≡ without_blanks (slice_range head at text_end) →
     MatchOption o (65536 < written_length text) (λ n. (n ≤ 65536) × (n ≡ written_length text)) →
     MatchOption o (IsLongAt head at) (λ n. (n ≤ 65536) × IsWrittenAt head at n)
 read_value None head text at text_end next line same h =

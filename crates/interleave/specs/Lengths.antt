@@ -4,7 +4,7 @@ use Rattle.std.specs.Prelude.{◌≡◌, ℕ, ◌+◌, ◌-◌, ◌<◌, ◌⊎�
 use Rattle.std.specs.Prelude.{slice_range, codes}
 use Rattle.std.specs.Char.{to_ascii_lowercase}
 use Rattle.std.specs.Str.Parse.{digits_value}
-use Rattle.vod_base.specs.Blanks.{trimmed}
+use Rattle.vod_base.specs.Blanks.{without_blanks}
 use Rattle.vod_base.specs.Lines.{IsLine, HasNoLine}
 use Rattle.vod_base.specs.Numbers.{is_decimal}
 
@@ -26,7 +26,7 @@ pub record IsValueAt (head : List ℕ) (at length : ℕ) : Type 0 where
   pub text_end : ℕ
   pub next : ℕ
   pub line : IsLine head at text_end next
-  pub written : length ≡ written_length (trimmed (slice_range head at text_end))
+  pub written : length ≡ written_length (without_blanks (slice_range head at text_end))
 
 -- the length that stands at `at`; a text that ends within that line gives 0
 abbrev pub IsWrittenAt : List ℕ → ℕ → ℕ → Type 0

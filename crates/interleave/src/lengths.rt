@@ -2,7 +2,7 @@ ghost use Rattle.std.specs.Prelude.{◌≡◌, ◌<◌, ◌≤◌, ◌↔◌, Is
 ghost use Rattle.interleave.specs.Lengths.{written_length, IsLengthLine, IsWrittenAt, IsLongAt};
 ghost use Rattle.interleave.specs.Lengths.{IsBodyLength, IsLongBody};
 
-use vod_base::{NumberFault, line_end, read_number, trimmed};
+use vod_base::{NumberFault, line_end, read_number, trim};
 
 /// The name of the header field, with the colon after it.
 const CONTENT_LENGTH: &[u8; 15] = b"Content-Length:";
@@ -40,7 +40,7 @@ fn length_at(head: &[u8], at: usize) -> Option<usize>
         × IsWrittenAt head.now at n) }
 {
     match line_end(head, at) {
-        Some(line) => length_of_value(trimmed(&head[at..line.text_end])),
+        Some(line) => length_of_value(trim(&head[at..line.text_end])),
         None => Some(0),
     }
 }

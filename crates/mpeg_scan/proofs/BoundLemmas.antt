@@ -6,7 +6,7 @@ use Rattle.mpeg_scan.specs.declared.faults.FilmFault.{FilmFault}
 use Rattle.mpeg_scan.specs.declared.faults.FilmFault.TheVariants.{Empty, ShortHeader, BadRate, TooLong}
 use Rattle.mpeg_scan.specs.Codes.{read, codes_of}
 use Rattle.mpeg_scan.specs.Words.{pictures_of, rate_code, rate_of, tally_of}
-use Rattle.mpeg_scan.specs.Faults.{otherwise, rate_fault, picture_fault, header_fault, latest_fault, last_fault, code_fault, fault_at, first_fault, end_fault, refusal_of}
+use Rattle.mpeg_scan.specs.Faults.{first_refusal, rate_fault, picture_fault, header_fault, latest_fault, last_fault, code_fault, fault_at, first_fault, end_fault, refusal_of}
 use Rattle.mpeg_scan.specs.Calls.{Call, head_call, slice_call, unit_call}
 use Rattle.mpeg_scan.specs.Counts.{Count, group_of, counts_after, no_count}
 use Rattle.mpeg_scan.specs.Films.{units_in, refusal, told_of}
@@ -53,7 +53,7 @@ pub older-judged : (c : Code) (past : List Code) → first_fault (c ∷ past) �
 unfolding first_fault fault_at
 older-judged c past e =
     otherwise-first (latest_fault past c.place) (code_fault (tally_of past) c.place c.kind)
-    (otherwise-second (first_fault past) (otherwise (latest_fault past c.place) (code_fault (tally_of past) c.place c.kind)) e)
+    (otherwise-second (first_fault past) (first_refusal (latest_fault past c.place) (code_fault (tally_of past) c.place c.kind)) e)
 
 pub codes-rate : (c : Code) (past : List Code) (end : ℕ) → first_fault (c ∷ past) ≡ None → latest_fault (c ∷ past) end ≡ None → IsRate (rate_of (c ∷ past))
 codes-rate c [] end accepted judged = first-rate c end (first-is c accepted) judged
@@ -76,7 +76,7 @@ film-rate r e =
 bytes-bound : (r : List ℕ) → refusal_of r ≡ None → length r ≤ 2 ^ 40
 unfolding refusal_of
 bytes-bound r e =
-    let rest = otherwise (first_fault (codes_of r)) (end_fault (codes_of r) (length r)) in
+    let rest = first_refusal (first_fault (codes_of r)) (end_fault (codes_of r) (length r)) in
     let some = some-cond-none (eqb (length r) 0) Empty (cond (ltb (2 ^ 40) (length r)) (Some TooLong) rest) e in
     ltb-false (2 ^ 40) (length r) (some-cond-none (ltb (2 ^ 40) (length r)) TooLong rest some.1).0
 

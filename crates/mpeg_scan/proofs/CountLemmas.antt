@@ -8,7 +8,7 @@ use Rattle.mpeg_scan.specs.declared.tallies.Tally.{Tally}
 use Rattle.mpeg_scan.specs.declared.units.Unit.{Unit as PictureUnit}
 use Rattle.mpeg_scan.specs.Codes.{codes_of}
 use Rattle.mpeg_scan.specs.Words.{is_head, is_slice, tally_of, slices_of, all_slices_of, picture_of, pictures_of, before_group_of, starts_group, header_of, slice_of}
-use Rattle.mpeg_scan.specs.Faults.{otherwise, kind_fault, second_fault, first_slice_fault, count_fault, code_fault, head_fault, left_without_slices, first_fault, end_fault, last_fault, latest_fault, refusal_of}
+use Rattle.mpeg_scan.specs.Faults.{first_refusal, kind_fault, second_fault, first_slice_fault, count_fault, code_fault, head_fault, left_without_slices, first_fault, end_fault, last_fault, latest_fault, refusal_of}
 use Rattle.mpeg_scan.specs.Calls.{Call, head_call, slice_call, unit_call, unit_at, unit_end, calls_at, calls_of, all_calls}
 use Rattle.mpeg_scan.specs.Counts.{Count, group_of, next_count, counts_after, no_count, AreNumbered}
 use Rattle.mpeg_scan.proofs.TileLemmas.{slice-apart, first_slice-accepted, first-is, told-cons, told-nil, ended-none, accepted-whole}
@@ -178,8 +178,8 @@ first-some t place kind e slice none =
 
 pub second-accepted : (t : Tally) (place kind : ℕ) → code_fault t place kind ≡ None → second_fault t kind ≡ None
 second-accepted t place kind e =
-    otherwise-first (second_fault t kind) (otherwise (first_slice_fault t place kind) (count_fault t place kind))
-    (otherwise-second (kind_fault t place kind) (otherwise (second_fault t kind) (otherwise (first_slice_fault t place kind) (count_fault t place kind))) e)
+    otherwise-first (second_fault t kind) (first_refusal (first_slice_fault t place kind) (count_fault t place kind))
+    (otherwise-second (kind_fault t place kind) (first_refusal (second_fault t kind) (first_refusal (first_slice_fault t place kind) (count_fault t place kind))) e)
 
 -- the count of codes
 abbrev CountedBy : Count → List Call → List Code → Type 0

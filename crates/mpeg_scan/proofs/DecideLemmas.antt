@@ -2,7 +2,7 @@
 use Rattle.std.proofs.Common.{Bool, true, false, cond, ◌≡◌, ◌↔◌, Option, Some, None, sym, ap, refl, subst, inl, inr, ◌∙◌}
 use Rattle.std.proofs.lemmas.Bool.{false≢true}
 use Rattle.mpeg_scan.specs.declared.faults.FilmFault.{FilmFault}
-use Rattle.mpeg_scan.specs.Faults.{otherwise}
+use Rattle.mpeg_scan.specs.Faults.{first_refusal}
 use Rattle.mpeg_scan.specs.Refusals.{Otherwise}
 
 -- an answer is that of a relation
@@ -25,7 +25,7 @@ no-more P o is none f p = none-some f (sym none ∙ (is f).1 p)
 
 pub both : (P Q : FilmFault → Type 0) (a b : Option FilmFault) → Decides P a →
     (a ≡ None → Decides Q b)
-    → Decides (Otherwise P Q) (otherwise a b)
+    → Decides (Otherwise P Q) (first_refusal a b)
 both P Q None b one other f = (
   λ e. inr ((λ g p. none-some g ((one g).1 p)), (other refl f).0 e),
   λ either. elim either [
@@ -48,7 +48,7 @@ decide P true h one other f =
 decide P false h one other f = (λ e. absurd (none-some f e), λ p. absurd (false≢true (other f p).0))
 
 cond-otherwise : (b : Bool) (h : FilmFault) (o : Option FilmFault) →
-    otherwise (cond b (Some h) None) o ≡ cond b (Some h) o
+    first_refusal (cond b (Some h) None) o ≡ cond b (Some h) o
 cond-otherwise true h o = refl
 cond-otherwise false h o = refl
 
@@ -64,7 +64,7 @@ both-cond P Q b h o one other rest =
     subst (λ (v : Option FilmFault). Decides (Otherwise P Q) v) (cond-otherwise b h o)
     (both P Q (cond b (Some h) None) o (decide P b h one other) (λ none. rest (cond-none b h none)))
 
-otherwise-none : (o : Option FilmFault) → otherwise o None ≡ o
+otherwise-none : (o : Option FilmFault) → first_refusal o None ≡ o
 otherwise-none None = refl
 otherwise-none (Some f) = refl
 

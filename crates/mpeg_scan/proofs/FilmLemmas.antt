@@ -5,7 +5,7 @@ use Rattle.mpeg_scan.specs.declared.faults.FilmFault.{FilmFault}
 use Rattle.mpeg_scan.specs.declared.faults.FilmFault.TheVariants.{Empty, TooLong}
 use Rattle.mpeg_scan.specs.declared.units.Unit.{Unit as PictureUnit}
 use Rattle.mpeg_scan.specs.Codes.{read, codes_of}
-use Rattle.mpeg_scan.specs.Faults.{otherwise, first_fault, end_fault, refusal_of}
+use Rattle.mpeg_scan.specs.Faults.{first_refusal, first_fault, end_fault, refusal_of}
 use Rattle.mpeg_scan.specs.Calls.{Call, head_call, slice_call, unit_call, calls_of}
 use Rattle.mpeg_scan.specs.Films.{units_in, slices_in, refusal}
 use Rattle.mpeg_scan.proofs.StepLemmas.{codes-none}
@@ -39,9 +39,9 @@ first_fault-none = ap first_fault codes-none
 refusal-some : (r : List ℕ) (f : FilmFault) → 0 < length r → length r ≤ 2 ^ 40 → first_fault (codes_of r) ≡ Some f → refusal_of r ≡ Some f
 unfolding refusal_of
 refusal-some r f some short is =
-    ap (λ b. cond b (Some Empty) (cond (ltb (2 ^ 40) (length r)) (Some TooLong) (otherwise (first_fault (codes_of r)) (end_fault (codes_of r) (length r))))) (ne_eqb (length r) 0 (λ none. absurd (omega arith)))
-    ∙ ap (λ b. cond b (Some TooLong) (otherwise (first_fault (codes_of r)) (end_fault (codes_of r) (length r)))) (le-ltb (2 ^ 40) (length r) short)
-    ∙ ap (λ (o : Option FilmFault). otherwise o (end_fault (codes_of r) (length r))) is
+    ap (λ b. cond b (Some Empty) (cond (ltb (2 ^ 40) (length r)) (Some TooLong) (first_refusal (first_fault (codes_of r)) (end_fault (codes_of r) (length r))))) (ne_eqb (length r) 0 (λ none. absurd (omega arith)))
+    ∙ ap (λ b. cond b (Some TooLong) (first_refusal (first_fault (codes_of r)) (end_fault (codes_of r) (length r)))) (le-ltb (2 ^ 40) (length r) short)
+    ∙ ap (λ (o : Option FilmFault). first_refusal o (end_fault (codes_of r) (length r))) is
 
 apart : (f : FilmFault) → first_fault (codes_of []) ≡ Some f → ⊥
 apart f is = let none = first_fault-none in cc
@@ -56,8 +56,8 @@ refusal-at_code bytes f short is = refusal-at (read [] bytes) f (omega (arith, l
 too_long : (r : List ℕ) → 2 ^ 40 < length r → refusal_of r ≡ Some TooLong
 unfolding refusal_of
 too_long r long =
-    ap (λ b. cond b (Some Empty) (cond (ltb (2 ^ 40) (length r)) (Some TooLong) (otherwise (first_fault (codes_of r)) (end_fault (codes_of r) (length r))))) (ne_eqb (length r) 0 (λ none. absurd (omega arith)))
-    ∙ ap (λ b. cond b (Some TooLong) (otherwise (first_fault (codes_of r)) (end_fault (codes_of r) (length r)))) (lt-ltb (2 ^ 40) (length r) long)
+    ap (λ b. cond b (Some Empty) (cond (ltb (2 ^ 40) (length r)) (Some TooLong) (first_refusal (first_fault (codes_of r)) (end_fault (codes_of r) (length r))))) (ne_eqb (length r) 0 (λ none. absurd (omega arith)))
+    ∙ ap (λ b. cond b (Some TooLong) (first_refusal (first_fault (codes_of r)) (end_fault (codes_of r) (length r)))) (lt-ltb (2 ^ 40) (length r) long)
 
 pub refusal-too_long : (bytes : List ℕ) → 2 ^ 40 < length bytes → refusal bytes ≡ Some TooLong
 refusal-too_long bytes long = too_long (read [] bytes) (omega (arith, length-read bytes []))

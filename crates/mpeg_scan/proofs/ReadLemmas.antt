@@ -8,7 +8,7 @@ use Rattle.mpeg_scan.specs.declared.codes.Prefix.TheVariants.{Nothing, Zero}
 use Rattle.mpeg_scan.specs.declared.faults.FilmFault.{FilmFault}
 use Rattle.mpeg_scan.specs.declared.progress.Progress.{Progress}
 use Rattle.mpeg_scan.specs.Codes.{read, latest_prefix, next_prefix, is_whole, note_latest, codes_of}
-use Rattle.mpeg_scan.specs.Faults.{otherwise, fault_at, first_fault}
+use Rattle.mpeg_scan.specs.Faults.{first_refusal, fault_at, first_fault}
 use Rattle.mpeg_scan.specs.Calls.{Call, calls_of}
 use Rattle.mpeg_scan.specs.Steps.{latest_of, older_of}
 use Rattle.mpeg_scan.specs.Words.{tally_of}
@@ -90,7 +90,7 @@ skipped-kept s r xs n bound nonzero quiet kept =
 
 fault-stays-code : (c : Code) (past : List Code) (f : FilmFault) → first_fault past ≡ Some f → first_fault (c ∷ past) ≡ Some f
 unfolding first_fault
-fault-stays-code c past f is = ap (λ (o : Option FilmFault). otherwise o (fault_at past c.place c.kind)) is
+fault-stays-code c past f is = ap (λ (o : Option FilmFault). first_refusal o (fault_at past c.place c.kind)) is
 
 fault-stays-byte : (x : ℕ) (r : List ℕ) (f : FilmFault) → first_fault (codes_of r) ≡ Some f → first_fault (codes_of (x ∷ r)) ≡ Some f
 fault-stays-byte x r f is = elim (cases_Bool (is_whole (latest_prefix r))) [

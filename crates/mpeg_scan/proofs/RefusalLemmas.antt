@@ -7,7 +7,7 @@ use Rattle.mpeg_scan.specs.declared.faults.FilmFault.{FilmFault}
 use Rattle.mpeg_scan.specs.declared.faults.FilmFault.TheVariants.{NoSequence, SystemCode, Mpeg2, PictureWithoutSlices, HeadTooLong, GroupTooLong, TooLong, HeadWithoutPicture}
 use Rattle.mpeg_scan.specs.declared.tallies.Header.{Header}
 use Rattle.mpeg_scan.specs.Words.{before_group_of, is_head, is_none_yet, is_slice, picture_of, pictures_of, slices_of, tally_of, unit_of}
-use Rattle.mpeg_scan.specs.Faults.{code_fault, count_fault, fault_at, first_fault, first_slice_fault, head_fault, kind_fault, latest_fault, left_without_slices, otherwise, second_fault}
+use Rattle.mpeg_scan.specs.Faults.{code_fault, count_fault, fault_at, first_fault, first_slice_fault, head_fault, kind_fault, latest_fault, left_without_slices, first_refusal, second_fault}
 use Rattle.mpeg_scan.specs.Places.{HasCode}
 use Rattle.mpeg_scan.specs.Refusals.{BeginsUnit, CodeRefusal, CountRefusal, HasPictures, HeaderRefusal, IsExtension, IsItsPicture, IsLongFilm, IsLongGroup, IsLongHead, IsOpenHead, IsPicture, IsSystemCode, KindRefusal, LacksPicture, LacksSequence, LacksSlices, Otherwise, SecondRefusal, SliceRefusal}
 use Rattle.mpeg_scan.specs.Standard.{IsFirstCode, IsHeadKind, IsSliceKind, StandsThere}
@@ -352,11 +352,11 @@ code-decides Has bytes r past at kind same c texts accepted =
     (λ _. both (KindRefusal Has at)
     (Otherwise (SecondRefusal Has at) (Otherwise (SliceRefusal Has at) (CountRefusal Has at)))
     (kind_fault t at kind)
-    (otherwise (second_fault t kind)
-    (otherwise (first_slice_fault t at kind) (count_fault t at kind)))
+    (first_refusal (second_fault t kind)
+    (first_refusal (first_slice_fault t at kind) (count_fault t at kind)))
     (kind-decides Has past at kind c)
     (λ none. both (SecondRefusal Has at) (Otherwise (SliceRefusal Has at) (CountRefusal Has at))
-    (second_fault t kind) (otherwise (first_slice_fault t at kind) (count_fault t at kind))
+    (second_fault t kind) (first_refusal (first_slice_fault t at kind) (count_fault t at kind))
     (second-decides Has past at kind c)
     (λ _. both (SliceRefusal Has at) (CountRefusal Has at) (first_slice_fault t at kind)
     (count_fault t at kind) (slice-decides Has past at kind c none) (λ _.

@@ -7,7 +7,7 @@ use Rattle.mpeg_scan.specs.declared.faults.FilmFault.TheVariants.{Empty, NoSeque
 use Rattle.mpeg_scan.specs.declared.tallies.Header.{Header}
 use Rattle.mpeg_scan.specs.Codes.{read, codes_of, latest_prefix}
 use Rattle.mpeg_scan.specs.Words.{picture_of, slices_of, tally_of, unit_of}
-use Rattle.mpeg_scan.specs.Faults.{end_fault, fault_at, first_fault, last_fault, latest_fault, left_without_slices, open_fault, otherwise, refusal_of}
+use Rattle.mpeg_scan.specs.Faults.{end_fault, fault_at, first_fault, last_fault, latest_fault, left_without_slices, open_fault, first_refusal, refusal_of}
 use Rattle.mpeg_scan.specs.Films.{refusal}
 use Rattle.mpeg_scan.specs.Places.{StandsAt}
 use Rattle.mpeg_scan.specs.Refusals.{CodeRefusal, EndRefusal, FirstRefusal, HeaderRefusal, IsEmptyFilm, IsLargeFilm, IsOpenHead, IsRefusedFor, LacksCodes, LacksPicture, LacksSlices, Otherwise}
@@ -92,7 +92,7 @@ first-step : (o b : Option FilmFault) (Has : ℕ → ℕ →
     Film Has bytes r (c ∷ past) end stop
     → Decides (FirstBefore Has bytes c.place) o →
     (o ≡ None → Decides (CodeRefusal Has bytes c.place) b) →
-    (o ≡ None → Clear Has bytes c.place) → Decides (FirstBefore Has bytes end) (otherwise o b)
+    (o ≡ None → Clear Has bytes c.place) → Decides (FirstBefore Has bytes end) (first_refusal o b)
 first-step None b Has bytes r c past end stop film one new clear f = (
   λ e. record {
     at = c.place;
@@ -250,7 +250,7 @@ code-below bytes n place kind long has = omega (arith, has.fits, long)
 codes-decide : (bytes : List ℕ) →
     Decides (Otherwise (FirstRefusal (StandsAt bytes) bytes)
     (EndRefusal (StandsAt bytes) bytes (length bytes)))
-    (otherwise (first_fault (codes_of (read [] bytes)))
+    (first_refusal (first_fault (codes_of (read [] bytes)))
     (end_fault (codes_of (read [] bytes)) (length (read [] bytes))))
 codes-decide bytes =
     let r = read [] bytes in
@@ -274,7 +274,7 @@ codes-decide bytes =
       far = omega arith;
     } in
     subst (λ m. Decides (Otherwise (FirstRefusal Has bytes) (EndRefusal Has bytes m))
-    (otherwise (first_fault past) (end_fault past n))) long
+    (first_refusal (first_fault past) (end_fault past n))) long
     (both (FirstRefusal Has bytes) (EndRefusal Has bytes n) (first_fault past) (end_fault past n)
     (first-anywhere Has bytes n (first_fault past) all (first-decides Has bytes r past n n film))
     (λ none. end-decides Has bytes r past n n film all none))
@@ -284,7 +284,7 @@ unfolding refusal_of
 film-decides bytes =
     let r = read [] bytes in
     let long : length r ≡ length bytes = length-read bytes [] ∙ omega arith in
-    let judged = otherwise (first_fault (codes_of r)) (end_fault (codes_of r) (length r)) in
+    let judged = first_refusal (first_fault (codes_of r)) (end_fault (codes_of r) (length r)) in
     let Codes = Otherwise (FirstRefusal (StandsAt bytes) bytes)
     (EndRefusal (StandsAt bytes) bytes (length bytes)) in
     both-cond (IsEmptyFilm bytes) (Otherwise (IsLargeFilm bytes) Codes) (eqb (length r) 0) Empty

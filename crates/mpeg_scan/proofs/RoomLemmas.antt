@@ -10,7 +10,7 @@ use Rattle.mpeg_scan.specs.declared.progress.Progress.{Progress}
 use Rattle.mpeg_scan.specs.declared.tallies.Tally.{Tally}
 use Rattle.mpeg_scan.specs.Codes.{after_one, after_zero, is_whole, next_prefix, note}
 use Rattle.mpeg_scan.specs.Words.{is_head, is_slice}
-use Rattle.mpeg_scan.specs.Faults.{last_fault, otherwise, code_fault, count_fault, first_slice_fault, kind_fault, second_fault}
+use Rattle.mpeg_scan.specs.Faults.{last_fault, first_refusal, code_fault, count_fault, first_slice_fault, kind_fault, second_fault}
 use Rattle.mpeg_scan.specs.Room.{AwaitsSlice, AwaitsSliceAfter, HasRoom, HasRoomAhead, IsAhead, prefix_length}
 use Rattle.mpeg_scan.specs.Scans.{scan_with_code, scan_with_byte}
 use Rattle.mpeg_scan.specs.Steps.{end_judgement, code_judgement, latest_header_fault, next, one_more, tally_now, tally_with}
@@ -105,7 +105,7 @@ slice-kind kind slice =
 code-begun : (t : Tally) (place kind : ℕ) → code_fault t place kind ≡ None → is_slice kind ≡ true → t.begun ≡ true
 code-begun t place kind e slice =
     begun-by (leb 0xb9 kind) (eqb kind 0xb5) t.begun (eqb kind 0xb3) place (ne_eqb kind 0xb3 (λ is. absurd (omega (arith, (slice-kind kind slice).1))))
-    (otherwise-first (kind_fault t place kind) (otherwise (second_fault t kind) (otherwise (first_slice_fault t place kind) (count_fault t place kind))) e)
+    (otherwise-first (kind_fault t place kind) (first_refusal (second_fault t kind) (first_refusal (first_slice_fault t place kind) (count_fault t place kind))) e)
 
 -- a unit's first slice: the head before it has 1 to 1,380 bytes
 pub head-some : (latest : Option Code) (tally t : Tally) (place kind : ℕ) → code_judgement latest tally place kind ≡ None → t ≡ tally_with latest tally → HasRoom (tally_with latest tally) place → is_slice kind ≡ true → t.unit < place

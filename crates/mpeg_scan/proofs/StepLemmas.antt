@@ -10,7 +10,7 @@ use Rattle.mpeg_scan.specs.declared.progress.Progress.{Progress}
 use Rattle.mpeg_scan.specs.declared.tallies.Tally.{Tally}
 use Rattle.mpeg_scan.specs.Codes.{latest_prefix, next_prefix, is_whole, note, note_latest, codes_of}
 use Rattle.mpeg_scan.specs.Words.{is_head, is_slice, tally_of, slices_of, all_slices_of, pictures_of, before_group_of}
-use Rattle.mpeg_scan.specs.Faults.{otherwise, latest_fault, kind_fault, second_fault, first_slice_fault, count_fault, code_fault, fault_at, first_fault, end_fault, last_fault, refusal_of}
+use Rattle.mpeg_scan.specs.Faults.{first_refusal, latest_fault, kind_fault, second_fault, first_slice_fault, count_fault, code_fault, fault_at, first_fault, end_fault, last_fault, refusal_of}
 use Rattle.mpeg_scan.specs.Calls.{Call, calls_at, calls_of}
 use Rattle.mpeg_scan.specs.Steps.{one_more, one_picture, next, next_by, tally_with, code_judgement, end_judgement, latest_of, older_of}
 use Rattle.mpeg_scan.specs.Scans.{HasRead, scan_with_byte, scan_with_code}
@@ -80,11 +80,11 @@ all_slices-bound [] = omega arith
 all_slices-bound (c ∷ past) =
     cond-bound (is_slice c.kind) (all_slices_of past + 1) (all_slices_of past) (suc (length past)) (omega (arith, all_slices-bound past)) (omega (arith, all_slices-bound past))
 
-pub otherwise-first : (f g : Option FilmFault) → otherwise f g ≡ None → f ≡ None
+pub otherwise-first : (f g : Option FilmFault) → first_refusal f g ≡ None → f ≡ None
 otherwise-first None g e = refl
 otherwise-first (Some f) g e = e
 
-pub otherwise-second : (f g : Option FilmFault) → otherwise f g ≡ None → g ≡ None
+pub otherwise-second : (f g : Option FilmFault) → first_refusal f g ≡ None → g ≡ None
 otherwise-second None g e = e
 otherwise-second (Some f) g e = absurd (cc)
 
@@ -97,14 +97,14 @@ pub code-accepted : (c : Code) (past : List Code) → first_fault (c ∷ past) �
 unfolding first_fault fault_at
 code-accepted c past e =
     let t = tally_of past in
-    let at_code = otherwise-second (first_fault past) (otherwise (latest_fault past c.place) (code_fault t c.place c.kind)) e in
+    let at_code = otherwise-second (first_fault past) (first_refusal (latest_fault past c.place) (code_fault t c.place c.kind)) e in
     otherwise-second (latest_fault past c.place) (code_fault t c.place c.kind) at_code
 
 code_fault-older : (c : Code) (past : List Code) → first_fault (c ∷ past) ≡ None → count_fault (tally_of past) c.place c.kind ≡ None
 code_fault-older c past e =
     let t = tally_of past in
-    let rest = otherwise-second (kind_fault t c.place c.kind) (otherwise (second_fault t c.kind) (otherwise (first_slice_fault t c.place c.kind) (count_fault t c.place c.kind))) (code-accepted c past e) in
-    let last = otherwise-second (second_fault t c.kind) (otherwise (first_slice_fault t c.place c.kind) (count_fault t c.place c.kind)) rest in
+    let rest = otherwise-second (kind_fault t c.place c.kind) (first_refusal (second_fault t c.kind) (first_refusal (first_slice_fault t c.place c.kind) (count_fault t c.place c.kind))) (code-accepted c past e) in
+    let last = otherwise-second (second_fault t c.kind) (first_refusal (first_slice_fault t c.place c.kind) (count_fault t c.place c.kind)) rest in
     otherwise-second (first_slice_fault t c.place c.kind) (count_fault t c.place c.kind) last
 
 counted : (b g q : Bool) (p place : ℕ) → leb 4194304 p ≡ q → cond b (cond g (Some (GroupTooLong place)) (cond q (Some TooLong) None)) None ≡ None → p ≤ 4194304 → cond b (p + 1) p ≤ 4194304
@@ -144,7 +144,7 @@ pub code_judgement-is : (past : List Code) (place kind : ℕ) → first_fault pa
 unfolding code_judgement fault_at
 code_judgement-is [] place kind accepted short = refl
 code_judgement-is (c ∷ past) place kind accepted short =
-    ap (λ (t : Tally). otherwise (latest_fault (c ∷ past) place) (code_fault t place kind)) (next-tally past c (accepted-older c past accepted) (omega arith))
+    ap (λ (t : Tally). first_refusal (latest_fault (c ∷ past) place) (code_fault t place kind)) (next-tally past c (accepted-older c past accepted) (omega arith))
 
 -- ---- a byte
 
@@ -182,7 +182,7 @@ tally-noted s r x kept short =
 
 first_fault-code : (past : List Code) (place kind : ℕ) → first_fault past ≡ None → first_fault (record { place = place; kind = kind; text = [] } ∷ past) ≡ fault_at past place kind
 unfolding first_fault
-first_fault-code past place kind accepted = ap (λ (f : Option FilmFault). otherwise f (fault_at past place kind)) accepted
+first_fault-code past place kind accepted = ap (λ (f : Option FilmFault). first_refusal f (fault_at past place kind)) accepted
 
 -- the refusal at a code, and that there is none
 pub first_fault-at : (s : Progress) (r : List ℕ) (x : ℕ) → HasRead s r → length r < 2 ^ 42 → is_whole (latest_prefix r) ≡ true → first_fault (codes_of (x ∷ r)) ≡ code_judgement (scan_with_byte s x).latest s.tally (s.fed - 3) x
@@ -260,7 +260,7 @@ end_fault-is : (past : List Code) (end : ℕ) → first_fault past ≡ None → 
 unfolding end_judgement end_fault
 end_fault-is [] end accepted short = refl
 end_fault-is (c ∷ past) end accepted short =
-    ap (λ (t : Tally). otherwise (latest_fault (c ∷ past) end) (last_fault t)) (next-tally past c (accepted-older c past accepted) (omega arith))
+    ap (λ (t : Tally). first_refusal (latest_fault (c ∷ past) end) (last_fault t)) (next-tally past c (accepted-older c past accepted) (omega arith))
 
 codes-short : (s : Progress) (r : List ℕ) → HasRead s r → s.fed ≤ 2 ^ 40 → length (codes_of r) < 2 ^ 63
 codes-short s r kept short = omega (arith, kept.fed, length-codes r)
@@ -275,21 +275,21 @@ end_judgement-is s r kept short =
 refusal-by : (r : List ℕ) → 0 < length r → length r ≤ 2 ^ 40 → first_fault (codes_of r) ≡ None → refusal_of r ≡ end_fault (codes_of r) (length r)
 unfolding refusal_of
 refusal-by r some short accepted =
-    ap (λ b. cond b (Some Empty) (cond (ltb (2 ^ 40) (length r)) (Some TooLong) (otherwise (first_fault (codes_of r)) (end_fault (codes_of r) (length r))))) (ne_eqb (length r) 0 (λ none. absurd (omega arith)))
-    ∙ ap (λ b. cond b (Some TooLong) (otherwise (first_fault (codes_of r)) (end_fault (codes_of r) (length r)))) (le-ltb (2 ^ 40) (length r) short)
-    ∙ ap (λ (f : Option FilmFault). otherwise f (end_fault (codes_of r) (length r))) accepted
+    ap (λ b. cond b (Some Empty) (cond (ltb (2 ^ 40) (length r)) (Some TooLong) (first_refusal (first_fault (codes_of r)) (end_fault (codes_of r) (length r))))) (ne_eqb (length r) 0 (λ none. absurd (omega arith)))
+    ∙ ap (λ b. cond b (Some TooLong) (first_refusal (first_fault (codes_of r)) (end_fault (codes_of r) (length r)))) (le-ltb (2 ^ 40) (length r) short)
+    ∙ ap (λ (f : Option FilmFault). first_refusal f (end_fault (codes_of r) (length r))) accepted
 
 pub refusal-empty : (s : Progress) (r : List ℕ) → s.fed ≡ 0 → HasRead s r → refusal_of r ≡ Some Empty
 unfolding refusal_of
 refusal-empty s r none kept =
-    ap (λ b. cond b (Some Empty) (cond (ltb (2 ^ 40) (length r)) (Some TooLong) (otherwise (first_fault (codes_of r)) (end_fault (codes_of r) (length r))))) (eq-eqb (length r) 0 (sym kept.fed ∙ none))
+    ap (λ b. cond b (Some Empty) (cond (ltb (2 ^ 40) (length r)) (Some TooLong) (first_refusal (first_fault (codes_of r)) (end_fault (codes_of r) (length r))))) (eq-eqb (length r) 0 (sym kept.fed ∙ none))
 
 pub refusal-long : (s : Progress) (r : List ℕ) → 2 ^ 40 < s.fed → HasRead s r → refusal_of r ≡ Some TooLong
 unfolding refusal_of
 refusal-long s r long kept =
     let far : 2 ^ 40 < length r = omega (arith, kept.fed) in
-    ap (λ b. cond b (Some Empty) (cond (ltb (2 ^ 40) (length r)) (Some TooLong) (otherwise (first_fault (codes_of r)) (end_fault (codes_of r) (length r))))) (ne_eqb (length r) 0 (λ none. absurd (omega arith)))
-    ∙ ap (λ b. cond b (Some TooLong) (otherwise (first_fault (codes_of r)) (end_fault (codes_of r) (length r)))) (lt-ltb (2 ^ 40) (length r) far)
+    ap (λ b. cond b (Some Empty) (cond (ltb (2 ^ 40) (length r)) (Some TooLong) (first_refusal (first_fault (codes_of r)) (end_fault (codes_of r) (length r))))) (ne_eqb (length r) 0 (λ none. absurd (omega arith)))
+    ∙ ap (λ b. cond b (Some TooLong) (first_refusal (first_fault (codes_of r)) (end_fault (codes_of r) (length r)))) (lt-ltb (2 ^ 40) (length r) far)
 
 pub refusal-is : (s : Progress) (r : List ℕ) → 0 < s.fed → s.fed ≤ 2 ^ 40 → HasRead s r → refusal_of r ≡ end_judgement s.latest s.tally s.fed
 refusal-is s r some short kept =

@@ -10,7 +10,7 @@ use Rattle.mpeg_scan.specs.declared.codes.Prefix.{Prefix}
 use Rattle.mpeg_scan.specs.declared.codes.Prefix.TheVariants.{Nothing, Zero, Zeros, Whole}
 use Rattle.mpeg_scan.specs.Codes.{latest_prefix, next_prefix, after_one, after_zero, is_whole, note_latest, codes_of}
 use Rattle.mpeg_scan.specs.Words.{is_head, is_slice, begins_unit, tally_of, slices_of, unit_of, head_end_of, slice_of}
-use Rattle.mpeg_scan.specs.Faults.{otherwise, latest_fault, kind_fault, second_fault, first_slice_fault, count_fault, code_fault, head_fault, open_fault, last_fault, first_fault, end_fault, refusal_of}
+use Rattle.mpeg_scan.specs.Faults.{first_refusal, latest_fault, kind_fault, second_fault, first_slice_fault, count_fault, code_fault, head_fault, open_fault, last_fault, first_fault, end_fault, refusal_of}
 use Rattle.mpeg_scan.specs.Calls.{Call, head_call, slice_call, unit_call, unit_at, unit_end, calls_at, calls_of, all_calls}
 use Rattle.mpeg_scan.specs.Places.{HasCode}
 use Rattle.mpeg_scan.specs.Tiles.{Part, between, within, next_part, parts_after, first_of, Tiles}
@@ -172,8 +172,8 @@ first_slice-head t place kind e slice none =
 -- what a code that isn't refused tells
 pub first_slice-accepted : (t : Tally) (place kind : ℕ) → code_fault t place kind ≡ None → first_slice_fault t place kind ≡ None
 first_slice-accepted t place kind e =
-    let rest = otherwise-second (kind_fault t place kind) (otherwise (second_fault t kind) (otherwise (first_slice_fault t place kind) (count_fault t place kind))) e in
-    let last = otherwise-second (second_fault t kind) (otherwise (first_slice_fault t place kind) (count_fault t place kind)) rest in
+    let rest = otherwise-second (kind_fault t place kind) (first_refusal (second_fault t kind) (first_refusal (first_slice_fault t place kind) (count_fault t place kind))) e in
+    let last = otherwise-second (second_fault t kind) (first_refusal (first_slice_fault t place kind) (count_fault t place kind)) rest in
     otherwise-first (first_slice_fault t place kind) (count_fault t place kind) last
 
 code-step : (c d : Code) (past : List Code) → code_fault (tally_of (d ∷ past)) c.place c.kind ≡ None → Spaced (c ∷ (d ∷ past)) → parts_after (Some (part_of (d ∷ past))) (calls_at (tally_of (d ∷ past)) c.place c.kind) ≡ Some (part_of (c ∷ (d ∷ past)))
@@ -206,7 +206,7 @@ told-nil = refl
 -- the first code is a sequence header's
 pub first-is : (c : Code) → first_fault (c ∷ []) ≡ None → c.kind ≡ 0xb3
 first-is c accepted =
-    let kind = first-kind (leb 0xb9 c.kind) (eqb c.kind 0xb5) (eqb c.kind 0xb3) c.place (otherwise-first (kind_fault (tally_of []) c.place c.kind) (otherwise (second_fault (tally_of []) c.kind) (otherwise (first_slice_fault (tally_of []) c.place c.kind) (count_fault (tally_of []) c.place c.kind))) (code-accepted c [] accepted)) in
+    let kind = first-kind (leb 0xb9 c.kind) (eqb c.kind 0xb5) (eqb c.kind 0xb3) c.place (otherwise-first (kind_fault (tally_of []) c.place c.kind) (first_refusal (second_fault (tally_of []) c.kind) (first_refusal (first_slice_fault (tally_of []) c.place c.kind) (count_fault (tally_of []) c.place c.kind))) (code-accepted c [] accepted)) in
     eqb-true c.kind 0xb3 kind
 
 pub told-parts : (c : Code) (past : List Code) → first_fault (c ∷ past) ≡ None → Spaced (c ∷ past) → parts_after (Some (between (first_of (c ∷ past)))) (calls_of (c ∷ past)) ≡ Some (part_of (c ∷ past))
@@ -371,14 +371,14 @@ whole-tiles (c ∷ past) n accepted ended spaced after =
     ∙ ap (λ (o : Option Part). parts_after o (unit_end (tally_of (c ∷ past)) n)) (told-parts c past accepted spaced)
     ∙ end-step (c ∷ past) n some (slice-before (c ∷ past) n spaced after some)
 
-pub accepted-whole : (r : List ℕ) → refusal_of r ≡ None → otherwise (first_fault (codes_of r)) (end_fault (codes_of r) (length r)) ≡ None
+pub accepted-whole : (r : List ℕ) → refusal_of r ≡ None → first_refusal (first_fault (codes_of r)) (end_fault (codes_of r) (length r)) ≡ None
 unfolding refusal_of
 accepted-whole r e = elim (cases_Bool (eqb (length r) 0)) [
-  | inl none ↦ (let left : Some Empty ≡ None = sym (ap (λ b. cond b (Some Empty) (cond (ltb (2 ^ 40) (length r)) (Some TooLong) (otherwise (first_fault (codes_of r)) (end_fault (codes_of r) (length r))))) none) ∙ e in absurd (cc))
-  | inr some ↦ (let past = sym (ap (λ b. cond b (Some Empty) (cond (ltb (2 ^ 40) (length r)) (Some TooLong) (otherwise (first_fault (codes_of r)) (end_fault (codes_of r) (length r))))) some) ∙ e in
+  | inl none ↦ (let left : Some Empty ≡ None = sym (ap (λ b. cond b (Some Empty) (cond (ltb (2 ^ 40) (length r)) (Some TooLong) (first_refusal (first_fault (codes_of r)) (end_fault (codes_of r) (length r))))) none) ∙ e in absurd (cc))
+  | inr some ↦ (let past = sym (ap (λ b. cond b (Some Empty) (cond (ltb (2 ^ 40) (length r)) (Some TooLong) (first_refusal (first_fault (codes_of r)) (end_fault (codes_of r) (length r))))) some) ∙ e in
       elim (cases_Bool (ltb (2 ^ 40) (length r))) [
-        | inl far ↦ (let left : Some TooLong ≡ None = sym (ap (λ b. cond b (Some TooLong) (otherwise (first_fault (codes_of r)) (end_fault (codes_of r) (length r)))) far) ∙ past in absurd (cc))
-        | inr near ↦ sym (ap (λ b. cond b (Some TooLong) (otherwise (first_fault (codes_of r)) (end_fault (codes_of r) (length r)))) near) ∙ past
+        | inl far ↦ (let left : Some TooLong ≡ None = sym (ap (λ b. cond b (Some TooLong) (first_refusal (first_fault (codes_of r)) (end_fault (codes_of r) (length r)))) far) ∙ past in absurd (cc))
+        | inr near ↦ sym (ap (λ b. cond b (Some TooLong) (first_refusal (first_fault (codes_of r)) (end_fault (codes_of r) (length r)))) near) ∙ past
       ])
 ]
 

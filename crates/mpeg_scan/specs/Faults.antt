@@ -15,9 +15,9 @@ use Rattle.mpeg_scan.specs.Codes.{codes_of}
 use Rattle.mpeg_scan.specs.Words.{is_head, is_slice, rate_of, rate_code, type_of, tally_of}
 
 -- the first of two refusals
-abbrev pub otherwise : Option FilmFault → Option FilmFault → Option FilmFault
-otherwise None g = g
-otherwise (Some f) g = Some f
+abbrev pub first_refusal : Option FilmFault → Option FilmFault → Option FilmFault
+first_refusal None g = g
+first_refusal (Some f) g = Some f
 
 -- a sequence header's rate code is 1 to 8, and that of the first one, if there was one
 abbrev pub rate_fault : ℕ → Code → Option FilmFault
@@ -82,19 +82,19 @@ count_fault t place kind =
 -- these four at a code after the codes of a tally
 abbrev pub code_fault : Tally → ℕ → ℕ → Option FilmFault
 code_fault t place kind =
-    otherwise (kind_fault t place kind)
-    (otherwise (second_fault t kind)
-    (otherwise (first_slice_fault t place kind) (count_fault t place kind)))
+    first_refusal (kind_fault t place kind)
+    (first_refusal (second_fault t kind)
+    (first_refusal (first_slice_fault t place kind) (count_fault t place kind)))
 
 -- the refusal at a code after those in past
 unfoldable pub fault_at : List Code → ℕ → ℕ → Option FilmFault
 fault_at past place kind =
-    otherwise (latest_fault past place) (code_fault (tally_of past) place kind)
+    first_refusal (latest_fault past place) (code_fault (tally_of past) place kind)
 
 -- the first refusal at a code
 unfoldable pub first_fault : List Code → Option FilmFault
 first_fault [] = None
-first_fault (c ∷ past) = otherwise (first_fault past) (fault_at past c.place c.kind)
+first_fault (c ∷ past) = first_refusal (first_fault past) (fault_at past c.place c.kind)
 
 -- a head without slices at the film's end
 abbrev pub open_fault : Tally → Option Header → FilmFault
@@ -108,11 +108,11 @@ last_fault t =
 
 -- the refusal at the film's end
 unfoldable pub end_fault : List Code → ℕ → Option FilmFault
-end_fault past end = otherwise (latest_fault past end) (last_fault (tally_of past))
+end_fault past end = first_refusal (latest_fault past end) (last_fault (tally_of past))
 
 -- the refusal of a film, whose bytes are given the latest first
 unfoldable pub refusal_of : List ℕ → Option FilmFault
 refusal_of r =
     if length r == 0 then Some Empty
     else (if nat_lt (2 ^ 40) (length r) then Some TooLong
-    else otherwise (first_fault (codes_of r)) (end_fault (codes_of r) (length r)))
+    else first_refusal (first_fault (codes_of r)) (end_fault (codes_of r) (length r)))

@@ -7,7 +7,7 @@ use Rattle.mpeg_scan.specs.declared.progress.Progress.{Progress}
 use Rattle.mpeg_scan.specs.declared.tallies.Header.{Header}
 use Rattle.mpeg_scan.specs.declared.tallies.Tally.{Tally}
 use Rattle.mpeg_scan.specs.Words.{is_head, is_slice, rate_code, header_of}
-use Rattle.mpeg_scan.specs.Faults.{otherwise, header_fault, code_fault, last_fault}
+use Rattle.mpeg_scan.specs.Faults.{first_refusal, header_fault, code_fault, last_fault}
 
 -- one more, as 64 bits hold it
 abbrev pub one_more : ℕ → ℕ
@@ -96,13 +96,13 @@ latest_header_fault (Some c) rate end = header_fault rate c end
 -- the refusal at a code, from what the scanner keeps
 unfoldable pub code_judgement : Option Code → Tally → ℕ → ℕ → Option FilmFault
 code_judgement latest t place kind =
-    otherwise (latest_header_fault latest t.rate place)
+    first_refusal (latest_header_fault latest t.rate place)
     (code_fault (tally_with latest t) place kind)
 
 -- the refusal at the film's end, from what the scanner keeps
 unfoldable pub end_judgement : Option Code → Tally → ℕ → Option FilmFault
 end_judgement latest t end =
-    otherwise (latest_header_fault latest t.rate end) (last_fault (tally_with latest t))
+    first_refusal (latest_header_fault latest t.rate end) (last_fault (tally_with latest t))
 
 -- the same from what was read
 abbrev pub judgement : Progress → ℕ → ℕ → Option FilmFault

@@ -4,7 +4,7 @@ use Rattle.std.proofs.lemmas.List.{length-append, length-take, take-take}
 use Rattle.std.proofs.lemmas.List.Concat.{flat_map-cons}
 use Rattle.std.proofs.lemmas.List.Sums.{sum_by-take-le}
 use Rattle.std.proofs.lemmas.Bool.{cases_lt, eqb-true, eqb-false}
-use Rattle.film_frames.specs.Tracks.{framed, begin_of, IsBoundary, IsBoundaryAfter}
+use Rattle.film_frames.specs.Tracks.{framed_bytes, begin_of, IsBoundary, IsBoundaryAfter}
 use Rattle.film_frames.proofs.TrackLemmas.{boundary-zero, begin-all}
 use Rattle.plan_cert.specs.declared.Segment.{Segment}
 use Rattle.plan_cert.specs.Plan.{IsPlan}
@@ -12,14 +12,14 @@ use Rattle.plan_cert.specs.Slots.{plan_slots, total_bytes}
 use Rattle.vod_base.specs.Links.{Doing, told_more, sends}
 use Rattle.pacer.specs.Boundaries.{boundary_from, bytes_between}
 use Rattle.pacer.specs.Sending.{HasStopped}
-use Rattle.pacer.specs.Pacings.{IsPacing, Pacing, pacing_of, first_slots, raised, step_end}
+use Rattle.pacer.specs.Pacings.{IsPacing, Pacing, pacing_of, first_slots, at_slot, step_end}
 use Rattle.pacer.specs.Steps.{HasFailed}
 
 begin-cons : (piece : List ℕ) (pieces : List (List ℕ)) (k : ℕ) → begin_of (piece ∷ pieces) (suc k) ≡ length piece + begin_of pieces k
-begin-cons piece pieces k = ap length (flat_map-cons (λ (p : List ℕ). p) piece (take k pieces)) ∙ length-append piece (framed (take k pieces))
+begin-cons piece pieces k = ap length (flat_map-cons (λ (p : List ℕ). p) piece (take k pieces)) ∙ length-append piece (framed_bytes (take k pieces))
 
-framed-cons : (piece : List ℕ) (pieces : List (List ℕ)) → length (framed (piece ∷ pieces)) ≡ length piece + length (framed pieces)
-framed-cons piece pieces = ap length (flat_map-cons (λ (p : List ℕ). p) piece pieces) ∙ length-append piece (framed pieces)
+framed-cons : (piece : List ℕ) (pieces : List (List ℕ)) → length (framed_bytes (piece ∷ pieces)) ≡ length piece + length (framed_bytes pieces)
+framed-cons piece pieces = ap length (flat_map-cons (λ (p : List ℕ). p) piece pieces) ∙ length-append piece (framed_bytes pieces)
 
 -- the least boundary past a first piece
 least-cons : (piece : List ℕ) (pieces : List (List ℕ)) (at place other number : ℕ) → 0 < at
@@ -51,7 +51,7 @@ boundary-cons piece pieces at false none some rest =
       least = λ other b h. least-cons piece pieces at place other b.number (some refl) rest.least b.among b.place_is h;
     }
 
-pub boundary-from : (pieces : List (List ℕ)) (at : ℕ) → at ≤ length (framed pieces) → IsBoundaryAfter pieces at (boundary_from pieces at)
+pub boundary-from : (pieces : List (List ℕ)) (at : ℕ) → at ≤ length (framed_bytes pieces) → IsBoundaryAfter pieces at (boundary_from pieces at)
 boundary-from [] at within = record {
   boundary = record { number = 0; among = omega arith; place_is = refl };
   after = within;
@@ -62,7 +62,7 @@ boundary-from (piece ∷ pieces) at within =
     (boundary-from pieces (at - length piece) (omega (arith, within, framed-cons piece pieces)))
 
 -- it is the only one
-pub boundary-is : (pieces : List (List ℕ)) (at place : ℕ) → at ≤ length (framed pieces) → IsBoundaryAfter pieces at place → place ≡ boundary_from pieces at
+pub boundary-is : (pieces : List (List ℕ)) (at place : ℕ) → at ≤ length (framed_bytes pieces) → IsBoundaryAfter pieces at place → place ≡ boundary_from pieces at
 boundary-is pieces at place within is =
     let other = boundary-from pieces at within in
     omega (arith, is.least (boundary_from pieces at) other.boundary other.after, other.least place is.boundary is.after)
@@ -94,12 +94,12 @@ due-of-both plan a b keep due is =
 
 pub step-failed : (stop : Bool) (slot : ℕ) (old : Pacing) (pieces : List (List ℕ)) (before : ℕ) (plan : List Segment) (start keep passed due sent to whole : ℕ)
     (told_old told_new : Option (List Doing))
-    → pacing_of pieces before plan start keep passed due sent ≡ raised slot old → to ≡ step_end stop (pacing_of pieces before plan start keep passed due sent) → sent ≤ to
+    → pacing_of pieces before plan start keep passed due sent ≡ at_slot slot old → to ≡ step_end stop (pacing_of pieces before plan start keep passed due sent) → sent ≤ to
     → HasStopped (bytes_between pieces (before + sent) (before + to)) told_old told_new whole
     → HasFailed stop slot old (pacing_of pieces before plan start keep passed due (sent + whole)) told_old told_new
 step-failed stop slot old pieces before plan start keep passed due sent to whole told_old told_new are end order stopped =
-    let rest = drop (before + sent) (framed pieces) in
-    let ends : to ≡ step_end stop (raised slot old) = end ∙ ap (λ (p : Pacing). step_end stop p) are in
+    let rest = drop (before + sent) (framed_bytes pieces) in
+    let ends : to ≡ step_end stop (at_slot slot old) = end ∙ ap (λ (p : Pacing). step_end stop p) are in
     let begins : sent ≡ old.sent = ap (λ (p : Pacing). p.sent) are in
     let size : length (bytes_between pieces (before + sent) (before + to)) ≤ before + to - (before + sent) = omega (arith, length-take (before + to - (before + sent)) rest) in
     let cut : take stopped.out (bytes_between pieces (before + sent) (before + to)) ≡ bytes_between pieces (before + sent) (before + (sent + stopped.out)) =
@@ -117,10 +117,10 @@ step-failed stop slot old pieces before plan start keep passed due sent to whole
 
 -- ---- a pacing in which nothing was stepped
 
-pub new-pacing : (pieces : List (List ℕ)) (before : ℕ) (plan : List Segment) (start total : ℕ) → IsBoundary pieces before → before + total_bytes plan ≡ length (framed pieces)
-    → total ≡ length (framed pieces) → total < 2 ^ 64 → IsPlan plan → IsPacing (pacing_of pieces before plan start (total - before) 0 0 0) × (total ≡ length (framed pieces))
+pub new-pacing : (pieces : List (List ℕ)) (before : ℕ) (plan : List Segment) (start total : ℕ) → IsBoundary pieces before → before + total_bytes plan ≡ length (framed_bytes pieces)
+    → total ≡ length (framed_bytes pieces) → total < 2 ^ 64 → IsPlan plan → IsPacing (pacing_of pieces before plan start (total - before) 0 0 0) × (total ≡ length (framed_bytes pieces))
 new-pacing pieces before plan start total begins whole total_is short is =
-    let end : before + (total - before) ≡ length (framed pieces) = omega (arith, whole, total_is) in (
+    let end : before + (total - before) ≡ length (framed_bytes pieces) = omega (arith, whole, total_is) in (
       record {
         plan = is;
         whole = whole;

@@ -4,7 +4,7 @@ use Rattle.std.proofs.lemmas.List.{append-nil}
 use Rattle.std.proofs.lemmas.List.{take-append-le, take-take, take_all, length-take, length-append, length-drop, drop-drop, map-append}
 use Rattle.std.proofs.Math.Seq.{take-append-add, take-add}
 use Rattle.std.proofs.lemmas.Bool.{cases_lt}
-use Rattle.film_frames.specs.Tracks.{framed, IsNext}
+use Rattle.film_frames.specs.Tracks.{framed_bytes, IsNext}
 use Rattle.vod_base.specs.Links.{Doing, Sent, told_more, sends, IsFrontTold}
 use Rattle.pacer.specs.Boundaries.{bytes_between}
 use Rattle.pacer.specs.Sending.{HasStopped}
@@ -73,20 +73,20 @@ then-stopped old middle new all first then are one front some =
 
 pub between-join : (pieces : List (List ℕ)) (from at to : ℕ) → from ≤ at → at ≤ to → bytes_between pieces from at ++ bytes_between pieces at to ≡ bytes_between pieces from to
 between-join pieces from at to first then =
-    let all = framed pieces in
+    let all = framed_bytes pieces in
     let place : from + (at - from) ≡ at = omega (arith, first) in
     let moved : drop (at - from) (drop from all) ≡ drop at all = drop-drop (at - from) from all ∙ ap (λ n. drop n all) place in
     let count : at - from + (to - at) ≡ to - from = omega (arith, first, then) in
     sym (ap (λ n. take n (drop from all)) (sym count) ∙ take-add (at - from) (to - at) (drop from all) ∙ ap (λ (l : List ℕ). take (at - from) (drop from all) ++ take (to - at) l) moved)
 
-pub between-length : (pieces : List (List ℕ)) (from to : ℕ) → from ≤ to → to ≤ length (framed pieces) → length (bytes_between pieces from to) ≡ to - from
+pub between-length : (pieces : List (List ℕ)) (from to : ℕ) → from ≤ to → to ≤ length (framed_bytes pieces) → length (bytes_between pieces from to) ≡ to - from
 between-length pieces from to order within =
-    omega (arith, length-take (to - from) (drop from (framed pieces)), length-drop from (framed pieces), order, within)
+    omega (arith, length-take (to - from) (drop from (framed_bytes pieces)), length-drop from (framed_bytes pieces), order, within)
 
 -- the first of the next bytes
 pub next-are : (pieces : List (List ℕ)) (at most : ℕ) (next : List ℕ) → IsNext pieces at next → take most next ≡ bytes_between pieces at (at + min (length next) most)
 next-are pieces at most next is =
-    let rest = drop at (framed pieces) in
+    let rest = drop at (framed_bytes pieces) in
     let span : at + min (length next) most - at ≡ min (length next) most = omega arith in
     let same : take most next ≡ take most (take (length next) rest) = ap (λ (l : List ℕ). take most l) is.bytes_are in
     elim (cases_lt (length next) most) [
@@ -109,7 +109,7 @@ more-sent pieces from at most next old middle new is order first then =
 
 -- a part failed
 pub part-stopped : (pieces : List (List ℕ)) (from at to : ℕ) (next : List ℕ) (old middle new : Option (List Doing)) (whole : ℕ) → IsNext pieces at next → from ≤ at → at ≤ to
-    → to ≤ length (framed pieces) → middle ≡ told_more old (sends (bytes_between pieces from at)) → HasStopped (take (to - at) next) middle new whole
+    → to ≤ length (framed_bytes pieces) → middle ≡ told_more old (sends (bytes_between pieces from at)) → HasStopped (take (to - at) next) middle new whole
     → HasStopped (bytes_between pieces from to) old new (at - from + whole)
 part-stopped pieces from at to next old middle new whole is order then within first stopped =
     let most = to - at in
@@ -119,11 +119,11 @@ part-stopped pieces from at to next old middle new whole is order then within fi
     let all = between-length pieces from to (omega (arith, order, then)) within in
     let out = stopped.out in
     let cut : take out (take most next) ≡ bytes_between pieces at (at + out) =
-    ap (λ (l : List ℕ). take out l) are ∙ take-take out (end - at) (drop at (framed pieces)) (omega (arith, stopped.out_most, length-take most next))
-    ∙ ap (λ n. take n (drop at (framed pieces))) (omega arith) in
+    ap (λ (l : List ℕ). take out l) are ∙ take-take out (end - at) (drop at (framed_bytes pieces)) (omega (arith, stopped.out_most, length-take most next))
+    ∙ ap (λ n. take n (drop at (framed_bytes pieces))) (omega arith) in
     let joined : bytes_between pieces from at ++ take out (take most next) ≡ take (at - from + out) (bytes_between pieces from to) =
     ap (λ (l : List ℕ). bytes_between pieces from at ++ l) cut ∙ between-join pieces from at (at + out) order (omega arith)
-    ∙ ap (λ n. take n (drop from (framed pieces))) (omega (arith, order)) ∙ sym (take-take (at - from + out) (to - from) (drop from (framed pieces)) (omega (arith, order, then, stopped.out_most, size))) in
+    ∙ ap (λ n. take n (drop from (framed_bytes pieces))) (omega (arith, order)) ∙ sym (take-take (at - from + out) (to - from) (drop from (framed_bytes pieces)) (omega (arith, order, then, stopped.out_most, size))) in
     record {
       before_end = omega (arith, stopped.before_end, size, all, order, then);
       out = at - from + out;
@@ -137,4 +137,4 @@ pub none-sent : (pieces : List (List ℕ)) (from : ℕ) (told : Option (List Doi
 none-sent pieces from None = refl
 none-sent pieces from (Some told) =
     let none : from - from ≡ 0 = omega arith in
-    ap (λ (l : List Doing). Some l) (sym (append-nil told) ∙ ap (λ n. told ++ sends (take n (drop from (framed pieces)))) (sym none))
+    ap (λ (l : List Doing). Some l) (sym (append-nil told) ∙ ap (λ n. told ++ sends (take n (drop from (framed_bytes pieces)))) (sym none))

@@ -3,7 +3,7 @@ use Rattle.std.proofs.Common.{◌≡◌, ℕ, ◌+◌, ◌-◌, ◌≤◌, List,
 use Rattle.std.proofs.lemmas.Bool.{cases_lt}
 use Rattle.std.proofs.lemmas.List.{take_all}
 use Rattle.std.proofs.lemmas.List.Sums.{sum_by_more, sum_by-take-le}
-use Rattle.film_frames.specs.Tracks.{framed}
+use Rattle.film_frames.specs.Tracks.{framed_bytes}
 use Rattle.plan_cert.specs.declared.Segment.{Segment}
 use Rattle.plan_cert.specs.Plan.{IsPlan}
 use Rattle.plan_cert.specs.Slots.{plan_slots, sum_through, total_bytes}
@@ -64,7 +64,7 @@ sends-next p slot is = λ at.
 
 pub stops-at-boundary : (p : Pacing) (slot : ℕ) → IsPacing p → StopsAtBoundary p slot
 stops-at-boundary p slot is = λ place at.
-    let within : p.before + p.sent ≤ length (framed p.pieces) = omega (arith, is.sent, is.due, is.most, is.whole) in
+    let within : p.before + p.sent ≤ length (framed_bytes p.pieces) = omega (arith, is.sent, is.due, is.most, is.whole) in
     let same = boundary-is p.pieces (p.before + p.sent) (p.before + place) within at in
     let next : place ≡ boundary_from p.pieces (p.before + p.sent) - p.before = omega (arith, same) in
     ap (λ n. min (due_by p slot) n) (sym next)

@@ -1,6 +1,6 @@
 -- Boundaries of a track as a number.
 use Rattle.std.specs.Prelude.{ℕ, ◌+◌, ◌-◌, ◌==◌, if◌then◌else◌, List, [], ◌∷◌, length, take, drop}
-use Rattle.film_frames.specs.Tracks.{framed}
+use Rattle.film_frames.specs.Tracks.{framed_bytes}
 
 -- the least boundary at or after a place, which counts from where the first piece begins
 abbrev pub boundary_from : List (List ℕ) → ℕ → ℕ
@@ -10,4 +10,4 @@ boundary_from (piece ∷ pieces) at = if at == 0
 
 -- the bytes of pieces from a place up to another
 abbrev pub bytes_between : List (List ℕ) → ℕ → ℕ → List ℕ
-bytes_between pieces from to = take (to - from) (drop from (framed pieces))
+bytes_between pieces from to = take (to - from) (drop from (framed_bytes pieces))

@@ -2,7 +2,7 @@
 use Rattle.std.specs.Prelude.{ℕ, ◌≡◌, ◌+◌, ◌-◌, ◌<◌, ◌≤◌, min, false, true, slice_index}
 use Rattle.film_frames.specs.Tracks.{IsBoundaryAfter}
 use Rattle.plan_cert.specs.Slots.{plan_slots, sum_through, total_bytes}
-use Rattle.pacer.specs.Pacings.{IsPacing, Pacing, raised, stepped}
+use Rattle.pacer.specs.Pacings.{IsPacing, Pacing, at_slot, after_step}
 
 -- a fact of each pacing and each slot of the link
 abbrev pub OfSteps : (Pacing → ℕ → Type 0) → Type 0
@@ -10,7 +10,7 @@ OfSteps Fact = (p : Pacing) (slot : ℕ) → IsPacing p → Fact p slot
 
 -- a slot before the plan's start brings nothing
 abbrev pub BringsNothing : Pacing → ℕ → Type 0
-BringsNothing p slot = slot < p.start → raised slot p ≡ p
+BringsNothing p slot = slot < p.start → at_slot slot p ≡ p
 
 -- no slot after this one was stepped, and the plan has begun by then
 pub record IsLatest (p : Pacing) (slot : ℕ) : Type 0 where
@@ -24,7 +24,7 @@ pub record IsSentThrough (p : Pacing) (slot : ℕ) (new : Pacing) : Type 0 where
   pub sent : new.sent ≡ new.due
 
 abbrev pub SendsThrough : Pacing → ℕ → Type 0
-SendsThrough p slot = IsLatest p slot → IsSentThrough p slot (stepped false slot p)
+SendsThrough p slot = IsLatest p slot → IsSentThrough p slot (after_step false slot p)
 
 -- the plan's slots up to this one were stepped, and no later one; no halt was asked
 pub record IsUpTo (p : Pacing) (slot : ℕ) : Type 0 where
@@ -39,11 +39,11 @@ pub record IsNextSent (p : Pacing) (slot : ℕ) (new : Pacing) : Type 0 where
   pub next : IsUpTo new (slot + 1)
 
 abbrev pub SendsNext : Pacing → ℕ → Type 0
-SendsNext p slot = IsUpTo p slot → IsNextSent p slot (stepped false slot p)
+SendsNext p slot = IsUpTo p slot → IsNextSent p slot (after_step false slot p)
 
 -- a step with a stop sends as much as one without, but nothing past the first boundary at or after
 -- what was sent
 abbrev pub StopsAtBoundary : Pacing → ℕ → Type 0
 StopsAtBoundary p slot =
     (place : ℕ) → IsBoundaryAfter p.pieces (p.before + p.sent) (p.before + place)
-    → (stepped true slot p).sent ≡ min (stepped false slot p).sent place
+    → (after_step true slot p).sent ≡ min (after_step false slot p).sent place

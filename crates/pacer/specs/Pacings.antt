@@ -1,7 +1,7 @@
 -- Sending by a plan: what is due through each slot, and what was sent.
 use Rattle.std.specs.Prelude.{ℕ, ◌≡◌, ◌+◌, ◌-◌, ◌^◌, ◌≤◌, min, max, nat_lt, ◌==◌, ◌&&◌, Bool}
 use Rattle.std.specs.Prelude.{if◌then◌else◌, List, length, take, sum, Option, Some, None}
-use Rattle.film_frames.specs.Tracks.{framed, IsBoundary}
+use Rattle.film_frames.specs.Tracks.{framed_bytes, IsBoundary}
 use Rattle.plan_cert.specs.declared.Segment.{Segment}
 use Rattle.plan_cert.specs.Slots.{plan_slots, total_bytes}
 use Rattle.plan_cert.specs.Plan.{IsPlan}
@@ -51,8 +51,8 @@ whole_pacing pieces before plan start = pacing_of pieces before plan start (tota
 -- what holds of every pacing
 pub record IsPacing (p : Pacing) : Type 0 where
   pub plan : IsPlan p.plan
-  pub whole : p.before + total_bytes p.plan ≡ length (framed p.pieces)
-  pub short : length (framed p.pieces) ≤ 2 ^ 64 - 1
+  pub whole : p.before + total_bytes p.plan ≡ length (framed_bytes p.pieces)
+  pub short : length (framed_bytes p.pieces) ≤ 2 ^ 64 - 1
   -- both ends of what is sent are boundaries
   pub begins : IsBoundary p.pieces p.before
   pub ends : IsBoundary p.pieces (p.before + p.keep)
@@ -71,8 +71,8 @@ abbrev pub due_by : Pacing → ℕ → ℕ
 due_by p slot = max p.due (min (first_slots p.plan (slots_by p slot)) p.keep)
 
 -- the pacing once a slot was stepped, before anything is sent for it
-abbrev pub raised : ℕ → Pacing → Pacing
-raised slot p = record p { passed = max p.passed (slots_by p slot); due = due_by p slot }
+abbrev pub at_slot : ℕ → Pacing → Pacing
+at_slot slot p = record p { passed = max p.passed (slots_by p slot); due = due_by p slot }
 
 -- the first boundary at or after what was sent
 abbrev pub next_boundary : Pacing → ℕ
@@ -83,8 +83,8 @@ abbrev pub step_end : Bool → Pacing → ℕ
 step_end stop p = if stop then min p.due (next_boundary p) else p.due
 
 -- the pacing after a step
-abbrev pub stepped : Bool → ℕ → Pacing → Pacing
-stepped stop slot p = record (raised slot p) { sent = step_end stop (raised slot p) }
+abbrev pub after_step : Bool → ℕ → Pacing → Pacing
+after_step stop slot p = record (at_slot slot p) { sent = step_end stop (at_slot slot p) }
 
 -- the bytes from one place of the plan up to another
 abbrev pub plan_bytes : Pacing → ℕ → ℕ → List ℕ

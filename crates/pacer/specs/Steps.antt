@@ -2,7 +2,7 @@
 use Rattle.std.specs.Prelude.{ℕ, ◌≡◌, ◌-◌, ◌≤◌, ◌<◌, Bool, Option, List}
 use Rattle.vod_base.specs.Links.{Doing, told_more, sends}
 use Rattle.pacer.specs.declared.pacers.Stepped.{Stepped}
-use Rattle.pacer.specs.Pacings.{Pacing, raised, plan_bytes, step_end}
+use Rattle.pacer.specs.Pacings.{Pacing, at_slot, plan_bytes, step_end}
 
 -- the bytes that the step sent, and those that are due and weren't sent
 pub record IsStepped (old new : Pacing) (step : Stepped) : Type 0 where
@@ -13,10 +13,10 @@ pub record IsStepped (old new : Pacing) (step : Stepped) : Type 0 where
 -- past the step's end; and the front of one more went out.
 pub record HasFailed (stop : Bool) (slot : ℕ) (old new : Pacing)
     (told_old told_new : Option (List Doing)) : Type 0 where
-  pub state : new ≡ record (raised slot old) { sent = new.sent }
+  pub state : new ≡ record (at_slot slot old) { sent = new.sent }
   pub least : old.sent ≤ new.sent
-  pub before_end : new.sent < step_end stop (raised slot old)
+  pub before_end : new.sent < step_end stop (at_slot slot old)
   pub out : ℕ
   pub out_least : new.sent ≤ out
-  pub out_most : out ≤ step_end stop (raised slot old)
+  pub out_most : out ≤ step_end stop (at_slot slot old)
   pub told : told_new ≡ told_more told_old (sends (plan_bytes old old.sent out))

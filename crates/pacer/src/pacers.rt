@@ -2,7 +2,7 @@ ghost use Rattle.std.specs.Prelude.{◌≡◌, ◌+◌, ◌-◌, ◌*◌, ◌^�
 ghost use Rattle.std.specs.Prelude.{length, take, min, max, OnOk, OnErr, IfOk, true, false};
 ghost use Rattle.vod_base.specs.Outside.{HasRisen};
 ghost use Rattle.vod_base.specs.Links.{told_more, sends};
-ghost use Rattle.film_frames.specs.Tracks.{framed, IsBoundary, IsBoundaryAfter};
+ghost use Rattle.film_frames.specs.Tracks.{framed_bytes, IsBoundary, IsBoundaryAfter};
 ghost use Rattle.plan_cert.specs.Slots.{total_bytes};
 ghost use Rattle.pacer.specs.Pacings.{slots_through};
 
@@ -41,7 +41,7 @@ pub struct Pacer<T: Track> {
 
 impl<T: Track> Model for Pacer<T> {
     ghost use Rattle.std.specs.Prelude.{◌≡◌, length};
-    ghost use Rattle.film_frames.specs.Tracks.{framed};
+    ghost use Rattle.film_frames.specs.Tracks.{framed_bytes};
     ghost use Rattle.pacer.specs.Pacings.{Pacing, pacing_of, slots_through, IsPacing};
 
     ghost Value = { Pacing };
@@ -52,7 +52,7 @@ impl<T: Track> Model for Pacer<T> {
 
     ghost invariant = { λ p.
         IsPacing (pacing_of (T.pieces p.track) p.before p.cursor p.start p.keep
-        (slots_through p.last) p.due p.sent) × (p.total ≡ length (framed (T.pieces p.track))) };
+        (slots_through p.last) p.due p.sent) × (p.total ≡ length (framed_bytes (T.pieces p.track))) };
 }
 
 /// The later of two slots of a plan, where the first may be none.
@@ -66,8 +66,8 @@ fn later(last: Option<u64>, slot: u64) -> Option<u64>
 }
 
 impl<T: Track> Pacer<T> {
-    ghost use Rattle.pacer.specs.Pacings.{whole_pacing, IsPacing, next_boundary, raised};
-    ghost use Rattle.pacer.specs.Pacings.{plan_bytes, step_end, stepped, stands_at_boundary};
+    ghost use Rattle.pacer.specs.Pacings.{whole_pacing, IsPacing, next_boundary, at_slot};
+    ghost use Rattle.pacer.specs.Pacings.{plan_bytes, step_end, after_step, stands_at_boundary};
     ghost use Rattle.pacer.specs.Pacings.{is_done};
     ghost use Rattle.pacer.specs.Steps.{IsStepped, HasFailed};
 
@@ -75,7 +75,7 @@ impl<T: Track> Pacer<T> {
     /// `sent_before` of the track, its last one at the track's end.
     pub fn new(track: T, sent_before: u64, plan: Plan, start: u64) -> Pacer<T>
         requires boundary { IsBoundary (T.pieces track) sent_before }
-        requires whole { sent_before + total_bytes plan ≡ length (framed (T.pieces track)) }
+        requires whole { sent_before + total_bytes plan ≡ length (framed_bytes (T.pieces track)) }
         ensures { result ≡ whole_pacing (T.pieces track) sent_before plan start }
     {
         let total = track.total();
@@ -96,7 +96,7 @@ impl<T: Track> Pacer<T> {
 
     /// The slot of the link steps what is due up to: through the plan's slot of it, and never down.
     fn raise(&mut self, slot: u64)
-        ensures { self.new ≡ raised slot self.old }
+        ensures { self.new ≡ at_slot slot self.old }
     {
         if slot < self.start {
             return;
@@ -147,9 +147,9 @@ impl<T: Track> Pacer<T> {
     ) -> Result<Stepped, LinkFault>
         ensures count { K.faults link.old ≤ K.faults link.new }
         ensures fault { OnErr result (HasRisen (K.faults link.old) (K.faults link.new)) }
-        ensures state { OnOk result (self.new ≡ stepped stop slot self.old) }
+        ensures state { OnOk result (self.new ≡ after_step stop slot self.old) }
         ensures told { OnOk result (K.told link.new ≡ told_more (K.told link.old)
-            (sends (plan_bytes self.old self.old.sent (step_end stop (raised slot self.old))))) }
+            (sends (plan_bytes self.old self.old.sent (step_end stop (at_slot slot self.old))))) }
         ensures answer { IfOk result (λ step. IsStepped self.old self.new step) }
         ensures failed { OnErr result
             (HasFailed stop slot self.old self.new (K.told link.old) (K.told link.new)) }
@@ -197,7 +197,7 @@ impl<T: Track> Pacer<T> {
     }
 
     /// The bytes that are due, among them those that were sent.
-    pub fn due(&self) -> u64
+    pub fn bytes_due(&self) -> u64
         ensures value { result ≡ self.now.due }
         ensures pacing { IsPacing self.now }
     {
@@ -215,7 +215,7 @@ impl<T: Track> Pacer<T> {
 
     /// Whether a slot at or after the start was stepped, and all bytes of the plan were sent, or
     /// those up to where it was halted.
-    pub fn done(&self) -> bool
+    pub fn is_done(&self) -> bool
         ensures value { result ≡ is_done self.now }
         ensures all { IsTrue result → (self.now.sent ≡ self.now.keep)
             × (self.now.due ≡ self.now.keep) }

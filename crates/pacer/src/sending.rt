@@ -1,7 +1,7 @@
 ghost use Rattle.std.specs.Prelude.{◌≡◌, ◌++◌, ◌+◌, ◌≤◌, ◌<◌, length, take, min, MatchResult, IfOk};
 ghost use Rattle.std.specs.Prelude.{IfErr, OnErr, OnOk};
 ghost use Rattle.vod_base.specs.Outside.{HasRisen};
-ghost use Rattle.film_frames.specs.Tracks.{framed};
+ghost use Rattle.film_frames.specs.Tracks.{framed_bytes};
 ghost use Rattle.vod_base.specs.Links.{told_more, sends, IsFrontTold};
 ghost use Rattle.pacer.specs.Boundaries.{bytes_between};
 ghost use Rattle.pacer.specs.Sending.{HasStopped};
@@ -72,7 +72,7 @@ pub(crate) fn send_between<T: Track, K: Link>(
     link: &mut K,
 ) -> Result<(), Stopped>
     requires order { from ≤ to }
-    requires within { to ≤ length (framed (T.pieces track.now)) }
+    requires within { to ≤ length (framed_bytes (T.pieces track.now)) }
     ensures count { K.faults link.old ≤ K.faults link.new }
     ensures fault { OnErr result (HasRisen (K.faults link.old) (K.faults link.new)) }
     ensures whole { OnOk result (K.told link.new ≡ told_more (K.told link.old)

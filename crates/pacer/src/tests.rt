@@ -46,12 +46,12 @@ fn called(
     let answer = match call {
         Call::Step(slot) => pacer.step(slot, false, link).ok().map(|step| step.sent),
         Call::Stop(slot) => pacer.step(slot, true, link).ok().map(|step| step.sent),
-        Call::Halt if pacer.due() == pacer.sent() => Some(pacer.ask_halt()),
+        Call::Halt if pacer.bytes_due() == pacer.sent() => Some(pacer.ask_halt()),
         Call::Halt => return Err(Fail::from("a halt before all was sent")),
     };
     Ok((
         answer,
-        (pacer.sent(), pacer.due(), pacer.at_boundary(), pacer.done()),
+        (pacer.sent(), pacer.bytes_due(), pacer.at_boundary(), pacer.is_done()),
     ))
 }
 

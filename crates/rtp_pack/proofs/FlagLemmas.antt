@@ -11,7 +11,7 @@ use Rattle.rtp_pack.specs.declared.filling.Holds.TheVariants.{HeadAlone, Slices,
 use Rattle.rtp_pack.specs.declared.payloads.Packet.{Packet}
 use Rattle.rtp_pack.specs.Cutting.{first_piece, full_before, full_ends, goes_in, goes_in_cut}
 use Rattle.rtp_pack.specs.Cutting.{goes_in_whole, next_filling, start_of}
-use Rattle.rtp_pack.specs.Packets.{AreInOrder, among, before_slice, begins_slice, filling_packet}
+use Rattle.rtp_pack.specs.Packets.{AreInOrder, is_among, before_slice, begins_slice, filling_packet}
 use Rattle.rtp_pack.specs.Packets.{ends_slice, ends_to, full_packets, lengths_to, next_place}
 use Rattle.rtp_pack.specs.Packets.{packet, packets_from, piece_packet, piece_packets}
 use Rattle.rtp_pack.proofs.SizeLemmas.{whole-fits}
@@ -55,60 +55,60 @@ later false false l m is more = absurd (true≢false (sym is))
 
 -- ---- the places of slices
 
-among-below : (starts : List ℕ) (at to x : ℕ) → AreInOrder at starts to → x < at → among x starts ≡ false
+among-below : (starts : List ℕ) (at to x : ℕ) → AreInOrder at starts to → x < at → is_among x starts ≡ false
 among-below [] at to x order less = refl
 among-below (s ∷ starts) at to x order less =
-    or-neither (eqb x s) (among x starts) (ne_eqb x s (λ e. absurd (omega (arith, e, order.0, less)))) (among-below starts (next_place to starts) to x order.1.1 (omega (arith, order.1.0)))
+    or-neither (eqb x s) (is_among x starts) (ne_eqb x s (λ e. absurd (omega (arith, e, order.0, less)))) (among-below starts (next_place to starts) to x order.1.1 (omega (arith, order.1.0)))
 
-ends-below : (starts : List ℕ) (at to x : ℕ) → AreInOrder at starts to → x ≤ at → among x (ends_to to starts) ≡ false
+ends-below : (starts : List ℕ) (at to x : ℕ) → AreInOrder at starts to → x ≤ at → is_among x (ends_to to starts) ≡ false
 ends-below [] at to x order less = refl
 ends-below (s ∷ starts) at to x order less =
-    or-neither (eqb x (next_place to starts)) (among x (ends_to to starts)) (ne_eqb x (next_place to starts) (λ e. absurd (omega (arith, e, order.1.0, less))))
+    or-neither (eqb x (next_place to starts)) (is_among x (ends_to to starts)) (ne_eqb x (next_place to starts) (λ e. absurd (omega (arith, e, order.1.0, less))))
     (ends-below starts (next_place to starts) to x order.1.1 (omega (arith, order.1.0)))
 
 -- from a place on, all slices are those that are left
 pub record Agrees (to : ℕ) (all : List ℕ) (at : ℕ) (left : List ℕ) : Type 0 where
-  pub starts : (x : ℕ) → at ≤ x → among x all ≡ among x left
-  pub ends : (x : ℕ) → at < x → among x (ends_to to all) ≡ among x (ends_to to left)
+  pub starts : (x : ℕ) → at ≤ x → is_among x all ≡ is_among x left
+  pub ends : (x : ℕ) → at < x → is_among x (ends_to to all) ≡ is_among x (ends_to to left)
 
 -- what is known of a slice from `at` to `next`
 pub record Slice (to : ℕ) (all : List ℕ) (at next : ℕ) : Type 0 where
-  pub starts : among at all ≡ true
-  pub ends : among next (ends_to to all) ≡ true
-  pub no_start : (x : ℕ) → at < x → x < next → among x all ≡ false
-  pub no_end : (x : ℕ) → at < x → x < next → among x (ends_to to all) ≡ false
+  pub starts : is_among at all ≡ true
+  pub ends : is_among next (ends_to to all) ≡ true
+  pub no_start : (x : ℕ) → at < x → x < next → is_among x all ≡ false
+  pub no_end : (x : ℕ) → at < x → x < next → is_among x (ends_to to all) ≡ false
 
 slice-known : (to : ℕ) (all : List ℕ) (s : ℕ) (left : List ℕ) (at : ℕ) → Agrees to all at (s ∷ left) → AreInOrder at (s ∷ left) to → Slice to all at (next_place to left)
 slice-known to all s left at agrees order =
     let next = next_place to left in
     record {
-      starts = agrees.starts at (omega arith) ∙ or-left (eqb at s) (among at left) (eq-eqb at s (sym order.0));
-      ends = agrees.ends next (omega (arith, order.1.0)) ∙ or-left (eqb next next) (among next (ends_to to left)) (eq-eqb next next refl);
+      starts = agrees.starts at (omega arith) ∙ or-left (eqb at s) (is_among at left) (eq-eqb at s (sym order.0));
+      ends = agrees.ends next (omega (arith, order.1.0)) ∙ or-left (eqb next next) (is_among next (ends_to to left)) (eq-eqb next next refl);
       no_start = λ x above below. agrees.starts x (omega (arith, above))
-          ∙ or-neither (eqb x s) (among x left) (ne_eqb x s (λ e. absurd (omega (arith, e, order.0, above)))) (among-below left next to x order.1.1 below);
+          ∙ or-neither (eqb x s) (is_among x left) (ne_eqb x s (λ e. absurd (omega (arith, e, order.0, above)))) (among-below left next to x order.1.1 below);
       no_end = λ x above below. agrees.ends x above
-          ∙ or-neither (eqb x next) (among x (ends_to to left)) (ne_eqb x next (λ e. absurd (omega (arith, e, below)))) (ends-below left next to x order.1.1 (omega (arith, below)));
+          ∙ or-neither (eqb x next) (is_among x (ends_to to left)) (ne_eqb x next (λ e. absurd (omega (arith, e, below)))) (ends-below left next to x order.1.1 (omega (arith, below)));
     }
 
 agrees-next : (to : ℕ) (all : List ℕ) (s : ℕ) (left : List ℕ) (at : ℕ) → Agrees to all at (s ∷ left) → AreInOrder at (s ∷ left) to → Agrees to all (next_place to left) left
 agrees-next to all s left at agrees order =
     let next = next_place to left in
     record {
-      starts = λ x above. agrees.starts x (omega (arith, above, order.1.0)) ∙ or-rest (eqb x s) (among x left) (ne_eqb x s (λ e. absurd (omega (arith, e, order.0, order.1.0, above))));
-      ends = λ x above. agrees.ends x (omega (arith, above, order.1.0)) ∙ or-rest (eqb x next) (among x (ends_to to left)) (ne_eqb x next (λ e. absurd (omega (arith, e, above))));
+      starts = λ x above. agrees.starts x (omega (arith, above, order.1.0)) ∙ or-rest (eqb x s) (is_among x left) (ne_eqb x s (λ e. absurd (omega (arith, e, order.0, order.1.0, above))));
+      ends = λ x above. agrees.ends x (omega (arith, above, order.1.0)) ∙ or-rest (eqb x next) (is_among x (ends_to to left)) (ne_eqb x next (λ e. absurd (omega (arith, e, above))));
     }
 
 -- ---- pieces
 
 abbrev pub begins : PictureUnit → List ℕ → ℕ → ℕ → Bool
-begins unit all from to = among from all || (eqb from unit.from && ltb unit.head_end to)
+begins unit all from to = is_among from all || (eqb from unit.from && ltb unit.head_end to)
 
 -- what is known of a piece that is being filled
 pub record Right (unit : PictureUnit) (all : List ℕ) (f : Filling) : Type 0 where
   pub first : unit.from < unit.head_end
   pub after : unit.head_end ≤ f.at
   pub begin : begins unit all f.from f.at ≡ begins_slice f.holds
-  pub end : among f.at (ends_to unit.to all) ≡ ends_slice f.holds
+  pub end : is_among f.at (ends_to unit.to all) ≡ ends_slice f.holds
   pub alone : f.holds ≡ HeadAlone → (f.from ≡ unit.from) × (f.at ≡ unit.head_end)
   pub order : f.from ≤ f.at
 
@@ -120,7 +120,7 @@ closed-right unit all f right =
 -- a piece that lies in a slice but for its first byte at most
 no-begin : (unit : PictureUnit) (all : List ℕ) (at next x to : ℕ) → Slice unit.to all at next → unit.from < at → at < x → x < next → begins unit all x to ≡ false
 no-begin unit all at next x to slice before above below =
-    or-neither (among x all) (eqb x unit.from && ltb unit.head_end to) (slice.no_start x above below) (and-first (eqb x unit.from) (ltb unit.head_end to) (ne_eqb x unit.from (λ e. absurd (omega (arith, e, before, above)))))
+    or-neither (is_among x all) (eqb x unit.from && ltb unit.head_end to) (slice.no_start x above below) (and-first (eqb x unit.from) (ltb unit.head_end to) (ne_eqb x unit.from (λ e. absurd (omega (arith, e, before, above)))))
 
 full-pieces : (unit : PictureUnit) (all : List ℕ) (at next : ℕ) (begin : Bool) (start count : ℕ) → Slice unit.to all at next → unit.from < at
     → (0 < count → begins unit all start (start + 1380) ≡ begin) → (0 < count → at < start + 1380) → start + 1380 * count < next
@@ -174,10 +174,10 @@ slice-rest unit all f false count rest right full is =
 begins-here : (unit : PictureUnit) (all : List ℕ) (from at x : ℕ) (holds : Holds) → unit.head_end ≤ at → begins unit all from at ≡ begins_slice holds → (holds ≡ HeadAlone → (from ≡ unit.from) × (at ≡ unit.head_end))
     → (holds ≢ LastFragment) → at < x → begins unit all from x ≡ true
 begins-here unit all from at x HeadAlone after begin alone other above =
-    or-right (among from all) (eqb from unit.from && ltb unit.head_end x)
+    or-right (is_among from all) (eqb from unit.from && ltb unit.head_end x)
     (and-both (eqb from unit.from) (ltb unit.head_end x) (eq-eqb from unit.from (alone refl).0) (lt-ltb unit.head_end x (omega (arith, after, above))))
 begins-here unit all from at x Slices after begin alone other above =
-    later (among from all) (eqb from unit.from) (ltb unit.head_end at) (ltb unit.head_end x) begin (λ _. lt-ltb unit.head_end x (omega (arith, after, above)))
+    later (is_among from all) (eqb from unit.from) (ltb unit.head_end at) (ltb unit.head_end x) begin (λ _. lt-ltb unit.head_end x (omega (arith, after, above)))
 begins-here unit all from at x LastFragment after begin alone other above = absurd (other refl)
 
 not-last : (from at n : ℕ) (holds : Holds) (short : Bool) → cond short (goes_in_whole from at holds n) (goes_in_cut from at holds) ≡ true → holds ≢ LastFragment
@@ -186,10 +186,10 @@ not-last from at n Slices short e is = cc
 not-last from at n LastFragment true e is = true≢false (sym e)
 not-last from at n LastFragment false e is = true≢false (sym e)
 
-begins-start : (unit : PictureUnit) (all : List ℕ) (f : Filling) (n x : ℕ) (goes : Bool) → Right unit all f → among f.at all ≡ true → goes_in f n ≡ goes → f.at < x → begins unit all (start_of goes f) x ≡ true
+begins-start : (unit : PictureUnit) (all : List ℕ) (f : Filling) (n x : ℕ) (goes : Bool) → Right unit all f → is_among f.at all ≡ true → goes_in f n ≡ goes → f.at < x → begins unit all (start_of goes f) x ≡ true
 begins-start unit all f n x true right here e above =
     begins-here unit all f.from f.at x f.holds right.after right.begin right.alone (not-last f.from f.at n f.holds (leb n 1380) e) above
-begins-start unit all f n x false right here e above = or-left (among f.at all) (eqb f.at unit.from && ltb unit.head_end x) here
+begins-start unit all f n x false right here e above = or-left (is_among f.at all) (eqb f.at unit.from && ltb unit.head_end x) here
 
 room-whole : (from at n count : ℕ) (holds : Holds) → goes_in_whole from at holds n ≡ true → from + 1380 * count < at + n → 0 < count → at < from + 1380
 room-whole from at n count HeadAlone e before some = absurd (omega (arith, leb-true (at + n) (from + 1380) e, before, some))
@@ -282,7 +282,7 @@ pub first-right : (unit : PictureUnit) (all : List ℕ) → unit.from < unit.hea
 first-right unit all first order = record {
   first = first;
   after = omega arith;
-  begin = or-neither (among unit.from all) (eqb unit.from unit.from && ltb unit.head_end unit.head_end) (among-below all unit.head_end unit.to unit.from order first)
+  begin = or-neither (is_among unit.from all) (eqb unit.from unit.from && ltb unit.head_end unit.head_end) (among-below all unit.head_end unit.to unit.from order first)
       (and-second (eqb unit.from unit.from) (ltb unit.head_end unit.head_end) (le-ltb unit.head_end unit.head_end (omega arith)));
   end = ends-below all unit.head_end unit.to unit.head_end order (omega arith);
   alone = λ e. (refl, refl);

@@ -12,7 +12,7 @@ use Rattle.rtp_pack.specs.declared.filling.Holds.TheVariants.{HeadAlone, Slices,
 use Rattle.rtp_pack.specs.Cutting.{Cuts, IsCutting, filling_after, first_piece, full_ends, goes_in}
 use Rattle.rtp_pack.specs.Cutting.{goes_in_cut, goes_in_whole, holds_after}
 use Rattle.rtp_pack.specs.Laws.{ArePieces, AreShortUncut, DoLongEndPieces, IsUncut}
-use Rattle.rtp_pack.specs.Packets.{among, packets_from}
+use Rattle.rtp_pack.specs.Packets.{is_among, packets_from}
 use Rattle.rtp_pack.specs.Rules.{HaveBytes, IsCutPlace, MayAllEnd, MayEnd, MeetsRules, SliceAt}
 use Rattle.rtp_pack.proofs.CutLemmas.{AreSome, ends, not_both, packets-cut}
 use Rattle.rtp_pack.proofs.FlagLemmas.{or-right}
@@ -25,7 +25,7 @@ use Rattle.rtp_pack.proofs.LawLemmas.{short-uncut}
 record Rest (Must : ℕ → Type 0) (Fits : ℕ → ℕ → Type 0) (May : ℕ → ℕ → Type 0) (start end : ℕ) (cuts : List ℕ) : Type 0 where
   pieces : ArePieces start cuts end
   short : (place length : ℕ) → Fits place length → IsUncut place (place + length) cuts
-  must : (place : ℕ) → start < place → Must place → among place cuts ≡ true
+  must : (place : ℕ) → start < place → Must place → is_among place cuts ≡ true
   ends : MayAllEnd May start cuts
 
 -- the reasons of an end
@@ -33,20 +33,20 @@ abbrev Reasons : (ℕ → Type 0) → (ℕ → ℕ → Type 0) → (ℕ → ℕ 
 Reasons Must Fits May =
     (start cut : ℕ) → May start cut → (cut ≡ start + 1380) ⊎ (Must cut ⊎ ((length : ℕ) × (Fits cut length × (start + 1380 < cut + length))))
 
-pieces-rise : (start end first : ℕ) (cuts : List ℕ) → ArePieces start cuts end → first < start → among first cuts ≡ true → ⊥
+pieces-rise : (start end first : ℕ) (cuts : List ℕ) → ArePieces start cuts end → first < start → is_among first cuts ≡ true → ⊥
 pieces-rise start end first [] pieces less e = cc
 pieces-rise start end first (cut ∷ cuts) pieces less e =
     let other : eqb first cut ≡ false = ne_eqb first cut (λ is. absurd (omega (arith, is, pieces.0, less))) in
-    pieces-rise cut end first cuts pieces.1.1 (omega (arith, less, pieces.0)) (sym (ap (λ b. b || among first cuts) other) ∙ e)
+    pieces-rise cut end first cuts pieces.1.1 (omega (arith, less, pieces.0)) (sym (ap (λ b. b || is_among first cuts) other) ∙ e)
 
 pieces-end : (start end : ℕ) (cuts : List ℕ) → ArePieces start cuts end → start ≤ end
 pieces-end start end [] pieces = omega (arith, pieces)
 pieces-end start end (cut ∷ cuts) pieces = omega (arith, pieces.0, pieces-end cut end cuts pieces.1.1)
 
-among-rest : (place cut : ℕ) (cuts : List ℕ) → cut < place → among place (cut ∷ cuts) ≡ true → among place cuts ≡ true
+among-rest : (place cut : ℕ) (cuts : List ℕ) → cut < place → is_among place (cut ∷ cuts) ≡ true → is_among place cuts ≡ true
 among-rest place cut cuts less e =
     let other : eqb place cut ≡ false = ne_eqb place cut (λ is. absurd (omega (arith, is, less))) in
-    sym (ap (λ b. b || among place cuts) other) ∙ e
+    sym (ap (λ b. b || is_among place cuts) other) ∙ e
 
 ends-next : (May : ℕ → ℕ → Type 0) (start cut : ℕ) (cuts : List ℕ) → MayAllEnd May start (cut ∷ cuts) → MayAllEnd May cut cuts
 ends-next May start cut [] ends_ = tt
@@ -70,7 +70,7 @@ passed-by Must Fits May start end c d bs b some less (inl full) = omega (arith, 
 passed-by Must Fits May start end c d bs b some less (inr (inl must)) =
     let there = b.must c some must in
     let other : eqb c d ≡ false = ne_eqb c d (λ is. absurd (omega (arith, is, less))) in
-    pieces-rise d end c bs b.pieces.1.1 less (sym (ap (λ e. e || among c bs) other) ∙ there)
+    pieces-rise d end c bs b.pieces.1.1 less (sym (ap (λ e. e || is_among c bs) other) ∙ there)
 passed-by Must Fits May start end c d bs b some less (inr (inr fit)) =
     cut-inside c d fit.0 (b.short c fit.0 fit.1.0).0 less (omega (arith, fit.1.1, b.pieces.1.0))
 
@@ -146,32 +146,32 @@ held-by false = inr refl
 held-is : (n : ℕ) → (holds_after n ≡ Slices) ⊎ (holds_after n ≡ LastFragment)
 held-is n = held-by (leb n 1380)
 
-first-there : (place at : ℕ) (cuts : List ℕ) → at ≡ place → among place (at ∷ cuts) ≡ true
-first-there place at cuts here = ap (λ b. b || among place cuts) (eq-eqb place at (sym here))
+first-there : (place at : ℕ) (cuts : List ℕ) → at ≡ place → is_among place (at ∷ cuts) ≡ true
+first-there place at cuts here = ap (λ b. b || is_among place cuts) (eq-eqb place at (sym here))
 
 -- a long slice begins with a piece where it doesn't go in
-begin-cut : (slices : List ℕ) (f : Filling) (cuts : List ℕ) → Cuts f slices cuts → (place length : ℕ) → SliceAt f.at slices place length → 1380 < length → (place ≡ f.at → goes_in f length ≡ false) → among place cuts ≡ true
+begin-cut : (slices : List ℕ) (f : Filling) (cuts : List ℕ) → Cuts f slices cuts → (place length : ℕ) → SliceAt f.at slices place length → 1380 < length → (place ≡ f.at → goes_in f length ≡ false) → is_among place cuts ≡ true
 begin-cut [] f cuts e place length is long goes = absurd is
 begin-cut (n ∷ slices) f cuts (inl x) place length (inl here) long goes =
     absurd (not_both (goes_in f n) x.0 (ap (λ m. goes_in f m) here.1 ∙ goes (sym here.0)))
 begin-cut (n ∷ slices) f cuts (inl x) place length (inr later) long goes =
     let g = filling_after f n (f.from + 1380 * x.1.full) in
-    ap (λ (l : List ℕ). among place l) x.1.filled ∙ among-full place f.from x.1.full x.1.rest (begin-cut slices g x.1.rest x.1.goes_on place length later long (λ _. long-not g length long (held-is n)))
+    ap (λ (l : List ℕ). is_among place l) x.1.filled ∙ among-full place f.from x.1.full x.1.rest (begin-cut slices g x.1.rest x.1.goes_on place length later long (λ _. long-not g length long (held-is n)))
 begin-cut (n ∷ slices) f cuts (inr x) place length (inl here) long goes =
-    ap (λ (l : List ℕ). among place l) x.1.1.0 ∙ first-there place f.at x.1.0 here.0
+    ap (λ (l : List ℕ). is_among place l) x.1.1.0 ∙ first-there place f.at x.1.0 here.0
 begin-cut (n ∷ slices) f cuts (inr x) place length (inr later) long goes =
     let fills = x.1.1.1 in
     let g = filling_after f n (f.at + 1380 * fills.full) in
-    ap (λ (l : List ℕ). among place l) x.1.1.0
-    ∙ or-right (eqb place f.at) (among place x.1.0) (ap (λ (l : List ℕ). among place l) fills.filled ∙ among-full place f.at fills.full fills.rest (begin-cut slices g fills.rest fills.goes_on place length later long (λ _. long-not g length long (held-is n))))
+    ap (λ (l : List ℕ). is_among place l) x.1.1.0
+    ∙ or-right (eqb place f.at) (is_among place x.1.0) (ap (λ (l : List ℕ). is_among place l) fills.filled ∙ among-full place f.at fills.full fills.rest (begin-cut slices g fills.rest fills.goes_on place length later long (λ _. long-not g length long (held-is n))))
 
-end-by : (slices : List ℕ) (at : ℕ) (cuts : List ℕ) → DoLongEndPieces at slices cuts → (start length : ℕ) → SliceAt at slices start length → 1380 < length → among (start + length) cuts ≡ true
+end-by : (slices : List ℕ) (at : ℕ) (cuts : List ℕ) → DoLongEndPieces at slices cuts → (start length : ℕ) → SliceAt at slices start length → 1380 < length → is_among (start + length) cuts ≡ true
 end-by [] at cuts ends_ start length is long = absurd is
-end-by (n ∷ slices) at cuts ends_ start length (inl here) long = ap (λ p. among p cuts) (omega (arith, here.0, here.1)) ∙ ends_.0 (omega (arith, here.1, long))
+end-by (n ∷ slices) at cuts ends_ start length (inl here) long = ap (λ p. is_among p cuts) (omega (arith, here.0, here.1)) ∙ ends_.0 (omega (arith, here.1, long))
 end-by (n ∷ slices) at cuts ends_ start length (inr later) long = end-by slices (at + n) cuts ends_.1 start length later long
 
 -- a long slice ends with a piece
-end-cut : (slices : List ℕ) (f : Filling) (cuts : List ℕ) → Cuts f slices cuts → (start length : ℕ) → SliceAt f.at slices start length → 1380 < length → among (start + length) cuts ≡ true
+end-cut : (slices : List ℕ) (f : Filling) (cuts : List ℕ) → Cuts f slices cuts → (start length : ℕ) → SliceAt f.at slices start length → 1380 < length → is_among (start + length) cuts ≡ true
 end-cut slices f cuts cutting start length is long = end-by slices f.at cuts (long-ends slices f cuts cutting) start length is long
 
 -- each piece ends where it may
@@ -261,11 +261,11 @@ first-reads from head_end slices = record {
   last = λ is. cc;
 }
 
-long-cut : (from head_end : ℕ) (slices cuts : List ℕ) → IsCutting from head_end slices cuts → (place : ℕ) → IsCutPlace from head_end slices place → among place cuts ≡ true
+long-cut : (from head_end : ℕ) (slices cuts : List ℕ) → IsCutting from head_end slices cuts → (place : ℕ) → IsCutPlace from head_end slices place → is_among place cuts ≡ true
 long-cut from head_end slices cuts cutting place (inl b) =
     begin-cut slices (first_piece from head_end) cuts cutting place b.length b.slice b.long (λ here. goes-head from head_end b.length b.long (b.apart here))
 long-cut from head_end slices cuts cutting place (inr e) =
-    ap (λ p. among p cuts) e.place_is ∙ end-cut slices (first_piece from head_end) cuts cutting e.start e.length e.slice e.long
+    ap (λ p. is_among p cuts) e.place_is ∙ end-cut slices (first_piece from head_end) cuts cutting e.start e.length e.slice e.long
 
 pub cutting-meets : (from head_end : ℕ) (slices cuts : List ℕ) → from < head_end → head_end ≤ from + 1380 → HaveBytes slices → IsCutting from head_end slices cuts → MeetsRules from head_end slices cuts
 cutting-meets from head_end slices cuts some short have cutting =

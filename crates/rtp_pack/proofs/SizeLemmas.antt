@@ -8,7 +8,7 @@ use Rattle.rtp_pack.specs.declared.filling.Holds.{Holds}
 use Rattle.rtp_pack.specs.declared.filling.Holds.TheVariants.{HeadAlone, Slices, LastFragment}
 use Rattle.rtp_pack.specs.Cutting.{Cuts, Fills, IsCutting, filling_after, full_before, full_ends}
 use Rattle.rtp_pack.specs.Cutting.{goes_in, goes_in_cut, goes_in_whole, last_start, start_of}
-use Rattle.rtp_pack.specs.Sizes.{IsMeasure, Measure, begun, cuts_size, frames_of, measured}
+use Rattle.rtp_pack.specs.Sizes.{IsMeasure, Measure, measure_from_head, cuts_size, frames_of, measure_of}
 use Rattle.rtp_pack.specs.Sizes.{slice_pieces, with_slice, with_slices}
 use Rattle.rtp_pack.proofs.CutLemmas.{full-once, full_before-less, full_before-within, start-less}
 
@@ -87,7 +87,7 @@ pub keeps-slices : (slices : List ℕ) (m : Measure) → IsKept m → AreLong sl
 keeps-slices [] m kept long = kept
 keeps-slices (n ∷ slices) m kept long = keeps-slices slices (with_slice m n) (keeps-slice m n kept long.0) long.1
 
-pub begun-kept : (head : ℕ) → 0 < head → IsKept (begun head)
+pub begun-kept : (head : ℕ) → 0 < head → IsKept (measure_from_head head)
 begun-kept head some = record { some = some; pieces = omega arith; whole = omega arith; ended = omega arith; last = λ e. cc }
 
 pub slices-append : (slices : List ℕ) (m : Measure) (n : ℕ) → with_slices m (slices ++ n ∷ []) ≡ with_slice (with_slices m slices) n
@@ -196,7 +196,7 @@ size-from (n ∷ slices) base m g cuts is order (inr x) =
     omega (arith, rest, first, is.from, is.at, order)
 
 -- the frames of a unit
-pub size-unit : (head : ℕ) (slices : List ℕ) (from : ℕ) (cuts : List ℕ) → IsCutting from (from + head) slices cuts → frames_of (measured head slices) ≡ cuts_size from cuts
+pub size-unit : (head : ℕ) (slices : List ℕ) (from : ℕ) (cuts : List ℕ) → IsCutting from (from + head) slices cuts → frames_of (measure_of head slices) ≡ cuts_size from cuts
 size-unit head slices from cuts cutting =
-    let all = size-from slices from (begun head) (record { from = from; at = from + head; holds = HeadAlone }) cuts (record { from = omega arith; at = refl; holds = refl }) (omega arith) cutting in
+    let all = size-from slices from (measure_from_head head) (record { from = from; at = from + head; holds = HeadAlone }) cuts (record { from = omega arith; at = refl; holds = refl }) (omega arith) cutting in
     omega (arith, all)

@@ -7,7 +7,7 @@ use Rattle.rtp_pack.specs.Cutting.{IsCutting, first_piece}
 use Rattle.rtp_pack.specs.Packets.{ArePackets, AreInOrder, DoCover, IsLaid, frames_size, lengths_to}
 use Rattle.rtp_pack.specs.Packets.{next_place, piece_packets, unit_lengths, unit_packets}
 use Rattle.rtp_pack.specs.Packets.{unit_starts}
-use Rattle.rtp_pack.specs.Sizes.{begun, bytes_of, cuts_size, frames_of, measured, with_slice}
+use Rattle.rtp_pack.specs.Sizes.{measure_from_head, bytes_of, cuts_size, frames_of, measure_of, with_slice}
 use Rattle.rtp_pack.specs.Sizes.{with_slices, Measure}
 use Rattle.rtp_pack.proofs.CutLemmas.{AreSome, ends, packets-cut}
 use Rattle.rtp_pack.proofs.FlagLemmas.{first-right, flags}
@@ -63,7 +63,7 @@ packets-cover starts unit laid =
     subst P (sym are.pieces) (pieces-packets unit (unit_starts starts unit) are.cuts unit.from unit.to whole)
 
 -- what the frames of the unit take
-pub packets-size : (starts : List ℕ) (unit : PictureUnit) → IsLaid starts unit → frames_size (unit_packets starts unit) ≡ frames_of (measured (unit.head_end - unit.from) (unit_lengths starts unit))
+pub packets-size : (starts : List ℕ) (unit : PictureUnit) → IsLaid starts unit → frames_size (unit_packets starts unit) ≡ frames_of (measure_of (unit.head_end - unit.from) (unit_lengths starts unit))
 packets-size starts unit laid =
     let are = packets-are starts unit laid in
     let head : unit.from + (unit.head_end - unit.from) ≡ unit.head_end = omega (arith, laid.head) in
@@ -74,6 +74,6 @@ pub packets-bound : (starts : List ℕ) (unit : PictureUnit) → IsLaid starts u
 packets-bound starts unit laid =
     let slices = unit_lengths starts unit in
     let head = unit.head_end - unit.from in
-    let kept = keeps-slices slices (begun head) (begun-kept head (omega (arith, laid.head))) (lengths-long (unit_starts starts unit) unit.head_end unit.to laid.in_order) in
-    let bytes = lengths-bytes (unit_starts starts unit) unit.head_end unit.to (begun head) laid.in_order in
+    let kept = keeps-slices slices (measure_from_head head) (begun-kept head (omega (arith, laid.head))) (lengths-long (unit_starts starts unit) unit.head_end unit.to laid.in_order) in
+    let bytes = lengths-bytes (unit_starts starts unit) unit.head_end unit.to (measure_from_head head) laid.in_order in
     omega (arith, packets-size starts unit laid, kept.whole, bytes, laid.head)

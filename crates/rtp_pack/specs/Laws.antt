@@ -1,7 +1,7 @@
 -- What follows from the rules for cutting, in a reader's words.
 use Rattle.std.specs.Prelude.{ℕ, ◌+◌, ◌<◌, ◌≤◌, ◌≡◌, ◌⊎◌, true, false, List, [], ◌∷◌}
 use Rattle.rtp_pack.specs.declared.payloads.Packet.{Packet}
-use Rattle.rtp_pack.specs.Packets.{among}
+use Rattle.rtp_pack.specs.Packets.{is_among}
 
 -- pieces of 1 to 1,380 bytes cover the bytes from a place to another in order, without gap or
 -- overlap
@@ -24,7 +24,7 @@ AreShortUncut at (length ∷ slices) cuts =
 abbrev pub DoLongEndPieces : ℕ → List ℕ → List ℕ → Type 0
 DoLongEndPieces at [] cuts = Unit {0}
 DoLongEndPieces at (length ∷ slices) cuts =
-    (1380 < length → among (at + length) cuts ≡ true) × DoLongEndPieces (at + length) slices cuts
+    (1380 < length → is_among (at + length) cuts ≡ true) × DoLongEndPieces (at + length) slices cuts
 
 -- the last of these packets has the marker, and no other
 abbrev pub IsLastMarked : List Packet → Type 0

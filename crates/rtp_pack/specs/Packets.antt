@@ -93,9 +93,9 @@ DoCover from (p ∷ packets) to = (p.from ≡ from)
 -- ---- what they are
 
 -- a place is among these
-abbrev pub among : ℕ → List ℕ → Bool
-among place [] = false
-among place (other ∷ others) = place == other || among place others
+abbrev pub is_among : ℕ → List ℕ → Bool
+is_among place [] = false
+is_among place (other ∷ others) = place == other || is_among place others
 
 -- the ends of slices that begin at these places, the last of which ends at `to`
 abbrev pub ends_to : ℕ → List ℕ → List ℕ
@@ -107,8 +107,8 @@ ends_to to (start ∷ starts) = next_place to starts ∷ ends_to to starts
 -- with a sequence header; the marker where it ends with the unit
 abbrev pub piece_packet : PictureUnit → List ℕ → ℕ → ℕ → Packet
 piece_packet unit starts from to =
-    packet unit from to (among from starts
-    || (from == unit.from && nat_lt unit.head_end to)) (among to (ends_to unit.to starts))
+    packet unit from to (is_among from starts
+    || (from == unit.from && nat_lt unit.head_end to)) (is_among to (ends_to unit.to starts))
 
 -- the packets of the pieces from a place on that end at these cut points
 abbrev pub piece_packets : PictureUnit → List ℕ → ℕ → List ℕ → List Packet

@@ -3,7 +3,7 @@
 -- these lengths; its cut points are the places where its pieces end.
 use Rattle.std.specs.Prelude.{ℕ, ◌+◌, ◌<◌, ◌≤◌, ◌≡◌, ◌⊎◌, true, List, [], ◌∷◌, sum}
 use Rattle.rtp_pack.specs.Laws.{ArePieces, IsUncut}
-use Rattle.rtp_pack.specs.Packets.{among}
+use Rattle.rtp_pack.specs.Packets.{is_among}
 
 -- each slice has a byte at least
 abbrev pub HaveBytes : List ℕ → Type 0
@@ -67,6 +67,6 @@ pub record MeetsRules (from head_end : ℕ) (slices cuts : List ℕ) : Type 0 wh
       IsUncut place (place + length) cuts
   -- a longer slice begins and ends with a piece, but for one that begins after the head where that
   -- leaves room
-  pub long : (place : ℕ) → IsCutPlace from head_end slices place → among place cuts ≡ true
+  pub long : (place : ℕ) → IsCutPlace from head_end slices place → is_among place cuts ≡ true
   -- a piece ends only there, where it is full, or where the next slice doesn't fit
   pub ends : MayAllEnd (MayEnd from head_end slices) from cuts

@@ -17,8 +17,8 @@ pub record Measure : Type 0 where
   pub filling : Filling
 
 -- a unit with a head of so many bytes
-abbrev pub begun : ℕ → Measure
-begun head = record { pieces = 0; filling = first_piece 0 head }
+abbrev pub measure_from_head : ℕ → Measure
+measure_from_head head = record { pieces = 0; filling = first_piece 0 head }
 
 -- how many pieces end before or in the next slice, of `length` bytes
 abbrev pub slice_pieces : Filling → ℕ → ℕ
@@ -39,14 +39,14 @@ with_slices m [] = m
 with_slices m (length ∷ slices) = with_slices (with_slice m length) slices
 
 -- a unit with a head of so many bytes and slices of these lengths
-abbrev pub measured : ℕ → List ℕ → Measure
-measured head slices = with_slices (begun head) slices
+abbrev pub measure_of : ℕ → List ℕ → Measure
+measure_of head slices = with_slices (measure_from_head head) slices
 
 -- the unit has one more slice, of `length` bytes, than it had
 abbrev pub HasSlice : ℕ → Measure → Measure → Type 0
 HasSlice length old new =
-    (head : ℕ) (slices : List ℕ) → old ≡ measured head slices →
-    new ≡ measured head (slices ++ length ∷ [])
+    (head : ℕ) (slices : List ℕ) → old ≡ measure_of head slices →
+    new ≡ measure_of head (slices ++ length ∷ [])
 
 -- the bytes of a unit so far
 abbrev pub bytes_of : Measure → ℕ
@@ -60,7 +60,7 @@ frames_of m = bytes_of m + 20 * (m.pieces + 1)
 -- the bytes of the frames of a film's unit, by the places of the film's slices
 abbrev pub unit_size : List ℕ → PictureUnit → ℕ
 unit_size slice_starts unit =
-    frames_of (measured (unit.head_end - unit.from) (unit_lengths slice_starts unit))
+    frames_of (measure_of (unit.head_end - unit.from) (unit_lengths slice_starts unit))
 
 -- the frames of pieces from a place on that end at these cut points: 20 bytes of heads each, and
 -- the piece
@@ -72,7 +72,7 @@ cuts_size from (cut ∷ cuts) = 20 + (cut - from) + cuts_size cut cuts
 -- begins
 abbrev pub IsSize : Measure → ℕ → Type 0
 IsSize m size =
-    (head : ℕ) (slices : List ℕ) (from : ℕ) (cuts : List ℕ) → m ≡ measured head slices
+    (head : ℕ) (slices : List ℕ) (from : ℕ) (cuts : List ℕ) → m ≡ measure_of head slices
     → IsCutting from (from + head) slices cuts → size ≡ cuts_size from cuts
 
 -- what is kept: each piece that ended has a byte at least; and the heads of those that ended take

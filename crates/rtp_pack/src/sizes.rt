@@ -1,5 +1,5 @@
 ghost use Rattle.std.specs.Prelude.{◌≡◌, ◌+◌, ◌*◌, ◌^◌, ◌≤◌, []};
-ghost use Rattle.rtp_pack.specs.Sizes.{HasSlice, IsSize, begun, bytes_of, frames_of, measured};
+ghost use Rattle.rtp_pack.specs.Sizes.{HasSlice, IsSize, measure_from_head, bytes_of, frames_of, measure_of};
 ghost use Rattle.rtp_pack.specs.Sizes.{with_slice};
 
 use crate::filling::{Filling, Holds, PAYLOAD, full_before, goes_in, holds_after};
@@ -33,8 +33,8 @@ impl UnitSize {
     pub fn begin(head: u64) -> UnitSize
         requires some { 1 ≤ head }
         requires most { head ≤ 1380 }
-        ensures begun { result ≡ begun head }
-        ensures measured { result ≡ measured head [] }
+        ensures begun { result ≡ measure_from_head head }
+        ensures measured { result ≡ measure_of head [] }
     {
         UnitSize {
             pieces: 0,

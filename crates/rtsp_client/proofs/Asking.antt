@@ -11,7 +11,7 @@ use Rattle.std.proofs.lemmas.List.{append_assoc, append-nil, length-append, leng
 use Rattle.std.proofs.lemmas.List.Elements.{All-nil, All-cons}
 use Rattle.std.proofs.lemmas.List.Folds.{list_all-append, list_all_at}
 use Rattle.std.proofs.lemmas.Str.Parse.{IsNumeralModel, numerals_by_value}
-use Rattle.vod_base.specs.Blanks.{is_blank, without_front_blanks, trimmed}
+use Rattle.vod_base.specs.Blanks.{is_blank, without_front_blanks, without_blanks}
 use Rattle.vod_base.specs.Names.{is_name_byte}
 use Rattle.rtsp_text.specs.Grammar.{is_token, is_url_byte, is_value_byte, IsUrl, IsRtspUrl}
 use Rattle.rtsp_text.specs.Replies.{Field, value_named}
@@ -57,7 +57,7 @@ bare_front : (text : List ℕ) → (0 < length text → is_blank (get_or text 0 
 bare_front [] other = refl
 bare_front (c ∷ text) other = cond-false (is_blank c) (without_front_blanks text) (c ∷ text) (other (omega arith))
 
-bare : (text : List ℕ) → list_all is_url_byte text ≡ true → trimmed text ≡ text
+bare : (text : List ℕ) → list_all is_url_byte text ≡ true → without_blanks text ≡ text
 bare text all =
     let back : 0 < length (reverse text) → is_blank (get_or (reverse text) 0 0) ≡ false = λ some.
     let long : 0 < length text = omega (arith, some, length-reverse text) in

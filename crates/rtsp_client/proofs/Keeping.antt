@@ -13,7 +13,7 @@ use Rattle.rtsp_client.specs.declared.plays.Play.{Play}
 use Rattle.rtsp_client.specs.declared.wishes.Wish.{Wish}
 use Rattle.rtsp_client.specs.declared.wishes.Watched.{Watched}
 use Rattle.rtsp_client.specs.Replies.{play_range, play_start}
-use Rattle.rtsp_client.specs.Moments.{History, Frame, Reply, Report, end_ms, first_frame, frames, is_inside, is_last, is_playing, last_slot, payloads, pending, received, replies, reports, sizes, slot_before, start}
+use Rattle.rtsp_client.specs.Moments.{History, Frame, Reply, Report, end_ms, first_frame, frames, is_inside, is_last, is_playing, last_slot, payloads, bytes_pending, bytes_received, replies, reports, sizes, slot_before, start}
 use Rattle.rtsp_client.specs.Films.{begins_film, is_complete, is_first_good, is_good_frame, is_next_good, time_in, units, units_until}
 use Rattle.rtsp_client.specs.Meters.{watched_in}
 use Rattle.rtsp_client.specs.States.{State, after_frame, after_play, after_report, has_all, is_all, is_between, new_state, report_in, source_after, source_played, source_read, source_with}
@@ -212,10 +212,10 @@ play-frame (Some play) h b is = record { playing = is.playing; start_is = is.sta
 sum-one : (sizes : List ℕ) (size : ℕ) → sum (sizes ++ size ∷ []) ≡ sum sizes + size
 sum-one sizes size = omega (arith, sum_by-append (λ (x : ℕ). x) sizes (size ∷ []))
 
-frame-taken : (l : Bool) (sizes : List ℕ) (pending n taken : ℕ) → taken ≡ sum sizes + pending
-    → taken + n ≡ sum (cond l (sizes ++ (pending + n) ∷ []) sizes) + cond l 0 (pending + n)
-frame-taken true sizes pending n taken is = omega (arith, is, sum-one sizes (pending + n))
-frame-taken false sizes pending n taken is = omega (arith, is)
+frame-taken : (l : Bool) (sizes : List ℕ) (bytes_pending n taken : ℕ) → taken ≡ sum sizes + bytes_pending
+    → taken + n ≡ sum (cond l (sizes ++ (bytes_pending + n) ∷ []) sizes) + cond l 0 (bytes_pending + n)
+frame-taken true sizes bytes_pending n taken is = omega (arith, is, sum-one sizes (bytes_pending + n))
+frame-taken false sizes bytes_pending n taken is = omega (arith, is)
 
 ends-more : (ends sizes : List ℕ) (end size : ℕ) → AreSumsOf ends sizes → end ≡ sum sizes + size → AreSumsOf (ends ++ end ∷ []) (sizes ++ size ∷ [])
 ends-more ends sizes end size are is =
@@ -233,12 +233,12 @@ ends-more ends sizes end size are is =
       ];
     }
 
-frame-ends : (m l : Bool) (ends sizes : List ℕ) (taken pending n : ℕ) → m ≡ l → AreSumsOf ends sizes → taken ≡ sum sizes + pending
-    → AreSumsOf (cond m (ends ++ (taken + n) ∷ []) ends) (cond l (sizes ++ (pending + n) ∷ []) sizes)
-frame-ends m true ends sizes taken pending n same are is =
-    let E : Bool → Type 0 = λ b. AreSumsOf (cond b (ends ++ (taken + n) ∷ []) ends) (sizes ++ (pending + n) ∷ []) in
-    subst E (sym same) (ends-more ends sizes (taken + n) (pending + n) are (omega (arith, is)))
-frame-ends m false ends sizes taken pending n same are is =
+frame-ends : (m l : Bool) (ends sizes : List ℕ) (taken bytes_pending n : ℕ) → m ≡ l → AreSumsOf ends sizes → taken ≡ sum sizes + bytes_pending
+    → AreSumsOf (cond m (ends ++ (taken + n) ∷ []) ends) (cond l (sizes ++ (bytes_pending + n) ∷ []) sizes)
+frame-ends m true ends sizes taken bytes_pending n same are is =
+    let E : Bool → Type 0 = λ b. AreSumsOf (cond b (ends ++ (taken + n) ∷ []) ends) (sizes ++ (bytes_pending + n) ∷ []) in
+    subst E (sym same) (ends-more ends sizes (taken + n) (bytes_pending + n) are (omega (arith, is)))
+frame-ends m false ends sizes taken bytes_pending n same are is =
     let E : Bool → Type 0 = λ b. AreSumsOf (cond b (ends ++ (taken + n) ∷ []) ends) sizes in
     subst E (sym same) are
 
@@ -260,9 +260,9 @@ keeps-frame wish h s b next k with_it long =
       source_is = src;
       begun = λ some. came.1;
       inside = ap not (sym src.marker_is);
-      ends_are = frame-ends next.marker (is_last b) s.ends (sizes h) s.taken (pending h) (length b) src.marker_is k.ends_are k.taken_is;
+      ends_are = frame-ends next.marker (is_last b) s.ends (sizes h) s.taken (bytes_pending h) (length b) src.marker_is k.ends_are k.taken_is;
       received_is = ap (λ n. n + length b) k.received_is;
-      taken_is = frame-taken (is_last b) (sizes h) (pending h) (length b) s.taken k.taken_is;
+      taken_is = frame-taken (is_last b) (sizes h) (bytes_pending h) (length b) s.taken k.taken_is;
       watched_is =
           let step : Watched → Watched = λ (w : Watched). record w {
             frames = w.frames + 1;
@@ -270,7 +270,7 @@ keeps-frame wish h s b next k with_it long =
             units = cond next.marker (w.units + 1) w.units;
           } in
           ap step k.watched_is
-          ∙ (ap (λ u. record (step (watched_in wish h)) { units = u }) (whole-more next.marker (is_last b) (sizes h) (pending h + length b) src.marker_is)
+          ∙ (ap (λ u. record (step (watched_in wish h)) { units = u }) (whole-more next.marker (is_last b) (sizes h) (bytes_pending h + length b) src.marker_is)
           ∙ ap (λ n. record (watched_in wish (Frame b ∷ h)) { bytes = n }) (sym handed));
     }
 
@@ -295,12 +295,12 @@ not-twice : (m i : Bool) → i ≡ not m → not i ≡ m
 not-twice true i is = ap not is
 not-twice false i is = ap not is
 
-between-taken : (m i : Bool) (taken sizes pending n : ℕ) → not i ≡ m → taken ≡ sizes + pending
-    → cond m (taken + n) taken ≡ sizes + cond (true && not i) (pending + n) pending
-between-taken true i taken sizes pending n is same =
-    omega (arith, same, ap (λ b. cond b (pending + n) pending) is)
-between-taken false i taken sizes pending n is same =
-    omega (arith, same, ap (λ b. cond b (pending + n) pending) is)
+between-taken : (m i : Bool) (taken sizes bytes_pending n : ℕ) → not i ≡ m → taken ≡ sizes + bytes_pending
+    → cond m (taken + n) taken ≡ sizes + cond (true && not i) (bytes_pending + n) bytes_pending
+between-taken true i taken sizes bytes_pending n is same =
+    omega (arith, same, ap (λ b. cond b (bytes_pending + n) bytes_pending) is)
+between-taken false i taken sizes bytes_pending n is same =
+    omega (arith, same, ap (λ b. cond b (bytes_pending + n) bytes_pending) is)
 
 report-state : (play : Option Play) (wish : Wish) (h : History) (s : State) (b : List ℕ) → KeepsState wish h s → IsPlayOf play h
     → s.play ≡ play → KeepsState wish (Report b ∷ h) (report_in play s (length b))
@@ -311,8 +311,8 @@ report-state None wish h s b k is same = record {
   begun = k.begun;
   inside = k.inside;
   ends_are = k.ends_are;
-  received_is = k.received_is ∙ sym (ap (λ c. cond c (received h + length b) (received h)) is);
-  taken_is = k.taken_is ∙ sym (ap (λ c. sum (sizes h) + cond (c && not (is_inside h)) (pending h + length b) (pending h)) is);
+  received_is = k.received_is ∙ sym (ap (λ c. cond c (bytes_received h + length b) (bytes_received h)) is);
+  taken_is = k.taken_is ∙ sym (ap (λ c. sum (sizes h) + cond (c && not (is_inside h)) (bytes_pending h + length b) (bytes_pending h)) is);
   watched_is = k.watched_is ∙ sym (ap (λ c. record (watched_in wish h) { reports = cond c (reports h + 1) (reports h) }) is);
 }
 report-state (Some play) wish h s b k is same = record {
@@ -322,10 +322,10 @@ report-state (Some play) wish h s b k is same = record {
   begun = k.begun;
   inside = k.inside;
   ends_are = k.ends_are;
-  received_is = ap (λ n. n + length b) k.received_is ∙ sym (ap (λ c. cond c (received h + length b) (received h)) is.playing);
-  taken_is = between-taken (is_between s.source) (is_inside h) s.taken (sum (sizes h)) (pending h) (length b)
+  received_is = ap (λ n. n + length b) k.received_is ∙ sym (ap (λ c. cond c (bytes_received h + length b) (bytes_received h)) is.playing);
+  taken_is = between-taken (is_between s.source) (is_inside h) s.taken (sum (sizes h)) (bytes_pending h) (length b)
       (not-twice (is_between s.source) (is_inside h) k.inside) k.taken_is
-      ∙ sym (ap (λ c. sum (sizes h) + cond (c && not (is_inside h)) (pending h + length b) (pending h)) is.playing);
+      ∙ sym (ap (λ c. sum (sizes h) + cond (c && not (is_inside h)) (bytes_pending h + length b) (bytes_pending h)) is.playing);
   watched_is = ap (λ (w : Watched). record w { reports = w.reports + 1 }) k.watched_is
       ∙ sym (ap (λ c. record (watched_in wish h) { reports = cond c (reports h + 1) (reports h) }) is.playing);
 }

@@ -11,9 +11,9 @@ use Rattle.rtsp_client.specs.declared.frames.Source.{Source}
 use Rattle.rtsp_client.specs.declared.plays.Play.{Play}
 use Rattle.rtsp_client.specs.declared.wishes.Wish.{Wish}
 use Rattle.rtsp_client.specs.declared.wishes.Watched.{Watched}
-use Rattle.rtsp_client.specs.Moments.{History, Frame, Reply, Report, Slot, first_frame, frames, is_playing, last_slot, received, replies, sizes, slot_before, start}
+use Rattle.rtsp_client.specs.Moments.{History, Frame, Reply, Report, Slot, first_frame, frames, is_playing, last_slot, bytes_received, replies, sizes, slot_before, start}
 use Rattle.rtsp_client.specs.Films.{is_complete, time_in}
-use Rattle.rtsp_client.specs.Meters.{is_read, lacks, place_in, played_before, time, use_slot, used_before, waiting, watched_in}
+use Rattle.rtsp_client.specs.Meters.{is_read, lacks, place_in, played_before, time, use_slot, used_before, bytes_waiting, watched_in}
 use Rattle.rtsp_client.specs.States.{State, after_reading, after_slot, is_lacking, place_of, played_of, reading_at, time_of, used_bytes}
 use Rattle.rtsp_client.specs.Keeps.{AreSumsOf, IsPlayOf, IsSourceOf, KeepsState}
 use Rattle.rtsp_client.proofs.Keeping.{complete-is}
@@ -147,8 +147,8 @@ source-slot (Some source) h t cut is = record {
 unread : (wish : Wish) (h : History) (t cut : ℕ) → is_read h t ≡ false → watched_in wish h ≡ watched_in wish (Slot t cut ∷ h)
 unread wish h t cut missed =
     let step : Bool → Watched = λ (r : Bool). record (watched_in wish h) {
-      most = cond r (max (watched_in wish h).most (waiting wish h t cut)) (watched_in wish h).most;
-      over = cond (r && nat_lt wish.buffer (waiting wish h t cut)) ((watched_in wish h).over + 1) (watched_in wish h).over;
+      most = cond r (max (watched_in wish h).most (bytes_waiting wish h t cut)) (watched_in wish h).most;
+      over = cond (r && nat_lt wish.buffer (bytes_waiting wish h t cut)) ((watched_in wish h).over + 1) (watched_in wish h).over;
       under = cond (r && lacks wish h (place_in h t)) ((watched_in wish h).under + 1) (watched_in wish h).under;
     } in
     sym (ap step missed)
@@ -172,22 +172,22 @@ read-at : (wish : Wish) (h : History) (s : State) (t cut : ℕ) → KeepsState w
     → (after_reading wish s (place_in h t) cut).watched ≡ watched_in wish (Slot t cut ∷ h)
 read-at wish h s t cut k some timed reads =
     let j = place_in h t in
-    let amount : (s.received + cut) - played_of wish s.source s.ends j ≡ waiting wish h t cut =
+    let amount : (s.received + cut) - played_of wish s.source s.ends j ≡ bytes_waiting wish h t cut =
     ap (λ n. (n + cut) - played_of wish s.source s.ends j) k.received_is
-    ∙ ap (λ n. (received h + cut) - n) (played-in wish h s.source s.ends j some timed k.source_is k.ends_are) in
+    ∙ ap (λ n. (bytes_received h + cut) - n) (played-in wish h s.source s.ends j some timed k.source_is k.ends_are) in
     let step : Watched → ℕ → Bool → Watched = λ (w : Watched) (n : ℕ) (l : Bool). record w {
       most = max w.most n;
       over = cond (nat_lt wish.buffer n) (w.over + 1) w.over;
       under = cond l (w.under + 1) w.under;
     } in
     let whole : Bool → Watched = λ (r : Bool). record (watched_in wish h) {
-      most = cond r (max (watched_in wish h).most (waiting wish h t cut)) (watched_in wish h).most;
-      over = cond (r && nat_lt wish.buffer (waiting wish h t cut)) ((watched_in wish h).over + 1) (watched_in wish h).over;
+      most = cond r (max (watched_in wish h).most (bytes_waiting wish h t cut)) (watched_in wish h).most;
+      over = cond (r && nat_lt wish.buffer (bytes_waiting wish h t cut)) ((watched_in wish h).over + 1) (watched_in wish h).over;
       under = cond (r && lacks wish h j) ((watched_in wish h).under + 1) (watched_in wish h).under;
     } in
     ap (λ (w : Watched). step w ((s.received + cut) - played_of wish s.source s.ends j) (is_lacking wish s j)) k.watched_is
     ∙ (ap (λ n. step (watched_in wish h) n (is_lacking wish s j)) amount
-    ∙ (ap (λ b. step (watched_in wish h) (waiting wish h t cut) b) (lacks-in wish h s j k)
+    ∙ (ap (λ b. step (watched_in wish h) (bytes_waiting wish h t cut) b) (lacks-in wish h s j k)
     ∙ sym (ap whole reads)))
 
 and-middle : (a c : Bool) → (a && (false && c)) ≡ false

@@ -6,9 +6,9 @@ use Rattle.std.proofs.lemmas.List.Sums.{sum_by-take-le}
 use Rattle.std.proofs.Math.Nat.{div-eq_of_lt}
 use Rattle.std.specs.Int.{div_ceil}
 use Rattle.rtsp_client.specs.declared.wishes.Wish.{Wish}
-use Rattle.rtsp_client.specs.Moments.{History, Frame, Reply, Report, Slot, frames, received, sizes}
+use Rattle.rtsp_client.specs.Moments.{History, Frame, Reply, Report, Slot, frames, bytes_received, sizes}
 use Rattle.rtsp_client.specs.Films.{is_complete, units}
-use Rattle.rtsp_client.specs.Meters.{is_read, lacks, most, over, place_in, played_before, time, under, use_slot, used_before, waiting}
+use Rattle.rtsp_client.specs.Meters.{is_read, lacks, most, count_over, place_in, played_before, time, count_under, use_slot, used_before, bytes_waiting}
 use Rattle.rtsp_client.specs.Promises.{IsBetween, IsBetweenAlways, IsHeardOf}
 use Rattle.rtsp_client.proofs.Metering.{no-units, used-early, used-late, used-sum}
 
@@ -57,16 +57,16 @@ used-time wish h p j is =
     ]
 
 played-is : (wish : Wish) (all : List ℕ) (p : ℕ) (h : History) (j cut : ℕ) → 0 < wish.slot_units → 0 < p → IsHeardOf all p h cut
-    → IsBetween wish all p j (received h + cut) → played_before wish h j ≡ used_before wish p j 0 all
+    → IsBetween wish all p j (bytes_received h + cut) → played_before wish h j ≡ used_before wish p j 0 all
 played-is wish all p h j cut some timed heard between =
     let n = length (sizes h) in
     used-time wish h p j heard.time_is
     ∙ (ap (used_before wish p j 0) heard.sizes_are
-    ∙ same-used wish all p j n some timed (λ fewer. not-yet wish all p j (received h + cut) n some timed between (heard.next fewer)))
+    ∙ same-used wish all p j n some timed (λ fewer. not-yet wish all p j (bytes_received h + cut) n some timed between (heard.next fewer)))
 
 -- the buffer holds what waits
 fits : (wish : Wish) (all : List ℕ) (p : ℕ) (h : History) (slot cut : ℕ) → 0 < wish.slot_units → 0 < p → IsHeardOf all p h cut
-    → IsBetween wish all p (place_in h slot) (received h + cut) → waiting wish h slot cut ≤ wish.buffer
+    → IsBetween wish all p (place_in h slot) (bytes_received h + cut) → bytes_waiting wish h slot cut ≤ wish.buffer
 fits wish all p h slot cut some timed heard between =
     omega (arith, played-is wish all p h (place_in h slot) cut some timed heard between, between.up)
 
@@ -86,12 +86,12 @@ use-first : (wish : Wish) (t : ℕ) → use_slot wish t 0 ≡ wish.startup
 use-first wish t = omega (arith, ap (λ n. n / wish.slot_units) (zero-times t), zero-over wish.slot_units)
 
 enough : (wish : Wish) (all : List ℕ) (p : ℕ) (h : History) (j cut : ℕ) → 0 < wish.slot_units → 0 < p → 0 < length all → IsHeardOf all p h cut
-    → IsBetween wish all p j (received h + cut) → lacks wish h j ≡ false
+    → IsBetween wish all p j (bytes_received h + cut) → lacks wish h j ≡ false
 enough wish all p h j cut some timed units_some heard between =
     let n = length (sizes h) in
     elim (cases_lt n (length all)) [
       | inl fewer ↦
-          let early : j < use_slot wish p n = not-yet wish all p j (received h + cut) n some timed between (heard.next fewer) in
+          let early : j < use_slot wish p n = not-yet wish all p j (bytes_received h + cut) n some timed between (heard.next fewer) in
           let late : j < use_slot wish (time h) n = elim (cases_lt 0 (frames h)) [
             | inl begun ↦ subst (λ t. j < use_slot wish t n) (sym (heard.time_is begun)) early
             | inr none ↦
@@ -113,31 +113,31 @@ enough wish all p h j cut some timed units_some heard between =
     ]
 
 pub record IsQuiet (wish : Wish) (h : History) : Type 0 where
-  pub over_none : over wish h ≡ 0
-  pub under_none : under wish h ≡ 0
+  pub over_none : count_over wish h ≡ 0
+  pub under_none : count_under wish h ≡ 0
   pub most_fits : most wish h ≤ wish.buffer
 
 read-quiet : (r : Bool) (wish : Wish) (all : List ℕ) (p : ℕ) (h : History) (slot cut : ℕ) → 0 < wish.slot_units → 0 < p → 0 < length all
     → IsQuiet wish h → is_read h slot ≡ r
-    → (is_read h slot ≡ true → IsHeardOf all p h cut × IsBetween wish all p (place_in h slot) (received h + cut))
+    → (is_read h slot ≡ true → IsHeardOf all p h cut × IsBetween wish all p (place_in h slot) (bytes_received h + cut))
     → IsQuiet wish (Slot slot cut ∷ h)
 read-quiet false wish all p h slot cut some timed units_some quiet is met = record {
-  over_none = ap (λ r. cond (r && nat_lt wish.buffer (waiting wish h slot cut)) (over wish h + 1) (over wish h)) is ∙ quiet.over_none;
-  under_none = ap (λ r. cond (r && lacks wish h (place_in h slot)) (under wish h + 1) (under wish h)) is ∙ quiet.under_none;
-  most_fits = omega (arith, ap (λ r. cond r (max (most wish h) (waiting wish h slot cut)) (most wish h)) is, quiet.most_fits);
+  over_none = ap (λ r. cond (r && nat_lt wish.buffer (bytes_waiting wish h slot cut)) (count_over wish h + 1) (count_over wish h)) is ∙ quiet.over_none;
+  under_none = ap (λ r. cond (r && lacks wish h (place_in h slot)) (count_under wish h + 1) (count_under wish h)) is ∙ quiet.under_none;
+  most_fits = omega (arith, ap (λ r. cond r (max (most wish h) (bytes_waiting wish h slot cut)) (most wish h)) is, quiet.most_fits);
 }
 read-quiet true wish all p h slot cut some timed units_some quiet is met =
     let now = met is in
-    let holds : waiting wish h slot cut ≤ wish.buffer = fits wish all p h slot cut some timed now.0 now.1 in
-    let not_over : nat_lt wish.buffer (waiting wish h slot cut) ≡ false = le-ltb wish.buffer (waiting wish h slot cut) holds in
+    let holds : bytes_waiting wish h slot cut ≤ wish.buffer = fits wish all p h slot cut some timed now.0 now.1 in
+    let not_over : nat_lt wish.buffer (bytes_waiting wish h slot cut) ≡ false = le-ltb wish.buffer (bytes_waiting wish h slot cut) holds in
     let not_under : lacks wish h (place_in h slot) ≡ false =
     enough wish all p h (place_in h slot) cut some timed units_some now.0 now.1 in
     record {
-      over_none = ap (λ r. cond (r && nat_lt wish.buffer (waiting wish h slot cut)) (over wish h + 1) (over wish h)) is
-          ∙ (ap (λ b. cond (true && b) (over wish h + 1) (over wish h)) not_over ∙ quiet.over_none);
-      under_none = ap (λ r. cond (r && lacks wish h (place_in h slot)) (under wish h + 1) (under wish h)) is
-          ∙ (ap (λ b. cond (true && b) (under wish h + 1) (under wish h)) not_under ∙ quiet.under_none);
-      most_fits = omega (arith, ap (λ r. cond r (max (most wish h) (waiting wish h slot cut)) (most wish h)) is, quiet.most_fits, holds);
+      over_none = ap (λ r. cond (r && nat_lt wish.buffer (bytes_waiting wish h slot cut)) (count_over wish h + 1) (count_over wish h)) is
+          ∙ (ap (λ b. cond (true && b) (count_over wish h + 1) (count_over wish h)) not_over ∙ quiet.over_none);
+      under_none = ap (λ r. cond (r && lacks wish h (place_in h slot)) (count_under wish h + 1) (count_under wish h)) is
+          ∙ (ap (λ b. cond (true && b) (count_under wish h + 1) (count_under wish h)) not_under ∙ quiet.under_none);
+      most_fits = omega (arith, ap (λ r. cond r (max (most wish h) (bytes_waiting wish h slot cut)) (most wish h)) is, quiet.most_fits, holds);
     }
 
 pub quiet-always : (wish : Wish) (all : List ℕ) (p : ℕ) (h : History) → 0 < wish.slot_units → 0 < p → 0 < length all

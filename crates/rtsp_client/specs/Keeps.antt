@@ -7,7 +7,7 @@ use Rattle.rtsp_client.specs.declared.frames.Source.{Source}
 use Rattle.rtsp_client.specs.declared.plays.Play.{Play}
 use Rattle.rtsp_client.specs.declared.wishes.Wish.{Wish}
 use Rattle.rtsp_client.specs.Moments.{History, end_ms, first_frame, frames, is_inside, is_last}
-use Rattle.rtsp_client.specs.Moments.{is_playing, last_slot, latest_frame, pending, received}
+use Rattle.rtsp_client.specs.Moments.{is_playing, last_slot, latest_frame, bytes_pending, bytes_received}
 use Rattle.rtsp_client.specs.Moments.{replies, session, sizes, slot_before, start}
 use Rattle.rtsp_client.specs.Films.{time_in, units}
 use Rattle.rtsp_client.specs.Meters.{watched_in}
@@ -47,8 +47,8 @@ pub record KeepsState (wish : Wish) (h : History) (s : State) : Type 0 where
   pub begun : 0 < frames h → is_playing h ≡ true
   pub inside : is_inside h ≡ not (is_between s.source)
   pub ends_are : AreSumsOf s.ends (sizes h)
-  pub received_is : s.received ≡ received h
-  pub taken_is : s.taken ≡ sum (sizes h) + pending h
+  pub received_is : s.received ≡ bytes_received h
+  pub taken_is : s.taken ≡ sum (sizes h) + bytes_pending h
   pub watched_is : s.watched ≡ watched_in wish h
 
 pub record Keeps (wish : Wish) (h : History) (c : Client) : Type 0 where

@@ -4,7 +4,7 @@ use Rattle.std.specs.Prelude.{max, nat_le, nat_lt, if◌then◌else◌, List, []
 use Rattle.rtsp_client.specs.declared.wishes.Wish.{Wish}
 use Rattle.rtsp_client.specs.declared.wishes.Watched.{Watched}
 use Rattle.rtsp_client.specs.Moments.{History, Frame, Reply, Report, Slot, first_frame}
-use Rattle.rtsp_client.specs.Moments.{frames, is_playing, last_slot, payloads, received, reports}
+use Rattle.rtsp_client.specs.Moments.{frames, is_playing, last_slot, payloads, bytes_received, reports}
 use Rattle.rtsp_client.specs.Moments.{sizes, slot_before, start}
 use Rattle.rtsp_client.specs.Films.{is_complete, time_in}
 
@@ -40,8 +40,8 @@ abbrev pub is_read : History → ℕ → Bool
 is_read h slot = is_playing h && (nat_le (first_slot h) slot && nat_lt (last_slot h) slot)
 
 -- the bytes that wait to be played as a slot begins, where so many wait of a block that isn't whole
-abbrev pub waiting : Wish → History → ℕ → ℕ → ℕ
-waiting wish h slot cut = (received h + cut) - played_before wish h (place_in h slot)
+abbrev pub bytes_waiting : Wish → History → ℕ → ℕ → ℕ
+bytes_waiting wish h slot cut = (bytes_received h + cut) - played_before wish h (place_in h slot)
 
 -- the first unit that isn't whole is used in this slot of the play, or was to be used before it.
 -- Units are used in their order.
@@ -55,26 +55,26 @@ most wish (Reply message ∷ h) = most wish h
 most wish (Frame block ∷ h) = most wish h
 most wish (Report block ∷ h) = most wish h
 most wish (Slot slot cut ∷ h) = if is_read h slot
-    then max (most wish h) (waiting wish h slot cut) else most wish h
+    then max (most wish h) (bytes_waiting wish h slot cut) else most wish h
 
 -- at how many readings more waited than the buffer holds
-abbrev pub over : Wish → History → ℕ
-over wish [] = 0
-over wish (Reply message ∷ h) = over wish h
-over wish (Frame block ∷ h) = over wish h
-over wish (Report block ∷ h) = over wish h
-over wish (Slot slot cut ∷ h) =
-    if is_read h slot && nat_lt wish.buffer (waiting wish h slot cut)
-    then over wish h + 1 else over wish h
+abbrev pub count_over : Wish → History → ℕ
+count_over wish [] = 0
+count_over wish (Reply message ∷ h) = count_over wish h
+count_over wish (Frame block ∷ h) = count_over wish h
+count_over wish (Report block ∷ h) = count_over wish h
+count_over wish (Slot slot cut ∷ h) =
+    if is_read h slot && nat_lt wish.buffer (bytes_waiting wish h slot cut)
+    then count_over wish h + 1 else count_over wish h
 
 -- at how many readings a unit was to be used that wasn't whole
-abbrev pub under : Wish → History → ℕ
-under wish [] = 0
-under wish (Reply message ∷ h) = under wish h
-under wish (Frame block ∷ h) = under wish h
-under wish (Report block ∷ h) = under wish h
-under wish (Slot slot cut ∷ h) = if is_read h slot && lacks wish h (place_in h slot)
-    then under wish h + 1 else under wish h
+abbrev pub count_under : Wish → History → ℕ
+count_under wish [] = 0
+count_under wish (Reply message ∷ h) = count_under wish h
+count_under wish (Frame block ∷ h) = count_under wish h
+count_under wish (Report block ∷ h) = count_under wish h
+count_under wish (Slot slot cut ∷ h) = if is_read h slot && lacks wish h (place_in h slot)
+    then count_under wish h + 1 else count_under wish h
 
 -- what was heard and read
 abbrev pub watched_in : Wish → History → Watched
@@ -84,6 +84,6 @@ watched_in wish h = record {
   frames = frames h;
   reports = reports h;
   most = most wish h;
-  over = over wish h;
-  under = under wish h;
+  count_over = count_over wish h;
+  count_under = count_under wish h;
 }

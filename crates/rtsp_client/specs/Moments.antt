@@ -45,12 +45,12 @@ reports (Report block ∷ h) = if is_playing h then reports h + 1 else reports h
 reports (Slot slot cut ∷ h) = reports h
 
 -- the bytes of frames and reports after that reply; frames come after it alone
-abbrev pub received : History → ℕ
-received [] = 0
-received (Reply message ∷ h) = received h
-received (Frame block ∷ h) = received h + length block
-received (Report block ∷ h) = if is_playing h then received h + length block else received h
-received (Slot slot cut ∷ h) = received h
+abbrev pub bytes_received : History → ℕ
+bytes_received [] = 0
+bytes_received (Reply message ∷ h) = bytes_received h
+bytes_received (Frame block ∷ h) = bytes_received h + length block
+bytes_received (Report block ∷ h) = if is_playing h then bytes_received h + length block else bytes_received h
+bytes_received (Slot slot cut ∷ h) = bytes_received h
 
 -- whether a frame is the last of its unit
 abbrev pub is_last : List ℕ → Bool
@@ -66,20 +66,20 @@ is_inside (Slot slot cut ∷ h) = is_inside h
 
 -- the bytes so far of the unit that isn't whole: its frames, and the reports directly before its
 -- first one
-abbrev pub pending : History → ℕ
-pending [] = 0
-pending (Reply message ∷ h) = pending h
-pending (Frame block ∷ h) = if is_last block then 0 else pending h + length block
-pending (Report block ∷ h) = if is_playing h && not (is_inside h)
-    then pending h + length block else pending h
-pending (Slot slot cut ∷ h) = pending h
+abbrev pub bytes_pending : History → ℕ
+bytes_pending [] = 0
+bytes_pending (Reply message ∷ h) = bytes_pending h
+bytes_pending (Frame block ∷ h) = if is_last block then 0 else bytes_pending h + length block
+bytes_pending (Report block ∷ h) = if is_playing h && not (is_inside h)
+    then bytes_pending h + length block else bytes_pending h
+bytes_pending (Slot slot cut ∷ h) = bytes_pending h
 
 -- the sizes of the whole units, in order
 abbrev pub sizes : History → List ℕ
 sizes [] = []
 sizes (Reply message ∷ h) = sizes h
 sizes (Frame block ∷ h) = if is_last block
-    then sizes h ++ (pending h + length block) ∷ [] else sizes h
+    then sizes h ++ (bytes_pending h + length block) ∷ [] else sizes h
 sizes (Report block ∷ h) = sizes h
 sizes (Slot slot cut ∷ h) = sizes h
 

@@ -2,7 +2,7 @@
 -- curves at each reading.
 use Rattle.std.specs.Prelude.{◌≡◌, ℕ, ◌+◌, ◌<◌, ◌≤◌, ⊤, true, List, [], ◌∷◌, length, sum, take}
 use Rattle.rtsp_client.specs.declared.wishes.Wish.{Wish}
-use Rattle.rtsp_client.specs.Moments.{History, Moment, Frame, Reply, Report, Slot, frames, received}
+use Rattle.rtsp_client.specs.Moments.{History, Moment, Frame, Reply, Report, Slot, frames, bytes_received}
 use Rattle.rtsp_client.specs.Moments.{sizes}
 use Rattle.rtsp_client.specs.Films.{units}
 use Rattle.rtsp_client.specs.Meters.{is_read, place_in, time, used_before}
@@ -15,7 +15,7 @@ pub record IsHeardOf (all : List ℕ) (picture_time : ℕ) (h : History) (cut : 
   pub time_is : 0 < frames h → time h ≡ picture_time
   pub units_are : 0 < frames h → units h ≡ length all
   pub next : length (sizes h) < length all →
-      received h + cut < sum (take (length (sizes h) + 1) all)
+      bytes_received h + cut < sum (take (length (sizes h) + 1) all)
 
 -- the bytes that came by a slot of the play are at least those that are used by its end, and at
 -- most those that were used by the end of the slot before it, with the buffer (Salehi, Zhang,
@@ -34,7 +34,7 @@ IsBetweenAlways wish all picture_time (Slot slot cut ∷ h) =
     IsBetweenAlways wish all picture_time h
     × (is_read h slot ≡ true
     → IsHeardOf all picture_time h cut
-    × IsBetween wish all picture_time (place_in h slot) (received h + cut))
+    × IsBetween wish all picture_time (place_in h slot) (bytes_received h + cut))
 
 -- the frames among moments
 abbrev pub frames_of : List Moment → List (List ℕ)

@@ -3,7 +3,7 @@ use Rattle.std.specs.Prelude.{◌≡◌, ℕ, ◌+◌, ◌-◌, ◌*◌, ◌^◌
 use Rattle.std.specs.Prelude.{if◌then◌else◌, nat_eq, nat_le, nat_lt, List, length, take, drop}
 use Rattle.std.specs.Prelude.{slice_index, Option, Some, None, option_map, option_and_then, codes}
 use Rattle.std.specs.List.{before_first, starts_with}
-use Rattle.vod_base.specs.Blanks.{trimmed}
+use Rattle.vod_base.specs.Blanks.{without_blanks}
 use Rattle.vod_base.specs.Numbers.{number_of}
 use Rattle.rtsp_text.specs.Lines.{first_line}
 use Rattle.rtsp_text.specs.Fields.{header_value}
@@ -22,7 +22,7 @@ pub record IsAnswer (message : List ℕ) (number code : ℕ) : Type 0 where
 
 -- the value of a Session field up to its first `;`, without the blanks around it
 abbrev pub session_id : List ℕ → List ℕ
-session_id value = trimmed (before_first (λ byte. byte == 59) value)
+session_id value = without_blanks (before_first (λ byte. byte == 59) value)
 
 -- the session that a reply names
 abbrev pub session_in : List ℕ → Option (List ℕ)

@@ -7,7 +7,7 @@ ghost use Rattle.film_frames.specs.Runs.{run_of};
 ghost use Rattle.rtsp_client.specs.Answers.{payloads_of};
 ghost use Rattle.rtsp_client.specs.Asked.{IsAsked, IsSessionId};
 ghost use Rattle.rtsp_client.specs.Asked.{play_parts, setup_parts, teardown_parts};
-ghost use Rattle.rtsp_client.specs.Meters.{most, over, under};
+ghost use Rattle.rtsp_client.specs.Meters.{most, count_over, count_under};
 ghost use Rattle.rtsp_client.specs.Moments.{History, Moment};
 ghost use Rattle.rtsp_client.specs.Promises.{IsBetweenAlways, frames_of};
 ghost use Rattle.rtsp_client.specs.Requests.{play_text, setup_text, teardown_text};
@@ -26,7 +26,7 @@ pub fn law_meter_within(wish: &Wish)
     ensures { (sizes : List ℕ) (picture_time : ℕ) (h : History) → 0 < picture_time →
         0 < length sizes →
         IsBetweenAlways wish.now sizes picture_time h →
-        (over wish.now h ≡ 0) × (under wish.now h ≡ 0) × (most wish.now h ≤ wish.now.buffer) }
+        (count_over wish.now h ≡ 0) × (count_under wish.now h ≡ 0) × (most wish.now h ≤ wish.now.buffer) }
 {
     let _read = wish.port;
 }

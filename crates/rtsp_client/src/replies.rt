@@ -9,7 +9,7 @@ ghost use Rattle.rtsp_client.specs.Replies.{play_range, play_start, range_end, s
 ghost use Rattle.rtsp_client.specs.Replies.{session_in, time_in};
 
 use rtsp_text::{header_of, read_reply};
-use vod_base::{read_number, trimmed};
+use vod_base::{read_number, trim};
 
 /// The number that a field of a message writes, where the field's first line is one.
 fn number_in(message: &[u8], name: &[u8]) -> Option<u64>
@@ -59,7 +59,7 @@ fn id_end(value: &[u8]) -> usize
 fn session_id(value: &[u8]) -> &[u8]
     ensures { result.now ≡ session_id value.now }
 {
-    trimmed(&value[..id_end(value)])
+    trim(&value[..id_end(value)])
 }
 
 /// The session that a reply names.

@@ -188,7 +188,7 @@ impl Watching {
     }
 
     /// The bytes of the whole pictures that are used before this slot of the play.
-    fn played(&self, wish: &Wish, slot: u64) -> u64
+    fn bytes_played(&self, wish: &Wish, slot: u64) -> u64
         ensures played { result ≡ played_of wish.now self.now.source self.now.ends slot }
         ensures most { result ≤ self.now.received }
     {
@@ -225,7 +225,7 @@ impl Watching {
         requires under { self.old.watched.under < self.old.last_slot }
         ensures { self.new ≡ after_reading wish.now self.old slot cut }
     {
-        let waiting = self.received + cut - self.played(wish, slot);
+        let waiting = self.received + cut - self.bytes_played(wish, slot);
         let lacking = self.is_lacking(wish, slot);
         self.watched.most = self.watched.most.max(waiting);
         if waiting > wish.buffer {

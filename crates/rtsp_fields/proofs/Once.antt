@@ -5,7 +5,7 @@ use Rattle.std.specs.Int.{IsInRange}
 use Rattle.std.specs.Char.{is_ascii_digit}
 use Rattle.std.proofs.lemmas.Bool.{and_parts}
 use Rattle.std.proofs.lemmas.Str.Parse.{not_in_digits}
-use Rattle.vod_base.specs.Blanks.{trimmed}
+use Rattle.vod_base.specs.Blanks.{without_blanks}
 use Rattle.vod_base.specs.Numbers.{is_decimal}
 use Rattle.rtsp_fields.specs.Pieces.{IsEnd}
 use Rattle.rtsp_fields.specs.Times.{IsDigits, IsClock, AreSeconds, IsFraction, IsTime}
@@ -135,9 +135,9 @@ channels_once text a b (inr x) (inr y) =
 has_once : (text : List ℕ) (a b : Channels) → HasChannels text a → HasChannels text b → a ≡ b
 has_once text a b (inl x) (inl y) =
     let same = first_once 59 text NamesChannels x.from x.to y.from y.to x.piece x.names x.first y.piece y.names y.first in
-    let P : ℕ → Type 0 = λ n. AreChannels (after_name (trimmed (slice_range text n x.to))) a in
-    let Q : ℕ → Type 0 = λ n. AreChannels (after_name (trimmed (slice_range text y.from n))) a in
-    channels_once (after_name (trimmed (slice_range text y.from y.to))) a b (subst Q same.1 (subst P same.0 x.are)) y.are
+    let P : ℕ → Type 0 = λ n. AreChannels (after_name (without_blanks (slice_range text n x.to))) a in
+    let Q : ℕ → Type 0 = λ n. AreChannels (after_name (without_blanks (slice_range text y.from n))) a in
+    channels_once (after_name (without_blanks (slice_range text y.from y.to))) a b (subst Q same.1 (subst P same.0 x.are)) y.are
 has_once text a b (inl x) (inr y) = absurd (y.none x.from x.to x.piece x.names)
 has_once text a b (inr x) (inl y) = absurd (x.none y.from y.to y.piece y.names)
 has_once text a b (inr x) (inr y) = same_channels a b (x.media ∙ sym y.media) (x.control ∙ sym y.control)

@@ -1,7 +1,7 @@
 -- What the parts of a Transport header come to.
 use Rattle.std.proofs.Common.{◌≡◌, ◌≢◌, ℕ, ◌+◌, ◌<◌, ◌≤◌, List, length, take, refl, sym, ◌∙◌, ap, subst, arith, inl, inr, slice_range, codes, MatchOption, Option, Some, None}
 use Rattle.std.proofs.lemmas.List.{length-map, length-take}
-use Rattle.vod_base.specs.Blanks.{trimmed}
+use Rattle.vod_base.specs.Blanks.{without_blanks}
 use Rattle.rtsp_fields.specs.Pieces.{IsEnd, IsPiece, NoneBefore, NoPiece, Begins, lower}
 use Rattle.rtsp_fields.specs.Values.{IsWithin}
 use Rattle.rtsp_fields.specs.Transports.{IsPair, IsSingle, AreChannels, word, IsOther, NamesChannels, HasChannels, IsTaken, CanBeTaken, IsTransport, after_name}
@@ -44,13 +44,13 @@ name_within part b = let e = simp (length-map, length-take) at (ap length b) in 
 -- the first part that names channels tells them
 pub named_channels : (o : Option Channels) (text : List ℕ) (from to : ℕ) → IsPiece 59 text from to → NamesChannels (slice_range text from to) →
     NoneBefore 59 text from NamesChannels →
-    MatchOption o ((channels : Channels) → ¬ AreChannels (after_name (trimmed (slice_range text from to))) channels) (AreChannels (after_name (trimmed (slice_range text from to)))) →
+    MatchOption o ((channels : Channels) → ¬ AreChannels (after_name (without_blanks (slice_range text from to))) channels) (AreChannels (after_name (without_blanks (slice_range text from to)))) →
     MatchOption o ((channels : Channels) → ¬ HasChannels text channels) (HasChannels text)
 named_channels None text from to piece names first h = λ channels has. elim has [
   | inl named ↦
       let same = first_once 59 text NamesChannels named.from named.to from to named.piece named.names named.first piece names first in
-      let P : ℕ → Type 0 = λ n. AreChannels (after_name (trimmed (slice_range text n named.to))) channels in
-      let Q : ℕ → Type 0 = λ n. AreChannels (after_name (trimmed (slice_range text from n))) channels in
+      let P : ℕ → Type 0 = λ n. AreChannels (after_name (without_blanks (slice_range text n named.to))) channels in
+      let Q : ℕ → Type 0 = λ n. AreChannels (after_name (without_blanks (slice_range text from n))) channels in
       h channels (subst Q same.1 (subst P same.0 named.are))
   | inr default ↦ default.none from to piece names
 ]

@@ -6,7 +6,7 @@ use Rattle.std.proofs.lemmas.Bool.{and_parts, and_from}
 use Rattle.std.proofs.lemmas.List.{take_at, take_all}
 use Rattle.std.proofs.lemmas.List.Folds.{list_all_at}
 use Rattle.std.proofs.lemmas.Grind.{common_steps}
-use Rattle.vod_base.specs.Blanks.{is_blank, trimmed}
+use Rattle.vod_base.specs.Blanks.{is_blank, without_blanks}
 use Rattle.rtsp_fields.specs.Pieces.{lower}
 use Rattle.rtsp_fields.specs.Sessions.{IsSession}
 use Rattle.rtsp_fields.proofs.TransportTexts.{text_of, piece_first, piece_whole, other_than, none_from, bare}
@@ -27,7 +27,7 @@ letter_at text k all inside = grind (arith, common_steps, list_all_at)
 letter_blank : (b : ℕ) → is_ascii_alphanumeric b ≡ true → is_blank b ≡ false
 letter_blank b letter = grind arith
 
-id_bare : (id : List ℕ) → list_all is_ascii_alphanumeric id ≡ true → 0 < length id → trimmed id ≡ id
+id_bare : (id : List ℕ) → list_all is_ascii_alphanumeric id ≡ true → 0 < length id → without_blanks id ≡ id
 id_bare id all some =
     bare id some (letter_blank (get_or id 0 0) (letter_at id 0 all some))
     (letter_blank (get_or id (length id - 1) 0) (letter_at id (length id - 1) all (omega (arith, some))))
@@ -36,7 +36,7 @@ pub id_read : (id : List ℕ) → list_all is_ascii_alphanumeric id ≡ true →
 id_read id all some = record {
   end = length id;
   first = (piece_whole 59 id (none_from 59 id (letters_other id all))).end;
-  same = ap (λ (t : List ℕ). lower (trimmed t)) (take_all (length id) id (omega arith)) ∙ ap lower (id_bare id all some);
+  same = ap (λ (t : List ℕ). lower (without_blanks t)) (take_all (length id) id (omega arith)) ∙ ap lower (id_bare id all some);
 }
 
 pub id_read_before : (id rest : List ℕ) → list_all is_ascii_alphanumeric id ≡ true → 0 < length id → IsSession (id ++ 59 ∷ rest) id
@@ -44,5 +44,5 @@ unfolding text_of
 id_read_before id rest all some = record {
   end = length id;
   first = (piece_first 59 id rest (none_from 59 id (letters_other id all))).end;
-  same = ap (λ (t : List ℕ). lower (trimmed t)) (take_at id (59 ∷ rest) (length id) refl) ∙ ap lower (id_bare id all some);
+  same = ap (λ (t : List ℕ). lower (without_blanks t)) (take_at id (59 ∷ rest) (length id) refl) ∙ ap lower (id_bare id all some);
 }

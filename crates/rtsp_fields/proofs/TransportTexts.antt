@@ -9,7 +9,7 @@ use Rattle.std.proofs.lemmas.Fmt.{digits_decimal, decimal_nonempty}
 use Rattle.std.proofs.lemmas.List.{take_at, take_all, length-append, length-reverse, get_or_append_left, get_or-append-add, get_or-reverse, append_assoc, reverse-reverse}
 use Rattle.std.proofs.lemmas.List.Folds.{list_all_at, list_all-append}
 use Rattle.std.proofs.lemmas.Grind.{common_steps}
-use Rattle.vod_base.specs.Blanks.{is_blank, without_front_blanks, trimmed}
+use Rattle.vod_base.specs.Blanks.{is_blank, without_front_blanks, without_blanks}
 use Rattle.vod_base.proofs.Written.{written_read}
 use Rattle.rtsp_fields.specs.Pieces.{HasNone, IsStart, IsEnd, IsPiece, NoPiece, NoneBefore, Begins, lower}
 use Rattle.rtsp_fields.specs.Transports.{IsPair, AreChannels, IsOther, NamesChannels, AreNamed, IsTaken, IsTransport, word, after_name}
@@ -227,7 +227,7 @@ bare_front : (text : List ℕ) → 0 < length text → is_blank (get_or text 0 0
 bare_front [] some other = refl
 bare_front (x ∷ text) some other = cond-false (is_blank x) (without_front_blanks text) (x ∷ text) other
 
-pub bare : (text : List ℕ) → 0 < length text → is_blank (get_or text 0 0) ≡ false → is_blank (get_or text (length text - 1) 0) ≡ false → trimmed text ≡ text
+pub bare : (text : List ℕ) → 0 < length text → is_blank (get_or text 0 0) ≡ false → is_blank (get_or text (length text - 1) 0) ≡ false → without_blanks text ≡ text
 bare text some first last =
     let back : get_or (reverse text) 0 0 ≡ get_or text (length text - 1) 0 =
     get_or-reverse text 0 0 some ∙ ap (λ n. get_or text n 0) (let e : length text - 1 - 0 ≡ length text - 1 = omega arith in e) in
@@ -329,7 +329,7 @@ last_digit m n fits =
     ∙ get_or-append-add front (decimal n) (length (decimal n) - 1) 0 in
     ap is_blank is ∙ digit_blank (get_or (decimal n) (length (decimal n) - 1) 0) (digit_at (decimal n) (length (decimal n) - 1) (digits n fits) (omega (arith, some)))
 
-named_bare : (m n : ℕ) → n ≤ 255 → trimmed (named m n) ≡ named m n
+named_bare : (m n : ℕ) → n ≤ 255 → without_blanks (named m n) ≡ named m n
 named_bare m n fits = bare (named m n) (named_some m n) (named_first m n) (last_digit m n fits)
 
 named_word : (m n : ℕ) → n ≤ 255 → word (named m n) ≡ lower (named m n)
@@ -395,7 +395,7 @@ are_named m n small fits differ =
       names = subst NamesChannels (sym is) (named_names m n fits);
       first = none_before 59 (codes "RTP/AVP/TCP") U (7 + 1 + 0) NamesChannels protocol_none (names_none (codes "RTP/AVP/TCP") 114 refl (omega arith))
           (none_before 59 (codes "unicast") I 0 NamesChannels unicast_none (names_none (codes "unicast") 117 refl (omega arith)) (λ k end below p. absurd (omega (arith, below))));
-      are = subst (λ (t : List ℕ). AreChannels (after_name (trimmed t)) (record { media = m; control = n })) (sym is)
+      are = subst (λ (t : List ℕ). AreChannels (after_name (without_blanks t)) (record { media = m; control = n })) (sym is)
           (subst (λ (t : List ℕ). AreChannels (after_name t) (record { media = m; control = n })) (sym (named_bare m n fits))
           (subst (λ (t : List ℕ). AreChannels t (record { media = m; control = n })) (sym (after_named m n)) (inl (pair m n small fits differ))));
     }

@@ -2,7 +2,7 @@
 -- goes (section 10.12): alternatives separated by commas, each of them parts separated by `;`, with
 -- blanks around them or not.
 use Rattle.std.specs.Prelude.{◌≡◌, ◌≢◌, ℕ, ◌+◌, ◌<◌, ◌⊎◌, List, length, take, codes, slice_range}
-use Rattle.vod_base.specs.Blanks.{trimmed}
+use Rattle.vod_base.specs.Blanks.{without_blanks}
 use Rattle.rtsp_fields.specs.Pieces.{IsEnd, IsPiece, NoneBefore, NoPiece, Begins, lower}
 use Rattle.rtsp_fields.specs.Values.{IsWithin}
 use Rattle.rtsp_fields.specs.declared.transports.Channels.{Channels}
@@ -27,7 +27,7 @@ AreChannels text channels = IsPair text channels ⊎ IsSingle text channels
 
 -- a part in lower case, without the blanks around it
 abbrev pub word : List ℕ → List ℕ
-word part = lower (trimmed part)
+word part = lower (without_blanks part)
 
 -- a part that asks for another thing than unicast delivery to a player
 abbrev pub IsOther : List ℕ → Type 0
@@ -51,7 +51,7 @@ pub record AreNamed (text : List ℕ) (channels : Channels) : Type 0 where
   pub piece : IsPiece 59 text from to
   pub names : NamesChannels (slice_range text from to)
   pub first : NoneBefore 59 text from NamesChannels
-  pub are : AreChannels (after_name (trimmed (slice_range text from to))) channels
+  pub are : AreChannels (after_name (without_blanks (slice_range text from to))) channels
 
 -- no part names channels, which are then 0 and 1
 pub record AreDefault (text : List ℕ) (channels : Channels) : Type 0 where

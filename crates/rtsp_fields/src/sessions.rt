@@ -5,7 +5,7 @@ ghost use Rattle.rtsp_text.specs.Lines.{is_one_line};
 ghost use Rattle.rtsp_fields.specs.Sessions.{IsSession};
 
 use crate::pieces::piece_end;
-use vod_base::trimmed;
+use vod_base::trim;
 
 /// Whether the value of a Session header (RFC 2326 section 12.37) names this session: its part
 /// before the first `;`, without the blanks around it, is the id in any case.
@@ -13,7 +13,7 @@ pub fn session_matches(value: &[u8], id: &[u8; 16]) -> bool
     ensures { IsTrue result ↔ IsSession value.now id.now }
 {
     let end = piece_end(value, 0, b';');
-    trimmed(&value[..end]).eq_ignore_ascii_case(id)
+    trim(&value[..end]).eq_ignore_ascii_case(id)
 }
 
 /// The id of a session with this number: its sixteen hexadecimal digits, in lower case.

@@ -6,7 +6,7 @@ ghost use Rattle.rtsp_fields.specs.Transports.{IsTaken, IsTransport, NamesChanne
 
 use crate::pieces::{piece_end, starts_with};
 use crate::values::number_within;
-use vod_base::trimmed;
+use vod_base::trim;
 
 /// The channels of interleaved delivery (RFC 2326 section 10.12).
 #[derive(Clone, Copy, Debug, PartialEq, Eq)]
@@ -64,7 +64,7 @@ fn read_channels(text: &[u8]) -> Option<Channels>
 fn is_other(part: &[u8]) -> bool
     ensures { IsTrue result ↔ IsOther part.now }
 {
-    let word = trimmed(part);
+    let word = trim(part);
     word.eq_ignore_ascii_case(b"multicast")
         || (starts_with(word, b"mode=")
             && !word.eq_ignore_ascii_case(b"mode=play")
@@ -96,7 +96,7 @@ fn channels_of(text: &[u8]) -> Option<Channels>
     let mut from = 0;
     while from <= text.len() {
         let end = piece_end(text, from, b';');
-        let part = trimmed(&text[from..end]);
+        let part = trim(&text[from..end]);
         if starts_with(part, b"interleaved=") {
             return read_channels(&part[12..]);
         }
@@ -114,7 +114,7 @@ fn read_alternative(text: &[u8]) -> Option<Channels>
         ¬ IsTaken text.now channels) (IsTaken text.now) }
 {
     let end = piece_end(text, 0, b';');
-    if !trimmed(&text[..end]).eq_ignore_ascii_case(b"RTP/AVP/TCP") {
+    if !trim(&text[..end]).eq_ignore_ascii_case(b"RTP/AVP/TCP") {
         return None;
     }
     if !is_plain(text) {

@@ -7,7 +7,7 @@ use Rattle.std.specs.Cmp.Lexicographic.{same_text, other_text}
 use Rattle.std.proofs.lemmas.Bool.{cases_Bool, cases_lt, cases_eq, cond-true, cond-false}
 use Rattle.std.proofs.lemmas.List.{append_assoc, length-append, length-map, map-append, take_at, drop_at, take-append-drop, get_or_append_left, get_or-append_right}
 use Rattle.std.proofs.lemmas.List.Elements.{All-head, All-tail}
-use Rattle.vod_base.specs.Blanks.{trimmed}
+use Rattle.vod_base.specs.Blanks.{without_blanks}
 use Rattle.vod_base.specs.Lines.{IsLine}
 use Rattle.interleave.specs.Lengths.{IsLengthLine, IsValueAt, IsLengthGiven, IsBodyLength, written_length}
 use Rattle.interleave.proofs.Found.{name_within}
@@ -73,7 +73,7 @@ other_line a name value rest none line =
     name_is name (32 ∷ (value ++ 13 ∷ 10 ∷ rest)) none (ap (map to_ascii_lowercase) (sym (begin_slice a name value rest)) ∙ line.name)
 
 -- the value of the line
-value_at : (a name value rest : List ℕ) → length name ≡ 14 → is_one_line value ≡ true → trimmed value ≡ value → IsValueAt (line_bytes a name value rest) (length a + 15) (written_length value)
+value_at : (a name value rest : List ℕ) → length name ≡ 14 → is_one_line value ≡ true → without_blanks value ≡ value → IsValueAt (line_bytes a name value rest) (length a + 15) (written_length value)
 value_at a name value rest size one bare =
     let b = a ++ (name ++ 58 ∷ []) in
     let w = line_bytes a name value rest in
@@ -91,7 +91,7 @@ value_at a name value rest size one bare =
       text_end = length b + length (32 ∷ value);
       next = length b + length (32 ∷ value) + 2;
       line = line;
-      written = ap written_length (sym (ap trimmed text ∙ bare));
+      written = ap written_length (sym (ap without_blanks text ∙ bare));
     }
 
 -- no line begins within another

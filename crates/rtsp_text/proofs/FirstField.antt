@@ -7,7 +7,7 @@ use Rattle.std.specs.Char.{to_ascii_lowercase}
 use Rattle.std.specs.Cmp.Lexicographic.{bytes_decides}
 use Rattle.std.proofs.lemmas.Bool.{cases_Bool, cases_eq}
 use Rattle.vod_base.specs.Numbers.{number_of}
-use Rattle.vod_base.specs.Blanks.{trimmed}
+use Rattle.vod_base.specs.Blanks.{without_blanks}
 use Rattle.rtsp_text.specs.Grammar.{IsCut}
 use Rattle.rtsp_text.specs.Fields.{value_in, first_value, IsField, first_number, IsFirstField, HasNoField, IsFirstNumber, HasNoNumber}
 use Rattle.rtsp_text.proofs.Cuts.{and_both, other_is}
@@ -58,7 +58,7 @@ value_field name line value is = go (colon_of line)
             after = after;
             cut = cut;
             name_is = (bytes_decides (map to_ascii_lowercase front) (map to_ascii_lowercase name)).0 same;
-            value_is = same_value value (trimmed after) (sym is ∙ value_some name line front after cut same);
+            value_is = same_value value (without_blanks after) (sym is ∙ value_some name line front after cut same);
           }
           | inr other ↦ absurd (let bad : None ≡ Some value = sym (value_other name line front after cut other) ∙ is in cc)
         ]

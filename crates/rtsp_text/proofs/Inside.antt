@@ -8,7 +8,7 @@ use Rattle.std.proofs.lemmas.List.{length-append, length-reverse, length-take, r
 use Rattle.std.proofs.lemmas.List.Elements.{All-nil, All-cons, All-head, All-tail, All-weaker, All-take, All-drop, All-get_or}
 use Rattle.std.proofs.lemmas.List.Folds.{list_all-append}
 use Rattle.std.proofs.lemmas.List.Splits.{slice_split-cons_yes, slice_split-cons_no}
-use Rattle.vod_base.specs.Blanks.{is_blank, without_front_blanks, trimmed}
+use Rattle.vod_base.specs.Blanks.{is_blank, without_front_blanks, without_blanks}
 use Rattle.rtsp_text.specs.Lines.{is_one_line, header_lines}
 use Rattle.rtsp_text.specs.Fields.{IsField, IsFirstField}
 
@@ -115,12 +115,12 @@ all-reverse p (x ∷ text) all =
     ap (list_all p) (reverse-append (x ∷ []) text) ∙ list_all-append p (reverse text) (x ∷ [])
     ∙ and_from (list_all p (reverse text)) (list_all p (x ∷ [])) (all-reverse p text parts.1) (and_from (p x) true parts.0 refl)
 
-pub all-trimmed : (p : ℕ → Bool) (text : List ℕ) → list_all p text ≡ true → list_all p (trimmed text) ≡ true
+pub all-trimmed : (p : ℕ → Bool) (text : List ℕ) → list_all p text ≡ true → list_all p (without_blanks text) ≡ true
 all-trimmed p text all =
     all-reverse p (without_front_blanks (reverse (without_front_blanks text)))
     (all-front p (reverse (without_front_blanks text)) (all-reverse p (without_front_blanks text) (all-front p text all)))
 
-pub length-trimmed : (text : List ℕ) → length (trimmed text) ≤ length text
+pub length-trimmed : (text : List ℕ) → length (without_blanks text) ≤ length text
 length-trimmed text =
     omega (
       arith,

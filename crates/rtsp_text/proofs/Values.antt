@@ -9,7 +9,7 @@ use Rattle.std.proofs.lemmas.Bool.{cond-true, cond-false}
 use Rattle.std.proofs.lemmas.Bool.Decides.{same_from_decides}
 use Rattle.std.proofs.lemmas.List.{take_at, drop_at, drop-drop}
 use Rattle.vod_base.specs.Numbers.{number_of}
-use Rattle.vod_base.specs.Blanks.{trimmed}
+use Rattle.vod_base.specs.Blanks.{without_blanks}
 use Rattle.rtsp_text.specs.Grammar.{IsCut}
 use Rattle.rtsp_text.specs.Fields.{has_name, value_in, first_value, first_number}
 use Rattle.rtsp_text.proofs.Cuts.{and_left, and_right}
@@ -64,21 +64,21 @@ cut_named name line front after cut =
     ap (λ b. b && str_eq_ignore_ascii_case (before_first (λ byte. byte == 58) line) name) (ap (list_any (λ byte. byte == 58)) cut.parts ∙ any_colon front after)
     ∙ ap (λ t. str_eq_ignore_ascii_case t name) (before_colon line front after cut)
 
-pub value_some : (name line front after : List ℕ) → IsCut 58 line front after → str_eq_ignore_ascii_case front name ≡ true → value_in name line ≡ Some (trimmed after)
+pub value_some : (name line front after : List ℕ) → IsCut 58 line front after → str_eq_ignore_ascii_case front name ≡ true → value_in name line ≡ Some (without_blanks after)
 unfolding value_in
 value_some name line front after cut same =
-    cond-true (has_name name line) (Some (trimmed (after_first (λ byte. byte == 58) line))) None (cut_named name line front after cut ∙ same)
-    ∙ ap (λ t. Some (trimmed t)) (after_colon line front after cut)
+    cond-true (has_name name line) (Some (without_blanks (after_first (λ byte. byte == 58) line))) None (cut_named name line front after cut ∙ same)
+    ∙ ap (λ t. Some (without_blanks t)) (after_colon line front after cut)
 
 pub value_other : (name line front after : List ℕ) → IsCut 58 line front after → str_eq_ignore_ascii_case front name ≡ false → value_in name line ≡ None
 unfolding value_in
 value_other name line front after cut other =
-    cond-false (has_name name line) (Some (trimmed (after_first (λ byte. byte == 58) line))) None (cut_named name line front after cut ∙ other)
+    cond-false (has_name name line) (Some (without_blanks (after_first (λ byte. byte == 58) line))) None (cut_named name line front after cut ∙ other)
 
 pub value_none : (name line : List ℕ) → list_all (λ byte. not (byte == 58)) line ≡ true → value_in name line ≡ None
 unfolding value_in
 value_none name line none =
-    cond-false (has_name name line) (Some (trimmed (after_first (λ byte. byte == 58) line))) None
+    cond-false (has_name name line) (Some (without_blanks (after_first (λ byte. byte == 58) line))) None
     (ap (λ b. b && str_eq_ignore_ascii_case (before_first (λ byte. byte == 58) line) name) (no_colon line none))
 
 -- the first line of a name, one line on

@@ -6,7 +6,7 @@ use Rattle.std.specs.List.{list_any, filter_map, before_first, after_first}
 use Rattle.std.specs.Char.{to_ascii_lowercase}
 use Rattle.std.specs.Str.{str_eq_ignore_ascii_case}
 use Rattle.vod_base.specs.Numbers.{number_of}
-use Rattle.vod_base.specs.Blanks.{trimmed}
+use Rattle.vod_base.specs.Blanks.{without_blanks}
 use Rattle.rtsp_text.specs.Grammar.{IsCut}
 use Rattle.rtsp_text.specs.Lines.{header_lines}
 
@@ -20,7 +20,7 @@ has_name name line =
 -- around it
 unfoldable pub value_in : List ℕ → List ℕ → Option (List ℕ)
 value_in name line = if has_name name line
-    then Some (trimmed (after_first (λ byte. byte == 58) line)) else None
+    then Some (without_blanks (after_first (λ byte. byte == 58) line)) else None
 
 -- the value of the first line of that name
 unfoldable pub first_value : List ℕ → List (List ℕ) → Option (List ℕ)
@@ -49,7 +49,7 @@ pub record IsField (name line value : List ℕ) : Type 0 where
   pub after : List ℕ
   pub cut : IsCut 58 line front after
   pub name_is : map to_ascii_lowercase front ≡ map to_ascii_lowercase name
-  pub value_is : value ≡ trimmed after
+  pub value_is : value ≡ without_blanks after
 
 -- the first of these lines that is a field of that name has this value
 pub record IsFirstField (name : List ℕ) (lines : List (List ℕ)) (value : List ℕ) : Type 0 where

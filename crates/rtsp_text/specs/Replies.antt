@@ -3,7 +3,7 @@
 use Rattle.std.specs.Prelude.{◌≡◌, ℕ, ◌++◌, ◌==◌, ◌||◌, Bool, true, if◌then◌else◌, List, [], ◌∷◌}
 use Rattle.std.specs.Prelude.{Option, Some, None, codes, decimal, flat_map}
 use Rattle.std.specs.Str.{str_eq_ignore_ascii_case}
-use Rattle.vod_base.specs.Blanks.{trimmed}
+use Rattle.vod_base.specs.Blanks.{without_blanks}
 use Rattle.rtsp_text.specs.Grammar.{is_token}
 use Rattle.rtsp_text.specs.Lines.{is_one_line}
 use Rattle.rtsp_text.specs.Fields.{header_value}
@@ -74,7 +74,7 @@ all_fields (Some sequence) fields =
 pub record IsPlain (field : Field) : Type 0 where
   pub name_is : is_token field.name ≡ true
   pub one_line : is_one_line field.value ≡ true
-  pub bare : trimmed field.value ≡ field.value
+  pub bare : without_blanks field.value ≡ field.value
 
 -- the value of the first field of that name, in any case
 unfoldable pub value_named : List ℕ → List Field → Option (List ℕ)

@@ -6,7 +6,7 @@ use Rattle.std.specs.Char.{is_ascii_alphanumeric}
 use Rattle.std.specs.Str.Lines.{lines}
 use Rattle.std.specs.Str.Parse.{digits_value}
 use Rattle.vod_base.specs.Numbers.{is_decimal, number_of}
-use Rattle.vod_base.specs.Blanks.{trimmed}
+use Rattle.vod_base.specs.Blanks.{without_blanks}
 use Rattle.rtsp_text.specs.Grammar.{IsUrl}
 use Rattle.rtsp_text.specs.Replies.{Field, field_line, value_named}
 
@@ -51,7 +51,7 @@ IsTextByte byte = (byte ≡ 9) ⊎ ((32 ≤ byte) × (byte ≢ 127))
 pub record IsHeaderField (field : Field) : Type 0 where
   pub name_is : IsWord field.name
   pub value_is : All IsTextByte field.value
-  pub bare : trimmed field.value ≡ field.value
+  pub bare : without_blanks field.value ≡ field.value
 
 -- a body has the length that the first Content-Length writes, and is empty where there is none
 -- (section 12.14)

@@ -6,7 +6,7 @@ ghost use Rattle.rtsp_text.specs.Fields.{value_in, header_value, sequence_number
 
 use crate::grammar::cut;
 use crate::lines::{after_first_line, next_header_line};
-use vod_base::{read_number, trimmed};
+use vod_base::{read_number, trim};
 
 /// The name of the field that has the sequence number.
 const SEQUENCE: &[u8; 4] = b"CSeq";
@@ -23,7 +23,7 @@ fn value_in<'a>(name: &[u8], line: &'a [u8]) -> Option<&'a [u8]>
     ensures { option_map (λ value. value.now) result ≡ value_in name.now line.now }
 {
     match cut(line, b':') {
-        Some((front, value)) if is_same_name(front, name) => Some(trimmed(value)),
+        Some((front, value)) if is_same_name(front, name) => Some(trim(value)),
         _ => None,
     }
 }

@@ -4,7 +4,7 @@ use Rattle.plan_cert.specs.declared.Segment.{Segment}
 use Rattle.plan_cert.specs.Slots.{total_bytes}
 use Rattle.film_frames.specs.declared.stores.Stored.{Stored}
 use Rattle.film_frames.specs.Runs.{Run as Sending, run_pieces}
-use Rattle.film_frames.specs.Tracks.{IsBoundary, framed}
+use Rattle.film_frames.specs.Tracks.{IsBoundary, framed_bytes}
 use Rattle.film_run.specs.declared.runs.Run.{Run}
 use Rattle.film_run.specs.Runs.{bytes_between}
 use Rattle.film_run.specs.Units.{stored_sizes}
@@ -50,7 +50,7 @@ pub prepared_in : (films : List Stored) (source : Source) (settings : Settings) 
     (plan : List Segment) (prepared : Prepared) → IsReadyIn state setup → IsFilmAt films setup.film stored
     → IsPlayable stored source settings setup prepared.counts prepared.run plan
     → prepared.frames ≡ sending_of stored.film source setup prepared.counts prepared.run
-    → length (framed (run_pieces prepared.frames)) ≡ bytes_between (stored_sizes stored) prepared.run.first_unit prepared.run.end_unit
+    → length (framed_bytes (run_pieces prepared.frames)) ≡ bytes_between (stored_sizes stored) prepared.run.first_unit prepared.run.end_unit
     → prepared.plan ≡ plan → prepared.paced ≡ plan → IsPreparedIn films source settings state prepared
 prepared_in films source settings state setup stored plan prepared ready at playable frames bytes own paced =
     let same : IsPlayable stored source settings setup prepared.counts prepared.run prepared.plan =

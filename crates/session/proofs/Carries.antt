@@ -13,7 +13,7 @@ use Rattle.session.specs.Plans.{IsPlay}
 use Rattle.session.specs.Playing.{IsPlayable}
 use Rattle.session.specs.Sendings.{IsFinished, is_done_in}
 use Rattle.session.specs.Standings.{NoAnswer, awaits_of}
-use Rattle.session.specs.Steps.{IsCarried, IsEven, IsSamePacing, settled}
+use Rattle.session.specs.Steps.{IsCarried, IsEven, IsSamePacing, after_stop}
 use Rattle.session.specs.declared.settings.Settings.{Settings}
 use Rattle.session.specs.declared.states.Awaited.{Awaited}
 use Rattle.session.specs.declared.states.Awaited.TheVariants.{Nothing, Play, Halt, Look, Offer}
@@ -72,7 +72,7 @@ state_kept films source settings counts (Stopping setup stop) (Stopping s p) kep
     )
 
 pub settled_kept : (films : List Stored) (source : Source) (settings : Settings) (counts : Counts) (state : State)
-    → IsStateKept films source settings counts state → IsStateKept films source settings counts (settled state)
+    → IsStateKept films source settings counts state → IsStateKept films source settings counts (after_stop state)
 settled_kept films source settings counts Init kept = kept
 settled_kept films source settings counts (Ready setup paused) kept = kept
 settled_kept films source settings counts (Playing setup play) kept = kept
@@ -104,8 +104,8 @@ awaited_kept films source settings counts lost old new (Offer sequence) going ca
 
 -- the same once the reply of a PAUSE or a TEARDOWN was sent
 pub awaited_settled : (films : List Stored) (source : Source) (settings : Settings) (counts : Counts) (lost : Bool) (old new : State)
-    (awaited : Awaited) → IsGoing lost old → IsCarried old new → IsEven new → IsFinished (settled new) awaited
-    → IsAwaitedKept films source settings counts lost (settled new) awaited
+    (awaited : Awaited) → IsGoing lost old → IsCarried old new → IsEven new → IsFinished (after_stop new) awaited
+    → IsAwaitedKept films source settings counts lost (after_stop new) awaited
 awaited_settled films source settings counts lost old Init awaited going carried even is =
     awaited_kept films source settings counts lost Init Init awaited tt tt tt is
 awaited_settled films source settings counts lost old (Ready s p) awaited going carried even is =
@@ -150,7 +150,7 @@ receipts_kept (Stopping setup stop) (Ready s p) carried = absurd carried
 receipts_kept (Stopping setup stop) (Playing s p) carried = absurd carried
 receipts_kept (Stopping setup stop) (Stopping s p) carried = refl
 
-pub receipts_settled : (state : State) → open_receipts (settled state) ≡ open_receipts state
+pub receipts_settled : (state : State) → open_receipts (after_stop state) ≡ open_receipts state
 receipts_settled Init = refl
 receipts_settled (Ready setup paused) = refl
 receipts_settled (Playing setup play) = refl
@@ -188,7 +188,7 @@ stop_kept waits (Ready setup paused) (Stopping s p) kept carried = absurd carrie
 stop_kept waits (Playing setup play) (Stopping s p) kept carried = absurd carried
 stop_kept waits (Stopping setup stop) (Stopping s p) kept carried = kept
 
-pub stop_settled : (waits : Bool) (state : State) → IsStopAnswered (settled state) waits
+pub stop_settled : (waits : Bool) (state : State) → IsStopAnswered (after_stop state) waits
 stop_settled waits Init = tt
 stop_settled waits (Ready setup paused) = tt
 stop_settled waits (Playing setup play) = tt

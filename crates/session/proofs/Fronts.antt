@@ -3,9 +3,9 @@ use Rattle.std.proofs.Common.{◌≡◌, ℕ, ◌+◌, ◌-◌, ◌≤◌, ◌++
 use Rattle.std.proofs.lemmas.Bool.{cases_lt, true≢false}
 use Rattle.std.proofs.lemmas.List.{append_assoc, length-append, map-append, take-append-le, take-take, take_all}
 use Rattle.std.proofs.Math.Seq.{take-append-add}
-use Rattle.film_frames.specs.Tracks.{framed}
+use Rattle.film_frames.specs.Tracks.{framed_bytes}
 use Rattle.vod_base.specs.Links.{Doing, Sent, IsFrontTold, sends, told_more}
-use Rattle.pacer.specs.Pacings.{Pacing, due_by, first_slots, plan_bytes, raised, slots_by, step_end}
+use Rattle.pacer.specs.Pacings.{Pacing, due_by, first_slots, plan_bytes, at_slot, slots_by, step_end}
 use Rattle.pacer.specs.Steps.{HasFailed}
 use Rattle.session.specs.declared.states.State.{State}
 use Rattle.session.specs.declared.states.State.TheVariants.{Init, Ready, Playing, Stopping}
@@ -52,14 +52,14 @@ front_right old mid new bytes more whole front = (
 
 -- a step that failed
 pub failed_front : (stop : Bool) (slot : ℕ) (p new : Pacing) (told next : Option (List Doing)) → HasFailed stop slot p new told next →
-    IsFrontTold told next (plan_bytes p p.sent (step_end stop (raised slot p)))
+    IsFrontTold told next (plan_bytes p p.sent (step_end stop (at_slot slot p)))
 failed_front stop slot p new told next failed =
-    let end : ℕ = step_end stop (raised slot p) in
+    let end : ℕ = step_end stop (at_slot slot p) in
     let part : ℕ = (p.before + failed.out) - (p.before + p.sent) in
     let whole : ℕ = (p.before + end) - (p.before + p.sent) in
     let within : part ≤ whole = omega (arith, failed.out_most) in
     front_of told next (plan_bytes p p.sent end) part
-    (failed.told ∙ ap (λ bs. told_more told (sends bs)) (sym (take-take part whole (drop (p.before + p.sent) (framed p.pieces)) within)))
+    (failed.told ∙ ap (λ bs. told_more told (sends bs)) (sym (take-take part whole (drop (p.before + p.sent) (framed_bytes p.pieces)) within)))
 
 pub failed_due : (stop : Bool) (slot : ℕ) (p new : Pacing) (told next : Option (List Doing)) → HasFailed stop slot p new told next → new.due ≡ due_by p slot
 failed_due stop slot p new told next failed = ap (λ (q : Pacing). q.due) failed.state

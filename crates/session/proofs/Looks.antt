@@ -20,7 +20,7 @@ use Rattle.session.specs.LookLaws.{Happening, Message, Admission, Overflow, Full
 use Rattle.session.specs.Changes.{HasCode}
 use Rattle.session.specs.Methods.{Gets, IsRefused, Looks, Takes}
 use Rattle.session.specs.Replies.{code_of, refusal_text}
-use Rattle.session.specs.Sendings.{finished, is_between, is_sending, is_taken, sent_due, sent_reply, sent_slot, stepped_in}
+use Rattle.session.specs.Sendings.{after_play, is_between, is_sending, is_taken, sent_due, sent_reply, sent_slot, stepped_in}
 use Rattle.session.specs.Standings.{Standing}
 use Rattle.session.proofs.OneHearing.{topic_once}
 use Rattle.session.proofs.RangeInPlaying.{same_request}
@@ -60,7 +60,7 @@ sent_room true standing = refl
 sent_room false standing = refl
 
 slot_room : (taken sending : Bool) (old : Standing) (slot : ℕ)
-    → (cond taken (cond sending (finished (sent_slot old slot)) (record old { heard = slot })) old).looks_left ≡ old.looks_left
+    → (cond taken (cond sending (after_play (sent_slot old slot)) (record old { heard = slot })) old).looks_left ≡ old.looks_left
 slot_room true true old slot = sent_room (old.waits && is_between (stepped_in true slot old.state)) (sent_due old slot)
 slot_room true false old slot = refl
 slot_room false sending old slot = refl

@@ -35,7 +35,7 @@ use Rattle.session.specs.Methods.{AsksOfferOr, AsksPlayOr, Gets, GetsOffer, HasW
 use Rattle.session.specs.OfferLaws.{IsLeastBuffer, IsLeastTold, IsOfferAsked, IsOfferRequest, IsOfferTold, IsWaitIn, found_line, tried_line, with_buffer}
 use Rattle.session.specs.Planning.{HasNoPlan, IsPlanned}
 use Rattle.session.specs.Playing.{curve_refusal, playback_of, run_of}
-use Rattle.session.specs.Replies.{field, joined, offer_body, over_line, refusal_text, start_line}
+use Rattle.session.specs.Replies.{field, joined_parts, offer_body, over_line, refusal_text, start_line}
 use Rattle.session.specs.Standings.{Standing, sequence_of}
 
 -- ---- what is asked
@@ -147,7 +147,7 @@ start_is : (start : Option ℕ) → start_line start ≡ found_line start ++ cod
 start_is None = refl
 start_is (Some start) = refl
 
-over_lines : (s a b c : List ℕ) → joined (codes "x-Over: " ∷ s ∷ codes " " ∷ a ∷ codes " " ∷ b ∷ codes " " ∷ c ∷ codes "\r\n" ∷ [])
+over_lines : (s a b c : List ℕ) → joined_parts (codes "x-Over: " ∷ s ∷ codes " " ∷ a ∷ codes " " ∷ b ∷ codes " " ∷ c ∷ codes "\r\n" ∷ [])
     ≡ (codes "x-Over: " ++ (s ++ (codes " " ++ (a ++ (codes " " ++ (b ++ (codes " " ++ c))))))) ++ codes "\r\n"
 over_lines s a b c =
     let end = codes "\r\n" in

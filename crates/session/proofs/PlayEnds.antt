@@ -5,7 +5,7 @@ use Rattle.plan_cert.specs.Slots.{total_bytes}
 use Rattle.film_frames.specs.declared.stores.Stored.{Stored}
 use Rattle.film_frames.specs.Pieces.{frames_in, octets_in}
 use Rattle.film_frames.specs.Runs.{Run as Sending, count_ended, frames_before, octets_before, pieces_in, run_pieces, sent_by}
-use Rattle.film_frames.specs.Tracks.{IsBoundaryAfter, framed}
+use Rattle.film_frames.specs.Tracks.{IsBoundaryAfter, framed_bytes}
 use Rattle.film_frames.proofs.RunLemmas.{blocks_from-count, count_ended-is}
 use Rattle.film_frames.proofs.TrackLemmas.{begin-all}
 use Rattle.pacer.specs.Boundaries.{boundary_from}
@@ -37,7 +37,7 @@ kept_at : (play : Played) → IsPacing play.pacer → KeepsToBoundary play (next
 kept_at play is =
     let p = play.pacer in
     let at = p.before + p.sent in
-    let within : at ≤ length (framed p.pieces) = omega (arith, is.sent, is.due, is.most, is.whole) in
+    let within : at ≤ length (framed_bytes p.pieces) = omega (arith, is.sent, is.due, is.most, is.whole) in
     let next = boundary-from p.pieces at within in
     let same : boundary_from p.pieces at ≡ p.before + next_boundary p = omega (arith, next.after) in
     subst (λ place. IsBoundaryAfter p.pieces at place) same next
@@ -80,17 +80,17 @@ halts_at_boundary old new message keep setup play hears playing pacing =
 -- ---- what is counted after a run
 
 -- all pieces of a run have ended at its end
-all_sent : (sending : Sending) → sent_by sending (length (framed (run_pieces sending))) ≡ pieces_in sending
+all_sent : (sending : Sending) → sent_by sending (length (framed_bytes (run_pieces sending))) ≡ pieces_in sending
 all_sent sending =
     let blocks = run_pieces sending in
     let count : length blocks ≡ length (pieces_in sending) = blocks_from-count sending 0 0 (pieces_in sending) in
-    let ended : count_ended (length (framed blocks)) blocks ≡ length blocks =
-    count_ended-is blocks (length (framed blocks)) (length blocks) (record {
+    let ended : count_ended (length (framed_bytes blocks)) blocks ≡ length blocks =
+    count_ended-is blocks (length (framed_bytes blocks)) (length blocks) (record {
       among = omega arith;
       last = omega (arith, begin-all blocks);
       next = λ less. absurd (omega arith);
     }) in
-    take_all (count_ended (length (framed blocks)) blocks) (pieces_in sending) (omega (arith, count, ended))
+    take_all (count_ended (length (framed_bytes blocks)) blocks) (pieces_in sending) (omega (arith, count, ended))
 
 counts_of_done : (old : Standing) (setup : Setup) (play : Played) (keep : ℕ) (next : Next) (stored : Stored) → is_answered next ≡ false
     → IsFilmAt old.films setup.film stored
@@ -101,12 +101,12 @@ counts_of_done old setup play keep Torn stored none at = absurd (let no : ⊥ = 
 
 pub run_counted : (old : Standing) (place : ℕ) (stored : Stored) (setup : Setup) (play : Played) → old.state ≡ Playing setup play
     → is_answered (next_of old.awaited) ≡ false → IsFilmAt old.films setup.film stored
-    → play.run.sent + kept_of old.awaited play.pacer.due ≡ length (framed (run_pieces (sending_of stored.film old.source setup old.counts play.run)))
+    → play.run.sent + kept_of old.awaited play.pacer.due ≡ length (framed_bytes (run_pieces (sending_of stored.film old.source setup old.counts play.run)))
     → HasCountedAll (identity_of old.source setup old.counts) (identity_of old.source setup (after_halt old place).counts)
     (sending_of stored.film old.source setup old.counts play.run)
 run_counted old place stored setup play playing none at all =
     let sending = sending_of stored.film old.source setup old.counts play.run in
-    let end = length (framed (run_pieces sending)) in
+    let end = length (framed_bytes (run_pieces sending)) in
     let counts : halted_counts old old.state ≡ counts_after old.counts sending end =
     ap (halted_counts old) playing ∙ counts_of_done old setup play (kept_of old.awaited play.pacer.due) (next_of old.awaited) stored none at
     ∙ ap (counts_after old.counts sending) all in

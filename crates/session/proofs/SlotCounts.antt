@@ -11,7 +11,7 @@ use Rattle.session.specs.declared.states.Setup.{Setup}
 use Rattle.session.specs.declared.states.State.{State}
 use Rattle.session.specs.declared.states.State.TheVariants.{Playing}
 use Rattle.session.specs.PlayLaws.{slots_missed}
-use Rattle.session.specs.Sendings.{finished, finished_in, is_between, is_sending, is_taken, missed_between, sent_due, sent_reply, sent_slot, slotted, start_in, stepped_in}
+use Rattle.session.specs.Sendings.{after_play, finished_in, is_between, is_sending, is_taken, missed_between, sent_due, sent_reply, sent_slot, after_slot, start_in, stepped_in}
 use Rattle.session.specs.Standings.{HaltAnswer, Standing, awaits, awaits_of}
 
 abbrev is_missed : ℕ → ℕ → ℕ → ℕ
@@ -49,29 +49,29 @@ late_of : (b : Bool) (standing : Standing) → (cond b (sent_reply standing) sta
 late_of true standing = refl
 late_of false standing = refl
 
-late_of_slot : (old : Standing) (slot : ℕ) → (finished (sent_slot old slot)).late ≡ old.late + slots_missed old.heard slot (start_in old.state)
+late_of_slot : (old : Standing) (slot : ℕ) → (after_play (sent_slot old slot)).late ≡ old.late + slots_missed old.heard slot (start_in old.state)
 late_of_slot old slot =
     late_of (old.waits && is_between (stepped_in true slot old.state)) (sent_due old slot)
     ∙ ap (λ n. old.late + n) (missed_is old.heard (start_in old.state) slot)
 
 slot_late : (taken sending : Bool) (old : Standing) (slot : ℕ) → taken ≡ true → sending ≡ true
-    → (cond taken (cond sending (finished (sent_slot old slot)) (record old { heard = slot })) old).late
+    → (cond taken (cond sending (after_play (sent_slot old slot)) (record old { heard = slot })) old).late
     ≡ old.late + slots_missed old.heard slot (start_in old.state)
 slot_late true true old slot is its = late_of_slot old slot
 slot_late true false old slot is its = absurd (let no : ⊥ = cc in no)
 slot_late false sending old slot is its = absurd (let no : ⊥ = cc in no)
 
 pub sending_late : (old : Standing) (slot : ℕ) → is_taken old slot ≡ true → is_sending old.state ≡ true
-    → (slotted old slot).late ≡ old.late + slots_missed old.heard slot (start_in old.state)
+    → (after_slot old slot).late ≡ old.late + slots_missed old.heard slot (start_in old.state)
 sending_late old slot is its = slot_late (is_taken old slot) (is_sending old.state) old slot is its
 
 rest_late : (taken sending : Bool) (old : Standing) (slot : ℕ) → sending ≡ false
-    → (cond taken (cond sending (finished (sent_slot old slot)) (record old { heard = slot })) old).late ≡ old.late
+    → (cond taken (cond sending (after_play (sent_slot old slot)) (record old { heard = slot })) old).late ≡ old.late
 rest_late true true old slot is = absurd (let no : ⊥ = cc in no)
 rest_late true false old slot is = refl
 rest_late false sending old slot is = refl
 
-pub resting_late : (old : Standing) (slot : ℕ) → is_sending old.state ≡ false → (slotted old slot).late ≡ old.late
+pub resting_late : (old : Standing) (slot : ℕ) → is_sending old.state ≡ false → (after_slot old slot).late ≡ old.late
 resting_late old slot is = rest_late (is_taken old slot) (is_sending old.state) old slot is
 
 -- ---- a play that is done
@@ -83,14 +83,14 @@ is_short : (passed sent keep : ℕ) → sent < keep → (ltb 0 passed && eqb sen
 is_short passed sent keep less = grind (arith, nat_tests)
 
 pub play_done : (old : Standing) (setup : Setup) (play : Played) → old.state ≡ Playing setup play → 0 < play.pacer.passed
-    → play.pacer.sent ≡ play.pacer.keep → awaits (finished old) ≡ HaltAnswer play.pacer.keep
+    → play.pacer.sent ≡ play.pacer.keep → awaits (after_play old) ≡ HaltAnswer play.pacer.keep
 play_done old setup play playing some same =
     ap (λ s. awaits_of (finished_in s old.awaited)) playing
     ∙ ap (λ b. awaits_of (cond b (Halt play.pacer.sent Done) old.awaited)) (is_whole play.pacer.passed play.pacer.sent play.pacer.keep some same)
     ∙ ap HaltAnswer same
 
 pub play_goes : (old : Standing) (setup : Setup) (play : Played) → old.state ≡ Playing setup play → play.pacer.sent < play.pacer.keep
-    → finished old ≡ old
+    → after_play old ≡ old
 play_goes old setup play playing less =
     ap (λ a. record old { awaited = a }) (ap (λ s. finished_in s old.awaited) playing
     ∙ ap (λ b. cond b (Halt play.pacer.sent Done) old.awaited) (is_short play.pacer.passed play.pacer.sent play.pacer.keep less))

@@ -37,7 +37,7 @@ use Rattle.session.specs.Films.{begins_at, identity_of, length_ms, ms_at, sendin
 use Rattle.session.specs.Hearings.{after_admission, after_full, after_look, after_overflow, started_text}
 use Rattle.session.specs.Methods.{Describes, IsSetUp, first_number, play_front}
 use Rattle.session.specs.Planning.{IsPlannedRun}
-use Rattle.session.specs.Replies.{code_of, describe_text, field, joined, look_body, play_fields, transport_value}
+use Rattle.session.specs.Replies.{code_of, describe_text, field, joined_parts, look_body, play_fields, transport_value}
 use Rattle.session.specs.Standings.{Standing, sequence_of}
 use Rattle.std.specs.Int.{w32, to_be_bytes}
 use Rattle.hex.specs.Hex.{encode_lower}
@@ -131,11 +131,11 @@ range_read s e from to free first last =
     }
 
 pub span_told : (film : Film) (first end : ℕ) → ms_at film first < 10 ^ 12 → ms_at film end < 10 ^ 12
-    → TellsSpan film first end (joined (codes "npt=" ∷ seconds_text (ms_at film first) ∷ codes "-" ∷ seconds_text (ms_at film end) ∷ []))
+    → TellsSpan film first end (joined_parts (codes "npt=" ∷ seconds_text (ms_at film first) ∷ codes "-" ∷ seconds_text (ms_at film end) ∷ []))
 span_told film first end small short =
     let s = seconds_text (ms_at film first) in
     let e = seconds_text (ms_at film end) in
-    let same : codes "npt=" ++ (s ++ 45 ∷ e) ≡ joined (codes "npt=" ∷ s ∷ codes "-" ∷ e ∷ []) =
+    let same : codes "npt=" ++ (s ++ 45 ∷ e) ≡ joined_parts (codes "npt=" ∷ s ∷ codes "-" ∷ e ∷ []) =
     ap (λ l. codes "npt=" ++ (s ++ 45 ∷ l)) (sym (append-nil e)) in
     record {
       from = ms_at film first;
@@ -246,7 +246,7 @@ info_told : (old : Standing) (stored : Stored) (setup : Setup) (planned : Planne
     → TellsInfo stored old.source authority
     (planned.counts.frames + frames_before (sending_of stored.film old.source setup planned.counts planned.run) planned.run.sent)
     planned.run.from_unit
-    (joined (codes "url=rtsp://" ∷ authority ∷ codes "/" ∷ string_bytes stored.name ∷ codes "/video;seq="
+    (joined_parts (codes "url=rtsp://" ∷ authority ∷ codes "/" ∷ string_bytes stored.name ∷ codes "/video;seq="
     ∷ decimal (first_number old stored setup planned) ∷ codes ";rtptime="
     ∷ decimal (timestamp_at stored.film old.source planned.run.from_unit) ∷ []))
 info_told old stored setup planned authority is good =
@@ -272,7 +272,7 @@ info_told old stored setup planned authority is good =
         ap (λ n. n % 65536) (add_comm ((a + b) % 65536) c) ∙ sum_mod c (a + b) 65536
         ∙ ap (λ n. n % 65536) (let same : c + (a + b) ≡ a + (b + c) = omega arith in same)
 
-    value : (a n q t : List ℕ) → joined (codes "url=rtsp://" ∷ a ∷ codes "/" ∷ n ∷ codes "/video;seq=" ∷ q ∷ codes ";rtptime=" ∷ t ∷ [])
+    value : (a n q t : List ℕ) → joined_parts (codes "url=rtsp://" ∷ a ∷ codes "/" ∷ n ∷ codes "/video;seq=" ∷ q ∷ codes ";rtptime=" ∷ t ∷ [])
         ≡ codes "url=" ++ (codes "rtsp://" ++ (a ++ (47 ∷ n ++ codes "/video"))) ++ codes ";seq=" ++ q ++ codes ";rtptime=" ++ t
     value a n q t =
         let x = codes ";rtptime=" ++ t in
@@ -303,7 +303,7 @@ play_told old stored setup paused range planned sequence url authority name is r
       text_is = refl;
       told = record {
         session = refl;
-        range = joined (codes "npt=" ∷ seconds_text (ms_at stored.film planned.run.from_unit) ∷ codes "-"
+        range = joined_parts (codes "npt=" ∷ seconds_text (ms_at stored.film planned.run.from_unit) ∷ codes "-"
             ∷ seconds_text (ms_at stored.film planned.run.end_unit) ∷ []);
         range_is = refl;
         span = span_told stored.film planned.run.from_unit planned.run.end_unit
@@ -311,7 +311,7 @@ play_told old stored setup paused range planned sequence url authority name is r
             (let rest = run_is.rest in let within = run_is.within in omega (arith, rest, within, few)) (omega arith) brief)
             (few_ms 4194304 planned.run.end_unit (picture_time stored.film.rate)
             (let within = run_is.within in omega (arith, within, few)) (omega arith) brief);
-        info = joined (codes "url=rtsp://" ∷ authority ∷ codes "/" ∷ string_bytes stored.name ∷ codes "/video;seq="
+        info = joined_parts (codes "url=rtsp://" ∷ authority ∷ codes "/" ∷ string_bytes stored.name ∷ codes "/video;seq="
             ∷ decimal (first_number old stored setup planned) ∷ codes ";rtptime="
             ∷ decimal (timestamp_at stored.film old.source planned.run.from_unit) ∷ []);
         info_is = refl;
@@ -324,13 +324,13 @@ film_text : (sequence : ℕ) (url authority name : List ℕ) (asked : Option (Li
     → is_good_name name ≡ true → IsShort film → IsFilmTold sequence authority name film (describe_text sequence authority name (length_ms film))
 unfolding value_named
 film_text sequence url authority name asked film read good short =
-    let base : codes "rtsp://" ++ (authority ++ (47 ∷ name ++ codes "/")) ≡ joined (codes "rtsp://" ∷ authority ∷ codes "/" ∷ name ∷ codes "/" ∷ []) =
+    let base : codes "rtsp://" ++ (authority ++ (47 ∷ name ++ codes "/")) ≡ joined_parts (codes "rtsp://" ∷ authority ∷ codes "/" ∷ name ∷ codes "/" ∷ []) =
     base_is authority name in
     record {
       fields = _;
       body = description_text name (length_ms film);
       end = length_ms film;
-      base = joined (codes "rtsp://" ∷ authority ∷ codes "/" ∷ name ∷ codes "/" ∷ []);
+      base = joined_parts (codes "rtsp://" ∷ authority ∷ codes "/" ∷ name ∷ codes "/" ∷ []);
       text_is = refl;
       base_is = refl;
       names_film = subst (λ (u : List ℕ). IsRead u authority (Some name)) base
@@ -342,7 +342,7 @@ film_text sequence url authority name asked film read good short =
           (few_ms 4194304 (length film.units.items) (picture_time film.rate) short.few (omega arith) short.brief);
     }
   where
-    base_is : (a n : List ℕ) → codes "rtsp://" ++ (a ++ (47 ∷ n ++ codes "/")) ≡ joined (codes "rtsp://" ∷ a ∷ codes "/" ∷ n ∷ codes "/" ∷ [])
+    base_is : (a n : List ℕ) → codes "rtsp://" ++ (a ++ (47 ∷ n ++ codes "/")) ≡ joined_parts (codes "rtsp://" ∷ a ∷ codes "/" ∷ n ∷ codes "/" ∷ [])
     base_is a n = refl
 
 pub film_told : (old new : Standing) (sequence number : ℕ) (url authority : List ℕ) (asked : Option (List ℕ)) (ask : Ask)
@@ -404,7 +404,7 @@ full_told old entries live = record {
   open_is = refl;
 }
 
-look_lines : (n a b : List ℕ) → joined (codes "x-Now: " ∷ n ∷ codes "\r\nx-Slot: " ∷ a ∷ codes "\r\nx-Booked: " ∷ b ∷ codes "\r\n" ∷ [])
+look_lines : (n a b : List ℕ) → joined_parts (codes "x-Now: " ∷ n ∷ codes "\r\nx-Slot: " ∷ a ∷ codes "\r\nx-Booked: " ∷ b ∷ codes "\r\n" ∷ [])
     ≡ (codes "x-Now" ++ (codes ": " ++ (n ++ codes "\r\n"))) ++ ((codes "x-Slot" ++ (codes ": " ++ (a ++ codes "\r\n")))
     ++ (codes "x-Booked" ++ (codes ": " ++ (b ++ codes "\r\n"))))
 look_lines n a b =

@@ -32,7 +32,7 @@ use Rattle.session.specs.declared.states.State.TheVariants.{Init, Ready, Playing
 use Rattle.session.specs.Films.{counts_after, sending_of}
 use Rattle.film_frames.specs.declared.stores.Stored.{Stored}
 use Rattle.session.specs.Sendings.{admitted_in, halted_in, halted_notes, kept_of, next_of}
-use Rattle.session.specs.Standings.{Standing, answered, sequence_of}
+use Rattle.session.specs.Standings.{Standing, after_answer, sequence_of}
 
 -- a session of a new connection, with the connection's words: two for the session's id, the SSRC,
 -- the sequence number of the first frame in 16 bits, and the timestamp of the film's beginning (RFC
@@ -105,7 +105,7 @@ started_text front slots =
 -- the session once the play was admitted that it asked for
 abbrev pub after_admission : Standing → ℕ → ℕ → Standing
 after_admission old place start =
-    record (answered old (Entry place (Admitted start))
+    record (after_answer old (Entry place (Admitted start))
     (started_text old.text (start - old.heard))) {
       state = admitted_in old.state old.awaited place start;
       counts = counts_of old.awaited old.counts;
@@ -114,13 +114,13 @@ after_admission old place start =
 -- once the link had no room for it
 abbrev pub after_overflow : Standing → ℕ → ℕ → ℕ → ℕ → Standing
 after_overflow old place slot booked asked =
-    answered old (Entry place (Overflow slot booked asked))
+    after_answer old (Entry place (Overflow slot booked asked))
     (overflow_text (sequence_of old.awaited) slot booked asked)
 
 -- once the journal had no room for the play or the look
 abbrev pub after_full : Standing → ℕ → ℕ → Standing
 after_full old entries live =
-    answered old (Full entries live) (full_text (sequence_of old.awaited) entries live)
+    after_answer old (Full entries live) (full_text (sequence_of old.awaited) entries live)
 
 -- what was sent in all, once a play is done that kept so many bytes
 abbrev pub counts_done : Standing → Setup → Played → ℕ → Option Stored → Counts
@@ -172,7 +172,7 @@ Halts old place new = new ≡ after_halt old place
 -- once the station had looked
 abbrev pub after_look : Standing → ℕ → ℕ → ℕ → ℕ → Standing
 after_look old place now at booked =
-    answered old (Entry place (Looked now at booked))
+    after_answer old (Entry place (Looked now at booked))
     (parameters_text (sequence_of old.awaited) (look_body now at booked))
 
 -- once the station had made an offer

@@ -10,7 +10,7 @@ use Rattle.session.specs.declared.settings.Settings.{Settings}
 use Rattle.session.specs.Hearings.{Hears, after_admission, after_full, after_halt, after_look}
 use Rattle.session.specs.Hearings.{after_offer, after_overflow, new_standing}
 use Rattle.session.specs.Judging.{IsReadAs, IsWord}
-use Rattle.session.specs.Sendings.{sent_reply, slotted}
+use Rattle.session.specs.Sendings.{sent_reply, after_slot}
 use Rattle.session.specs.Standings.{Standing}
 
 -- what happens to a session: a message is heard, the station answers, a slot comes, a reply is sent
@@ -35,7 +35,7 @@ IsAfter old (Full entries live) new = new ≡ after_full old entries live
 IsAfter old (Halt place) new = new ≡ after_halt old place
 IsAfter old (Look place now at booked) new = new ≡ after_look old place now at booked
 IsAfter old (Offer note) new = new ≡ after_offer old note
-IsAfter old (Slot slot) new = new ≡ slotted old slot
+IsAfter old (Slot slot) new = new ≡ after_slot old slot
 IsAfter old Sending new = new ≡ sent_reply old
 
 -- one after another

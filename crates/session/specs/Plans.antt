@@ -2,7 +2,7 @@
 use Rattle.std.specs.Prelude.{ℕ, ◌≡◌, ◌+◌, List, length}
 use Rattle.plan_cert.specs.declared.Segment.{Segment}
 use Rattle.plan_cert.specs.Slots.{total_bytes}
-use Rattle.film_frames.specs.Tracks.{IsBoundary, framed}
+use Rattle.film_frames.specs.Tracks.{IsBoundary, framed_bytes}
 use Rattle.film_frames.specs.Runs.{run_pieces}
 use Rattle.pacer.specs.Pacings.{IsPacing}
 use Rattle.session.specs.declared.states.Play.{Play as Played}
@@ -11,7 +11,7 @@ use Rattle.session.specs.declared.states.Prepared.{Prepared}
 -- what was sent ends at a boundary, and the plan sends the rest
 pub record IsGoingOn (pieces : List (List ℕ)) (sent : ℕ) (plan : List Segment) : Type 0 where
   pub boundary : IsBoundary pieces sent
-  pub whole : sent + total_bytes plan ≡ length (framed pieces)
+  pub whole : sent + total_bytes plan ≡ length (framed_bytes pieces)
 
 -- a play: its run as it began, sent by its plan
 pub record IsPlay (play : Played) : Type 0 where

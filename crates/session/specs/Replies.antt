@@ -16,8 +16,8 @@ abbrev pub field : List ℕ → List ℕ → Field
 field name value = record { name = name; value = value }
 
 -- parts, one after another
-abbrev pub joined : List (List ℕ) → List ℕ
-joined parts = flat_map (λ part. part) parts
+abbrev pub joined_parts : List (List ℕ) → List ℕ
+joined_parts parts = flat_map (λ part. part) parts
 
 -- the code of each refusal
 abbrev pub code_of : Refusal → ℕ
@@ -63,14 +63,14 @@ public_text sequence = reply_text 200 (Some sequence)
 abbrev pub describe_text : ℕ → List ℕ → List ℕ → ℕ → List ℕ
 describe_text sequence authority name end_ms = reply_text 200 (Some sequence)
     (field (codes "Content-Base")
-    (joined (codes "rtsp://" ∷ authority ∷ codes "/" ∷ name ∷ codes "/" ∷ []))
+    (joined_parts (codes "rtsp://" ∷ authority ∷ codes "/" ∷ name ∷ codes "/" ∷ []))
     ∷ field (codes "Content-Type") (codes "application/sdp")
     ∷ field (codes "Content-Length") (decimal (length (description_text name end_ms))) ∷ [])
     (description_text name end_ms)
 
 -- the channels, and the SSRC in eight hexadecimal digits
 abbrev pub transport_value : ℕ → ℕ → ℕ → List ℕ
-transport_value media control ssrc = joined
+transport_value media control ssrc = joined_parts
     (codes "RTP/AVP/TCP;unicast;interleaved=" ∷ decimal media ∷ codes "-" ∷ decimal control
     ∷ codes ";ssrc=" ∷ encode_lower (to_be_bytes w32 ssrc) ∷ [])
 
@@ -91,8 +91,8 @@ abbrev pub play_fields : List ℕ → ℕ → ℕ → List ℕ → List ℕ → 
 play_fields id first_ms end_ms authority name number time =
     field (codes "Session") id
     ∷ field (codes "Range")
-    (joined (codes "npt=" ∷ seconds_text first_ms ∷ codes "-" ∷ seconds_text end_ms ∷ []))
-    ∷ field (codes "RTP-Info") (joined (codes "url=rtsp://" ∷ authority ∷ codes "/" ∷ name
+    (joined_parts (codes "npt=" ∷ seconds_text first_ms ∷ codes "-" ∷ seconds_text end_ms ∷ []))
+    ∷ field (codes "RTP-Info") (joined_parts (codes "url=rtsp://" ∷ authority ∷ codes "/" ∷ name
     ∷ codes "/video;seq=" ∷ decimal number ∷ codes ";rtptime=" ∷ decimal time ∷ []))
     ∷ []
 
@@ -117,7 +117,7 @@ parameters_text sequence body = reply_text 200 (Some sequence)
 
 -- the lines of a look's body
 abbrev pub look_body : ℕ → ℕ → ℕ → List ℕ
-look_body now at booked = joined
+look_body now at booked = joined_parts
     (codes "x-Now: " ∷ decimal now ∷ codes "\r\nx-Slot: " ∷ decimal at
     ∷ codes "\r\nx-Booked: " ∷ decimal booked ∷ codes "\r\n" ∷ [])
 
@@ -127,10 +127,10 @@ start_text None = codes "none"
 start_text (Some start) = decimal start
 
 abbrev pub start_line : Option ℕ → List ℕ
-start_line start = joined (codes "x-Start: " ∷ start_text start ∷ codes "\r\n" ∷ [])
+start_line start = joined_parts (codes "x-Start: " ∷ start_text start ∷ codes "\r\n" ∷ [])
 
 abbrev pub over_line : Tried → List ℕ
-over_line tried = joined
+over_line tried = joined_parts
     (codes "x-Over: " ∷ decimal tried.start ∷ codes " " ∷ decimal tried.over.slot ∷ codes " "
     ∷ decimal tried.over.booked ∷ codes " " ∷ decimal tried.over.asked ∷ codes "\r\n" ∷ [])
 

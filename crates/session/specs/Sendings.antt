@@ -3,7 +3,7 @@ use Rattle.std.specs.Prelude.{ℕ, ◌≡◌, ◌+◌, ◌-◌, ◌^◌, ◌++�
 use Rattle.std.specs.Prelude.{Bool, if◌then◌else◌, List, [], ◌∷◌, Option, Some, None}
 use Rattle.vod_base.specs.Links.{Doing, IsFrontTold, sends, told_more}
 use Rattle.film_frames.specs.Runs.{run_pieces}
-use Rattle.pacer.specs.Pacings.{is_done, plan_bytes, raised, stands_at_boundary, step_end, stepped}
+use Rattle.pacer.specs.Pacings.{is_done, plan_bytes, at_slot, stands_at_boundary, step_end, after_step}
 use Rattle.pacer.specs.Pacings.{whole_pacing}
 use Rattle.session.specs.declared.states.Play.{Play as Played}
 use Rattle.session.specs.declared.states.Setup.{Setup}
@@ -14,7 +14,7 @@ use Rattle.session.specs.declared.states.Awaited.TheVariants.{Nothing, Play, Hal
 use Rattle.session.specs.declared.states.State.{State}
 use Rattle.session.specs.declared.states.State.TheVariants.{Init, Ready, Playing, Stopping}
 use Rattle.session.specs.declared.notes.PlayNote.{PlayNote}
-use Rattle.session.specs.Steps.{IsCarried, IsHaltIn, settled}
+use Rattle.session.specs.Steps.{IsCarried, IsHaltIn, after_stop}
 use Rattle.session.specs.Standings.{Standing, open_in, open_of}
 
 -- no frame and no report is cut
@@ -30,7 +30,7 @@ can_reply standing = standing.waits && is_between standing.state
 
 -- the session once its reply was sent: a play that its request stopped is over
 abbrev pub sent_reply : Standing → Standing
-sent_reply old = record old { waits = false; torn = old.tearing; state = settled old.state }
+sent_reply old = record old { waits = false; torn = old.tearing; state = after_stop old.state }
 
 -- a text was sent, or nothing
 abbrev pub IsTold : Bool → Option (List Doing) → List ℕ → Option (List Doing) → Type 0
@@ -42,9 +42,9 @@ abbrev pub stepped_in : Bool → ℕ → State → State
 stepped_in stop slot Init = Init
 stepped_in stop slot (Ready setup paused) = Ready setup paused
 stepped_in stop slot (Playing setup play) =
-    Playing setup (record play { pacer = stepped stop slot play.pacer })
+    Playing setup (record play { pacer = after_step stop slot play.pacer })
 stepped_in stop slot (Stopping setup halted) =
-    Stopping setup (record halted { pacer = stepped stop slot halted.pacer })
+    Stopping setup (record halted { pacer = after_step stop slot halted.pacer })
 
 abbrev pub is_sending : State → Bool
 is_sending Init = false
@@ -56,9 +56,9 @@ abbrev pub step_bytes : Bool → ℕ → State → List ℕ
 step_bytes stop slot Init = []
 step_bytes stop slot (Ready setup paused) = []
 step_bytes stop slot (Playing setup play) =
-    plan_bytes play.pacer play.pacer.sent (step_end stop (raised slot play.pacer))
+    plan_bytes play.pacer play.pacer.sent (step_end stop (at_slot slot play.pacer))
 step_bytes stop slot (Stopping setup halted) =
-    plan_bytes halted.pacer halted.pacer.sent (step_end stop (raised slot halted.pacer))
+    plan_bytes halted.pacer halted.pacer.sent (step_end stop (at_slot slot halted.pacer))
 
 -- the state once a play is admitted: its pacer has sent nothing
 abbrev pub admitted_in : State → Awaited → ℕ → ℕ → State
@@ -177,8 +177,8 @@ IsFinished state (Halt keep next) = IsHaltIn state keep × (next ≡ Done)
 IsFinished state (Look sequence) = ⊥
 IsFinished state (Offer sequence) = ⊥
 
-abbrev pub finished : Standing → Standing
-finished old = record old { awaited = finished_in old.state old.awaited }
+abbrev pub after_play : Standing → Standing
+after_play old = record old { awaited = finished_in old.state old.awaited }
 
 -- the slots from a play's start on that were not heard between two heard ones
 abbrev pub missed_between : ℕ → ℕ → ℕ → ℕ
@@ -202,11 +202,11 @@ abbrev pub is_taken : Standing → ℕ → Bool
 is_taken old slot = nat_lt old.heard slot && nat_le slot (2 ^ 62)
 
 -- the session after a slot
-abbrev pub slotted : Standing → ℕ → Standing
-slotted old slot =
+abbrev pub after_slot : Standing → ℕ → Standing
+after_slot old slot =
     if is_taken old slot
     then (if is_sending old.state
-    then finished (sent_slot old slot) else record old { heard = slot }) else old
+    then after_play (sent_slot old slot) else record old { heard = slot }) else old
 
 -- a send failed in a slot: a front of what is due was sent, and of the open booking as much is due
 -- as without the fault

@@ -240,8 +240,8 @@ sequence_of (Look sequence) = sequence
 sequence_of (Offer sequence) = sequence
 
 -- the session after the station's answer to a request: a receipt is noted, and the reply waits
-abbrev pub answered : Standing → Receipt → List ℕ → Standing
-answered old receipt text = record old {
+abbrev pub after_answer : Standing → Receipt → List ℕ → Standing
+after_answer old receipt text = record old {
   awaited = Nothing;
   text = text;
   waits = true;

@@ -75,8 +75,8 @@ IsPlayIn (Playing setup play) = IsPlay play
 IsPlayIn (Stopping setup stop) = ⊤
 
 -- the state as soon as the reply of a PAUSE or a TEARDOWN was sent
-abbrev pub settled : State → State
-settled Init = Init
-settled (Ready setup paused) = Ready setup paused
-settled (Playing setup play) = Playing setup play
-settled (Stopping setup stop) = Ready setup stop.paused
+abbrev pub after_stop : State → State
+after_stop Init = Init
+after_stop (Ready setup paused) = Ready setup paused
+after_stop (Playing setup play) = Playing setup play
+after_stop (Stopping setup stop) = Ready setup stop.paused

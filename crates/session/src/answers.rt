@@ -29,7 +29,7 @@ use std::mem;
 
 impl<'a> Session<'a> {
     /// The station admitted the play that was asked for.
-    pub fn admitted(&mut self, place: u64, start: u64)
+    pub fn hear_admission(&mut self, place: u64, start: u64)
         requires asked { IsPlay (awaits self.old) }
         requires start { self.old.heard < start }
         ensures exact { self.new ≡ after_admission self.old place start }
@@ -80,7 +80,7 @@ impl<'a> Session<'a> {
 
     /// The link has no room for the play that was asked for: the first slot without room, what is
     /// booked in it and what the plan asks for there.
-    pub fn overflowed(&mut self, place: u64, slot: u64, booked: u64, asked: u64)
+    pub fn hear_overflow(&mut self, place: u64, slot: u64, booked: u64, asked: u64)
         requires asked { IsPlay (awaits self.old) }
         ensures exact { self.new ≡ after_overflow self.old place slot booked asked }
         ensures handed { IsHandedIn self.old
@@ -106,7 +106,7 @@ impl<'a> Session<'a> {
 
     /// The journal had no room for the play or the look that was asked for: its entries and the
     /// open plays.
-    pub fn full(&mut self, entries: u64, live: u64)
+    pub fn hear_full(&mut self, entries: u64, live: u64)
         requires asked { IsPlayOrLook (awaits self.old) }
         ensures exact { self.new ≡ after_full self.old entries live }
         ensures handed { IsHandedIn self.old (Receipt.Full entries live) self.new }
@@ -126,7 +126,7 @@ impl<'a> Session<'a> {
 
     /// The booking was halted: the one for which that was asked, or the open one as the connection
     /// ends, which keeps what is due.
-    pub fn halted(&mut self, place: u64)
+    pub fn hear_halt(&mut self, place: u64)
         requires asked { IsHalt (awaits self.old) (open_of self.old) }
         ensures halts { Halts self.old place self.new }
         ensures state { self.new.state ≡ halted_in self.old.state self.old.awaited }
@@ -144,7 +144,7 @@ impl<'a> Session<'a> {
         let State::Playing(setup, play) = mem::replace(&mut self.state, State::Init) else {
             unreachable!()
         };
-        let (keep, next) = kept_and_next(&asked, play.pacer.due());
+        let (keep, next) = kept_and_next(&asked, play.pacer.bytes_due());
         let Play {
             run,
             place: number,
@@ -179,7 +179,7 @@ impl<'a> Session<'a> {
 
     /// What the station saw: the slot up to which its book has come, the slot that was looked at
     /// and what is booked in it.
-    pub fn looked(&mut self, place: u64, now: u64, at: u64, booked: u64)
+    pub fn hear_look(&mut self, place: u64, now: u64, at: u64, booked: u64)
         requires asked { IsLook (awaits self.old) }
         ensures exact { self.new ≡ after_look self.old place now at booked }
         ensures handed { IsHandedIn self.old
@@ -202,7 +202,7 @@ impl<'a> Session<'a> {
 
     /// What the station offers: how many entries the journal had, the first slot that was tried,
     /// and the plan and the offers that were handed out.
-    pub fn offered(&mut self, seen: u64, first: u64, plan: Plan, offers: Offers)
+    pub fn hear_offer(&mut self, seen: u64, first: u64, plan: Plan, offers: Offers)
         requires asked { IsOffer (awaits self.old) }
         ensures exact { self.new ≡
             after_offer self.old (record {

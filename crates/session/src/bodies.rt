@@ -67,7 +67,7 @@ pub(crate) fn put_offer(body: &mut Text, offers: &Offers)
     let _most = offers.wait(); // at most 255, so at most 256 starts were tried
     body.clear();
     put_start_line(body, offers.start());
-    for tried in offers.tried() {
+    for tried in offers.tries() {
         put_over_line(body, tried);
     }
 }

@@ -5,7 +5,7 @@ ghost use Rattle.std.specs.Prelude.{string_bytes};
 ghost use Rattle.vod_base.specs.Names.{is_good_name};
 ghost use Rattle.mpeg_scan.specs.Rates.{picture_time};
 ghost use Rattle.film_frames.specs.Runs.{run_pieces};
-ghost use Rattle.film_frames.specs.Tracks.{framed};
+ghost use Rattle.film_frames.specs.Tracks.{framed_bytes};
 ghost use Rattle.film_run.specs.Runs.{bytes_between};
 ghost use Rattle.film_run.specs.Units.{IsTrace, stored_sizes};
 ghost use Rattle.session.specs.Films.{IsFilmAt, counts_after, identity_of, length_ms, ms_at};
@@ -111,7 +111,7 @@ pub(crate) fn frames_of<'a>(
     requires order { run.now.first_unit < run.now.end_unit }
     requires within { run.now.end_unit ≤ length (stored_sizes stored.now) }
     ensures frames { result ≡ sending_of stored.now.film source setup.now counts run.now }
-    ensures bytes { length (framed (run_pieces result))
+    ensures bytes { length (framed_bytes (run_pieces result))
         ≡ bytes_between (stored_sizes stored.now) run.now.first_unit run.now.end_unit }
 {
     let identity = identity_of(source, setup, counts);

@@ -4,7 +4,7 @@ ghost use Rattle.std.specs.Prelude.{◌≡◌, ◌<◌, ◌≤◌, ◌+◌, ℕ,
 ghost use Rattle.plan_cert.specs.Slots.{total_bytes};
 ghost use Rattle.film_frames.specs.declared.stores.Stored.{Stored};
 ghost use Rattle.film_frames.specs.Runs.{run_pieces};
-ghost use Rattle.film_frames.specs.Tracks.{framed};
+ghost use Rattle.film_frames.specs.Tracks.{framed_bytes};
 ghost use Rattle.pacer.specs.Pacings.{IsPacing};
 ghost use Rattle.rtsp_text.specs.declared.requests.Request.{Request};
 ghost use Rattle.session.specs.declared.asks.Ask.{Ask};
@@ -17,8 +17,8 @@ ghost use Rattle.session.specs.Hearings.{Hears, after_halt, is_answered};
 ghost use Rattle.session.specs.PlayLaws.{HasCountedAll, HasRangeInPlaying, IsElseGood, IsNoted};
 ghost use Rattle.session.specs.PlayLaws.{IsRefusedInPlaying, KeepsToBoundary, slots_missed};
 ghost use Rattle.session.specs.Playing.{IsPlayable};
-ghost use Rattle.session.specs.Sendings.{finished, is_sending, is_taken, kept_of, next_of};
-ghost use Rattle.session.specs.Sendings.{slotted, start_in};
+ghost use Rattle.session.specs.Sendings.{after_play, is_sending, is_taken, kept_of, next_of};
+ghost use Rattle.session.specs.Sendings.{after_slot, start_in};
 ghost use Rattle.session.specs.Standings.{HaltAnswer, Standing, awaits};
 
 /// A PLAY with a Range in Playing is refused: by 455, where no other refusal comes before (RFC 2326
@@ -45,9 +45,9 @@ pub fn law_halt_at_boundary()
 pub fn law_slots_missed()
     ensures sending { (old : Standing) (slot : ℕ) → is_taken old slot ≡ true →
         is_sending old.state ≡ true
-        → (slotted old slot).late ≡ old.late + slots_missed old.heard slot (start_in old.state) }
+        → (after_slot old slot).late ≡ old.late + slots_missed old.heard slot (start_in old.state) }
     ensures resting { (old : Standing) (slot : ℕ) → is_sending old.state ≡ false →
-        (slotted old slot).late ≡ old.late }
+        (after_slot old slot).late ≡ old.late }
 {}
 
 /// A play of which all is sent that is kept is halted with all of that, as soon as a slot of it was
@@ -55,10 +55,10 @@ pub fn law_slots_missed()
 pub fn law_play_done()
     ensures done { (old : Standing) (setup : Setup) (play : Played) →
         old.state ≡ Playing setup play → 0 < play.pacer.passed →
-        play.pacer.sent ≡ play.pacer.keep → awaits (finished old) ≡ HaltAnswer play.pacer.keep }
+        play.pacer.sent ≡ play.pacer.keep → awaits (after_play old) ≡ HaltAnswer play.pacer.keep }
     ensures going { (old : Standing) (setup : Setup) (play : Played) →
         old.state ≡ Playing setup play → play.pacer.sent < play.pacer.keep →
-        finished old ≡ old }
+        after_play old ≡ old }
 {}
 
 /// After a play that is done, all frames of its run were counted: what is sent next has the next
@@ -69,7 +69,7 @@ pub fn law_run_counted()
         → old.state ≡ Playing setup play → is_answered (next_of old.awaited) ≡ false
         → IsFilmAt old.films setup.film stored
         → play.run.sent + kept_of old.awaited play.pacer.due
-        ≡ length (framed (run_pieces (sending_of stored.film old.source setup old.counts play.run)))
+        ≡ length (framed_bytes (run_pieces (sending_of stored.film old.source setup old.counts play.run)))
         → HasCountedAll (identity_of old.source setup old.counts)
         (identity_of old.source setup (after_halt old place).counts)
         (sending_of stored.film old.source setup old.counts play.run) }

@@ -124,7 +124,7 @@ impl<'a> Session<'a> {
     }
 
     /// Whether the 200 of a TEARDOWN was sent.
-    pub fn torn(&self) -> bool
+    pub fn is_torn(&self) -> bool
         ensures { result ≡ self.now.torn }
     {
         self.torn
@@ -136,7 +136,7 @@ impl<'a> Session<'a> {
         ensures within { IfSome result (CanKeep (open_of self.now)) }
     {
         match &self.state {
-            State::Playing(_, play) => Some(play.pacer.due()),
+            State::Playing(_, play) => Some(play.pacer.bytes_due()),
             _ => None,
         }
     }

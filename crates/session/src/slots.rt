@@ -6,10 +6,10 @@ ghost use Rattle.vod_base.specs.Outside.{HasRisen};
 ghost use Rattle.vod_base.specs.Links.{IsFrontTold, sends, told_more};
 ghost use Rattle.session.specs.Sendings.{HasFailed, IsFinished, IsTold, can_reply, due_bytes};
 ghost use Rattle.session.specs.Sendings.{due_state, finished_in, is_between, is_done_in};
-ghost use Rattle.session.specs.Sendings.{is_sending, is_taken, sent_in, sent_reply, slotted};
+ghost use Rattle.session.specs.Sendings.{is_sending, is_taken, sent_in, sent_reply, after_slot};
 ghost use Rattle.session.specs.Sendings.{start_in, step_bytes, stepped_in};
 ghost use Rattle.session.specs.Steps.{IsCarried, IsEven, IsHaltIn, IsLeft, IsPacingIn, IsPlayIn};
-ghost use Rattle.session.specs.Steps.{settled};
+ghost use Rattle.session.specs.Steps.{after_stop};
 ghost use Rattle.session.specs.Standings.{AreNotesKept, Brings, BringsIn, IsAtRest, IsSameBooking};
 ghost use Rattle.session.specs.Standings.{NoAnswer, awaits_of, open_in, open_of, taken_up};
 
@@ -168,14 +168,14 @@ fn done_bytes(state: &State<'_>) -> Option<u64>
     ensures halt { IfSome result (IsHaltIn state.now) }
 {
     match state {
-        State::Playing(_, play) if play.pacer.done() => Some(play.pacer.sent()),
+        State::Playing(_, play) if play.pacer.is_done() => Some(play.pacer.sent()),
         _ => None,
     }
 }
 
 /// The state as soon as the reply of a PAUSE or a TEARDOWN was sent.
 fn settle(state: State<'_>) -> State<'_>
-    ensures { result ≡ settled state.entry }
+    ensures { result ≡ after_stop state.entry }
 {
     match state {
         State::Stopping(setup, stop) => State::Ready(setup, stop.paused),
@@ -209,12 +209,12 @@ impl<'a> Session<'a> {
     /// [`LinkFault`] only where the link's count rose.
     pub fn slot<K: Link>(&mut self, t: u64, link: &mut K) -> Result<Slotted, LinkFault>
         requires rest { IsAtRest self.old }
-        ensures exact { OnOk result (self.new ≡ slotted self.old t) }
+        ensures exact { OnOk result (self.new ≡ after_slot self.old t) }
         ensures told { OnOk result (IsTold (is_taken self.old t
             && is_sending self.old.state) (K.told link.old)
             (due_bytes self.old.waits self.old.state self.old.text t) (K.told link.new)) }
         ensures heard { self.new.heard ≡ taken_up self.old.heard t }
-        ensures brings { IfOk result (λ slotted. Brings slotted self.new) }
+        ensures brings { IfOk result (λ step. Brings step self.new) }
         ensures kept { OnOk result (self.new.lost ≡ self.old.lost) }
         ensures lost { OnErr result (IsAtRest self.new) }
         ensures open { IsSameBooking (open_of self.old) (open_of self.new) }

@@ -76,7 +76,7 @@ impl Calendar {
     }
 
     /// The bytes booked in a slot, never above its capacity; 0 from `now() + 1,048,576` on.
-    pub fn booked(&self, slot: u64) -> u64
+    pub fn booked_bytes(&self, slot: u64) -> u64
         requires { self.now.first ≤ slot }
         ensures value { result ≡ booked_at self.now slot }
         ensures within { result ≤ capacity_at self.now.steps slot }

@@ -44,7 +44,7 @@ fn may_release(calendar: &Calendar, start: u64, plan: &Plan, keep: u64) -> bool
     for slot in 0..plan.slots() {
         let over = plan.sum_at(slot).saturating_sub(keep);
         let asked = over.saturating_sub(before);
-        if start + slot >= calendar.now() && asked > calendar.booked(start + slot) {
+        if start + slot >= calendar.now() && asked > calendar.booked_bytes(start + slot) {
             return false;
         }
         before = over;
@@ -110,7 +110,7 @@ fn run(
             }
             Row::Booked(slot, want) => {
                 assert!(rt; calendar.now() <= slot);
-                assert_eq!(rt; calendar.booked(slot), want, "row {index}");
+                assert_eq!(rt; calendar.booked_bytes(slot), want, "row {index}");
             }
         }
     }

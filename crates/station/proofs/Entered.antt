@@ -11,7 +11,7 @@ use Rattle.admission.specs.declared.entries.Entry.{Entry}
 use Rattle.admission.specs.Machine.{IsAnswer}
 use Rattle.admission.specs.declared.entries.Noted.{Noted}
 use Rattle.admission.specs.Books.{IsNoted, Journal}
-use Rattle.admission.specs.Histories.{IsLegal, is_halt, live, state_after}
+use Rattle.admission.specs.Histories.{IsLegal, is_halt, open_count, state_after}
 use Rattle.admission.specs.Makers.{AreHaltsOwn, Placed, made_by}
 use Rattle.turnstile.proofs.Prefixes.{made_own}
 use Rattle.station.specs.declared.answers.PlayRefused.{PlayRefused}
@@ -69,7 +69,7 @@ full_for seat old new more entries live_plays at f =
     let same : new.entries ≡ old.entries = ap (λ (j : Journal). j.entries) f.left in record {
       mine = ap (made_by seat.number) same ∙ sym at.own;
       entries_are = f.entries_are ∙ ap (λ (xs : List Entry). length xs) (sym same);
-      live_is = f.live_is ∙ ap live (sym same);
+      live_is = f.live_is ∙ ap open_count (sym same);
       full = (let r = f.full in let l = at.limit in omega arith);
     }
 

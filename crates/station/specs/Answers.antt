@@ -7,7 +7,7 @@ use Rattle.admission.specs.declared.entries.Command.{Command}
 use Rattle.admission.specs.declared.entries.Entry.{Entry}
 use Rattle.admission.specs.Machine.{IsAnswer}
 use Rattle.admission.specs.Books.{places_taken}
-use Rattle.admission.specs.Histories.{live, state_after}
+use Rattle.admission.specs.Histories.{open_count, state_after}
 use Rattle.station.specs.declared.answers.PlayRefused.{PlayRefused}
 use Rattle.station.specs.declared.answers.PlayRefused.TheVariants.{JournalFull}
 use Rattle.station.specs.declared.answers.PlayRefused.TheVariants.{Overflow as PlayOverflow}
@@ -36,12 +36,12 @@ pub record Made (old new : Sitting) (more : ℕ) (command : Command) (place : �
 pub record IsFull (old new : Sitting) (more entries live_plays : ℕ) : Type 0 where
   pub mine : new.mine ≡ old.mine
   pub entries_are : entries ≡ length new.seen
-  pub live_is : live_plays ≡ live new.seen
+  pub live_is : live_plays ≡ open_count new.seen
   pub full : old.limit < entries + live_plays + more
 
 -- why a play is refused
 abbrev pub IsRefused : Sitting → Sitting → ℕ → List Segment → PlayRefused → Type 0
-IsRefused old new heard asked (JournalFull plan entries live) = (plan ≡ asked)
-    × IsFull old new 2 entries live
+IsRefused old new heard asked (JournalFull plan entries open_count) = (plan ≡ asked)
+    × IsFull old new 2 entries open_count
 IsRefused old new heard asked (PlayOverflow place slot booked bytes) =
     Made old new 2 (play_of heard asked) place (Overflow slot booked bytes)

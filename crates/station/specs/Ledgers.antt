@@ -7,7 +7,7 @@ use Rattle.admission.specs.declared.entries.Command.{Command}
 use Rattle.admission.specs.declared.entries.Command.TheVariants.{Look, Play}
 use Rattle.admission.specs.Books.{IsNoted, Journal, places_taken}
 use Rattle.admission.specs.declared.entries.Entry.{Entry}
-use Rattle.admission.specs.Histories.{booked_after, live, state_after}
+use Rattle.admission.specs.Histories.{booked_after, open_count, state_after}
 use Rattle.admission.specs.Machine.{start_after}
 use Rattle.slot_calendar.specs.declared.profiles.CapStep.{CapStep}
 use Rattle.slot_calendar.specs.Profiles.{capacity_at}
@@ -37,13 +37,13 @@ pub record IsEntered (old new : Journal) (maker more : ℕ) (command : Command) 
 pub record IsFullFor (old new : Journal) (more entries live_plays : ℕ) : Type 0 where
   pub left : new ≡ old
   pub entries_are : entries ≡ length old.entries
-  pub live_is : live_plays ≡ live old.entries
+  pub live_is : live_plays ≡ open_count old.entries
   pub full : old.limit < entries + live_plays + more
 
 -- why a play is refused
 abbrev pub IsPlayRefused : Journal → Journal → ℕ → ℕ → List Segment → PlayRefused → Type 0
-IsPlayRefused old new maker heard asked (JournalFull plan entries live) = (plan ≡ asked)
-    × IsFullFor old new 2 entries live
+IsPlayRefused old new maker heard asked (JournalFull plan entries open_count) = (plan ≡ asked)
+    × IsFullFor old new 2 entries open_count
 IsPlayRefused old new maker heard asked (PlayOverflow place slot booked bytes) =
     IsEntered old new maker 2 (play_of heard asked) place (Overflow slot booked bytes)
 

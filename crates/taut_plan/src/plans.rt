@@ -22,7 +22,7 @@ use wire_curve::Curves;
 
 /// The front of the other chain, where `point` stands outside of it.
 #[inline(always)]
-fn crossed(side: Side, apex: Point, others: &Queue, point: Point) -> Option<Point>
+fn crossing(side: Side, apex: Point, others: &Queue, point: Point) -> Option<Point>
     requires between { FirstIsBetween apex others.now point }
     requires fit { FirstFits apex others.now point }
     ensures { MatchOption result
@@ -62,7 +62,7 @@ fn extend(
     ensures beyond { OnOk result (path.new.apex.place ≤ slot) }
 {
     let point = join(curves, side, path.apex, own, slot)?;
-    while let Some(corner) = crossed(side, path.apex, others, point) {
+    while let Some(corner) = crossing(side, path.apex, others, point) {
         others.pop_first();
         path.bend_at(corner)?;
     }

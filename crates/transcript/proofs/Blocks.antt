@@ -8,7 +8,7 @@ use Rattle.rtp_pack.specs.Packets.{unit_packets}
 use Rattle.rtp_pack.specs.Reports.{report_bytes, unit_report}
 use Rattle.film_frames.specs.Laws.{frames_among}
 use Rattle.film_frames.specs.Pieces.{count_of, octets_of, unit_of, unit_pieces}
-use Rattle.film_frames.specs.Runs.{Run, blocks_from, interleaved, payload, piece_bytes}
+use Rattle.film_frames.specs.Runs.{Run, blocks_from, interleaved_block, payload, piece_bytes}
 use Rattle.rtsp_client.specs.Answers.{block_moments, moments_of}
 use Rattle.rtsp_client.specs.Moments.{Frame, Report, is_last}
 use Rattle.transcript.proofs.Sums.{AreOneBlocks, blocks-one-append}
@@ -38,10 +38,10 @@ blocks-append run f o (x ∷ xs) ys = ap (λ bs. piece_bytes run f o x ∷ bs) (
 
 abbrev pub frame_block : Run → PictureUnit → Packet → ℕ → List ℕ
 frame_block run unit p f =
-    interleaved run.identity.channel (head_bytes (packet_head run.identity (picture_time run.rate) unit p f) ++ payload run.film p)
+    interleaved_block run.identity.channel (head_bytes (packet_head run.identity (picture_time run.rate) unit p f) ++ payload run.film p)
 
 abbrev pub report_block : Run → PictureUnit → ℕ → ℕ → List ℕ
-report_block run unit f o = interleaved run.identity.control (report_bytes (unit_report run.identity (picture_time run.rate) unit f o))
+report_block run unit f o = interleaved_block run.identity.control (report_bytes (unit_report run.identity (picture_time run.rate) unit f o))
 
 abbrev pub frame_blocks : Run → PictureUnit → ℕ → List Packet → List (List ℕ)
 frame_blocks run unit f [] = []

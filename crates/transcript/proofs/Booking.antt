@@ -13,19 +13,19 @@ use Rattle.station.specs.Ledgers.{play_of}
 use Rattle.session.specs.declared.settings.Settings.{Settings}
 use Rattle.session.specs.declared.states.Awaited.{Awaited}
 use Rattle.session.specs.declared.states.Awaited.TheVariants.{Nothing, Play, Halt, Look, Offer}
-use Rattle.session.specs.Sendings.{slotted}
+use Rattle.session.specs.Sendings.{after_slot}
 use Rattle.session.specs.Standings.{NoAnswer, Standing, awaits_of}
 use Rattle.conn.specs.Rounds.{Comes, Round, entries_in, round_outcomes, rounds_outcomes, takings_outcomes}
 use Rattle.conn.specs.Turns.{Outcome, Unasked, Entered, WasFull, Offered, Part, Stage, Taking, Passed, Answered, IsFinished, IsHalted, TakesAll, entry_in, film_bytes}
 use Rattle.transcript.specs.Courses.{Follows, asked_by, askings_of, first_stage, round_askings, takings_askings}
-use Rattle.transcript.specs.Plays.{Asking, Asks, admitted, begun, booked_by, booked_plays, booking_of, kept_among, kept_in, kept_with, plays_of}
+use Rattle.transcript.specs.Plays.{Asking, Asks, plays_admitted, plays_begun, booked_by, booked_plays, booking_of, kept_among, kept_in, kept_with, plays_of}
 use Rattle.transcript.proofs.Filming.{Stands, opened_stands, round_step, stands_by, taken_stands}
 use Rattle.transcript.proofs.Turning.{Ends, Starts, Stays, TurnsAs, told_by, turns_as}
 
 -- the play that begins is the one that the entry tells, if any
 abbrev pub IsToldBy : Awaited → Outcome → Type 0
 IsToldBy asked outcome = (askings : List Asking) (made : List Placed)
-    → ((all : ℕ) → kept_in askings all ≡ kept_among made all) → map booking_of (begun asked outcome askings) ≡ told_by outcome made
+    → ((all : ℕ) → kept_in askings all ≡ kept_among made all) → map booking_of (plays_begun asked outcome askings) ≡ told_by outcome made
 
 abbrev pub AreTold : List Asking → Type 0
 AreTold [] = ⊤
@@ -57,7 +57,7 @@ plays_told : (askings : List Asking) → AreTold askings → map booking_of (pla
 plays_told [] told = refl
 plays_told (Asks asked outcome ∷ askings) told =
     let made : List Placed = entries_in (outcomes_in askings) in
-    map-append booking_of (begun asked outcome askings) (plays_of askings)
+    map-append booking_of (plays_begun asked outcome askings) (plays_of askings)
     ∙ ap (λ ps. ps ++ map booking_of (plays_of askings)) (told.0 askings made (kept_same askings))
     ∙ ap (λ ps. told_by outcome made ++ ps) (plays_told askings told.1) ∙ told_more outcome made
 
@@ -75,9 +75,9 @@ turn_told old new asked outcome (Stays same after still) = λ askings made keeps
     ap (map booking_of) (still.none askings) ∙ sym (still.untold made)
 turn_told old new asked outcome (Starts after begins) = λ askings made keeps.
     let p = begins.prepared in
-    let mine : begun asked outcome askings ≡ admitted (Play p) (Admitted begins.start) askings =
-    ap (λ o. begun asked o askings) begins.outcome_is ∙ ap (λ a. admitted a begins.placed.entry.answer askings) begins.asked_is
-    ∙ ap (λ a. admitted (Play p) a askings) begins.answer in
+    let mine : plays_begun asked outcome askings ≡ plays_admitted (Play p) (Admitted begins.start) askings =
+    ap (λ o. plays_begun asked o askings) begins.outcome_is ∙ ap (λ a. plays_admitted a begins.placed.entry.answer askings) begins.asked_is
+    ∙ ap (λ a. plays_admitted (Play p) a askings) begins.answer in
     let told : told_by outcome made ≡ cut_play begins.start p.plan (kept_among made (total_bytes p.plan)) ∷ [] =
     ap (λ o. told_by o made) begins.outcome_is
     ∙ ap (λ c. booked_by (play_admitted c begins.placed.entry.answer) made) begins.command
@@ -106,7 +106,7 @@ takes_outcomes old new (Passed n ∷ takings) takes = takes_outcomes takes.0 new
 takes_outcomes old new (Answered message outcome parts ∷ takings) takes = ap (λ os. outcome ∷ os) (takes_outcomes takes.0 new takings takes.1.1)
 
 -- the halt of a play that is done tells none
-halt_told : (asked : Awaited) (s : Standing) (keep : ℕ) (halt : Outcome) (new : Standing) → ((answer : _) (later : List Asking) → admitted asked answer later ≡ [])
+halt_told : (asked : Awaited) (s : Standing) (keep : ℕ) (halt : Outcome) (new : Standing) → ((answer : _) (later : List Asking) → plays_admitted asked answer later ≡ [])
     → IsHalted s keep halt new → IsToldBy asked halt
 halt_told asked s keep Unasked new none halted = absurd halted
 halt_told asked s keep (Entered placed) new none halted = λ askings made keeps.
@@ -131,7 +131,7 @@ finished_told (Offer sequence) s halt new is = absurd is
 comes_told : (old opened : Stage) (event : Doing) (due : List Part) (halt : Outcome) → Comes old event due halt opened → IsToldBy (asked_by old.session event) halt
 comes_told old opened (HeardBytes bytes) due halt comes = subst (IsToldBy Nothing) (sym comes.1) (λ askings made keeps. refl)
 comes_told old opened (HeardSlot slot) due halt comes =
-    finished_told (slotted old.session slot).awaited (slotted old.session slot) halt opened.session comes.1.finished
+    finished_told (after_slot old.session slot).awaited (after_slot old.session slot) halt opened.session comes.1.finished
 comes_told old opened HeardEnd due halt comes = absurd comes
 comes_told old opened (Sent byte) due halt comes = absurd comes
 

@@ -3,7 +3,7 @@ use Rattle.std.proofs.Common.{◌≡◌, ℕ, zero, suc, ◌+◌, ◌*◌, ◌/�
 use Rattle.std.specs.List.{range_with_len}
 use Rattle.std.proofs.lemmas.List.{length-take-le, take_all, take_more}
 use Rattle.wire_curve.specs.declared.film.Timing.{Timing}
-use Rattle.wire_curve.specs.FilmCurves.{due, low_at, up_at, used_before as wire_used}
+use Rattle.wire_curve.specs.FilmCurves.{due_slot, low_at, up_at, used_before as wire_used}
 use Rattle.wire_curve.proofs.Sums.{sum_by-range_more}
 use Rattle.rtsp_client.specs.declared.wishes.Wish.{Wish}
 use Rattle.rtsp_client.specs.Meters.{use_slot, used_before}
@@ -24,17 +24,17 @@ used-snoc wish time slot unit (size ∷ sizes) x =
 
 used-range : (wish : Wish) (timing : Timing) (slot : ℕ) (sizes : List ℕ) (n : ℕ) → timing.slot_units ≡ wish.slot_units → timing.delay ≡ wish.startup → n ≤ length sizes
     → used_before wish timing.picture_units slot 0 (take n sizes)
-    ≡ sum_by (λ k. cond (nat_lt (due timing k) slot) (get_or sizes k 0) 0) (range_with_len 0 n)
+    ≡ sum_by (λ k. cond (nat_lt (due_slot timing k) slot) (get_or sizes k 0) 0) (range_with_len 0 n)
 used-range wish timing slot sizes zero units delay few = refl
 used-range wish timing slot sizes (suc n) units delay few =
     let time = timing.picture_units in
-    let f : ℕ → ℕ = λ k. cond (nat_lt (due timing k) slot) (get_or sizes k 0) 0 in
+    let f : ℕ → ℕ = λ k. cond (nat_lt (due_slot timing k) slot) (get_or sizes k 0) 0 in
     let next : suc n ≡ n + 1 = omega arith in
     let more : take (suc n) sizes ≡ take n sizes ++ get_or sizes n 0 ∷ [] = ap (λ m. take m sizes) next ∙ take_more sizes n 0 (omega (arith, few)) in
     let rest = used-range wish timing slot sizes n units delay (omega (arith, few)) in
     let front = used-snoc wish time slot 0 (take n sizes) (get_or sizes n 0) in
     let place : 0 + length (take n sizes) ≡ n = omega (arith, length-take-le n sizes (omega (arith, few))) in
-    let used : use_slot wish time (0 + length (take n sizes)) ≡ due timing n =
+    let used : use_slot wish time (0 + length (take n sizes)) ≡ due_slot timing n =
     ap (use_slot wish time) place ∙ (ap (λ u. n * time / u + wish.startup) (sym units) ∙ ap (λ d. n * time / timing.slot_units + d) (sym delay)) in
     let last = ap (λ u. cond (nat_lt u slot) (get_or sizes n 0) 0) used in
     let sums = sum_by-range_more f n in

@@ -11,7 +11,7 @@ use Rattle.session.specs.declared.states.Awaited.{Awaited}
 use Rattle.session.specs.declared.states.Awaited.TheVariants.{Nothing, Play, Halt, Look, Offer}
 use Rattle.session.specs.declared.states.Next.TheVariants.{Done}
 use Rattle.session.specs.Hearings.{after_halt}
-use Rattle.session.specs.Sendings.{can_reply, due_bytes, finished, is_between, is_done_in, is_sending, is_taken, sent_due, sent_in, sent_reply, sent_slot, slotted, step_bytes, stepped_in}
+use Rattle.session.specs.Sendings.{can_reply, due_bytes, after_play, is_between, is_done_in, is_sending, is_taken, sent_due, sent_in, sent_reply, sent_slot, after_slot, step_bytes, stepped_in}
 use Rattle.session.specs.Standings.{Standing, awaits, awaits_of}
 use Rattle.conn.specs.Rounds.{EndsInReply, HasFailedInReply, HasFailedInSlot, IsFront, Round, Runs, round_bytes, takings_bytes}
 use Rattle.conn.specs.Turns.{Answered, Entered, Film, IsFinished, Outcome, Part, Passed, Stage, Taking, TakesAll, Text, Unasked, after_reply, due_parts, parts_bytes, reply_parts, slot_parts, stage}
@@ -79,7 +79,7 @@ cut-short course round new sent runs front =
 record CanFinish (s : Standing) : Type 0 where
   halt : Outcome
   new : Standing
-  finished : IsFinished (awaits s) s halt new
+  after_play : IsFinished (awaits s) s halt new
 
 finish-none : (s : Standing) → s.awaited ≡ Nothing → CanFinish s
 finish-none s rest =
@@ -93,7 +93,7 @@ finish-halt s keep halts =
     record {
       halt = Entered placed;
       new = after_halt s 0;
-      finished = subst F (sym halts) (record { number = 0; command = refl; answer = refl; halts = refl });
+      after_play = subst F (sym halts) (record { number = 0; command = refl; answer = refl; halts = refl });
     }
 
 finish-if : (done : Bool) (s : Standing) (keep : ℕ) → s.awaited ≡ (if done then Halt keep Done else Nothing) → CanFinish s
@@ -104,11 +104,11 @@ reply-rest : (goes : Bool) (s : Standing) → (if goes then sent_reply s else s)
 reply-rest true s = refl
 reply-rest false s = refl
 
-finish-sent : (s : Standing) → s.awaited ≡ Nothing → CanFinish (finished s)
-finish-sent s rest = finish-if (is_done_in s.state) (finished s) (sent_in s.state) (ap (λ a. if is_done_in s.state then Halt (sent_in s.state) Done else a) rest)
+finish-sent : (s : Standing) → s.awaited ≡ Nothing → CanFinish (after_play s)
+finish-sent s rest = finish-if (is_done_in s.state) (after_play s) (sent_in s.state) (ap (λ a. if is_done_in s.state then Halt (sent_in s.state) Done else a) rest)
 
 finish-slotted : (old : Standing) (slot : ℕ) (taken sending : Bool) → old.awaited ≡ Nothing
-    → CanFinish (if taken then (if sending then finished (sent_slot old slot) else record old { heard = slot }) else old)
+    → CanFinish (if taken then (if sending then after_play (sent_slot old slot) else record old { heard = slot }) else old)
 finish-slotted old slot true true rest =
     finish-sent (sent_slot old slot) (reply-rest (old.waits && is_between (stepped_in true slot old.state)) (sent_due old slot) ∙ rest)
 finish-slotted old slot true false rest = finish-none (record old { heard = slot }) rest

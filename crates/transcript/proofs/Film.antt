@@ -13,14 +13,14 @@ use Rattle.rtp_pack.specs.declared.reports.Identity.{Identity}
 use Rattle.film_frames.specs.Laws.{frames_among, payloads as joined}
 use Rattle.film_frames.specs.Pieces.{pieces_of, wire_size}
 use Rattle.film_frames.specs.Runs.{Run, blocks_from, count_ended, run_of, run_pieces}
-use Rattle.film_frames.specs.Tracks.{framed}
+use Rattle.film_frames.specs.Tracks.{framed_bytes}
 use Rattle.film_frames.proofs.BackLemmas.{comes-back, run-sum}
 use Rattle.film_frames.proofs.FilmLemmas.{laid-film}
 use Rattle.rtsp_client.specs.Answers.{cut_bytes, moments_in, payloads_of}
 use Rattle.rtsp_client.specs.Courses.{Stage}
 use Rattle.rtsp_client.specs.Films.{begins_film, is_complete, time_in, units, units_until}
 use Rattle.rtsp_client.specs.Meters.{time}
-use Rattle.rtsp_client.specs.Moments.{History, end_ms, first_frame, frames, payloads, received, sizes}
+use Rattle.rtsp_client.specs.Moments.{History, end_ms, first_frame, frames, payloads, bytes_received, sizes}
 use Rattle.rtsp_client.specs.Promises.{IsHeardOf}
 use Rattle.rtsp_client.proofs.Handing.{payloads-are}
 use Rattle.transcript.proofs.Counting.{count-whole}
@@ -109,7 +109,7 @@ min-below a b = omega arith
 pub heard-of : (film : Film) (identity : Identity) (x : Stream) (c : ℕ) (at : Stage) → IsFilmIn film identity x → HasGoneOn at.history → IsReadingOf x c at
     → units_until (begun_sum x).end_ms (picture_time film.rate) ≡ length (film_sizes film)
     → IsHeardOf (film_sizes film) (picture_time film.rate) at.history (cut_bytes at.rest)
-    × (received at.history + cut_bytes at.rest ≡ min (film_place x c) (length (framed x.blocks)))
+    × (bytes_received at.history + cut_bytes at.rest ≡ min (film_place x c) (length (framed_bytes x.blocks)))
 heard-of film identity x c at is gone reading count =
     let d = film_place x c in
     let k = count_ended d x.blocks in
@@ -119,7 +119,7 @@ heard-of film identity x c at is gone reading count =
     let are : sizes at.history ≡ take its.count all = ap (λ (s : Sum). s.sizes) reading.sum ∙ its.sizes_are in
     let many : length (sizes at.history) ≡ its.count = ap (λ (l : List ℕ). length l) are ∙ length-take-le its.count all its.among in
     let bytes = ap (λ (s : Sum). s.received) reading.sum ∙ blocks-received (take k x.blocks) (begun_sum x) (blocks-one-take k x.blocks x.blocks_are) refl in
-    let came : received at.history + cut_bytes at.rest ≡ min d (length (framed x.blocks)) = omega (arith, bytes, reading.cut) in
+    let came : bytes_received at.history + cut_bytes at.rest ≡ min d (length (framed_bytes x.blocks)) = omega (arith, bytes, reading.cut) in
     let its_time = timed film identity x k at.history is gone reading.sum in (
       record {
         sizes_are = are ∙ ap (λ n. take n all) (sym many);
@@ -138,9 +138,9 @@ heard-of film identity x c at is gone reading count =
 sum-most : (xs : List ℕ) (a : ℕ) → sum (take a xs) ≤ sum xs
 sum-most xs a = sum_by-take-le (λ (x : ℕ). x) xs a
 
-pub blocks-sum : (film : Film) (identity : Identity) (x : Stream) → IsFilmIn film identity x → length (framed x.blocks) ≡ sum (film_sizes film)
+pub blocks-sum : (film : Film) (identity : Identity) (x : Stream) → IsFilmIn film identity x → length (framed_bytes x.blocks) ≡ sum (film_sizes film)
 blocks-sum film identity x is =
-    ap (λ bs. length (framed bs)) (is.blocks ∙ sym (run-blocks film identity))
+    ap (λ bs. length (framed_bytes bs)) (is.blocks ∙ sym (run-blocks film identity))
     ∙ ((run-sum film 0 (length film.units.items) identity (omega arith) (omega arith)).1
     ∙ ap (λ us. sum (map (λ u. wire_size film.slice_starts.items u) us)) (units-all film))
 
@@ -153,7 +153,7 @@ pub whole-of : (film : Film) (identity : Identity) (x : Stream) (h : History) �
     → sum_of h ≡ steps (begun_sum x) (moments_in x.blocks) → is_complete h ≡ true → IsWholeOf film x h
 whole-of film identity x h is gone sum_is complete =
     let all = film_sizes film in
-    let total = length (framed x.blocks) in
+    let total = length (framed_bytes x.blocks) in
     let k = count_ended total x.blocks in
     let front : take k x.blocks ≡ x.blocks = take_all k x.blocks (omega (arith, count-whole x.blocks total (omega arith))) in
     let its = come film identity x total is in

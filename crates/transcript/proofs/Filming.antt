@@ -14,14 +14,14 @@ use Rattle.session.specs.declared.states.Play.{Play as Played}
 use Rattle.session.specs.declared.states.Setup.{Setup}
 use Rattle.session.specs.declared.states.State.{State}
 use Rattle.session.specs.declared.states.State.TheVariants.{Init, Ready, Playing, Stopping}
-use Rattle.session.specs.Sendings.{can_reply, finished, halted_in, is_between, is_done_in, is_sending, is_taken, sent_due, sent_in, sent_reply, sent_slot, slotted, stepped_in}
+use Rattle.session.specs.Sendings.{can_reply, after_play, halted_in, is_between, is_done_in, is_sending, is_taken, sent_due, sent_in, sent_reply, sent_slot, after_slot, stepped_in}
 use Rattle.session.specs.Standings.{NoAnswer, Standing, awaits, awaits_of}
-use Rattle.session.specs.Steps.{settled}
+use Rattle.session.specs.Steps.{after_stop}
 use Rattle.conn.specs.Films.{rounds_film}
 use Rattle.conn.specs.Rounds.{Comes, Round, Runs}
 use Rattle.conn.specs.Turns.{Outcome, Unasked, Entered, WasFull, Offered, Part, Stage, Taking, Passed, Answered, IsFinished, IsHaltAnswered, IsHalted, IsReplied, Takes, TakesAll, after_reply, due_parts, film_bytes, slot_parts}
 use Rattle.transcript.specs.Courses.{Follows, asked_by, askings_of, round_askings, takings_askings}
-use Rattle.transcript.specs.Plays.{Asking, Asks, admitted, begun, kept_by, kept_in, kept_with, plays_of}
+use Rattle.transcript.specs.Plays.{Asking, Asks, plays_admitted, plays_begun, kept_by, kept_in, kept_with, plays_of}
 use Rattle.transcript.proofs.Films.{IsFilm, IsOnTime, IsRest, IsSound, film_in, film_over, play_with}
 use Rattle.transcript.proofs.Slots.{reply_on, same_on, slot_goes, state_after, waits_after}
 use Rattle.transcript.proofs.Steps.{GoesOn, sound_waits, still_rest, then_on, turn_goes}
@@ -120,8 +120,8 @@ done_rest : (p : Pacing) (slot : ℕ) (asked : Awaited) (placed : Placed) (numbe
 done_rest p slot asked placed number keep askings end more on sent command asks later is =
     let kept : kept_with (Entered placed) (kept_in askings (total_bytes p.plan)) ≡ keep =
     ap (λ c. kept_by c (kept_in askings (total_bytes p.plan))) command in
-    let none : begun asked (Entered placed) askings ≡ [] = ap (λ a. admitted a placed.entry.answer askings) asks in
-    subst (λ k. IsFilm end (play_with p k ∷ (begun asked (Entered placed) askings ++ plays_of askings)) (take p.sent (film_in p) ++ more)) (sym kept)
+    let none : plays_begun asked (Entered placed) askings ≡ [] = ap (λ a. plays_admitted a placed.entry.answer askings) asks in
+    subst (λ k. IsFilm end (play_with p k ∷ (plays_begun asked (Entered placed) askings ++ plays_of askings)) (take p.sent (film_in p) ++ more)) (sym kept)
     (subst (λ ps. IsFilm end (play_with p keep ∷ (ps ++ plays_of askings)) (take p.sent (film_in p) ++ more)) (sym none)
     (film_over p slot end keep (plays_of askings) more on (sym sent) later is))
 
@@ -161,11 +161,11 @@ halted_step s setup play (Offered at_slot note) keep new is sound done sent asks
 
 finishes : (s : Standing) (state : State) (halt : Outcome) (new : Standing) → s.state ≡ state → IsSound (sends_in s.state) s.waits s.heard
     → is_done_in state ≡ true → s.awaited ≡ Halt (sent_in state) Done → IsFinished (awaits s) s halt new → Step s new (Asks s.awaited halt ∷ []) []
-finishes s Init halt new is sound done asks finished = absurd (true≢false (sym done))
-finishes s (Ready setup paused) halt new is sound done asks finished = absurd (true≢false (sym done))
-finishes s (Playing setup play) halt new is sound done asks finished =
-    halted_step s setup play halt play.pacer.sent new is sound done refl asks (subst (λ a. IsFinished (awaits_of a) s halt new) asks finished)
-finishes s (Stopping setup stop) halt new is sound done asks finished = absurd (true≢false (sym done))
+finishes s Init halt new is sound done asks after_play = absurd (true≢false (sym done))
+finishes s (Ready setup paused) halt new is sound done asks after_play = absurd (true≢false (sym done))
+finishes s (Playing setup play) halt new is sound done asks after_play =
+    halted_step s setup play halt play.pacer.sent new is sound done refl asks (subst (λ a. IsFinished (awaits_of a) s halt new) asks after_play)
+finishes s (Stopping setup stop) halt new is sound done asks after_play = absurd (true≢false (sym done))
 
 -- nothing is asked
 same_step : (s new : Standing) → Stands s → new ≡ s → Step s new (Asks s.awaited Unasked ∷ []) []
@@ -180,22 +180,22 @@ same_step s new stands same = subst (λ n. Step s n (Asks s.awaited Unasked ∷ 
 })
 
 unasked_same : (s : Standing) (halt : Outcome) (new : Standing) → Stands s → IsFinished NoAnswer s halt new → Step s new (Asks s.awaited halt ∷ []) []
-unasked_same s Unasked new stands finished = same_step s new stands finished
-unasked_same s (Entered placed) new stands finished = absurd finished
-unasked_same s (WasFull more entries live) new stands finished = absurd finished
-unasked_same s (Offered at_slot note) new stands finished = absurd finished
+unasked_same s Unasked new stands after_play = same_step s new stands after_play
+unasked_same s (Entered placed) new stands after_play = absurd after_play
+unasked_same s (WasFull more entries live) new stands after_play = absurd after_play
+unasked_same s (Offered at_slot note) new stands after_play = absurd after_play
 
 unasked_step : (s : Standing) (halt : Outcome) (new : Standing) → Stands s → IsFinished (awaits s) s halt new → Step s new (Asks s.awaited halt ∷ []) []
-unasked_step s halt new stands finished =
-    unasked_same s halt new stands (subst (λ a. IsFinished (awaits_of a) s halt new) stands.rest finished)
+unasked_step s halt new stands after_play =
+    unasked_same s halt new stands (subst (λ a. IsFinished (awaits_of a) s halt new) stands.rest after_play)
 
 -- a slot that is taken up by what is being sent
 finished_step : (s : Standing) (halt : Outcome) (new : Standing) (done : Bool) → IsSound (sends_in s.state) s.waits s.heard → is_done_in s.state ≡ done
     → s.awaited ≡ (if done then Halt (sent_in s.state) Done else Nothing) → IsFinished (awaits s) s halt new → Step s new (Asks s.awaited halt ∷ []) []
-finished_step s halt new true sound done asks finished = finishes s s.state halt new refl sound done asks finished
-finished_step s halt new false sound done asks finished = unasked_step s halt new (record { rest = asks; sound = sound }) finished
+finished_step s halt new true sound done asks after_play = finishes s s.state halt new refl sound done asks after_play
+finished_step s halt new false sound done asks after_play = unasked_step s halt new (record { rest = asks; sound = sound }) after_play
 
-pub reply_state : (goes : Bool) (s : Standing) → (if goes then sent_reply s else s).state ≡ (if goes then settled s.state else s.state)
+pub reply_state : (goes : Bool) (s : Standing) → (if goes then sent_reply s else s).state ≡ (if goes then after_stop s.state else s.state)
 reply_state true s = refl
 reply_state false s = refl
 
@@ -221,9 +221,9 @@ then_asked a b c asked outcome bytes one two = record {
 }
 
 pub sent_on : (old : Standing) (slot : ℕ) → Stands old → is_sending old.state ≡ true → old.heard < slot
-    → On old (finished (sent_slot old slot)) [] (film_bytes (due_parts old slot))
+    → On old (after_play (sent_slot old slot)) [] (film_bytes (due_parts old slot))
 sent_on old slot stands sending later =
-    let s : Standing = finished (sent_slot old slot) in
+    let s : Standing = after_play (sent_slot old slot) in
     let goes : Bool = old.waits && is_between (stepped_in true slot old.state) in
     let due : Standing = sent_due old slot in
     let state : s.state ≡ state_after old.waits old.state slot = reply_state goes due in
@@ -235,10 +235,10 @@ sent_on old slot stands sending later =
     (slot_goes old.state old.waits old.heard slot old.text sending stands.sound later)))
 
 sent_step : (old : Standing) (slot : ℕ) (halt : Outcome) (new : Standing) → Stands old → is_sending old.state ≡ true → old.heard < slot
-    → IsFinished (awaits (finished (sent_slot old slot))) (finished (sent_slot old slot)) halt new
-    → Step old new (Asks (finished (sent_slot old slot)).awaited halt ∷ []) (film_bytes (due_parts old slot))
+    → IsFinished (awaits (after_play (sent_slot old slot))) (after_play (sent_slot old slot)) halt new
+    → Step old new (Asks (after_play (sent_slot old slot)).awaited halt ∷ []) (film_bytes (due_parts old slot))
 sent_step old slot halt new stands sending later finishing =
-    let s : Standing = finished (sent_slot old slot) in
+    let s : Standing = after_play (sent_slot old slot) in
     let goes : Bool = old.waits && is_between (stepped_in true slot old.state) in
     let asks : s.awaited ≡ (if is_done_in s.state then Halt (sent_in s.state) Done else Nothing) =
     ap (λ a. if is_done_in s.state then Halt (sent_in s.state) Done else a) (reply_awaited goes (sent_due old slot) ∙ stands.rest) in
@@ -266,7 +266,7 @@ and_left false b both = both
 
 slot_cases : (old : Standing) (slot : ℕ) (halt : Outcome) (new : Standing) (taken sending : Bool) → Stands old → (taken ≡ true → old.heard < slot)
     → is_sending old.state ≡ sending
-    → let s : Standing = if taken then (if sending then finished (sent_slot old slot) else record old { heard = slot }) else old in
+    → let s : Standing = if taken then (if sending then after_play (sent_slot old slot) else record old { heard = slot }) else old in
     IsFinished (awaits s) s halt new
     → Step old new (Asks s.awaited halt ∷ []) (film_bytes (if taken && sending then due_parts old slot else []))
 slot_cases old slot halt new false sending stands later is finishing = unasked_step old halt new stands finishing
@@ -276,8 +276,8 @@ slot_cases old slot halt new true false stands later is finishing =
     let on : On old s [] [] = idle_on old slot stands is (later refl) in
     then_asked old s new s.awaited halt [] on (unasked_step s halt new (record { rest = stands.rest; sound = on.sound }) finishing)
 
-pub slot_step : (old : Standing) (slot : ℕ) (halt : Outcome) (new : Standing) → Stands old → IsFinished (awaits (slotted old slot)) (slotted old slot) halt new
-    → Step old new (Asks (slotted old slot).awaited halt ∷ []) (film_bytes (slot_parts old slot))
+pub slot_step : (old : Standing) (slot : ℕ) (halt : Outcome) (new : Standing) → Stands old → IsFinished (awaits (after_slot old slot)) (after_slot old slot) halt new
+    → Step old new (Asks (after_slot old slot).awaited halt ∷ []) (film_bytes (slot_parts old slot))
 slot_step old slot halt new stands finishing =
     slot_cases old slot halt new (is_taken old slot) (is_sending old.state) stands
     (λ taken. ltb-true old.heard slot (and_left (nat_lt old.heard slot) (nat_le slot (2 ^ 62)) taken)) refl finishing
@@ -292,7 +292,7 @@ comes_step old opened (HeardBytes bytes) due halt comes stands =
     (subst (λ (s : Stage). Step old.session s.session (Asks Nothing Unasked ∷ []) []) (sym comes.3)
     (subst (λ a. Step old.session old.session (Asks a Unasked ∷ []) []) stands.rest (same_step old.session old.session stands refl))))
 comes_step old opened (HeardSlot slot) due halt comes stands =
-    subst (λ ps. Step old.session opened.session (Asks (slotted old.session slot).awaited halt ∷ []) (film_bytes ps)) (sym comes.1.parts_are)
+    subst (λ ps. Step old.session opened.session (Asks (after_slot old.session slot).awaited halt ∷ []) (film_bytes ps)) (sym comes.1.parts_are)
     (slot_step old.session slot halt opened.session stands comes.1.finished)
 comes_step old opened HeardEnd due halt comes stands = absurd comes
 comes_step old opened (Sent byte) due halt comes stands = absurd comes

@@ -4,19 +4,19 @@ use Rattle.std.proofs.Common.{◌≡◌, ℕ, ◌+◌, ◌-◌, ◌<◌, ◌≤�
 use Rattle.std.proofs.lemmas.List.{append-nil, append_assoc, length-take, length-drop}
 use Rattle.std.proofs.lemmas.List.Sums.{sum_by-cons}
 use Rattle.std.proofs.Math.Seq.{take-append-add}
-use Rattle.film_frames.specs.Tracks.{IsBoundary, framed}
+use Rattle.film_frames.specs.Tracks.{IsBoundary, framed_bytes}
 use Rattle.plan_cert.specs.Slots.{total_bytes}
 use Rattle.pacer.specs.Boundaries.{bytes_between}
 use Rattle.pacer.specs.Pacings.{IsPacing, Pacing, due_by, first_slots, plan_bytes}
 use Rattle.pacer.proofs.PacingLemmas.{first-slots-rise}
 use Rattle.pacer.proofs.SendingLemmas.{between-join}
 use Rattle.conn.proofs.Filming.{sent_through, through_is}
-use Rattle.transcript.specs.Plays.{AreOver, Asking, FilmPlay, due_by as all_due, due_of, film_of, film_written, joined, kept_in, plays_of}
+use Rattle.transcript.specs.Plays.{AreOver, Asking, FilmPlay, due_by as all_due, due_of, film_of, film_written, bytes_of_plays, kept_in, plays_of}
 use Rattle.transcript.proofs.Turning.{Sends, Idle, Going, Ending}
 
 -- the film of a pacing, and its play where so much is kept
 abbrev pub film_in : Pacing → List ℕ
-film_in p = drop p.before (framed p.pieces)
+film_in p = drop p.before (framed_bytes p.pieces)
 
 abbrev pub play_with : Pacing → ℕ → FilmPlay
 play_with p keep = record { start = p.start; plan = p.plan; keep = keep; before = p.before; pieces = p.pieces }
@@ -44,9 +44,9 @@ film_is slot (play ∷ next ∷ plays) bytes is =
     let size : length front ≡ play.keep = omega (arith, length-take play.keep (film_of play), is.1.2.1) in
     let later : is.0 ≡ film_written slot (next ∷ plays) = film_is slot (next ∷ plays) is.0 is.1.1 in
     is.1.0 ∙ ap (λ n. take n (film_of play) ++ is.0) due ∙ ap (λ r. front ++ r) later
-    ∙ sym (take-append-add front (joined (next ∷ plays)) (all_due slot (next ∷ plays)))
-    ∙ ap (λ n. take (n + all_due slot (next ∷ plays)) (front ++ joined (next ∷ plays))) (size ∙ sym due)
-    ∙ ap (λ n. take n (front ++ joined (next ∷ plays))) (sym (sum_by-cons (due_of slot) play (next ∷ plays)))
+    ∙ sym (take-append-add front (bytes_of_plays (next ∷ plays)) (all_due slot (next ∷ plays)))
+    ∙ ap (λ n. take (n + all_due slot (next ∷ plays)) (front ++ bytes_of_plays (next ∷ plays))) (size ∙ sym due)
+    ∙ ap (λ n. take n (front ++ bytes_of_plays (next ∷ plays))) (sym (sum_by-cons (due_of slot) play (next ∷ plays)))
 
 pub film_over_all : (slot : ℕ) (plays : List FilmPlay) (bytes : List ℕ) → IsFilm slot plays bytes → AreOver slot plays
 film_over_all slot [] bytes is = tt
@@ -78,7 +78,7 @@ IsSound (Ending p) waits slot = IsOnTime p slot × (waits ≡ true) × IsAtLast 
 
 -- so many bytes of a plan are at most its film
 pub film_holds : (p : Pacing) (n : ℕ) → IsPacing p → n ≤ total_bytes p.plan → n ≤ length (film_in p)
-film_holds p n is few = omega (arith, few, is.whole, length-drop p.before (framed p.pieces))
+film_holds p n is few = omega (arith, few, is.whole, length-drop p.before (framed_bytes p.pieces))
 
 pub due_now : (p : Pacing) (slot : ℕ) → IsOnTime p slot → due_of slot (play_with p p.keep) ≡ p.sent
 due_now p slot on =

@@ -2,7 +2,7 @@
 use Rattle.std.proofs.Common.{◌≡◌, ℕ, ◌+◌, ◌≤◌, List, [], ◌∷◌, ◌++◌, take, drop, refl, sym, ap, subst, ◌∙◌, append_assoc, arith, inl, inr, ◌⊎◌}
 use Rattle.std.proofs.lemmas.List.{take-append-drop}
 use Rattle.film_frames.specs.Runs.{count_ended}
-use Rattle.film_frames.specs.Tracks.{framed}
+use Rattle.film_frames.specs.Tracks.{framed_bytes}
 use Rattle.rtsp_client.specs.declared.wishes.Wish.{Wish}
 use Rattle.rtsp_client.specs.declared.wishes.Watched.{Watched}
 use Rattle.rtsp_client.specs.Answers.{moments_in, moments_of}
@@ -70,7 +70,7 @@ all-pieces x (a ∷ b ∷ ps) p tail m reply all two =
     ∙ ap (λ l. x.first ∷ x.second ∷ l) (all-blocks x.blocks x.later ps p tail m (begun_sum x) x.blocks_are x.later_are reply rest same))
 
 pub done-sum : (x : Stream) (wish : Wish) (watched : Watched) (bytes out : List ℕ) (c : ℕ) (done : IsDone wish watched bytes out)
-    → bytes ≡ take c (framed (all_of x)) → sum_of done.at.history ≡ steps (begun_sum x) (moments_in x.blocks)
+    → bytes ≡ take c (framed_bytes (all_of x)) → sum_of done.at.history ≡ steps (begun_sum x) (moments_in x.blocks)
 done-sum x wish watched bytes out c done is =
     let all = all_of x in
     let k = count_ended c all in

@@ -6,7 +6,7 @@ use Rattle.vod_base.specs.Links.{Doing, HeardBytes, HeardEnd, HeardSlot, Sent}
 use Rattle.film_frames.specs.declared.stores.Stored.{Stored}
 use Rattle.session.specs.declared.settings.Settings.{Settings}
 use Rattle.session.specs.declared.states.Awaited.TheVariants.{Nothing}
-use Rattle.session.specs.Sendings.{can_reply, finished, is_between, is_sending, sent_due, sent_reply, sent_slot, slotted, stepped_in}
+use Rattle.session.specs.Sendings.{can_reply, after_play, is_between, is_sending, sent_due, sent_reply, sent_slot, after_slot, stepped_in}
 use Rattle.session.specs.Standings.{Awaits, NoAnswer, PlayAnswer, HaltAnswer, LookAnswer, OfferAnswer, Standing, awaits}
 use Rattle.conn.specs.Films.{rounds_film}
 use Rattle.conn.specs.Rounds.{Comes, Round}
@@ -57,11 +57,11 @@ finished_heard (HaltAnswer keep) s halt new is = halted_heard s keep halt new is
 finished_heard LookAnswer s halt new is = absurd is
 finished_heard OfferAnswer s halt new is = absurd is
 
-sent_heard : (old : Standing) (slot : ℕ) → (finished (sent_slot old slot)).heard ≡ slot
+sent_heard : (old : Standing) (slot : ℕ) → (after_play (sent_slot old slot)).heard ≡ slot
 sent_heard old slot = (reply_left (old.waits && is_between (stepped_in true slot old.state)) (sent_due old slot)).1
 
 slot_cases : (old : Standing) (slot : ℕ) (later small sending : Bool) → (later ≡ true → old.heard < slot) → (later ≡ false → slot ≤ old.heard)
-    → (if later && small then (if sending then finished (sent_slot old slot) else record old { heard = slot }) else old).heard
+    → (if later && small then (if sending then after_play (sent_slot old slot) else record old { heard = slot }) else old).heard
     ≡ max old.heard (if small then slot else 0)
 slot_cases old slot true true true after before = let h : old.heard < slot = after refl in sent_heard old slot ∙ omega (arith, h)
 slot_cases old slot true true false after before = let h : old.heard < slot = after refl in omega (arith, h)
@@ -69,7 +69,7 @@ slot_cases old slot true false sending after before = omega arith
 slot_cases old slot false true sending after before = let h : slot ≤ old.heard = before refl in omega (arith, h)
 slot_cases old slot false false sending after before = omega arith
 
-slotted_heard : (old : Standing) (slot : ℕ) → (slotted old slot).heard ≡ max old.heard (slot_in (HeardSlot slot))
+slotted_heard : (old : Standing) (slot : ℕ) → (after_slot old slot).heard ≡ max old.heard (slot_in (HeardSlot slot))
 slotted_heard old slot =
     slot_cases old slot (nat_lt old.heard slot) (nat_le slot (2 ^ 62)) (is_sending old.state) (ltb-true old.heard slot) (ltb-false old.heard slot)
 
@@ -78,7 +78,7 @@ pub comes_heard : (old opened : Stage) (event : Doing) (due : List Part) (halt :
 comes_heard old opened (HeardBytes bytes) due halt comes =
     ap (λ (s : Stage). s.session.heard) comes.3 ∙ omega arith
 comes_heard old opened (HeardSlot slot) due halt comes =
-    finished_heard (awaits (slotted old.session slot)) (slotted old.session slot) halt opened.session comes.1.finished ∙ slotted_heard old.session slot
+    finished_heard (awaits (after_slot old.session slot)) (after_slot old.session slot) halt opened.session comes.1.finished ∙ slotted_heard old.session slot
 comes_heard old opened HeardEnd due halt comes = absurd comes
 comes_heard old opened (Sent byte) due halt comes = absurd comes
 

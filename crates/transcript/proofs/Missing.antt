@@ -15,7 +15,7 @@ use Rattle.session.specs.declared.asks.Ask.{Ask}
 use Rattle.session.specs.declared.asks.Ask.TheVariants.{Reply as AskReply, Play as AskPlay, Halt as AskHalt, Look as AskLook, Offer as AskOffer}
 use Rattle.session.specs.declared.settings.Settings.{Settings}
 use Rattle.session.specs.PlayLaws.{slots_missed}
-use Rattle.session.specs.Sendings.{can_reply, finished, is_between, is_sending, is_taken, missed_between, sent_due, sent_reply, sent_slot, slotted, start_in, stepped_in}
+use Rattle.session.specs.Sendings.{can_reply, after_play, is_between, is_sending, is_taken, missed_between, sent_due, sent_reply, sent_slot, after_slot, start_in, stepped_in}
 use Rattle.session.specs.Standings.{Awaits, HaltAnswer, LookAnswer, NoAnswer, OfferAnswer, Open, PlayAnswer, Standing, awaits, open_of}
 use Rattle.session.proofs.Shapes.{HearsAs, Replies, SetsUp, AsksPlay, Stops, AsksLook, AsksOffer, hears_as}
 use Rattle.conn.specs.Rounds.{Comes, Ending, Unheard, PeerEnded, Overfull, AtPiece, InSlot, InReply, Ends, Round, Runs, RunsAll}
@@ -135,7 +135,7 @@ finished-late LookAnswer s halt new is = absurd is
 finished-late OfferAnswer s halt new is = absurd is
 
 slotted-if : (old : Standing) (slot : ℕ) (taken sending : Bool)
-    → (if taken then (if sending then finished (sent_slot old slot) else record old { heard = slot }) else old).late
+    → (if taken then (if sending then after_play (sent_slot old slot) else record old { heard = slot }) else old).late
     ≡ old.late + (if taken && sending then missed_between old.heard (start_in old.state) slot else 0)
 slotted-if old slot true true = reply-late (old.waits && is_between (stepped_in true slot old.state)) (sent_due old slot)
 slotted-if old slot true false = omega arith
@@ -145,7 +145,7 @@ missed-if : (taken : Bool) (heard start slot : ℕ) → (if taken then missed_be
 missed-if true heard start slot = missed_is heard start slot
 missed-if false heard start slot = refl
 
-slotted-late : (old : Standing) (slot : ℕ) → (slotted old slot).late ≡ old.late + missed_in old slot
+slotted-late : (old : Standing) (slot : ℕ) → (after_slot old slot).late ≡ old.late + missed_in old slot
 slotted-late old slot =
     slotted-if old slot (is_taken old slot) (is_sending old.state)
     ∙ ap (λ n. old.late + n) (missed-if (is_taken old slot && is_sending old.state) old.heard (start_in old.state) slot)
@@ -154,7 +154,7 @@ comes-late : (old opened : Stage) (event : Doing) (due : List Part) (halt : Outc
     → opened.session.late ≡ old.session.late + missed_by old.session event
 comes-late old opened (HeardBytes bytes) due halt comes = ap (λ (s : Stage). s.session.late) comes.3 ∙ omega arith
 comes-late old opened (HeardSlot slot) due halt comes =
-    finished-late (awaits (slotted old.session slot)) (slotted old.session slot) halt opened.session comes.1.finished ∙ slotted-late old.session slot
+    finished-late (awaits (after_slot old.session slot)) (after_slot old.session slot) halt opened.session comes.1.finished ∙ slotted-late old.session slot
 comes-late old opened HeardEnd due halt comes = absurd comes
 comes-late old opened (Sent byte) due halt comes = absurd comes
 

@@ -13,9 +13,9 @@ use Rattle.session.specs.declared.states.Play.{Play as Played}
 use Rattle.session.specs.declared.states.Setup.{Setup}
 use Rattle.session.specs.declared.states.State.{State}
 use Rattle.session.specs.declared.states.State.TheVariants.{Init, Ready, Playing, Stopping}
-use Rattle.session.specs.Sendings.{can_reply, due_state, finished, is_between, is_sending, is_taken, kept_of, sent_due, sent_reply, sent_slot, slotted, stepped_in}
+use Rattle.session.specs.Sendings.{can_reply, due_state, after_play, is_between, is_sending, is_taken, kept_of, sent_due, sent_reply, sent_slot, after_slot, stepped_in}
 use Rattle.session.specs.Standings.{NoAnswer, Open, Standing, awaits, awaits_of, open_in, open_of}
-use Rattle.session.specs.Steps.{IsCarried, settled}
+use Rattle.session.specs.Steps.{IsCarried, after_stop}
 use Rattle.conn.specs.Rounds.{Comes, Ending, Unheard, PeerEnded, Overfull, AtPiece, InSlot, InReply, EndsInReply, Ends, Round, Runs, RunsAll, ending_outcomes, round_outcomes, rounds_outcomes, takings_outcomes}
 use Rattle.conn.specs.Turns.{IsClosed, IsFinished, IsHalted, Outcome, Unasked, Entered, WasFull, Offered, Part, Stage, Taking, Passed, Answered, TakesAll, after_reply, film_bytes}
 use Rattle.conn.specs.declared.reports.ConnEnd.{ConnEnd}
@@ -23,7 +23,7 @@ use Rattle.conn.specs.declared.reports.ConnReport.{ConnReport}
 use Rattle.transcript.specs.Agreement.{Doings, HasDone, doings_outcomes}
 use Rattle.conn.specs.Films.{rounds_film}
 use Rattle.transcript.specs.Courses.{askings_of, first_stage, round_askings}
-use Rattle.transcript.specs.Notes.{Turn, asking_at, ending_turns, noted, noted_entry, notes_of, outcome_of, round_turns, rounds_turns, takings_turns, turn_of, turns_of}
+use Rattle.transcript.specs.Notes.{Turn, asking_at, ending_turns, notes_of_turns, noted_entry, notes_of, outcome_of, round_turns, rounds_turns, takings_turns, turn_of, turns_of}
 use Rattle.transcript.proofs.Filming.{Stands, course_step, round_step, stands_by, turn_after}
 use Rattle.transcript.proofs.Turning.{turns_as}
 use Rattle.transcript.proofs.Following.{follows_all}
@@ -65,7 +65,7 @@ due-open : (waits : Bool) (slot : ℕ) (state : State) (later : List Turn) → o
 due-open true slot state later = between-open (is_between (stepped_in true slot state)) slot state later
 due-open false slot state later = stepped-open false slot state later
 
-settled-open : (state : State) (later : List Turn) → open_note (settled state) later ≡ open_note state later
+settled-open : (state : State) (later : List Turn) → open_note (after_stop state) later ≡ open_note state later
 settled-open Init later = refl
 settled-open (Ready setup paused) later = refl
 settled-open (Playing setup play) later = refl
@@ -84,14 +84,14 @@ slot-same old slot =
     (reply-same (old.waits && is_between (stepped_in true slot old.state)) (sent_due old slot))
 
 slotted-if : (old : Standing) (slot : ℕ) (taken sending : Bool)
-    → IsSame old (if taken then (if sending then finished (sent_slot old slot) else record old { heard = slot }) else old)
+    → IsSame old (if taken then (if sending then after_play (sent_slot old slot) else record old { heard = slot }) else old)
 slotted-if old slot true true =
     let same = slot-same old slot in
     record { plays = same.plays; open-same = same.open-same }
 slotted-if old slot true false = record { plays = refl; open-same = λ later. refl }
 slotted-if old slot false sending = record { plays = refl; open-same = λ later. refl }
 
-slotted-same : (old : Standing) (slot : ℕ) → IsSame old (slotted old slot)
+slotted-same : (old : Standing) (slot : ℕ) → IsSame old (after_slot old slot)
 slotted-same old slot = slotted-if old slot (is_taken old slot) (is_sending old.state)
 
 kept-halt : (state : State) (awaited : Awaited) (keep : ℕ) (next : Next) → awaited ≡ Halt keep next → IsKept state awaited keep
@@ -125,8 +125,8 @@ comes-turn old opened (HeardBytes bytes) due halt comes =
     let C : Standing → Outcome → Type 0 = λ s h. CarriesOf old.session (turn_of old.session h ∷ []) s in
     subst (C opened.session) (sym comes.1) (subst (λ s. C s Unasked) (sym same) (unasked-turn old.session.plays old.session.state old.session))
 comes-turn old opened (HeardSlot slot) due halt comes =
-    from-same old.session (slotted old.session slot) opened.session (turn_of (slotted old.session slot) halt ∷ []) (slotted-same old.session slot)
-    (finished-turn (slotted old.session slot) opened.session (slotted old.session slot).awaited halt refl comes.1.finished)
+    from-same old.session (after_slot old.session slot) opened.session (turn_of (after_slot old.session slot) halt ∷ []) (slotted-same old.session slot)
+    (finished-turn (after_slot old.session slot) opened.session (after_slot old.session slot).awaited halt refl comes.1.finished)
 comes-turn old opened HeardEnd due halt comes = absurd comes
 comes-turn old opened (Sent byte) due halt comes = absurd comes
 
@@ -278,7 +278,7 @@ shut-in (Stopping setup stop) last closed halt is rest closes = shut-none last c
 until-none : (turns : List Turn) → notes_until turns [] ≡ notes_of turns
 until-none [] = refl
 until-none (turn ∷ turns) =
-    ap (λ ts. noted turn.asking turn.outcome ts ++ notes_until turns []) (append-nil turns) ∙ ap (λ ns. noted turn.asking turn.outcome turns ++ ns) (until-none turns)
+    ap (λ ts. notes_of_turns turn.asking turn.outcome ts ++ notes_until turns []) (append-nil turns) ∙ ap (λ ns. notes_of_turns turn.asking turn.outcome turns ++ ns) (until-none turns)
 
 pub plays-noted : (films : List Stored) (settings : Settings) (words : List ℕ) (doings : Doings) (report : ConnReport)
     (done : HasDone films settings words doings report) → report.plays.items ≡ notes_of (turns_of films settings words doings report done)

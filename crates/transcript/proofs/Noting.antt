@@ -33,7 +33,7 @@ use Rattle.session.specs.Sendings.{admitted_in, halted_in, halted_notes, kept_of
 use Rattle.session.specs.Standings.{Standing}
 use Rattle.session.proofs.Shapes.{HearsAs, Replies, SetsUp, AsksPlay, Stops, AsksLook, AsksOffer, hears_as}
 use Rattle.conn.specs.Turns.{HasHeard, IsAnswered, IsHaltAnswered, IsHalted, IsLookAnswered, IsPlayAnswered, Outcome, Unasked, Entered, WasFull, Offered}
-use Rattle.transcript.specs.Notes.{Turn, kept_later, note_for, noted, noted_entry, noted_for, notes_of, turn_of}
+use Rattle.transcript.specs.Notes.{Turn, kept_later, note_for, notes_of_turns, noted_entry, noted_for, notes_of, turn_of}
 use Rattle.transcript.specs.Plays.{kept_by, kept_with}
 
 -- the note of a play that is under way, by what comes later
@@ -46,7 +46,7 @@ open_note (Stopping setup stop) turns = []
 -- the notes of turns, by what comes later
 abbrev pub notes_until : List Turn → List Turn → List PlayNote
 notes_until [] later = []
-notes_until (turn ∷ turns) later = noted turn.asking turn.outcome (turns ++ later) ++ notes_until turns later
+notes_until (turn ∷ turns) later = notes_of_turns turn.asking turn.outcome (turns ++ later) ++ notes_until turns later
 
 -- what was noted and what is under way go on through turns
 pub record Carries (plays : List PlayNote) (state : State) (turns : List Turn) (next : List PlayNote) (after : State) : Type 0 where
@@ -58,9 +58,9 @@ carries-none plays state = record { on = λ later. append-nil (plays ++ open_not
 until-append : (ts us later : List Turn) → notes_until (ts ++ us) later ≡ notes_until ts (us ++ later) ++ notes_until us later
 until-append [] us later = refl
 until-append (t ∷ ts) us later =
-    ap (λ ns. noted t.asking t.outcome ns ++ notes_until (ts ++ us) later) (append_assoc ts us later)
-    ∙ ap (λ ns. noted t.asking t.outcome (ts ++ (us ++ later)) ++ ns) (until-append ts us later)
-    ∙ sym (append_assoc (noted t.asking t.outcome (ts ++ (us ++ later))) (notes_until ts (us ++ later)) (notes_until us later))
+    ap (λ ns. notes_of_turns t.asking t.outcome ns ++ notes_until (ts ++ us) later) (append_assoc ts us later)
+    ∙ ap (λ ns. notes_of_turns t.asking t.outcome (ts ++ (us ++ later)) ++ ns) (until-append ts us later)
+    ∙ sym (append_assoc (notes_of_turns t.asking t.outcome (ts ++ (us ++ later))) (notes_until ts (us ++ later)) (notes_until us later))
 
 pub carries-then : (p q r : List PlayNote) (a b c : State) (ts us : List Turn) → Carries p a ts q b → Carries q b us r c → Carries p a (ts ++ us) r c
 carries-then p q r a b c ts us one two = record {
@@ -88,7 +88,7 @@ open-kept (Ready setup paused) turn later kept = refl
 open-kept (Playing setup play) turn later kept = ap (λ k. note_of setup play k ∷ []) (kept (kept_later later (total_bytes play.plan)))
 open-kept (Stopping setup stop) turn later kept = refl
 
-still-turn : (plays : List PlayNote) (state : State) (asking : Standing) (outcome : Outcome) → ((later : List Turn) → noted asking outcome later ≡ [])
+still-turn : (plays : List PlayNote) (state : State) (asking : Standing) (outcome : Outcome) → ((later : List Turn) → notes_of_turns asking outcome later ≡ [])
     → ((k : ℕ) → kept_with outcome k ≡ k) → Carries plays state (turn_of asking outcome ∷ []) plays state
 still-turn plays state asking outcome none kept = record {
   on = λ later.
@@ -164,7 +164,7 @@ halt-turn s new asking keep (Offered at_slot note) kept halted none = absurd hal
 abbrev CarriesOn : Standing → Standing → Outcome → Standing → Type 0
 CarriesOn old asking outcome new = Carries old.plays old.state (turn_of asking outcome ∷ []) new.plays new.state
 
-stays-on : (old asking new : Standing) (outcome : Outcome) → new.plays ≡ old.plays → new.state ≡ old.state → ((later : List Turn) → noted asking outcome later ≡ [])
+stays-on : (old asking new : Standing) (outcome : Outcome) → new.plays ≡ old.plays → new.state ≡ old.state → ((later : List Turn) → notes_of_turns asking outcome later ≡ [])
     → ((k : ℕ) → kept_with outcome k ≡ k) → CarriesOn old asking outcome new
 stays-on old asking new outcome plays state none kept =
     carries-as old.plays old.plays new.plays old.plays old.state old.state new.state old.state (turn_of asking outcome ∷ []) refl (λ later. refl) plays
@@ -191,7 +191,7 @@ begun-state state awaited setup paused prepared place start later ready asks =
 
 begun-note : (asking : Standing) (setup : Setup) (paused : Option Run) (prepared : Prepared) (placed : Placed) (answer : Answer) (later : List Turn)
     → asking.state ≡ Ready setup paused → asking.awaited ≡ Play prepared → placed.entry.command ≡ play_of asking.heard prepared.plan → placed.entry.answer ≡ answer
-    → noted asking (Entered placed) later ≡ noted_for setup prepared.run placed.place (play_admitted (play_of asking.heard prepared.plan) answer) later
+    → notes_of_turns asking (Entered placed) later ≡ noted_for setup prepared.run placed.place (play_admitted (play_of asking.heard prepared.plan) answer) later
 begun-note asking setup paused prepared placed answer later ready asks command is =
     ap (λ s. noted_entry s asking.awaited placed later) ready ∙ ap (λ a. noted_entry (Ready setup paused) a placed later) asks
     ∙ ap (λ c. noted_for setup prepared.run placed.place (play_admitted c placed.entry.answer) later) command
@@ -207,9 +207,9 @@ play-on old asking new setup paused prepared placed (Admitted start) is command 
     let new-state : new.state ≡ admitted_in asking.state asking.awaited placed.place start = ap (λ (s : Standing). s.state) answered.1 in
     record {
       on = λ later.
-          ap (λ s. (old.plays ++ open_note s (turn_of asking (Entered placed) ∷ later)) ++ (noted asking (Entered placed) later ++ [])) ready
-          ∙ ap (λ ns. ns ++ (noted asking (Entered placed) later ++ [])) (append-nil old.plays)
-          ∙ ap (λ ns. old.plays ++ ns) (append-nil (noted asking (Entered placed) later)
+          ap (λ s. (old.plays ++ open_note s (turn_of asking (Entered placed) ∷ later)) ++ (notes_of_turns asking (Entered placed) later ++ [])) ready
+          ∙ ap (λ ns. ns ++ (notes_of_turns asking (Entered placed) later ++ [])) (append-nil old.plays)
+          ∙ ap (λ ns. old.plays ++ ns) (append-nil (notes_of_turns asking (Entered placed) later)
           ∙ begun-note asking setup paused prepared placed (Admitted start) later there awaited command is)
           ∙ ap (λ ns. old.plays ++ ns) (sym (ap (λ s. open_note s later) new-state
           ∙ begun-state asking.state asking.awaited setup paused prepared placed.place start later there awaited))

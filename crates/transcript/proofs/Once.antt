@@ -10,7 +10,7 @@ use Rattle.session.specs.Hearings.{Hears}
 use Rattle.session.specs.Laws.{IsOneHearing}
 use Rattle.session.specs.Ranges.{AreFilms}
 use Rattle.session.proofs.OneHearing.{hears_once}
-use Rattle.session.specs.Sendings.{can_reply, finished, is_between, is_sending, is_taken, sent_due, sent_reply, sent_slot, slotted, stepped_in}
+use Rattle.session.specs.Sendings.{can_reply, after_play, is_between, is_sending, is_taken, sent_due, sent_reply, sent_slot, after_slot, stepped_in}
 use Rattle.session.specs.Standings.{Awaits, NoAnswer, PlayAnswer, HaltAnswer, LookAnswer, OfferAnswer, Standing, awaits}
 use Rattle.conn.specs.Turns.{Outcome, Unasked, Entered, WasFull, Offered, Part, HasStepped, IsAnswered, IsFinished, IsHalted, IsLookAnswered, IsPlayAnswered, after_reply}
 use Rattle.transcript.specs.Cuttings.{AreSameAnswers, Hearing, LackAlike, LacksMemory, answer_in}
@@ -179,7 +179,7 @@ pub steps_same : (old : Standing) (slot : ℕ) (due sent : List Part) (one other
     → HasStepped old slot due one new → HasStepped old slot sent other again → AreSameAnswers (answer_in one ++ ones) (answer_in other ++ others)
     → (sent ≡ due) × (again ≡ new) × AreSameAnswers ones others
 steps_same old slot due sent one other new again ones others is also same =
-    let both = finished_same (awaits (slotted old slot)) (slotted old slot) one other new again ones others is.finished also.finished same in
+    let both = finished_same (awaits (after_slot old slot)) (after_slot old slot) one other new again ones others is.finished also.finished same in
     (also.parts_are ∙ sym is.parts_are, both.0, both.1)
 
 -- ---- the films stay
@@ -229,7 +229,7 @@ pub replied_films : (s : Standing) → (after_reply s).films ≡ s.films
 replied_films s = reply_films (can_reply s) s
 
 slot_films : (old : Standing) (slot : ℕ) (taken sending : Bool)
-    → (if taken then (if sending then finished (sent_slot old slot) else record old { heard = slot }) else old).films ≡ old.films
+    → (if taken then (if sending then after_play (sent_slot old slot) else record old { heard = slot }) else old).films ≡ old.films
 slot_films old slot true true = reply_films (old.waits && is_between (stepped_in true slot old.state)) (sent_due old slot)
 slot_films old slot true false = refl
 slot_films old slot false sending = refl
@@ -244,5 +244,5 @@ finished_films OfferAnswer old outcome new is = absurd is
 pub stepped_films : (old : Standing) (slot : ℕ) (due : List Part) (halt : Outcome) (new : Standing) → HasStepped old slot due halt new
     → new.films ≡ old.films
 stepped_films old slot due halt new is =
-    finished_films (awaits (slotted old slot)) (slotted old slot) halt new is.finished
+    finished_films (awaits (after_slot old slot)) (after_slot old slot) halt new is.finished
     ∙ slot_films old slot (is_taken old slot) (is_sending old.state)

@@ -2,11 +2,11 @@
 use Rattle.std.proofs.Common.{◌≡◌, ℕ, ◌+◌, ◌-◌, ◌<◌, ◌≤◌, ◌++◌, ◌&&◌, if◌then◌else◌, Bool, true, false, min, List, [], ◌∷◌, Option, Some, None, length, refl, ap, sym, ◌∙◌, subst, inl, arith}
 use Rattle.std.proofs.lemmas.Bool.{true≢false}
 use Rattle.film_frames.specs.Runs.{run_pieces}
-use Rattle.film_frames.specs.Tracks.{IsBoundary, framed}
+use Rattle.film_frames.specs.Tracks.{IsBoundary, framed_bytes}
 use Rattle.pacer.proofs.PacingLemmas.{boundary-from}
 use Rattle.plan_cert.specs.declared.Segment.{Segment}
 use Rattle.plan_cert.specs.Slots.{total_bytes}
-use Rattle.pacer.specs.Pacings.{IsPacing, Pacing, first_slots, next_boundary, stands_at_boundary, stepped}
+use Rattle.pacer.specs.Pacings.{IsPacing, Pacing, first_slots, next_boundary, stands_at_boundary, after_step}
 use Rattle.session.specs.declared.states.Awaited.{Awaited}
 use Rattle.session.specs.declared.states.Awaited.TheVariants.{Play}
 use Rattle.session.specs.declared.states.Prepared.{Prepared}
@@ -14,11 +14,11 @@ use Rattle.session.specs.declared.states.State.{State}
 use Rattle.session.specs.declared.states.State.TheVariants.{Init, Ready, Playing, Stopping}
 use Rattle.session.specs.Sendings.{is_between, is_sending}
 use Rattle.session.specs.Standings.{Standing}
-use Rattle.session.specs.Steps.{settled}
+use Rattle.session.specs.Steps.{after_stop}
 use Rattle.conn.specs.Turns.{Outcome, Part, Text}
 use Rattle.conn.proofs.Filming.{sent_through, slot_is, stopped_is}
 use Rattle.transcript.specs.Places.{AreSentAt, IsSentAt}
-use Rattle.transcript.specs.Plays.{Asking, Asks, FilmPlay, admitted, begun, due_by as all_due, due_of, kept_by, kept_in, kept_with, plays_of}
+use Rattle.transcript.specs.Plays.{Asking, Asks, FilmPlay, plays_admitted, plays_begun, due_by as all_due, due_of, kept_by, kept_in, kept_with, plays_of}
 use Rattle.transcript.specs.Replies.{placed_text, placed_texts}
 use Rattle.transcript.proofs.Films.{IsOnTime, IsSound, play_with, through_time}
 use Rattle.transcript.proofs.Places.{AreLater, StandAt, from_lower, later_lower, none_due, over_at, text_at}
@@ -84,10 +84,10 @@ begin_stand prepared start plan askings end slots parts same sent =
     subst (λ pl. AreSentAt end (play_for prepared start pl (kept_in askings (total_bytes pl)) ∷ plays_of askings) slots (placed_texts 0 parts)) same sent
 
 begun_is : (old new : Standing) (asked : Awaited) (outcome : Outcome) (begins : Begins old asked outcome new) (askings : List Asking)
-    → begun asked outcome askings ≡ play_for begins.prepared begins.start begins.prepared.plan (kept_in askings (total_bytes begins.prepared.plan)) ∷ []
+    → plays_begun asked outcome askings ≡ play_for begins.prepared begins.start begins.prepared.plan (kept_in askings (total_bytes begins.prepared.plan)) ∷ []
 begun_is old new asked outcome begins askings =
-    ap (λ o. begun asked o askings) begins.outcome_is ∙ ap (λ a. admitted a begins.placed.entry.answer askings) begins.asked_is
-    ∙ ap (λ a. admitted (Play begins.prepared) a askings) begins.answer
+    ap (λ o. plays_begun asked o askings) begins.outcome_is ∙ ap (λ a. plays_admitted a begins.placed.entry.answer askings) begins.asked_is
+    ∙ ap (λ a. plays_admitted (Play begins.prepared) a askings) begins.answer
 
 begin_fits : (old new : Standing) (asked : Awaited) (outcome : Outcome) (begins : Begins old asked outcome new) (askings : List Asking) (end : ℕ)
     (slots : List ℕ) (parts : List Part) → Fits (Going (pacing_for begins.prepared begins.start)) old.heard (Some old.heard) askings end slots parts
@@ -120,7 +120,7 @@ halt_fits old new asked outcome halts askings end slots parts fits =
     record {
       from = (omega arith, fits.from);
       later = subst (λ ps. AreLater old.heard (ps ++ plays_of askings)) (sym (halts.none askings)) fits.later;
-      stand = subst (λ k. StandAt p k None (begun asked outcome askings ++ plays_of askings) end (old.heard ∷ slots) parts) (sym kept)
+      stand = subst (λ k. StandAt p k None (plays_begun asked outcome askings ++ plays_of askings) end (old.heard ∷ slots) parts) (sym kept)
           (subst (λ ps. StandAt p (next_boundary p) None (ps ++ plays_of askings) end (old.heard ∷ slots) parts) (sym (halts.none askings)) stand);
     }
 
@@ -197,8 +197,8 @@ ending_reply p heard text askings end slots parts sound stands on fits =
 -- where a reply goes, and what of it is held up then
 pub record Replying (state : State) (goes : Bool) (heard : ℕ) (text : List ℕ) : Type 0 where
   pub after : Option ℕ
-  pub held : IsHeld after (sends_in (if goes then settled state else state)) (if goes then false else true) heard
-  pub goes_on : GoesTo (sends_in state) (sends_in (if goes then settled state else state)) heard heard (Some heard) after [] []
+  pub held : IsHeld after (sends_in (if goes then after_stop state else state)) (if goes then false else true) heard
+  pub goes_on : GoesTo (sends_in state) (sends_in (if goes then after_stop state else state)) heard heard (Some heard) after [] []
       (if goes then Text text ∷ [] else [])
 
 pub replying : (state : State) (goes : Bool) (heard : ℕ) (text : List ℕ) → IsSound (sends_in state) true heard → is_between state ≡ goes
@@ -245,20 +245,20 @@ pub record SlotMoves (state : State) (waits : Bool) (heard slot : ℕ) (text : L
 
 going_slot : (p : Pacing) (heard slot : ℕ) (waits : Bool) (text : List ℕ) (pending : Option ℕ) → IsSound (Going p) waits heard → heard < slot
     → IsHeld pending (Going p) waits heard
-    → GoesTo (Going p) (Going (sent_through slot p)) heard slot pending (after_slot (stands_at_boundary (stepped true slot p)) pending) [] []
-    (parts_in waits (stands_at_boundary (stepped true slot p)) p slot text)
+    → GoesTo (Going p) (Going (sent_through slot p)) heard slot pending (after_slot (stands_at_boundary (after_step true slot p)) pending) [] []
+    (parts_in waits (stands_at_boundary (after_step true slot p)) p slot text)
 going_slot p heard slot waits text pending sound later held = record {
   later = omega (arith, later);
   rest = λ askings end more rest on fits. record {
     from = from_lower heard slot more (omega (arith, later)) fits.from;
     later = later_lower heard slot (plays_of askings) (omega (arith, later)) fits.later;
-    stand = slot_at p (kept_in askings (total_bytes p.plan)) pending heard slot waits (stands_at_boundary (stepped true slot p)) text (plays_of askings) end more rest
+    stand = slot_at p (kept_in askings (total_bytes p.plan)) pending heard slot waits (stands_at_boundary (after_step true slot p)) text (plays_of askings) end more rest
         sound.0 later on refl held (λ taken less. due_going p taken (kept_in askings (total_bytes p.plan)) sound.0.pacing sound.1 less) fits.later fits.stand;
   };
 }
 
 going_held : (p : Pacing) (heard slot : ℕ) (waits between : Bool) (pending : Option ℕ) → IsOnTime p heard → heard < slot
-    → stands_at_boundary (stepped true slot p) ≡ between → IsHeld pending (Going p) waits heard
+    → stands_at_boundary (after_step true slot p) ≡ between → IsHeld pending (Going p) waits heard
     → IsHeld (after_slot between pending) (Going (sent_through slot p)) (if waits && between then false else waits) slot
 going_held p heard slot true between None on later stands held = absurd (true≢false held)
 going_held p heard slot false between None on later stands held = refl
@@ -271,15 +271,15 @@ abbrev ends_in : Bool → Pacing → Sends
 ends_in between p = if between then Idle else Ending p
 
 ending_held : (p : Pacing) (heard slot : ℕ) (between : Bool) (pending : Option ℕ) → IsOnTime p heard → heard < slot
-    → stands_at_boundary (stepped true slot p) ≡ between → IsHeld pending (Ending p) true heard
+    → stands_at_boundary (after_step true slot p) ≡ between → IsHeld pending (Ending p) true heard
     → IsHeld (after_slot between pending) (ends_in between (sent_through slot p)) (if between then false else true) slot
 ending_held p heard slot between None on later stands held = absurd (true≢false held)
 ending_held p heard slot true (Some taken) on later stands held = refl
 ending_held p heard slot false (Some taken) on later stands held = (refl, still_held p taken heard slot on.pacing later held.1 stands)
 
-sent_after : (p : Pacing) (slot : ℕ) → IsPacing p → p.before + p.sent ≤ p.before + (stepped true slot p).sent
+sent_after : (p : Pacing) (slot : ℕ) → IsPacing p → p.before + p.sent ≤ p.before + (after_step true slot p).sent
 sent_after p slot is =
-    let inside : p.before + p.sent ≤ length (framed p.pieces) = omega (arith, is.whole, is.most, is.due, is.sent) in
+    let inside : p.before + p.sent ≤ length (framed_bytes p.pieces) = omega (arith, is.whole, is.most, is.due, is.sent) in
     let next = boundary-from p.pieces (p.before + p.sent) inside in
     omega (arith, next.after, is.sent)
 
@@ -287,24 +287,24 @@ as_going : (p : Pacing) (heard : ℕ) (pending : Option ℕ) → IsHeld pending 
 as_going p heard None held = held
 as_going p heard (Some taken) held = held
 
-ends_same : (between : Bool) (slot : ℕ) (p : Pacing) → IsPacing p → stands_at_boundary (stepped true slot p) ≡ between
-    → (if between then Idle else Ending (stepped true slot p)) ≡ ends_in between (sent_through slot p)
+ends_same : (between : Bool) (slot : ℕ) (p : Pacing) → IsPacing p → stands_at_boundary (after_step true slot p) ≡ between
+    → (if between then Idle else Ending (after_step true slot p)) ≡ ends_in between (sent_through slot p)
 ends_same true slot p is stands = refl
 ends_same false slot p is stands = ap Ending (slot_is true false slot p is stands)
 
 -- it ends at the boundary that it reaches
-ended_through : (p : Pacing) (heard slot : ℕ) → IsSound (Ending p) true heard → heard < slot → stands_at_boundary (stepped true slot p) ≡ true
+ended_through : (p : Pacing) (heard slot : ℕ) → IsSound (Ending p) true heard → heard < slot → stands_at_boundary (after_step true slot p) ≡ true
     → (sent_through slot p).sent ≡ (sent_through slot p).keep
 ended_through p heard slot sound later stands =
     let on : IsOnTime p heard = sound.0 in
     let through : IsOnTime (sent_through slot p) slot = through_time p heard slot on later in
-    let one : Pacing = stepped true slot p in
+    let one : Pacing = after_step true slot p in
     let boundary : IsBoundary p.pieces (p.before + one.sent) = stands_here one (stopped_is slot p on.pacing) stands in
     let least : p.before + p.keep ≤ p.before + one.sent = sound.2 (p.before + one.sent) boundary (sent_after p slot on.pacing) in
     omega (arith, least, through.pacing.due)
 
 ending_stand : (p : Pacing) (heard slot : ℕ) (between : Bool) (askings : List Asking) (end : ℕ) (more : List ℕ) (rest : List Part) (after : Option ℕ)
-    → IsSound (Ending p) true heard → heard < slot → stands_at_boundary (stepped true slot p) ≡ between → slot ≤ end
+    → IsSound (Ending p) true heard → heard < slot → stands_at_boundary (after_step true slot p) ≡ between → slot ≤ end
     → (between ≡ true → after ≡ None)
     → Fits (ends_in between (sent_through slot p)) slot after askings end more rest → Fits (Ending (sent_through slot p)) slot after askings end more rest
 ending_stand p heard slot false askings end more rest after sound later stands ends none fits = fits
@@ -319,10 +319,10 @@ after_none between (Some slot) is = ap (λ b. if b then None else Some slot) is
 
 ending_slot : (p : Pacing) (heard slot : ℕ) (text : List ℕ) (pending : Option ℕ) → IsSound (Ending p) true heard → heard < slot
     → IsHeld pending (Ending p) true heard
-    → GoesTo (Ending p) (ends_in (stands_at_boundary (stepped true slot p)) (sent_through slot p)) heard slot pending
-    (after_slot (stands_at_boundary (stepped true slot p)) pending) [] [] (parts_in true (stands_at_boundary (stepped true slot p)) p slot text)
+    → GoesTo (Ending p) (ends_in (stands_at_boundary (after_step true slot p)) (sent_through slot p)) heard slot pending
+    (after_slot (stands_at_boundary (after_step true slot p)) pending) [] [] (parts_in true (stands_at_boundary (after_step true slot p)) p slot text)
 ending_slot p heard slot text pending sound later held =
-    let between : Bool = stands_at_boundary (stepped true slot p) in
+    let between : Bool = stands_at_boundary (after_step true slot p) in
     let after : Option ℕ = after_slot between pending in
     record {
       later = omega (arith, later);
@@ -342,10 +342,10 @@ slot_moves Init waits heard slot text pending sending sound later held = absurd 
 slot_moves (Ready setup paused) waits heard slot text pending sending sound later held = absurd (true≢false (sym sending))
 slot_moves (Playing setup play) waits heard slot text pending sending sound later held =
     let p : Pacing = play.pacer in
-    let one : Pacing = stepped true slot p in
+    let one : Pacing = after_step true slot p in
     let between : Bool = stands_at_boundary one in
     let sends : sends_in (state_after waits (Playing setup play) slot) ≡ Going (sent_through slot p) =
-    going_cases waits between setup play (stepped false slot one) one (stepped false slot p) ∙ ap Going (slot_is waits between slot p sound.0.pacing refl) in
+    going_cases waits between setup play (after_step false slot one) one (after_step false slot p) ∙ ap Going (slot_is waits between slot p sound.0.pacing refl) in
     record {
       after = after_slot between pending;
       held = subst (λ s. IsHeld (after_slot between pending) s (waits_after waits (Playing setup play) slot) slot) (sym sends)
@@ -356,10 +356,10 @@ slot_moves (Playing setup play) waits heard slot text pending sending sound late
 slot_moves (Stopping setup stop) false heard slot text pending sending sound later held = absurd (true≢false (sym sound.1))
 slot_moves (Stopping setup stop) true heard slot text pending sending sound later held =
     let p : Pacing = stop.pacer in
-    let one : Pacing = stepped true slot p in
+    let one : Pacing = after_step true slot p in
     let between : Bool = stands_at_boundary one in
     let sends : sends_in (state_after true (Stopping setup stop) slot) ≡ ends_in between (sent_through slot p) =
-    ending_cases between setup stop (stepped false slot one) one ∙ ends_same between slot p sound.0.pacing refl in
+    ending_cases between setup stop (after_step false slot one) one ∙ ends_same between slot p sound.0.pacing refl in
     record {
       after = after_slot between pending;
       held = subst (λ s. IsHeld (after_slot between pending) s (waits_after true (Stopping setup stop) slot) slot) (sym sends)

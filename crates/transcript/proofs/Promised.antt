@@ -11,7 +11,7 @@ use Rattle.interleave.specs.Streams.{WholeBlock}
 use Rattle.film_frames.specs.declared.stores.Stored.{Stored}
 use Rattle.film_frames.specs.Laws.{AreBlocks}
 use Rattle.film_frames.specs.Runs.{pieces_in, run_of}
-use Rattle.film_frames.specs.Tracks.{framed}
+use Rattle.film_frames.specs.Tracks.{framed_bytes}
 use Rattle.film_frames.proofs.CountLemmas.{are-blocks}
 use Rattle.plan_cert.specs.Plan.{IsPlan}
 use Rattle.plan_cert.specs.Slots.{plan_slots, total_bytes}
@@ -27,7 +27,7 @@ use Rattle.conn.specs.Turns.{Outcome, Part, Stage, film_bytes}
 use Rattle.conn.proofs.Between.{planned_between}
 use Rattle.transcript.specs.Courses.{Course, Follows, askings_of, first_stage, greatest_slot, rounds_bytes}
 use Rattle.transcript.specs.Plays.{FilmPlay, due_of, film_of, film_written, plays_of}
-use Rattle.transcript.specs.Replies.{PlacedText, placed_text, placed_texts, text_of, woven}
+use Rattle.transcript.specs.Replies.{PlacedText, placed_text, placed_texts, text_of, with_texts}
 use Rattle.transcript.proofs.Hearing.{course_heard, film_written_is}
 use Rattle.transcript.proofs.Replying.{bytes_woven}
 use Rattle.transcript.proofs.Weaving.{course_film, rounds_sent}
@@ -70,7 +70,7 @@ stream_of wish stored course played =
     let run = run_of stored.film 0 (length stored.film.units.items) played.identity in
     let setup = text-is played.setup played.setup_is.starts played.setup_is.size in
     let reply = text-is played.played played.played_is.starts played.played_is.size in
-    let texts = texts-of (length (framed blocks)) played.later played.after in
+    let texts = texts-of (length (framed_bytes blocks)) played.later played.after in
     record {
       first = played.setup;
       second = played.played;
@@ -127,9 +127,9 @@ one-written : (slot : ℕ) (play : FilmPlay) → film_written slot (play ∷ [])
 one-written slot play = ap (λ n. take n (film_of play)) (omega arith)
 
 film-blocks : (wish : Wish) (stored : Stored) (identity : Identity) (play : FilmPlay) → IsWholePlay wish stored identity play
-    → film_of play ≡ framed (film_blocks stored identity)
+    → film_of play ≡ framed_bytes (film_blocks stored identity)
 film-blocks wish stored identity play whole =
-    ap (λ n. drop n (framed play.pieces)) whole.before ∙ ap framed whole.pieces
+    ap (λ n. drop n (framed_bytes play.pieces)) whole.before ∙ ap framed_bytes whole.pieces
 
 -- all units of a film are those of its run
 rest-all : (stored : Stored) → rest_sizes (stored_sizes stored) (whole_run stored) ≡ film_sizes stored.film
@@ -138,7 +138,7 @@ rest-all stored =
     (omega (arith, length-map stored.film.units.items (λ u. wire_size stored.film.slice_starts.items u)))
 
 whole-bytes : (wish : Wish) (stored : Stored) (identity : Identity) (play : FilmPlay) (x : Stream) → IsWholePlay wish stored identity play
-    → IsFilmIn stored.film identity x → total_bytes play.plan ≡ length (framed x.blocks)
+    → IsFilmIn stored.film identity x → total_bytes play.plan ≡ length (framed_bytes x.blocks)
 whole-bytes wish stored identity play x whole is =
     let keeps = sending-keeps (stored_sizes stored) (playback_of wish stored) (whole_run stored) play.plan whole.sending in
     omega (arith, keeps.bytes, ap sum (rest-all stored), blocks-sum stored.film identity x is)
@@ -154,19 +154,19 @@ pub record IsSentBetween (wish : Wish) (film : Film) (total place count : ℕ) :
 
 sent-between : (wish : Wish) (stored : Stored) (identity : Identity) (play : FilmPlay) (x : Stream) (rounds : List Round) (j : ℕ)
     → IsWholePlay wish stored identity play → IsFilmIn stored.film identity x → x.blocks ≡ film_blocks stored identity → IsSentThrough play rounds
-    → greatest_slot rounds ≡ play.start + j → IsSentBetween wish stored.film (length (framed x.blocks)) j (length (rounds_film rounds))
+    → greatest_slot rounds ≡ play.start + j → IsSentBetween wish stored.film (length (framed_bytes x.blocks)) j (length (rounds_film rounds))
 sent-between wish stored identity play x rounds j whole is blocks sent slot =
     let g = greatest_slot rounds in
     let n = first_slots play.plan (j + 1) in
-    let total = length (framed x.blocks) in
-    let film : rounds_film rounds ≡ take (due_of g play) (framed x.blocks) =
-    sent.film ∙ (one-written g play ∙ ap (take (due_of g play)) (film-blocks wish stored identity play whole ∙ ap framed (sym blocks))) in
+    let total = length (framed_bytes x.blocks) in
+    let film : rounds_film rounds ≡ take (due_of g play) (framed_bytes x.blocks) =
+    sent.film ∙ (one-written g play ∙ ap (take (due_of g play)) (film-blocks wish stored identity play whole ∙ ap framed_bytes (sym blocks))) in
     let at : g + 1 - play.start ≡ j + 1 = omega (arith, slot) in
     let due : first_slots play.plan (g + 1 - play.start) ≡ n = ap (first_slots play.plan) at in
     let bytes = whole-bytes wish stored identity play x whole is in
     let most = slots-most play (j + 1) sent.plan in
     let size : length (rounds_film rounds) ≡ n =
-    ap (λ (l : List ℕ). length l) film ∙ (length-take (due_of g play) (framed x.blocks) ∙ omega (arith, due, whole.keep, most, bytes)) in
+    ap (λ (l : List ℕ). length l) film ∙ (length-take (due_of g play) (framed_bytes x.blocks) ∙ omega (arith, due, whole.keep, most, bytes)) in
     let run = whole_run stored in
     let playback = playback_of wish stored in
     let curves = planned_between (stored_sizes stored) playback run play.plan j n sent.plan whole.sending refl in
@@ -235,8 +235,8 @@ fed-by wish stored course played first later j split slot =
     let T : List PlacedText → Type 0 = λ l. IsFromTo (0 + length (film_bytes one)) (0 + length (film_bytes one) + length (film_bytes two)) l in
     let its = subst T at (texts-within (0 + length (film_bytes one)) two) in omega (arith, its.0, same) in
     let counted = counted-by played.setup played.played played.later (placed_texts 0 one) (placed_texts (0 + length (film_bytes one)) two) film
-    (length (framed x.blocks)) played.setup_is.starts.0 played.played_is.starts.0 texts played.after within next between.few in
-    let C : ℕ → Type 0 = λ n. IsCounted (length x.first) (length x.second) film (length (framed x.blocks)) n in
+    (length (framed_bytes x.blocks)) played.setup_is.starts.0 played.played_is.starts.0 texts played.after within next between.few in
+    let C : ℕ → Type 0 = λ n. IsCounted (length x.first) (length x.second) film (length (framed_bytes x.blocks)) n in
     let here = subst C (sym bytes) counted in
     let P : ℕ → Type 0 = λ n. IsBetween wish (film_sizes stored.film) (picture_time stored.film.rate) j n in
     record { between = λ much. subst P (sym (here.is much)) between.between }
@@ -257,14 +257,14 @@ fed wish stored course played bytes j written =
 -- ---- all that was sent is a front of the stream
 
 pub all-sent : (wish : Wish) (stored : Stored) (course : Course) (played : IsPlayed wish stored course)
-    → IsFrontOf (sent_bytes (rounds_doings course.rounds)) (framed (all_of (stream_of wish stored course played)))
+    → IsFrontOf (sent_bytes (rounds_doings course.rounds)) (framed_bytes (all_of (stream_of wish stored course played)))
 unfolding stream_of
 all-sent wish stored course played =
     let begin = first_stage course.films course.settings course.words in
     let play = played.play in
     let x = stream_of wish stored course played in
     let g = greatest_slot course.rounds in
-    let blocks = framed x.blocks in
+    let blocks = framed_bytes x.blocks in
     let parts = rounds_parts course.rounds in
     let film = film_written g (plays_of (askings_of begin course.rounds course.last course.follows)) in
     let is : film ≡ take (due_of g play) blocks =
@@ -279,9 +279,9 @@ all-sent wish stored course played =
     let within : IsFromTo 0 (length film) played.later = subst F (let e : 0 + length (film_bytes parts) ≡ length film = omega (arith, size) in e) all_within.1.1.1.1 in
     let front = all-woven film blocks played.setup played.played played.later (due_of g play) is played.after within in
     let events = events-are begin course.last course.rounds course.follows in
-    let bytes : sent_bytes (rounds_doings course.rounds) ≡ woven 0 film (placed_text 0 played.setup ∷ placed_text 0 played.played ∷ played.later) =
-    rounds-sent course.rounds events ∙ (woven_is ∙ ap (woven 0 film) played.texts) in
-    let all : played.setup ++ (played.played ++ (blocks ++ framed (map text_of played.later))) ≡ framed (all_of x) =
+    let bytes : sent_bytes (rounds_doings course.rounds) ≡ with_texts 0 film (placed_text 0 played.setup ∷ placed_text 0 played.played ∷ played.later) =
+    rounds-sent course.rounds events ∙ (woven_is ∙ ap (with_texts 0 film) played.texts) in
+    let all : played.setup ++ (played.played ++ (blocks ++ framed_bytes (map text_of played.later))) ≡ framed_bytes (all_of x) =
     ap (λ l. played.setup ++ (played.played ++ l)) (sym (framed-append x.blocks x.later)) in
     record { count = front.count; is = bytes ∙ (front.is ∙ ap (take front.count) all) }
 

@@ -9,7 +9,7 @@ use Rattle.interleave.specs.Pieces.{IsRequestLength, StartsRequest}
 use Rattle.interleave.specs.Streams.{IsPieceLength, IsStream, WholeRequest}
 use Rattle.interleave.proofs.Streams.{stream_once}
 use Rattle.film_frames.specs.Runs.{count_ended}
-use Rattle.film_frames.specs.Tracks.{framed}
+use Rattle.film_frames.specs.Tracks.{framed_bytes}
 use Rattle.rtsp_client.specs.Answers.{block_moments, cut_bytes, moments_in, moments_of}
 use Rattle.rtsp_client.specs.Courses.{Stage}
 use Rattle.rtsp_client.specs.Moments.{Moment, Reply, replies}
@@ -128,7 +128,7 @@ two-moments x rest =
 pub record IsReadingOf (x : Stream) (c : ℕ) (at : Stage) : Type 0 where
   pub past : length x.first + length x.second ≤ c
   pub sum : sum_of at.history ≡ steps (begun_sum x) (moments_in (take (count_ended (film_place x c) x.blocks) x.blocks))
-  pub cut : length (framed (take (count_ended (film_place x c) x.blocks) x.blocks)) + cut_bytes at.rest ≡ min (film_place x c) (length (framed x.blocks))
+  pub cut : length (framed_bytes (take (count_ended (film_place x c) x.blocks) x.blocks)) + cut_bytes at.rest ≡ min (film_place x c) (length (framed_bytes x.blocks))
 
 min-less : (a b : ℕ) → a < b → a ≡ min a b
 min-less a b less = omega (arith, less)
@@ -143,7 +143,7 @@ reading-film : (x : Stream) (c : ℕ) (at : Stage) → length x.first + length x
 reading-film x c at past sum rest few =
     let d = film_place x c in
     let bs = x.blocks in
-    let total = length (framed bs) in
+    let total = length (framed_bytes bs) in
     let s = begun_sum x in
     elim (cases_lt d total) [
       | inl inside ↦
@@ -175,12 +175,12 @@ reading-film x c at past sum rest few =
             sum = all ∙ (ap (λ n. steps t (moments_in (take n x.later))) none ∙ ap (λ l. steps s (moments_in l)) (sym front));
             cut =
                 let cut : cut_bytes at.rest ≡ 0 = ap cut_bytes (rest ∙ rest-past bs x.later d after) ∙ texts-cut x.later (d - total) x.later_are in
-                omega (arith, cut, ap (λ l. length (framed l)) front, after);
+                omega (arith, cut, ap (λ l. length (framed_bytes l)) front, after);
           }
     ]
 
 pub reading-of : (x : Stream) (bytes : List ℕ) (c : ℕ) (at : Stage) → Heard bytes at → ((n : ℕ) → IsPieceLength at.rest n → ⊥)
-    → bytes ≡ take c (framed (all_of x)) → 1 < replies at.history → replies at.history ≤ 2 → IsReadingOf x c at
+    → bytes ≡ take c (framed_bytes (all_of x)) → 1 < replies at.history → replies at.history ≤ 2 → IsReadingOf x c at
 reading-of x bytes c at heard none is playing few =
     let all = all_of x in
     let P : List ℕ → Type 0 = λ b. IsStream b (take (count_ended c all) all) (rest_at c all) in

@@ -11,13 +11,13 @@ use Rattle.interleave.proofs.Streams.{tells_none}
 use Rattle.mpeg_scan.specs.declared.films.Film.{Film}
 use Rattle.mpeg_scan.specs.Rates.{picture_time}
 use Rattle.rtp_pack.specs.declared.reports.Identity.{Identity}
-use Rattle.film_frames.specs.Tracks.{framed}
+use Rattle.film_frames.specs.Tracks.{framed_bytes}
 use Rattle.rtsp_client.specs.declared.wishes.Wish.{Wish}
 use Rattle.rtsp_client.specs.Answers.{after, cut_bytes, moments_in, moments_of}
 use Rattle.rtsp_client.specs.Courses.{Brings, Round, Runs, RunsAll, Stage, moments_of_rounds}
 use Rattle.rtsp_client.specs.Films.{units_until}
 use Rattle.rtsp_client.specs.Meters.{first_slot, is_read, place_in}
-use Rattle.rtsp_client.specs.Moments.{History, Moment, Frame, Reply, Report, Slot, is_playing, last_slot, received, replies}
+use Rattle.rtsp_client.specs.Moments.{History, Moment, Frame, Reply, Report, Slot, is_playing, last_slot, bytes_received, replies}
 use Rattle.rtsp_client.specs.Promises.{IsBetween, IsBetweenAlways, IsHeardOf}
 use Rattle.transcript.proofs.Film.{IsFilmIn, film_sizes, heard-of}
 use Rattle.transcript.proofs.Firsts.{and-left, and-right}
@@ -85,7 +85,7 @@ front-of xs ys w c is =
 -- the film that had come with these bytes lies between the curves of a slot
 pub record IsFed (wish : Wish) (film : Film) (x : Stream) (bytes : List ℕ) (place : ℕ) : Type 0 where
   pub between : length x.first + length x.second ≤ length bytes
-      → IsBetween wish (film_sizes film) (picture_time film.rate) place (min (film_place x (length bytes)) (length (framed x.blocks)))
+      → IsBetween wish (film_sizes film) (picture_time film.rate) place (min (film_place x (length bytes)) (length (framed_bytes x.blocks)))
 
 -- so it is at each slot of a play that begins in one of the client's
 abbrev pub AreFed : Wish → Film → Stream → ℕ → List ℕ → List Round → Type 0
@@ -97,10 +97,10 @@ AreFed wish film x begin bytes rounds =
 
 slot-met : (wish : Wish) (film : Film) (identity : Identity) (x : Stream) (begin slot : ℕ) (bytes : List ℕ) (at : Stage) → IsFilmIn film identity x
     → units_until (begun_sum x).end_ms (picture_time film.rate) ≡ length (film_sizes film) → Heard bytes at → IsFirst at.rest (Ok More)
-    → bytes ≡ take (length bytes) (framed (all_of x)) → replies at.history ≤ 2 → (1 < replies at.history → first_slot at.history ≡ begin)
+    → bytes ≡ take (length bytes) (framed_bytes (all_of x)) → replies at.history ≤ 2 → (1 < replies at.history → first_slot at.history ≡ begin)
     → (begin ≤ slot → IsFed wish film x bytes (slot - begin)) → is_read at.history slot ≡ true
     → IsHeardOf (film_sizes film) (picture_time film.rate) at.history (cut_bytes at.rest)
-    × IsBetween wish (film_sizes film) (picture_time film.rate) (place_in at.history slot) (received at.history + cut_bytes at.rest)
+    × IsBetween wish (film_sizes film) (picture_time film.rate) (place_in at.history slot) (bytes_received at.history + cut_bytes at.rest)
 slot-met wish film identity x begin slot bytes at is count heard idle front few begins fed read =
     let h = at.history in
     let playing : 1 < replies h = ltb-true 1 (replies h) (and-left (is_playing h) (nat_le (first_slot h) slot && nat_lt (last_slot h) slot) read) in
@@ -111,13 +111,13 @@ slot-met wish film identity x begin slot bytes at is count heard idle front few 
     let its = heard-of film identity x (length bytes) at is heard.gone reading count in
     let between = (fed (omega (arith, there, first))).between reading.past in
     let P : ℕ → ℕ → Type 0 = λ place came. IsBetween wish (film_sizes film) (picture_time film.rate) place came in
-    (its.0, subst (λ n. P n (received h + cut_bytes at.rest)) (ap (λ n. slot - n) (sym first)) (subst (λ n. P (slot - begin) n) (sym its.1) between))
+    (its.0, subst (λ n. P n (bytes_received h + cut_bytes at.rest)) (ap (λ n. slot - n) (sym first)) (subst (λ n. P (slot - begin) n) (sym its.1) between))
 
 -- ---- all events
 
 always-round : (event : Doing) (wish : Wish) (film : Film) (identity : Identity) (x : Stream) (begin : ℕ) (bytes : List ℕ) (old new : Stage) (round : Round)
     → round.event ≡ event → Runs old round new → IsFilmIn film identity x → units_until (begun_sum x).end_ms (picture_time film.rate) ≡ length (film_sizes film)
-    → Heard bytes old → IsFirst old.rest (Ok More) → bytes ≡ take (length bytes) (framed (all_of x)) → replies new.history ≤ 2
+    → Heard bytes old → IsFirst old.rest (Ok More) → bytes ≡ take (length bytes) (framed_bytes (all_of x)) → replies new.history ≤ 2
     → (1 < replies new.history → first_slot new.history ≡ begin)
     → ((slot : ℕ) → event ≡ HeardSlot slot → begin ≤ slot → IsFed wish film x bytes (slot - begin))
     → IsBetweenAlways wish (film_sizes film) (picture_time film.rate) old.history → IsBetweenAlways wish (film_sizes film) (picture_time film.rate) new.history
@@ -144,7 +144,7 @@ always-round (Sent byte) wish film identity x begin bytes old new round event ru
 
 pub always-all : (wish : Wish) (film : Film) (identity : Identity) (x : Stream) (begin c : ℕ) (bytes : List ℕ) (old new : Stage) (rounds : List Round)
     → RunsAll old rounds new → IsFilmIn film identity x → units_until (begun_sum x).end_ms (picture_time film.rate) ≡ length (film_sizes film)
-    → Heard bytes old → IsFirst old.rest (Ok More) → bytes ++ rounds_heard rounds ≡ take c (framed (all_of x)) → replies new.history ≤ 2
+    → Heard bytes old → IsFirst old.rest (Ok More) → bytes ++ rounds_heard rounds ≡ take c (framed_bytes (all_of x)) → replies new.history ≤ 2
     → first_slot new.history ≡ begin → AreFed wish film x begin bytes rounds
     → IsBetweenAlways wish (film_sizes film) (picture_time film.rate) old.history → IsBetweenAlways wish (film_sizes film) (picture_time film.rate) new.history
 always-all wish film identity x begin c bytes old new [] all is count heard idle front few begins fed met =
@@ -158,9 +158,9 @@ always-all wish film identity x begin c bytes old new (round ∷ rounds) all is 
     let fed_here : (slot : ℕ) → round.event ≡ HeardSlot slot → begin ≤ slot → IsFed wish film x bytes (slot - begin) = λ slot event after_begin.
     let F : List ℕ → Type 0 = λ b. IsFed wish film x b (slot - begin) in
     subst F (append-nil bytes) (fed [] rounds round slot refl event after_begin) in
-    let mine : bytes ≡ take (length bytes) (framed (all_of x)) = front-of bytes (rounds_heard (round ∷ rounds)) (framed (all_of x)) c front in
+    let mine : bytes ≡ take (length bytes) (framed_bytes (all_of x)) = front-of bytes (rounds_heard (round ∷ rounds)) (framed_bytes (all_of x)) c front in
     let now = always-round round.event wish film identity x begin bytes old mid round refl all.1.0 is count heard idle mine few_here begins_here fed_here met in
-    let next : (bytes ++ bytes_in round.event) ++ rounds_heard rounds ≡ take c (framed (all_of x)) =
+    let next : (bytes ++ bytes_in round.event) ++ rounds_heard rounds ≡ take c (framed_bytes (all_of x)) =
     append_assoc bytes (bytes_in round.event) (rounds_heard rounds) ∙ front in
     let fed_next : AreFed wish film x begin (bytes ++ bytes_in round.event) rounds = λ before after_ r slot split event after_begin.
     let F : List ℕ → Type 0 = λ b. IsFed wish film x b (slot - begin) in

@@ -17,14 +17,14 @@ use Rattle.session.specs.declared.states.Setup.{Setup}
 use Rattle.session.specs.declared.states.State.{State}
 use Rattle.session.specs.declared.states.State.TheVariants.{Init, Ready, Playing, Stopping}
 use Rattle.session.specs.Hearings.{is_answered}
-use Rattle.session.specs.Sendings.{can_reply, finished, is_between, is_done_in, is_sending, is_taken, next_of, sent_due, sent_in, sent_reply, sent_slot, slotted, stepped_in}
+use Rattle.session.specs.Sendings.{can_reply, after_play, is_between, is_done_in, is_sending, is_taken, next_of, sent_due, sent_in, sent_reply, sent_slot, after_slot, stepped_in}
 use Rattle.session.specs.Standings.{NoAnswer, Standing, awaits, awaits_of}
 use Rattle.conn.specs.Films.{rounds_parts, takings_parts}
 use Rattle.conn.specs.Rounds.{Comes, Round, Runs}
 use Rattle.conn.specs.Turns.{Answered, Entered, IsFinished, IsHaltAnswered, IsHalted, IsReplied, Offered, Outcome, Part, Passed, Stage, Taking, TakesAll, Text, Unasked, WasFull, after_reply, due_parts, reply_parts}
 use Rattle.transcript.specs.Courses.{Follows, asked_by, askings_of, first_stage, greatest_slot, round_askings, slot_in, takings_askings}
 use Rattle.transcript.specs.Places.{AreSentAt, IsBoundaryIn, slots_from, takings_slots}
-use Rattle.transcript.specs.Plays.{Asking, Asks, admitted, begun, due_by as all_due, due_of, kept_by, kept_in, kept_with, plays_of}
+use Rattle.transcript.specs.Plays.{Asking, Asks, plays_admitted, plays_begun, due_by as all_due, due_of, kept_by, kept_in, kept_with, plays_of}
 use Rattle.transcript.specs.Replies.{placed_texts}
 use Rattle.transcript.proofs.Filming.{Stands, and_left, course_step, done_kept, halt_state, idle_sound, opened_rest, opened_stands, reply_awaited, reply_heard, reply_state, reply_waits, round_step, sent_on, stands_by, taken_stands, turn_after, turn_step}
 use Rattle.transcript.proofs.Films.{IsOnTime, IsSound, play_with}
@@ -168,11 +168,11 @@ done_fits : (p : Pacing) (heard : ℕ) (asked : Awaited) (placed : Placed) (numb
 done_fits p heard asked placed number keep askings end slots parts on sent command asks ends fits =
     let kept : kept_with (Entered placed) (kept_in askings (total_bytes p.plan)) ≡ keep =
     ap (λ c. kept_by c (kept_in askings (total_bytes p.plan))) command in
-    let none : begun asked (Entered placed) askings ≡ [] = ap (λ a. admitted a placed.entry.answer askings) asks in
+    let none : plays_begun asked (Entered placed) askings ≡ [] = ap (λ a. plays_admitted a placed.entry.answer askings) asks in
     record {
       from = fits.from;
       later = subst (λ ps. AreLater heard (ps ++ plays_of askings)) (sym none) fits.later;
-      stand = subst (λ k. StandAt p k None (begun asked (Entered placed) askings ++ plays_of askings) end slots parts) (sym kept)
+      stand = subst (λ k. StandAt p k None (plays_begun asked (Entered placed) askings ++ plays_of askings) end slots parts) (sym kept)
           (subst (λ ps. StandAt p keep None (ps ++ plays_of askings) end slots parts) (sym none)
           (over_at p heard keep (plays_of askings) end slots parts on (sym sent) ends fits.from fits.later fits.stand));
     }
@@ -230,11 +230,11 @@ finished_move s halt new true pending sound is asks finishing held = finishes_mo
 finished_move s halt new false pending sound is asks finishing held = rest_move s halt new pending asks held finishing
 
 sent_move : (old : Standing) (slot : ℕ) (halt : Outcome) (new : Standing) (pending : Option ℕ) → Stands old → HeldIn pending old
-    → IsSound (sends_in (finished (sent_slot old slot)).state) (finished (sent_slot old slot)).waits (finished (sent_slot old slot)).heard
-    → is_sending old.state ≡ true → old.heard < slot → IsFinished (awaits (finished (sent_slot old slot))) (finished (sent_slot old slot)) halt new
-    → Move old new pending (Asks (finished (sent_slot old slot)).awaited halt ∷ []) [] (due_parts old slot)
+    → IsSound (sends_in (after_play (sent_slot old slot)).state) (after_play (sent_slot old slot)).waits (after_play (sent_slot old slot)).heard
+    → is_sending old.state ≡ true → old.heard < slot → IsFinished (awaits (after_play (sent_slot old slot))) (after_play (sent_slot old slot)) halt new
+    → Move old new pending (Asks (after_play (sent_slot old slot)).awaited halt ∷ []) [] (due_parts old slot)
 sent_move old slot halt new pending stands held sound sending later finishing =
-    let s : Standing = finished (sent_slot old slot) in
+    let s : Standing = after_play (sent_slot old slot) in
     let goes : Bool = old.waits && is_between (stepped_in true slot old.state) in
     let due : Standing = sent_due old slot in
     let state : s.state ≡ state_after old.waits old.state slot = reply_state goes due in
@@ -291,7 +291,7 @@ idle_move old slot pending held none later =
     }
 
 slot_sound : (old : Standing) (slot : ℕ) (taken sending : Bool) → Stands old → (taken ≡ true → old.heard < slot) → is_sending old.state ≡ sending
-    → let s : Standing = if taken then (if sending then finished (sent_slot old slot) else record old { heard = slot }) else old in
+    → let s : Standing = if taken then (if sending then after_play (sent_slot old slot) else record old { heard = slot }) else old in
     IsSound (sends_in s.state) s.waits s.heard
 slot_sound old slot false sending stands later is = stands.sound
 slot_sound old slot true true stands later is = (sent_on old slot stands is (later refl)).sound
@@ -299,7 +299,7 @@ slot_sound old slot true false stands later is = idle_sound old.state old.waits 
 
 slot_move : (old : Standing) (slot : ℕ) (halt : Outcome) (new : Standing) (pending : Option ℕ) (taken sending : Bool) → Stands old → HeldIn pending old
     → (taken ≡ true → old.heard < slot) → is_sending old.state ≡ sending
-    → let s : Standing = if taken then (if sending then finished (sent_slot old slot) else record old { heard = slot }) else old in
+    → let s : Standing = if taken then (if sending then after_play (sent_slot old slot) else record old { heard = slot }) else old in
     IsSound (sends_in s.state) s.waits s.heard → IsFinished (awaits s) s halt new
     → Move old new pending (Asks s.awaited halt ∷ []) [] (if taken && sending then due_parts old slot else [])
 slot_move old slot halt new pending false sending stands held later is sound finishing = rest_move old halt new pending stands.rest held finishing
@@ -310,7 +310,7 @@ slot_move old slot halt new pending true false stands held later is sound finish
     let first = idle_move old slot pending held is (later refl) in
     move_then old s new pending [] (Asks s.awaited halt ∷ []) [] [] [] [] first (rest_move s halt new first.after stands.rest first.held finishing)
 
-slotted_sound : (old : Standing) (slot : ℕ) → Stands old → IsSound (sends_in (slotted old slot).state) (slotted old slot).waits (slotted old slot).heard
+slotted_sound : (old : Standing) (slot : ℕ) → Stands old → IsSound (sends_in (after_slot old slot).state) (after_slot old slot).waits (after_slot old slot).heard
 slotted_sound old slot stands =
     slot_sound old slot (is_taken old slot) (is_sending old.state) stands
     (λ taken. ltb-true old.heard slot (and_left (nat_lt old.heard slot) (nat_le slot (2 ^ 62)) taken)) refl
@@ -322,7 +322,7 @@ comes_move old opened (HeardBytes bytes) due halt pending comes stands held =
     (subst (λ h. Move old.session opened.session pending (Asks Nothing h ∷ []) [] []) (sym comes.1)
     (still_move old.session opened.session Nothing Unasked pending (ap (λ (s : Stage). s.session) comes.3) (unasked_still Nothing) held))
 comes_move old opened (HeardSlot slot) due halt pending comes stands held =
-    subst (λ ps. Move old.session opened.session pending (Asks (slotted old.session slot).awaited halt ∷ []) [] ps) (sym comes.1.parts_are)
+    subst (λ ps. Move old.session opened.session pending (Asks (after_slot old.session slot).awaited halt ∷ []) [] ps) (sym comes.1.parts_are)
     (slot_move old.session slot halt opened.session pending (is_taken old.session slot) (is_sending old.session.state) stands held
     (λ taken. ltb-true old.session.heard slot (and_left (nat_lt old.session.heard slot) (nat_le slot (2 ^ 62)) taken)) refl
     (slotted_sound old.session slot stands) comes.1.finished)

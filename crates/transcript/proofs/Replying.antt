@@ -8,14 +8,14 @@ use Rattle.session.specs.declared.states.Awaited.{Awaited}
 use Rattle.session.specs.declared.states.Awaited.TheVariants.{Nothing, Halt}
 use Rattle.session.specs.declared.states.Next.TheVariants.{Done}
 use Rattle.session.specs.Hearings.{is_answered}
-use Rattle.session.specs.Sendings.{can_reply, finished, is_between, is_done_in, is_sending, is_taken, next_of, sent_due, sent_in, sent_reply, sent_slot, slotted, step_bytes, stepped_in}
+use Rattle.session.specs.Sendings.{can_reply, after_play, is_between, is_done_in, is_sending, is_taken, next_of, sent_due, sent_in, sent_reply, sent_slot, after_slot, step_bytes, stepped_in}
 use Rattle.session.specs.Standings.{Awaits, NoAnswer, PlayAnswer, HaltAnswer, LookAnswer, OfferAnswer, Standing, awaits}
 use Rattle.conn.specs.Films.{round_parts, rounds_parts, takings_parts}
 use Rattle.conn.specs.Rounds.{Comes, Round}
 use Rattle.conn.specs.Turns.{Answered, Entered, Film, IsFinished, IsHalted, IsReplied, Offered, Outcome, Part, Passed, Stage, Taking, TakesAll, Text, Unasked, WasFull, due_parts, film_bytes, slot_parts}
 use Rattle.transcript.specs.Courses.{Follows, askings_of, first_stage, greatest_slot, rounds_bytes, round_askings}
 use Rattle.transcript.specs.Plays.{film_written, plays_of}
-use Rattle.transcript.specs.Replies.{placed_texts, replies_of, takings_replies, text_of, waiting, woven}
+use Rattle.transcript.specs.Replies.{placed_texts, replies_of, takings_replies, text_of, waiting_reply, with_texts}
 use Rattle.transcript.proofs.Filming.{Stands, opened_stands, round_step, stands_by, taken_stands, turn_after}
 use Rattle.transcript.proofs.Hearing.{film_written_is}
 use Rattle.transcript.proofs.Turning.{turns_as}
@@ -39,23 +39,23 @@ texts-append (Text text ∷ xs) ys = ap (λ ts. text ∷ ts) (texts-append xs ys
 
 -- these texts were sent, and these are replies to requests that were taken up meanwhile
 abbrev Replies : Standing → List (List ℕ) → List (List ℕ) → Standing → Type 0
-Replies old sent replies new = sent ++ waiting new ≡ waiting old ++ replies
+Replies old sent replies new = sent ++ waiting_reply new ≡ waiting_reply old ++ replies
 
 replies_then : (a b c : Standing) (one two first second : List (List ℕ)) → Replies a one first b → Replies b two second c
     → Replies a (one ++ two) (first ++ second) c
 replies_then a b c one two first second is later =
-    append_assoc one two (waiting c) ∙ ap (λ ts. one ++ ts) later ∙ sym (append_assoc one (waiting b) second)
-    ∙ ap (λ ts. ts ++ second) is ∙ append_assoc (waiting a) first second
+    append_assoc one two (waiting_reply c) ∙ ap (λ ts. one ++ ts) later ∙ sym (append_assoc one (waiting_reply b) second)
+    ∙ ap (λ ts. ts ++ second) is ∙ append_assoc (waiting_reply a) first second
 
 waiting_same : (a b : Standing) → b ≡ a → Replies a [] [] b
-waiting_same a b same = ap waiting same ∙ sym (append-nil (waiting a))
+waiting_same a b same = ap waiting_reply same ∙ sym (append-nil (waiting_reply a))
 
 -- a request
-waits_none : (s : Standing) → s.waits ≡ false → waiting s ≡ []
+waits_none : (s : Standing) → s.waits ≡ false → waiting_reply s ≡ []
 waits_none s none = ap (λ w. if w then s.text ∷ [] else []) none
 
 reply_cases : (goes : Bool) (s : Standing) → s.waits ≡ true
-    → texts_in (if goes then Text s.text ∷ [] else []) ++ waiting (if goes then sent_reply s else s) ≡ s.text ∷ []
+    → texts_in (if goes then Text s.text ∷ [] else []) ++ waiting_reply (if goes then sent_reply s else s) ≡ s.text ∷ []
 reply_cases true s waits = refl
 reply_cases false s waits = ap (λ w. if w then s.text ∷ [] else []) waits
 
@@ -64,8 +64,8 @@ answered_replies : (old new : Stage) (message : List ℕ) (outcome : Outcome) (p
 answered_replies old new message outcome parts replied stands =
     let after = turn_after old.session replied.answered replied.heard.asking.awaited outcome
     (turns_as old.session message outcome replied.answered replied.heard stands.rest) in
-    ap (λ (s : Stage). texts_in parts ++ waiting s.session) replied.new_is
-    ∙ ap (λ ps. texts_in ps ++ waiting (if can_reply replied.answered then sent_reply replied.answered else replied.answered)) replied.parts_are
+    ap (λ (s : Stage). texts_in parts ++ waiting_reply s.session) replied.new_is
+    ∙ ap (λ ps. texts_in ps ++ waiting_reply (if can_reply replied.answered then sent_reply replied.answered else replied.answered)) replied.parts_are
     ∙ reply_cases (can_reply replied.answered) replied.answered after.waits
     ∙ ap (λ ts. ts ++ replied.answered.text ∷ []) (sym (waits_none old.session replied.next.replied))
 
@@ -85,16 +85,16 @@ takes_replies old new (Answered message outcome parts ∷ takings) takes stands 
     (takes_replies takes.0 new takings takes.1.1 (taken_stands old takes.0 (Answered message outcome parts) takes.1.0 stands)))
 
 -- a play that is done is halted without a reply
-halted_waiting : (s : Standing) (keep : ℕ) (halt : Outcome) (new : Standing) → next_of s.awaited ≡ Done → IsHalted s keep halt new → waiting new ≡ waiting s
+halted_waiting : (s : Standing) (keep : ℕ) (halt : Outcome) (new : Standing) → next_of s.awaited ≡ Done → IsHalted s keep halt new → waiting_reply new ≡ waiting_reply s
 halted_waiting s keep Unasked new done halted = absurd halted
 halted_waiting s keep (Entered placed) new done halted =
-    ap waiting halted.halts ∙ ap (λ n. if (if is_answered n then true else s.waits) then s.text ∷ [] else []) done
+    ap waiting_reply halted.halts ∙ ap (λ n. if (if is_answered n then true else s.waits) then s.text ∷ [] else []) done
 halted_waiting s keep (WasFull more entries live) new done halted = absurd halted
 halted_waiting s keep (Offered at_slot note) new done halted = absurd halted
 
 finished_waiting : (asks : Awaits) (s : Standing) (halt : Outcome) (new : Standing) → next_of s.awaited ≡ Done → IsFinished asks s halt new
-    → waiting new ≡ waiting s
-finished_waiting NoAnswer s Unasked new done is = ap waiting is
+    → waiting_reply new ≡ waiting_reply s
+finished_waiting NoAnswer s Unasked new done is = ap waiting_reply is
 finished_waiting NoAnswer s (Entered placed) new done is = absurd is
 finished_waiting NoAnswer s (WasFull more entries live) new done is = absurd is
 finished_waiting NoAnswer s (Offered at_slot note) new done is = absurd is
@@ -111,7 +111,7 @@ reply_awaited : (goes : Bool) (s : Standing) → (if goes then sent_reply s else
 reply_awaited true s = refl
 reply_awaited false s = refl
 
-reply_waiting : (goes : Bool) (s : Standing) → waiting (if goes then sent_reply s else s) ≡ (if (if goes then false else s.waits) then s.text ∷ [] else [])
+reply_waiting : (goes : Bool) (s : Standing) → waiting_reply (if goes then sent_reply s else s) ≡ (if (if goes then false else s.waits) then s.text ∷ [] else [])
 reply_waiting true s = refl
 reply_waiting false s = refl
 
@@ -124,8 +124,8 @@ slot_texts true true text one after plain = refl
 slot_texts true false text one after plain = refl
 
 slot_cases : (old : Standing) (slot : ℕ) (taken sending : Bool) → old.awaited ≡ Nothing
-    → let s : Standing = if taken then (if sending then finished (sent_slot old slot) else record old { heard = slot }) else old in
-    (texts_in (if taken && sending then due_parts old slot else []) ++ waiting s ≡ waiting old) × (next_of s.awaited ≡ Done)
+    → let s : Standing = if taken then (if sending then after_play (sent_slot old slot) else record old { heard = slot }) else old in
+    (texts_in (if taken && sending then due_parts old slot else []) ++ waiting_reply s ≡ waiting_reply old) × (next_of s.awaited ≡ Done)
 slot_cases old slot false sending rest = (refl, ap next_of rest)
 slot_cases old slot true false rest = (refl, ap next_of rest)
 slot_cases old slot true true rest =
@@ -139,11 +139,11 @@ slot_cases old slot true true rest =
     )
 
 slot_replies : (old : Standing) (slot : ℕ) (halt : Outcome) (new : Standing) → old.awaited ≡ Nothing
-    → IsFinished (awaits (slotted old slot)) (slotted old slot) halt new → Replies old (texts_in (slot_parts old slot)) [] new
+    → IsFinished (awaits (after_slot old slot)) (after_slot old slot) halt new → Replies old (texts_in (slot_parts old slot)) [] new
 slot_replies old slot halt new rest finishing =
     let cases = slot_cases old slot (is_taken old slot) (is_sending old.state) rest in
-    ap (λ ts. texts_in (slot_parts old slot) ++ ts) (finished_waiting (awaits (slotted old slot)) (slotted old slot) halt new cases.1 finishing)
-    ∙ cases.0 ∙ sym (append-nil (waiting old))
+    ap (λ ts. texts_in (slot_parts old slot) ++ ts) (finished_waiting (awaits (after_slot old slot)) (after_slot old slot) halt new cases.1 finishing)
+    ∙ cases.0 ∙ sym (append-nil (waiting_reply old))
 
 comes_replies : (old opened : Stage) (event : Doing) (due : List Part) (halt : Outcome) → Comes old event due halt opened → Stands old.session
     → Replies old.session (texts_in due) [] opened.session
@@ -181,16 +181,16 @@ course_replies old new (round ∷ rounds) follows stands =
 -- from a connection's beginning on
 pub replies_in_order : (films : List Stored) (settings : Settings) (words : List ℕ) (rounds : List Round) (new : Stage)
     (follows : Follows (first_stage films settings words) rounds new)
-    → map text_of (placed_texts 0 (rounds_parts rounds)) ++ waiting new.session ≡ replies_of (first_stage films settings words) rounds new follows
+    → map text_of (placed_texts 0 (rounds_parts rounds)) ++ waiting_reply new.session ≡ replies_of (first_stage films settings words) rounds new follows
 replies_in_order films settings words rounds new follows =
-    ap (λ ts. ts ++ waiting new.session) (texts_placed 0 (rounds_parts rounds))
+    ap (λ ts. ts ++ waiting_reply new.session) (texts_placed 0 (rounds_parts rounds))
     ∙ course_replies (first_stage films settings words) new rounds follows (record { rest = refl; sound = tt })
 
 pub bytes_woven : (films : List Stored) (settings : Settings) (words : List ℕ) (rounds : List Round) (new : Stage)
     (follows : Follows (first_stage films settings words) rounds new)
-    → rounds_bytes rounds ≡ woven 0 (film_written (greatest_slot rounds) (plays_of (askings_of (first_stage films settings words) rounds new follows)))
+    → rounds_bytes rounds ≡ with_texts 0 (film_written (greatest_slot rounds) (plays_of (askings_of (first_stage films settings words) rounds new follows)))
     (placed_texts 0 (rounds_parts rounds))
 bytes_woven films settings words rounds new follows =
     rounds_sent rounds ∙ parts_woven 0 (rounds_parts rounds)
-    ∙ ap (λ bs. woven 0 bs (placed_texts 0 (rounds_parts rounds)))
+    ∙ ap (λ bs. with_texts 0 bs (placed_texts 0 (rounds_parts rounds)))
     (course_film (first_stage films settings words) new rounds follows ∙ film_written_is films settings words rounds new follows)

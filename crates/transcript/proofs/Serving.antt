@@ -13,12 +13,12 @@ use Rattle.admission.specs.Makers.{Placed}
 use Rattle.session.specs.declared.states.Awaited.{Awaited}
 use Rattle.session.specs.declared.states.Awaited.TheVariants.{Nothing, Play, Halt, Look, Offer}
 use Rattle.session.specs.declared.states.Prepared.{Prepared}
-use Rattle.session.specs.Sendings.{slotted}
+use Rattle.session.specs.Sendings.{after_slot}
 use Rattle.session.specs.Standings.{Standing, awaits_of}
 use Rattle.conn.specs.Rounds.{Comes, Round, Runs}
 use Rattle.conn.specs.Turns.{Outcome, Unasked, Entered, WasFull, Offered, Part, Stage, Taking, Passed, Answered, IsFinished, TakesAll, film_bytes}
 use Rattle.transcript.specs.Courses.{Follows, IsParted, asked_by, askings_of, round_askings, takings_askings}
-use Rattle.transcript.specs.Plays.{Asking, Asks, FilmPlay, admitted, begun, kept_by, kept_in, kept_with, plays_of}
+use Rattle.transcript.specs.Plays.{Asking, Asks, FilmPlay, plays_admitted, plays_begun, kept_by, kept_in, kept_with, plays_of}
 use Rattle.transcript.proofs.Filming.{Stands, opened_stands, round_step, stands_by, taken_stands, takes_step}
 use Rattle.transcript.proofs.Turning.{Begins, Ends, Starts, Stays, TurnsAs, turns_as}
 
@@ -86,15 +86,15 @@ begun_play prepared start askings = record {
 
 -- an asking begins no play, or one
 data Beginning (asked : Awaited) (outcome : Outcome) : Type 0 where
-  BeginsNone : ((askings : List Asking) → begun asked outcome askings ≡ []) → Beginning asked outcome
-  BeginsOne : (prepared : Prepared) (start : ℕ) → ((askings : List Asking) → begun asked outcome askings ≡ begun_play prepared start askings ∷ [])
+  BeginsNone : ((askings : List Asking) → plays_begun asked outcome askings ≡ []) → Beginning asked outcome
+  BeginsOne : (prepared : Prepared) (start : ℕ) → ((askings : List Asking) → plays_begun asked outcome askings ≡ begun_play prepared start askings ∷ [])
       → Beginning asked outcome
 
 entered-either : (asked : Awaited) (placed : Placed) (answer : Answer) → placed.entry.answer ≡ answer → Beginning asked (Entered placed)
-entered-either (Play prepared) placed (Admitted start) is = BeginsOne prepared start (λ askings. ap (λ a. admitted (Play prepared) a askings) is)
-entered-either (Play prepared) placed (Overflow slot booked asks) is = BeginsNone (λ askings. ap (λ a. admitted (Play prepared) a askings) is)
-entered-either (Play prepared) placed Halted is = BeginsNone (λ askings. ap (λ a. admitted (Play prepared) a askings) is)
-entered-either (Play prepared) placed (Looked now at booked) is = BeginsNone (λ askings. ap (λ a. admitted (Play prepared) a askings) is)
+entered-either (Play prepared) placed (Admitted start) is = BeginsOne prepared start (λ askings. ap (λ a. plays_admitted (Play prepared) a askings) is)
+entered-either (Play prepared) placed (Overflow slot booked asks) is = BeginsNone (λ askings. ap (λ a. plays_admitted (Play prepared) a askings) is)
+entered-either (Play prepared) placed Halted is = BeginsNone (λ askings. ap (λ a. plays_admitted (Play prepared) a askings) is)
+entered-either (Play prepared) placed (Looked now at booked) is = BeginsNone (λ askings. ap (λ a. plays_admitted (Play prepared) a askings) is)
 entered-either Nothing placed answer is = BeginsNone (λ askings. refl)
 entered-either (Halt keep next) placed answer is = BeginsNone (λ askings. refl)
 entered-either (Look sequence) placed answer is = BeginsNone (λ askings. refl)
@@ -163,7 +163,7 @@ pub record IsLatePlay (heard : ℕ) (play : FilmPlay) : Type 0 where
   pub plan : IsPlan play.plan
 
 abbrev IsLate : ℕ → Awaited → Outcome → Type 0
-IsLate heard asked outcome = (askings : List Asking) (play : FilmPlay) (rest : List FilmPlay) → begun asked outcome askings ≡ play ∷ rest → IsLatePlay heard play
+IsLate heard asked outcome = (askings : List Asking) (play : FilmPlay) (rest : List FilmPlay) → plays_begun asked outcome askings ≡ play ∷ rest → IsLatePlay heard play
 
 abbrev pub AreLate : ℕ → List Asking → Type 0
 AreLate heard [] = ⊤
@@ -194,15 +194,15 @@ late-play heard [] play rest are is = absurd (let no : ⊥ = cc in no)
 late-play heard (Asks asked outcome ∷ a) play rest are is = late-by heard asked outcome a play rest (λ same. late-play heard a play rest are.1 same) (either asked outcome) are is
 
 -- by what was asked
-none-late : (heard : ℕ) (asked : Awaited) (outcome : Outcome) → ((askings : List Asking) → begun asked outcome askings ≡ []) → IsLate heard asked outcome
+none-late : (heard : ℕ) (asked : Awaited) (outcome : Outcome) → ((askings : List Asking) → plays_begun asked outcome askings ≡ []) → IsLate heard asked outcome
 none-late heard asked outcome none = λ askings play rest is.
     let clash : [] ≡ play ∷ rest = sym (none askings) ∙ is in absurd (let no : ⊥ = cc in no)
 
 begins-late : (old new : Standing) (asked : Awaited) (outcome : Outcome) → Begins old asked outcome new → IsLate old.heard asked outcome
 begins-late old new asked outcome begins = λ askings play rest is.
-    let mine : begun asked outcome askings ≡ begun_play begins.prepared begins.start askings ∷ [] =
-    ap (λ o. begun asked o askings) begins.outcome_is
-    ∙ (ap (λ a. admitted a begins.placed.entry.answer askings) begins.asked_is ∙ ap (λ a. admitted (Play begins.prepared) a askings) begins.answer) in
+    let mine : plays_begun asked outcome askings ≡ begun_play begins.prepared begins.start askings ∷ [] =
+    ap (λ o. plays_begun asked o askings) begins.outcome_is
+    ∙ (ap (λ a. plays_admitted a begins.placed.entry.answer askings) begins.asked_is ∙ ap (λ a. plays_admitted (Play begins.prepared) a askings) begins.answer) in
     let all : begun_play begins.prepared begins.start askings ∷ [] ≡ play ∷ rest = sym mine ∙ is in
     let same : begun_play begins.prepared begins.start askings ≡ play = cc in
     let L : FilmPlay → Type 0 = λ p. IsLatePlay old.heard p in
@@ -229,7 +229,7 @@ takes-late old new (Answered message outcome parts ∷ takings) takes stands =
     )
 
 -- the halt of a play that is done begins none
-halt-none : (asked : Awaited) (halt : Outcome) (s new : Standing) → IsFinished (awaits_of asked) s halt new → (askings : List Asking) → begun asked halt askings ≡ []
+halt-none : (asked : Awaited) (halt : Outcome) (s new : Standing) → IsFinished (awaits_of asked) s halt new → (askings : List Asking) → plays_begun asked halt askings ≡ []
 halt-none Nothing Unasked s new is = λ askings. refl
 halt-none Nothing (Entered placed) s new is = absurd is
 halt-none Nothing (WasFull more entries live) s new is = λ askings. refl
@@ -243,10 +243,10 @@ halt-none (Look sequence) halt s new is = absurd is
 halt-none (Offer sequence) halt s new is = absurd is
 
 comes-none : (old opened : Stage) (event : Doing) (due : List Part) (halt : Outcome) → Comes old event due halt opened
-    → (askings : List Asking) → begun (asked_by old.session event) halt askings ≡ []
-comes-none old opened (HeardBytes bytes) due halt comes = λ askings. ap (λ h. begun Nothing h askings) comes.1
+    → (askings : List Asking) → plays_begun (asked_by old.session event) halt askings ≡ []
+comes-none old opened (HeardBytes bytes) due halt comes = λ askings. ap (λ h. plays_begun Nothing h askings) comes.1
 comes-none old opened (HeardSlot slot) due halt comes =
-    halt-none (slotted old.session slot).awaited halt (slotted old.session slot) opened.session comes.1.finished
+    halt-none (after_slot old.session slot).awaited halt (after_slot old.session slot) opened.session comes.1.finished
 comes-none old opened HeardEnd due halt comes = absurd comes
 comes-none old opened (Sent byte) due halt comes = absurd comes
 

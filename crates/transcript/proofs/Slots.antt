@@ -2,8 +2,8 @@
 use Rattle.std.proofs.Common.{◌≡◌, ℕ, ◌+◌, ◌<◌, ◌≤◌, ◌++◌, ◌&&◌, if◌then◌else◌, Bool, true, false, List, [], ◌∷◌, length, refl, ap, sym, ◌∙◌, subst, arith}
 use Rattle.std.proofs.lemmas.Bool.{eqb-true, true≢false}
 use Rattle.std.proofs.lemmas.List.{append-nil}
-use Rattle.film_frames.specs.Tracks.{IsBoundary, framed}
-use Rattle.pacer.specs.Pacings.{IsPacing, Pacing, due_by, next_boundary, plan_bytes, raised, slots_by, stands_at_boundary, step_end, stepped}
+use Rattle.film_frames.specs.Tracks.{IsBoundary, framed_bytes}
+use Rattle.pacer.specs.Pacings.{IsPacing, Pacing, due_by, next_boundary, plan_bytes, at_slot, slots_by, stands_at_boundary, step_end, after_step}
 use Rattle.pacer.proofs.PacingLemmas.{boundary-from}
 use Rattle.session.specs.declared.states.Play.{Play as Played}
 use Rattle.session.specs.declared.states.Stop.{Stop}
@@ -11,7 +11,7 @@ use Rattle.session.specs.declared.states.Setup.{Setup}
 use Rattle.session.specs.declared.states.State.{State}
 use Rattle.session.specs.declared.states.State.TheVariants.{Init, Ready, Playing, Stopping}
 use Rattle.session.specs.Sendings.{is_between, is_sending, step_bytes, stepped_in}
-use Rattle.session.specs.Steps.{settled}
+use Rattle.session.specs.Steps.{after_stop}
 use Rattle.conn.specs.Turns.{Part, Film, Text, film_bytes}
 use Rattle.conn.proofs.Filming.{sent_through, slot_bytes, slot_is, stopped_is}
 use Rattle.transcript.specs.Plays.{plays_of}
@@ -27,7 +27,7 @@ ended_at p slot place on last boundary is =
 
 pub stands_here : (p : Pacing) → IsPacing p → stands_at_boundary p ≡ true → IsBoundary p.pieces (p.before + p.sent)
 stands_here p is stands =
-    let inside : p.before + p.sent ≤ length (framed p.pieces) = omega (arith, is.whole, is.most, is.due, is.sent) in
+    let inside : p.before + p.sent ≤ length (framed_bytes p.pieces) = omega (arith, is.whole, is.most, is.due, is.sent) in
     let next = boundary-from p.pieces (p.before + p.sent) inside in
     let same : next_boundary p ≡ p.sent = eqb-true (next_boundary p) p.sent stands in
     subst (IsBoundary p.pieces) (omega (arith, same, next.after)) next.boundary
@@ -45,7 +45,7 @@ over_on p slot on ended = record {
 }
 
 replied_on : (state : State) (waits : Bool) (slot : ℕ) → IsSound (sends_in state) waits slot → is_between state ≡ true
-    → GoesOn (sends_in state) (sends_in (settled state)) slot slot false [] []
+    → GoesOn (sends_in state) (sends_in (after_stop state)) slot slot false [] []
 replied_on Init waits slot sound between = same_on Idle false slot tt
 replied_on (Ready setup paused) waits slot sound between = same_on Idle false slot tt
 replied_on (Playing setup play) waits slot sound between = same_on (Going play.pacer) false slot sound
@@ -58,7 +58,7 @@ and_right true b both = both
 and_right false b both = absurd (true≢false (sym both))
 
 pub reply_on : (goes : Bool) (state : State) (waits : Bool) (slot : ℕ) → IsSound (sends_in state) waits slot → (goes ≡ true → is_between state ≡ true)
-    → GoesOn (sends_in state) (sends_in (if goes then settled state else state)) slot slot (if goes then false else waits) [] []
+    → GoesOn (sends_in state) (sends_in (if goes then after_stop state else state)) slot slot (if goes then false else waits) [] []
 reply_on false state waits slot sound between = same_on (sends_in state) waits slot sound
 reply_on true state waits slot sound between = replied_on state waits slot sound (between refl)
 
@@ -68,7 +68,7 @@ abbrev pub state_after : Bool → State → ℕ → State
 state_after waits state slot =
     let due : State = if waits then (if is_between (stepped_in true slot state) then stepped_in false slot (stepped_in true slot state) else stepped_in true slot state)
     else stepped_in false slot state in
-    if waits && is_between (stepped_in true slot state) then settled due else due
+    if waits && is_between (stepped_in true slot state) then after_stop due else due
 
 abbrev pub waits_after : Bool → State → ℕ → Bool
 waits_after waits state slot = if waits && is_between (stepped_in true slot state) then false else waits
@@ -89,14 +89,14 @@ film_cases true true one after plain text = ap (λ bs. one ++ bs) (append-nil af
 
 -- the film's bytes of a pacing in a slot
 film_of : (waits : Bool) (p : Pacing) (text : List ℕ) (slot : ℕ) → IsPacing p →
-    film_bytes (if waits then Film (plan_bytes p p.sent (step_end true (raised slot p)))
-    ∷ (if stands_at_boundary (stepped true slot p)
-    then Text text ∷ Film (plan_bytes (stepped true slot p) (stepped true slot p).sent (step_end false (raised slot (stepped true slot p)))) ∷ [] else [])
-    else Film (plan_bytes p p.sent (step_end false (raised slot p))) ∷ []) ≡ plan_bytes p p.sent (due_by p slot)
+    film_bytes (if waits then Film (plan_bytes p p.sent (step_end true (at_slot slot p)))
+    ∷ (if stands_at_boundary (after_step true slot p)
+    then Text text ∷ Film (plan_bytes (after_step true slot p) (after_step true slot p).sent (step_end false (at_slot slot (after_step true slot p)))) ∷ [] else [])
+    else Film (plan_bytes p p.sent (step_end false (at_slot slot p))) ∷ []) ≡ plan_bytes p p.sent (due_by p slot)
 film_of waits p text slot is =
-    let q : Pacing = stepped true slot p in
-    film_cases waits (stands_at_boundary q) (plan_bytes p p.sent (step_end true (raised slot p))) (plan_bytes q q.sent (step_end false (raised slot q)))
-    (plan_bytes p p.sent (step_end false (raised slot p))) text
+    let q : Pacing = after_step true slot p in
+    film_cases waits (stands_at_boundary q) (plan_bytes p p.sent (step_end true (at_slot slot p))) (plan_bytes q q.sent (step_end false (at_slot slot q)))
+    (plan_bytes p p.sent (step_end false (at_slot slot p))) text
     ∙ slot_bytes waits (stands_at_boundary q) slot p is refl
 
 abbrev pub going_with : Setup → Played → Pacing → State
@@ -104,7 +104,7 @@ going_with setup play p = Playing setup (record play { pacer = p })
 
 pub going_cases : (waits between : Bool) (setup : Setup) (play : Played) (both one plain : Pacing) →
     sends_in (if waits && between
-    then settled (if waits then (if between then going_with setup play both else going_with setup play one) else going_with setup play plain)
+    then after_stop (if waits then (if between then going_with setup play both else going_with setup play one) else going_with setup play plain)
     else (if waits then (if between then going_with setup play both else going_with setup play one) else going_with setup play plain))
     ≡ Going (if waits then (if between then both else one) else plain)
 going_cases false between setup play both one plain = refl
@@ -115,7 +115,7 @@ abbrev pub ending_with : Setup → Stop → Pacing → State
 ending_with setup stop p = Stopping setup (record stop { pacer = p })
 
 pub ending_cases : (between : Bool) (setup : Setup) (stop : Stop) (both one : Pacing) →
-    sends_in (if between then settled (if between then ending_with setup stop both else ending_with setup stop one)
+    sends_in (if between then after_stop (if between then ending_with setup stop both else ending_with setup stop one)
     else (if between then ending_with setup stop both else ending_with setup stop one))
     ≡ (if between then Idle else Ending one)
 ending_cases true setup stop both one = refl
@@ -131,13 +131,13 @@ going_on p heard slot waits sound later = record {
 }
 
 -- the rest of a halted play goes on, or is over
-ending_over : (p : Pacing) (heard slot : ℕ) → IsSound (Ending p) true heard → heard < slot → stands_at_boundary (stepped true slot p) ≡ true
+ending_over : (p : Pacing) (heard slot : ℕ) → IsSound (Ending p) true heard → heard < slot → stands_at_boundary (after_step true slot p) ≡ true
     → GoesOn (Ending p) Idle heard slot false [] (plan_bytes p p.sent (due_by p slot))
 ending_over p heard slot sound later stands =
     let on : IsOnTime p heard = sound.0 in
     let through : IsOnTime (sent_through slot p) slot = through_time p heard slot on later in
-    let one : Pacing = stepped true slot p in
-    let inside : p.before + p.sent ≤ length (framed p.pieces) = omega (arith, on.pacing.whole, on.pacing.most, on.pacing.due, on.pacing.sent) in
+    let one : Pacing = after_step true slot p in
+    let inside : p.before + p.sent ≤ length (framed_bytes p.pieces) = omega (arith, on.pacing.whole, on.pacing.most, on.pacing.due, on.pacing.sent) in
     let next = boundary-from p.pieces (p.before + p.sent) inside in
     let boundary : IsBoundary p.pieces (p.before + one.sent) = stands_here one (stopped_is slot p on.pacing) stands in
     let least : p.before + p.keep ≤ p.before + one.sent = sound.2 (p.before + one.sent) boundary (omega (arith, next.after, on.pacing.sent)) in
@@ -162,8 +162,8 @@ ending_on p heard slot sound later = record {
   rest = λ askings end more on is. through_film p slot end p.keep (plays_of askings) more sound.0.pacing is;
 }
 
-ending_either : (between : Bool) (p : Pacing) (heard slot : ℕ) → IsSound (Ending p) true heard → heard < slot → stands_at_boundary (stepped true slot p) ≡ between
-    → GoesOn (Ending p) (if between then Idle else Ending (stepped true slot p)) heard slot (if between then false else true) [] (plan_bytes p p.sent (due_by p slot))
+ending_either : (between : Bool) (p : Pacing) (heard slot : ℕ) → IsSound (Ending p) true heard → heard < slot → stands_at_boundary (after_step true slot p) ≡ between
+    → GoesOn (Ending p) (if between then Idle else Ending (after_step true slot p)) heard slot (if between then false else true) [] (plan_bytes p p.sent (due_by p slot))
 ending_either true p heard slot sound later stands = ending_over p heard slot sound later stands
 ending_either false p heard slot sound later stands =
     subst (λ q. GoesOn (Ending p) (Ending q) heard slot true [] (plan_bytes p p.sent (due_by p slot))) (sym (slot_is true false slot p sound.0.pacing stands))
@@ -180,9 +180,9 @@ slot_goes Init waits heard slot text sending sound later = absurd (true≢false 
 slot_goes (Ready setup paused) waits heard slot text sending sound later = absurd (true≢false (sym sending))
 slot_goes (Playing setup play) waits heard slot text sending sound later =
     let p : Pacing = play.pacer in
-    let one : Pacing = stepped true slot p in
+    let one : Pacing = after_step true slot p in
     let sends : sends_in (state_after waits (Playing setup play) slot) ≡ Going (sent_through slot p) =
-    going_cases waits (stands_at_boundary one) setup play (stepped false slot one) one (stepped false slot p)
+    going_cases waits (stands_at_boundary one) setup play (after_step false slot one) one (after_step false slot p)
     ∙ ap Going (slot_is waits (stands_at_boundary one) slot p sound.0.pacing refl) in
     let last : Bool = waits_after waits (Playing setup play) slot in
     subst (λ s. GoesOn (Going p) s heard slot last [] (film_bytes (parts_of waits (Playing setup play) text slot))) (sym sends)
@@ -191,9 +191,9 @@ slot_goes (Playing setup play) waits heard slot text sending sound later =
 slot_goes (Stopping setup stop) false heard slot text sending sound later = absurd (true≢false (sym sound.1))
 slot_goes (Stopping setup stop) true heard slot text sending sound later =
     let p : Pacing = stop.pacer in
-    let one : Pacing = stepped true slot p in
+    let one : Pacing = after_step true slot p in
     let last : Bool = waits_after true (Stopping setup stop) slot in
     subst (λ s. GoesOn (Ending p) s heard slot last [] (film_bytes (parts_of true (Stopping setup stop) text slot)))
-    (sym (ending_cases (stands_at_boundary one) setup stop (stepped false slot one) one))
+    (sym (ending_cases (stands_at_boundary one) setup stop (after_step false slot one) one))
     (subst (GoesOn (Ending p) (if stands_at_boundary one then Idle else Ending one) heard slot last []) (sym (film_of true p text slot sound.0.pacing))
     (ending_either (stands_at_boundary one) p heard slot sound later refl))

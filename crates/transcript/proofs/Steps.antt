@@ -2,7 +2,7 @@
 use Rattle.std.proofs.Common.{◌≡◌, ℕ, ◌+◌, ◌<◌, ◌≤◌, ◌++◌, Bool, true, List, [], ◌∷◌, length, take, refl, ap, sym, ◌∙◌, subst, arith}
 use Rattle.std.proofs.lemmas.List.{append_assoc}
 use Rattle.film_frames.specs.Runs.{run_pieces}
-use Rattle.film_frames.specs.Tracks.{IsBoundary, framed}
+use Rattle.film_frames.specs.Tracks.{IsBoundary, framed_bytes}
 use Rattle.pacer.specs.Boundaries.{boundary_from}
 use Rattle.pacer.specs.Pacings.{IsPacing, Pacing, first_slots, next_boundary, whole_pacing}
 use Rattle.pacer.proofs.PacingLemmas.{boundary-from}
@@ -15,7 +15,7 @@ use Rattle.session.specs.declared.states.Prepared.{Prepared}
 use Rattle.session.specs.Standings.{Standing}
 use Rattle.conn.specs.Turns.{Outcome}
 use Rattle.conn.proofs.Filming.{few_slots}
-use Rattle.transcript.specs.Plays.{Asking, Asks, admitted, begun, kept_by, kept_in, kept_with, plays_of}
+use Rattle.transcript.specs.Plays.{Asking, Asks, plays_admitted, plays_begun, kept_by, kept_in, kept_with, plays_of}
 use Rattle.transcript.proofs.Films.{IsFilm, IsRest, IsSound, film_in, play_with}
 use Rattle.transcript.proofs.Turning.{Begins, Ends, Ending, Going, Halts, Idle, IsStill, Sends, Starts, Stays, TurnsAs, pacing_for, sends_in}
 
@@ -76,9 +76,9 @@ begin_film prepared start plan askings end more same is =
 begin_rest : (old new : Standing) (asked : Awaited) (outcome : Outcome) (begins : Begins old asked outcome new) (askings : List Asking) (end : ℕ)
     (more : List ℕ) → IsRest (Going (pacing_for begins.prepared begins.start)) askings end more → IsRest Idle (Asks asked outcome ∷ askings) end more
 begin_rest old new asked outcome begins askings end more is =
-    let made : begun asked outcome askings ≡ admitted (Play begins.prepared) (Admitted begins.start) askings =
-    ap (λ o. begun asked o askings) begins.outcome_is ∙ ap (λ a. admitted a begins.placed.entry.answer askings) begins.asked_is
-    ∙ ap (λ a. admitted (Play begins.prepared) a askings) begins.answer in
+    let made : plays_begun asked outcome askings ≡ plays_admitted (Play begins.prepared) (Admitted begins.start) askings =
+    ap (λ o. plays_begun asked o askings) begins.outcome_is ∙ ap (λ a. plays_admitted a begins.placed.entry.answer askings) begins.asked_is
+    ∙ ap (λ a. plays_admitted (Play begins.prepared) a askings) begins.answer in
     subst (λ ps. IsFilm end (ps ++ plays_of askings) more) (sym made)
     (begin_film begins.prepared begins.start begins.prepared.plan askings end more begins.paced is)
 
@@ -86,9 +86,9 @@ begin_rest old new asked outcome begins askings end more is =
 halted_pacing : (p : Pacing) (slot : ℕ) → IsSound (Going p) true slot → IsSound (Ending (record p { keep = next_boundary p })) true slot
 halted_pacing p slot is =
     let on = is.0 in
-    let inside : p.before + p.sent ≤ length (framed p.pieces) = omega (arith, on.pacing.whole, on.pacing.most, on.pacing.due, on.even) in
+    let inside : p.before + p.sent ≤ length (framed_bytes p.pieces) = omega (arith, on.pacing.whole, on.pacing.most, on.pacing.due, on.even) in
     let next = boundary-from p.pieces (p.before + p.sent) inside in
-    let end : p.before + p.keep ≡ length (framed p.pieces) = omega (arith, on.pacing.whole, is.1) in
+    let end : p.before + p.keep ≡ length (framed_bytes p.pieces) = omega (arith, on.pacing.whole, is.1) in
     let most : boundary_from p.pieces (p.before + p.sent) ≤ p.before + p.keep =
     next.least (p.before + p.keep) on.pacing.ends (omega (arith, on.pacing.due, on.even)) in
     let place : p.before + next_boundary p ≡ boundary_from p.pieces (p.before + p.sent) = omega (arith, next.after) in
@@ -119,7 +119,7 @@ halt_rest old new asked outcome halts askings end more is =
     let kept : kept_with outcome (kept_in askings (total_bytes p.plan)) ≡ next_boundary p =
     ap (λ o. kept_with o (kept_in askings (total_bytes p.plan))) halts.outcome_is
     ∙ ap (λ c. kept_by c (kept_in askings (total_bytes p.plan))) halts.command in
-    subst (λ k. IsFilm end (play_with p k ∷ (begun asked outcome askings ++ plays_of askings)) (take p.sent (film_in p) ++ more)) (sym kept)
+    subst (λ k. IsFilm end (play_with p k ∷ (plays_begun asked outcome askings ++ plays_of askings)) (take p.sent (film_in p) ++ more)) (sym kept)
     (subst (λ ps. IsFilm end (play_with p (next_boundary p) ∷ (ps ++ plays_of askings)) (take p.sent (film_in p) ++ more)) (sym (halts.none askings)) is)
 
 -- a request and its answer

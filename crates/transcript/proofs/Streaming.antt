@@ -4,7 +4,7 @@ use Rattle.std.proofs.lemmas.Bool.{cases_lt, le-leb, lt-leb}
 use Rattle.std.proofs.lemmas.List.{append-nil, length-take-le, take-append-le, take-append-drop, take_all}
 use Rattle.std.proofs.Math.Seq.{drop-append-add, take-append-add}
 use Rattle.film_frames.specs.Runs.{count_ended}
-use Rattle.film_frames.specs.Tracks.{framed}
+use Rattle.film_frames.specs.Tracks.{framed_bytes}
 use Rattle.interleave.specs.Streams.{AreCut, IsPieceLength, IsStream, LineEnd, WholeBlock, WholeRequest}
 use Rattle.interleave.proofs.Streams.{cut_more, cuts_agree, piece_once, piece_stays, piece_within}
 
@@ -53,28 +53,28 @@ stream-short p t c alone less =
     (same, none)
 
 -- a front of a stream is its whole pieces in front, and the front of the next one
-pub cut-at : (ps : List (List ℕ)) (c : ℕ) → AreAlone ps → IsStream (take c (framed ps)) (take (count_ended c ps) ps) (rest_at c ps)
+pub cut-at : (ps : List (List ℕ)) (c : ℕ) → AreAlone ps → IsStream (take c (framed_bytes ps)) (take (count_ended c ps) ps) (rest_at c ps)
 cut-at [] c alone = let P : List ℕ → Type 0 = λ xs. IsStream xs [] [] in subst P (sym (take-none c [] refl)) (refl, no-piece)
 cut-at (p ∷ ps) c alone =
     elim (cases_lt c (length p)) [
       | inl less ↦
           let count : count_ended c (p ∷ ps) ≡ 0 = ap (λ b. cond b (count_ended (c - length p) ps + 1) 0) (lt-leb (length p) c less) in
           let rest : rest_at c (p ∷ ps) ≡ take c p = ap (λ b. cond b (rest_at (c - length p) ps) (take c p)) (lt-leb (length p) c less) in
-          let P : ℕ → Type 0 = λ k. IsStream (take c (p ++ framed ps)) (take k (p ∷ ps)) (rest_at c (p ∷ ps)) in
-          let Q : List ℕ → Type 0 = λ r. IsStream (take c (p ++ framed ps)) [] r in
-          subst P (sym count) (subst Q (sym rest) (stream-short p (framed ps) c alone.0 less))
+          let P : ℕ → Type 0 = λ k. IsStream (take c (p ++ framed_bytes ps)) (take k (p ∷ ps)) (rest_at c (p ∷ ps)) in
+          let Q : List ℕ → Type 0 = λ r. IsStream (take c (p ++ framed_bytes ps)) [] r in
+          subst P (sym count) (subst Q (sym rest) (stream-short p (framed_bytes ps) c alone.0 less))
       | inr more ↦
           let d = c - length p in
           let sum : c ≡ length p + d = omega (arith, more) in
           let count : count_ended c (p ∷ ps) ≡ suc (count_ended d ps) =
           ap (λ b. cond b (count_ended d ps + 1) 0) (le-leb (length p) c more) ∙ omega arith in
           let rest : rest_at c (p ∷ ps) ≡ rest_at d ps = ap (λ b. cond b (rest_at d ps) (take c p)) (le-leb (length p) c more) in
-          let bytes : take c (p ++ framed ps) ≡ p ++ take d (framed ps) = ap (λ n. take n (p ++ framed ps)) sum ∙ take-append-add p (framed ps) d in
-          let P : ℕ → Type 0 = λ k. IsStream (take c (p ++ framed ps)) (take k (p ∷ ps)) (rest_at c (p ∷ ps)) in
-          let Q : List ℕ → Type 0 = λ r. IsStream (take c (p ++ framed ps)) (p ∷ take (count_ended d ps) ps) r in
+          let bytes : take c (p ++ framed_bytes ps) ≡ p ++ take d (framed_bytes ps) = ap (λ n. take n (p ++ framed_bytes ps)) sum ∙ take-append-add p (framed_bytes ps) d in
+          let P : ℕ → Type 0 = λ k. IsStream (take c (p ++ framed_bytes ps)) (take k (p ∷ ps)) (rest_at c (p ∷ ps)) in
+          let Q : List ℕ → Type 0 = λ r. IsStream (take c (p ++ framed_bytes ps)) (p ∷ take (count_ended d ps) ps) r in
           let R : List ℕ → Type 0 = λ xs. IsStream xs (p ∷ take (count_ended d ps) ps) (rest_at d ps) in
           subst P (sym count) (subst Q (sym rest) (subst R (sym bytes)
-          (stream-cons p (take d (framed ps)) (take (count_ended d ps) ps) (rest_at d ps) alone.0 (cut-at ps d alone.1))))
+          (stream-cons p (take d (framed_bytes ps)) (take (count_ended d ps) ps) (rest_at d ps) alone.0 (cut-at ps d alone.1))))
     ]
 
 front-is : (rest end : List ℕ) (all cut more : List (List ℕ)) → cut ≡ all ++ more → AreCut rest more end → ((n : ℕ) → IsPieceLength rest n → ⊥)
@@ -83,7 +83,7 @@ front-is rest end all cut [] is are none = ([], sym (append-nil cut ∙ is ∙ a
 front-is rest end all cut (piece ∷ more) is are none = absurd (none are.0 are.1.0)
 
 -- whatever was cut is a front of the pieces
-pub cut-front : (ps : List (List ℕ)) (c : ℕ) (bytes : List ℕ) (cut : List (List ℕ)) (rest : List ℕ) (n : ℕ) → AreAlone ps → bytes ≡ take c (framed ps)
+pub cut-front : (ps : List (List ℕ)) (c : ℕ) (bytes : List ℕ) (cut : List (List ℕ)) (rest : List ℕ) (n : ℕ) → AreAlone ps → bytes ≡ take c (framed_bytes ps)
     → AreCut bytes cut rest → IsPieceLength rest n → ((more : List (List ℕ)) × (take (count_ended c ps) ps ≡ (cut ++ take n rest ∷ []) ++ more))
 cut-front ps c bytes cut rest n alone is are next =
     let all = take (count_ended c ps) ps in

@@ -2,9 +2,9 @@
 use Rattle.std.proofs.Common.{◌≡◌, ℕ, zero, suc, ◌+◌, ◌<◌, ◌≤◌, ◌⊎◌, ◌==◌, ◌&&◌, Bool, true, false, not, nat_lt, if◌then◌else◌, List, [], ◌∷◌, ◌++◌, length, take, drop, get_or, unwrap_or, refl, sym, subst, ◌∙◌, append_assoc, arith, inl, inr}
 use Rattle.std.proofs.lemmas.Bool.{cond-true, cond-false, ne_eqb}
 use Rattle.std.proofs.lemmas.List.{append-nil, length-append}
-use Rattle.film_frames.specs.Tracks.{framed}
+use Rattle.film_frames.specs.Tracks.{framed_bytes}
 use Rattle.rtsp_client.specs.Replies.{play_range}
-use Rattle.rtsp_client.specs.Moments.{History, Moment, Frame, Reply, Report, Slot, end_ms, first_frame, frames, is_inside, is_last, payloads, pending, received, replies, sizes}
+use Rattle.rtsp_client.specs.Moments.{History, Moment, Frame, Reply, Report, Slot, end_ms, first_frame, frames, is_inside, is_last, payloads, bytes_pending, bytes_received, replies, sizes}
 use Rattle.rtsp_client.specs.Answers.{after, moments_in, moments_of, payloads_of}
 
 pub record Sum : Type 0 where
@@ -22,8 +22,8 @@ abbrev pub sum_of : History → Sum
 sum_of h = record {
   replies = replies h;
   frames = frames h;
-  received = received h;
-  pending = pending h;
+  bytes_received = bytes_received h;
+  bytes_pending = bytes_pending h;
   sizes = sizes h;
   inside = is_inside h;
   end_ms = end_ms h;
@@ -41,16 +41,16 @@ step (Reply m) s = record s {
 }
 step (Frame b) s = record s {
   frames = s.frames + 1;
-  received = s.received + length b;
-  pending = if is_last b then 0 else s.pending + length b;
+  bytes_received = s.received + length b;
+  bytes_pending = if is_last b then 0 else s.pending + length b;
   sizes = if is_last b then s.sizes ++ (s.pending + length b) ∷ [] else s.sizes;
   inside = not (is_last b);
   first = if s.frames == 0 then b else s.first;
   payloads = s.payloads ++ drop 20 b;
 }
 step (Report b) s = record s {
-  received = if plays s then s.received + length b else s.received;
-  pending = if plays s && not s.inside then s.pending + length b else s.pending;
+  bytes_received = if plays s then s.received + length b else s.received;
+  bytes_pending = if plays s && not s.inside then s.pending + length b else s.pending;
 }
 step (Slot t cut) s = s
 
@@ -125,17 +125,17 @@ blocks-same (b ∷ bs) s are = same-one b (moments_in bs) s are.0.moment (λ t. 
 
 -- the bytes of all are received
 received-one : (b : List ℕ) (bs : List (List ℕ)) (s : Sum) → (moments_of b ≡ Frame b ∷ []) ⊎ (moments_of b ≡ Report b ∷ []) → plays s ≡ true
-    → ((t : Sum) → plays t ≡ true → (steps t (moments_in bs)).received ≡ t.received + length (framed bs))
-    → (steps s (moments_of b ++ moments_in bs)).received ≡ s.received + length (framed (b ∷ bs))
+    → ((t : Sum) → plays t ≡ true → (steps t (moments_in bs)).received ≡ t.received + length (framed_bytes bs))
+    → (steps s (moments_of b ++ moments_in bs)).received ≡ s.received + length (framed_bytes (b ∷ bs))
 received-one b bs s (inl frame) on rest =
-    let P : List Moment → Type 0 = λ l. (steps s (l ++ moments_in bs)).received ≡ s.received + length (b ++ framed bs) in
-    subst P (sym frame) (omega (arith, rest (step (Frame b) s) on, length-append b (framed bs)))
+    let P : List Moment → Type 0 = λ l. (steps s (l ++ moments_in bs)).received ≡ s.received + length (b ++ framed_bytes bs) in
+    subst P (sym frame) (omega (arith, rest (step (Frame b) s) on, length-append b (framed_bytes bs)))
 received-one b bs s (inr report) on rest =
-    let P : List Moment → Type 0 = λ l. (steps s (l ++ moments_in bs)).received ≡ s.received + length (b ++ framed bs) in
+    let P : List Moment → Type 0 = λ l. (steps s (l ++ moments_in bs)).received ≡ s.received + length (b ++ framed_bytes bs) in
     let one = cond-true (plays s) (s.received + length b) s.received on in
-    subst P (sym report) (omega (arith, rest (step (Report b) s) on, one, length-append b (framed bs)))
+    subst P (sym report) (omega (arith, rest (step (Report b) s) on, one, length-append b (framed_bytes bs)))
 
-pub blocks-received : (bs : List (List ℕ)) (s : Sum) → AreOneBlocks bs → plays s ≡ true → (steps s (moments_in bs)).received ≡ s.received + length (framed bs)
+pub blocks-received : (bs : List (List ℕ)) (s : Sum) → AreOneBlocks bs → plays s ≡ true → (steps s (moments_in bs)).received ≡ s.received + length (framed_bytes bs)
 blocks-received [] s are on = omega arith
 blocks-received (b ∷ bs) s are on = received-one b bs s are.0.moment on (λ t still. blocks-received bs t are.1 still)
 

@@ -13,7 +13,7 @@ use Rattle.mpeg_scan.specs.Codes.{read}
 use Rattle.mpeg_scan.specs.Rates.{picture_time}
 use Rattle.mpeg_scan.proofs.BoundLemmas.{film-rate}
 use Rattle.session.specs.Films.{length_ms}
-use Rattle.session.specs.Replies.{field, joined, play_fields, play_text}
+use Rattle.session.specs.Replies.{field, joined_parts, play_fields, play_text}
 use Rattle.transcript.specs.Replied.{IsPlayRead}
 use Rattle.plan_cert.proofs.Decimals.{number_of-decimal, no_leading_zero}
 use Rattle.vod_base.specs.Numbers.{number_of}
@@ -176,7 +176,7 @@ named-read message id info sequence end_ms slots size plain is small short some 
 zero-text : seconds_text 0 ≡ codes "0.000"
 zero-text = seconds-is 0 ∙ ap (λ d. d ++ 46 ∷ 48 ∷ 48 ∷ 48 ∷ []) (decimal_digit 0 (omega arith))
 
-range-text : (end_ms : ℕ) → joined (codes "npt=" ∷ seconds_text 0 ∷ codes "-" ∷ seconds_text end_ms ∷ []) ≡ codes "npt=0.000-" ++ seconds_text end_ms
+range-text : (end_ms : ℕ) → joined_parts (codes "npt=" ∷ seconds_text 0 ∷ codes "-" ∷ seconds_text end_ms ∷ []) ≡ codes "npt=0.000-" ++ seconds_text end_ms
 range-text end_ms =
     ap (λ z. codes "npt=" ++ (z ++ (codes "-" ++ (seconds_text end_ms ++ [])))) zero-text
     ∙ ap (λ l. codes "npt=0.000-" ++ l) (append-nil (seconds_text end_ms))
@@ -186,7 +186,7 @@ pub play-read : (message id authority name : List ℕ) (sequence end_ms number t
     → All IsPlain (all_fields (Some sequence) (play_fields id 0 end_ms authority name number time ++ field (codes "x-Start") (decimal slots) ∷ []))
     → sequence < 2 ^ 64 → end_ms < 2 ^ 64 → 1 ≤ slots → slots ≤ 2 ^ 62 + 1 → IsPlayRead message id sequence end_ms slots
 play-read message id authority name sequence end_ms number time slots size is plain small short some few =
-    let info : List ℕ = joined (codes "url=rtsp://" ∷ authority ∷ codes "/" ∷ name ∷ codes "/video;seq=" ∷ decimal number ∷ codes ";rtptime=" ∷ decimal time ∷ []) in
+    let info : List ℕ = joined_parts (codes "url=rtsp://" ∷ authority ∷ codes "/" ∷ name ∷ codes "/video;seq=" ∷ decimal number ∷ codes ";rtptime=" ∷ decimal time ∷ []) in
     let P : List ℕ → Type 0 = λ r. All IsPlain (all_fields (Some sequence) (play_named id r info slots)) in
     named-read message id info sequence end_ms slots size (subst P (range-text end_ms) plain)
     (is ∙ ap (λ r. reply_text 200 (Some sequence) (play_named id r info slots) []) (range-text end_ms)) small short some few

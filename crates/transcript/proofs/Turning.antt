@@ -28,7 +28,7 @@ use Rattle.session.specs.Sendings.{admitted_in, halted_in, next_of, state_after}
 use Rattle.session.specs.Standings.{Standing}
 use Rattle.session.specs.Steps.{IsPlayIn}
 use Rattle.conn.specs.Turns.{HasHeard, IsAnswered, IsHaltAnswered, IsHalted, IsLookAnswered, IsPlayAnswered, Outcome, Unasked, Entered, WasFull, Offered}
-use Rattle.transcript.specs.Plays.{Asking, admitted, begun, booked_by, kept_by, kept_with}
+use Rattle.transcript.specs.Plays.{Asking, plays_admitted, plays_begun, booked_by, kept_by, kept_with}
 use Rattle.session.proofs.Shapes.{HearsAs, Replies, SetsUp, AsksPlay, Stops, AsksLook, AsksOffer, hears_as}
 
 -- what of a film is being sent: nothing, a play, or the rest of one that was halted
@@ -58,7 +58,7 @@ told_by (Offered at_slot note) made = []
 
 -- neither begins nor halts a play
 pub record IsStill (asked : Awaited) (outcome : Outcome) : Type 0 where
-  pub none : (later : List Asking) → begun asked outcome later ≡ []
+  pub none : (later : List Asking) → plays_begun asked outcome later ≡ []
   pub kept : (later : ℕ) → kept_with outcome later ≡ later
   pub untold : (made : List Placed) → told_by outcome made ≡ []
 
@@ -89,7 +89,7 @@ pub record Halts (old : Standing) (asked : Awaited) (outcome : Outcome) (new : S
   pub outcome_is : outcome ≡ Entered placed
   pub command : placed.entry.command ≡ HaltCommand number (next_boundary pacing)
   pub answer : placed.entry.answer ≡ Halted
-  pub none : (later : List Asking) → begun asked outcome later ≡ []
+  pub none : (later : List Asking) → plays_begun asked outcome later ≡ []
   pub sends : sends_in new.state ≡ Ending (record pacing { keep = next_boundary pacing })
 
 pub data TurnsAs (old : Standing) (asked : Awaited) (outcome : Outcome) (new : Standing) : Type 0 where
@@ -163,7 +163,7 @@ play_turns old setup paused prepared placed (Overflow slot booked asks) asked ne
       awaited = ap (λ (s : Standing). s.awaited) answered;
       waits = ap (λ (s : Standing). s.waits) answered;
     }) (record {
-      none = λ later. ap (λ a. admitted a placed.entry.answer later) awaited ∙ ap (λ a. admitted (Play prepared) a later) is;
+      none = λ later. ap (λ a. plays_admitted a placed.entry.answer later) awaited ∙ ap (λ a. plays_admitted (Play prepared) a later) is;
       kept = λ later. ap (λ c. kept_by c later) command;
       untold = λ made. ap (λ c. booked_by (play_admitted c placed.entry.answer) made) command
           ∙ ap (λ a. booked_by (play_admitted (play_of asked.heard prepared.plan) a) made) is;
@@ -220,7 +220,7 @@ halt_turns old setup play keep next placed asked new halted playing told keep_is
       outcome_is = refl;
       command = halted.command ∙ ap (λ k. HaltCommand halted.number k) keep_is;
       answer = halted.answer;
-      none = λ later. ap (λ a. admitted a placed.entry.answer later) awaited;
+      none = λ later. ap (λ a. plays_admitted a placed.entry.answer later) awaited;
       sends = ap (λ (s : Standing). sends_in s.state) is ∙ ap sends_in (halt_state asked.state asked.awaited setup stopped keep next state awaited)
           ∙ stopped_sends setup stopped next told ∙ ap (λ k. Ending (record play.pacer { keep = k })) keep_is;
     })
@@ -245,7 +245,7 @@ look_answered old placed (Looked now at booked) sequence asked new command answe
       awaited = ap (λ (s : Standing). s.awaited) answered;
       waits = ap (λ (s : Standing). s.waits) answered;
     }) (record {
-      none = λ later. ap (λ a. admitted a placed.entry.answer later) awaited;
+      none = λ later. ap (λ a. plays_admitted a placed.entry.answer later) awaited;
       kept = λ later. ap (λ c. kept_by c later) command;
       untold = λ made. ap (λ c. booked_by (play_admitted c placed.entry.answer) made) command;
     })

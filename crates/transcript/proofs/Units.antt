@@ -14,7 +14,7 @@ use Rattle.rtp_pack.specs.Packets.{IsLaid, packets_from, slice_packets, unit_len
 use Rattle.rtp_pack.proofs.MarkLemmas.{last-marked}
 use Rattle.rtp_pack.proofs.UnitLemmas.{packets-are, packets-cover}
 use Rattle.film_frames.specs.Laws.{frames_among}
-use Rattle.film_frames.specs.Tracks.{framed}
+use Rattle.film_frames.specs.Tracks.{framed_bytes}
 use Rattle.film_frames.specs.Pieces.{pieces_of, unit_pieces, wire_in, wire_size}
 use Rattle.film_frames.specs.Runs.{Run, blocks_from, count_ended}
 use Rattle.film_frames.proofs.PieceLemmas.{pieces-cons, unit-sound, unit-wire}
@@ -62,7 +62,7 @@ pub record IsUnitDone (s : Sum) (size : ℕ) (t : Sum) : Type 0 where
   pub inside : t.inside ≡ false
 
 whole-frames : (run : Run) (f : ℕ) (unit : PictureUnit) (packets : List Packet) (s : Sum) → run.identity.channel ≡ 0 → IsLastMarked packets → 0 < length packets
-    → IsUnitDone s (s.pending + length (framed (frame_blocks run unit f packets))) (steps s (moments_in (frame_blocks run unit f packets)))
+    → IsUnitDone s (s.pending + length (framed_bytes (frame_blocks run unit f packets))) (steps s (moments_in (frame_blocks run unit f packets)))
 whole-frames run f unit [] s media marked some = absurd (omega (arith, some))
 whole-frames run f unit (p ∷ []) s media marked some =
     let b = frame_block run unit p f in
@@ -82,10 +82,10 @@ whole-frames run f unit (p ∷ (q ∷ packets)) s media marked some =
     let rest = whole-frames run (f + 1) unit (q ∷ packets) t media marked.1 (omega arith) in
     let sizes_same = cond-false (is_last b) (s.sizes ++ (s.pending + length b) ∷ []) s.sizes last in
     let pending_is = cond-false (is_last b) 0 (s.pending + length b) last in
-    let size : t.pending + length (framed blocks) ≡ s.pending + length (b ++ framed blocks) = omega (arith, pending_is, length-append b (framed blocks)) in
-    frame-sizes b blocks s (λ u. IsUnitDone s (s.pending + length (b ++ framed blocks)) u) (frame-moment run f unit p media)
+    let size : t.pending + length (framed_bytes blocks) ≡ s.pending + length (b ++ framed_bytes blocks) = omega (arith, pending_is, length-append b (framed_bytes blocks)) in
+    frame-sizes b blocks s (λ u. IsUnitDone s (s.pending + length (b ++ framed_bytes blocks)) u) (frame-moment run f unit p media)
     (record {
-      sizes = rest.sizes ∙ (ap (λ l. l ++ (t.pending + length (framed blocks)) ∷ []) sizes_same ∙ ap (λ n. s.sizes ++ n ∷ []) size);
+      sizes = rest.sizes ∙ (ap (λ l. l ++ (t.pending + length (framed_bytes blocks)) ∷ []) sizes_same ∙ ap (λ n. s.sizes ++ n ∷ []) size);
       pending = rest.pending;
       inside = rest.inside;
     })
@@ -109,11 +109,11 @@ both-true false b one two = one
 
 whole-unit : (starts : Bool) (run : Run) (f o : ℕ) (unit : PictureUnit) (packets : List Packet) (s : Sum) → run.identity.channel ≡ 0 → run.identity.control ≡ 1
     → IsLastMarked packets → 0 < length packets → plays s ≡ true → s.pending ≡ 0 → s.inside ≡ false
-    → IsUnitDone s (length (framed (report_if starts run unit f o ++ frame_blocks run unit f packets)))
+    → IsUnitDone s (length (framed_bytes (report_if starts run unit f o ++ frame_blocks run unit f packets)))
     (steps s (moments_in (report_if starts run unit f o ++ frame_blocks run unit f packets)))
 whole-unit false run f o unit packets s media control marked some on none outside =
     let done = whole-frames run f unit packets s media marked some in
-    let size : s.pending + length (framed (frame_blocks run unit f packets)) ≡ length (framed (frame_blocks run unit f packets)) = omega (arith, none) in
+    let size : s.pending + length (framed_bytes (frame_blocks run unit f packets)) ≡ length (framed_bytes (frame_blocks run unit f packets)) = omega (arith, none) in
     record {
       sizes = done.sizes ∙ ap (λ n. s.sizes ++ n ∷ []) size;
       pending = done.pending;
@@ -125,8 +125,8 @@ whole-unit true run f o unit packets s media control marked some on none outside
     let blocks = frame_blocks run unit f packets in
     let done = whole-frames run f unit packets t media marked some in
     let waits : t.pending ≡ s.pending + length b = cond-true (plays s && not s.inside) (s.pending + length b) s.pending (both-true (plays s) (not s.inside) on (ap not outside)) in
-    let size : t.pending + length (framed blocks) ≡ length (b ++ framed blocks) = omega (arith, waits, none, length-append b (framed blocks)) in
-    report-sizes b blocks s (λ u. IsUnitDone s (length (b ++ framed blocks)) u) (report-moment run f o unit control)
+    let size : t.pending + length (framed_bytes blocks) ≡ length (b ++ framed_bytes blocks) = omega (arith, waits, none, length-append b (framed_bytes blocks)) in
+    report-sizes b blocks s (λ u. IsUnitDone s (length (b ++ framed_bytes blocks)) u) (report-moment run f o unit control)
     (record {
       sizes = done.sizes ∙ ap (λ n. s.sizes ++ n ∷ []) size;
       pending = done.pending;
@@ -168,12 +168,12 @@ unit-marked : (starts : List ℕ) (unit : PictureUnit) → IsLaid starts unit �
 unit-marked starts unit laid = last-marked starts unit (unit_packets starts unit) (packets-are starts unit laid) (packets-cover starts unit laid)
 
 unit-size : (run : Run) (f o : ℕ) (starts : List ℕ) (unit : PictureUnit) → IsLaid starts unit → unit.to ≤ length run.film
-    → length (framed (unit_blocks run starts unit f o)) ≡ wire_size starts unit
+    → length (framed_bytes (unit_blocks run starts unit f o)) ≡ wire_size starts unit
 unit-size run f o starts unit laid short =
     let pieces = unit_pieces starts unit in
     let sound = unit-sound run.film starts unit laid short in
     let n = length (blocks_from run f o pieces) in
-    ap (λ bs. length (framed bs)) (sym (unit-made run f o starts unit))
+    ap (λ bs. length (framed_bytes bs)) (sym (unit-made run f o starts unit))
     ∙ (sym (begin-all (blocks_from run f o pieces)) ∙ (blocks_from-begin run f o pieces n sound
     ∙ (ap (λ l. wire_in l) (take_all n pieces (omega (arith, blocks_from-count run f o pieces))) ∙ unit-wire starts unit laid)))
 
@@ -216,7 +216,7 @@ units-come run f o c starts (unit ∷ units) s media control laid on none outsid
     let ys = blocks_from run f2 o2 (pieces_of starts units) in
     let w = wire_size starts unit in
     let sizes = map (λ u. wire_size starts u) units in
-    let size : length (framed xs) ≡ w = unit-size run f o starts unit laid.0.1 laid.0.0 in
+    let size : length (framed_bytes xs) ≡ w = unit-size run f o starts unit laid.0.1 laid.0.0 in
     let marked = unit-marked starts unit laid.0.1 in
     let some : 0 < length (unit_packets starts unit) = packets-some unit (first_piece unit.from unit.head_end) (unit_lengths starts unit) in
     let Q : List (List ℕ) → Type 0 = λ bs. HasCome (w ∷ sizes) c s (steps s (moments_in (take (count_ended c bs) bs))) in
@@ -235,11 +235,11 @@ units-come run f o c starts (unit ∷ units) s media control laid on none outsid
             next = λ l. omega (arith, less, sum-first w (take 0 sizes));
           }))
       | inr more ↦
-          let d = c - length (framed xs) in
+          let d = c - length (framed_bytes xs) in
           let k = count_ended d ys in
           let past : count_ended c (xs ++ ys) ≡ length xs + k = count-past xs ys c (omega (arith, more, size)) in
           let t = steps s (moments_in xs) in
-          let done : IsUnitDone s (length (framed xs)) t = whole-unit unit.starts_group run f o unit (unit_packets starts unit) s media control marked some on none outside in
+          let done : IsUnitDone s (length (framed_bytes xs)) t = whole-unit unit.starts_group run f o unit (unit_packets starts unit) s media control marked some on none outside in
           let same = blocks-same xs s (unit-one run f o starts unit media control) in
           let still : plays t ≡ true = ap (λ n. nat_lt 1 n) same.replies ∙ on in
           let come = units-come run f2 o2 d starts units t media control laid.1 still done.pending done.inside in

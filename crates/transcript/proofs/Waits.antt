@@ -2,9 +2,9 @@
 use Rattle.std.proofs.Common.{◌≡◌, ℕ, ◌+◌, ◌-◌, ◌<◌, ◌≤◌, ◌++◌, if◌then◌else◌, Bool, true, false, min, List, [], ◌∷◌, Option, Some, None, length, drop, refl, ap, sym, ◌∙◌, subst, inl, inr, arith, eq-eqb}
 use Rattle.std.proofs.lemmas.Bool.{cases_lt, true≢false}
 use Rattle.std.proofs.lemmas.List.{append_assoc, length-take, length-drop}
-use Rattle.film_frames.specs.Tracks.{IsBoundary, IsBoundaryAfter, framed}
+use Rattle.film_frames.specs.Tracks.{IsBoundary, IsBoundaryAfter, framed_bytes}
 use Rattle.pacer.specs.Boundaries.{boundary_from}
-use Rattle.pacer.specs.Pacings.{IsPacing, Pacing, due_by, first_slots, next_boundary, plan_bytes, raised, stands_at_boundary, step_end, stepped}
+use Rattle.pacer.specs.Pacings.{IsPacing, Pacing, due_by, first_slots, next_boundary, plan_bytes, at_slot, stands_at_boundary, step_end, after_step}
 use Rattle.pacer.proofs.PacingLemmas.{boundary-from, boundary-is, first-slots-rise}
 use Rattle.plan_cert.specs.Slots.{total_bytes}
 use Rattle.conn.specs.Turns.{Part, Film, Text}
@@ -80,7 +80,7 @@ due_far p heard end on later =
 pub due_here : (p : Pacing) (heard : ℕ) → IsOnTime p heard → min (first_slots p.plan (heard + 1 - p.start)) p.keep ≡ p.sent
 due_here p heard on = sym (on.even ∙ on.pacing.due ∙ ap (λ n. min (first_slots p.plan n) p.keep) on.passed)
 
-inside_of : (p : Pacing) → IsPacing p → p.before + p.sent ≤ length (framed p.pieces)
+inside_of : (p : Pacing) → IsPacing p → p.before + p.sent ≤ length (framed_bytes p.pieces)
 inside_of p is = omega (arith, is.whole, is.most, is.due, is.sent)
 
 -- what was sent up to a boundary ends at one
@@ -126,11 +126,11 @@ at_here p heard on stands =
 -- how many bytes are sent up to a place
 size_to : (p : Pacing) (to : ℕ) → IsPacing p → p.sent ≤ to → to ≤ p.keep → p.sent + length (plan_bytes p p.sent to) ≡ to
 size_to p to is from most =
-    let rest : List ℕ = drop (p.before + p.sent) (framed p.pieces) in
+    let rest : List ℕ = drop (p.before + p.sent) (framed_bytes p.pieces) in
     omega (
       arith,
       length-take (p.before + to - (p.before + p.sent)) rest,
-      length-drop (p.before + p.sent) (framed p.pieces),
+      length-drop (p.before + p.sent) (framed_bytes p.pieces),
       is.whole,
       is.most,
       from,
@@ -140,10 +140,10 @@ size_to p to is from most =
 -- the parts of a slot
 abbrev pub parts_in : Bool → Bool → Pacing → ℕ → List ℕ → List Part
 parts_in waits between p slot text =
-    if waits then Film (plan_bytes p p.sent (step_end true (raised slot p)))
+    if waits then Film (plan_bytes p p.sent (step_end true (at_slot slot p)))
     ∷ (if between
-    then Text text ∷ Film (plan_bytes (stepped true slot p) (stepped true slot p).sent (step_end false (raised slot (stepped true slot p)))) ∷ [] else [])
-    else Film (plan_bytes p p.sent (step_end false (raised slot p))) ∷ []
+    then Text text ∷ Film (plan_bytes (after_step true slot p) (after_step true slot p).sent (step_end false (at_slot slot (after_step true slot p)))) ∷ [] else [])
+    else Film (plan_bytes p p.sent (step_end false (at_slot slot p))) ∷ []
 
 abbrev pub after_slot : Bool → Option ℕ → Option ℕ
 after_slot between None = None
@@ -153,10 +153,10 @@ due_most : (p : Pacing) (slot : ℕ) → IsPacing p → due_by p slot ≤ p.keep
 due_most p slot is = omega (arith, is.due)
 
 -- the first boundary from what was due on is reached
-next_reached : (p : Pacing) (taken heard slot : ℕ) → IsPacing p → IsHeldUp p taken heard → stands_at_boundary (stepped true slot p) ≡ true
-    → IsAtNext (stepped true slot p) (min (first_slots p.plan (taken + 1 - p.start)) p.keep)
+next_reached : (p : Pacing) (taken heard slot : ℕ) → IsPacing p → IsHeldUp p taken heard → stands_at_boundary (after_step true slot p) ≡ true
+    → IsAtNext (after_step true slot p) (min (first_slots p.plan (taken + 1 - p.start)) p.keep)
 next_reached p taken heard slot is held stands =
-    let q : Pacing = stepped true slot p in
+    let q : Pacing = after_step true slot p in
     let next = boundary-from p.pieces (p.before + p.sent) (inside_of p is) in
     record {
       boundary = stands_here q (stopped_is slot p is) stands;
@@ -168,11 +168,11 @@ next_reached p taken heard slot is held stands =
     }
 
 -- or it isn't
-pub still_held : (p : Pacing) (taken heard slot : ℕ) → IsPacing p → heard < slot → IsHeldUp p taken heard → stands_at_boundary (stepped true slot p) ≡ false
+pub still_held : (p : Pacing) (taken heard slot : ℕ) → IsPacing p → heard < slot → IsHeldUp p taken heard → stands_at_boundary (after_step true slot p) ≡ false
     → IsHeldUp (sent_through slot p) taken slot
 still_held p taken heard slot is later held stands =
-    let q : Pacing = stepped true slot p in
-    let all : step_end true (raised slot p) ≡ due_by p slot = ap (λ (r : Pacing). r.sent) (slot_is true false slot p is stands) in
+    let q : Pacing = after_step true slot p in
+    let all : step_end true (at_slot slot p) ≡ due_by p slot = ap (λ (r : Pacing). r.sent) (slot_is true false slot p is stands) in
     let next = boundary-from p.pieces (p.before + p.sent) (inside_of p is) in
     let nearest : ℕ = boundary_from p.pieces (p.before + p.sent) in
     record {
@@ -191,7 +191,7 @@ still_held p taken heard slot is later held stands =
 
 -- the bytes of a slot, with the reply that waits
 pub slot_at : (p : Pacing) (keep : ℕ) (pending : Option ℕ) (heard slot : ℕ) (waits between : Bool) (text : List ℕ) (plays : List FilmPlay) (end : ℕ)
-    (slots : List ℕ) (parts : List Part) → IsOnTime p heard → heard < slot → slot ≤ end → stands_at_boundary (stepped true slot p) ≡ between
+    (slots : List ℕ) (parts : List Part) → IsOnTime p heard → heard < slot → slot ≤ end → stands_at_boundary (after_step true slot p) ≡ between
     → IsHeld pending (Going p) waits heard
     → ((taken : ℕ) → min (first_slots p.plan (taken + 1 - p.start)) p.keep ≤ keep → due_of taken (play_with p keep) ≡ min (first_slots p.plan (taken + 1 - p.start)) p.keep)
     → AreLater slot plays → StandAt (sent_through slot p) keep (after_slot between pending) plays end slots parts
@@ -202,27 +202,27 @@ slot_at p keep None heard slot false between text plays end slots parts on later
     (size_to p (due_by p slot) on.pacing (omega (arith, on.pacing.sent)) (due_most p slot on.pacing)) stand
 slot_at p keep (Some taken) heard slot false between text plays end slots parts on later ends stands held due are stand = absurd (true≢false (sym held.0))
 slot_at p keep (Some taken) heard slot true false text plays end slots parts on later ends stands held due are stand =
-    let all : step_end true (raised slot p) ≡ due_by p slot = ap (λ (r : Pacing). r.sent) (slot_is true false slot p on.pacing stands) in
+    let all : step_end true (at_slot slot p) ≡ due_by p slot = ap (λ (r : Pacing). r.sent) (slot_is true false slot p on.pacing stands) in
     subst (λ to. StandAt p keep (Some taken) plays end slots (Film (plan_bytes p p.sent to) ∷ parts)) (sym all)
     (film_at p (sent_through slot p) keep (Some taken) plays end slots (plan_bytes p p.sent (due_by p slot)) parts refl
     (size_to p (due_by p slot) on.pacing (omega (arith, on.pacing.sent)) (due_most p slot on.pacing)) stand)
 slot_at p keep (Some taken) heard slot true true text plays end slots parts on later ends stands held due are stand =
-    let q : Pacing = stepped true slot p in
+    let q : Pacing = after_step true slot p in
     let is = on.pacing in
     let most : due_by p slot ≤ p.keep = due_most p slot is in
-    let last : step_end false (raised slot q) ≡ due_by p slot = ap (λ (r : Pacing). r.sent) (slot_is true true slot p is stands) in
+    let last : step_end false (at_slot slot q) ≡ due_by p slot = ap (λ (r : Pacing). r.sent) (slot_is true true slot p is stands) in
     let next = boundary-from p.pieces (p.before + p.sent) (inside_of p is) in
     let from : p.sent ≤ q.sent = omega (arith, next.after, is.sent) in
     let to : q.sent ≤ due_by p slot = omega arith in
-    let rest : StandAt q keep None plays end slots (Film (plan_bytes q q.sent (step_end false (raised slot q))) ∷ parts) =
+    let rest : StandAt q keep None plays end slots (Film (plan_bytes q q.sent (step_end false (at_slot slot q))) ∷ parts) =
     subst (λ n. StandAt q keep None plays end slots (Film (plan_bytes q q.sent n) ∷ parts)) (sym last)
     (film_at q (sent_through slot p) keep None plays end slots (plan_bytes q q.sent (due_by p slot)) parts refl
     (size_to q (due_by p slot) (stopped_is slot p is) to most) stand) in
     let at = next_reached p taken heard slot is held.1 stands in
     let far : (sent_through slot p).sent ≤ first_slots p.plan (end + 1 - p.start) = due_far (sent_through slot p) slot end (through_time p heard slot on later) ends in
     let reply = text_at q keep taken (min (first_slots p.plan (taken + 1 - p.start)) p.keep) plays end slots text
-    (Film (plan_bytes q q.sent (step_end false (raised slot q))) ∷ parts) at (due taken (omega (arith, at.after, rest.holds)))
+    (Film (plan_bytes q q.sent (step_end false (at_slot slot q))) ∷ parts) at (due taken (omega (arith, at.after, rest.holds)))
     (later_lower taken slot plays (omega (arith, held.1.before, later)) are).starts (omega (arith, to, far)) rest in
-    film_at p q keep (Some taken) plays end slots (plan_bytes p p.sent (step_end true (raised slot p)))
-    (Text text ∷ Film (plan_bytes q q.sent (step_end false (raised slot q))) ∷ parts) refl
+    film_at p q keep (Some taken) plays end slots (plan_bytes p p.sent (step_end true (at_slot slot p)))
+    (Text text ∷ Film (plan_bytes q q.sent (step_end false (at_slot slot q))) ∷ parts) refl
     (size_to p q.sent is from (omega (arith, to, most))) reply

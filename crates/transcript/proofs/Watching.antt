@@ -8,7 +8,7 @@ use Rattle.mpeg_scan.specs.Rates.{picture_time}
 use Rattle.mpeg_scan.proofs.FirstLemmas.{film-some}
 use Rattle.rtp_pack.specs.declared.reports.Identity.{Identity}
 use Rattle.film_frames.specs.Pieces.{wire_size}
-use Rattle.film_frames.specs.Tracks.{framed}
+use Rattle.film_frames.specs.Tracks.{framed_bytes}
 use Rattle.rtsp_client.specs.declared.wishes.Wish.{Wish}
 use Rattle.rtsp_client.specs.declared.wishes.Watched.{Watched}
 use Rattle.rtsp_client.specs.declared.wishes.WatchEnd.TheVariants.{Done}
@@ -91,14 +91,14 @@ pub record IsPromise (wish : Wish) (film : Film) (watched : Watched) (out : List
 
 pub kept-promise : (wish : Wish) (film : Film) (identity : Identity) (x : Stream) (watched : Watched) (rounds : List Round) (mid : Stage) (bytes out : List ℕ) (c : ℕ)
     → IsWish wish → 0 < picture_time film.rate → IsFilmIn film identity x → RunsAll (stage [] []) rounds mid → HasWatchedAll wish watched rounds mid bytes out
-    → rounds_heard rounds ++ bytes ≡ take c (framed (all_of x)) → AreFed wish film x (first_slot mid.history) [] rounds → IsPromise wish film watched out
+    → rounds_heard rounds ++ bytes ≡ take c (framed_bytes (all_of x)) → AreFed wish film x (first_slot mid.history) [] rounds → IsPromise wish film watched out
 kept-promise wish film identity x watched rounds mid bytes out c wished timed is runs all front fed =
     let done = all.done in
     let h = done.at.history in
     let sum = done-sum x wish watched (rounds_heard rounds ++ bytes) out c done front in
     let whole = whole-of film identity x h is done.heard.gone sum done.complete in
     let few : replies mid.history ≤ 2 = omega (arith, replies-later mid.history (moments_in all.pieces), ap replies all.history, done.replies_are) in
-    let mine : rounds_heard rounds ≡ take (length (rounds_heard rounds)) (framed (all_of x)) = front-of (rounds_heard rounds) bytes (framed (all_of x)) c front in
+    let mine : rounds_heard rounds ≡ take (length (rounds_heard rounds)) (framed_bytes (all_of x)) = front-of (rounds_heard rounds) bytes (framed_bytes (all_of x)) c front in
     let always = always-all wish film identity x (first_slot mid.history) (length (rounds_heard rounds)) [] (stage [] []) mid rounds runs is whole.count heard-none
     (inl refl) mine few refl fed tt in
     let A : History → Type 0 = λ g. IsBetweenAlways wish (film_sizes film) (picture_time film.rate) g in

@@ -9,7 +9,7 @@ use Rattle.transcript.specs.Courses.{rounds_bytes}
 use Rattle.conn.specs.Turns.{Answered, Film, Part, Passed, Stage, Taking, TakesAll, Text, film_bytes, part_bytes, parts_bytes}
 use Rattle.session.specs.Sendings.{can_reply}
 use Rattle.transcript.specs.Courses.{Follows}
-use Rattle.transcript.specs.Replies.{PlacedText, placed_texts, woven}
+use Rattle.transcript.specs.Replies.{PlacedText, placed_texts, with_texts}
 
 -- the first text stands at or after a place
 abbrev IsFrom : ℕ → List PlacedText → Type 0
@@ -27,17 +27,17 @@ places_from place (Film bytes ∷ parts) =
 places_from place (Text text ∷ parts) = omega arith
 
 woven_front : (place : ℕ) (bytes film : List ℕ) (texts : List PlacedText) → IsFrom (place + length bytes) texts
-    → woven place (bytes ++ film) texts ≡ bytes ++ woven (place + length bytes) film texts
+    → with_texts place (bytes ++ film) texts ≡ bytes ++ with_texts (place + length bytes) film texts
 woven_front place bytes film [] is = refl
 woven_front place bytes film (placed ∷ texts) is =
     let n : ℕ = placed.place - (place + length bytes) in
     let far : placed.place - place ≡ length bytes + n = omega (arith, is) in
-    let rest : List ℕ = placed.text ++ woven placed.place (drop n film) texts in
-    ap (λ m. take m (bytes ++ film) ++ (placed.text ++ woven placed.place (drop m (bytes ++ film)) texts)) far
-    ∙ ap (λ d. take (length bytes + n) (bytes ++ film) ++ (placed.text ++ woven placed.place d texts)) (drop-append-add bytes film n)
+    let rest : List ℕ = placed.text ++ with_texts placed.place (drop n film) texts in
+    ap (λ m. take m (bytes ++ film) ++ (placed.text ++ with_texts placed.place (drop m (bytes ++ film)) texts)) far
+    ∙ ap (λ d. take (length bytes + n) (bytes ++ film) ++ (placed.text ++ with_texts placed.place d texts)) (drop-append-add bytes film n)
     ∙ ap (λ t. t ++ rest) (take-append-add bytes film n) ∙ append_assoc bytes (take n film) rest
 
-pub parts_woven : (place : ℕ) (parts : List Part) → parts_bytes parts ≡ woven place (film_bytes parts) (placed_texts place parts)
+pub parts_woven : (place : ℕ) (parts : List Part) → parts_bytes parts ≡ with_texts place (film_bytes parts) (placed_texts place parts)
 parts_woven place [] = refl
 parts_woven place (Film bytes ∷ parts) =
     let at : ℕ = place + length bytes in
@@ -46,7 +46,7 @@ parts_woven place (Text text ∷ parts) =
     let film : List ℕ = film_bytes parts in
     let texts : List PlacedText = placed_texts place parts in
     let none : 0 ≡ place - place = omega arith in
-    ap (λ bs. text ++ bs) (parts_woven place parts) ∙ ap (λ n. take n film ++ (text ++ woven place (drop n film) texts)) none
+    ap (λ bs. text ++ bs) (parts_woven place parts) ∙ ap (λ n. take n film ++ (text ++ with_texts place (drop n film) texts)) none
 
 -- the film's bytes among all parts are those of the slots
 film_bytes-append : (xs ys : List Part) → film_bytes (xs ++ ys) ≡ film_bytes xs ++ film_bytes ys

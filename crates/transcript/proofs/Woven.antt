@@ -5,11 +5,11 @@ use Rattle.std.proofs.lemmas.Bool.{cases_lt}
 use Rattle.std.proofs.lemmas.List.{append-nil, drop_all, length-append, length-take, take_all}
 use Rattle.std.proofs.Math.Seq.{take-append-add}
 use Rattle.vod_base.specs.Links.{Doing, HeardBytes, HeardEnd, HeardSlot, Sent, sends}
-use Rattle.film_frames.specs.Tracks.{framed}
+use Rattle.film_frames.specs.Tracks.{framed_bytes}
 use Rattle.conn.specs.Rounds.{Round, round_bytes, rounds_doings}
 use Rattle.conn.specs.Turns.{Film, Part, Text, film_bytes, parts_bytes}
 use Rattle.transcript.specs.Courses.{greatest_slot, rounds_bytes}
-use Rattle.transcript.specs.Replies.{PlacedText, placed_text, placed_texts, text_of, woven}
+use Rattle.transcript.specs.Replies.{PlacedText, placed_text, placed_texts, text_of, with_texts}
 use Rattle.transcript.specs.Carried.{latest_slot, sent_bytes}
 use Rattle.transcript.specs.Played.{AreAfter}
 
@@ -85,9 +85,9 @@ counted-by setup played later (a ∷ b ∷ c ∷ texts) rest film total some_set
 
 -- ---- all of it, as a front of the stream
 
-pub framed-append : (xs ys : List (List ℕ)) → framed (xs ++ ys) ≡ framed xs ++ framed ys
+pub framed-append : (xs ys : List (List ℕ)) → framed_bytes (xs ++ ys) ≡ framed_bytes xs ++ framed_bytes ys
 framed-append [] ys = refl
-framed-append (x ∷ xs) ys = ap (λ l. x ++ l) (framed-append xs ys) ∙ sym (append_assoc x (framed xs) (framed ys))
+framed-append (x ∷ xs) ys = ap (λ l. x ++ l) (framed-append xs ys) ∙ sym (append_assoc x (framed_bytes xs) (framed_bytes ys))
 
 take-nil : (n : ℕ) (l : List ℕ) → l ≡ [] → take n l ≡ []
 take-nil n l is = ap (λ x. take n x) is ∙ take_all n [] (omega arith)
@@ -95,11 +95,11 @@ take-nil n l is = ap (λ x. take n x) is ∙ take_all n [] (omega arith)
 drop-nil : (n : ℕ) (l : List ℕ) → l ≡ [] → drop n l ≡ []
 drop-nil n l is = ap (λ x. drop n x) is ∙ drop_all n [] (omega arith)
 
-woven-texts : (from : ℕ) (film : List ℕ) (texts : List PlacedText) → film ≡ [] → woven from film texts ≡ framed (map text_of texts)
+woven-texts : (from : ℕ) (film : List ℕ) (texts : List PlacedText) → film ≡ [] → with_texts from film texts ≡ framed_bytes (map text_of texts)
 woven-texts from film [] none = none
 woven-texts from film (placed ∷ texts) none =
     let n = placed.place - from in
-    ap (λ l. l ++ (placed.text ++ woven placed.place (drop n film) texts)) (take-nil n film none)
+    ap (λ l. l ++ (placed.text ++ with_texts placed.place (drop n film) texts)) (take-nil n film none)
     ∙ ap (λ l. placed.text ++ l) (woven-texts placed.place (drop n film) texts (drop-nil n film none))
 
 pub record IsFrontOf (bytes all : List ℕ) : Type 0 where
@@ -118,7 +118,7 @@ front-same film blocks n is =
 
 -- after the two first replies
 film-woven : (film blocks : List ℕ) (later : List PlacedText) (n : ℕ) → film ≡ take n blocks → AreAfter (length blocks) later → IsFromTo 0 (length film) later
-    → IsFrontOf (woven 0 film later) (blocks ++ framed (map text_of later))
+    → IsFrontOf (with_texts 0 film later) (blocks ++ framed_bytes (map text_of later))
 film-woven film blocks [] n is after within =
     record { count = length film; is = front-same film blocks n is }
 film-woven film blocks (placed ∷ texts) n is after within =
@@ -126,17 +126,17 @@ film-woven film blocks (placed ∷ texts) n is after within =
     let size : length film ≡ min n (length blocks) = ap (λ (l : List ℕ). length l) is ∙ length-take n blocks in
     let whole : film ≡ blocks = is ∙ take_all n blocks (omega (arith, size, long)) in
     let n0 : ℕ = placed.place - 0 in
-    let all : woven 0 film (placed ∷ texts) ≡ blocks ++ framed (map text_of (placed ∷ texts)) =
-    ap (λ l. l ++ (placed.text ++ woven placed.place (drop n0 film) texts)) (take_all n0 film (omega (arith, after.0, ap (λ (l : List ℕ). length l) whole)) ∙ whole)
+    let all : with_texts 0 film (placed ∷ texts) ≡ blocks ++ framed_bytes (map text_of (placed ∷ texts)) =
+    ap (λ l. l ++ (placed.text ++ with_texts placed.place (drop n0 film) texts)) (take_all n0 film (omega (arith, after.0, ap (λ (l : List ℕ). length l) whole)) ∙ whole)
     ∙ ap (λ l. blocks ++ (placed.text ++ l)) (woven-texts placed.place (drop n0 film) texts (drop_all n0 film (omega (arith, after.0, ap (λ (l : List ℕ). length l) whole)))) in
-    record { count = length (blocks ++ framed (map text_of (placed ∷ texts))); is = all ∙ sym (take_all (length (blocks ++ framed (map text_of (placed ∷ texts)))) (blocks ++ framed (map text_of (placed ∷ texts))) (omega arith)) }
+    record { count = length (blocks ++ framed_bytes (map text_of (placed ∷ texts))); is = all ∙ sym (take_all (length (blocks ++ framed_bytes (map text_of (placed ∷ texts)))) (blocks ++ framed_bytes (map text_of (placed ∷ texts))) (omega arith)) }
 
 pub all-woven : (film blocks : List ℕ) (setup played : List ℕ) (later : List PlacedText) (n : ℕ) → film ≡ take n blocks → AreAfter (length blocks) later
     → IsFromTo 0 (length film) later
-    → IsFrontOf (woven 0 film (placed_text 0 setup ∷ placed_text 0 played ∷ later)) (setup ++ (played ++ (blocks ++ framed (map text_of later))))
+    → IsFrontOf (with_texts 0 film (placed_text 0 setup ∷ placed_text 0 played ∷ later)) (setup ++ (played ++ (blocks ++ framed_bytes (map text_of later))))
 all-woven film blocks setup played later n is after within =
     let rest = film-woven film blocks later n is after within in
-    let all = blocks ++ framed (map text_of later) in
+    let all = blocks ++ framed_bytes (map text_of later) in
     let both : setup ++ (played ++ take rest.count all) ≡ take (length setup + (length played + rest.count)) (setup ++ (played ++ all)) =
     ap (λ l. setup ++ l) (sym (take-append-add played all rest.count)) ∙ sym (take-append-add setup (played ++ all) (length played + rest.count)) in
     record { count = length setup + (length played + rest.count); is = ap (λ l. setup ++ (played ++ l)) rest.is ∙ both }

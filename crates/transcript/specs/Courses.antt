@@ -7,7 +7,7 @@ use Rattle.session.specs.declared.settings.Settings.{Settings}
 use Rattle.session.specs.declared.states.Awaited.{Awaited}
 use Rattle.session.specs.declared.states.Awaited.TheVariants.{Nothing}
 use Rattle.session.specs.Hearings.{new_standing}
-use Rattle.session.specs.Sendings.{slotted}
+use Rattle.session.specs.Sendings.{after_slot}
 use Rattle.session.specs.Standings.{Standing}
 use Rattle.conn.specs.Rounds.{Round, Runs, round_bytes}
 use Rattle.conn.specs.Turns.{Answered, Passed, Stage, Taking, TakesAll, stage}
@@ -46,7 +46,7 @@ rounds_bytes (round ∷ rounds) = round_bytes round ++ rounds_bytes rounds
 -- all
 abbrev pub asked_by : Standing → Doing → Awaited
 asked_by session (HeardBytes bytes) = Nothing
-asked_by session (HeardSlot slot) = (slotted session slot).awaited
+asked_by session (HeardSlot slot) = (after_slot session slot).awaited
 asked_by session HeardEnd = Nothing
 asked_by session (Sent byte) = Nothing
 

@@ -12,7 +12,7 @@ use Rattle.session.specs.declared.states.Setup.{Setup}
 use Rattle.session.specs.declared.states.State.{State}
 use Rattle.session.specs.declared.states.State.TheVariants.{Init, Ready, Playing, Stopping}
 use Rattle.session.specs.PlayLaws.{slots_missed}
-use Rattle.session.specs.Sendings.{is_sending, is_taken, slotted, start_in}
+use Rattle.session.specs.Sendings.{is_sending, is_taken, after_slot, start_in}
 use Rattle.session.specs.Standings.{Standing}
 use Rattle.conn.specs.Rounds.{Ending, Unheard, PeerEnded, Overfull, AtPiece, InSlot, InReply, Ends, Round, Runs, RunsAll}
 use Rattle.conn.specs.Turns.{Outcome, Unasked, Entered, WasFull, Offered, Stage, Taking, Passed, Answered, TakesAll, stage}
@@ -38,7 +38,7 @@ outcome_of turn = turn.outcome
 -- as an event came, as pieces were taken up, and in all
 abbrev pub asking_at : Standing → Doing → Standing
 asking_at session (HeardBytes bytes) = session
-asking_at session (HeardSlot slot) = slotted session slot
+asking_at session (HeardSlot slot) = after_slot session slot
 asking_at session HeardEnd = session
 asking_at session (Sent byte) = session
 
@@ -113,16 +113,16 @@ noted_entry (Ready setup paused) (Play prepared) placed turns =
     (play_admitted placed.entry.command placed.entry.answer) turns
 noted_entry _ _ placed turns = []
 
-abbrev pub noted : Standing → Outcome → List Turn → List PlayNote
-noted asking Unasked turns = []
-noted asking (Entered placed) turns = noted_entry asking.state asking.awaited placed turns
-noted asking (WasFull more entries live) turns = []
-noted asking (Offered at_slot note) turns = []
+abbrev pub notes_of_turns : Standing → Outcome → List Turn → List PlayNote
+notes_of_turns asking Unasked turns = []
+notes_of_turns asking (Entered placed) turns = noted_entry asking.state asking.awaited placed turns
+notes_of_turns asking (WasFull more entries live) turns = []
+notes_of_turns asking (Offered at_slot note) turns = []
 
 -- one note for each play that was admitted, in order
 abbrev pub notes_of : List Turn → List PlayNote
 notes_of [] = []
-notes_of (turn ∷ turns) = noted turn.asking turn.outcome turns ++ notes_of turns
+notes_of (turn ∷ turns) = notes_of_turns turn.asking turn.outcome turns ++ notes_of turns
 
 -- the slots that an event missed: a slot was heard while a play, or its rest, was being sent
 abbrev pub missed_in : Standing → ℕ → ℕ

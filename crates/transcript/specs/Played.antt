@@ -5,7 +5,7 @@ use Rattle.rtp_pack.specs.declared.reports.Identity.{Identity}
 use Rattle.interleave.specs.Pieces.{IsRequestLength, StartsRequest}
 use Rattle.film_frames.specs.declared.stores.Stored.{Stored}
 use Rattle.film_frames.specs.Runs.{run_of, run_pieces}
-use Rattle.film_frames.specs.Tracks.{framed}
+use Rattle.film_frames.specs.Tracks.{framed_bytes}
 use Rattle.plan_cert.specs.Slots.{total_bytes}
 use Rattle.film_run.specs.declared.plans.Playback.{Playback}
 use Rattle.film_run.specs.declared.runs.Run.{Run}
@@ -76,7 +76,7 @@ pub record IsPlayed (wish : Wish) (stored : Stored) (course : Course) : Type 0 w
   pub texts : course_texts course ≡ placed_text 0 setup ∷ placed_text 0 played ∷ later
   pub setup_is : IsMessage setup
   pub played_is : IsMessage played
-  pub after : AreAfter (length (framed (film_blocks stored identity))) later
+  pub after : AreAfter (length (framed_bytes (film_blocks stored identity))) later
 
 -- a session was set up for a client that wishes so
 pub record IsSetUpFor (wish : Wish) (settings : Settings) (setup : Setup) : Type 0 where

@@ -4,7 +4,7 @@ use Rattle.plan_cert.specs.declared.Segment.{Segment}
 use Rattle.plan_cert.specs.Slots.{total_bytes}
 use Rattle.slot_calendar.specs.Plays.{Play as Booked, cut_play, sent_before}
 use Rattle.film_frames.specs.Runs.{run_pieces}
-use Rattle.film_frames.specs.Tracks.{framed}
+use Rattle.film_frames.specs.Tracks.{framed_bytes}
 use Rattle.admission.specs.Histories.{play_admitted}
 use Rattle.admission.specs.Makers.{Placed}
 use Rattle.admission.specs.declared.entries.Answer.{Answer}
@@ -27,7 +27,7 @@ pub record FilmPlay : Type 0 where
 
 -- the bytes of a play's frames and reports from the plan's first one on
 abbrev pub film_of : FilmPlay → List ℕ
-film_of play = drop play.before (framed play.pieces)
+film_of play = drop play.before (framed_bytes play.pieces)
 
 -- the bytes of a play that are due by the end of a slot: what its plan has by then, and none past
 -- what is kept
@@ -39,14 +39,14 @@ abbrev pub due_by : ℕ → List FilmPlay → ℕ
 due_by slot plays = sum_by (due_of slot) plays
 
 -- the films of plays joined in order, each but the last cut after what is kept of it
-abbrev pub joined : List FilmPlay → List ℕ
-joined [] = []
-joined (play ∷ []) = film_of play
-joined (play ∷ next ∷ plays) = take play.keep (film_of play) ++ joined (next ∷ plays)
+abbrev pub bytes_of_plays : List FilmPlay → List ℕ
+bytes_of_plays [] = []
+bytes_of_plays (play ∷ []) = film_of play
+bytes_of_plays (play ∷ next ∷ plays) = take play.keep (film_of play) ++ bytes_of_plays (next ∷ plays)
 
 -- what is written of films by the end of a slot: of the films joined, as many bytes as are due
 abbrev pub film_written : ℕ → List FilmPlay → List ℕ
-film_written slot plays = take (due_by slot plays) (joined plays)
+film_written slot plays = take (due_by slot plays) (bytes_of_plays plays)
 
 -- each play that another one follows was sent as far as it is kept
 abbrev pub AreOver : ℕ → List FilmPlay → Type 0
@@ -77,26 +77,26 @@ kept_in [] all = all
 kept_in (Asks asked outcome ∷ askings) all = kept_with outcome (kept_in askings all)
 
 -- the play that an answer admits, if any, and what is kept of it by what is asked later
-abbrev pub admitted : Awaited → Answer → List Asking → List FilmPlay
-admitted (Play prepared) (Admitted start) askings = record {
+abbrev pub plays_admitted : Awaited → Answer → List Asking → List FilmPlay
+plays_admitted (Play prepared) (Admitted start) askings = record {
   start = start;
   plan = prepared.plan;
   keep = kept_in askings (total_bytes prepared.plan);
   before = prepared.run.sent;
   pieces = run_pieces prepared.frames;
 } ∷ []
-admitted _ _ askings = []
+plays_admitted _ _ askings = []
 
-abbrev pub begun : Awaited → Outcome → List Asking → List FilmPlay
-begun asked Unasked askings = []
-begun asked (Entered placed) askings = admitted asked placed.entry.answer askings
-begun asked (WasFull more entries live) askings = []
-begun asked (Offered at_slot note) askings = []
+abbrev pub plays_begun : Awaited → Outcome → List Asking → List FilmPlay
+plays_begun asked Unasked askings = []
+plays_begun asked (Entered placed) askings = plays_admitted asked placed.entry.answer askings
+plays_begun asked (WasFull more entries live) askings = []
+plays_begun asked (Offered at_slot note) askings = []
 
 -- the plays that were admitted, in order
 abbrev pub plays_of : List Asking → List FilmPlay
 plays_of [] = []
-plays_of (Asks asked outcome ∷ askings) = begun asked outcome askings ++ plays_of askings
+plays_of (Asks asked outcome ∷ askings) = plays_begun asked outcome askings ++ plays_of askings
 
 -- what the link has booked of a play
 abbrev pub booking_of : FilmPlay → Booked

@@ -19,11 +19,11 @@ text_of placed = placed.text
 
 -- film bytes from a place on with texts among them, each directly before the film's byte at its
 -- place
-abbrev pub woven : ℕ → List ℕ → List PlacedText → List ℕ
-woven from film [] = film
-woven from film (placed ∷ texts) =
+abbrev pub with_texts : ℕ → List ℕ → List PlacedText → List ℕ
+with_texts from film [] = film
+with_texts from film (placed ∷ texts) =
     take (placed.place - from) film
-    ++ (placed.text ++ woven placed.place (drop (placed.place - from) film) texts)
+    ++ (placed.text ++ with_texts placed.place (drop (placed.place - from) film) texts)
 
 -- where the texts stand among parts that are sent: each after all film bytes before it
 abbrev pub placed_texts : ℕ → List Part → List PlacedText
@@ -48,8 +48,8 @@ replies_of old (round ∷ rounds) new follows =
     ++ replies_of follows.0 rounds new follows.1.1
 
 -- the reply that waits, if one does
-abbrev pub waiting : Standing → List (List ℕ)
-waiting session = if session.waits then session.text ∷ [] else []
+abbrev pub waiting_reply : Standing → List (List ℕ)
+waiting_reply session = if session.waits then session.text ∷ [] else []
 
 -- the replies of a course from its beginning, in order, and where texts stand in what was sent
 abbrev pub course_replies : Course → List (List ℕ)

@@ -25,7 +25,7 @@ ghost use Rattle.transcript.specs.Notes.{ending_missed, notes_of, outcome_of, ro
 ghost use Rattle.transcript.specs.Places.{AreSentAt, slots_from};
 ghost use Rattle.transcript.specs.Plays.{AreOver, booked_plays, booking_of};
 ghost use Rattle.transcript.specs.Requests.{AreTaken};
-ghost use Rattle.transcript.specs.Replies.{course_replies, course_texts, text_of, waiting, woven};
+ghost use Rattle.transcript.specs.Replies.{course_replies, course_texts, text_of, waiting_reply, with_texts};
 
 /// The events of a connection's course follow one another, with the last one where a piece ended
 /// it, and so do those of each front of it.
@@ -59,9 +59,9 @@ pub fn law_plays_booked()
 /// 2326 section 10.12).
 pub fn law_replies_woven()
     ensures woven { (course : Course)
-        → rounds_bytes course.rounds ≡ woven 0 (course_film course) (course_texts course) }
+        → rounds_bytes course.rounds ≡ with_texts 0 (course_film course) (course_texts course) }
     ensures order { (course : Course)
-        → map text_of (course_texts course) ++ waiting course.last.session ≡ course_replies course }
+        → map text_of (course_texts course) ++ waiting_reply course.last.session ≡ course_replies course }
 {}
 
 /// Each reply stands at the first boundary of the films that are sent, the end of a frame or of a

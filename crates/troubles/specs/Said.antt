@@ -7,8 +7,8 @@ abbrev pub number_text : ℕ → List ℕ
 number_text n = codes " " ++ decimal n
 
 -- a blank, a label, `=` and a number
-abbrev pub labelled : List ℕ → ℕ → List ℕ
-labelled label number = codes " " ++ label ++ codes "=" ++ decimal number
+abbrev pub with_label : List ℕ → ℕ → List ℕ
+with_label label number = codes " " ++ label ++ codes "=" ++ decimal number
 
 -- the text was written after what was told; after a fault, which was counted, a front of it
 pub record IsSaid (faults faults' : ℕ) (told told' : Option (List ℕ)) (text : List ℕ) (whole : Bool)

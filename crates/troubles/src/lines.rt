@@ -1,5 +1,5 @@
 ghost use Rattle.std.specs.Prelude.{◌≡◌, ◌++◌};
-ghost use Rattle.troubles.specs.Said.{GoesOn, IsSaid, labelled, number_text};
+ghost use Rattle.troubles.specs.Said.{GoesOn, IsSaid, with_label, number_text};
 ghost use Rattle.troubles.specs.Lines.{fault_text, trouble_text};
 ghost use Rattle.troubles.specs.Messages.{IsOwnLine, MayBeSaid, message_of};
 ghost use Rattle.troubles.specs.declared.faults.Trouble.{Trouble as Cause};
@@ -78,7 +78,7 @@ pub fn say<S: Sink>(sink: &mut S, trouble: Trouble<'_>) -> bool
 /// Writes a blank, a label, `=` and a number, as [`add`] does.
 pub fn add_count<S: Sink>(sink: &mut S, going: bool, label: &str, number: u64) -> bool
     ensures { GoesOn (S.faults sink.old) (S.faults sink.new) (S.written sink.old)
-        (S.written sink.new) going result (labelled label.now number) }
+        (S.written sink.new) going result (with_label label.now number) }
 {
     let mut buffer = itoa::Buffer::new();
     let blank = add(sink, going, b" ");

@@ -17,7 +17,7 @@ use Rattle.turnstile.specs.declared.view.View.{View}
 use Rattle.admission.specs.Makers.{made_by}
 use Rattle.turnstile.specs.Turns.{pass_count, ticket_count, has_ticket, IsLive, IsPast, Fits, Apart, IsRuled}
 use Rattle.turnstile.specs.Passes.{longer_list}
-use Rattle.turnstile.specs.Steps.{shorter_list, beginner, splitter, newcomer, past_of, joiner, spent_view}
+use Rattle.turnstile.specs.Steps.{shorter_list, beginner, splitter, split_view, past_of, joiner, spent_view}
 use Rattle.turnstile.proofs.Prefixes.{prefix_shorter, made_nothing, made_between}
 use Rattle.turnstile.proofs.Sums.{total_set, total_push}
 use Rattle.turnstile.proofs.Turning.{lives, waits_in, idle_free, Free, one_at, at_inside, live_set, place_other}
@@ -100,9 +100,9 @@ module _ {B : Type 0} (entries : B → List Entry) (terms_of : B → Terms) (ter
   }
 
   pub splits : (id : ℕ) (v : View) → v.spent ≡ false → v.stage ≡ Idle → v.number ≡ 0 → v.splits + 1 < 2 ^ 32
-      → Splits Rule id v (splitter v) (newcomer v)
+      → Splits Rule id v (splitter v) (split_view v)
   splits id v left idle head few s r at =
-      let w : View = splitter v in let x : View = newcomer v in let f = r.each id v (at, left) in
+      let w : View = splitter v in let x : View = split_view v in let f = r.each id v (at, left) in
       let count : v.splits ≡ r.count = f.first head in
       let new : r.count < v.splits + 1 = omega arith in
       let sums = total_set pass_count s.views id v w at in let more = total_push pass_count (set s.views id w) x in

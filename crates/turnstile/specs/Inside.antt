@@ -7,9 +7,9 @@ use Rattle.admission.specs.Makers.{made_by}
 use Rattle.turnstile.specs.Passes.{Standing}
 use Rattle.turnstile.specs.Steps.{spent_view}
 
-abbrev pub resting : List View → View
-resting [] = spent_view
-resting (v ∷ rest) = v
+abbrev pub view_at_rest : List View → View
+view_at_rest [] = spent_view
+view_at_rest (v ∷ rest) = v
 
 abbrev pub is_away : List View → Bool
 is_away [] = true
@@ -20,11 +20,11 @@ standing_of p = record {
   id = p.badge.table_id;
   has_turn = is_away p.badge.views;
   number = p.number;
-  terms = (resting p.badge.views).terms;
-  seen = (resting p.badge.views).seen;
-  mine = (resting p.badge.views).mine;
+  terms = (view_at_rest p.badge.views).terms;
+  seen = (view_at_rest p.badge.views).seen;
+  mine = (view_at_rest p.badge.views).mine;
   splits = p.splits;
-  joined = (resting p.badge.views).joined;
+  joined = (view_at_rest p.badge.views).joined;
 }
 
 pub record IsResting (v : View) (number splits : ℕ) : Type 0 where

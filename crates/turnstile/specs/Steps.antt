@@ -41,8 +41,8 @@ abbrev pub splitter : View → View
 splitter v = record v { splits = v.splits + 1 }
 
 -- the pass that is split from it
-abbrev pub newcomer : View → View
-newcomer v = record {
+abbrev pub split_view : View → View
+split_view v = record {
   spent = false;
   number = v.splits + 1;
   stage = Idle;

@@ -1,5 +1,5 @@
 //! How a pass is split, and how two are joined.
-ghost use Rattle.turnstile.specs.Steps.{joiner, newcomer, spent_view, splitter};
+ghost use Rattle.turnstile.specs.Steps.{joiner, split_view, spent_view, splitter};
 
 use crate::view::View;
 use atomic_table::{Join, Split};
@@ -9,7 +9,7 @@ pub(crate) struct Splits;
 impl Split<View> for Splits {
     ghost left = { splitter };
 
-    ghost right = { newcomer };
+    ghost right = { split_view };
 }
 
 pub(crate) struct Joins;

@@ -11,7 +11,7 @@ use Rattle.std.proofs.lemmas.List.Folds.{list_all-append, list_all_at}
 use Rattle.std.proofs.lemmas.Fmt.{digits_decimal, digits_value-decimal, decimal_nonempty, decimal-digits_value}
 use Rattle.std.proofs.lemmas.Str.Parse.{IsNumeralModel, numerals_by_value}
 use Rattle.std.proofs.lemmas.Grind.{common_steps}
-use Rattle.vod_base.specs.Blanks.{is_blank, without_front_blanks, trimmed, IsTrimmed}
+use Rattle.vod_base.specs.Blanks.{is_blank, without_front_blanks, without_blanks, IsTrimmed}
 use Rattle.vod_base.specs.Links.{Doing, HeardBytes, HeardSlot, HeardEnd, Sent, sends}
 use Rattle.vod_base.specs.MemoryLinks.{sent_of}
 use Rattle.vod_base.specs.Names.{is_name_byte, is_good_name, IsPlainFileName}
@@ -183,7 +183,7 @@ both_cut text middle back_first one two =
           ∙ two.begins (omega (arith, some, long));
     }
 
-pub trimmed_is : (text : List ℕ) → IsTrimmed text (trimmed text)
+pub trimmed_is : (text : List ℕ) → IsTrimmed text (without_blanks text)
 trimmed_is text =
     both_cut text (without_front_blanks text) (without_front_blanks (reverse (without_front_blanks text)))
     (front_cut text) (front_cut (reverse (without_front_blanks text)))

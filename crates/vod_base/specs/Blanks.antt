@@ -13,8 +13,8 @@ without_front_blanks [] = []
 without_front_blanks (c ∷ cs) = if is_blank c then without_front_blanks cs else c ∷ cs
 
 -- a text without the blanks around it
-abbrev pub trimmed : List ℕ → List ℕ
-trimmed text = reverse (without_front_blanks (reverse (without_front_blanks text)))
+abbrev pub without_blanks : List ℕ → List ℕ
+without_blanks text = reverse (without_front_blanks (reverse (without_front_blanks text)))
 
 -- a text is this bare one with blanks around it, or none; the bare one neither begins nor ends with
 -- a blank

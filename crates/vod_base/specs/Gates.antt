@@ -53,8 +53,8 @@ abbrev pub fresh_part : ℕ → Part
 fresh_part number = record { number = number; given = 0; back = []; last = NoneYet }
 
 -- after an `open`: as it was opened, without parts; after one that failed it isn't open
-abbrev pub opened : Option Opening → Content → Content
-opened how c = record c { opening = how; parts = [] }
+abbrev pub after_open : Option Opening → Content → Content
+after_open how c = record c { opening = how; parts = [] }
 
 -- after a `split`, and the part that it made
 abbrev pub split_off : Content → Content
@@ -64,22 +64,22 @@ abbrev pub new_part : Content → Content
 new_part c = record { opening = None; parts = []; own = fresh_part (length c.parts) }
 
 -- after a `take` that gave a connection, and after one that gave none
-abbrev pub gave : Content → Content
-gave c = record c { own = record c.own { given = c.own.given + 1; last = Gave } }
+abbrev pub after_take : Content → Content
+after_take c = record c { own = record c.own { given = c.own.given + 1; last = Gave } }
 
-abbrev pub gave_none : LastTake → Content → Content
-gave_none last c = record c { own = record c.own { last = last } }
+abbrev pub after_empty_take : LastTake → Content → Content
+after_empty_take last c = record c { own = record c.own { last = last } }
 
 -- after a connection came back
-abbrev pub got_back : Returned → Content → Content
-got_back conn c = record c { own = record c.own { back = c.own.back ++ (conn ∷ []) } }
+abbrev pub after_return : Returned → Content → Content
+after_return conn c = record c { own = record c.own { back = c.own.back ++ (conn ∷ []) } }
 
 -- after a part came back
-abbrev pub rejoined : Part → Content → Content
-rejoined part c = record c { parts = slice_set c.parts part.number (Some part) }
+abbrev pub after_rejoin : Part → Content → Content
+after_rejoin part c = record c { parts = slice_set c.parts part.number (Some part) }
 
 -- the same of what is told of both
 abbrev pub told_rejoined : Option Content → Option Content → Option Content
-told_rejoined (Some part) (Some c) = Some (rejoined part.own c)
+told_rejoined (Some part) (Some c) = Some (after_rejoin part.own c)
 told_rejoined None (Some c) = None
 told_rejoined part None = None

@@ -8,8 +8,8 @@ use Rattle.vod_base.specs.declared.shares.Last.TheVariants.{Nothing, Link, NoLin
 use Rattle.vod_base.specs.declared.shares.Share.{Share}
 
 -- what a link in memory tells
-abbrev pub returned : LinkState → Returned
-returned link = record { faults = link.faults; told = Some link.told }
+abbrev pub returned_of : LinkState → Returned
+returned_of link = record { faults = link.faults; told = Some link.told }
 
 abbrev pub last_of : Last → LastTake
 last_of Nothing = NoneYet
@@ -22,7 +22,7 @@ abbrev pub part_of : Share → Part
 part_of share = record {
   number = share.number;
   given = share.given;
-  back = map returned (drop share.waiting share.links.items);
+  back = map returned_of (drop share.waiting share.links.items);
   last = last_of share.last;
 }
 

@@ -1,5 +1,5 @@
 ghost use Rattle.std.specs.Prelude.{◌≡◌, reverse};
-ghost use Rattle.vod_base.specs.Blanks.{is_blank, without_front_blanks, trimmed};
+ghost use Rattle.vod_base.specs.Blanks.{is_blank, without_front_blanks, without_blanks};
 
 /// Whether a byte is a blank: a space or a tab.
 pub fn is_blank(byte: u8) -> bool
@@ -9,7 +9,7 @@ pub fn is_blank(byte: u8) -> bool
 }
 
 /// The text without the blanks in front.
-fn front_trimmed(text: &[u8]) -> &[u8]
+fn trim_start(text: &[u8]) -> &[u8]
     ensures { result.now ≡ without_front_blanks text.now }
 {
     let mut rest = text;
@@ -20,7 +20,7 @@ fn front_trimmed(text: &[u8]) -> &[u8]
 }
 
 /// The text without the blanks at its end.
-fn back_trimmed(text: &[u8]) -> &[u8]
+fn trim_end(text: &[u8]) -> &[u8]
     ensures { result.now ≡ reverse (without_front_blanks (reverse text.now)) }
 {
     let mut rest = text;
@@ -31,8 +31,8 @@ fn back_trimmed(text: &[u8]) -> &[u8]
 }
 
 /// The text without the blanks (spaces and tabs) around it.
-pub fn trimmed(text: &[u8]) -> &[u8]
-    ensures { result.now ≡ trimmed text.now }
+pub fn trim(text: &[u8]) -> &[u8]
+    ensures { result.now ≡ without_blanks text.now }
 {
-    back_trimmed(front_trimmed(text))
+    trim_end(trim_start(text))
 }

@@ -1,8 +1,8 @@
 ghost use Rattle.std.specs.Prelude.{◌≡◌, ◌<◌, ◌≤◌, ℕ, Option, Some, None, [], option_map, IfSome};
 ghost use Rattle.std.specs.Prelude.{IfOk, OnOk, OnErr};
 ghost use Rattle.vod_base.specs.Outside.{HasRisen};
-ghost use Rattle.vod_base.specs.Gates.{Content, NoMore, Failed, MaySplit, IsOut, HasOut, opened};
-ghost use Rattle.vod_base.specs.Gates.{split_off, new_part, gave, gave_none, got_back};
+ghost use Rattle.vod_base.specs.Gates.{Content, NoMore, Failed, MaySplit, IsOut, HasOut, after_open};
+ghost use Rattle.vod_base.specs.Gates.{split_off, new_part, after_take, after_empty_take, after_return};
 ghost use Rattle.vod_base.specs.Gates.{told_rejoined};
 
 use crate::links::Link;
@@ -41,8 +41,8 @@ pub trait Gate: Sized {
         ensures count { faults self.old ≤ faults self.new }
         ensures fault { OnErr result (HasRisen (faults self.old) (faults self.new)) }
         ensures open { OnOk result (told self.new ≡
-            option_map (opened (Some how.now)) (told self.old)) }
-        ensures lost { OnErr result (told self.new ≡ option_map (opened None) (told self.old)) };
+            option_map (after_open (Some how.now)) (told self.old)) }
+        ensures lost { OnErr result (told self.new ≡ option_map (after_open None) (told self.old)) };
 
     /// Makes a part, which gives connections of its own.
     ///
@@ -68,21 +68,21 @@ pub trait Gate: Sized {
         ensures count { faults self.old ≤ faults self.new }
         ensures fault { OnErr result (HasRisen (faults self.old) (faults self.new)) }
         ensures gave { IfOk result (λ taken.
-            IfSome taken (λ conn. told self.new ≡ option_map gave (told self.old))) }
+            IfSome taken (λ conn. told self.new ≡ option_map after_take (told self.old))) }
         ensures fresh { IfOk result (λ taken.
             IfSome taken (λ conn. (Self.Conn.faults conn ≡ 0)
             × IfSome (Self.Conn.told conn) (λ doings. doings ≡ []))) }
         ensures none { IfOk result (λ taken. taken ≡ None →
-            told self.new ≡ option_map (gave_none NoMore) (told self.old)) }
+            told self.new ≡ option_map (after_empty_take NoMore) (told self.old)) }
         ensures lost { OnErr result (told self.new ≡
-            option_map (gave_none Failed) (told self.old)) };
+            option_map (after_empty_take Failed) (told self.old)) };
 
     /// Takes back a connection that `take` gave.
     fn give_back(&mut self, conn: Self::Conn)
         requires out { IfSome (told self.old) HasOut }
         ensures count { faults self.old ≤ faults self.new }
         ensures back { told self.new ≡
-            option_map (got_back (record {
+            option_map (after_return (record {
               faults = Self.Conn.faults conn;
               told = Self.Conn.told conn;
             })) (told self.old) };

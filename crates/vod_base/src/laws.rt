@@ -1,6 +1,6 @@
 ghost use Rattle.std.specs.Prelude.{◌≡◌, ◌<◌, ◌^◌, ◌++◌, ◌↔◌, ℕ, true, List, Some, replicate};
 ghost use Rattle.std.specs.Prelude.{decimal};
-ghost use Rattle.vod_base.specs.Blanks.{IsTrimmed, trimmed};
+ghost use Rattle.vod_base.specs.Blanks.{IsTrimmed, without_blanks};
 ghost use Rattle.vod_base.specs.Links.{Doing, sends};
 ghost use Rattle.vod_base.specs.MemoryLinks.{sent_of};
 ghost use Rattle.vod_base.specs.Names.{is_good_name, IsPlainFileName};
@@ -19,8 +19,8 @@ pub fn law_file_name()
 {}
 
 /// A trimmed text is the text without the spaces and tabs around it, and loses nothing else.
-pub fn law_trimmed()
-    ensures { (text : List ℕ) → IsTrimmed text (trimmed text) }
+pub fn law_trim()
+    ensures { (text : List ℕ) → IsTrimmed text (without_blanks text) }
 {}
 
 /// The bytes sent among what a link tells are those of its sends, in order.

@@ -2,9 +2,9 @@ ghost use Rattle.std.specs.Prelude.{◌≡◌, ◌-◌, ◌↔◌, ◌||◌, fal
 ghost use Rattle.std.specs.Prelude.{nat_lt, map, IfSome, IfOk, IsNone, OnOk, OnErr, is_err};
 ghost use Rattle.std.specs.Prelude.{vec_len};
 ghost use Rattle.vod_base.specs.Memory.{one_more};
-ghost use Rattle.vod_base.specs.Gates.{NoMore, Failed, MaySplit, IsOut, HasOut, opened, split_off};
-ghost use Rattle.vod_base.specs.Gates.{new_part, gave, gave_none, got_back, rejoined, fresh_part};
-ghost use Rattle.vod_base.specs.MemoryGates.{returned, part_of, back_of, gate_fails, gate_called};
+ghost use Rattle.vod_base.specs.Gates.{NoMore, Failed, MaySplit, IsOut, HasOut, after_open, split_off};
+ghost use Rattle.vod_base.specs.Gates.{new_part, after_take, after_empty_take, after_return, after_rejoin, fresh_part};
+ghost use Rattle.vod_base.specs.MemoryGates.{returned_of, part_of, back_of, gate_fails, gate_called};
 ghost use Rattle.vod_base.specs.MemoryGates.{gate_failed};
 
 use crate::gates::{Gate, Opening};
@@ -106,8 +106,8 @@ impl MemoryGate {
     }
 
     /// The links that the part of that number, from 0, got back, in order; none while it is out.
-    pub fn given_back(&self, part: usize) -> &[MemoryLink]
-        ensures { map returned result.now ≡ back_of self.now.content part }
+    pub fn returned_links(&self, part: usize) -> &[MemoryLink]
+        ensures { map returned_of result.now ≡ back_of self.now.content part }
     {
         match self.parts.get(part) {
             Some(Some(share)) => &share.links[share.waiting..],
@@ -170,9 +170,9 @@ impl Gate for MemoryGate {
     fn open(&mut self, how: &Opening) -> Result<(), GateFault>
         ensures fails { is_err result ≡ (self.old.is_part || gate_fails self.old) }
         ensures open { OnOk result (self.new ≡
-            record (gate_called self.old) { content = opened (Some how.now) self.old.content }) }
+            record (gate_called self.old) { content = after_open (Some how.now) self.old.content }) }
         ensures lost { OnErr result (self.new ≡
-            record (gate_failed self.old) { content = opened None self.old.content }) }
+            record (gate_failed self.old) { content = after_open None self.old.content }) }
     {
         self.opening = None;
         self.parts.clear();
@@ -232,17 +232,17 @@ impl Gate for MemoryGate {
         ensures gave { IfOk result (λ taken.
             IfSome taken (λ link. self.new ≡
             record (gate_called self.old) {
-              content = gave self.old.content;
+              content = after_take self.old.content;
               waiting = self.old.waiting - 1;
             })) }
         ensures fresh { IfOk result (λ taken.
             IfSome taken (λ link. (link.told ≡ []) × (link.faults ≡ 0))) }
         ensures none { IfOk result (λ taken. taken ≡ None →
             self.new ≡ record
-            (gate_called self.old) { content = gave_none NoMore self.old.content }) }
+            (gate_called self.old) { content = after_empty_take NoMore self.old.content }) }
         ensures last { IfOk result (λ taken. IsNone taken ↔ (self.old.waiting ≡ 0)) }
         ensures lost { OnErr result (self.new ≡
-            record (gate_failed self.old) { content = gave_none Failed self.old.content }) }
+            record (gate_failed self.old) { content = after_empty_take Failed self.old.content }) }
     {
         if self.call() {
             self.own.last = Last::Fault;
@@ -263,7 +263,7 @@ impl Gate for MemoryGate {
     fn give_back(&mut self, conn: MemoryLink)
         requires out { HasOut self.old.content }
         ensures { self.new ≡
-            record self.old { content = got_back (returned conn) self.old.content } }
+            record self.old { content = after_return (returned_of conn) self.old.content } }
     {
         match self.own.links.push(conn) {
             Ok(()) => {}
@@ -277,7 +277,7 @@ impl Gate for MemoryGate {
             record self.old {
               faults = if nat_lt 0 part.faults
                   then one_more self.old.faults else self.old.faults;
-              content = rejoined part.content.own self.old.content;
+              content = after_rejoin part.content.own self.old.content;
             } }
     {
         let MemoryGate { own, faults, .. } = part;

@@ -106,8 +106,8 @@ fn keeps_what_is_written(rt: HostRuntime) -> Result<(), Fail> {
 
 #[test]
 fn trims_blanks(rt: HostRuntime) {
-    assert_eq!(rt; trimmed(b" \t a b\t "), b"a b".as_slice());
-    assert_eq!(rt; trimmed(b" \t"), b"".as_slice());
+    assert_eq!(rt; trim(b" \t a b\t "), b"a b".as_slice());
+    assert_eq!(rt; trim(b" \t"), b"".as_slice());
     assert!(rt; is_blank(b'\t') && !is_blank(b'\n'));
 }
 
@@ -167,10 +167,10 @@ fn gives_and_gets_back(rt: HostRuntime) -> Result<(), Fail> {
     assert_eq!(rt; link.send(b"abc"), Ok(()));
     part.give_back(link);
     gate.rejoin(part);
-    let back = gate.given_back(0);
+    let back = gate.returned_links(0);
     assert!(rt; back.len() == 1);
     assert_eq!(rt; back[0].sent(), b"abc".as_slice());
-    assert!(rt; gate.given_back(1).is_empty());
+    assert!(rt; gate.returned_links(1).is_empty());
     Ok(())
 }
 

@@ -23,7 +23,7 @@ use Rattle.command_words.specs.Settings.{setting_value, texts, values_of}
 use Rattle.command_words.specs.Words.{are_distinct, are_films, are_names}
 use Rattle.vod_base.specs.Outside.{File, HasRisen}
 use Rattle.inputs.specs.Scans.{HoldsVideo}
-use Rattle.vod_base.specs.Gates.{Content, opened}
+use Rattle.vod_base.specs.Gates.{Content, after_open}
 use Rattle.vod_base.specs.declared.gates.Opening.{Opening}
 use Rattle.slot_calendar.specs.declared.profiles.CapStep.{CapStep}
 use Rattle.admission.specs.declared.entries.Entry.{Entry}
@@ -125,7 +125,7 @@ make_serves serving told faults faults' gate' gate gate'' GateFault is low fewer
 make_serves serving told faults faults' gate' gate gate'' LinkFault is low fewer = absurd is
 
 -- what is told of a gate that was opened
-pub newly_open : (how : Opening) (gate gate' : Option Content) → gate' ≡ option_map (opened (Some how)) gate → IsNewlyOpen how gate'
+pub newly_open : (how : Opening) (gate gate' : Option Content) → gate' ≡ option_map (after_open (Some how)) gate → IsNewlyOpen how gate'
 newly_open how None gate' is = subst (IsNewlyOpen how) (sym is) tt
 newly_open how (Some c) gate' is = subst (IsNewlyOpen how) (sym is) (refl, refl)
 
@@ -134,7 +134,7 @@ newly_open_as how None is = tt
 newly_open_as how (Some c) is = is.0
 
 -- a gate that couldn't be opened has no parts
-pub lost_fewer : (workers : ℕ) (gate gate' : Option Content) → gate' ≡ option_map (opened None) gate → 1 ≤ workers → HasFewer workers gate'
+pub lost_fewer : (workers : ℕ) (gate gate' : Option Content) → gate' ≡ option_map (after_open None) gate → 1 ≤ workers → HasFewer workers gate'
 lost_fewer workers None gate' is some = subst (HasFewer workers) (sym is) tt
 lost_fewer workers (Some c) gate' is some = subst (HasFewer workers) (sym is) (omega (arith, some))
 

@@ -9,7 +9,7 @@ use Rattle.std.proofs.lemmas.Bool.{cases_lt}
 use Rattle.std.proofs.lemmas.List.{append-nil, append_assoc, get_or-set_other, get_or-set_same, map-append}
 use Rattle.std.proofs.lemmas.List.Elements.{All-append, All-cons, All-head, All-nil, All-tail}
 use Rattle.vod_base.specs.Outside.{HasRisen}
-use Rattle.vod_base.specs.Gates.{Content, Part, IsOpen, IsOut, new_part, rejoined, split_off, told_rejoined}
+use Rattle.vod_base.specs.Gates.{Content, Part, IsOpen, IsOut, new_part, after_rejoin, split_off, told_rejoined}
 use Rattle.vod_base.specs.declared.gates.Opening.{Opening}
 use Rattle.film_frames.specs.declared.stores.Stored.{Stored}
 use Rattle.admission.specs.declared.entries.Entry.{Entry}
@@ -101,7 +101,7 @@ out_more count content are = record {
 }
 
 -- a part that came back
-pub out_less : (from count : ℕ) (part content : Content) → part.own.number ≡ from → AreOut from count content → AreOut (from + 1) count (rejoined part.own content)
+pub out_less : (from count : ℕ) (part content : Content) → part.own.number ≡ from → AreOut from count content → AreOut (from + 1) count (after_rejoin part.own content)
 out_less from count part content number are = record {
   counted = length-set content.parts part.own.number (Some part.own) ∙ are.counted;
   out = λ k low high.

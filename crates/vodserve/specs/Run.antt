@@ -42,8 +42,8 @@ pub record Seen (T : Type 0) : Type 0 where
   pub told : Option T
 
 -- what is seen of a library, a stream or a gate
-abbrev pub seen : {S T : Type 0} → (S → ℕ) → (S → Option T) → S → Seen T
-seen faults told it = record { faults = faults it; told = told it }
+abbrev pub sight_of : {S T : Type 0} → (S → ℕ) → (S → Option T) → S → Seen T
+sight_of faults told it = record { faults = faults it; told = told it }
 
 abbrev pub gate_seen : {G : Type 0} → (G → ℕ) → (G → Option Content) → G → Outlet
 gate_seen faults told gate = outlet (faults gate) (told gate)

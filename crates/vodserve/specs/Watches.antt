@@ -2,7 +2,7 @@
 use Rattle.std.specs.Prelude.{◌≡◌, ℕ, List, [], ◌∷◌, ◌++◌, codes, option_map, slice_index_or, string_bytes, Option, Some, None, IfSome}
 use Rattle.vod_base.specs.Outside.{HasRisen}
 use Rattle.vod_base.specs.Links.{Doing}
-use Rattle.vod_base.specs.Gates.{Content, Gave, NoMore, Part, Returned, gave, gave_none, got_back}
+use Rattle.vod_base.specs.Gates.{Content, Gave, NoMore, Part, Returned, after_take, after_empty_take, after_return}
 use Rattle.rtsp_client.specs.Courses.{HasWatched}
 use Rattle.rtsp_client.specs.declared.wishes.Wish.{Wish}
 use Rattle.rtsp_client.specs.declared.wishes.Watched.{Watched}
@@ -11,7 +11,7 @@ use Rattle.rtsp_client.specs.declared.wishes.WatchEnd.TheVariants.{LinkFault, Si
 use Rattle.rtsp_client.specs.declared.wishes.WatchFault.{WatchFault}
 use Rattle.rtsp_client.specs.declared.wishes.WatchFault.TheVariants.{Refused as RefusedBy, BadReply as BadReplyOf, BadFrame as BadFrameOf, Framing as FramingOf, EndedEarly as EndedEarlyOf, TurnsSpent as TurnsSpentOf}
 use Rattle.command_words.specs.Words.{Watching}
-use Rattle.troubles.specs.Said.{labelled}
+use Rattle.troubles.specs.Said.{with_label}
 use Rattle.troubles.specs.declared.faults.Fault.{Fault}
 use Rattle.troubles.specs.declared.faults.Fault.TheVariants.{RefusedWith, BadReply, BadFrame, Framing, EndedEarly, TurnsSpent}
 
@@ -35,10 +35,10 @@ pub record IsWishOf (watching : Watching) (wish : Wish) : Type 0 where
 -- the line on what the meter read
 abbrev pub watched_text : Watched → List ℕ
 watched_text w =
-    codes "watched" ++ labelled (codes "units") w.units ++ labelled (codes "bytes") w.bytes
-    ++ labelled (codes "frames") w.frames ++ labelled (codes "reports") w.reports
-    ++ labelled (codes "most") w.most ++ labelled (codes "over") w.over
-    ++ labelled (codes "under") w.under ++ codes "\n"
+    codes "watched" ++ with_label (codes "units") w.units ++ with_label (codes "bytes") w.bytes
+    ++ with_label (codes "frames") w.frames ++ with_label (codes "reports") w.reports
+    ++ with_label (codes "most") w.most ++ with_label (codes "over") w.over
+    ++ with_label (codes "under") w.under ++ codes "\n"
 
 -- a part that gave no connection, and one that gave one and got it back
 abbrev pub idle_part : Part
@@ -73,7 +73,7 @@ pub record HasHeardPart (wish : Wish) (old new : Option Content) (faults faults'
   pub conn : Returned
   pub heard : Option (List Doing)
   pub fresh : IfSome heard (λ doings. doings ≡ [])
-  pub gave : new ≡ option_map (got_back conn) (option_map gave old)
+  pub gave : new ≡ option_map (after_return conn) (option_map after_take old)
   pub link : end ≡ LinkFault → HasRisen 0 conn.faults
   pub out : end ≡ SinkFault → HasRisen faults faults'
   pub watched : HasWatched wish end heard conn.told told told'
@@ -82,7 +82,7 @@ pub record HasHeardPart (wish : Wish) (old new : Option Content) (faults faults'
 abbrev pub HearsPart : Wish → Option Content → Option Content → ℕ → ℕ → Option (List ℕ) →
     Option (List ℕ) → Option WatchEnd → Type 0
 HearsPart wish old new faults faults' told told' None =
-    (new ≡ option_map (gave_none NoMore) old) × IsSameOutput faults faults' told told'
+    (new ≡ option_map (after_empty_take NoMore) old) × IsSameOutput faults faults' told told'
 HearsPart wish old new faults faults' told told' (Some end) =
     HasHeardPart wish old new faults faults' told told' end
 

@@ -4,7 +4,7 @@ ghost use Rattle.std.specs.Prelude.{◌≡◌, ◌≤◌, [], List, ℕ};
 ghost use Rattle.command_words.specs.Orders.{fair_run_of, script_run_of};
 ghost use Rattle.command_words.specs.Ranges.{IsFairRunInRange, IsScriptRunInRange};
 ghost use Rattle.troubles.specs.Causes.{IsReadOnly};
-ghost use Rattle.vodserve.specs.Run.{IsTextWritten, RunsDay, RunsFair, seen};
+ghost use Rattle.vodserve.specs.Run.{IsTextWritten, RunsDay, RunsFair, sight_of};
 
 use crate::days::{load_script, load_sources, run_day, run_fair};
 use crate::run::{Ended, end_with};
@@ -19,9 +19,9 @@ fn end_day<O: Sink, E: Sink>(alloc: Global, out: &mut O, err: &mut E, day: Day) 
     ensures journal { result.journal ≡ day.journal }
     ensures reports { result.reports.items ≡ [] }
     ensures count { O.faults out.old ≤ O.faults out.new }
-    ensures written { IsTextWritten (seen O.faults O.written out.old)
-        (seen O.faults O.written out.new)
-        (seen E.faults E.written err.old) (seen E.faults E.written err.new) day.text.items result }
+    ensures written { IsTextWritten (sight_of O.faults O.written out.old)
+        (sight_of O.faults O.written out.new)
+        (sight_of E.faults E.written err.old) (sight_of E.faults E.written err.new) day.text.items result }
 {
     let Day { text, journal } = day;
     match out.write_all(&text) {
@@ -55,9 +55,9 @@ pub(crate) fn day<L: Library, O: Sink, E: Sink>(
     ensures library { IsReadOnly (L.files library.old) (L.files library.new) (L.faults library.old)
         (L.faults library.new) }
     ensures count { O.faults out.old ≤ O.faults out.new }
-    ensures runs { RunsDay (seen L.faults L.files library.old) (seen L.faults L.files library.new)
-        (seen O.faults O.written out.old) (seen O.faults O.written out.new)
-        (seen E.faults E.written err.old) (seen E.faults E.written err.new)
+    ensures runs { RunsDay (sight_of L.faults L.files library.old) (sight_of L.faults L.files library.new)
+        (sight_of O.faults O.written out.old) (sight_of O.faults O.written out.new)
+        (sight_of E.faults E.written err.old) (sight_of E.faults E.written err.new)
         (script_run_of run.now) result }
 {
     let script = match load_script(alloc, library, run.script) {
@@ -83,8 +83,8 @@ pub(crate) fn fair<O: Sink, E: Sink>(
 ) -> Ended
     requires { IsFairRunInRange run.now }
     ensures count { O.faults out.old ≤ O.faults out.new }
-    ensures runs { RunsFair (seen O.faults O.written out.old) (seen O.faults O.written out.new)
-        (seen E.faults E.written err.old) (seen E.faults E.written err.new)
+    ensures runs { RunsFair (sight_of O.faults O.written out.old) (sight_of O.faults O.written out.new)
+        (sight_of E.faults E.written err.old) (sight_of E.faults E.written err.new)
         (fair_run_of run.now) result }
 {
     match run_fair(alloc, run) {

@@ -11,7 +11,7 @@ ghost use Rattle.command_words.specs.Orders.{serving_of};
 ghost use Rattle.command_words.specs.Ranges.{IsServingInRange};
 ghost use Rattle.vodserve.specs.Served.{served_text};
 ghost use Rattle.vodserve.specs.Laws.{GivesEachBack, LeavesNoneOut, ServesEach, ServesWhatItMay, TellsItsJournal};
-ghost use Rattle.vodserve.specs.Run.{Ends, Fails, HasServedNothing, Printed, Ran, Serves, gate_seen, seen, world};
+ghost use Rattle.vodserve.specs.Run.{Ends, Fails, HasServedNothing, Printed, Ran, Serves, gate_seen, sight_of, world};
 
 use crate::checks::check_viewer;
 use crate::day_ends::{day, fair};
@@ -50,7 +50,7 @@ pub struct Ended {
 
 /// Ends with a trouble: says its line, whose own faults change nothing.
 pub(crate) fn end_with<E: Sink>(alloc: Global, err: &mut E, trouble: Trouble<'_>) -> Ended
-    ensures fails { Fails (seen E.faults E.written err.old) (seen E.faults E.written err.new)
+    ensures fails { Fails (sight_of E.faults E.written err.old) (sight_of E.faults E.written err.new)
         trouble.entry result }
     ensures nothing { HasServedNothing result }
 {
@@ -71,8 +71,8 @@ fn print<O: Sink, E: Sink>(
     err: &mut E,
     done: Result<Done, Trouble<'_>>,
 ) -> Ended
-    ensures printed { Printed (seen O.faults O.written out.old) (seen O.faults O.written out.new)
-        (seen E.faults E.written err.old) (seen E.faults E.written err.new) done.entry result }
+    ensures printed { Printed (sight_of O.faults O.written out.old) (sight_of O.faults O.written out.new)
+        (sight_of E.faults E.written err.old) (sight_of E.faults E.written err.new) done.entry result }
     ensures count { O.faults out.old ≤ O.faults out.new }
     ensures nothing { HasServedNothing result }
 {
@@ -120,8 +120,8 @@ fn end_server<O: Sink, E: Sink>(alloc: Global, out: &mut O, err: &mut E, closed:
     ensures journal { result.journal.items ≡ closed.book.entries }
     ensures reports { result.reports.items ≡ closed.reports.items }
     ensures count { O.faults out.old ≤ O.faults out.new }
-    ensures ends { Ends (seen O.faults O.written out.old) (seen O.faults O.written out.new)
-        (seen E.faults E.written err.old) (seen E.faults E.written err.new)
+    ensures ends { Ends (sight_of O.faults O.written out.old) (sight_of O.faults O.written out.new)
+        (sight_of E.faults E.written err.old) (sight_of E.faults E.written err.new)
         (served_text closed.book.entries (length closed.reports.items)) closed.end result }
 {
     let trouble = print_served(alloc, out, &closed);
@@ -165,10 +165,10 @@ where
     ensures output { O.faults out.old ≤ O.faults out.new }
     ensures gate { G.faults gate.old ≤ G.faults gate.new }
     ensures serves { Serves
-        (world (seen L.faults L.files library.old) (seen O.faults O.written out.old)
-        (seen E.faults E.written err.old) (gate_seen G.faults G.told gate.old))
-        (world (seen L.faults L.files library.new) (seen O.faults O.written out.new)
-        (seen E.faults E.written err.new) (gate_seen G.faults G.told gate.new))
+        (world (sight_of L.faults L.files library.old) (sight_of O.faults O.written out.old)
+        (sight_of E.faults E.written err.old) (gate_seen G.faults G.told gate.old))
+        (world (sight_of L.faults L.files library.new) (sight_of O.faults O.written out.new)
+        (sight_of E.faults E.written err.new) (gate_seen G.faults G.told gate.new))
         seed (serving_of serving.entry.now) result }
 {
     let prepared = match prepare(alloc, library, gate, serving) {
@@ -229,10 +229,10 @@ pub fn run<R: Threads + Wait + Sync, L: Library, O: Sink, E: Sink, G: Gate + Sen
 where
     G::Conn: Send,
     ensures ran { Ran
-        (world (seen L.faults L.files library.old) (seen O.faults O.written out.old)
-        (seen E.faults E.written err.old) (gate_seen G.faults G.told gate.old))
-        (world (seen L.faults L.files library.new) (seen O.faults O.written out.new)
-        (seen E.faults E.written err.new) (gate_seen G.faults G.told gate.new))
+        (world (sight_of L.faults L.files library.old) (sight_of O.faults O.written out.old)
+        (sight_of E.faults E.written err.old) (gate_seen G.faults G.told gate.old))
+        (world (sight_of L.faults L.files library.new) (sight_of O.faults O.written out.new)
+        (sight_of E.faults E.written err.new) (gate_seen G.faults G.told gate.new))
         seed (meaning (texts words.now)) result }
 {
     let Some(order) = read_words(words) else {

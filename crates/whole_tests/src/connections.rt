@@ -395,7 +395,7 @@ fn check_book<R: Abort>(rt: &R, book: &Book, heard: u64) {
     assert_eq!(rt; halted.count() * 2, book.entries().len());
     assert_eq!(rt; book.calendar().now(), 0);
     for slot in 0..20 {
-        let booked = book.calendar().booked(slot);
+        let booked = book.calendar().booked_bytes(slot);
         assert!(rt;
             slot <= heard || booked == 0,
             "booked at {slot} after {heard}"

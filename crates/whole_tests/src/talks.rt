@@ -104,12 +104,12 @@ impl<'a> Talk<'a> {
         if told.kind == "admitted" {
             assert!(rt; third == 0 || (plan.slots(), plan.bytes()) == (third, fourth));
             assert!(rt; self.session.heard_slot() < second);
-            self.session.admitted(first, second);
+            self.session.hear_admission(first, second);
         } else if told.kind == "overflow" {
-            self.session.overflowed(first, second, third, fourth);
+            self.session.hear_overflow(first, second, third, fourth);
         } else {
             assert!(rt; told.kind == "full", "a play was asked for");
-            self.session.full(first, second);
+            self.session.hear_full(first, second);
         }
     }
 
@@ -120,7 +120,7 @@ impl<'a> Talk<'a> {
         assert!(rt; told.kind == "halted", "a halt was asked for");
         let [place, kept, _, _] = told.numbers;
         assert_eq!(rt; keep, kept);
-        self.session.halted(place);
+        self.session.hear_halt(place);
     }
 
     fn look<R: Abort>(&mut self, rt: &R, told: Told<'_>)
@@ -129,10 +129,10 @@ impl<'a> Talk<'a> {
     {
         let [first, second, third, fourth] = told.numbers;
         if told.kind == "looked" {
-            self.session.looked(first, second, third, fourth);
+            self.session.hear_look(first, second, third, fourth);
         } else {
             assert!(rt; told.kind == "full", "a look was asked for");
-            self.session.full(first, second);
+            self.session.hear_full(first, second);
         }
     }
 
@@ -150,7 +150,7 @@ impl<'a> Talk<'a> {
             assert!(rt; self.calendar.now() < first && first <= 1 << 62);
             offers.find(&self.calendar, &plan, first);
         }
-        self.session.offered(seen, first, plan, offers);
+        self.session.hear_offer(seen, first, plan, offers);
     }
 
     /// Books a play by this plan for another client.
@@ -190,7 +190,7 @@ impl<'a> Talk<'a> {
         let whole = is_request(alloc, message)?;
         assert!(rt; whole);
         assert!(rt; !self.session.waits());
-        assert!(rt; !self.session.torn());
+        assert!(rt; !self.session.is_torn());
         let ask = self.session.hear(message);
         self.answer(rt, ask, told);
         let replied = self.session.reply(&mut self.link);

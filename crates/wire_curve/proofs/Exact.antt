@@ -4,7 +4,7 @@ use Rattle.std.proofs.lemmas.Bool.{cases_lt}
 use Rattle.wire_curve.specs.declared.film.Timing.{Timing}
 use Rattle.wire_curve.specs.declared.film.CurveFault.{CurveFault}
 use Rattle.wire_curve.specs.declared.film.CurveFault.TheVariants.{NoPictures, TooManySlots, BufferTooSmall}
-use Rattle.wire_curve.specs.FilmCurves.{used_in}
+use Rattle.wire_curve.specs.FilmCurves.{bytes_used_in}
 use Rattle.wire_curve.specs.Refusal.{IsAccepted, IsOverfull, HasFault}
 
 pub accepted-no_fault : (sizes : List ℕ) (timing : Timing) (fault : CurveFault) → IsAccepted sizes timing → HasFault sizes timing fault → ⊥
@@ -37,6 +37,6 @@ HasFault-unique sizes timing (BufferTooSmall slot used least) (BufferTooSmall sl
     let one = a.2 in
     let other = b.2 in
     let same_slot : slot ≡ slot' = omega (arith, first_is_one sizes timing slot used least slot' used' least' one other, first_is_one sizes timing slot' used' least' slot used least other one) in
-    let same_used : used ≡ used' = one.used_is ∙ (ap (used_in sizes timing) same_slot ∙ sym other.used_is) in
+    let same_used : used ≡ used' = one.used_is ∙ (ap (bytes_used_in sizes timing) same_slot ∙ sym other.used_is) in
     let same_least : least ≡ least' = omega (arith, greatest_is_one sizes timing slot used least slot' used' least' one other, greatest_is_one sizes timing slot' used' least' slot used least other one) in
     cc

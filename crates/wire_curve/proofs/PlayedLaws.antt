@@ -6,11 +6,11 @@ use Rattle.std.proofs.lemmas.Bool.{cases_lt}
 use Rattle.std.proofs.lemmas.Bool.Decides.{nat_tests}
 use Rattle.std.proofs.Math.Nat.{div-eq_of_lt-le, div-mul-le_self, lt-div-mul-add, mul-le-mul_right}
 use Rattle.wire_curve.specs.declared.film.Timing.{Timing}
-use Rattle.wire_curve.specs.FilmCurves.{due, used_before}
+use Rattle.wire_curve.specs.FilmCurves.{due_slot, used_before}
 use Rattle.wire_curve.specs.Played.{AreUsedBy, AreUsedBefore, played_to}
 use Rattle.wire_curve.proofs.Sums.{sum_by-range-add, sum_by-range-zero, sum_by-range_more, sum_by-range-take}
 
-pub due_is : (timing : Timing) (k s : ℕ) → 1 ≤ timing.slot_units → (due timing k ≡ s + timing.delay)
+pub due_is : (timing : Timing) (k s : ℕ) → 1 ≤ timing.slot_units → (due_slot timing k ≡ s + timing.delay)
     ↔ ((s * timing.slot_units ≤ k * timing.picture_units) × (k * timing.picture_units < (s + 1) * timing.slot_units))
 due_is timing k s some =
     let time = k * timing.picture_units in
@@ -23,7 +23,7 @@ due_is timing k s some =
       (λ both. let is : time / unit ≡ s = div-eq_of_lt-le {k = s} unit {m = time} (omega (arith, both.0)) (omega (arith, both.1)) in omega (arith, is)),
     )
 
-pub due_rises : (timing : Timing) (j k : ℕ) → 1 ≤ timing.slot_units → j ≤ k → due timing j ≤ due timing k
+pub due_rises : (timing : Timing) (j k : ℕ) → 1 ≤ timing.slot_units → j ≤ k → due_slot timing j ≤ due_slot timing k
 due_rises timing j k some le =
     let times : j * timing.picture_units ≤ k * timing.picture_units = mul-le-mul_right timing.picture_units le in
     let floor = div-mul-le_self (j * timing.picture_units) timing.slot_units in
@@ -59,10 +59,10 @@ used_of_first sizes timing n t are =
     let within = are.within in
     let d = length sizes - n in
     let e : n + d ≡ length sizes = omega (arith, within) in
-    let f : ℕ → ℕ = λ k. cond (ltb (due timing k) t) (get_or sizes k 0) 0 in
+    let f : ℕ → ℕ = λ k. cond (ltb (due_slot timing k) t) (get_or sizes k 0) 0 in
     let first = first_sum sizes f n d (omega (arith, e))
-    (λ k lt. cond_used (due timing k) t (get_or sizes k 0) (are.used k lt))
-    (λ k l u. cond_unused (due timing k) t (get_or sizes k 0) (are.unused k l (omega (arith, u, e)))) in
+    (λ k lt. cond_used (due_slot timing k) t (get_or sizes k 0) (are.used k lt))
+    (λ k l u. cond_unused (due_slot timing k) t (get_or sizes k 0) (are.unused k l (omega (arith, u, e)))) in
     let all : sum_by f (range_with_len 0 (length sizes)) ≡ sum (take n sizes) =
     subst (λ m. sum_by f (range_with_len 0 m) ≡ sum (take n sizes)) e first in
     omega (arith, all)
@@ -77,15 +77,15 @@ before_of_by sizes timing n t are = record {
 -- of the first m pictures the first n are used before slot t
 record IsCounted (timing : Timing) (m t n : ℕ) : Type 0 where
   within : n ≤ m
-  used : (k : ℕ) → k < n → due timing k < t
-  unused : (k : ℕ) → n ≤ k → k < m → t ≤ due timing k
+  used : (k : ℕ) → k < n → due_slot timing k < t
+  unused : (k : ℕ) → n ≤ k → k < m → t ≤ due_slot timing k
 
 count_used : (timing : Timing) (m t : ℕ) → 1 ≤ timing.slot_units → (n : ℕ) × IsCounted timing m t n
 count_used timing zero t some = (0, record { within = omega arith; used = λ k lt. absurd (omega (arith, lt)); unused = λ k l u. absurd (omega (arith, u)) })
 count_used timing (suc m) t some =
     let rest = count_used timing m t some in
     let is = rest.1 in
-    elim (cases_lt (due timing m) t) [
+    elim (cases_lt (due_slot timing m) t) [
       | inl used ↦ (
         suc m,
         record {
@@ -101,7 +101,7 @@ count_used timing (suc m) t some =
           used = is.used;
           unused = λ k l u. elim (cases_lt k m) [
             | inl before ↦ is.unused k l before
-            | inr last ↦ (let e : m ≡ k = omega (arith, last, u) in subst (λ i. t ≤ due timing i) e unused)
+            | inr last ↦ (let e : m ≡ k = omega (arith, last, u) in subst (λ i. t ≤ due_slot timing i) e unused)
           ];
         },
       )

@@ -8,24 +8,24 @@ use Rattle.std.proofs.lemmas.Bool.Decides.{nat_tests}
 use Rattle.std.proofs.lemmas.List.{get_or-set_same, get_or-set_other}
 use Rattle.std.proofs.lemmas.List.Sums.{sum_by_more}
 use Rattle.wire_curve.specs.declared.film.Timing.{Timing}
-use Rattle.wire_curve.specs.FilmCurves.{due, used_before, used_in, total_of, slot_count}
+use Rattle.wire_curve.specs.FilmCurves.{due_slot, used_before, bytes_used_in, total_of, slot_count}
 use Rattle.wire_curve.specs.Uses.{AreUses, used_by}
 use Rattle.wire_curve.proofs.Sums.{sum_by-range_more, sum_by-range-add, sum_by-range-le, sum_by-range-zero, sum_by-range-take, sum_by-range-all}
 
 -- a later picture is used no earlier
-pub due_rises : (timing : Timing) (j k : ℕ) → 1 ≤ timing.slot_units → j ≤ k → due timing j ≤ due timing k
+pub due_rises : (timing : Timing) (j k : ℕ) → 1 ≤ timing.slot_units → j ≤ k → due_slot timing j ≤ due_slot timing k
 due_rises timing j k some le =
     let product = mul-le-mul_right {m = j} {n = k} timing.picture_units le in
     let floor = div-mul-le_self (j * timing.picture_units) timing.slot_units in
     let whole = le-div (j * timing.picture_units / timing.slot_units) (k * timing.picture_units) timing.slot_units some (omega (arith, product, floor)) in
     omega (arith, whole)
 
-pub due_in_range : (sizes : List ℕ) (timing : Timing) (k : ℕ) → 1 ≤ timing.slot_units → k < length sizes → due timing k < slot_count sizes timing
+pub due_in_range : (sizes : List ℕ) (timing : Timing) (k : ℕ) → 1 ≤ timing.slot_units → k < length sizes → due_slot timing k < slot_count sizes timing
 due_in_range sizes timing k some lt = let le = due_rises timing k (length sizes - 1) some (omega arith) in omega (arith, le)
 
 -- what the first n pictures use in slot t
 abbrev pub first_used_in : List ℕ → Timing → ℕ → ℕ → ℕ
-first_used_in sizes timing n t = sum_by (λ k. cond (eqb (due timing k) t) (get_or sizes k 0) 0) (range_with_len 0 n)
+first_used_in sizes timing n t = sum_by (λ k. cond (eqb (due_slot timing k) t) (get_or sizes k 0) 0) (range_with_len 0 n)
 
 pub cond_le : (b : Bool) (n : ℕ) → cond b n 0 ≤ n
 cond_le true n = omega arith
@@ -33,7 +33,7 @@ cond_le false n = omega arith
 
 pub first_used_in_fits : (sizes : List ℕ) (timing : Timing) (n t : ℕ) → n ≤ length sizes → first_used_in sizes timing n t ≤ sum (take n sizes)
 first_used_in_fits sizes timing n t le =
-    let below = sum_by-range-le (λ k. cond (eqb (due timing k) t) (get_or sizes k 0) 0) (λ k. get_or sizes k 0) 0 n (λ k l u. cond_le (eqb (due timing k) t) (get_or sizes k 0)) in
+    let below = sum_by-range-le (λ k. cond (eqb (due_slot timing k) t) (get_or sizes k 0) 0) (λ k. get_or sizes k 0) 0 n (λ k l u. cond_le (eqb (due_slot timing k) t) (get_or sizes k 0)) in
     omega (arith, below, sum_by-range-take sizes n le)
 
 pub cond_same : (a b n : ℕ) → a ≡ b → cond (eqb a b) n 0 ≡ n
@@ -48,26 +48,26 @@ pub record AreFirstUses (sizes : List ℕ) (timing : Timing) (slots n : ℕ) (us
   pub each : (t : ℕ) → t < slots → get_or uses t 0 ≡ first_used_in sizes timing n t
 
 first_uses_at : (sizes : List ℕ) (timing : Timing) (slots n : ℕ) (uses : List ℕ) → AreFirstUses sizes timing slots n uses
-    → (s : ℕ) → s ≡ due timing n → s < slots → get_or (set uses s (get_or uses s 0 + get_or sizes n 0)) s 0 ≡ first_used_in sizes timing (n + 1) s
+    → (s : ℕ) → s ≡ due_slot timing n → s < slots → get_or (set uses s (get_or uses s 0 + get_or sizes n 0)) s 0 ≡ first_used_in sizes timing (n + 1) s
 first_uses_at sizes timing slots n uses so_far s is in' =
     let here : s < length uses = omega (arith, so_far.slots_are) in
     let at_s = get_or-set_same uses s (get_or uses s 0 + get_or sizes n 0) 0 here in
-    let more_s = sum_by-range_more (λ k. cond (eqb (due timing k) s) (get_or sizes k 0) 0) n in
+    let more_s = sum_by-range_more (λ k. cond (eqb (due_slot timing k) s) (get_or sizes k 0) 0) n in
     let before_s = so_far.each s in' in
-    let yes : cond (eqb (due timing n) s) (get_or sizes n 0) 0 ≡ get_or sizes n 0 = cond_same (due timing n) s (get_or sizes n 0) (sym is) in
+    let yes : cond (eqb (due_slot timing n) s) (get_or sizes n 0) 0 ≡ get_or sizes n 0 = cond_same (due_slot timing n) s (get_or sizes n 0) (sym is) in
     omega (arith, at_s, more_s, before_s, yes)
 
 first_uses_off : (sizes : List ℕ) (timing : Timing) (slots n : ℕ) (uses : List ℕ) → AreFirstUses sizes timing slots n uses
-    → (s : ℕ) → s ≡ due timing n → (t : ℕ) → t < slots → t ≢ s → get_or (set uses s (get_or uses s 0 + get_or sizes n 0)) t 0 ≡ first_used_in sizes timing (n + 1) t
+    → (s : ℕ) → s ≡ due_slot timing n → (t : ℕ) → t < slots → t ≢ s → get_or (set uses s (get_or uses s 0 + get_or sizes n 0)) t 0 ≡ first_used_in sizes timing (n + 1) t
 first_uses_off sizes timing slots n uses so_far s is t lt other =
     let same_there = get_or-set_other uses s t (get_or uses s 0 + get_or sizes n 0) 0 other in
-    let more = sum_by-range_more (λ k. cond (eqb (due timing k) t) (get_or sizes k 0) 0) n in
+    let more = sum_by-range_more (λ k. cond (eqb (due_slot timing k) t) (get_or sizes k 0) 0) n in
     let before = so_far.each t lt in
-    let no : cond (eqb (due timing n) t) (get_or sizes n 0) 0 ≡ 0 = cond_other (due timing n) t (get_or sizes n 0) (λ e. other (sym (is ∙ e))) in
+    let no : cond (eqb (due_slot timing n) t) (get_or sizes n 0) 0 ≡ 0 = cond_other (due_slot timing n) t (get_or sizes n 0) (λ e. other (sym (is ∙ e))) in
     omega (arith, same_there, more, before, no)
 
 pub first_uses_more : (sizes : List ℕ) (timing : Timing) (slots n : ℕ) (uses : List ℕ) → AreFirstUses sizes timing slots n uses
-    → (s : ℕ) → s ≡ due timing n → s < slots → (t : ℕ) → t < slots → get_or (set uses s (get_or uses s 0 + get_or sizes n 0)) t 0 ≡ first_used_in sizes timing (n + 1) t
+    → (s : ℕ) → s ≡ due_slot timing n → s < slots → (t : ℕ) → t < slots → get_or (set uses s (get_or uses s 0 + get_or sizes n 0)) t 0 ≡ first_used_in sizes timing (n + 1) t
 first_uses_more sizes timing slots n uses so_far s is in' t lt =
     elim (cases_eq t s) [
       | inl same ↦ subst (λ u. get_or (set uses s (get_or uses s 0 + get_or sizes n 0)) u 0 ≡ first_used_in sizes timing (n + 1) u) (sym same) (first_uses_at sizes timing slots n uses so_far s is in')
@@ -95,20 +95,20 @@ cond_due a t n lt = grind (arith, nat_tests)
 
 pub used_before-none : (sizes : List ℕ) (timing : Timing) → used_before sizes timing 0 ≡ timing.played
 used_before-none sizes timing =
-    let none = sum_by-range-zero (λ k. cond (ltb (due timing k) 0) (get_or sizes k 0) 0) 0 (length sizes) (λ k l u. cond_none (due timing k) (get_or sizes k 0)) in
+    let none = sum_by-range-zero (λ k. cond (ltb (due_slot timing k) 0) (get_or sizes k 0) 0) 0 (length sizes) (λ k l u. cond_none (due_slot timing k) (get_or sizes k 0)) in
     omega (arith, none)
 
 -- what is used by the end of a slot is what was used before it, and what it uses itself
-pub used_before-more : (sizes : List ℕ) (timing : Timing) (t : ℕ) → used_before sizes timing (t + 1) ≡ used_before sizes timing t + used_in sizes timing t
+pub used_before-more : (sizes : List ℕ) (timing : Timing) (t : ℕ) → used_before sizes timing (t + 1) ≡ used_before sizes timing t + bytes_used_in sizes timing t
 used_before-more sizes timing t =
-    let split = sum_by-range-add (λ k. cond (ltb (due timing k) t) (get_or sizes k 0) 0) (λ k. cond (eqb (due timing k) t) (get_or sizes k 0) 0)
-    (λ k. cond (ltb (due timing k) (t + 1)) (get_or sizes k 0) 0) 0 (length sizes) (λ k l u. cond_before (due timing k) t (get_or sizes k 0)) in
+    let split = sum_by-range-add (λ k. cond (ltb (due_slot timing k) t) (get_or sizes k 0) 0) (λ k. cond (eqb (due_slot timing k) t) (get_or sizes k 0) 0)
+    (λ k. cond (ltb (due_slot timing k) (t + 1)) (get_or sizes k 0) 0) 0 (length sizes) (λ k l u. cond_before (due_slot timing k) t (get_or sizes k 0)) in
     omega (arith, split)
 
 pub used_before-all : (sizes : List ℕ) (timing : Timing) → 1 ≤ timing.slot_units → 0 < length sizes → used_before sizes timing (slot_count sizes timing) ≡ total_of sizes timing
 used_before-all sizes timing some pictures =
-    let all = sum_by-range-add (λ k. get_or sizes k 0) (λ k. 0) (λ k. cond (ltb (due timing k) (slot_count sizes timing)) (get_or sizes k 0) 0) 0 (length sizes)
-    (λ k l u. let e = cond_due (due timing k) (slot_count sizes timing) (get_or sizes k 0) (due_in_range sizes timing k some (omega arith)) in omega (arith, e)) in
+    let all = sum_by-range-add (λ k. get_or sizes k 0) (λ k. 0) (λ k. cond (ltb (due_slot timing k) (slot_count sizes timing)) (get_or sizes k 0) 0) 0 (length sizes)
+    (λ k l u. let e = cond_due (due_slot timing k) (slot_count sizes timing) (get_or sizes k 0) (due_in_range sizes timing k some (omega arith)) in omega (arith, e)) in
     let none = sum_by-range-zero (λ k. 0) 0 (length sizes) (λ k l u. refl) in
     omega (arith, all, none, sum_by-range-all sizes)
 

@@ -7,20 +7,20 @@ use Rattle.wire_curve.specs.declared.film.Timing.{Timing}
 use Rattle.wire_curve.specs.declared.curves.Curves.{Curves}
 
 -- the slot in which picture k is used, where `delay` slots pass before the first one
-abbrev pub due : Timing → ℕ → ℕ
-due timing k = k * timing.picture_units / timing.slot_units + timing.delay
+abbrev pub due_slot : Timing → ℕ → ℕ
+due_slot timing k = k * timing.picture_units / timing.slot_units + timing.delay
 
 -- the bytes used before slot t, that is by the end of slot t - 1: those played earlier, and each
 -- picture that is due by then
 abbrev pub used_before : List ℕ → Timing → ℕ → ℕ
 used_before sizes timing t =
-    timing.played + sum_by (λ k. if nat_lt (due timing k) t
+    timing.played + sum_by (λ k. if nat_lt (due_slot timing k) t
     then slice_index sizes k else 0) (range_with_len 0 (length sizes))
 
 -- the bytes used in slot t: the pictures that are due in it
-abbrev pub used_in : List ℕ → Timing → ℕ → ℕ
-used_in sizes timing t =
-    sum_by (λ k. if due timing k == t
+abbrev pub bytes_used_in : List ℕ → Timing → ℕ → ℕ
+bytes_used_in sizes timing t =
+    sum_by (λ k. if due_slot timing k == t
     then slice_index sizes k else 0) (range_with_len 0 (length sizes))
 
 abbrev pub total_of : List ℕ → Timing → ℕ
@@ -28,7 +28,7 @@ total_of sizes timing = timing.played + sum sizes
 
 -- the slots up to the one in which the last picture is used
 abbrev pub slot_count : List ℕ → Timing → ℕ
-slot_count sizes timing = due timing (length sizes - 1) + 1
+slot_count sizes timing = due_slot timing (length sizes - 1) + 1
 
 -- what must have been sent by the end of slot t
 abbrev pub low_at : List ℕ → Timing → ℕ → ℕ

@@ -5,23 +5,23 @@ use Rattle.wire_curve.specs.declared.film.CurveFault.{CurveFault}
 use Rattle.wire_curve.specs.declared.film.CurveFault.TheVariants.{NoPictures, TooManySlots, BufferTooSmall}
 use Rattle.wire_curve.specs.declared.film.CurveRefused.{CurveRefused}
 use Rattle.wire_curve.specs.declared.film.CurveRefused.TheVariants.{Fault, NoMemory}
-use Rattle.wire_curve.specs.FilmCurves.{slot_count, used_in}
+use Rattle.wire_curve.specs.FilmCurves.{slot_count, bytes_used_in}
 
 -- none of the three faults holds
 pub record IsAccepted (sizes : List ℕ) (timing : Timing) : Type 0 where
   pub some_picture : 0 < length sizes
   pub few_slots : slot_count sizes timing ≤ 1000000
-  pub buffer_holds : (t : ℕ) → t < slot_count sizes timing → used_in sizes timing t ≤ timing.buffer
+  pub buffer_holds : (t : ℕ) → t < slot_count sizes timing → bytes_used_in sizes timing t ≤ timing.buffer
 
 -- `slot` is the first one that uses more than the buffer holds, and `used` what it uses; `least` is
 -- the greatest use of any slot, and so the least buffer that would do
 pub record IsOverfull (sizes : List ℕ) (timing : Timing) (slot used least : ℕ) : Type 0 where
   pub in_range : slot < slot_count sizes timing
-  pub used_is : used ≡ used_in sizes timing slot
+  pub used_is : used ≡ bytes_used_in sizes timing slot
   pub above_buffer : timing.buffer < used
-  pub first : (t : ℕ) → t < slot → used_in sizes timing t ≤ timing.buffer
-  pub greatest : (t : ℕ) → t < slot_count sizes timing → used_in sizes timing t ≤ least
-  pub reached : (t : ℕ) × (t < slot_count sizes timing) × (used_in sizes timing t ≡ least)
+  pub first : (t : ℕ) → t < slot → bytes_used_in sizes timing t ≤ timing.buffer
+  pub greatest : (t : ℕ) → t < slot_count sizes timing → bytes_used_in sizes timing t ≤ least
+  pub reached : (t : ℕ) × (t < slot_count sizes timing) × (bytes_used_in sizes timing t ≡ least)
 
 -- the fault that the pictures have, the first one in the order of its variants
 abbrev pub HasFault : List ℕ → Timing → CurveFault → Type 0

@@ -4,12 +4,12 @@ use Rattle.wire_curve.specs.declared.film.Timing.{Timing}
 use Rattle.wire_curve.specs.declared.curves.Curves.{Curves}
 use Rattle.wire_curve.specs.declared.film.CurveFault.{CurveFault}
 use Rattle.wire_curve.specs.declared.film.CurveFault.TheVariants.{NoPictures, TooManySlots, BufferTooSmall}
-use Rattle.wire_curve.specs.FilmCurves.{slot_count, used_in}
+use Rattle.wire_curve.specs.FilmCurves.{slot_count, bytes_used_in}
 
 -- the list has a number for each slot, the bytes used in it
 pub record AreUses (sizes : List ℕ) (timing : Timing) (uses : List ℕ) : Type 0 where
   pub slots : length uses ≡ slot_count sizes timing
-  pub each : (t : ℕ) → t < slot_count sizes timing → slice_index uses t ≡ used_in sizes timing t
+  pub each : (t : ℕ) → t < slot_count sizes timing → slice_index uses t ≡ bytes_used_in sizes timing t
 
 -- `slot` is the first one above the buffer, and `least` the greatest number of all
 pub record IsFirstAbove (uses : List ℕ) (buffer slot used least : ℕ) : Type 0 where

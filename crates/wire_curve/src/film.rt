@@ -3,7 +3,7 @@
 ghost use Rattle.std.specs.Prelude.{◌≡◌, ℕ, ◌+◌, ◌-◌, ◌<◌, ◌≤◌, ◌^◌, length, sum, slice_index};
 ghost use Rattle.std.specs.Prelude.{vec_len, IfOk, IfErr, IfSome, IfNone, OnOk, All, max, min};
 ghost use Rattle.wire_curve.specs.Sound.{IsSound};
-ghost use Rattle.wire_curve.specs.FilmCurves.{due, used_in, total_of, slot_count, IsWithinLimits};
+ghost use Rattle.wire_curve.specs.FilmCurves.{due_slot, bytes_used_in, total_of, slot_count, IsWithinLimits};
 ghost use Rattle.wire_curve.specs.FilmCurves.{AreFilmCurves};
 ghost use Rattle.wire_curve.specs.Uses.{AreUses, IsFaultOfUses, AreCurvesOfUses, IsLowerOfUses};
 ghost use Rattle.wire_curve.specs.Uses.{IsUpperOfUses};
@@ -127,7 +127,7 @@ fn due_slot(timing: &Timing, picture: u64) -> u64
     requires picture_units { timing.now.picture_units ≤ 360000 }
     requires picture { picture < 4194304 }
     requires delay { timing.now.delay ≤ 10000 }
-    ensures { result ≡ due timing.now picture }
+    ensures { result ≡ due_slot timing.now picture }
 {
     if timing.picture_units == timing.slot_units {
         return picture + timing.delay;

@@ -2,7 +2,7 @@
 
 ghost use Rattle.std.specs.Prelude.{◌≡◌, ℕ, ◌+◌, ◌*◌, ◌<◌, ◌≤◌, ◌↔◌, List, max, min};
 ghost use Rattle.wire_curve.specs.declared.film.Timing.{Timing};
-ghost use Rattle.wire_curve.specs.FilmCurves.{due, low_at, up_at, total_of};
+ghost use Rattle.wire_curve.specs.FilmCurves.{due_slot, low_at, up_at, total_of};
 ghost use Rattle.wire_curve.specs.Played.{AreUsedBy, AreUsedBefore, played_to};
 ghost use Rattle.wire_curve.specs.declared.film.CurveFault.TheVariants.{BufferTooSmall};
 ghost use Rattle.wire_curve.specs.Refusal.{HasFault, IsAccepted};
@@ -11,7 +11,7 @@ ghost use Rattle.wire_curve.specs.Refusal.{HasFault, IsAccepted};
 /// from the end of the delay.
 pub fn law_due_slot()
     ensures { (timing : Timing) (k s : ℕ) → 1 ≤ timing.slot_units →
-        (due timing k ≡ s + timing.delay)
+        (due_slot timing k ≡ s + timing.delay)
         ↔ ((s * timing.slot_units ≤ k * timing.picture_units)
         × (k * timing.picture_units < (s + 1) * timing.slot_units)) }
 {}

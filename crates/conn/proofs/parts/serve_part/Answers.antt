@@ -1,5 +1,5 @@
 use Rattle.std.proofs.Common.{◌≡◌, ◌++◌, ◌∷◌, [], length, option_map, rules, arith}
-use Rattle.vod_base.specs.Gates.{gave}
+use Rattle.vod_base.specs.Gates.{after_take}
 use Rattle.conn.specs.Parts.{duty, outlet}
 use Rattle.conn.specs.Words.{words_of}
 use Rattle.conn.proofs.Agreeing.{served_fresh}
@@ -18,7 +18,7 @@ connections-preserved g c =
     let served = c.serve_connection-report.ensures in
     let items : c.push_reserved.new.self.items ≡ reports ++ report ∷ [] = search rules in
     let words : report.words ≡ words_of c.args.seed c.args.worker (length reports) = search rules in
-    let given : g.G.Gate.told c.take.new.self ≡ option_map gave (g.G.Gate.told c.connections.part) = search rules in
+    let given : g.G.Gate.told c.take.new.self ≡ option_map after_take (g.G.Gate.told c.connections.part) = search rules in
     one_served (duty c.args.films.now c.args.settings.now c.args.seed c.args.worker) c.args.seat.now c.connections.seat
     c.serve_connection-report.new.seat
     (outlet (g.G.Gate.faults c.args.part.now) (g.G.Gate.told c.args.part.now))

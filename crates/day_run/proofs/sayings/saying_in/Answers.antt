@@ -1,6 +1,6 @@
 use Rattle.std.proofs.Common.{◌≡◌, length, arith, Bor, List, [], ℕ}
 use Rattle.std.proofs.lemmas.List.{length-map}
-use Rattle.day_run.specs.Lines.{shown}
+use Rattle.day_run.specs.Lines.{texts_at}
 use Rattle.day_run.proofs.Quiet.{quiet, seven}
 use Rattle.day_run.proofs.sayings.saying_in.Goals as goal
 
@@ -11,5 +11,5 @@ returns-in-len7-clause-saying c =
 
 pub returns-in_default-2-clause-saying : goal.returns-in_default-2-clause-saying
 returns-in_default-2-clause-saying c =
-    let n : length (shown c.args.words.now) ≡ length c.args.words.now = length-map c.args.words.now (λ (text : Bor (List ℕ)). text.now) in
-    quiet (shown c.args.words.now) (λ e. omega arith) (λ e. omega arith) (λ e. omega arith)
+    let n : length (texts_at c.args.words.now) ≡ length c.args.words.now = length-map c.args.words.now (λ (text : Bor (List ℕ)). text.now) in
+    quiet (texts_at c.args.words.now) (λ e. omega arith) (λ e. omega arith) (λ e. omega arith)

@@ -13,28 +13,28 @@ use Rattle.day_run.proofs.sums.booked_between.Goals as goal
 pub overflow_add-booked : goal.overflow_add-booked
 overflow_add-booked c =
     let calendar = c.calendar-calendar.result.now in
-    let small : c.booked-here.result ≤ 2 ^ 42 = omega (arith, c.booked-here.ensures.within, capacity-most calendar.steps c.loop-slot.slot c.now.ensures.calendar.profile) in
+    let small : c.booked_bytes-here.result ≤ 2 ^ 42 = omega (arith, c.booked_bytes-here.ensures.within, capacity-most calendar.steps c.loop-slot.slot c.now.ensures.calendar.profile) in
     let fits =
-    booked-fits c.loop-slot.booked c.booked-here.result c.loop-slot.slot c.args.from c.min-end.result calendar.first
+    booked-fits c.loop-slot.booked c.booked_bytes-here.result c.loop-slot.slot c.args.from c.min-end.result calendar.first
     (omega arith) c.loop-slot.invariant.few small (omega arith) (omega arith) (omega (arith, c.calendar-calendar.ensures.now, c.requires.from_now)) in
     omega (arith, fits)
 
 pub loop-slot-preserved : goal.loop-slot-preserved
 loop-slot-preserved c =
     let calendar = c.calendar-calendar.result.now in
-    let small : c.booked-here.result ≤ 2 ^ 42 = omega (arith, c.booked-here.ensures.within, capacity-most calendar.steps c.loop-slot.slot c.now.ensures.calendar.profile) in
+    let small : c.booked_bytes-here.result ≤ 2 ^ 42 = omega (arith, c.booked_bytes-here.ensures.within, capacity-most calendar.steps c.loop-slot.slot c.now.ensures.calendar.profile) in
     let state = state_after c.args.book.now.entries in
     let begun : c.args.from + 1 ≤ c.loop-slot.slot = omega arith in
     let known : calendar.first ≤ c.loop-slot.slot = omega (arith, c.calendar-calendar.ensures.now, c.requires.from_now) in
     record {
-      few = booked-more c.loop-slot.booked c.booked-here.result c.loop-slot.slot c.args.from begun c.loop-slot.invariant.few small;
+      few = booked-more c.loop-slot.booked c.booked_bytes-here.result c.loop-slot.slot c.args.from begun c.loop-slot.invariant.few small;
       late = omega arith;
       peak =
-          c.greater-peak.ensures ∙ peak-next (booked_in state) c.args.from c.loop-slot.slot c.loop-slot.peak c.booked-here.result begun c.loop-slot.invariant.peak
-          (c.booked-here.ensures.value ∙ c.calendar-calendar.ensures.stands.each c.loop-slot.slot known);
+          c.greater-peak.ensures ∙ peak-next (booked_in state) c.args.from c.loop-slot.slot c.loop-slot.peak c.booked_bytes-here.result begun c.loop-slot.invariant.peak
+          (c.booked_bytes-here.ensures.value ∙ c.calendar-calendar.ensures.stands.each c.loop-slot.slot known);
       sum =
-          booked-next (booked_in state) c.args.from c.loop-slot.slot c.loop-slot.booked c.booked-here.result begun c.loop-slot.invariant.sum
-          (c.booked-here.ensures.value ∙ c.calendar-calendar.ensures.stands.each c.loop-slot.slot known);
+          booked-next (booked_in state) c.args.from c.loop-slot.slot c.loop-slot.booked c.booked_bytes-here.result begun c.loop-slot.invariant.sum
+          (c.booked_bytes-here.ensures.value ∙ c.calendar-calendar.ensures.stands.each c.loop-slot.slot known);
     }
 
 pub returns : goal.returns

@@ -1,6 +1,6 @@
 use Rattle.std.proofs.Common.{◌≡◌, ◌+◌, ◌-◌, ◌<◌, ◌≤◌, ◌∙◌, subst, inl, inr, arith}
 use Rattle.std.proofs.lemmas.Bool.{cases_lt}
-use Rattle.wire_curve.specs.FilmCurves.{due}
+use Rattle.wire_curve.specs.FilmCurves.{due_slot}
 use Rattle.film_run.specs.Plans.{timing_of}
 use Rattle.film_run.proofs.SumLaws.{bytes-more, bytes-most}
 use Rattle.film_run.proofs.HaltLaws.{IsHalting, goes-on, kept-small, left-run, played-by}
@@ -39,7 +39,7 @@ loop-left-preserved g c =
       planned = c.requires.plan;
       halt = c.requires.halt;
     } in
-    let used : due (timing_of c.args.playback.now c.args.run.now) (c.loop-left.left.from_unit - c.args.run.now.from_unit) < c.stop_slot-stop.result = omega (arith, c.due_slot.ensures, c.loop-left-test.true) in
+    let used : due_slot (timing_of c.args.playback.now c.args.run.now) (c.loop-left.left.from_unit - c.args.run.now.from_unit) < c.stop_slot-stop.result = omega (arith, c.due_slot.ensures, c.loop-left-test.true) in
     let more = bytes-more sizes c.args.run.now.first_unit c.loop-left.left.from_unit (omega arith) (omega arith) in
     record {
       first_is = c.loop-left.invariant.first_is;
@@ -55,14 +55,14 @@ loop-left-preserved g c =
             | inl before ↦ c.loop-left.invariant.used unit from before
             | inr here ↦
                 let same : c.loop-left.left.from_unit ≡ unit = omega arith in
-                subst (λ u. due (timing_of c.args.playback.now c.args.run.now) (u - c.args.run.now.from_unit) < c.stop_slot-stop.result) same used
+                subst (λ u. due_slot (timing_of c.args.playback.now c.args.run.now) (u - c.args.run.now.from_unit) < c.stop_slot-stop.result) same used
           ];
     }
 
 pub returns-clause-left : goal.returns-clause-left
 returns-clause-left g c =
     let sizes = g.U.Units.sizes c.args.units.now in
-    let unused : c.stop_slot-stop.result ≤ due (timing_of c.args.playback.now c.args.run.now) (c.loop-left.left.from_unit - c.args.run.now.from_unit) = omega (arith, c.due_slot.ensures, c.loop-left-test.false) in
+    let unused : c.stop_slot-stop.result ≤ due_slot (timing_of c.args.playback.now c.args.run.now) (c.loop-left.left.from_unit - c.args.run.now.from_unit) = omega (arith, c.due_slot.ensures, c.loop-left-test.false) in
     let played = played-by sizes c.args.playback.now c.args.run.now c.loop-left.left.from_unit c.stop_slot-stop.result c.requires.playback c.requires.run
     c.loop-left.invariant.from c.loop-left.invariant.rest c.loop-left.invariant.used unused in
     record {
@@ -89,7 +89,7 @@ returns-clause-run g c =
       planned = c.requires.plan;
       halt = c.requires.halt;
     } in
-    let unused : c.stop_slot-stop.result ≤ due (timing_of c.args.playback.now c.args.run.now) (c.loop-left.left.from_unit - c.args.run.now.from_unit) = omega (arith, c.due_slot.ensures, c.loop-left-test.false) in
+    let unused : c.stop_slot-stop.result ≤ due_slot (timing_of c.args.playback.now c.args.run.now) (c.loop-left.left.from_unit - c.args.run.now.from_unit) = omega (arith, c.due_slot.ensures, c.loop-left-test.false) in
     let played = played-by sizes c.args.playback.now c.args.run.now c.loop-left.left.from_unit c.stop_slot-stop.result c.requires.playback c.requires.run
     c.loop-left.invariant.from c.loop-left.invariant.rest c.loop-left.invariant.used unused in
     (left-run sizes c.args.playback.now c.args.run.now c.loop-left.left c.args.plan.now c.args.last c.args.keep c.stop_slot-stop.result h c.stop_slot-stop.ensures.stop c.stop_slot-stop.ensures.inside
@@ -107,7 +107,7 @@ returns-clause-fits g c =
       planned = c.requires.plan;
       halt = c.requires.halt;
     } in
-    let unused : c.stop_slot-stop.result ≤ due (timing_of c.args.playback.now c.args.run.now) (c.loop-left.left.from_unit - c.args.run.now.from_unit) = omega (arith, c.due_slot.ensures, c.loop-left-test.false) in
+    let unused : c.stop_slot-stop.result ≤ due_slot (timing_of c.args.playback.now c.args.run.now) (c.loop-left.left.from_unit - c.args.run.now.from_unit) = omega (arith, c.due_slot.ensures, c.loop-left-test.false) in
     let played = played-by sizes c.args.playback.now c.args.run.now c.loop-left.left.from_unit c.stop_slot-stop.result c.requires.playback c.requires.run
     c.loop-left.invariant.from c.loop-left.invariant.rest c.loop-left.invariant.used unused in
     (left-run sizes c.args.playback.now c.args.run.now c.loop-left.left c.args.plan.now c.args.last c.args.keep c.stop_slot-stop.result h c.stop_slot-stop.ensures.stop c.stop_slot-stop.ensures.inside

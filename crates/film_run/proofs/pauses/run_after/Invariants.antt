@@ -1,5 +1,5 @@
 use Rattle.std.proofs.Common.{◌≡◌, ◌+◌, ◌-◌, ◌<◌, ◌≤◌, ℕ}
-use Rattle.wire_curve.specs.FilmCurves.{due}
+use Rattle.wire_curve.specs.FilmCurves.{due_slot}
 use Rattle.film_run.specs.Plans.{timing_of}
 use Rattle.film_run.specs.Runs.{bytes_between}
 use Rattle.film_run.proofs.pauses.run_after.Given as goal
@@ -13,7 +13,7 @@ invariant-loop-left g l = record {
   rest : l.left.from_unit < l.run.end_unit;
   played : l.left.played ≡ bytes_between (g.U.Units.sizes l.units) l.run.first_unit l.left.from_unit;
   used : (unit : ℕ) → l.run.from_unit ≤ unit → unit < l.left.from_unit
-      → due (timing_of l.playback l.run) (unit - l.run.from_unit) < l.stop;
+      → due_slot (timing_of l.playback l.run) (unit - l.run.from_unit) < l.stop;
 }
 
 abbrev pub decreases-loop-left : goal.decreases-loop-left

@@ -18,8 +18,8 @@ returns-in_err-push_slot c =
     let after = lines (booked_at calendar) (range_with_len (slot + 1) (ring_slots - (k + 1))) in
     let inside : k < ring_slots = omega (arith, ring-is, c.loop-slot-test.true, c.now-now.ensures.value, c.loop-slot.auto.slot) in
     let place : slot ≡ first + k = omega (arith, c.now-now.ensures.value, c.loop-slot.auto.slot) in
-    let some : 0 < booked_at calendar slot = omega (arith, c.booked-booked.ensures.value, c.if-is_booked.true) in
-    let words = ap (λ n. before ++ ((slot_words slot n ++ codes "\n") ++ after)) c.booked-booked.ensures.value ∙ lines-around (booked_at calendar) first k ring_slots slot place inside some in
+    let some : 0 < booked_at calendar slot = omega (arith, c.booked_bytes-booked.ensures.value, c.if-is_booked.true) in
+    let words = ap (λ n. before ++ ((slot_words slot n ++ codes "\n") ++ after)) c.booked_bytes-booked.ensures.value ∙ lines-around (booked_at calendar) first k ring_slots slot place inside some in
     handed_on c.from_residual.result c.from_residual.ensures.0 (appended_as words (then_appended before c.loop-slot.invariant (cut_before after c.in_err-push_slot.ensures)))
 
 pub loop-slot-preserved : goal.loop-slot-preserved
@@ -35,14 +35,14 @@ loop-slot-preserved c =
     let out = c.args.out.now.items in
     elim c.if-is_booked.branch [
       | then-is_booked+in_ok-push_slot w ↦ (
-          let some : 0 < booked_at calendar slot = omega (arith, c.booked-booked.ensures.value, w.if-is_booked.true) in
-          let line = slot_words slot c.booked-booked.result ++ codes "\n" in
-          let same = ap (λ n. slot_words slot n ++ codes "\n") c.booked-booked.ensures.value ∙ sym (line-booked (booked_at calendar) slot some) in
+          let some : 0 < booked_at calendar slot = omega (arith, c.booked_bytes-booked.ensures.value, w.if-is_booked.true) in
+          let line = slot_words slot c.booked_bytes-booked.result ++ codes "\n" in
+          let same = ap (λ n. slot_words slot n ++ codes "\n") c.booked_bytes-booked.ensures.value ∙ sym (line-booked (booked_at calendar) slot some) in
           ap (λ (v : Vec ℕ Global). v.items) w.out-is ∙ both out before line _ _ c.loop-slot.invariant w.in_ok-push_slot.ensures.whole
           ∙ ap (λ (l : List ℕ). out ++ l) (ap (λ (l : List ℕ). before ++ l) same ∙ sym more)
           )
       | else-is_booked w ↦ (
-          let none : booked_at calendar slot ≤ 0 = omega (arith, c.booked-booked.ensures.value, w.if-is_booked.false) in
+          let none : booked_at calendar slot ≤ 0 = omega (arith, c.booked_bytes-booked.ensures.value, w.if-is_booked.false) in
           let same = more ∙ ap (λ (l : List ℕ). before ++ l) (line-free (booked_at calendar) slot none) ∙ append-nil before in
           ap (λ (v : Vec ℕ Global). v.items) w.out-is ∙ c.loop-slot.invariant ∙ ap (λ (l : List ℕ). out ++ l) (sym same)
           )

@@ -1,6 +1,6 @@
 use Rattle.std.proofs.Common.{◌≡◌, ℕ, true, List, [], ◌∷◌, Some, ◌≤◌, length, take, codes, decimal, refl, sym, ap, ◌∙◌, arith}
 use Rattle.rtsp_text.specs.Replies.{reply_text}
-use Rattle.session.specs.Replies.{field, joined}
+use Rattle.session.specs.Replies.{field, joined_parts}
 use Rattle.std.proofs.lemmas.List.{length-take-le}
 use Rattle.rtsp_fields.specs.Descriptions.{description_text}
 use Rattle.rtsp_text.specs.Lines.{is_one_line}
@@ -28,7 +28,7 @@ returns c =
     let count : c.description-length.result ≡ length text =
     sym (length-take-le c.description-length.result c.description-length.new.into within) ∙ ap length written in
     let kind = field (codes "Content-Type") (codes "application/sdp") in
-    let base = λ (ps : List (List ℕ)). field (codes "Content-Base") (joined ps) in
+    let base = λ (ps : List (List ℕ)). field (codes "Content-Base") (joined_parts ps) in
     let long = λ (n : ℕ). field (codes "Content-Length") (decimal n) in
     c.finish.ensures.whole 200 (Some c.args.sequence) (base parts ∷ kind ∷ long c.description-length.result ∷ [])
     (c.number_field.ensures.front 200 (Some c.args.sequence) (base parts ∷ kind ∷ [])

@@ -1,6 +1,6 @@
 use Rattle.std.proofs.Common.{◌≡◌, ℕ, List, [], ◌∷◌, Some, codes, decimal, refl, ap, ◌∙◌}
 use Rattle.rtsp_text.specs.Replies.{reply_front}
-use Rattle.session.specs.Replies.{field, joined}
+use Rattle.session.specs.Replies.{field, joined_parts}
 use Rattle.rtsp_fields.specs.Descriptions.{seconds_text}
 use Rattle.session.proofs.replies.put_play.Goals as goal
 
@@ -21,11 +21,11 @@ returns-clause-text c =
     ∷ codes "/video;seq=" ∷ decimal c.args.info.now.sequence ∷ codes ";rtptime=" ∷ decimal c.args.info.now.timestamp ∷ []) =
     rw (c.as_slice-3.ensures, c.as_slice-4.ensures, c.as_slice-5.ensures, number, c.as_slice-6.ensures, time) refl in
     let session = field (codes "Session") c.args.id.now in
-    c.field_of-2.ensures.front 200 (Some c.args.sequence) (session ∷ field (codes "Range") (joined range) ∷ [])
+    c.field_of-2.ensures.front 200 (Some c.args.sequence) (session ∷ field (codes "Range") (joined_parts range) ∷ [])
     (c.field_of.ensures.front 200 (Some c.args.sequence) (session ∷ [])
     (c.field.ensures.front 200 (Some c.args.sequence) [] (c.start.ensures.front c.clear.ensures)))
     ∙ ap (λ (ps : List (List ℕ)). reply_front 200 (Some c.args.sequence)
-    (session ∷ field (codes "Range") (joined ps) ∷ field (codes "RTP-Info") (joined info) ∷ [])) same_range
+    (session ∷ field (codes "Range") (joined_parts ps) ∷ field (codes "RTP-Info") (joined_parts info) ∷ [])) same_range
     ∙ ap (λ (ps : List (List ℕ)). reply_front 200 (Some c.args.sequence)
-    (session ∷ field (codes "Range") (joined (codes "npt=" ∷ seconds_text c.args.info.now.first_ms ∷ codes "-"
-    ∷ seconds_text c.args.info.now.end_ms ∷ [])) ∷ field (codes "RTP-Info") (joined ps) ∷ [])) same_info
+    (session ∷ field (codes "Range") (joined_parts (codes "npt=" ∷ seconds_text c.args.info.now.first_ms ∷ codes "-"
+    ∷ seconds_text c.args.info.now.end_ms ∷ [])) ∷ field (codes "RTP-Info") (joined_parts ps) ∷ [])) same_info

@@ -24,8 +24,8 @@ join-requires-clause-apex c =
     let beyond = chain_beyond c.args.side (side_of curves c.args.side) c.args.slot c.args.path.now.apex c.args.own.now c.requires.funnel.own in
     corner_fits curves.from curves.low.items curves.up.items c.args.path.now.apex c.requires.sound (omega (arith, beyond, slot)) c.requires.path.below
 
-pub crossed-requires-clause-fit : goal.crossed-requires-clause-fit
-crossed-requires-clause-fit c =
+pub crossing-requires-clause-fit : goal.crossing-requires-clause-fit
+crossing-requires-clause-fit c =
     let curves = c.args.curves.now in
     let slot = c.requires.slot in
     let beyond = c.loop-corner.invariant.crossing.beyond in

@@ -6,7 +6,7 @@ use Rattle.command_words.specs.Words.{Serving}
 use Rattle.command_words.specs.Orders.{serving_of}
 use Rattle.vodserve.specs.Served.{IsJournal, served_text}
 use Rattle.vodserve.specs.Worked.{HaveWorked}
-use Rattle.vodserve.specs.Run.{Ends, Seen, gate_seen, seen}
+use Rattle.vodserve.specs.Run.{Ends, Seen, gate_seen, sight_of}
 use Rattle.vodserve.proofs.ServeLemmas.{fault_risen, have_worked_since}
 use Rattle.vodserve.proofs.run.serve.Goals as goal
 
@@ -28,10 +28,10 @@ returns-in-Ok-run_server-clause-serves g c =
     (subst (λ (es : List Entry). HaveWorked c.in-Ok.prepared.films.items c.args.seed serving es before after c.in-Ok-run_server.closed.end reports) (sym c.end_server.ensures.journal)
     (have_worked_since c.in-Ok.prepared.films.items c.args.seed serving entries before opened after c.in-Ok-run_server.closed.end reports
     ((c.in-Ok-run_server.ensures {u = tt}).worked) c.prepare.ensures.count)) in
-    let out : Seen (List ℕ) = seen g.O.Sink.faults g.O.Sink.written c.args.out.now in
-    let out' : Seen (List ℕ) = seen g.O.Sink.faults g.O.Sink.written c.end_server.new.out in
-    let err : Seen (List ℕ) = seen g.E.Sink.faults g.E.Sink.written c.args.err.now in
-    let err' : Seen (List ℕ) = seen g.E.Sink.faults g.E.Sink.written c.end_server.new.err in
+    let out : Seen (List ℕ) = sight_of g.O.Sink.faults g.O.Sink.written c.args.out.now in
+    let out' : Seen (List ℕ) = sight_of g.O.Sink.faults g.O.Sink.written c.end_server.new.out in
+    let err : Seen (List ℕ) = sight_of g.E.Sink.faults g.E.Sink.written c.args.err.now in
+    let err' : Seen (List ℕ) = sight_of g.E.Sink.faults g.E.Sink.written c.end_server.new.err in
     inr (record {
       films = c.in-Ok.prepared.films.items;
       loaded = (c.in-Ok.ensures {u = tt}).loaded;

@@ -1,7 +1,7 @@
 use Rattle.std.proofs.Common.{◌≡◌, ℕ, length, arith, refl, ap, subst}
 use Rattle.admission.specs.declared.entries.Command.TheVariants.{Look}
 use Rattle.admission.specs.Books.{IsNoted, Journal}
-use Rattle.admission.specs.Histories.{live, state_after}
+use Rattle.admission.specs.Histories.{open_count, state_after}
 use Rattle.admission.proofs.Calendars.{look-answer}
 use Rattle.admission.proofs.Journals.{kept-push, noted-push}
 use Rattle.admission.proofs.book.Book.look.Goals as goal
@@ -10,10 +10,10 @@ pub invariant_of-self : goal.invariant_of-self
 invariant_of-self c =
     let book = c.self.inside in
     let entries : length book.entries.items ≡ length c.args.self.now.entries = ap (λ (j : Journal). length j.entries) c.self.view_is in
-    let count : live book.entries.items ≡ live c.args.self.now.entries = ap (λ (j : Journal). live j.entries) c.self.view_is in
+    let count : open_count book.entries.items ≡ open_count c.args.self.now.entries = ap (λ (j : Journal). open_count j.entries) c.self.view_is in
     kept-push book.calendar book.calendar book.entries.items c.note.new.entries.items _ book.limit book.live book.live _ _ c.self.invariant
-    (look-answer book.calendar.steps book.calendar (state_after book.entries.items) c.min-slot.result c.now-now.result c.max-at.result c.booked-booked.result
-    c.self.invariant.follows c.now-now.ensures.value c.max-at.ensures c.booked-booked.ensures.value)
+    (look-answer book.calendar.steps book.calendar (state_after book.entries.items) c.min-slot.result c.now-now.result c.max-at.result c.booked_bytes-booked.result
+    c.self.invariant.follows c.now-now.ensures.value c.max-at.ensures c.booked_bytes-booked.ensures.value)
     c.note.ensures.items refl c.self.invariant.follows c.self.invariant.count_is
     (omega (arith, c.if-full-self.false, c.counts-full.ensures.full.entries_are, c.counts-full.ensures.full.live_is, c.self.invariant.count_is, entries, count)) c.note.ensures.room
 
@@ -27,6 +27,6 @@ returns-clause-noted c =
     subst S c.min-slot.ensures
     (subst P c.self.view_is (noted-push book.calendar.steps book.calendar.steps book.limit c.args.maker book.entries.items c.note.new.entries.items (Look c.min-slot.result) _ c.note.result
     c.self.invariant.legal
-    (look-answer book.calendar.steps book.calendar (state_after book.entries.items) c.min-slot.result c.now-now.result c.max-at.result c.booked-booked.result
-    c.self.invariant.follows c.now-now.ensures.value c.max-at.ensures c.booked-booked.ensures.value)
+    (look-answer book.calendar.steps book.calendar (state_after book.entries.items) c.min-slot.result c.now-now.result c.max-at.result c.booked_bytes-booked.result
+    c.self.invariant.follows c.now-now.ensures.value c.max-at.ensures c.booked_bytes-booked.ensures.value)
     c.note.ensures.place c.note.ensures.answer c.note.ensures.items refl))

@@ -5,7 +5,7 @@ use Rattle.admission.specs.declared.entries.Command.TheVariants.{Play}
 use Rattle.admission.specs.declared.entries.Entry.{Entry}
 use Rattle.admission.specs.Machine.{CanHalt}
 use Rattle.admission.specs.Books.{IsNoted, Journal}
-use Rattle.admission.specs.Histories.{live, state_after}
+use Rattle.admission.specs.Histories.{open_count, state_after}
 use Rattle.admission.proofs.Journals.{kept-push, noted-push, open-asked, opens-most}
 use Rattle.admission.proofs.Opens.{opened-last}
 use Rattle.admission.proofs.Within.{sound-after}
@@ -16,7 +16,7 @@ invariant_of-self c =
     let book = c.self.inside in
     let state = state_after book.entries.items in
     let entries : length book.entries.items ≡ length c.args.self.now.entries = ap (λ (j : Journal). length j.entries) c.self.view_is in
-    let count : live book.entries.items ≡ live c.args.self.now.entries = ap (λ (j : Journal). live j.entries) c.self.view_is in
+    let count : open_count book.entries.items ≡ open_count c.args.self.now.entries = ap (λ (j : Journal). open_count j.entries) c.self.view_is in
     let within = (sound-after book.calendar.steps book.entries.items c.self.invariant.legal).within in
     let answer = c.admit-answer.ensures.answer state c.self.invariant.follows within in
     kept-push book.calendar c.admit-answer.new.calendar book.entries.items c.note.new.entries.items _ book.limit book.live (book.live + c.opened_by.result) _ _ c.self.invariant

@@ -11,10 +11,10 @@ use Rattle.conn.proofs.connections.Connection.play.Goals as goal
 pub returns-in-None-clause-gone : goal.returns-in-None-clause-gone
 returns-in-None-clause-gone g c =
     gone_play (business c.args.seat.now.mine c.args.self.now)
-    (business c.play.new.seat.mine (record { session = c.admitted.new.self; input = c.args.self.now.input; booking = c.replace.new.dest }))
+    (business c.play.new.seat.mine (record { session = c.hear_admission.new.self; input = c.args.self.now.input; booking = c.replace.new.dest }))
     _ _ _ c.in-Ok.booking
     (held_none c.args.seat.now.mine c.args.self.now.booking (open_of c.args.self.now.session) c.requires.closed c.requires.held)
-    (search rules) c.in-Ok.ensures.made.mine c.admitted.ensures.handed.receipts
+    (search rules) c.in-Ok.ensures.made.mine c.hear_admission.ensures.handed.receipts
 
 pub returns-in-Err-Overflow-clause-gone : goal.returns-in-Err-Overflow-clause-gone
 returns-in-Err-Overflow-clause-gone g c =
@@ -22,10 +22,10 @@ returns-in-Err-Overflow-clause-gone g c =
     (Overflow c.in-Err-Overflow.place c.in-Err-Overflow.slot c.in-Err-Overflow.booked c.in-Err-Overflow.asked)
     c.in-Err-Overflow.ensures.refused (search rules) in
     gone_overflow (business c.args.seat.now.mine c.args.self.now)
-    (business c.play.new.seat.mine (record { session = c.overflowed.new.self; input = c.args.self.now.input; booking = c.args.self.now.booking }))
+    (business c.play.new.seat.mine (record { session = c.hear_overflow.new.self; input = c.args.self.now.input; booking = c.args.self.now.booking }))
     _ c.in-Err-Overflow.place _ _ c.in-Err-Overflow.slot c.in-Err-Overflow.booked c.in-Err-Overflow.asked
     (held_none c.args.seat.now.mine c.args.self.now.booking (open_of c.args.self.now.session) c.requires.closed c.requires.held)
-    refl made.mine c.overflowed.ensures.handed.receipts
+    refl made.mine c.hear_overflow.ensures.handed.receipts
 
 pub returns-clause-gone : goal.returns-clause-gone
 returns-clause-gone g c =
@@ -33,28 +33,28 @@ returns-clause-gone g c =
     (JournalFull c.in-Err-JournalFull.field-0-0 c.in-Err-JournalFull.entries c.in-Err-JournalFull.live)
     c.in-Err-JournalFull.ensures.refused (search rules) in
     gone_full (business c.args.seat.now.mine c.args.self.now)
-    (business c.play.new.seat.mine (record { session = c.full.new.self; input = c.args.self.now.input; booking = c.args.self.now.booking }))
-    c.in-Err-JournalFull.entries c.in-Err-JournalFull.live full.1.mine refl c.full.ensures.handed.receipts
+    (business c.play.new.seat.mine (record { session = c.hear_full.new.self; input = c.args.self.now.input; booking = c.args.self.now.booking }))
+    c.in-Err-JournalFull.entries c.in-Err-JournalFull.live full.1.mine refl c.hear_full.ensures.handed.receipts
 
 pub returns-in-None-clause-answered : goal.returns-in-None-clause-answered
 returns-in-None-clause-answered g c =
-    answered_entry c.args.self.now.session (AskPlay c.args.plan) c.admitted.new.self c.args.seat.now c.play.new.seat 2 _ c.in-Ok.booking.number _
+    answered_entry c.args.self.now.session (AskPlay c.args.plan) c.hear_admission.new.self c.args.seat.now c.play.new.seat 2 _ c.in-Ok.booking.number _
     c.holds.ensures.kept c.play.ensures.kept c.play.ensures.same c.in-Ok.ensures.made refl
-    (ap (λ heard. play_of heard c.args.plan) (search rules), (search rules, c.admitted.ensures.exact, c.admitted.ensures.play))
+    (ap (λ heard. play_of heard c.args.plan) (search rules), (search rules, c.hear_admission.ensures.exact, c.hear_admission.ensures.play))
 
 pub returns-in-Err-Overflow-clause-answered : goal.returns-in-Err-Overflow-clause-answered
 returns-in-Err-Overflow-clause-answered g c =
     let made = refused_as c.args.seat.now c.play.new.seat c.heard_slot.result c.args.plan c.in-Err-Overflow.field-0
     (Overflow c.in-Err-Overflow.place c.in-Err-Overflow.slot c.in-Err-Overflow.booked c.in-Err-Overflow.asked)
     c.in-Err-Overflow.ensures.refused (search rules) in
-    answered_entry c.args.self.now.session (AskPlay c.args.plan) c.overflowed.new.self c.args.seat.now c.play.new.seat 2 _ c.in-Err-Overflow.place _
+    answered_entry c.args.self.now.session (AskPlay c.args.plan) c.hear_overflow.new.self c.args.seat.now c.play.new.seat 2 _ c.in-Err-Overflow.place _
     c.holds.ensures.kept c.play.ensures.kept c.play.ensures.same made refl
-    (ap (λ heard. play_of heard c.args.plan) (search rules), c.overflowed.ensures.exact)
+    (ap (λ heard. play_of heard c.args.plan) (search rules), c.hear_overflow.ensures.exact)
 
 pub returns-clause-answered : goal.returns-clause-answered
 returns-clause-answered g c =
     let full = refused_as c.args.seat.now c.play.new.seat c.heard_slot.result c.args.plan c.in-Err-JournalFull.field-0
     (JournalFull c.in-Err-JournalFull.field-0-0 c.in-Err-JournalFull.entries c.in-Err-JournalFull.live)
     c.in-Err-JournalFull.ensures.refused (search rules) in
-    answered_full c.args.self.now.session (AskPlay c.args.plan) c.full.new.self c.args.seat.now c.play.new.seat 2
-    c.in-Err-JournalFull.entries c.in-Err-JournalFull.live c.play.ensures.same full.1 (c.full.ensures.exact, refl)
+    answered_full c.args.self.now.session (AskPlay c.args.plan) c.hear_full.new.self c.args.seat.now c.play.new.seat 2
+    c.in-Err-JournalFull.entries c.in-Err-JournalFull.live c.play.ensures.same full.1 (c.hear_full.ensures.exact, refl)

@@ -2,7 +2,7 @@ use Rattle.std.proofs.Common.{◌≡◌, false, true, sym, ap, subst, ◌∙◌,
 use Rattle.session.specs.Inside.{IsAwaitedKept, IsGoing, IsStateKept, IsStopAnswered, awaited_offers, awaited_plays, awaited_receipts, open_receipts, standing_of}
 use Rattle.session.specs.Sendings.{IsFinished}
 use Rattle.session.specs.Standings.{IsAtRest}
-use Rattle.session.specs.Steps.{IsCarried, IsEven, settled}
+use Rattle.session.specs.Steps.{IsCarried, IsEven, after_stop}
 use Rattle.session.specs.declared.states.Awaited.{Awaited}
 use Rattle.session.specs.declared.states.Awaited.TheVariants.{Nothing}
 use Rattle.session.specs.declared.states.State.{State}
@@ -46,7 +46,7 @@ invariant_of-self-then-replied g c =
     let awaited : Awaited = c.finish.new.awaited in
     let carried : IsCarried inside.state new = c.send_due.ensures.carried in
     let even : IsEven new = c.in-Ok.ensures.even in
-    let is : after ≡ settled new = c.settle.ensures ∙ ap settled c.replace.ensures.value in
+    let is : after ≡ after_stop new = c.settle.ensures ∙ ap after_stop c.replace.ensures.value in
     let finished : IsFinished after awaited = c.finish.ensures.halt in
     let rest : IsAtRest (standing_of inside) = subst IsAtRest (sym c.self.view_is) c.requires.rest in
     let none : inside.awaited ≡ Nothing = nothing_of inside.awaited rest in

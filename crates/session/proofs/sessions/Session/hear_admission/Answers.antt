@@ -9,7 +9,7 @@ use Rattle.session.specs.declared.states.Play.{Play as Played}
 use Rattle.session.specs.declared.states.State.{State}
 use Rattle.session.specs.declared.states.State.TheVariants.{Playing, Ready}
 use Rattle.session.proofs.Askings.{admitted_going, admitted_state}
-use Rattle.session.proofs.sessions.Session.admitted.Goals as goal
+use Rattle.session.proofs.sessions.Session.hear_admission.Goals as goal
 
 pub invariant_of-self : goal.invariant_of-self
 invariant_of-self c =

@@ -1,6 +1,6 @@
 use Rattle.std.proofs.Common.{◌≡◌, length}
 use Rattle.vod_base.specs.Blanks.{without_front_blanks}
-use Rattle.vod_base.proofs.blanks.front_trimmed.Given as goal
+use Rattle.vod_base.proofs.blanks.trim_start.Given as goal
 
 abbrev pub invariant-loop-rest : goal.invariant-loop-rest
 invariant-loop-rest l = without_front_blanks l.rest ≡ without_front_blanks l.text

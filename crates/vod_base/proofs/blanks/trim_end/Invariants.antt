@@ -1,6 +1,6 @@
 use Rattle.std.proofs.Common.{◌≡◌, length, reverse}
 use Rattle.vod_base.specs.Blanks.{without_front_blanks}
-use Rattle.vod_base.proofs.blanks.back_trimmed.Given as goal
+use Rattle.vod_base.proofs.blanks.trim_end.Given as goal
 
 abbrev pub invariant-loop-rest : goal.invariant-loop-rest
 invariant-loop-rest l = without_front_blanks (reverse l.rest) ≡ without_front_blanks (reverse l.text)

@@ -2,7 +2,7 @@ use Rattle.std.proofs.Common.{◌≡◌, ◌≤◌, ◌==◌, true, false, eq-eq
 use Rattle.day_run.proofs.Pausing.{halts}
 use Rattle.day_run.proofs.Timings.{pause-of, paused-seat, pausing-seat}
 use Rattle.day_run.specs.Clients.{rest_of}
-use Rattle.day_run.proofs.clients.paused.Goals as goal
+use Rattle.day_run.proofs.clients.pause_play.Goals as goal
 
 pub run_after-run-requires-clause-halt : goal.run_after-run-requires-clause-halt
 run_after-run-requires-clause-halt c =
