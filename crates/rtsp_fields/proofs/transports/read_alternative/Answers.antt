@@ -6,9 +6,9 @@ use Rattle.rtsp_fields.proofs.transports.read_alternative.Goals as goal
 pub returns : goal.returns
 returns c =
     taken_channels c.channels_of.result c.args.text.now c.piece_end-end.result c.piece_end-end.ensures
-    (ap lower (sym c.trimmed.ensures) ∙ c.if-not-eq_ignore_ascii_case.ensures.test.0 refl) (c.if-not-is_plain.ensures.0 refl) c.channels_of.ensures
+    (ap lower (sym c.trim.ensures) ∙ c.if-not-eq_ignore_ascii_case.ensures.test.0 refl) (c.if-not-is_plain.ensures.0 refl) c.channels_of.ensures
 
 pub returns-then-not-eq_ignore_ascii_case : goal.returns-then-not-eq_ignore_ascii_case
 returns-then-not-eq_ignore_ascii_case c = λ channels t.
     other_protocol c.args.text.now c.piece_end-end.result channels c.piece_end-end.ensures
-    (λ same. let bad : false ≡ true = c.if-not-eq_ignore_ascii_case.ensures.test.1 (ap lower c.trimmed.ensures ∙ same) in cc) t
+    (λ same. let bad : false ≡ true = c.if-not-eq_ignore_ascii_case.ensures.test.1 (ap lower c.trim.ensures ∙ same) in cc) t

@@ -5,7 +5,7 @@ use Rattle.rtsp_text.proofs.fields.value_in.Goals.{in_default-via-in-Some+else-i
 
 pub returns-in-Some : goal.returns-in-Some
 returns-in-Some c =
-    ap Some c.trimmed.ensures
+    ap Some c.trim.ensures
     ∙ sym (value_some c.args.name.now c.args.line.now c.in-Some.front.now c.in-Some.value.now c.in-Some.ensures (sym c.is_same_name.ensures ∙ c.if-is_same_name.true))
 
 pub returns-in_default : goal.returns-in_default

@@ -15,21 +15,21 @@ use Rattle.session.proofs.sessions.Session.hear_halt.Goals as goal
 
 pub returns-in-Done-clause-plays : goal.returns-in-Done-clause-plays
 returns-in-Done-clause-plays c =
-    halted_plays c.self.inside _ c.replace-asked.result c.in-Playing.setup c.in-Playing.play c.due.result c.kept_and_next-keep.result.0
+    halted_plays c.self.inside _ c.replace-asked.result c.in-Playing.setup c.in-Playing.play c.bytes_due.result c.kept_and_next-keep.result.0
     c.note_of.result c.note.new.self c.note_play.new.self c.self.view_is c.in-Playing.ensures.value c.replace-asked.ensures.value
     c.bytes_due.ensures.value c.kept_and_next-keep.ensures.keep c.note_of.ensures (ap (λ (log : Logged). log.plays) c.note.ensures)
     (ap (λ (log : Logged). log.plays) c.note_play.ensures)
 
 pub returns-in-Paused-clause-plays : goal.returns-in-Paused-clause-plays
 returns-in-Paused-clause-plays c =
-    halted_plays c.self.inside _ c.replace-asked.result c.in-Playing.setup c.in-Playing.play c.due.result c.kept_and_next-keep.result.0
+    halted_plays c.self.inside _ c.replace-asked.result c.in-Playing.setup c.in-Playing.play c.bytes_due.result c.kept_and_next-keep.result.0
     c.note_of.result c.note.new.self c.note_play.new.self c.self.view_is c.in-Playing.ensures.value c.replace-asked.ensures.value
     c.bytes_due.ensures.value c.kept_and_next-keep.ensures.keep c.note_of.ensures (ap (λ (log : Logged). log.plays) c.note.ensures)
     (ap (λ (log : Logged). log.plays) c.note_play.ensures)
 
 pub returns-clause-plays : goal.returns-clause-plays
 returns-clause-plays c =
-    halted_plays c.self.inside _ c.replace-asked.result c.in-Playing.setup c.in-Playing.play c.due.result c.kept_and_next-keep.result.0
+    halted_plays c.self.inside _ c.replace-asked.result c.in-Playing.setup c.in-Playing.play c.bytes_due.result c.kept_and_next-keep.result.0
     c.note_of.result c.note.new.self c.note_play.new.self c.self.view_is c.in-Playing.ensures.value c.replace-asked.ensures.value
     c.bytes_due.ensures.value c.kept_and_next-keep.ensures.keep c.note_of.ensures (ap (λ (log : Logged). log.plays) c.note.ensures)
     (ap (λ (log : Logged). log.plays) c.note_play.ensures)
