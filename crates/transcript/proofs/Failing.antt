@@ -79,7 +79,7 @@ cut-short course round new sent runs front =
 record CanFinish (s : Standing) : Type 0 where
   halt : Outcome
   new : Standing
-  after_play : IsFinished (awaits s) s halt new
+  finished : IsFinished (awaits s) s halt new
 
 finish-none : (s : Standing) → s.awaited ≡ Nothing → CanFinish s
 finish-none s rest =
@@ -93,7 +93,7 @@ finish-halt s keep halts =
     record {
       halt = Entered placed;
       new = after_halt s 0;
-      after_play = subst F (sym halts) (record { number = 0; command = refl; answer = refl; halts = refl });
+      finished = subst F (sym halts) (record { number = 0; command = refl; answer = refl; halts = refl });
     }
 
 finish-if : (done : Bool) (s : Standing) (keep : ℕ) → s.awaited ≡ (if done then Halt keep Done else Nothing) → CanFinish s

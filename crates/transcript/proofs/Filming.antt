@@ -161,11 +161,11 @@ halted_step s setup play (Offered at_slot note) keep new is sound done sent asks
 
 finishes : (s : Standing) (state : State) (halt : Outcome) (new : Standing) → s.state ≡ state → IsSound (sends_in s.state) s.waits s.heard
     → is_done_in state ≡ true → s.awaited ≡ Halt (sent_in state) Done → IsFinished (awaits s) s halt new → Step s new (Asks s.awaited halt ∷ []) []
-finishes s Init halt new is sound done asks after_play = absurd (true≢false (sym done))
-finishes s (Ready setup paused) halt new is sound done asks after_play = absurd (true≢false (sym done))
-finishes s (Playing setup play) halt new is sound done asks after_play =
-    halted_step s setup play halt play.pacer.sent new is sound done refl asks (subst (λ a. IsFinished (awaits_of a) s halt new) asks after_play)
-finishes s (Stopping setup stop) halt new is sound done asks after_play = absurd (true≢false (sym done))
+finishes s Init halt new is sound done asks finished = absurd (true≢false (sym done))
+finishes s (Ready setup paused) halt new is sound done asks finished = absurd (true≢false (sym done))
+finishes s (Playing setup play) halt new is sound done asks finished =
+    halted_step s setup play halt play.pacer.sent new is sound done refl asks (subst (λ a. IsFinished (awaits_of a) s halt new) asks finished)
+finishes s (Stopping setup stop) halt new is sound done asks finished = absurd (true≢false (sym done))
 
 -- nothing is asked
 same_step : (s new : Standing) → Stands s → new ≡ s → Step s new (Asks s.awaited Unasked ∷ []) []
@@ -180,20 +180,20 @@ same_step s new stands same = subst (λ n. Step s n (Asks s.awaited Unasked ∷ 
 })
 
 unasked_same : (s : Standing) (halt : Outcome) (new : Standing) → Stands s → IsFinished NoAnswer s halt new → Step s new (Asks s.awaited halt ∷ []) []
-unasked_same s Unasked new stands after_play = same_step s new stands after_play
-unasked_same s (Entered placed) new stands after_play = absurd after_play
-unasked_same s (WasFull more entries live) new stands after_play = absurd after_play
-unasked_same s (Offered at_slot note) new stands after_play = absurd after_play
+unasked_same s Unasked new stands finished = same_step s new stands finished
+unasked_same s (Entered placed) new stands finished = absurd finished
+unasked_same s (WasFull more entries live) new stands finished = absurd finished
+unasked_same s (Offered at_slot note) new stands finished = absurd finished
 
 unasked_step : (s : Standing) (halt : Outcome) (new : Standing) → Stands s → IsFinished (awaits s) s halt new → Step s new (Asks s.awaited halt ∷ []) []
-unasked_step s halt new stands after_play =
-    unasked_same s halt new stands (subst (λ a. IsFinished (awaits_of a) s halt new) stands.rest after_play)
+unasked_step s halt new stands finished =
+    unasked_same s halt new stands (subst (λ a. IsFinished (awaits_of a) s halt new) stands.rest finished)
 
 -- a slot that is taken up by what is being sent
 finished_step : (s : Standing) (halt : Outcome) (new : Standing) (done : Bool) → IsSound (sends_in s.state) s.waits s.heard → is_done_in s.state ≡ done
     → s.awaited ≡ (if done then Halt (sent_in s.state) Done else Nothing) → IsFinished (awaits s) s halt new → Step s new (Asks s.awaited halt ∷ []) []
-finished_step s halt new true sound done asks after_play = finishes s s.state halt new refl sound done asks after_play
-finished_step s halt new false sound done asks after_play = unasked_step s halt new (record { rest = asks; sound = sound }) after_play
+finished_step s halt new true sound done asks finished = finishes s s.state halt new refl sound done asks finished
+finished_step s halt new false sound done asks finished = unasked_step s halt new (record { rest = asks; sound = sound }) finished
 
 pub reply_state : (goes : Bool) (s : Standing) → (if goes then sent_reply s else s).state ≡ (if goes then after_stop s.state else s.state)
 reply_state true s = refl

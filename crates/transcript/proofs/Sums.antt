@@ -22,8 +22,8 @@ abbrev pub sum_of : History → Sum
 sum_of h = record {
   replies = replies h;
   frames = frames h;
-  bytes_received = bytes_received h;
-  bytes_pending = bytes_pending h;
+  received = bytes_received h;
+  pending = bytes_pending h;
   sizes = sizes h;
   inside = is_inside h;
   end_ms = end_ms h;
@@ -41,16 +41,16 @@ step (Reply m) s = record s {
 }
 step (Frame b) s = record s {
   frames = s.frames + 1;
-  bytes_received = s.received + length b;
-  bytes_pending = if is_last b then 0 else s.pending + length b;
+  received = s.received + length b;
+  pending = if is_last b then 0 else s.pending + length b;
   sizes = if is_last b then s.sizes ++ (s.pending + length b) ∷ [] else s.sizes;
   inside = not (is_last b);
   first = if s.frames == 0 then b else s.first;
   payloads = s.payloads ++ drop 20 b;
 }
 step (Report b) s = record s {
-  bytes_received = if plays s then s.received + length b else s.received;
-  bytes_pending = if plays s && not s.inside then s.pending + length b else s.pending;
+  received = if plays s then s.received + length b else s.received;
+  pending = if plays s && not s.inside then s.pending + length b else s.pending;
 }
 step (Slot t cut) s = s
 
