@@ -1,10 +1,13 @@
-ghost use Rattle.std.specs.Prelude.{◌≡◌, ◌<◌, ◌^◌, ◌++◌, ◌↔◌, ℕ, true, List, Some, replicate};
-ghost use Rattle.std.specs.Prelude.{decimal};
-ghost use Rattle.vod_base.specs.Blanks.{IsTrimmed, without_blanks};
+ghost use Rattle.std.specs.Prelude.{◌≡◌, ◌≢◌, ◌+◌, ◌-◌, ◌<◌, ◌^◌, ◌++◌, ◌∷◌, ◌↔◌, ℕ, true, List};
+ghost use Rattle.std.specs.Prelude.{All, Contains, None, Some, codes, decimal, length, replicate};
+ghost use Rattle.std.specs.Prelude.{slice_index};
+ghost use Rattle.vod_base.specs.Blanks.{IsTrimmed, is_blank, without_blanks};
+ghost use Rattle.vod_base.specs.Lines.{IsLine};
 ghost use Rattle.vod_base.specs.Links.{Doing, sends};
 ghost use Rattle.vod_base.specs.MemoryLinks.{sent_of};
 ghost use Rattle.vod_base.specs.Names.{is_good_name, IsPlainFileName};
 ghost use Rattle.vod_base.specs.Numbers.{number_of};
+ghost use Rattle.vod_base.specs.Outside.{File, file_named};
 
 /// A text is read as a number of 64 bits exactly where it is the number's decimal text, with zeros
 /// in front or none.
@@ -18,9 +21,37 @@ pub fn law_file_name()
     ensures { (name : List ℕ) → is_good_name name ≡ true → IsPlainFileName name }
 {}
 
+/// Blanks are the space and the tab, and no other byte.
+pub fn law_blanks()
+    ensures { (byte : ℕ) → (is_blank byte ≡ true) ↔ Contains (codes " \t") byte }
+{}
+
 /// A trimmed text is the text without the spaces and tabs around it, and loses nothing else.
 pub fn law_trim()
     ensures { (text : List ℕ) → IsTrimmed text (without_blanks text) }
+{}
+
+/// A line is its text and the LF or the CR LF that ends it: a CR directly before the LF is no part
+/// of the text, each other CR is. At one place one line begins.
+pub fn law_line_text()
+    ensures carriage { (front text rest : List ℕ) → All (λ byte. byte ≢ 10) text →
+        IsLine (front ++ text ++ (codes "\r\n" ++ rest)) (length front)
+        (length front + length text) (length front + length text + 2) }
+    ensures feed { (front text rest : List ℕ) → All (λ byte. byte ≢ 10) text →
+        (0 < length text → slice_index text (length text - 1) ≢ 13) →
+        IsLine (front ++ text ++ (codes "\n" ++ rest)) (length front)
+        (length front + length text) (length front + length text + 1) }
+    ensures one { (bytes : List ℕ) (at one other next after : ℕ) → IsLine bytes at one next →
+        IsLine bytes at other after → (one ≡ other) × (next ≡ after) }
+{}
+
+/// A name stands for the first file that has it, and for none where no file has it.
+pub fn law_first_file()
+    ensures first { (before after : List File) (name bytes : List ℕ) →
+        All (λ file. file.name ≢ name) before →
+        file_named (before ++ record { name = name; bytes = bytes } ∷ after) name ≡ Some bytes }
+    ensures none { (files : List File) (name : List ℕ) → All (λ file. file.name ≢ name) files →
+        file_named files name ≡ None }
 {}
 
 /// The bytes sent among what a link tells are those of its sends, in order.

@@ -21,7 +21,9 @@ mod shares;
 pub use blanks::{is_blank, trim};
 pub use files::Library;
 pub use gates::{Gate, Opening};
-pub use laws::{law_file_name, law_number_read, law_sent, law_trim};
+pub use laws::{
+    law_blanks, law_file_name, law_first_file, law_line_text, law_number_read, law_sent, law_trim,
+};
 pub use lines::{Line, line_end};
 pub use links::{Heard, Link};
 pub use memory_gates::{MemoryGate, MemoryPart};

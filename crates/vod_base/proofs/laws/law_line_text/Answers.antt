@@ -1,0 +1,11 @@
+use Rattle.vod_base.proofs.LineText.{carriage_line, feed_line, one_line}
+use Rattle.vod_base.proofs.laws.law_line_text.Goals as goal
+
+pub returns-clause-carriage : goal.returns-clause-carriage
+returns-clause-carriage c = carriage_line
+
+pub returns-clause-feed : goal.returns-clause-feed
+returns-clause-feed c = feed_line
+
+pub returns-clause-one : goal.returns-clause-one
+returns-clause-one c = one_line
