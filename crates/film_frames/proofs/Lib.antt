@@ -14,3 +14,4 @@ pub mod RunFronts
 pub mod ReportNumbers
 pub mod PlaceLemmas
 pub mod StandLemmas
+pub mod FrameFacts

@@ -12,7 +12,7 @@ use Rattle.film_frames.specs.Tables.{IsSound}
 use Rattle.film_frames.specs.Runs.{HaveEnded, Run, payload, piece_bytes, run_pieces, pieces_in}
 use Rattle.film_frames.specs.Tracks.{IsBoundary, IsBoundaryAfter, IsNext, begin_of, framed_bytes}
 use Rattle.film_frames.proofs.TrackLemmas.{begin-all, begin-le, begin-more, next-found}
-use Rattle.film_frames.proofs.RunLemmas.{blocks_from-at, piece-length}
+use Rattle.film_frames.proofs.RunLemmas.{blocks_from-at, blocks_from-count, piece-length}
 
 -- ---- where a place lies
 
@@ -24,6 +24,10 @@ count_ended-within pieces at k have within =
           let last : begin_of pieces k ≡ begin_of pieces (length pieces) = ap (λ n. begin_of pieces n) (omega (arith, g, have.among)) in
           absurd (omega (arith, last, begin-all pieces, have.last, within))
     ]
+
+-- before a run's end there is a piece that hasn't ended
+pub count-among : (run : Run) (at k : ℕ) → HaveEnded (run_pieces run) at k → at < length (framed_bytes (run_pieces run)) → k < length (pieces_in run)
+count-among run at k have within = omega (arith, count_ended-within (run_pieces run) at k have within, blocks_from-count run 0 0 (pieces_in run))
 
 pub boundary-count_ended : (pieces : List (List ℕ)) (at k place : ℕ) → HaveEnded pieces (at - 1) k → 0 < at → at ≤ length (framed_bytes pieces) → place ≡ begin_of pieces (k + 1) → IsBoundaryAfter pieces at place
 boundary-count_ended pieces at k place have some within is =

@@ -1,7 +1,7 @@
 -- Where the reports of a run stand.
-use Rattle.std.proofs.Common.{◌≡◌, ℕ, ◌+◌, ◌-◌, ◌<◌, ◌≤◌, Bool, true, false, cond, List, [], ◌∷◌}
+use Rattle.std.proofs.Common.{◌≡◌, ℕ, ◌-◌, ◌<◌, ◌≤◌, Bool, true, false, cond, List, [], ◌∷◌}
 use Rattle.std.proofs.Common.{◌++◌, map}
-use Rattle.std.proofs.Common.{append_assoc, length, take, drop, refl, sym, ap, subst, ◌∙◌, arith}
+use Rattle.std.proofs.Common.{length, take, drop, refl, sym, subst, arith}
 use Rattle.mpeg_scan.specs.declared.units.Unit.{Unit as PictureUnit}
 use Rattle.mpeg_scan.specs.declared.films.Film.{Film}
 use Rattle.mpeg_scan.specs.Layout.{AreLaid}
@@ -13,7 +13,7 @@ use Rattle.rtp_pack.proofs.UnitLemmas.{packets-cover}
 use Rattle.film_frames.specs.declared.pieces.Piece.{Piece}
 use Rattle.film_frames.specs.declared.pieces.Piece.TheVariants.{Report, Frame}
 use Rattle.film_frames.specs.Laws.{DoReportsStand}
-use Rattle.film_frames.specs.Pieces.{pieces_of, unit_pieces}
+use Rattle.film_frames.specs.Pieces.{pieces_of}
 use Rattle.film_frames.specs.Runs.{pieces_in, run_of}
 use Rattle.film_frames.proofs.PieceLemmas.{pieces-cons}
 use Rattle.film_frames.proofs.FilmLemmas.{laid-film}

@@ -4,38 +4,26 @@ use Rattle.film_frames.specs.declared.pieces.Piece.TheVariants.{Report, Frame}
 use Rattle.film_frames.specs.Pieces.{octets_in}
 use Rattle.film_frames.specs.Runs.{payload, run_pieces, pieces_in}
 use Rattle.film_frames.specs.Tracks.{begin_of}
-use Rattle.film_frames.proofs.RunLemmas.{count_ended-is, blocks_from-count}
-use Rattle.film_frames.proofs.NextLemmas.{count_ended-within, ends-boundary, frame-part, is-in}
+use Rattle.film_frames.proofs.RunLemmas.{count_ended-is}
+use Rattle.film_frames.proofs.NextLemmas.{count-among, ends-boundary, frame-part, is-in}
 use Rattle.film_frames.proofs.NextLemmas.{report-rest, rest-next}
 use Rattle.film_frames.proofs.frames.FramesTrack.part.Goals as goal
 
 pub place-requires : goal.place-requires
 place-requires c =
-    let run = c.args.self.now in
-    let k = c.count_ended-number.result in
-    let within = count_ended-within (run_pieces run) c.args.at k c.count_ended-number.ensures.count_ended c.requires in
-    omega (arith, within, blocks_from-count run 0 0 (pieces_in run))
+    omega (arith, count-among c.args.self.now c.args.at c.count_ended-number.result c.count_ended-number.ensures.count_ended c.requires)
 
 pub piece-requires : goal.piece-requires
 piece-requires c =
-    let run = c.args.self.now in
-    let k = c.count_ended-number.result in
-    let within = count_ended-within (run_pieces run) c.args.at k c.count_ended-number.ensures.count_ended c.requires in
-    omega (arith, within, blocks_from-count run 0 0 (pieces_in run))
+    omega (arith, count-among c.args.self.now c.args.at c.count_ended-number.result c.count_ended-number.ensures.count_ended c.requires)
 
 pub report-requires : goal.report-requires
 report-requires c =
-    let run = c.args.self.now in
-    let k = c.count_ended-number.result in
-    let within = count_ended-within (run_pieces run) c.args.at k c.count_ended-number.ensures.count_ended c.requires in
-    omega (arith, within, blocks_from-count run 0 0 (pieces_in run))
+    omega (arith, count-among c.args.self.now c.args.at c.count_ended-number.result c.count_ended-number.ensures.count_ended c.requires)
 
 pub put_heads-requires-clause-number : goal.put_heads-requires-clause-number
 put_heads-requires-clause-number c =
-    let run = c.args.self.now in
-    let k = c.count_ended-number.result in
-    let within = count_ended-within (run_pieces run) c.args.at k c.count_ended-number.ensures.count_ended c.requires in
-    omega (arith, within, blocks_from-count run 0 0 (pieces_in run))
+    omega (arith, count-among c.args.self.now c.args.at c.count_ended-number.result c.count_ended-number.ensures.count_ended c.requires)
 
 pub payload-requires-clause-front : goal.payload-requires-clause-front
 payload-requires-clause-front c =
