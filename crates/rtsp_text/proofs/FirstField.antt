@@ -14,7 +14,7 @@ use Rattle.rtsp_text.proofs.Cuts.{and_both, other_is}
 use Rattle.rtsp_text.proofs.Values.{value_some, value_other, value_none, first_value-nil, first_value_some, first_value_more, first_number-nil, first_number_some, first_number_more}
 
 -- a line that is a field of that name gives its value
-field_value : (name line value : List ℕ) → IsField name line value → value_in name line ≡ Some value
+pub field_value : (name line value : List ℕ) → IsField name line value → value_in name line ≡ Some value
 field_value name line value f =
     value_some name line f.front f.after f.cut ((bytes_decides (map to_ascii_lowercase f.front) (map to_ascii_lowercase name)).1 f.name_is)
     ∙ ap Some (sym f.value_is)
@@ -147,12 +147,12 @@ pub record TellsNumber (name : List ℕ) (lines : List (List ℕ)) (found : Opti
   pub none : found ≡ None → HasNoNumber name lines
 
 -- the value of which a number was read
-record IsRead (o : Option (List ℕ)) (n : ℕ) : Type 0 where
-  value : List ℕ
-  value_is : o ≡ Some value
-  number_is : number_of value ≡ Some n
+pub record IsRead (o : Option (List ℕ)) (n : ℕ) : Type 0 where
+  pub value : List ℕ
+  pub value_is : o ≡ Some value
+  pub number_is : number_of value ≡ Some n
 
-read_of : (o : Option (List ℕ)) (n : ℕ) → option_and_then number_of o ≡ Some n → IsRead o n
+pub read_of : (o : Option (List ℕ)) (n : ℕ) → option_and_then number_of o ≡ Some n → IsRead o n
 read_of None n is = absurd (let bad : None ≡ Some n = is in cc)
 read_of (Some value) n is = record { value = value; value_is = refl; number_is = is }
 

@@ -16,3 +16,4 @@ pub mod BodyLengths
 pub mod WordTexts
 pub mod SpelledTexts
 pub mod EndedLines
+pub mod FaultTexts

@@ -1,28 +1,27 @@
 -- A message that is spelled from its parts is cut whole from what comes, and read as these parts.
-use Rattle.std.proofs.Common.{◌≡◌, ℕ, ◌+◌, ◌^◌, ◌<◌, ◌≤◌, ◌&&◌, ◌||◌, ◌==◌, Bool, true, false, nat_lt, List, [], ◌∷◌, ◌++◌, All, codes, decimal, map, flat_map, length, get_or, take, Option, Some, None, Ok, Err, MatchOption, refl, sym, ap, subst, ◌∙◌, arith, inl, inr, ne_eqb}
+use Rattle.std.proofs.Common.{◌≡◌, ℕ, ◌^◌, ◌<◌, ◌≤◌, ◌&&◌, ◌==◌, true, false, nat_lt, List, [], ◌∷◌, ◌++◌, All, codes, decimal, map, flat_map, length, take, Option, Some, None, Ok, Err, MatchOption, refl, sym, ap, subst, ◌∙◌, arith, inl, inr, ne_eqb}
 use Rattle.std.specs.Prelude.{IfSome, option_and_then}
 use Rattle.std.specs.List.{list_all}
 use Rattle.std.specs.Str.Parse.{digits_value}
 use Rattle.std.proofs.lemmas.Bool.{cases_Bool, and_parts, both_ways, cond-true, cond-false}
-use Rattle.std.proofs.lemmas.List.{append_assoc, append-nil, length-append, take_at, take-append-le}
+use Rattle.std.proofs.lemmas.List.{append_assoc, append-nil, length-append, take_at}
 use Rattle.std.proofs.lemmas.List.Elements.{All-nil, All-cons, All-head, All-tail}
 use Rattle.vod_base.specs.Numbers.{is_decimal, number_of}
 use Rattle.interleave.specs.Heads.{is_line_end, IsHead}
 use Rattle.interleave.specs.Lengths.{IsBodyLength, written_length}
-use Rattle.interleave.specs.Pieces.{StartsRequest, IsRequestLength, IsBodyTooLong, IsFirst}
+use Rattle.interleave.specs.Pieces.{StartsRequest, IsRequestLength, IsFirst}
 use Rattle.interleave.specs.declared.pieces.Step.TheVariants.{Request}
 use Rattle.interleave.specs.declared.pieces.DemuxFault.TheVariants.{HeadTooLong, BodyTooLong}
-use Rattle.interleave.proofs.More.{IsHead-append, HasNoHead-append, IsRequestLength-append, IsBodyTooLong-append}
-use Rattle.rtsp_text.specs.Lines.{is_one_line, first_line, header_lines, IsSplit}
+use Rattle.interleave.proofs.More.{IsHead-append, IsRequestLength-append}
+use Rattle.rtsp_text.specs.Lines.{first_line, header_lines, IsSplit}
 use Rattle.rtsp_text.specs.Grammar.{is_token, is_token_byte, is_value_byte, IsRequestLine, IsHeaderLine, IsVersion}
 use Rattle.rtsp_text.specs.Fields.{header_value, first_value}
-use Rattle.rtsp_text.specs.Requests.{HasLength, IsRequest}
+use Rattle.rtsp_text.specs.Requests.{IsRequest}
 use Rattle.rtsp_text.specs.Replies.{Field, field_line, IsPlain, value_named, is_code, reply_front, reply_text, all_fields}
 use Rattle.rtsp_text.specs.Spelled.{Parts, request_line, request_front, request_head, request_text, IsHeaderField, HasGivenLength, GivesLongBody, HasForm, AreFront, AreRequest, AreShort}
-use Rattle.rtsp_text.proofs.Cuts.{all_other}
 use Rattle.rtsp_text.proofs.OneLines.{one_line_from, one_line-append, one_line-url}
-use Rattle.rtsp_text.proofs.ReadBack.{IsLineText, IsCore, core, flat, flat-fields, text_of, texts_lines, token_other, values_named, status_text, status_of, status_text-line, front_lines}
-use Rattle.rtsp_text.proofs.WordTexts.{word_is, word_of, value_is, named_texts}
+use Rattle.rtsp_text.proofs.ReadBack.{IsLineText, core, flat, flat-fields, text_of, texts_lines, token_other, values_named, status_text, status_of, status_text-line, front_lines}
+use Rattle.rtsp_text.proofs.WordTexts.{word_is, word_of, value_is, named_texts, visible_of}
 use Rattle.rtsp_text.proofs.BodyLengths.{length_given, body_length_of}
 
 -- a message of these lines and this body, which has the length that the fields give, is whole
@@ -260,5 +259,6 @@ form_of message method url sequence head body request =
       parts = request.split.parts;
       lines_are = request.split.lines_are ∙ ap (λ l. l ∷ (header_lines message ++ [] ∷ [])) line;
       method_is = word_of method request.line.method_is;
+      url_is = visible_of url request.line.url_is.bytes;
       texts_are = named_texts (header_lines message) request.headers;
     }

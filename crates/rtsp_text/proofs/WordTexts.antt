@@ -1,13 +1,13 @@
 -- The bytes of words and of values, as the tests of the grammar and as the laws say them.
-use Rattle.std.proofs.Common.{◌≡◌, ◌≢◌, ℕ, ◌<◌, ◌≤◌, ◌&&◌, ◌||◌, ◌==◌, Bool, true, false, not, nat_lt, nat_le, List, [], ◌∷◌, ◌++◌, All, codes, length, refl, sym, ap, ◌∙◌, arith, inl, inr}
+use Rattle.std.proofs.Common.{◌≡◌, ◌≢◌, ℕ, ◌≤◌, ◌||◌, ◌==◌, Bool, true, not, nat_lt, nat_le, List, [], ◌∷◌, All, codes, length, refl, sym, ◌∙◌, arith, inl, inr}
 use Rattle.std.specs.List.{list_all}
 use Rattle.std.specs.Char.{is_ascii_alphanumeric}
 use Rattle.std.proofs.lemmas.Bool.{and_parts, and_from, or_cases, eqb-true, lt-ltb}
 use Rattle.std.proofs.lemmas.Bool.Decides.{nat_tests}
 use Rattle.std.proofs.lemmas.List.{append_assoc}
 use Rattle.std.proofs.lemmas.List.Elements.{All-nil, All-cons, All-head, All-tail}
-use Rattle.rtsp_text.specs.Grammar.{is_token, is_token_byte, is_value_byte, IsHeaderLine}
-use Rattle.rtsp_text.specs.Spelled.{IsWordByte, IsWord, IsTextByte, IsNamedText}
+use Rattle.rtsp_text.specs.Grammar.{is_token, is_token_byte, is_url_byte, is_value_byte, IsHeaderLine}
+use Rattle.rtsp_text.specs.Spelled.{IsWordByte, IsWord, IsTextByte, IsNamedText, IsVisibleByte}
 use Rattle.rtsp_text.proofs.Cuts.{and_left, and_right, and_both, is_other}
 
 all_from : (P : ℕ → Type 0) (q : ℕ → Bool) → ((c : ℕ) → P c → q c ≡ true) → (text : List ℕ) → All P text → list_all q text ≡ true
@@ -45,6 +45,16 @@ byte_text c is =
       | inr tab ↦ inl (eqb-true c 9 tab)
     ]
 
+byte_visible : (c : ℕ) → is_url_byte c ≡ true → IsVisibleByte c
+byte_visible c is =
+    let parts = and_parts (nat_le 33 c) (nat_le c 126) is in
+    let low : nat_le 33 c ≡ true = parts.0 in
+    let high : nat_le c 126 ≡ true = parts.1 in
+    ((let e : 33 ≤ c = grind (arith, nat_tests) in e), (let e : c ≤ 126 = grind (arith, nat_tests) in e))
+
+pub visible_of : (text : List ℕ) → list_all is_url_byte text ≡ true → All IsVisibleByte text
+visible_of text all = all_to IsVisibleByte is_url_byte byte_visible text all
+
 pub word_is : (text : List ℕ) → IsWord text → is_token text ≡ true
 word_is text word = and_from (nat_lt 0 (length text)) (list_all is_token_byte text) (lt-ltb 0 (length text) word.some) (all_from IsWordByte is_token_byte word_byte text word.bytes)
 
@@ -60,8 +70,8 @@ value_is text all = all_from IsTextByte is_value_byte text_byte text all
 pub value_of : (text : List ℕ) → list_all is_value_byte text ≡ true → All IsTextByte text
 value_of text all = all_to IsTextByte is_value_byte byte_text text all
 
-named_text : (text : List ℕ) → IsHeaderLine text → IsNamedText text
-named_text text line = record {
+pub line_named : (text : List ℕ) → IsHeaderLine text → IsNamedText text
+line_named text line = record {
   name = line.name;
   value = line.value;
   parts = line.parts ∙ sym (append_assoc line.name (codes ":") line.value);
@@ -69,6 +79,15 @@ named_text text line = record {
   value_is = value_of line.value line.value_is;
 }
 
+pub named_line : (text : List ℕ) → IsNamedText text → IsHeaderLine text
+named_line text named = record {
+  name = named.name;
+  value = named.value;
+  parts = named.parts ∙ append_assoc named.name (codes ":") named.value;
+  name_is = word_is named.name named.name_is;
+  value_is = value_is named.value named.value_is;
+}
+
 pub named_texts : (texts : List (List ℕ)) → All IsHeaderLine texts → All IsNamedText texts
 named_texts [] all = All-nil IsNamedText
-named_texts (t ∷ ts) all = All-cons IsNamedText t ts (named_text t (All-head IsHeaderLine t ts all)) (named_texts ts (All-tail IsHeaderLine t ts all))
+named_texts (t ∷ ts) all = All-cons IsNamedText t ts (line_named t (All-head IsHeaderLine t ts all)) (named_texts ts (All-tail IsHeaderLine t ts all))

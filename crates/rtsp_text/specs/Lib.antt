@@ -6,3 +6,4 @@ pub mod Replies
 pub mod StatusLines
 pub mod Spelled
 pub mod EndedLines
+pub mod Faults

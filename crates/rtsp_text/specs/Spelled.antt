@@ -84,6 +84,10 @@ pub record AreShort (parts : Parts) : Type 0 where
   pub head_is : length (request_head parts) ≤ 16384
   pub body_is : length parts.body ≤ 65536
 
+-- a printable byte other than the space, as a URL has (section 15.1)
+abbrev pub IsVisibleByte : ℕ → Type 0
+IsVisibleByte byte = (33 ≤ byte) × (byte ≤ 126)
+
 -- a name, `:` and a value
 pub record IsNamedText (text : List ℕ) : Type 0 where
   pub name : List ℕ
@@ -100,4 +104,5 @@ pub record HasForm (message method url head body : List ℕ) : Type 0 where
   pub lines_are : lines head ≡
       (method ++ codes " " ++ url ++ codes " RTSP/1.0") ∷ (texts ++ [] ∷ [])
   pub method_is : IsWord method
+  pub url_is : All IsVisibleByte url
   pub texts_are : All IsNamedText texts

@@ -1,11 +1,14 @@
-ghost use Rattle.std.specs.Prelude.{◌≡◌, ◌<◌, ◌≤◌, ◌++◌, ℕ, IsTrue, Option, List, All, Ok, Err};
+ghost use Rattle.std.specs.Prelude.{◌≡◌, ◌<◌, ◌≤◌, ◌++◌, ℕ, IsTrue, true, Option, List, All, Ok, Err};
 ghost use Rattle.std.specs.Prelude.{codes, length, take};
 ghost use Rattle.interleave.specs.Heads.{IsHead};
 ghost use Rattle.interleave.specs.Pieces.{IsFirst, IsRequestLength};
-ghost use Rattle.rtsp_text.specs.Fields.{header_value};
+ghost use Rattle.vod_base.specs.Numbers.{is_decimal};
+ghost use Rattle.rtsp_text.specs.Fields.{header_value, IsFirstField};
 ghost use Rattle.rtsp_text.specs.Replies.{is_code, Field, reply_front, reply_text, all_fields};
 ghost use Rattle.rtsp_text.specs.Replies.{value_named, IsPlain, IsReadBack};
-ghost use Rattle.rtsp_text.specs.Requests.{IsRequest};
+ghost use Rattle.rtsp_text.specs.Requests.{IsRequest, IsFault};
+ghost use Rattle.rtsp_text.specs.Faults.{HasLines, IsWrong, Writes};
+ghost use Rattle.rtsp_text.specs.declared.requests.RequestFault.{RequestFault};
 ghost use Rattle.rtsp_text.specs.Spelled.{AreFront, AreRequest, AreShort, GivesLongBody, HasForm};
 ghost use Rattle.rtsp_text.specs.Spelled.{HasGivenLength, Parts, request_head, request_text};
 ghost use Rattle.rtsp_text.specs.EndedLines.{EndedLine, head_bytes, IsEmpty, IsEnded, IsHeader};
@@ -76,10 +79,27 @@ pub fn law_request_refused()
 
 /// Whatever is read as a request has the form of one: the lines of its head are a method, a URL and
 /// `RTSP/1.0` with single spaces, then lines of a name, `:` and a value, then an empty line; and
-/// its body is the rest.
+/// its body is the rest. Its sequence number is the one that its first CSeq writes, and its first
+/// Content-Length, where there is one, is all digits.
 pub fn law_request_form()
-    ensures { (message method url : List ℕ) (sequence : ℕ) (head body : List ℕ) →
+    ensures form { (message method url : List ℕ) (sequence : ℕ) (head body : List ℕ) →
         IsRequest message method url sequence head body → HasForm message method url head body }
+    ensures sequence { (message first : List ℕ) (texts : List (List ℕ)) (method url : List ℕ)
+        (sequence : ℕ) (head body : List ℕ) → HasLines message first texts →
+        IsRequest message method url sequence head body → Writes (codes "CSeq") texts sequence }
+    ensures length { (message first : List ℕ) (texts : List (List ℕ)) (method url : List ℕ)
+        (sequence : ℕ) (head body value : List ℕ) → HasLines message first texts →
+        IsRequest message method url sequence head body →
+        IsFirstField (codes "Content-Length") texts value → is_decimal value ≡ true }
+{}
+
+/// What is no request has that fault in its lines: the first one is no request line; it is one of
+/// another version; a header line isn't a name, `:` and a value; the first CSeq writes no number, or
+/// there is none; the first Content-Length isn't all digits. Each stands only where those before it
+/// don't.
+pub fn law_request_faults()
+    ensures { (message first : List ℕ) (texts : List (List ℕ)) (fault : RequestFault) →
+        HasLines message first texts → IsFault message fault → IsWrong first texts fault }
 {}
 
 /// A first line, lines that aren't empty, and an empty one are the head of what begins with them,

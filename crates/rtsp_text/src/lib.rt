@@ -11,8 +11,8 @@ mod status_lines;
 
 pub use grammar::has_url_bytes;
 pub use laws::{
-    law_head_found, law_reply_read, law_reply_whole, law_request_form, law_request_read,
-    law_request_refused, law_whole_request,
+    law_head_found, law_reply_read, law_reply_whole, law_request_faults, law_request_form,
+    law_request_read, law_request_refused, law_whole_request,
 };
 pub use replies::Reply;
 pub use requests::{Request, RequestFault, header, header_of, read_request, sequence_of};

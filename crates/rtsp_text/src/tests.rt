@@ -1,4 +1,4 @@
-ghost use Rattle.std.specs.Prelude.{◌≡◌, ◌≤◌, IsTrue, true, length, IfSome};
+ghost use Rattle.std.specs.Prelude.{◌≡◌, ◌≤◌, IsTrue, true, length, IfOk, IfSome};
 ghost use Rattle.interleave.specs.Pieces.{IsRequestLength};
 ghost use Rattle.rtsp_text.specs.Lines.{is_one_line};
 ghost use Rattle.rtsp_text.specs.Replies.{is_code};
@@ -10,8 +10,8 @@ use interleave::{Demux, Step};
 use std::alloc::Global;
 use std::test::Fail;
 
-/// The whole request in front of the waiting bytes.
-fn first_request(demux: &mut Demux) -> Option<&[u8]>
+/// The whole message in front of the waiting bytes.
+fn first_message(demux: &mut Demux) -> Option<&[u8]>
     ensures { IfSome result (λ message. IsRequestLength message.now (length message.now)) }
 {
     match demux.look() {
@@ -24,258 +24,302 @@ fn first_request(demux: &mut Demux) -> Option<&[u8]>
     }
 }
 
-/// The fault of the request that these bytes begin with, and the number of its CSeq.
-fn fault_and_sequence(
-    alloc: Global,
-    text: &[u8],
-) -> Result<Option<(RequestFault, Option<u64>)>, Fail> {
-    let mut demux = Demux::new(alloc)?;
-    demux.put(text)?;
-    let Some(message) = first_request(&mut demux) else {
-        return Ok(None);
-    };
-    let sequence = sequence_of(message);
-    Ok(read_request(message).err().map(|fault| (fault, sequence)))
+/// The message in front of a text.
+fn message_in<'a>(demux: &'a mut Demux, text: &str) -> Result<&'a [u8], Fail>
+    ensures { IfOk result (λ message. IsRequestLength message.now (length message.now)) }
+{
+    demux.put(text.as_bytes())?;
+    match first_message(demux) {
+        Some(message) => Ok(message),
+        None => Err(Fail::from("no whole message")),
+    }
 }
+
+/// Whether a text begins with a message that has this fault, and this number in its CSeq.
+fn is_refused(
+    alloc: Global,
+    text: &str,
+    fault: RequestFault,
+    sequence: Option<u64>,
+) -> Result<bool, Fail> {
+    let mut demux = Demux::new(alloc)?;
+    let message = message_in(&mut demux, text)?;
+    let same = sequence_of(message) == sequence;
+    Ok(same && read_request(message).is_err_and(|found| found == fault))
+}
+
+/// Whether a message with this first line has this fault.
+fn is_line_refused(alloc: Global, line: &str, fault: RequestFault) -> Result<bool, Fail> {
+    let text = format!(in alloc; "{line}\ncseq: 7\n\n")?;
+    is_refused(alloc, text.as_str(), fault, Some(7))
+}
+
+const OTHER_VERSIONS: [&str; 4] = [
+    "OPTIONS * RTSP/2.0",
+    "OPTIONS * RTSP/1.1",
+    "OPTIONS * RTSP/01.0",
+    "OPTIONS * RTSP/10.00",
+];
+
+const BAD_LINES: [&str; 22] = [
+    "OPTIONS * HTTP/1.0",
+    "OPTIONS * rtsp/1.0",
+    "OPTIONS * RTSP/1",
+    "OPTIONS * RTSP/.0",
+    "OPTIONS * RTSP/1.",
+    "OPTIONS * RTSP/1.0.0",
+    "OPTIONS * RTSP/1.0 ",
+    "OPTIONS * RTSP/1.0\r\r",
+    "OPTIONS  * RTSP/1.0",
+    "OPTIONS *  RTSP/1.0",
+    "OPTIONS\t* RTSP/1.0",
+    " * RTSP/1.0",
+    "OPT.IONS * RTSP/1.0",
+    "OPTIONS ** RTSP/1.0",
+    "OPTIONS *",
+    "PLAY rtsp:// RTSP/1.0",
+    "PLAY rtsp:///a RTSP/1.0",
+    "PLAY rtsp:/h/a RTSP/1.0",
+    "PLAY http://h/a RTSP/1.0",
+    "PLAY rtsp://h/\u{7f} RTSP/1.0",
+    "PLAY rtsp://h/\u{e4} RTSP/1.0",
+    "PLAY rtsp://h/\u{2} RTSP/2.0",
+];
 
 #[test]
 fn refuses_request_lines(rt: HostRuntime) -> Result<(), Fail> {
-    for (line, fault) in [
-        ("OPTIONS * RTSP/2.0", RequestFault::BadVersion),
-        ("OPTIONS * RTSP/1.1", RequestFault::BadVersion),
-        ("OPTIONS * RTSP/01.0", RequestFault::BadVersion),
-        ("OPTIONS * RTSP/10.00", RequestFault::BadVersion),
-        ("OPTIONS * HTTP/1.0", RequestFault::BadLine),
-        ("OPTIONS * rtsp/1.0", RequestFault::BadLine),
-        ("OPTIONS * RTSP/1", RequestFault::BadLine),
-        ("OPTIONS * RTSP/.0", RequestFault::BadLine),
-        ("OPTIONS * RTSP/1.", RequestFault::BadLine),
-        ("OPTIONS * RTSP/1.0.0", RequestFault::BadLine),
-        ("OPTIONS * RTSP/1.0 ", RequestFault::BadLine),
-        ("OPTIONS * RTSP/1.0\r\r", RequestFault::BadLine),
-        ("OPTIONS  * RTSP/1.0", RequestFault::BadLine),
-        ("OPTIONS *  RTSP/1.0", RequestFault::BadLine),
-        ("OPTIONS\t* RTSP/1.0", RequestFault::BadLine),
-        (" * RTSP/1.0", RequestFault::BadLine),
-        ("OPT.IONS * RTSP/1.0", RequestFault::BadLine),
-        ("OPTIONS ** RTSP/1.0", RequestFault::BadLine),
-        ("OPTIONS *", RequestFault::BadLine),
-        ("PLAY rtsp:// RTSP/1.0", RequestFault::BadLine),
-        ("PLAY rtsp:///a RTSP/1.0", RequestFault::BadLine),
-        ("PLAY rtsp:/h/a RTSP/1.0", RequestFault::BadLine),
-        ("PLAY http://h/a RTSP/1.0", RequestFault::BadLine),
-        ("PLAY rtsp://h/\u{7f} RTSP/1.0", RequestFault::BadLine),
-        ("PLAY rtsp://h/\u{e4} RTSP/1.0", RequestFault::BadLine),
-        ("PLAY rtsp://h/\u{2} RTSP/2.0", RequestFault::BadLine),
-    ] {
-        let text = format!(in rt.alloc(); "{line}\ncseq: 7\n\n")?;
-        assert_eq!(rt;
-            fault_and_sequence(rt.alloc(), text.as_bytes())?,
-            Some((fault, Some(7))),
-            "at {line:?}"
-        );
+    for line in OTHER_VERSIONS {
+        let refused = is_line_refused(rt.alloc(), line, RequestFault::BadVersion)?;
+        assert!(rt; refused, "at {line:?}");
+    }
+    for line in BAD_LINES {
+        let refused = is_line_refused(rt.alloc(), line, RequestFault::BadLine)?;
+        assert!(rt; refused, "at {line:?}");
     }
     Ok(())
 }
+
+/// Header lines, their fault, and the number in their CSeq.
+const BAD_HEADS: [(&str, RequestFault, Option<u64>); 19] = [
+    (" CSeq: 1\r\n", RequestFault::BadHeader(1), None),
+    ("CSeq : 1\r\n", RequestFault::BadHeader(1), None),
+    (
+        "CSeq: 1\r\nUser Agent: x\r\n",
+        RequestFault::BadHeader(2),
+        Some(1),
+    ),
+    (
+        "CSeq: 1\r\nX: a\rb\r\n",
+        RequestFault::BadHeader(2),
+        Some(1),
+    ),
+    (
+        "CSeq: 1\r\nX: a\u{1}\r\nY\r\n",
+        RequestFault::BadHeader(2),
+        Some(1),
+    ),
+    (
+        "CSeq: 1\r\nX: a\u{7f}\r\n",
+        RequestFault::BadHeader(2),
+        Some(1),
+    ),
+    (
+        "X: 1\nX\nX:\nCSeq: 4\n",
+        RequestFault::BadHeader(2),
+        Some(4),
+    ),
+    ("X: 1\nY: 2\n: 3\n", RequestFault::BadHeader(3), None),
+    ("CSeq: 1a\n", RequestFault::NoSequenceNumber, None),
+    ("CSeq:\n", RequestFault::NoSequenceNumber, None),
+    ("CSeq: -1\n", RequestFault::NoSequenceNumber, None),
+    ("X: 1\n", RequestFault::NoSequenceNumber, None),
+    ("", RequestFault::NoSequenceNumber, None),
+    (
+        "CSeq: 18446744073709551616\n",
+        RequestFault::NoSequenceNumber,
+        None,
+    ),
+    (
+        "CSeq: 1a\r\ncseq:\t 12 \t\r\n",
+        RequestFault::NoSequenceNumber,
+        Some(12),
+    ),
+    (
+        "CSeq: x\r\nContent-Length: x\r\n",
+        RequestFault::NoSequenceNumber,
+        None,
+    ),
+    (
+        "CSeq: 3\r\nContent-Length: x\r\n",
+        RequestFault::BadLength,
+        Some(3),
+    ),
+    (
+        "CSeq: 3\r\ncontent-length:\r\n",
+        RequestFault::BadLength,
+        Some(3),
+    ),
+    (
+        "Content-Length: 1 2\r\nContent-Length: 0\r\nCSeq: 3\r\n",
+        RequestFault::BadLength,
+        Some(3),
+    ),
+];
 
 #[test]
 fn refuses_heads(rt: HostRuntime) -> Result<(), Fail> {
-    for (lines, fault, sequence) in [
-        (" CSeq: 1\r\n", RequestFault::BadHeader(1), None),
-        ("CSeq : 1\r\n", RequestFault::BadHeader(1), None),
-        (
-            "CSeq: 1\r\nUser Agent: x\r\n",
-            RequestFault::BadHeader(2),
-            Some(1),
-        ),
-        (
-            "CSeq: 1\r\nX: a\rb\r\n",
-            RequestFault::BadHeader(2),
-            Some(1),
-        ),
-        (
-            "CSeq: 1\r\nX: a\u{1}\r\nY\r\n",
-            RequestFault::BadHeader(2),
-            Some(1),
-        ),
-        (
-            "CSeq: 1\r\nX: a\u{7f}\r\n",
-            RequestFault::BadHeader(2),
-            Some(1),
-        ),
-        (
-            "X: 1\nX\nX:\nCSeq: 4\n",
-            RequestFault::BadHeader(2),
-            Some(4),
-        ),
-        ("X: 1\nY: 2\n: 3\n", RequestFault::BadHeader(3), None),
-        ("CSeq: 1a\n", RequestFault::NoSequenceNumber, None),
-        ("CSeq:\n", RequestFault::NoSequenceNumber, None),
-        ("CSeq: -1\n", RequestFault::NoSequenceNumber, None),
-        ("X: 1\n", RequestFault::NoSequenceNumber, None),
-        ("", RequestFault::NoSequenceNumber, None),
-        (
-            "CSeq: 18446744073709551616\n",
-            RequestFault::NoSequenceNumber,
-            None,
-        ),
-        (
-            "CSeq: 1a\r\ncseq:\t 12 \t\r\n",
-            RequestFault::NoSequenceNumber,
-            Some(12),
-        ),
-        (
-            "CSeq: x\r\nContent-Length: x\r\n",
-            RequestFault::NoSequenceNumber,
-            None,
-        ),
-        (
-            "CSeq: 3\r\nContent-Length: x\r\n",
-            RequestFault::BadLength,
-            Some(3),
-        ),
-        (
-            "CSeq: 3\r\ncontent-length:\r\n",
-            RequestFault::BadLength,
-            Some(3),
-        ),
-        (
-            "Content-Length: 1 2\r\nContent-Length: 0\r\nCSeq: 3\r\n",
-            RequestFault::BadLength,
-            Some(3),
-        ),
-    ] {
+    for (lines, fault, sequence) in BAD_HEADS {
         let text = format!(in rt.alloc(); "OPTIONS * RTSP/1.0\r\n{lines}\r\n")?;
-        assert_eq!(rt;
-            fault_and_sequence(rt.alloc(), text.as_bytes())?,
-            Some((fault, sequence)),
-            "at {lines:?}"
-        );
+        let refused = is_refused(rt.alloc(), text.as_str(), fault, sequence)?;
+        assert!(rt; refused, "at {lines:?}");
     }
     Ok(())
 }
 
+/// Messages with several faults, and the one that is answered.
+const MANY_FAULTS: [(&str, RequestFault); 4] = [
+    ("OPTIONS * RTSP\n x\n\n", RequestFault::BadLine),
+    ("OPTIONS * RTSP/2.0\n x\n\n", RequestFault::BadVersion),
+    ("OPTIONS * RTSP/1.0\n x\n\n", RequestFault::BadHeader(1)),
+    (
+        "OPTIONS * RTSP/1.0\nContent-Length: x\n\n",
+        RequestFault::NoSequenceNumber,
+    ),
+];
+
 #[test]
 fn refuses_in_order(rt: HostRuntime) -> Result<(), Fail> {
-    for (text, fault) in [
-        ("OPTIONS * RTSP\n x\n\n", RequestFault::BadLine),
-        ("OPTIONS * RTSP/2.0\n x\n\n", RequestFault::BadVersion),
-        ("OPTIONS * RTSP/1.0\n x\n\n", RequestFault::BadHeader(1)),
-        (
-            "OPTIONS * RTSP/1.0\nContent-Length: x\n\n",
-            RequestFault::NoSequenceNumber,
-        ),
-    ] {
-        assert_eq!(rt;
-            fault_and_sequence(rt.alloc(), text.as_bytes())?,
-            Some((fault, None)),
-            "at {text:?}"
-        );
+    for (text, fault) in MANY_FAULTS {
+        assert!(rt; is_refused(rt.alloc(), text, fault, None)?, "at {text:?}");
     }
     Ok(())
+}
+
+/// A text, and what is read of the request that it begins with; the last two are a field's name and
+/// its value.
+struct RequestRow {
+    text: &'static str,
+    method: &'static str,
+    url: &'static str,
+    sequence: u64,
+    body: &'static str,
+    name: &'static str,
+    value: Option<&'static str>,
+}
+
+const REQUESTS: [RequestRow; 9] = [
+    RequestRow {
+        text: "OPTIONS * RTSP/1.0\ncseq: 7\n\n",
+        method: "OPTIONS",
+        url: "*",
+        sequence: 7,
+        body: "",
+        name: "CSeq",
+        value: Some("7"),
+    },
+    RequestRow {
+        text: "OPTIONS rtsp://127.0.0.1:8554/news.mpg RTSP/1.0\r\nCSeq: 1\r\nUser-Agent: Lavf60.16.100\r\n\r\n",
+        method: "OPTIONS",
+        url: "rtsp://127.0.0.1:8554/news.mpg",
+        sequence: 1,
+        body: "",
+        name: "user-agent",
+        value: Some("Lavf60.16.100"),
+    },
+    RequestRow {
+        text: "OPTIONS RTSP://h RTSP/1.0\r\nCSeq: 1\r\nUser-Agent: GStreamer/1.22.0\r\nUser-Agent: x\r\n\r\n",
+        method: "OPTIONS",
+        url: "RTSP://h",
+        sequence: 1,
+        body: "",
+        name: "User-Agent",
+        value: Some("GStreamer/1.22.0"),
+    },
+    RequestRow {
+        text: "DESCRIBE rtsp://127.0.0.1:8554/news.mpg RTSP/1.0\r\nAccept: application/sdp\r\nCSeq: 2\r\n\r\nPLAY",
+        method: "DESCRIBE",
+        url: "rtsp://127.0.0.1:8554/news.mpg",
+        sequence: 2,
+        body: "",
+        name: "Accept",
+        value: Some("application/sdp"),
+    },
+    RequestRow {
+        text: "SETUP rtsp://h/news.mpg/video RTSP/1.0\r\nTransport: RTP/AVP/UDP;unicast;client_port=5000-5001, RTP/AVP/TCP;unicast;interleaved=0-1\r\nCSeq: 3\r\n\r\n",
+        method: "SETUP",
+        url: "rtsp://h/news.mpg/video",
+        sequence: 3,
+        body: "",
+        name: "transport",
+        value: Some(
+            "RTP/AVP/UDP;unicast;client_port=5000-5001, RTP/AVP/TCP;unicast;interleaved=0-1",
+        ),
+    },
+    RequestRow {
+        text: "PLAY rtsp://h/news.mpg/ RTSP/1.0\r\nRange: npt=0.000-\r\nCSeq: 4\r\nSession: 0123456789abcdef\r\n\r\n",
+        method: "PLAY",
+        url: "rtsp://h/news.mpg/",
+        sequence: 4,
+        body: "",
+        name: "RANGE",
+        value: Some("npt=0.000-"),
+    },
+    RequestRow {
+        text: "GET_PARAMETER rtsp://h/news.mpg RTSP/1.0\r\nCSeq: 5\r\nSession:\t0123456789abcdef \t\r\n\r\n",
+        method: "GET_PARAMETER",
+        url: "rtsp://h/news.mpg",
+        sequence: 5,
+        body: "",
+        name: "Session",
+        value: Some("0123456789abcdef"),
+    },
+    RequestRow {
+        text: "GET_PARAMETER rtsp://h/n RTSP/1.0\r\nCSeq: 0006\r\nContent-Length: 8\r\n\r\nx-Bookedrest",
+        method: "GET_PARAMETER",
+        url: "rtsp://h/n",
+        sequence: 6,
+        body: "x-Booked",
+        name: "Scale",
+        value: None,
+    },
+    RequestRow {
+        text: "x-1 * RTSP/1.0\nX: a:b\nCSeq:7\nCSeq: 8\ncontent-length:02\n\nab",
+        method: "x-1",
+        url: "*",
+        sequence: 7,
+        body: "ab",
+        name: "x",
+        value: Some("a:b"),
+    },
+];
+
+/// Whether a message is read as a row says.
+fn is_request(message: &[u8], row: &RequestRow) -> bool
+    requires { IsRequestLength message.now (length message.now) }
+{
+    let Ok(request) = read_request(message) else {
+        return false;
+    };
+    let found = header(&request, row.name.as_bytes());
+    request.method == row.method.as_bytes()
+        && request.url == row.url.as_bytes()
+        && request.sequence == row.sequence
+        && request.body == row.body.as_bytes()
+        && message.starts_with(request.head)
+        && found == row.value.map(|value| value.as_bytes())
+}
+
+/// Whether the message that a text begins with is read as its row says.
+fn is_read(alloc: Global, row: &RequestRow) -> Result<bool, Fail> {
+    let mut demux = Demux::new(alloc)?;
+    let message = message_in(&mut demux, row.text)?;
+    Ok(sequence_of(message) == Some(row.sequence) && is_request(message, row))
 }
 
 #[test]
 fn reads_requests(rt: HostRuntime) -> Result<(), Fail> {
-    for (text, method, url, sequence, body, name, value) in [
-        (
-            "OPTIONS * RTSP/1.0\ncseq: 7\n\n",
-            "OPTIONS",
-            "*",
-            7,
-            "",
-            "CSeq",
-            Some("7"),
-        ),
-        (
-            "OPTIONS rtsp://127.0.0.1:8554/news.mpg RTSP/1.0\r\nCSeq: 1\r\nUser-Agent: Lavf60.16.100\r\n\r\n",
-            "OPTIONS",
-            "rtsp://127.0.0.1:8554/news.mpg",
-            1,
-            "",
-            "user-agent",
-            Some("Lavf60.16.100"),
-        ),
-        (
-            "OPTIONS RTSP://h RTSP/1.0\r\nCSeq: 1\r\nUser-Agent: GStreamer/1.22.0\r\nUser-Agent: x\r\n\r\n",
-            "OPTIONS",
-            "RTSP://h",
-            1,
-            "",
-            "User-Agent",
-            Some("GStreamer/1.22.0"),
-        ),
-        (
-            "DESCRIBE rtsp://127.0.0.1:8554/news.mpg RTSP/1.0\r\nAccept: application/sdp\r\nCSeq: 2\r\n\r\nPLAY",
-            "DESCRIBE",
-            "rtsp://127.0.0.1:8554/news.mpg",
-            2,
-            "",
-            "Accept",
-            Some("application/sdp"),
-        ),
-        (
-            "SETUP rtsp://h/news.mpg/video RTSP/1.0\r\nTransport: RTP/AVP/UDP;unicast;client_port=5000-5001, RTP/AVP/TCP;unicast;interleaved=0-1\r\nCSeq: 3\r\n\r\n",
-            "SETUP",
-            "rtsp://h/news.mpg/video",
-            3,
-            "",
-            "transport",
-            Some("RTP/AVP/UDP;unicast;client_port=5000-5001, RTP/AVP/TCP;unicast;interleaved=0-1"),
-        ),
-        (
-            "PLAY rtsp://h/news.mpg/ RTSP/1.0\r\nRange: npt=0.000-\r\nCSeq: 4\r\nSession: 0123456789abcdef\r\n\r\n",
-            "PLAY",
-            "rtsp://h/news.mpg/",
-            4,
-            "",
-            "RANGE",
-            Some("npt=0.000-"),
-        ),
-        (
-            "GET_PARAMETER rtsp://h/news.mpg RTSP/1.0\r\nCSeq: 5\r\nSession:\t0123456789abcdef \t\r\n\r\n",
-            "GET_PARAMETER",
-            "rtsp://h/news.mpg",
-            5,
-            "",
-            "Session",
-            Some("0123456789abcdef"),
-        ),
-        (
-            "GET_PARAMETER rtsp://h/n RTSP/1.0\r\nCSeq: 0006\r\nContent-Length: 8\r\n\r\nx-Bookedrest",
-            "GET_PARAMETER",
-            "rtsp://h/n",
-            6,
-            "x-Booked",
-            "Scale",
-            None,
-        ),
-        (
-            "x-1 * RTSP/1.0\nX: a:b\nCSeq:7\nCSeq: 8\ncontent-length:02\n\nab",
-            "x-1",
-            "*",
-            7,
-            "ab",
-            "x",
-            Some("a:b"),
-        ),
-    ] {
-        let mut demux = Demux::new(rt.alloc())?;
-        demux.put(text.as_bytes())?;
-        let Some(message) = first_request(&mut demux) else {
-            panic!(rt; "no whole request: {text:?}");
-        };
-        let Ok(request) = read_request(message) else {
-            panic!(rt; "refused: {text:?}");
-        };
-        assert_eq!(rt; request.method, method.as_bytes(), "at {text:?}");
-        assert_eq!(rt; request.url, url.as_bytes(), "at {text:?}");
-        assert_eq!(rt; request.sequence, sequence, "at {text:?}");
-        assert_eq!(rt; request.body, body.as_bytes(), "at {text:?}");
-        assert!(rt; message.starts_with(request.head), "at {text:?}");
-        let found = header(&request, name.as_bytes());
-        assert_eq!(rt; found, value.map(|v| v.as_bytes()), "at {text:?}");
-        assert_eq!(rt; sequence_of(message), Some(sequence), "at {text:?}");
+    for row in &REQUESTS {
+        assert!(rt; is_read(rt.alloc(), row)?, "at {:?}", row.text);
     }
     Ok(())
 }
@@ -363,9 +407,56 @@ fn refusal(reply: &mut Reply, code: u16, sequence: Option<u64>) -> &[u8]
     reply.bytes()
 }
 
+/// Codes, and what a reply with nothing but the code and the sequence number 9 says.
+const REFUSALS: [(u16, &str); 10] = [
+    (
+        451,
+        "RTSP/1.0 451 Parameter Not Understood\r\nCSeq: 9\r\n\r\n",
+    ),
+    (453, "RTSP/1.0 453 Not Enough Bandwidth\r\nCSeq: 9\r\n\r\n"),
+    (454, "RTSP/1.0 454 Session Not Found\r\nCSeq: 9\r\n\r\n"),
+    (
+        455,
+        "RTSP/1.0 455 Method Not Valid In This State\r\nCSeq: 9\r\n\r\n",
+    ),
+    (457, "RTSP/1.0 457 Invalid Range\r\nCSeq: 9\r\n\r\n"),
+    (461, "RTSP/1.0 461 Unsupported Transport\r\nCSeq: 9\r\n\r\n"),
+    (500, "RTSP/1.0 500 Internal Server Error\r\nCSeq: 9\r\n\r\n"),
+    (501, "RTSP/1.0 501 Not Implemented\r\nCSeq: 9\r\n\r\n"),
+    (503, "RTSP/1.0 503 Service Unavailable\r\nCSeq: 9\r\n\r\n"),
+    (
+        505,
+        "RTSP/1.0 505 RTSP Version Not Supported\r\nCSeq: 9\r\n\r\n",
+    ),
+];
+
+/// Whether a reply may have this code.
+fn may_answer(code: u16) -> bool
+    ensures { result ≡ is_code code }
+{
+    code == 200
+        || code == 400
+        || code == 404
+        || code == 451
+        || code == 453
+        || code == 454
+        || code == 455
+        || code == 457
+        || code == 461
+        || code == 500
+        || code == 501
+        || code == 503
+        || code == 505
+        || code == 551
+}
+
 #[test]
 fn writes_refusals(rt: HostRuntime) -> Result<(), Fail> {
     let mut reply = Reply::new(rt.alloc())?;
+    for (code, text) in REFUSALS {
+        assert!(rt; may_answer(code));
+        assert_eq!(rt; refusal(&mut reply, code, Some(9)), text.as_bytes());
+    }
     let bare = b"RTSP/1.0 400 Bad Request\r\n\r\n";
     assert_eq!(rt; refusal(&mut reply, 400, None), bare.as_slice());
     let greatest = b"RTSP/1.0 404 Not Found\r\nCSeq: 18446744073709551615\r\n\r\n";
@@ -373,26 +464,6 @@ fn writes_refusals(rt: HostRuntime) -> Result<(), Fail> {
         refusal(&mut reply, 404, Some(u64::MAX)),
         greatest.as_slice()
     );
-    let text = b"RTSP/1.0 451 Parameter Not Understood\r\nCSeq: 9\r\n\r\n";
-    assert_eq!(rt; refusal(&mut reply, 451, Some(9)), text.as_slice());
-    let text = b"RTSP/1.0 453 Not Enough Bandwidth\r\nCSeq: 9\r\n\r\n";
-    assert_eq!(rt; refusal(&mut reply, 453, Some(9)), text.as_slice());
-    let text = b"RTSP/1.0 454 Session Not Found\r\nCSeq: 9\r\n\r\n";
-    assert_eq!(rt; refusal(&mut reply, 454, Some(9)), text.as_slice());
-    let text = b"RTSP/1.0 455 Method Not Valid In This State\r\nCSeq: 9\r\n\r\n";
-    assert_eq!(rt; refusal(&mut reply, 455, Some(9)), text.as_slice());
-    let text = b"RTSP/1.0 457 Invalid Range\r\nCSeq: 9\r\n\r\n";
-    assert_eq!(rt; refusal(&mut reply, 457, Some(9)), text.as_slice());
-    let text = b"RTSP/1.0 461 Unsupported Transport\r\nCSeq: 9\r\n\r\n";
-    assert_eq!(rt; refusal(&mut reply, 461, Some(9)), text.as_slice());
-    let text = b"RTSP/1.0 500 Internal Server Error\r\nCSeq: 9\r\n\r\n";
-    assert_eq!(rt; refusal(&mut reply, 500, Some(9)), text.as_slice());
-    let text = b"RTSP/1.0 501 Not Implemented\r\nCSeq: 9\r\n\r\n";
-    assert_eq!(rt; refusal(&mut reply, 501, Some(9)), text.as_slice());
-    let text = b"RTSP/1.0 503 Service Unavailable\r\nCSeq: 9\r\n\r\n";
-    assert_eq!(rt; refusal(&mut reply, 503, Some(9)), text.as_slice());
-    let text = b"RTSP/1.0 505 RTSP Version Not Supported\r\nCSeq: 9\r\n\r\n";
-    assert_eq!(rt; refusal(&mut reply, 505, Some(9)), text.as_slice());
     Ok(())
 }
 
@@ -415,10 +486,8 @@ fn refuse_option(reply: &mut Reply, message: &[u8])
 #[test]
 fn repeats_an_option(rt: HostRuntime) -> Result<(), Fail> {
     let mut demux = Demux::new(rt.alloc())?;
-    demux.put(b"PLAY * RTSP/1.0\r\nCSeq: 6\r\nRequire:  x \r\n\r\n")?;
-    let Some(message) = first_request(&mut demux) else {
-        panic!(rt; "no whole request");
-    };
+    let text = "PLAY * RTSP/1.0\r\nCSeq: 6\r\nRequire:  x \r\n\r\n";
+    let message = message_in(&mut demux, text)?;
     let mut reply = Reply::new(rt.alloc())?;
     refuse_option(&mut reply, message);
     let text = b"RTSP/1.0 551 Option Not Supported\r\nCSeq: 6\r\nUnsupported: x\r\n\r\n";
@@ -426,43 +495,72 @@ fn repeats_an_option(rt: HostRuntime) -> Result<(), Fail> {
     Ok(())
 }
 
+/// A text, and what is read of the reply that it begins with; the last two are a field's name and
+/// its value.
+struct ReplyRow {
+    text: &'static str,
+    code: u16,
+    body: &'static str,
+    name: &'static str,
+    value: &'static str,
+}
+
+const REPLIES: [ReplyRow; 2] = [
+    ReplyRow {
+        text: "RTSP/1.0 200 OK\r\nCSeq: 2\r\nx-Start: 1\r\nContent-Length: 3\r\n\r\nv=0rest",
+        code: 200,
+        body: "v=0",
+        name: "X-START",
+        value: "1",
+    },
+    ReplyRow {
+        text: "RTSP/1.0 007 a b\nSession\nsession:\n\n",
+        code: 7,
+        body: "",
+        name: "Session",
+        value: "",
+    },
+];
+
+/// Messages that are no replies.
+const NO_REPLIES: [&str; 7] = [
+    "RTSP/1.0 007  a\n\n",
+    "RTSP/1.0 20 OK\n\n",
+    "RTSP/1.0 2000 OK\n\n",
+    "RTSP/1.0 200 \n\n",
+    "RTSP/1.0 200\n\n",
+    "RTSP/1.1 200 OK\n\n",
+    "RTSP/1.0  200 OK\n\n",
+];
+
+/// Whether the message that a text begins with is read as its row says.
+fn is_reply(alloc: Global, row: &ReplyRow) -> Result<bool, Fail> {
+    let mut demux = Demux::new(alloc)?;
+    let Some(reply) = read_reply(message_in(&mut demux, row.text)?) else {
+        return Ok(false);
+    };
+    let found = header_of(reply.head, row.name.as_bytes());
+    Ok(
+        reply.code == row.code
+            && reply.body == row.body.as_bytes()
+            && found == Some(row.value.as_bytes()),
+    )
+}
+
 #[test]
 fn reads_replies(rt: HostRuntime) -> Result<(), Fail> {
-    for (text, code, body, name, value) in [
-        (
-            "RTSP/1.0 200 OK\r\nCSeq: 2\r\nx-Start: 1\r\nContent-Length: 3\r\n\r\nv=0rest",
-            Some(200),
-            "v=0",
-            "X-START",
-            Some("1"),
-        ),
-        ("RTSP/1.0 007  a\n\n", None, "", "a", None),
-        (
-            "RTSP/1.0 007 a b\nSession\nsession:\n\n",
-            Some(7),
-            "",
-            "Session",
-            Some(""),
-        ),
-        ("RTSP/1.0 20 OK\n\n", None, "", "a", None),
-        ("RTSP/1.0 2000 OK\n\n", None, "", "a", None),
-        ("RTSP/1.0 200 \n\n", None, "", "a", None),
-        ("RTSP/1.0 200\n\n", None, "", "a", None),
-        ("RTSP/1.1 200 OK\n\n", None, "", "a", None),
-        ("RTSP/1.0  200 OK\n\n", None, "", "a", None),
-    ] {
+    for row in &REPLIES {
+        assert!(rt; is_reply(rt.alloc(), row)?, "at {:?}", row.text);
+    }
+    Ok(())
+}
+
+#[test]
+fn refuses_replies(rt: HostRuntime) -> Result<(), Fail> {
+    for text in NO_REPLIES {
         let mut demux = Demux::new(rt.alloc())?;
-        demux.put(text.as_bytes())?;
-        let Some(message) = first_request(&mut demux) else {
-            panic!(rt; "no whole reply: {text:?}");
-        };
-        let reply = read_reply(message);
-        assert_eq!(rt; reply.map(|r| r.code), code, "at {text:?}");
-        if let Some(reply) = reply {
-            assert_eq!(rt; reply.body, body.as_bytes(), "at {text:?}");
-            let found = header_of(reply.head, name.as_bytes());
-            assert_eq!(rt; found, value.map(|v| v.as_bytes()), "at {text:?}");
-        }
+        let message = message_in(&mut demux, text)?;
+        assert!(rt; read_reply(message).is_none(), "at {text:?}");
     }
     Ok(())
 }

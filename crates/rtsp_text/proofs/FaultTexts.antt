@@ -1,0 +1,146 @@
+-- What a fault says of a message's lines.
+use Rattle.std.proofs.Common.{◌≡◌, ℕ, ◌<◌, true, nat_lt, List, [], ◌∷◌, ◌++◌, All, codes, length, get_or, drop, Option, Some, None, refl, sym, ap, subst, ◌∙◌, inl, inr, lt-ltb}
+use Rattle.std.specs.Prelude.{IfSome, option_and_then, slice_index_or}
+use Rattle.std.proofs.lemmas.Bool.{cases_Bool, cases_order}
+use Rattle.std.proofs.lemmas.List.{append_assoc}
+use Rattle.std.proofs.lemmas.List.Elements.{All-head, All-tail}
+use Rattle.vod_base.specs.Numbers.{is_decimal, number_of}
+use Rattle.rtsp_text.specs.Lines.{before_empty, first_line, header_lines}
+use Rattle.rtsp_text.specs.Grammar.{IsRequestLine, IsHeaderLine}
+use Rattle.rtsp_text.specs.Fields.{first_value, header_value, value_in, IsFirstField}
+use Rattle.rtsp_text.specs.Requests.{HasVersion, IsRequest, IsFault, IsFirstBad}
+use Rattle.rtsp_text.specs.Spelled.{IsNamedText}
+use Rattle.rtsp_text.specs.Faults.{HasLines, IsFirstUnnamed, IsLineOf, IsWrong, Writes, WritesNoDigits}
+use Rattle.rtsp_text.specs.declared.requests.RequestFault.{RequestFault}
+use Rattle.rtsp_text.specs.declared.requests.RequestFault.TheVariants.{BadLine, BadVersion, BadHeader, NoSequenceNumber, BadLength}
+use Rattle.rtsp_text.proofs.FirstField.{field_value, first_tells, read_of}
+use Rattle.rtsp_text.proofs.Walks.{while_no, while_yes}
+use Rattle.rtsp_text.proofs.WordTexts.{line_named, named_line, named_texts, word_is, word_of}
+
+-- the first line and the header lines
+first_is : (message first : List ℕ) (texts : List (List ℕ)) → HasLines message first texts → first_line message ≡ first
+unfolding first_line
+first_is message first texts has = ap (λ (ls : List (List ℕ)). slice_index_or ls 0 []) has.lines_are
+
+before_some : (texts rest : List (List ℕ)) → All (λ text. 0 < length text) texts → before_empty (texts ++ [] ∷ rest) ≡ texts
+before_some [] rest all = while_no (λ text. nat_lt 0 (length text)) [] rest refl
+before_some (t ∷ ts) rest all =
+    while_yes (λ text. nat_lt 0 (length text)) t (ts ++ [] ∷ rest) (lt-ltb 0 (length t) (All-head (λ text. 0 < length text) t ts all))
+    ∙ ap (λ l. t ∷ l) (before_some ts rest (All-tail (λ text. 0 < length text) t ts all))
+
+headers_are : (message first : List ℕ) (texts : List (List ℕ)) → HasLines message first texts → header_lines message ≡ texts
+unfolding header_lines
+headers_are message first texts has = ap (λ (ls : List (List ℕ)). before_empty (drop 1 ls)) has.lines_are ∙ before_some texts has.others has.some
+
+-- a request line
+spaced : (method url version : List ℕ) → method ++ codes " " ++ url ++ codes " " ++ version ≡ method ++ 32 ∷ (url ++ 32 ∷ version)
+spaced method url version =
+    append_assoc (method ++ codes " " ++ url) (codes " ") version
+    ∙ append_assoc (method ++ codes " ") url (codes " " ++ version)
+    ∙ append_assoc method (codes " ") (url ++ (codes " " ++ version))
+
+line_of : (first method url version : List ℕ) → IsRequestLine first method url version → IsLineOf version first
+line_of first method url version line = record {
+  method = method;
+  url = url;
+  parts = line.parts ∙ sym (spaced method url version);
+  method_is = word_of method line.method_is;
+  url_is = line.url_is;
+  version_is = line.version_is;
+}
+
+request_line_of : (first version : List ℕ) (line : IsLineOf version first) → IsRequestLine first line.method line.url version
+request_line_of first version line = record {
+  parts = line.parts ∙ spaced line.method line.url version;
+  method_is = word_is line.method line.method_is;
+  url_is = line.url_is;
+  version_is = line.version_is;
+}
+
+-- the first field of a name, as the function of the lines finds it
+found_value : (name : List ℕ) (texts : List (List ℕ)) (value : List ℕ) → IsFirstField name texts value → (o : Option (List ℕ)) → first_value name texts ≡ o → o ≡ Some value
+found_value name texts value f None is = absurd ((first_tells name texts).none is f.index value f.inside f.field)
+found_value name texts value f (Some v) is =
+    let g = (first_tells name texts).first v is in
+    elim (cases_order f.index g.index) [
+      | inl same ↦ (
+          let here = field_value name (get_or texts f.index []) value f.field in
+          let there = field_value name (get_or texts g.index []) v g.field in
+          sym there ∙ ap (λ i. value_in name (get_or texts i [])) (sym same) ∙ here
+          )
+      | inr (inl below) ↦ absurd (g.before f.index value below f.field)
+      | inr (inr below) ↦ absurd (f.before g.index v below g.field)
+    ]
+
+written : (name : List ℕ) (texts : List (List ℕ)) (number : ℕ) → Writes name texts number → option_and_then number_of (first_value name texts) ≡ Some number
+written name texts number w = ap (option_and_then number_of) (found_value name texts w.value w.field (first_value name texts) refl) ∙ w.number_is
+
+writes : (name : List ℕ) (texts : List (List ℕ)) (number : ℕ) → option_and_then number_of (first_value name texts) ≡ Some number → Writes name texts number
+writes name texts number is =
+    let read = read_of (first_value name texts) number is in
+    record { value = read.value; field = (first_tells name texts).first read.value read.value_is; number_is = read.number_is }
+
+-- a value that isn't all digits
+no_digits : (name : List ℕ) (texts : List (List ℕ)) (o : Option (List ℕ)) → first_value name texts ≡ o → ¬ IfSome o (λ value. is_decimal value ≡ true) → WritesNoDigits name texts
+no_digits name texts None is wrong = absurd (wrong tt)
+no_digits name texts (Some v) is wrong =
+    elim (cases_Bool (is_decimal v)) [
+      | inl good ↦ absurd (wrong good)
+      | inr bad ↦ record { value = v; field = (first_tells name texts).first v is; no_digits = bad }
+    ]
+
+-- the first line that isn't named
+first_unnamed : (texts : List (List ℕ)) (number : ℕ) → IsFirstBad texts number → IsFirstUnnamed texts number
+first_unnamed texts number f = record {
+  index = f.index;
+  number_is = f.number_is;
+  inside = f.inside;
+  before = λ k below. line_named (slice_index_or texts k []) (f.before k below);
+  unnamed = λ named. f.bad (named_line (slice_index_or texts f.index []) named);
+}
+
+-- what a fault says of the lines
+wrong : (first : List ℕ) (texts : List (List ℕ)) (message : List ℕ) (fault : RequestFault) → first_line message ≡ first → header_lines message ≡ texts → IsFault message fault → IsWrong first texts fault
+wrong first texts message fault line_is texts_are is = go fault is
+  where
+    line : (version : List ℕ) → HasVersion message version → IsLineOf version first
+    line version has = line_of first has.0 has.1.0 version (subst (λ (t : List ℕ). IsRequestLine t has.0 has.1.0 version) line_is has.1.1)
+
+    named : All IsHeaderLine (header_lines message) → All IsNamedText texts
+    named all = named_texts texts (subst (All IsHeaderLine) texts_are all)
+
+    value : (name : List ℕ) → header_value message name ≡ first_value name texts
+    value name = ap (first_value name) texts_are
+
+    go : (f : RequestFault) → IsFault message f → IsWrong first texts f
+    go BadLine none = λ version l. none version (l.method, (l.url, subst (λ (t : List ℕ). IsRequestLine t l.method l.url version) (sym line_is) (request_line_of first version l)))
+    go BadVersion has = (has.0, (line has.0 has.1.0, has.1.1))
+    go (BadHeader number) has = (line (codes "RTSP/1.0") has.0, first_unnamed texts number (subst (λ ts. IsFirstBad ts number) texts_are has.1))
+    go NoSequenceNumber has = (
+      record { line = line (codes "RTSP/1.0") has.0; named = named has.1 },
+      λ number w. let bad : None ≡ Some number = sym has.2 ∙ ap (option_and_then number_of) (value (codes "CSeq")) ∙ written (codes "CSeq") texts number w in let no : ⊥ = cc in no,
+    )
+    go BadLength has = (
+      record { line = line (codes "RTSP/1.0") has.0; named = named has.1 },
+      (
+        (has.2.0, writes (codes "CSeq") texts has.2.0 (ap (option_and_then number_of) (sym (value (codes "CSeq"))) ∙ has.2.1)),
+        no_digits (codes "Content-Length") texts (first_value (codes "Content-Length") texts) refl
+            (λ good. has.3 (subst (λ (o : Option (List ℕ)). IfSome o (λ value. is_decimal value ≡ true)) (sym (value (codes "Content-Length"))) good)),
+      ),
+    )
+
+pub fault_wrong : (message first : List ℕ) (texts : List (List ℕ)) (fault : RequestFault) → HasLines message first texts → IsFault message fault → IsWrong first texts fault
+fault_wrong message first texts fault has is = wrong first texts message fault (first_is message first texts has) (headers_are message first texts has) is
+
+-- the sequence number of a request, and its length
+pub sequence_written : (message first : List ℕ) (texts : List (List ℕ)) (method url : List ℕ) (sequence : ℕ) (head body : List ℕ) → HasLines message first texts → IsRequest message method url sequence head body →
+    Writes (codes "CSeq") texts sequence
+sequence_written message first texts method url sequence head body has request =
+    writes (codes "CSeq") texts sequence (ap (λ ls. option_and_then number_of (first_value (codes "CSeq") ls)) (sym (headers_are message first texts has)) ∙ request.sequence_is)
+
+pub length_digits : (message first : List ℕ) (texts : List (List ℕ)) (method url : List ℕ) (sequence : ℕ) (head body value : List ℕ) → HasLines message first texts → IsRequest message method url sequence head body →
+    IsFirstField (codes "Content-Length") texts value → is_decimal value ≡ true
+length_digits message first texts method url sequence head body value has request field =
+    let found : header_value message (codes "Content-Length") ≡ Some value =
+    ap (first_value (codes "Content-Length")) (headers_are message first texts has) ∙ found_value (codes "Content-Length") texts value field (first_value (codes "Content-Length") texts) refl in
+    subst (λ (o : Option (List ℕ)). IfSome o (λ v. is_decimal v ≡ true)) found request.length_is
