@@ -65,6 +65,12 @@ pub record IsHalting (sizes : List ℕ) (playback : Playback) (run : Run) (plan 
   pub planned : IsPlanOf sizes playback run plan
   pub halt : IsHalt plan last keep
 
+pub halting : (sizes : List ℕ) (playback : Playback) (run : Run) (plan : List Segment) (last : Option ℕ) (keep : ℕ)
+    → IsPlayback playback → IsRun sizes run → Fits playback.buffer run → length sizes ≤ 4194304 → sum sizes ≤ 2 ^ 42 → IsPlanOf sizes playback run plan → IsHalt plan last keep
+    → IsHalting sizes playback run plan last keep
+halting sizes playback run plan last keep plays is fits few small planned halt =
+    record { plays = plays; is = is; fits = fits; few = few; small = small; planned = planned; halt = halt }
+
 pub halting-limits : (sizes : List ℕ) (playback : Playback) (run : Run) (plan : List Segment) (last : Option ℕ) (keep : ℕ)
     → IsHalting sizes playback run plan last keep → IsWithinLimits (rest_sizes sizes run) (timing_of playback run)
 halting-limits sizes playback run plan last keep h = limits sizes playback run h.plays h.is h.fits h.few h.small

@@ -1,11 +1,11 @@
 -- Seeks by the picture rates.
-use Rattle.std.proofs.Common.{◌≡◌, ℕ, zero, suc, ◌+◌, ◌-◌, ◌*◌, ◌/◌, ◌^◌, ◌<◌, ◌≤◌, ◌⊎◌, List, length, Option, Some, None, slice_index_or, inl, inr, arith}
+use Rattle.std.proofs.Common.{ℕ, zero, suc, ◌-◌, ◌*◌, ◌<◌, ◌≤◌, length, Option, Some, None, slice_index_or, inl, inr, arith}
 use Rattle.std.proofs.lemmas.Bool.{cases_lt}
 use Rattle.mpeg_scan.specs.declared.films.Film.{Film}
 use Rattle.mpeg_scan.specs.Rates.{picture_time}
 use Rattle.film_run.specs.declared.runs.Run.{Run}
-use Rattle.film_run.specs.Seeks.{BeginsBefore, BeginsBy, IsAsked, IsEnd, IsGroupFrom, StartsGroup}
-use Rattle.film_run.specs.SeekLaws.{ArePastBy, IsEndFor, IsEndedBy, IsSought, LastUntil, picture_rates, pictures_in, seconds_of}
+use Rattle.film_run.specs.Seeks.{IsAsked, IsEnd}
+use Rattle.film_run.specs.SeekLaws.{IsEndFor, IsSought, picture_rates}
 
 -- the time of a picture, by the rates
 abbrev rate : ℕ → ℕ × ℕ

@@ -1,16 +1,15 @@
 -- What counts as played after a halt is what the client has used.
-use Rattle.std.proofs.Common.{◌≡◌, ℕ, ◌+◌, ◌-◌, ◌<◌, ◌≤◌, ◌⊎◌, ◌↔◌, List, Option, Some, None, max, inl, inr, arith}
+use Rattle.std.proofs.Common.{ℕ, ◌-◌, ◌<◌, ◌≤◌, List, Option, Some, None, inl, inr, arith}
 use Rattle.std.proofs.lemmas.Bool.{cases_lt}
 use Rattle.plan_cert.specs.declared.Segment.{Segment}
-use Rattle.plan_cert.specs.Slots.{sum_through}
 use Rattle.plan_cert.proofs.SlotLaws.{sum_through_rises}
-use Rattle.wire_curve.specs.FilmCurves.{due_slot}
+use Rattle.wire_curve.proofs.PlayedLaws.{due_is}
 use Rattle.wire_curve.proofs.UseLaws.{due_rises}
 use Rattle.film_run.specs.declared.runs.Run.{Run}
 use Rattle.film_run.specs.declared.plans.Playback.{Playback}
 use Rattle.film_run.specs.Plans.{timing_of}
-use Rattle.film_run.specs.Pauses.{IsLeft, IsStop}
-use Rattle.film_run.specs.Laws.{CountsUsed, IsSending, IsUnplayed, IsUsedBy, use_slot}
+use Rattle.film_run.specs.Pauses.{IsStop}
+use Rattle.film_run.specs.Laws.{AreUsedOnTime, CountsUsed, IsSending, IsUsedBy, use_slot}
 
 -- a picture that is used before the slot of the stop, and one that is used in it or later
 used-before-stop : (playback : Playback) (run : Run) (plan : List Segment) (last : Option ℕ) (keep stop unit : ℕ)
@@ -47,3 +46,13 @@ counts-used sizes playback run plan is = λ last keep left unit its at. (
             absurd (unused-from-stop playback run plan last keep its.stop unit its.stop_is (omega (arith, its.unused)) used)
       ],
 )
+
+-- a picture is used in the slot in which its time begins
+pub used-on-time : (sizes : List ℕ) (playback : Playback) (run : Run) (plan : List Segment) → IsSending sizes playback run plan
+    → AreUsedOnTime sizes playback run plan
+used-on-time sizes playback run plan is = λ unit slot at.
+    let some = is.can_play.playback_is.some_slot_units in
+    let due = due_is (timing_of playback run) (unit - run.from_unit) (slot - playback.delay) some in (
+      (λ e. let both = due.0 (omega (arith, e)) in record { delayed = omega (arith, e); begins = both.0; ends = both.1 }),
+      (λ its. let same = due.1 (its.begins, its.ends) in omega (arith, same, its.delayed)),
+    )

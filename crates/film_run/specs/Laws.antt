@@ -1,5 +1,5 @@
 -- What plans and halts promise a client, in its own words.
-use Rattle.std.specs.Prelude.{ℕ, ◌≡◌, ◌+◌, ◌-◌, ◌<◌, ◌≤◌, ◌⊎◌, ◌↔◌, List, Option, Some, None}
+use Rattle.std.specs.Prelude.{ℕ, ◌≡◌, ◌+◌, ◌-◌, ◌*◌, ◌<◌, ◌≤◌, ◌⊎◌, ◌↔◌, List, Option, Some, None}
 use Rattle.plan_cert.specs.declared.Segment.{Segment}
 use Rattle.plan_cert.specs.Slots.{sum_through, total_bytes, total_slots}
 use Rattle.mpeg_scan.specs.declared.films.Film.{Film}
@@ -33,6 +33,21 @@ OfSendings Fact =
 pub record IsUnplayed (run : Run) (unit : ℕ) : Type 0 where
   pub from : run.from_unit ≤ unit
   pub before_end : unit < run.end_unit
+
+-- The time of a unit begins in a slot of the play: the first unplayed one is shown once the delay is
+-- over, and each of the others a picture's time after the one before it.
+pub record IsTimeOf (playback : Playback) (run : Run) (unit slot : ℕ) : Type 0 where
+  pub delayed : playback.delay ≤ slot
+  pub begins : (slot - playback.delay) * playback.slot_units
+      ≤ (unit - run.from_unit) * playback.picture_units
+  pub ends : (unit - run.from_unit) * playback.picture_units
+      < (slot - playback.delay + 1) * playback.slot_units
+
+-- each unplayed picture is used in the slot in which its time begins
+abbrev pub AreUsedOnTime : List ℕ → Playback → Run → List Segment → Type 0
+AreUsedOnTime sizes playback run plan =
+    (unit slot : ℕ) → IsUnplayed run unit
+    → (use_slot playback run unit ≡ slot) ↔ IsTimeOf playback run unit slot
 
 -- Each unplayed picture is in time: by the end of the slot in which it is used it was sent whole,
 -- and all before it.

@@ -1,6 +1,6 @@
 -- Seeks in the words of RFC 2326, whose normal play time counts from the film's beginning (sections
 -- 3.6 and 12.29).
-use Rattle.std.specs.Prelude.{ℕ, ◌≡◌, ◌-◌, ◌*◌, ◌^◌, ◌<◌, ◌≤◌, List, [], ◌∷◌, length, slice_index_or}
+use Rattle.std.specs.Prelude.{ℕ, ◌≡◌, ◌-◌, ◌*◌, ◌<◌, ◌≤◌, List, [], ◌∷◌, length, slice_index_or}
 use Rattle.std.specs.Prelude.{Option, Some, None}
 use Rattle.mpeg_scan.specs.declared.films.Film.{Film}
 use Rattle.film_run.specs.declared.runs.Run.{Run}

@@ -2,17 +2,20 @@ ghost use Rattle.std.specs.Prelude.{◌<◌, ◌≤◌, ℕ, length, Option};
 ghost use Rattle.mpeg_scan.specs.declared.films.Film.{Film as FilmIs};
 ghost use Rattle.film_run.specs.declared.runs.Run.{Run};
 ghost use Rattle.film_run.specs.Plans.{IsBestPlanOf};
-ghost use Rattle.film_run.specs.Laws.{AreInTime, CountsUsed, DoesFit, GoesOn, IsOnlyPlan};
-ghost use Rattle.film_run.specs.Laws.{LeavesOne, LeavesRun, OfSendings, SharesBoundaries};
+ghost use Rattle.film_run.specs.Laws.{AreInTime, AreUsedOnTime, CountsUsed, DoesFit, GoesOn};
+ghost use Rattle.film_run.specs.Laws.{IsOnlyPlan, LeavesOne, LeavesRun, OfSendings};
+ghost use Rattle.film_run.specs.Laws.{SharesBoundaries};
 ghost use Rattle.film_run.specs.SeekLaws.{IsSought};
 ghost use Rattle.film_run.specs.Seeks.{IsAsked};
 
 use mpeg_scan::Film;
 
-/// A run's plan: each picture is whole at the client by the end of the slot in which it is used, in
-/// the buffer or by the plan, and the client's buffer never overflows. No plan that keeps between
-/// the curves sends less above any rate. There is one such plan.
+/// A run's plan: each picture is used in the slot in which its time begins, and is whole at the
+/// client by the end of that slot, in the buffer or by the plan, and the client's buffer never
+/// overflows. No plan that keeps between the curves sends less above any rate. There is one such
+/// plan.
 pub fn law_plan()
+    ensures on_time { OfSendings AreUsedOnTime }
     ensures in_time { OfSendings AreInTime }
     ensures fits { OfSendings DoesFit }
     ensures best { OfSendings IsBestPlanOf }

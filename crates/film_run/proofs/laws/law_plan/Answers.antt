@@ -1,5 +1,9 @@
 use Rattle.film_run.proofs.PlayLaws.{sending-best, sending-fits, sending-in-time, sending-one}
+use Rattle.film_run.proofs.UsedPictures.{used-on-time}
 use Rattle.film_run.proofs.laws.law_plan.Goals as goal
+
+pub returns-clause-on_time : goal.returns-clause-on_time
+returns-clause-on_time c = used-on-time
 
 pub returns-clause-in_time : goal.returns-clause-in_time
 returns-clause-in_time c = sending-in-time

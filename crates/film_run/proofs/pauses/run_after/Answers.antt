@@ -3,21 +3,14 @@ use Rattle.std.proofs.lemmas.Bool.{cases_lt}
 use Rattle.wire_curve.specs.FilmCurves.{due_slot}
 use Rattle.film_run.specs.Plans.{timing_of}
 use Rattle.film_run.proofs.SumLaws.{bytes-more, bytes-most}
-use Rattle.film_run.proofs.HaltLaws.{IsHalting, goes-on, kept-small, left-run, played-by}
+use Rattle.film_run.proofs.HaltLaws.{goes-on, halting, kept-small, left-run, played-by}
 use Rattle.film_run.proofs.pauses.run_after.Goals as goal
 
 pub overflow_add-left : goal.overflow_add-left
 overflow_add-left g c =
     let sizes = g.U.Units.sizes c.args.units.now in
-    let h : IsHalting sizes c.args.playback.now c.args.run.now c.args.plan.now c.args.last c.args.keep = record {
-      plays = c.requires.playback;
-      is = c.requires.run;
-      fits = c.requires.fits;
-      few = c.count-count.ensures.few;
-      small = c.count-count.ensures.small;
-      planned = c.requires.plan;
-      halt = c.requires.halt;
-    } in
+    let h = halting sizes c.args.playback.now c.args.run.now c.args.plan.now c.args.last c.args.keep
+    c.requires.playback c.requires.run c.requires.fits c.count-count.ensures.few c.count-count.ensures.small c.requires.plan c.requires.halt in
     omega (arith, kept-small sizes c.args.playback.now c.args.run.now c.args.plan.now c.args.last c.args.keep h)
 
 pub overflow_add-left-in-loop-left : goal.overflow_add-left-in-loop-left
@@ -30,15 +23,8 @@ overflow_add-left-in-loop-left g c =
 pub loop-left-preserved : goal.loop-left-preserved
 loop-left-preserved g c =
     let sizes = g.U.Units.sizes c.args.units.now in
-    let h : IsHalting sizes c.args.playback.now c.args.run.now c.args.plan.now c.args.last c.args.keep = record {
-      plays = c.requires.playback;
-      is = c.requires.run;
-      fits = c.requires.fits;
-      few = c.count-count.ensures.few;
-      small = c.count-count.ensures.small;
-      planned = c.requires.plan;
-      halt = c.requires.halt;
-    } in
+    let h = halting sizes c.args.playback.now c.args.run.now c.args.plan.now c.args.last c.args.keep
+    c.requires.playback c.requires.run c.requires.fits c.count-count.ensures.few c.count-count.ensures.small c.requires.plan c.requires.halt in
     let used : due_slot (timing_of c.args.playback.now c.args.run.now) (c.loop-left.left.from_unit - c.args.run.now.from_unit) < c.stop_slot-stop.result = omega (arith, c.due_slot.ensures, c.loop-left-test.true) in
     let more = bytes-more sizes c.args.run.now.first_unit c.loop-left.left.from_unit (omega arith) (omega arith) in
     record {
@@ -59,56 +45,28 @@ loop-left-preserved g c =
           ];
     }
 
-pub returns-clause-left : goal.returns-clause-left
-returns-clause-left g c =
+pub returns : goal.returns
+returns g c =
     let sizes = g.U.Units.sizes c.args.units.now in
+    let h = halting sizes c.args.playback.now c.args.run.now c.args.plan.now c.args.last c.args.keep
+    c.requires.playback c.requires.run c.requires.fits c.count-count.ensures.few c.count-count.ensures.small c.requires.plan c.requires.halt in
     let unused : c.stop_slot-stop.result ≤ due_slot (timing_of c.args.playback.now c.args.run.now) (c.loop-left.left.from_unit - c.args.run.now.from_unit) = omega (arith, c.due_slot.ensures, c.loop-left-test.false) in
     let played = played-by sizes c.args.playback.now c.args.run.now c.loop-left.left.from_unit c.stop_slot-stop.result c.requires.playback c.requires.run
     c.loop-left.invariant.from c.loop-left.invariant.rest c.loop-left.invariant.used unused in
+    let left = left-run sizes c.args.playback.now c.args.run.now c.loop-left.left c.args.plan.now c.args.last c.args.keep c.stop_slot-stop.result h c.stop_slot-stop.ensures.stop c.stop_slot-stop.ensures.inside
+    c.loop-left.invariant.first_is c.loop-left.invariant.end_is c.loop-left.invariant.sent_is c.loop-left.invariant.from c.loop-left.invariant.rest c.loop-left.invariant.played played in
     record {
-      first_is = c.loop-left.invariant.first_is;
-      end_is = c.loop-left.invariant.end_is;
-      sent_is = c.loop-left.invariant.sent_is;
-      stop = c.stop_slot-stop.result;
-      stop_is = c.stop_slot-stop.ensures.stop;
-      played_is = c.loop-left.invariant.played ∙ played;
-      not_back = c.loop-left.invariant.from;
-      used = c.loop-left.invariant.used;
-      unused = unused;
+      left = record {
+        first_is = c.loop-left.invariant.first_is;
+        end_is = c.loop-left.invariant.end_is;
+        sent_is = c.loop-left.invariant.sent_is;
+        stop = c.stop_slot-stop.result;
+        stop_is = c.stop_slot-stop.ensures.stop;
+        played_is = c.loop-left.invariant.played ∙ played;
+        not_back = c.loop-left.invariant.from;
+        used = c.loop-left.invariant.used;
+        unused = unused;
+      };
+      run = left.0;
+      fits = left.1;
     }
-
-pub returns-clause-run : goal.returns-clause-run
-returns-clause-run g c =
-    let sizes = g.U.Units.sizes c.args.units.now in
-    let h : IsHalting sizes c.args.playback.now c.args.run.now c.args.plan.now c.args.last c.args.keep = record {
-      plays = c.requires.playback;
-      is = c.requires.run;
-      fits = c.requires.fits;
-      few = c.count-count.ensures.few;
-      small = c.count-count.ensures.small;
-      planned = c.requires.plan;
-      halt = c.requires.halt;
-    } in
-    let unused : c.stop_slot-stop.result ≤ due_slot (timing_of c.args.playback.now c.args.run.now) (c.loop-left.left.from_unit - c.args.run.now.from_unit) = omega (arith, c.due_slot.ensures, c.loop-left-test.false) in
-    let played = played-by sizes c.args.playback.now c.args.run.now c.loop-left.left.from_unit c.stop_slot-stop.result c.requires.playback c.requires.run
-    c.loop-left.invariant.from c.loop-left.invariant.rest c.loop-left.invariant.used unused in
-    (left-run sizes c.args.playback.now c.args.run.now c.loop-left.left c.args.plan.now c.args.last c.args.keep c.stop_slot-stop.result h c.stop_slot-stop.ensures.stop c.stop_slot-stop.ensures.inside
-    c.loop-left.invariant.first_is c.loop-left.invariant.end_is c.loop-left.invariant.sent_is c.loop-left.invariant.from c.loop-left.invariant.rest c.loop-left.invariant.played played).0
-
-pub returns-clause-fits : goal.returns-clause-fits
-returns-clause-fits g c =
-    let sizes = g.U.Units.sizes c.args.units.now in
-    let h : IsHalting sizes c.args.playback.now c.args.run.now c.args.plan.now c.args.last c.args.keep = record {
-      plays = c.requires.playback;
-      is = c.requires.run;
-      fits = c.requires.fits;
-      few = c.count-count.ensures.few;
-      small = c.count-count.ensures.small;
-      planned = c.requires.plan;
-      halt = c.requires.halt;
-    } in
-    let unused : c.stop_slot-stop.result ≤ due_slot (timing_of c.args.playback.now c.args.run.now) (c.loop-left.left.from_unit - c.args.run.now.from_unit) = omega (arith, c.due_slot.ensures, c.loop-left-test.false) in
-    let played = played-by sizes c.args.playback.now c.args.run.now c.loop-left.left.from_unit c.stop_slot-stop.result c.requires.playback c.requires.run
-    c.loop-left.invariant.from c.loop-left.invariant.rest c.loop-left.invariant.used unused in
-    (left-run sizes c.args.playback.now c.args.run.now c.loop-left.left c.args.plan.now c.args.last c.args.keep c.stop_slot-stop.result h c.stop_slot-stop.ensures.stop c.stop_slot-stop.ensures.inside
-    c.loop-left.invariant.first_is c.loop-left.invariant.end_is c.loop-left.invariant.sent_is c.loop-left.invariant.from c.loop-left.invariant.rest c.loop-left.invariant.played played).1
