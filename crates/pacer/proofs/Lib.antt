@@ -1,3 +1,4 @@
 pub mod SendingLemmas
 pub mod PacingLemmas
 mod SlotLemmas
+pub mod ByteLemmas

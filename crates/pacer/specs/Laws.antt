@@ -1,8 +1,10 @@
 -- What each slot of a plan brings, in the plan's own words.
-use Rattle.std.specs.Prelude.{ℕ, ◌≡◌, ◌+◌, ◌-◌, ◌<◌, ◌≤◌, min, false, true, slice_index}
-use Rattle.film_frames.specs.Tracks.{IsBoundaryAfter}
+use Rattle.std.specs.Prelude.{ℕ, ◌≡◌, ◌+◌, ◌-◌, ◌<◌, ◌≤◌, ◌↔◌, ◌++◌, min, false, true, drop}
+use Rattle.std.specs.Prelude.{slice_index}
+use Rattle.film_frames.specs.Tracks.{IsBoundary, IsBoundaryAfter, framed_bytes}
 use Rattle.plan_cert.specs.Slots.{plan_slots, sum_through, total_bytes}
-use Rattle.pacer.specs.Pacings.{IsPacing, Pacing, at_slot, after_step}
+use Rattle.pacer.specs.Pacings.{IsPacing, Pacing, at_slot, after_step, is_done, plan_bytes}
+use Rattle.pacer.specs.Pacings.{stands_at_boundary}
 
 -- a fact of each pacing and each slot of the link
 abbrev pub OfSteps : (Pacing → ℕ → Type 0) → Type 0
@@ -47,3 +49,25 @@ abbrev pub StopsAtBoundary : Pacing → ℕ → Type 0
 StopsAtBoundary p slot =
     (place : ℕ) → IsBoundaryAfter p.pieces (p.before + p.sent) (p.before + place)
     → (after_step true slot p).sent ≡ min (after_step false slot p).sent place
+
+-- the bytes of two parts of a plan, one after the other, are those of both
+abbrev pub DoPartsJoin : Pacing → Type 0
+DoPartsJoin p =
+    (from at to : ℕ) → from ≤ at → at ≤ to →
+    plan_bytes p from at ++ plan_bytes p at to ≡ plan_bytes p from to
+
+-- all bytes of a plan are those of the track from the plan's first one on
+abbrev pub SendsTheTrack : Pacing → Type 0
+SendsTheTrack p = plan_bytes p 0 (total_bytes p.plan) ≡ drop p.before (framed_bytes p.pieces)
+
+-- what was sent ends at a boundary of the track
+abbrev pub TellsBoundaries : Pacing → Type 0
+TellsBoundaries p = (stands_at_boundary p ≡ true) ↔ IsBoundary p.pieces (p.before + p.sent)
+
+-- a slot of the plan was stepped, and nothing that is kept is still to be sent
+pub record IsPlayedOut (p : Pacing) : Type 0 where
+  pub begun : 1 ≤ p.passed
+  pub none_left : p.keep - p.sent ≡ 0
+
+abbrev pub TellsTheEnd : Pacing → Type 0
+TellsTheEnd p = (is_done p ≡ true) ↔ IsPlayedOut p

@@ -1,5 +1,7 @@
-ghost use Rattle.pacer.specs.Laws.{BringsNothing, OfSteps, SendsNext, SendsThrough};
-ghost use Rattle.pacer.specs.Laws.{StopsAtBoundary};
+ghost use Rattle.pacer.specs.Laws.{BringsNothing, DoPartsJoin, OfSteps, SendsNext};
+ghost use Rattle.pacer.specs.Laws.{SendsTheTrack, SendsThrough, StopsAtBoundary};
+ghost use Rattle.pacer.specs.Laws.{TellsBoundaries, TellsTheEnd};
+ghost use Rattle.pacer.specs.Pacings.{IsPacing, Pacing};
 
 /// What is due in a slot: nothing before the plan's start, and from then on exactly what the plan
 /// has through that slot, not a slot earlier or later. Where slots are stepped one after another,
@@ -10,4 +12,15 @@ pub fn law_slots_sent()
     ensures through { OfSteps SendsThrough }
     ensures next { OfSteps SendsNext }
     ensures stop { OfSteps StopsAtBoundary }
+{}
+
+/// The bytes of a plan are those of its track from the plan's first one on, however they are parted
+/// into slots. What was sent stands at a boundary exactly where it ends with a whole frame or
+/// report, or nothing was sent of the track. A play is done exactly where a slot of its plan was
+/// stepped and nothing is left of what is kept.
+pub fn law_bytes_sent()
+    ensures parts { (p : Pacing) → IsPacing p → DoPartsJoin p }
+    ensures all { (p : Pacing) → IsPacing p → SendsTheTrack p }
+    ensures boundary { (p : Pacing) → IsPacing p → TellsBoundaries p }
+    ensures done { (p : Pacing) → IsPacing p → TellsTheEnd p }
 {}

@@ -7,7 +7,7 @@ mod laws;
 mod pacers;
 mod sending;
 
-pub use laws::law_slots_sent;
+pub use laws::{law_bytes_sent, law_slots_sent};
 pub use pacers::{Pacer, Stepped};
 
 #[cfg(test)]

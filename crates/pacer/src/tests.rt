@@ -51,7 +51,12 @@ fn called(
     };
     Ok((
         answer,
-        (pacer.sent(), pacer.bytes_due(), pacer.at_boundary(), pacer.is_done()),
+        (
+            pacer.sent(),
+            pacer.bytes_due(),
+            pacer.at_boundary(),
+            pacer.is_done(),
+        ),
     ))
 }
 
