@@ -10,9 +10,9 @@ ghost use Rattle.cert_check.specs.Best.{IsBestPlan};
 
 use crate::CertFault;
 use crate::bends::{first_equal, first_fall_off, first_rise_off};
-use crate::sums::{first_empty, has_slots, leads_to};
+use crate::sums::{first_empty, leads_to};
 use crate::walk::{Outside, first_outside};
-use plan_cert::Segment;
+use plan_cert::{Segment, has_slots};
 use wire_curve::Curves;
 
 /// Whether the segments are the taut line between the curves, or else the first fault. A list that

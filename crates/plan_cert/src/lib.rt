@@ -8,12 +8,14 @@ mod laws;
 mod plans;
 mod reading;
 mod segments;
+mod sums;
 
 pub use certs::write_cert;
 pub use cursors::PlanCursor;
 pub use laws::{law_excess, law_running_sum, law_slots, law_text};
 pub use plans::{MAX_BYTES, MAX_SLOTS, Plan};
 pub use reading::{CertRead, CertText, read_cert};
+pub use sums::{has_bytes, has_slots};
 
 /// A straight piece of a plan: `bytes` bytes sent evenly over `slots` slots.
 ///

@@ -2,12 +2,12 @@ ghost use Rattle.std.specs.Prelude.{ℕ, ◌≡◌, ◌≢◌, ◌+◌, ◌^◌,
 ghost use Rattle.std.specs.Prelude.{length, slice_index, codes, decimal, flat_map, All, IfOk};
 ghost use Rattle.std.specs.Prelude.{IfErr, MatchOption, MatchResult};
 ghost use Rattle.plan_cert.specs.declared.Segment.{Segment};
-ghost use Rattle.plan_cert.specs.Slots.{total_slots, total_bytes};
 ghost use Rattle.plan_cert.specs.Reading.{IsCut, IsNumberLine, IsSegmentLine, AreNumbers};
 ghost use Rattle.plan_cert.specs.Reading.{IsCertificate, IsRefused, IsBadLine, HasRead, IsHead};
 ghost use Rattle.plan_cert.specs.Reading.{IsBody};
 
 use crate::Segment;
+use crate::sums::{has_bytes, has_slots};
 use std::alloc::Global;
 use std::error::Error;
 use std::fmt;
@@ -203,34 +203,6 @@ fn read_body(alloc: Global, text: &[u8]) -> Result<Vec<Segment>, CertRead>
         rest = after;
     }
     unreachable!()
-}
-
-/// Whether the segments have this many slots.
-fn has_slots(segments: &[Segment], slots: u64) -> bool
-    ensures { IsTrue result ↔ (total_slots segments.now ≡ slots) }
-{
-    let mut left = slots;
-    for segment in segments {
-        if segment.slots > left {
-            return false;
-        }
-        left -= segment.slots;
-    }
-    left == 0
-}
-
-/// Whether the segments have this many bytes.
-fn has_bytes(segments: &[Segment], bytes: u64) -> bool
-    ensures { IsTrue result ↔ (total_bytes segments.now ≡ bytes) }
-{
-    let mut left = bytes;
-    for segment in segments {
-        if segment.bytes > left {
-            return false;
-        }
-        left -= segment.bytes;
-    }
-    left == 0
 }
 
 /// Reads a certificate: the text that [`crate::write_cert`] gives of a plan, and of any segments

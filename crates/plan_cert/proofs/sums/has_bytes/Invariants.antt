@@ -1,6 +1,6 @@
 use Rattle.std.proofs.Common.{◌≡◌, ◌+◌, take}
 use Rattle.plan_cert.specs.Slots.{total_bytes}
-use Rattle.cert_check.proofs.sums.leads_to.Given as goal
+use Rattle.plan_cert.proofs.sums.has_bytes.Given as goal
 
 abbrev pub invariant-loop-segment : goal.invariant-loop-segment
-invariant-loop-segment l = l.left + (l.from + total_bytes (take l.segment-index l.segments)) ≡ l.total
+invariant-loop-segment l = l.left + total_bytes (take l.segment-index l.segments) ≡ l.bytes
