@@ -1,5 +1,6 @@
 use super::*;
 use std::alloc::Global;
+use std::process::Abort;
 use std::test::Fail;
 
 #[test]
@@ -18,6 +19,15 @@ fn reads_numbers(rt: HostRuntime) {
     }
 }
 
+// The ends of the line that begins at a place.
+fn ends_of(text: &[u8], at: usize) -> Option<(usize, usize)> {
+    if at > text.len() {
+        return None;
+    }
+    let line = line_end(text, at)?;
+    Some((line.text_end, line.next))
+}
+
 #[test]
 fn ends_lines(rt: HostRuntime) {
     for (text, at, want) in [
@@ -31,16 +41,7 @@ fn ends_lines(rt: HostRuntime) {
         ("a\r", 0, None),
         ("", 0, None),
     ] {
-        let found = if at <= text.len() {
-            line_end(text.as_bytes(), at)
-        } else {
-            None
-        };
-        assert_eq!(rt;
-            found.map(|line| (line.text_end, line.next)),
-            want,
-            "at {text:?} {at}"
-        );
+        assert_eq!(rt; ends_of(text.as_bytes(), at), want, "at {text:?} {at}");
     }
 }
 
@@ -73,42 +74,52 @@ fn finds_and_reads(rt: HostRuntime) -> Result<(), Fail> {
     let alloc = rt.alloc();
     let first = (String::from_str(alloc, "a")?, text(alloc, "hello")?);
     let second = (String::from_str(alloc, "a")?, text(alloc, "hidden")?);
-    let files = vec![in alloc; first, second]?;
-    let mut library = MemoryLibrary::new(files, vec![in alloc; 3]?);
-    assert_eq!(rt; library.find("a"), Ok(Some(5)));
-    assert_eq!(rt; library.find("b"), Ok(None));
-    assert_eq!(rt; library.find("a"), Err(StoreFault));
-    let mut into = [0u8; 4];
-    assert_eq!(rt; library.read("a", 0, &mut into), Ok(4));
-    assert_eq!(rt; into, *b"hell");
-    assert_eq!(rt; library.read("a", 4, &mut into), Ok(1));
-    assert_eq!(rt; into[0], b'o');
-    assert_eq!(rt; library.read("a", 5, &mut into), Ok(0));
-    assert_eq!(rt; library.read("a", u64::MAX, &mut into), Ok(0));
-    assert_eq!(rt; library.read("b", 0, &mut into), Ok(0));
+    let mut library = MemoryLibrary::new(vec![in alloc; first, second]?, vec![in alloc; 3]?);
+    for (name, want) in [("a", Ok(Some(5))), ("b", Ok(None)), ("a", Err(StoreFault))] {
+        assert_eq!(rt; library.find(name), want);
+    }
+    let rows: [(&str, u64, &[u8]); 5] = [
+        ("a", 0, b"hell"),
+        ("a", 4, b"o"),
+        ("a", 5, b""),
+        ("a", u64::MAX, b""),
+        ("b", 0, b""),
+    ];
+    for (name, at, want) in rows {
+        let mut into = [0u8; 4];
+        assert_eq!(rt; library.read(name, at, &mut into), Ok(want.len()));
+        assert!(rt; into.starts_with(want));
+    }
     Ok(())
 }
 
 #[test]
 fn keeps_what_is_written(rt: HostRuntime) -> Result<(), Fail> {
     let alloc = rt.alloc();
-    let mut sink = match MemorySink::new(alloc, 8, vec![in alloc; 2]?) {
-        Ok(sink) => sink,
-        Err(NoMemory) => panic!(rt; "no memory for 8 bytes"),
+    let Ok(mut sink) = MemorySink::new(alloc, 8, vec![in alloc; 2]?) else {
+        panic!(rt; "no memory for 8 bytes");
     };
-    assert_eq!(rt; sink.write_all(b"abc"), Ok(()));
-    assert_eq!(rt; sink.write_all(b"d"), Err(SinkFault));
-    assert_eq!(rt; sink.write_all(b"defghi"), Err(SinkFault));
-    assert_eq!(rt; sink.write_all(b"defgh"), Ok(()));
+    let rows: [(&[u8], Result<(), SinkFault>); 4] = [
+        (b"abc", Ok(())),
+        (b"d", Err(SinkFault)),
+        (b"defghi", Err(SinkFault)),
+        (b"defgh", Ok(())),
+    ];
+    for (bytes, want) in rows {
+        assert_eq!(rt; sink.write_all(bytes), want);
+    }
     assert_eq!(rt; sink.bytes(), b"abcdefgh".as_slice());
     Ok(())
 }
 
 #[test]
 fn trims_blanks(rt: HostRuntime) {
-    assert_eq!(rt; trim(b" \t a b\t "), b"a b".as_slice());
-    assert_eq!(rt; trim(b" \t"), b"".as_slice());
-    assert!(rt; is_blank(b'\t') && !is_blank(b'\n'));
+    let rows: [(&[u8], &[u8]); 3] = [(b" \t a b\t ", b"a b"), (b" \t", b""), (b"\n", b"\n")];
+    for (text, want) in rows {
+        assert_eq!(rt; trim(text), want);
+    }
+    assert!(rt; is_blank(b'\t'));
+    law_blanks();
 }
 
 fn link(alloc: Global, events: Vec<Event>, nexts: &[u64]) -> Result<MemoryLink, Fail> {
@@ -117,29 +128,50 @@ fn link(alloc: Global, events: Vec<Event>, nexts: &[u64]) -> Result<MemoryLink, 
     Ok(MemoryLink::new(alloc, events, 6, failing_sends, failing_nexts)?)
 }
 
+// What a link gives in turn, and the bytes that come with it.
+fn hear(rt: &impl Abort, link: &mut MemoryLink, rows: &[(Result<Heard, LinkFault>, &[u8])]) {
+    for (want, bytes) in rows {
+        let mut into = [0u8; 3];
+        assert_eq!(rt; link.next(&mut into), *want);
+        assert!(rt; into.starts_with(bytes));
+    }
+}
+
 #[test]
-fn hears_and_sends(rt: HostRuntime) -> Result<(), Fail> {
+fn hears(rt: HostRuntime) -> Result<(), Fail> {
     let alloc = rt.alloc();
     let long = Event::Bytes(text(alloc, "hello")?);
     let none = Event::Bytes(Vec::new(alloc));
     let events = vec![in alloc; long, none, Event::Slot(7)]?;
     let mut link = link(alloc, events, &[2])?;
-    let mut into = [0u8; 3];
-    assert_eq!(rt; link.next(&mut into), Ok(Heard::Bytes(3)));
-    assert_eq!(rt; into, *b"hel");
-    assert_eq!(rt; link.next(&mut into), Err(LinkFault));
-    assert_eq!(rt; link.next(&mut into), Ok(Heard::Bytes(2)));
-    assert_eq!(rt; into, *b"lol");
-    assert_eq!(rt; link.next(&mut into), Ok(Heard::Slot(7)));
-    assert_eq!(rt; link.send(b"abc"), Ok(()));
-    assert_eq!(rt; link.send(b"d"), Err(LinkFault));
-    assert_eq!(rt; link.send(b"defg"), Err(LinkFault));
-    assert_eq!(rt; link.send(b"def"), Ok(()));
-    assert_eq!(rt; link.sent(), b"abcdef".as_slice());
-    for _ in 0..3 {
-        assert_eq!(rt; link.next(&mut into), Ok(Heard::End));
+    let rows: [(Result<Heard, LinkFault>, &[u8]); 8] = [
+        (Ok(Heard::Bytes(3)), b"hel"),
+        (Err(LinkFault), b""),
+        (Ok(Heard::Bytes(2)), b"lo"),
+        (Ok(Heard::Slot(7)), b""),
+        (Ok(Heard::End), b""),
+        (Ok(Heard::End), b""),
+        (Ok(Heard::End), b""),
+        (Err(LinkFault), b""),
+    ];
+    hear(&rt, &mut link, &rows);
+    Ok(())
+}
+
+#[test]
+fn sends(rt: HostRuntime) -> Result<(), Fail> {
+    let alloc = rt.alloc();
+    let mut link = link(alloc, Vec::new(alloc), &[])?;
+    let rows: [(&[u8], Result<(), LinkFault>); 4] = [
+        (b"abc", Ok(())),
+        (b"d", Err(LinkFault)),
+        (b"defg", Err(LinkFault)),
+        (b"def", Ok(())),
+    ];
+    for (bytes, want) in rows {
+        assert_eq!(rt; link.send(bytes), want);
     }
-    assert_eq!(rt; link.next(&mut into), Err(LinkFault));
+    assert_eq!(rt; link.sent(), b"abcdef".as_slice());
     Ok(())
 }
 
@@ -150,13 +182,26 @@ const OPENING: Opening = Opening {
     slot_units: 14_400,
 };
 
+// A gate of one part, which has these links and failing calls.
+fn gate(
+    alloc: Global,
+    links: Vec<MemoryLink>,
+    failing_in_part: &[u64],
+    failing: &[u64],
+) -> Result<MemoryGate, Fail> {
+    let part = MemoryPart {
+        links,
+        failing: Vec::from_slice(alloc, failing_in_part)?,
+    };
+    let failing = Vec::from_slice(alloc, failing)?;
+    Ok(MemoryGate::new(alloc, vec![in alloc; part]?, failing)?)
+}
+
 #[test]
 fn gives_and_gets_back(rt: HostRuntime) -> Result<(), Fail> {
     let alloc = rt.alloc();
     let links = vec![in alloc; link(alloc, Vec::new(alloc), &[])?]?;
-    let failing = vec![in alloc; 3]?;
-    let parts = vec![in alloc; MemoryPart { links, failing }]?;
-    let mut gate = MemoryGate::new(alloc, parts, Vec::new(alloc))?;
+    let mut gate = gate(alloc, links, &[3], &[])?;
     assert_eq!(rt; gate.open(&OPENING), Ok(()));
     let Ok(mut part) = gate.split() else {
         panic!(rt; "the split failed");
@@ -167,20 +212,17 @@ fn gives_and_gets_back(rt: HostRuntime) -> Result<(), Fail> {
     assert_eq!(rt; link.send(b"abc"), Ok(()));
     part.give_back(link);
     gate.rejoin(part);
-    let back = gate.returned_links(0);
-    assert!(rt; back.len() == 1);
-    assert_eq!(rt; back[0].sent(), b"abc".as_slice());
-    assert!(rt; gate.returned_links(1).is_empty());
+    let [back] = gate.returned_links(0) else {
+        panic!(rt; "one link came back");
+    };
+    assert_eq!(rt; back.sent(), b"abc".as_slice());
     Ok(())
 }
 
 #[test]
 fn fails_at_its_numbers(rt: HostRuntime) -> Result<(), Fail> {
     let alloc = rt.alloc();
-    let failing = vec![in alloc; 2]?;
-    let links = Vec::new(alloc);
-    let parts = vec![in alloc; MemoryPart { links, failing }]?;
-    let mut gate = MemoryGate::new(alloc, parts, vec![in alloc; 1, 3]?)?;
+    let mut gate = gate(alloc, Vec::new(alloc), &[2], &[1, 3])?;
     assert_eq!(rt; gate.open(&OPENING), Err(GateFault));
     assert_eq!(rt; gate.open(&OPENING), Ok(()));
     assert!(rt; gate.split().is_err());
@@ -189,6 +231,5 @@ fn fails_at_its_numbers(rt: HostRuntime) -> Result<(), Fail> {
     };
     assert!(rt; part.take().is_ok_and(|taken| taken.is_none()));
     assert!(rt; part.take().is_err());
-    assert_eq!(rt; part.open(&OPENING), Err(GateFault));
     Ok(())
 }
