@@ -5,9 +5,9 @@ use Rattle.std.proofs.lemmas.Option.{slice_get_within}
 use Rattle.mpeg_scan.specs.declared.units.Unit.{Unit as PictureUnit}
 use Rattle.film_frames.specs.declared.pieces.Piece.{Piece}
 use Rattle.film_frames.specs.declared.pieces.Piece.TheVariants.{Report, Frame}
-use Rattle.film_frames.specs.Laws.{AreOnChannels, DoReportsCount, channel_of}
+use Rattle.film_frames.specs.Laws.{AreBefore, AreOnChannels, DoReportsCount, channel_of}
 use Rattle.film_frames.specs.Pieces.{frames_in, octets_in}
-use Rattle.film_frames.specs.Runs.{Run, count_ended, frames_before, octets_before, piece_bytes}
+use Rattle.film_frames.specs.Runs.{HaveEnded, Run, count_ended, frames_before, octets_before, piece_bytes}
 use Rattle.film_frames.specs.Runs.{run_pieces, pieces_in}
 use Rattle.film_frames.specs.Tracks.{begin_of}
 use Rattle.film_frames.proofs.RunLemmas.{count_ended-is, blocks_from-at, blocks_from-count}
@@ -35,6 +35,15 @@ reports-count run = λ k unit at.
     blocks_from-at run 0 0 (pieces_in run) k (Report unit) at
     ∙ ap (λ n. piece_bytes run n (0 + octets_in (take k (pieces_in run))) (Report unit)) frames
     ∙ ap (λ n. piece_bytes run (frames_before run (begin_of (run_pieces run) k)) n (Report unit)) octets
+
+-- what counts before a place
+pub counted-before : (run : Run) (at count : ℕ) → HaveEnded (run_pieces run) at count → AreBefore run at count
+counted-before run at count have =
+    let is = count_ended-is (run_pieces run) at count have in
+    record {
+      frames = ap (λ n. frames_in (take n (pieces_in run))) is;
+      octets = ap (λ n. octets_in (take n (pieces_in run))) is;
+    }
 
 -- ---- channels
 

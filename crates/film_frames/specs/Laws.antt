@@ -10,7 +10,7 @@ use Rattle.rtp_pack.specs.Reports.{report_bytes, unit_report}
 use Rattle.interleave.specs.Pieces.{StartsBlock, block_length}
 use Rattle.film_frames.specs.declared.pieces.Piece.{Piece}
 use Rattle.film_frames.specs.declared.pieces.Piece.TheVariants.{Report, Frame}
-use Rattle.film_frames.specs.Pieces.{frames_in, octets_of}
+use Rattle.film_frames.specs.Pieces.{frames_in, octets_in, octets_of}
 use Rattle.film_frames.specs.Runs.{Run, frames_before, interleaved_block, octets_before, run_pieces}
 use Rattle.film_frames.specs.Runs.{pieces_in}
 use Rattle.film_frames.specs.Tracks.{begin_of}
@@ -108,3 +108,8 @@ DoHeadsReadBack run =
     slice_get (pieces_in run) k ≡ Some (Frame unit packet)
     → head_of (drop 4 (get_or (run_pieces run) k []))
     ≡ Ok (head_read run unit packet (frames_in (take k (pieces_in run))))
+
+-- the frames before a place of a run, and their octets, are those among so many of its first pieces
+pub record AreBefore (run : Run) (at count : ℕ) : Type 0 where
+  pub frames : frames_before run at ≡ frames_in (take count (pieces_in run))
+  pub octets : octets_before run at ≡ octets_in (take count (pieces_in run))

@@ -1,8 +1,8 @@
 ghost use Rattle.std.specs.Prelude.{◌≡◌, ◌+◌, ◌-◌, ◌^◌, ◌<◌, ◌≤◌, ℕ, length, map, sum, take, drop};
 ghost use Rattle.rtp_pack.specs.Packets.{OfUnit};
-ghost use Rattle.film_frames.specs.Laws.{AreBlocks, AreOnChannels, DoCountOn, DoHeadsReadBack};
-ghost use Rattle.film_frames.specs.Laws.{DoReportsCount, DoReportsStand, HaveSizes, payloads};
-ghost use Rattle.film_frames.specs.Laws.{run_frames};
+ghost use Rattle.film_frames.specs.Laws.{AreBefore, AreBlocks, AreOnChannels, DoCountOn};
+ghost use Rattle.film_frames.specs.Laws.{DoHeadsReadBack, DoReportsCount, DoReportsStand};
+ghost use Rattle.film_frames.specs.Laws.{HaveSizes, payloads, run_frames};
 ghost use Rattle.film_frames.specs.Pieces.{frames_in, wire_size};
 ghost use Rattle.film_frames.specs.Runs.{HaveEnded, Run, count_ended, run_of, run_pieces};
 ghost use Rattle.film_frames.specs.Runs.{pieces_in};
@@ -124,3 +124,9 @@ pub fn law_ended(film: &Film, first_unit: usize, end_unit: usize, identity: Iden
 {
     let _read = (film.bytes.len(), first_unit, end_unit, identity, at);
 }
+
+/// The frames before a place, and their octets, are those among the pieces that have ended there.
+pub fn law_frames_before()
+    ensures { (run : Run) (at count : ℕ) → HaveEnded (run_pieces run) at count →
+        AreBefore run at count }
+{}
