@@ -1,3 +1,5 @@
+//! The text of a certificate.
+
 ghost use Rattle.std.specs.Prelude.{◌≡◌, ◌++◌, IfOk, OnOk};
 ghost use Rattle.plan_cert.specs.Text.{cert_text, cert_head, segment_line};
 

@@ -1,3 +1,5 @@
+//! Reading a plan slot by slot, each from where the last one stood.
+
 ghost use Rattle.std.specs.Prelude.{◌≡◌, slice_index};
 ghost use Rattle.plan_cert.specs.Slots.{plan_slots, sum_through};
 

@@ -1,3 +1,5 @@
+//! Laws of slots, sums and texts.
+
 ghost use Rattle.std.specs.Prelude.{◌≡◌, ◌+◌, ◌-◌, ◌*◌, ◌/◌, ◌<◌, ◌≤◌, ◌⊎◌, ◌↔◌, ◌∷◌, ◌++◌, [], ℕ};
 ghost use Rattle.std.specs.Prelude.{All, List, codes, decimal, flat_map, length, map, min, take};
 ghost use Rattle.std.specs.Prelude.{sum, sum_by, slice_index, slice_index_or};

@@ -1,3 +1,5 @@
+//! Reading a certificate, line by line.
+
 ghost use Rattle.std.specs.Prelude.{ℕ, ◌≡◌, ◌≢◌, ◌+◌, ◌^◌, ◌<◌, ◌≤◌, ◌++◌, ◌↔◌, List, IsTrue};
 ghost use Rattle.std.specs.Prelude.{length, slice_index, codes, decimal, flat_map, All, IfOk};
 ghost use Rattle.std.specs.Prelude.{IfErr, MatchOption, MatchResult};

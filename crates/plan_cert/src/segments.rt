@@ -1,3 +1,5 @@
+//! What one segment sends, and where a slot stands among segments.
+
 ghost use Rattle.std.specs.Prelude.{◌≡◌, ◌+◌, ◌*◌, ◌/◌, ◌^◌, ◌<◌, ◌≤◌, slice_index, MatchOption};
 ghost use Rattle.plan_cert.specs.Slots.{plan_slots, total_slots, total_bytes, sum_through};
 ghost use Rattle.plan_cert.specs.Plan.{IsPlan, IsPlace, ArePassed};

@@ -1,3 +1,5 @@
+//! What segments sum up to.
+
 ghost use Rattle.std.specs.Prelude.{◌≡◌, ◌↔◌, IsTrue};
 ghost use Rattle.plan_cert.specs.Slots.{total_slots, total_bytes};
 

@@ -21,6 +21,47 @@ fn plan_of(rt: &impl Abort, alloc: Global, pairs: &[(u64, u64)]) -> Result<Plan,
     Ok(Plan::new(segments))
 }
 
+// What a plan sends in each slot, and past its end.
+fn sends(rt: &impl Abort, plan: &Plan, want: &[u64], text: &str) {
+    let mut sum = 0_u64;
+    for (slot, bytes) in want.iter().enumerate() {
+        let slot = slot as u64;
+        sum = sum.saturating_add(*bytes);
+        let sent = (plan.slot_bytes(slot), plan.sum_at(slot));
+        assert_eq!(rt; sent, (*bytes, sum), "slot {slot} of {text}");
+    }
+    let slots = want.len() as u64;
+    let past = (plan.slot_bytes(slots), plan.sum_at(u64::MAX));
+    assert_eq!(rt; past, (0, sum), "past the end of {text}");
+    assert_eq!(rt;
+        (plan.slots(), plan.bytes()),
+        (slots, sum),
+        "sums of {text}"
+    );
+}
+
+// A cursor over a copy tells what the plan does, forwards and then from the first slot again.
+fn follows(rt: &impl Abort, copy: Plan, plan: &Plan, text: &str) {
+    let mut cursor = PlanCursor::new(copy);
+    for again in [false, true] {
+        for slot in 0..plan.slots() {
+            let told = (cursor.slot_bytes(slot), cursor.sum_at(slot));
+            let want = (plan.slot_bytes(slot), plan.sum_at(slot));
+            assert_eq!(rt; told, want, "slot {slot} of {text}, again: {again}");
+        }
+        assert_eq!(rt;
+            cursor.sum_at(u64::MAX),
+            plan.bytes(),
+            "past the end of {text}"
+        );
+    }
+    assert_eq!(rt;
+        cursor.into_plan().segments(),
+        plan.segments(),
+        "plan of {text}"
+    );
+}
+
 // Plans worked out by hand: the segments, the slots, and the text.
 #[test]
 fn sends_and_writes(rt: HostRuntime) -> Result<(), Fail> {
@@ -59,46 +100,15 @@ fn sends_and_writes(rt: HostRuntime) -> Result<(), Fail> {
     ];
     for (pairs, want, text) in rows {
         let plan = plan_of(&rt, rt.alloc(), pairs)?;
-        let mut sum = 0;
-        let mut slot = 0;
-        for bytes in want {
-            assert_eq!(rt; plan.slot_bytes(slot), *bytes, "slot {slot} of {text}");
-            assert!(rt; sum < 100 && *bytes < 100 && slot < 100);
-            sum += *bytes;
-            assert_eq!(rt; plan.sum_at(slot), sum, "through slot {slot} of {text}");
-            slot += 1;
-        }
-        assert_eq!(rt; plan.slot_bytes(slot), 0, "past the end of {text}");
-        assert_eq!(rt; plan.sum_at(u64::MAX), sum, "past the end of {text}");
-        assert_eq!(rt; (plan.slots(), plan.bytes()), (slot, sum), "sums of {text}");
-        let copy = plan.copy().map_err(|_| "no memory for a copy")?;
-        assert_eq!(rt; copy.segments(), plan.segments(), "copy of {text}");
-        let written = write_cert(rt.alloc(), &copy).map_err(|_| "no memory for a text")?;
-        assert_eq!(rt; written.as_slice(), text.as_bytes(), "text of {text}");
-        let mut cursor = PlanCursor::new(copy);
-        for at in 0..slot {
-            assert_eq!(rt;
-                cursor.slot_bytes(at),
-                plan.slot_bytes(at),
-                "slot {at} of {text}"
-            );
-            assert_eq!(rt;
-                cursor.sum_at(at),
-                plan.sum_at(at),
-                "through slot {at} of {text}"
-            );
-        }
-        assert_eq!(rt; cursor.sum_at(slot), sum, "past the end of {text}");
-        assert_eq!(rt;
-            cursor.sum_at(0),
-            plan.sum_at(0),
-            "back to the first slot of {text}"
-        );
-        assert_eq!(rt;
-            cursor.into_plan().segments(),
-            plan.segments(),
-            "plan of {text}"
-        );
+        sends(&rt, &plan, want, text);
+        let Ok(copy) = plan.copy() else {
+            panic!(rt; "no memory for a copy");
+        };
+        let Ok(written) = write_cert(rt.alloc(), &copy) else {
+            panic!(rt; "no memory for a text");
+        };
+        assert_eq!(rt; written.as_slice(), text.as_bytes());
+        follows(&rt, copy, &plan, text);
     }
     Ok(())
 }
