@@ -1,5 +1,5 @@
 -- What a play, a halt and an admission leave of how a session is kept.
-use Rattle.std.proofs.Common.{◌≡◌, ℕ, Bool, List, Option, length, refl, sym, ap, subst, ◌∙◌}
+use Rattle.std.proofs.Common.{◌≡◌, ℕ, ◌≤◌, Bool, List, Option, length, refl, sym, ap, subst, ◌∙◌, arith}
 use Rattle.plan_cert.specs.declared.Segment.{Segment}
 use Rattle.plan_cert.specs.Slots.{total_bytes}
 use Rattle.film_frames.specs.declared.stores.Stored.{Stored}
@@ -8,24 +8,28 @@ use Rattle.film_frames.specs.Tracks.{IsBoundary, framed_bytes}
 use Rattle.film_run.specs.declared.runs.Run.{Run}
 use Rattle.film_run.specs.Runs.{bytes_between}
 use Rattle.film_run.specs.Units.{stored_sizes}
-use Rattle.pacer.specs.Pacings.{IsPacing, Pacing, is_done, whole_pacing}
+use Rattle.pacer.specs.Pacings.{IsPacing, Pacing, is_done, next_boundary, whole_pacing}
 use Rattle.session.specs.Films.{IsFilmAt, OfFilm, sending_of}
-use Rattle.session.specs.Inside.{IsAwaitedKept, IsGoing, IsNextIn, IsPreparedAs, IsPreparedIn, IsStateKept, open_receipts}
+use Rattle.session.specs.Inside.{IsAwaitedKept, IsGoing, IsKept, IsNextIn, IsPreparedAs, IsPreparedIn, IsStateKept, IsUnhalted, open_receipts, standing_of}
 use Rattle.session.specs.Plans.{IsPrepared}
 use Rattle.session.specs.Playing.{IsPlayable}
 use Rattle.session.specs.Ranges.{IsSetup}
 use Rattle.session.specs.Sendings.{next_of}
-use Rattle.session.specs.Standings.{IsReadyIn}
+use Rattle.session.specs.Standings.{CanHear, IsReadyIn}
 use Rattle.session.specs.declared.settings.Settings.{Settings}
 use Rattle.session.specs.declared.states.Awaited.{Awaited}
 use Rattle.session.specs.declared.states.Awaited.TheVariants.{Nothing, Play, Halt, Look, Offer}
 use Rattle.session.specs.declared.states.Counts.{Counts}
+use Rattle.session.specs.declared.states.Next.{Next}
 use Rattle.session.specs.declared.states.Play.{Play as Played}
 use Rattle.session.specs.declared.states.Prepared.{Prepared}
 use Rattle.session.specs.declared.states.Setup.{Setup}
 use Rattle.session.specs.declared.states.Source.{Source}
 use Rattle.session.specs.declared.states.State.{State}
 use Rattle.session.specs.declared.states.State.TheVariants.{Init, Ready, Playing, Stopping}
+use Rattle.session.specs.declared.sessions.Session.TheInside.{Inside}
+use Rattle.session.proofs.Carries.{nothing_of}
+use Rattle.session.proofs.Pausing.{keeps_within}
 use Rattle.session.proofs.Playables.{of_film}
 
 ready_in : (films : List Stored) (source : Source) (settings : Settings) (state : State) (setup : Setup) (prepared : Prepared)
@@ -104,7 +108,7 @@ next_in films source settings counts lost state (Look sequence) kept = tt
 next_in films source settings counts lost state (Offer sequence) kept = tt
 
 -- a play of which a halt is asked is the same but for what is kept
-pub halting_kept : (films : List Stored) (source : Source) (settings : Settings) (counts : Counts) (setup : Setup) (play : Played)
+halting_kept : (films : List Stored) (source : Source) (settings : Settings) (counts : Counts) (setup : Setup) (play : Played)
     (pacer : Pacing) (keep : ℕ) → IsStateKept films source settings counts (Playing setup play) → IsPacing pacer
     → pacer ≡ record play.pacer { keep = keep }
     → IsStateKept films source settings counts (Playing setup (record play { pacer = pacer }))
@@ -120,3 +124,39 @@ halting_kept films source settings counts setup play pacer keep kept pacing is =
     pieces = ap (λ (p : Pacing). p.pieces) is ∙ (kept.2 stored at).pieces;
   },
 )
+
+-- a play in hand, as a request is heard that halts it
+module _ (inside : Inside) (setup : Setup) (play : Played) (kept : IsKept inside) (state : inside.state ≡ Playing setup play)
+    (hear : CanHear (standing_of inside)) where
+  pub playing_in : IsStateKept inside.films.now inside.source inside.settings inside.counts (Playing setup play)
+  playing_in = subst (λ (s : State). IsStateKept inside.films.now inside.source inside.settings inside.counts s) state kept.state
+
+  pub unhalted : IsUnhalted play
+  unhalted = subst (λ (s : State). IsGoing inside.lost s) state
+      (subst (λ (a : Awaited). IsAwaitedKept inside.films.now inside.source inside.settings inside.counts inside.lost inside.state a)
+      (nothing_of inside.awaited hear.rest) kept.awaited) hear.lost
+
+  -- how the session is kept once its halt was asked for
+  pub halt_asked : (pacer : Pacing) (keep : ℕ) (next : Next) (reply : List ℕ) → IsPacing pacer
+      → pacer ≡ record play.pacer { keep = next_boundary play.pacer } → keep ≤ play.pacer.keep
+      → IsNextIn inside.films.now inside.source inside.counts (Playing setup (record play { pacer = pacer })) next
+      → IsKept (record inside { state = Playing setup (record play { pacer = pacer }); awaited = Halt keep next; reply = reply })
+  halt_asked pacer keep next reply pacing is most left =
+      let open_one : open_receipts inside.state ≡ 1 = ap open_receipts state in
+      record {
+        films = kept.films;
+        settings = kept.settings;
+        id = kept.id;
+        state = halting_kept inside.films.now inside.source inside.settings inside.counts setup play pacer (next_boundary play.pacer)
+            playing_in pacing is;
+        awaited = (keeps_within play keep unhalted most, left);
+        stop = tt;
+        receipt_room = omega (arith, kept.receipt_room);
+        play_room = omega (arith, kept.play_room);
+        offer_room = omega arith;
+        looks = kept.looks;
+        torn = kept.torn;
+        late = kept.late;
+        heard = kept.heard;
+        front = λ asks. absurd (omega (arith, asks));
+      }

@@ -7,7 +7,7 @@ use Rattle.film_frames.specs.Runs.{run_pieces}
 use Rattle.film_run.specs.declared.runs.Run.{Run}
 use Rattle.session.specs.Films.{sending_of}
 use Rattle.session.specs.Inside.{IsAwaitedKept, IsGoing, IsPlaying, IsStateKept, IsStopAnswered}
-use Rattle.session.specs.Inside.{awaited_offers, awaited_plays, awaited_receipts, open_receipts}
+use Rattle.session.specs.Inside.{coming_of, open_receipts}
 use Rattle.session.specs.Planning.{IsPausedIn}
 use Rattle.session.specs.Plans.{IsPlay}
 use Rattle.session.specs.Playing.{IsPlayable}
@@ -157,26 +157,12 @@ receipts_settled (Playing setup play) = refl
 receipts_settled (Stopping setup stop) = refl
 
 -- no receipt, note of a play or offer is to come of a halt
-pub finished_receipts : (state : State) (awaited : Awaited) → IsFinished state awaited → awaited_receipts awaited ≡ 0
-finished_receipts state Nothing is = refl
-finished_receipts state (Play prepared) is = absurd is
-finished_receipts state (Halt keep next) is = refl
-finished_receipts state (Look sequence) is = absurd is
-finished_receipts state (Offer sequence) is = absurd is
-
-pub finished_plays : (state : State) (awaited : Awaited) → IsFinished state awaited → awaited_plays awaited ≡ 0
-finished_plays state Nothing is = refl
-finished_plays state (Play prepared) is = absurd is
-finished_plays state (Halt keep next) is = refl
-finished_plays state (Look sequence) is = absurd is
-finished_plays state (Offer sequence) is = absurd is
-
-pub finished_offers : (state : State) (awaited : Awaited) → IsFinished state awaited → awaited_offers awaited ≡ 0
-finished_offers state Nothing is = refl
-finished_offers state (Play prepared) is = absurd is
-finished_offers state (Halt keep next) is = refl
-finished_offers state (Look sequence) is = absurd is
-finished_offers state (Offer sequence) is = absurd is
+pub finished_none : (state : State) (awaited : Awaited) → IsFinished state awaited → coming_of awaited ≡ coming_of Nothing
+finished_none state Nothing is = refl
+finished_none state (Play prepared) is = absurd is
+finished_none state (Halt keep next) is = refl
+finished_none state (Look sequence) is = absurd is
+finished_none state (Offer sequence) is = absurd is
 
 -- the reply to a request that stopped a play still waits
 pub stop_kept : (waits : Bool) (old new : State) → IsStopAnswered old waits → IsCarried old new → IsStopAnswered new waits

@@ -1,42 +1,31 @@
 -- What a halt leaves.
-use Rattle.std.proofs.Common.{◌≡◌, ℕ, true, if◌then◌else◌, List, [], ◌∷◌, ◌++◌, refl, ap, subst, ◌∙◌}
-use Rattle.session.specs.declared.notes.PlayNote.{PlayNote}
+use Rattle.std.proofs.Common.{◌≡◌, ℕ, Bool, true, false, if◌then◌else◌, List, [], ◌∷◌, ◌++◌, None, refl}
+use Rattle.film_frames.specs.declared.stores.Stored.{Stored}
+use Rattle.film_run.specs.declared.runs.Run.{Run}
+use Rattle.session.specs.declared.settings.Settings.{Settings}
 use Rattle.session.specs.declared.states.Awaited.{Awaited}
+use Rattle.session.specs.declared.states.Awaited.TheVariants.{Nothing}
+use Rattle.session.specs.declared.states.Counts.{Counts}
+use Rattle.session.specs.declared.states.Next.{Next}
+use Rattle.session.specs.declared.states.Next.TheVariants.{Done, Paused, Torn}
 use Rattle.session.specs.declared.states.Play.{Play as Played}
 use Rattle.session.specs.declared.states.Setup.{Setup}
+use Rattle.session.specs.declared.states.Source.{Source}
 use Rattle.session.specs.declared.states.State.{State}
 use Rattle.session.specs.declared.states.State.TheVariants.{Playing}
 use Rattle.session.specs.declared.notes.Receipt.TheVariants.{Entry}
 use Rattle.admission.specs.declared.entries.Answer.TheVariants.{Halted}
-use Rattle.session.specs.declared.states.Awaited.TheVariants.{Nothing}
-use Rattle.session.specs.declared.states.Next.{Next}
-use Rattle.session.specs.declared.sessions.Session.TheInside.{Inside}
-use Rattle.session.specs.Inside.{standing_of}
-use Rattle.session.specs.Logs.{Logged}
 use Rattle.session.specs.Hearings.{after_halt, counts_next, is_answered, is_torn}
-use Rattle.session.specs.Sendings.{halted_notes, kept_of, next_of, note_of, state_after}
-use Rattle.session.specs.Standings.{Standing}
-
--- the notes of plays, once the note of a halted one was made after the receipt of its halt
-pub halted_plays : (inside : Inside) (old : Standing) (asked : Awaited) (setup : Setup) (play : Played) (due keep : ℕ) (note : PlayNote)
-    (middle after : Logged) → standing_of inside ≡ old → Playing setup play ≡ inside.state → asked ≡ inside.awaited
-    → due ≡ play.pacer.due → keep ≡ kept_of asked due → note ≡ note_of setup play keep → middle.plays ≡ inside.log.plays
-    → after.plays ≡ middle.plays ++ note ∷ [] → after.plays ≡ old.plays ++ halted_notes old.state old.awaited
-halted_plays inside old asked setup play due keep note middle after is s a d k n m p =
-    let before = inside.log.plays in
-    let same : after.plays ≡ before ++ halted_notes inside.state inside.awaited =
-    p ∙ ap (λ (l : List PlayNote). l ++ note ∷ []) m ∙ ap (λ (x : PlayNote). before ++ x ∷ [])
-    (n ∙ ap (note_of setup play)
-    (k ∙ ap (λ (x : ℕ). kept_of asked x) d ∙ ap (λ (x : Awaited). kept_of x play.pacer.due) a))
-    ∙ ap (λ (x : State). before ++ halted_notes x inside.awaited) s in
-    subst (λ (x : Standing). after.plays ≡ x.plays ++ halted_notes x.state x.awaited) is same
+use Rattle.session.specs.Inside.{IsAwaitedKept, IsNextIn, IsStateKept, IsStopAnswered, open_receipts}
+use Rattle.session.specs.Sendings.{kept_of, next_of, note_of, state_after}
+use Rattle.session.specs.Standings.{Standing, open_in}
 
 -- the session after a halt, by what it leads to
 pub halted_as : (old : Standing) (setup : Setup) (play : Played) (asked : Awaited) (next : Next) (keep place : ℕ)
     → Playing setup play ≡ old.state → asked ≡ old.awaited → next ≡ next_of asked → keep ≡ kept_of asked play.pacer.due
     → after_halt old place ≡ record old {
       state = state_after setup play next;
-      counts = counts_next old setup play keep next;
+      counts = counts_next old.films old.source old.counts setup play.run keep next;
       awaited = Nothing;
       waits = if is_answered next then true else old.waits;
       tearing = if is_torn next then true else old.tearing;
@@ -44,3 +33,41 @@ pub halted_as : (old : Standing) (setup : Setup) (play : Played) (asked : Awaite
       plays = old.plays ++ note_of setup play keep ∷ [];
     }
 halted_as old setup play asked next keep place s a n k = rw (← s, ← a, n, k) refl
+
+-- how the state is kept that a halt leaves
+pub halted_kept : (films : List Stored) (source : Source) (settings : Settings) (counts : Counts) (setup : Setup) (play : Played)
+    (keep : ℕ) (next : Next) → IsStateKept films source settings counts (Playing setup play)
+    → IsNextIn films source counts (Playing setup play) next
+    → IsStateKept films source settings (counts_next films source counts setup play.run keep next) (state_after setup play next)
+halted_kept films source settings counts setup play keep Done kept left = (kept.0, tt)
+halted_kept films source settings counts setup play keep (Paused rest) kept left = (kept.0, kept.1.pacing, left)
+halted_kept films source settings counts setup play keep Torn kept left = (kept.0, kept.1.pacing, tt)
+
+pub halted_rest : (films : List Stored) (source : Source) (settings : Settings) (counts : Counts) (lost : Bool) (setup : Setup)
+    (play : Played) (next : Next) → IsAwaitedKept films source settings counts lost (state_after setup play next) Nothing
+halted_rest films source settings counts lost setup play Done = tt
+halted_rest films source settings counts lost setup play (Paused rest) = tt
+halted_rest films source settings counts lost setup play Torn = tt
+
+pub halted_stop : (setup : Setup) (play : Played) (next : Next) (waits : Bool)
+    → IsStopAnswered (state_after setup play next) (if is_answered next then true else waits)
+halted_stop setup play Done waits = tt
+halted_stop setup play (Paused rest) waits = refl
+halted_stop setup play Torn waits = refl
+
+pub halted_closed : (setup : Setup) (play : Played) (next : Next) → open_receipts (state_after setup play next) ≡ 0
+halted_closed setup play Done = refl
+halted_closed setup play (Paused rest) = refl
+halted_closed setup play Torn = refl
+
+pub halted_open : (setup : Setup) (play : Played) (next : Next) → open_in (state_after setup play next) ≡ None
+halted_open setup play Done = refl
+halted_open setup play (Paused rest) = refl
+halted_open setup play Torn = refl
+
+-- a session that is torn down by a halt has a reply that waits
+pub halted_torn : (next : Next) (tearing waits torn : Bool) → (tearing ≡ true → waits ≡ false → torn ≡ true)
+    → (if is_torn next then true else tearing) ≡ true → (if is_answered next then true else waits) ≡ false → torn ≡ true
+halted_torn Done tearing waits torn was ends still = was ends still
+halted_torn (Paused rest) tearing waits torn was ends still = cc
+halted_torn Torn tearing waits torn was ends still = cc

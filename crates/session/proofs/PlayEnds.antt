@@ -94,8 +94,9 @@ all_sent sending =
 
 counts_of_done : (old : Standing) (setup : Setup) (play : Played) (keep : ℕ) (next : Next) (stored : Stored) → is_answered next ≡ false
     → IsFilmAt old.films setup.film stored
-    → counts_next old setup play keep next ≡ counts_after old.counts (sending_of stored.film old.source setup old.counts play.run) (play.run.sent + keep)
-counts_of_done old setup play keep Done stored none at = ap (counts_done old setup play keep) at
+    → counts_next old.films old.source old.counts setup play.run keep next ≡ counts_after old.counts (sending_of stored.film old.source setup old.counts play.run) (play.run.sent + keep)
+counts_of_done old setup play keep Done stored none at =
+    ap (counts_done old.source old.counts setup play.run keep) at
 counts_of_done old setup play keep (Paused run) stored none at = absurd (let no : ⊥ = cc in no)
 counts_of_done old setup play keep Torn stored none at = absurd (let no : ⊥ = cc in no)
 

@@ -25,7 +25,7 @@ use Rattle.session.specs.Replies.{field, full_text, look_body, offer_body, overf
 use Rattle.session.specs.Replies.{parameters_text}
 use Rattle.session.specs.declared.states.Next.{Next}
 use Rattle.session.specs.declared.states.Next.TheVariants.{Done, Paused, Torn}
-use Rattle.session.specs.declared.states.Play.{Play as Played}
+use Rattle.film_run.specs.declared.runs.Run.{Run}
 use Rattle.session.specs.declared.states.Setup.{Setup}
 use Rattle.session.specs.declared.states.State.{State}
 use Rattle.session.specs.declared.states.State.TheVariants.{Init, Ready, Playing, Stopping}
@@ -122,24 +122,24 @@ abbrev pub after_full : Standing → ℕ → ℕ → Standing
 after_full old entries live =
     after_answer old (Full entries live) (full_text (sequence_of old.awaited) entries live)
 
--- what was sent in all, once a play is done that kept so many bytes
-abbrev pub counts_done : Standing → Setup → Played → ℕ → Option Stored → Counts
-counts_done old setup play keep None = old.counts
-counts_done old setup play keep (Some stored) =
-    counts_after old.counts (sending_of stored.film old.source setup old.counts play.run)
-    (play.run.sent + keep)
+-- what was sent in all, once a play is done that kept so many bytes of its run
+abbrev pub counts_done : Source → Counts → Setup → Run → ℕ → Option Stored → Counts
+counts_done source counts setup run keep None = counts
+counts_done source counts setup run keep (Some stored) =
+    counts_after counts (sending_of stored.film source setup counts run) (run.sent + keep)
 
-abbrev pub counts_next : Standing → Setup → Played → ℕ → Next → Counts
-counts_next old setup play keep Done =
-    counts_done old setup play keep (slice_get old.films setup.film)
-counts_next old setup play keep (Paused run) = old.counts
-counts_next old setup play keep Torn = old.counts
+abbrev pub counts_next : List Stored → Source → Counts → Setup → Run → ℕ → Next → Counts
+counts_next films source counts setup run keep Done =
+    counts_done source counts setup run keep (slice_get films setup.film)
+counts_next films source counts setup run keep (Paused rest) = counts
+counts_next films source counts setup run keep Torn = counts
 
 abbrev pub halted_counts : Standing → State → Counts
 halted_counts old Init = old.counts
 halted_counts old (Ready setup paused) = old.counts
 halted_counts old (Playing setup play) =
-    counts_next old setup play (kept_of old.awaited play.pacer.due) (next_of old.awaited)
+    counts_next old.films old.source old.counts setup play.run
+    (kept_of old.awaited play.pacer.due) (next_of old.awaited)
 halted_counts old (Stopping setup stop) = old.counts
 
 -- a PAUSE and a TEARDOWN are answered once the rest up to a boundary was sent; a play that is done

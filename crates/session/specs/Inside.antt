@@ -57,26 +57,26 @@ open_receipts (Ready setup paused) = 0
 open_receipts (Playing setup play) = 1
 open_receipts (Stopping setup stop) = 0
 
+pub record Coming : Type 0 where
+  pub receipts : ℕ
+  pub plays : ℕ
+  pub offers : ℕ
+
+abbrev pub coming_of : Awaited → Coming
+coming_of Nothing = record { receipts = 0; plays = 0; offers = 0 }
+coming_of (Play prepared) = record { receipts = 2; plays = 1; offers = 0 }
+coming_of (Halt keep next) = record { receipts = 0; plays = 0; offers = 0 }
+coming_of (Look sequence) = record { receipts = 1; plays = 0; offers = 0 }
+coming_of (Offer sequence) = record { receipts = 0; plays = 0; offers = 1 }
+
 abbrev pub awaited_receipts : Awaited → ℕ
-awaited_receipts Nothing = 0
-awaited_receipts (Play prepared) = 2
-awaited_receipts (Halt keep next) = 0
-awaited_receipts (Look sequence) = 1
-awaited_receipts (Offer sequence) = 0
+awaited_receipts awaited = (coming_of awaited).receipts
 
 abbrev pub awaited_plays : Awaited → ℕ
-awaited_plays Nothing = 0
-awaited_plays (Play prepared) = 1
-awaited_plays (Halt keep next) = 0
-awaited_plays (Look sequence) = 0
-awaited_plays (Offer sequence) = 0
+awaited_plays awaited = (coming_of awaited).plays
 
 abbrev pub awaited_offers : Awaited → ℕ
-awaited_offers Nothing = 0
-awaited_offers (Play prepared) = 0
-awaited_offers (Halt keep next) = 0
-awaited_offers (Look sequence) = 0
-awaited_offers (Offer sequence) = 1
+awaited_offers awaited = (coming_of awaited).offers
 
 -- a play is sent as such a run
 pub record IsPlaying (stored : Stored) (source : Source) (settings : Settings) (setup : Setup)

@@ -1,15 +1,22 @@
 //! The station's answers.
 
 ghost use Rattle.std.specs.Prelude.{◌≡◌, ◌<◌, ◌^◌, ◌++◌, [], ◌∷◌, true, None, ◌-◌, List, Some};
+ghost use Rattle.std.specs.Prelude.{◌+◌, length};
+ghost use Rattle.film_run.specs.Runs.{IsRun};
+ghost use Rattle.film_run.specs.Units.{stored_sizes};
 ghost use Rattle.rtsp_text.specs.Replies.{Field, reply_front};
-ghost use Rattle.session.specs.Sendings.{halted_in, halted_notes, kept_of, next_of};
+ghost use Rattle.session.specs.Films.{OfFilm};
+ghost use Rattle.session.specs.Ranges.{AreFilms};
+ghost use Rattle.session.specs.Sendings.{halted_in, halted_notes, kept_of, next_of, note_of};
+ghost use Rattle.session.specs.Sendings.{state_after};
 ghost use Rattle.admission.specs.declared.entries.Answer.{Answer};
 ghost use Rattle.session.specs.declared.notes.Receipt.{Receipt};
 ghost use Rattle.session.specs.Standings.{AreNotesKept, IsAtRest, IsHalt, IsHandedIn, IsLook};
 ghost use Rattle.session.specs.Standings.{IsOffer, IsPlay, IsPlayOrLook};
 ghost use Rattle.session.specs.Standings.{awaits, booking_of, open_of, sequence_of};
 ghost use Rattle.session.specs.Hearings.{Halts, after_admission, after_full, after_look};
-ghost use Rattle.session.specs.Hearings.{after_offer, after_overflow};
+ghost use Rattle.session.specs.Hearings.{after_offer, after_overflow, counts_next, is_answered};
+ghost use Rattle.session.specs.Hearings.{is_torn};
 ghost use Rattle.session.specs.Replies.{play_text};
 ghost use Rattle.session.specs.Steps.{IsPlayIn};
 
@@ -18,10 +25,10 @@ use crate::films::{counts_after, frames_of, stored_at};
 use crate::notes::{OfferNote, PlayNote, Receipt};
 use crate::replies::{put_full, put_overflow, put_parameters, put_start};
 use crate::sessions::Session;
-use crate::states::{Awaited, Next, Play, Prepared, Setup, State, Stop};
+use crate::states::{Awaited, Counts, Next, Play, Prepared, Setup, Source, State, Stop};
 use admission::Answer;
 use early_start::Offers;
-use film_frames::Frames;
+use film_frames::{Frames, Stored};
 use film_run::Run;
 use pacer::Pacer;
 use plan_cert::Plan;
@@ -139,42 +146,22 @@ impl<'a> Session<'a> {
         ensures handed { IsHandedIn self.old (Receipt.Entry place Answer.Halted) self.new }
         ensures open { open_of self.new ≡ None }
     {
-        let films = self.films;
         let asked = mem::replace(&mut self.awaited, Awaited::Nothing);
         let State::Playing(setup, play) = mem::replace(&mut self.state, State::Init) else {
             unreachable!()
         };
         let (keep, next) = kept_and_next(&asked, play.pacer.bytes_due());
-        let Play {
-            run,
-            place: number,
-            start,
-            plan,
-            pacer,
-        } = play;
+        let (films, source, counts) = (self.films, self.source, self.counts);
+        self.counts = counts_next(films, source, counts, &setup, &play.run, keep, next);
         self.log.note(Receipt::Entry {
             place,
             answer: Answer::Halted,
         });
-        self.log
-            .note_play(note_of(&setup, &run, number, start, plan, keep));
-        match next {
-            Next::Done => {
-                let stored = stored_at(films, setup.film);
-                let frames = frames_of(stored, self.source, &setup, self.counts, &run);
-                self.counts = counts_after(self.counts, &frames, run.sent + keep);
-                self.state = State::Ready(setup, None);
-            }
-            Next::Paused(rest) => {
-                self.state = State::Stopping(setup, stop_of(Some(rest), start, pacer));
-                self.waits = true;
-            }
-            Next::Torn => {
-                self.state = State::Stopping(setup, stop_of(None, start, pacer));
-                self.tearing = true;
-                self.waits = true;
-            }
-        }
+        let (state, note) = state_and_note(setup, play, keep, next);
+        self.log.note_play(note);
+        self.state = state;
+        self.waits = is_answered(next) || self.waits;
+        self.tearing = is_torn(next) || self.tearing;
     }
 
     /// What the station saw: the slot up to which its book has come, the slot that was looked at
@@ -236,6 +223,81 @@ impl<'a> Session<'a> {
         });
         self.waits = true;
     }
+}
+
+/// Whether a reply waits for what a halt leads to.
+fn is_answered(next: Next) -> bool
+    ensures { result ≡ is_answered next }
+{
+    match next {
+        Next::Done => false,
+        Next::Paused(_) | Next::Torn => true,
+    }
+}
+
+/// Whether a halt leads to the session's end.
+fn is_torn(next: Next) -> bool
+    ensures { result ≡ is_torn next }
+{
+    match next {
+        Next::Done | Next::Paused(_) => false,
+        Next::Torn => true,
+    }
+}
+
+/// What the session has sent in all after a halt that keeps so many bytes of a run: a run that is
+/// done is counted.
+fn counts_next(
+    films: &[Stored],
+    source: Source,
+    counts: Counts,
+    setup: &Setup,
+    run: &Run,
+    keep: u64,
+    next: Next,
+) -> Counts
+    requires films { AreFilms films.now }
+    requires within { setup.now.film < length films.now }
+    requires run { OfFilm films.now setup.now.film
+        (λ stored. IsRun (stored_sizes stored) run.now) }
+    requires fits { run.now.sent + keep < 2 ^ 64 }
+    ensures { result ≡ counts_next films.now source counts setup.now run.now keep next }
+{
+    match next {
+        Next::Done => {
+            let stored = stored_at(films, setup.film);
+            let frames = frames_of(stored, source, setup, counts, run);
+            counts_after(counts, &frames, run.sent + keep)
+        }
+        Next::Paused(_) | Next::Torn => counts,
+    }
+}
+
+/// The state after a halt, and the note of the play, whose booking keeps so many bytes.
+fn state_and_note<'a>(
+    setup: Setup,
+    play: Play<'a>,
+    keep: u64,
+    next: Next,
+) -> (State<'a>, PlayNote)
+    requires { setup.film < 2 ^ 32 }
+    ensures state { result.0 ≡ state_after setup play.entry next }
+    ensures note { result.1 ≡ note_of setup play.entry keep }
+{
+    let Play {
+        run,
+        place,
+        start,
+        plan,
+        pacer,
+    } = play;
+    let note = note_of(&setup, &run, place, start, plan, keep);
+    let state = match next {
+        Next::Done => State::Ready(setup, None),
+        Next::Paused(rest) => State::Stopping(setup, stop_of(Some(rest), start, pacer)),
+        Next::Torn => State::Stopping(setup, stop_of(None, start, pacer)),
+    };
+    (state, note)
 }
 
 /// What is left of a play that was halted.

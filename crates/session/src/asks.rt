@@ -9,16 +9,17 @@ pub enum Ask {
     /// Nothing: the reply waits.
     Reply,
     /// Ask the station for a play of this plan in the heard slot, and hand its answer to
-    /// [`crate::Session::admitted`], [`crate::Session::overflowed`] or [`crate::Session::full`].
+    /// [`crate::Session::hear_admission`], [`crate::Session::hear_overflow`] or
+    /// [`crate::Session::hear_full`].
     Play(Plan),
     /// Halt the open booking, which keeps so many bytes, and hand the place of the entry to
-    /// [`crate::Session::halted`].
+    /// [`crate::Session::hear_halt`].
     Halt(u64),
-    /// Look at this slot, and hand the answer to [`crate::Session::looked`] or
-    /// [`crate::Session::full`].
+    /// Look at this slot, and hand the answer to [`crate::Session::hear_look`] or
+    /// [`crate::Session::hear_full`].
     Look(u64),
     /// Ask from which slot on this plan fits, from the slot after the heard one on, and hand the
-    /// answer to [`crate::Session::offered`].
+    /// answer to [`crate::Session::hear_offer`].
     Offer(Plan, Offers),
 }
 
@@ -28,6 +29,6 @@ pub enum Slotted {
     /// Nothing is to be done.
     Going,
     /// The play is done: halt its booking, which keeps all its bytes, these, and hand the place of
-    /// the entry to [`crate::Session::halted`].
+    /// the entry to [`crate::Session::hear_halt`].
     Finished(u64),
 }

@@ -1,81 +1,49 @@
-use Rattle.std.proofs.Common.{◌≡◌, ℕ, List, refl, sym, ap, subst, ◌∙◌, arith}
+use Rattle.std.proofs.Common.{◌≡◌, ℕ, List, refl, sym, ap, subst, ◌∙◌}
 use Rattle.film_run.specs.declared.plans.Playback.{Playback}
 use Rattle.film_run.specs.Pauses.{IsLeft}
 use Rattle.film_run.specs.Units.{stored_sizes}
 use Rattle.pacer.specs.Pacings.{Pacing, next_boundary}
-use Rattle.session.specs.Inside.{IsAwaitedKept, IsGoing, IsStateKept, IsUnhalted, awaited_plays, awaited_receipts, open_receipts, standing_of}
+use Rattle.session.specs.Inside.{standing_of}
 use Rattle.session.specs.Methods.{Pauses}
 use Rattle.session.specs.Playing.{IsRunOf, playback_of}
 use Rattle.session.specs.Standings.{CanHear, Standing}
-use Rattle.session.specs.declared.states.Awaited.{Awaited}
-use Rattle.session.specs.declared.states.Awaited.TheVariants.{Halt, Nothing}
+use Rattle.session.specs.declared.states.Awaited.TheVariants.{Halt}
 use Rattle.session.specs.declared.states.Next.TheVariants.{Paused}
 use Rattle.session.specs.declared.states.State.{State}
 use Rattle.session.specs.declared.states.State.TheVariants.{Playing}
 use Rattle.session.specs.declared.asks.Ask.TheVariants.{Halt as AskHalt}
-use Rattle.session.proofs.Askings.{halting_kept}
-use Rattle.session.proofs.Carries.{nothing_of}
-use Rattle.session.proofs.Pausing.{halts_play, keeps_within, left_runs}
+use Rattle.session.proofs.Askings.{halt_asked, playing_in, unhalted}
+use Rattle.session.proofs.Pausing.{halts_play, left_runs}
 use Rattle.session.proofs.Playables.{of_film}
 use Rattle.session.proofs.sessions.Session.pause.Goals as goal
 
 pub run_after-left-requires-clause-halt : goal.run_after-left-requires-clause-halt
 run_after-left-requires-clause-halt c =
     let inside = c.self.inside in
+    let setup = c.in-Playing.setup in
     let play = c.in-Playing.play in
-    let state : inside.state ≡ Playing c.in-Playing.setup play = sym c.in-Playing.ensures.value in
-    let kept = subst (λ (s : State). IsStateKept inside.films.now inside.source inside.settings inside.counts s) state
-    c.self.invariant.state in
+    let state : inside.state ≡ Playing setup play = sym c.in-Playing.ensures.value in
     let hear : CanHear (standing_of inside) = subst CanHear (sym c.self.view_is) c.requires.hear in
-    let none : inside.awaited ≡ Nothing = nothing_of inside.awaited hear.rest in
-    let going : IsUnhalted play = subst (λ (s : State). IsGoing inside.lost s) state
-    (subst (λ (a : Awaited). IsAwaitedKept inside.films.now inside.source inside.settings inside.counts inside.lost inside.state a)
-    none c.self.invariant.awaited) hear.lost in
-    halts_play play c.last_slot-last.result c.ask_halt-keep.result c.ask_halt-keep.new.self kept.1 going c.ask_halt-keep.ensures.state
-    c.ask_halt-keep.ensures.boundary c.ask_halt-keep.ensures.most c.last_slot-last.ensures
+    halts_play play c.last_slot-last.result c.ask_halt-keep.result c.ask_halt-keep.new.self
+    (playing_in inside setup play c.self.invariant state hear).1 (unhalted inside setup play c.self.invariant state hear)
+    c.ask_halt-keep.ensures.state c.ask_halt-keep.ensures.boundary c.ask_halt-keep.ensures.most c.last_slot-last.ensures
 
 pub invariant_of-self : goal.invariant_of-self
 invariant_of-self c =
     let inside = c.self.inside in
-    let films = inside.films.now in
     let setup = c.in-Playing.setup in
     let play = c.in-Playing.play in
     let stored = c.stored_at-stored.result.now in
     let left = c.run_after-left.result in
     let state : inside.state ≡ Playing setup play = sym c.in-Playing.ensures.value in
-    let kept = subst (λ (s : State). IsStateKept films inside.source inside.settings inside.counts s) state c.self.invariant.state in
     let hear : CanHear (standing_of inside) = subst CanHear (sym c.self.view_is) c.requires.hear in
-    let none : inside.awaited ≡ Nothing = nothing_of inside.awaited hear.rest in
-    let going : IsUnhalted play = subst (λ (s : State). IsGoing inside.lost s) state
-    (subst (λ (a : Awaited). IsAwaitedKept films inside.source inside.settings inside.counts inside.lost inside.state a)
-    none c.self.invariant.awaited) hear.lost in
-    let open_one : open_receipts inside.state ≡ 1 = ap open_receipts state in
-    let receipts : awaited_receipts inside.awaited ≡ 0 = ap awaited_receipts none in
-    let plays : awaited_plays inside.awaited ≡ 0 = ap awaited_plays none in
-    record {
-      films = c.self.invariant.films;
-      settings = c.self.invariant.settings;
-      id = c.self.invariant.id;
-      state = halting_kept films inside.source inside.settings inside.counts setup play c.ask_halt-keep.new.self
-          (next_boundary play.pacer) kept c.ask_halt-keep.ensures.pacing c.ask_halt-keep.ensures.state;
-      awaited = (
-        keeps_within play c.ask_halt-keep.result going c.ask_halt-keep.ensures.most,
-        of_film films setup.film stored (λ s. IsRunOf s inside.source setup inside.counts left) c.stored_at-stored.ensures.film
-            (left_runs stored inside.source inside.settings setup inside.counts play c.playback_of-playback.result c.last_slot-last.result
-            c.ask_halt-keep.result left kept.1 (kept.2 stored c.stored_at-stored.ensures.film) c.playback_of-playback.ensures.playback
-            c.ask_halt-keep.ensures.boundary.boundary c.run_after-left.ensures.left c.run_after-left.ensures.run
-            c.run_after-left.ensures.fits),
-      );
-      stop = tt;
-      receipt_room = omega (arith, c.self.invariant.receipt_room);
-      play_room = omega (arith, c.self.invariant.play_room);
-      offer_room = omega arith;
-      looks = c.self.invariant.looks;
-      torn = c.self.invariant.torn;
-      late = c.self.invariant.late;
-      heard = c.self.invariant.heard;
-      front = λ asks. absurd (omega (arith, asks));
-    }
+    let kept = playing_in inside setup play c.self.invariant state hear in
+    halt_asked inside setup play c.self.invariant state hear c.ask_halt-keep.new.self c.ask_halt-keep.result (Paused left)
+    c.put_session.new.reply c.ask_halt-keep.ensures.pacing c.ask_halt-keep.ensures.state c.ask_halt-keep.ensures.most
+    (of_film inside.films.now setup.film stored (λ s. IsRunOf s inside.source setup inside.counts left) c.stored_at-stored.ensures.film
+    (left_runs stored inside.source inside.settings setup inside.counts play c.playback_of-playback.result c.last_slot-last.result
+    c.ask_halt-keep.result left kept.1 (kept.2 stored c.stored_at-stored.ensures.film) c.playback_of-playback.ensures.playback
+    c.ask_halt-keep.ensures.boundary.boundary c.run_after-left.ensures.left c.run_after-left.ensures.run c.run_after-left.ensures.fits))
 
 pub returns-clause-exact : goal.returns-clause-exact
 returns-clause-exact c =

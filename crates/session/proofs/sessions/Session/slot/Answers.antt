@@ -1,12 +1,12 @@
 use Rattle.std.proofs.Common.{◌≡◌, false, true, sym, ap, subst, ◌∙◌, rules, arith}
-use Rattle.session.specs.Inside.{IsAwaitedKept, IsGoing, IsStateKept, IsStopAnswered, awaited_offers, awaited_plays, awaited_receipts, open_receipts, standing_of}
+use Rattle.session.specs.Inside.{Coming, IsAwaitedKept, IsGoing, IsStateKept, IsStopAnswered, awaited_offers, awaited_plays, awaited_receipts, coming_of, open_receipts, standing_of}
 use Rattle.session.specs.Sendings.{IsFinished}
 use Rattle.session.specs.Standings.{IsAtRest}
 use Rattle.session.specs.Steps.{IsCarried, IsEven, after_stop}
 use Rattle.session.specs.declared.states.Awaited.{Awaited}
 use Rattle.session.specs.declared.states.Awaited.TheVariants.{Nothing}
 use Rattle.session.specs.declared.states.State.{State}
-use Rattle.session.proofs.Carries.{awaited_kept, awaited_lost, awaited_settled, finished_offers, finished_plays, finished_receipts}
+use Rattle.session.proofs.Carries.{awaited_kept, awaited_lost, awaited_settled, finished_none}
 use Rattle.session.proofs.Carries.{nothing_of, receipts_kept, receipts_settled, settled_kept, state_kept, stop_kept, stop_settled}
 use Rattle.session.proofs.sessions.Session.slot.Goals as goal
 
@@ -55,9 +55,10 @@ invariant_of-self-then-replied g c =
     c.self.invariant.awaited in
     let same : open_receipts after ≡ open_receipts inside.state =
     ap open_receipts is ∙ receipts_settled new ∙ receipts_kept inside.state new carried in
-    let receipts : awaited_receipts awaited ≡ 0 = finished_receipts after awaited finished in
-    let plays : awaited_plays awaited ≡ 0 = finished_plays after awaited finished in
-    let offers : awaited_offers awaited ≡ 0 = finished_offers after awaited finished in
+    let coming : coming_of awaited ≡ coming_of Nothing = finished_none after awaited finished in
+    let receipts : awaited_receipts awaited ≡ 0 = ap (λ (n : Coming). n.receipts) coming in
+    let plays : awaited_plays awaited ≡ 0 = ap (λ (n : Coming). n.plays) coming in
+    let offers : awaited_offers awaited ≡ 0 = ap (λ (n : Coming). n.offers) coming in
     record {
       films = c.self.invariant.films;
       settings = c.self.invariant.settings;
@@ -94,9 +95,10 @@ invariant_of-self-2 g c =
     subst (λ (a : Awaited). IsAwaitedKept films inside.source inside.settings inside.counts inside.lost inside.state a) none
     c.self.invariant.awaited in
     let same : open_receipts new ≡ open_receipts inside.state = receipts_kept inside.state new carried in
-    let receipts : awaited_receipts awaited ≡ 0 = finished_receipts new awaited finished in
-    let plays : awaited_plays awaited ≡ 0 = finished_plays new awaited finished in
-    let offers : awaited_offers awaited ≡ 0 = finished_offers new awaited finished in
+    let coming : coming_of awaited ≡ coming_of Nothing = finished_none new awaited finished in
+    let receipts : awaited_receipts awaited ≡ 0 = ap (λ (n : Coming). n.receipts) coming in
+    let plays : awaited_plays awaited ≡ 0 = ap (λ (n : Coming). n.plays) coming in
+    let offers : awaited_offers awaited ≡ 0 = ap (λ (n : Coming). n.offers) coming in
     record {
       films = c.self.invariant.films;
       settings = c.self.invariant.settings;
