@@ -60,7 +60,7 @@ play_asked old new stored setup paused range planned sequence authority ready pl
 comes_changes : (old new : Standing) (message : List ℕ) (ask : Ask) → ComesTo old message ask new → Changes ask old new
 comes_changes old new message ask (Lacks is) = replied_changes old _ ask new is
 comes_changes old new message ask (Refuses sequence refusal option other is) = replied_changes old _ ask new is
-comes_changes old new message ask (Says sequence fields body tearing command is) =
+comes_changes old new message ask (Says sequence fields body tearing by command is) =
     subst (λ a. Changes a old new) (sym command) (
       subst (IsSameGround old) (sym is) (record { films = refl; settings = refl; source = refl; counts = refl; heard = refl }),
       inl (ap (λ (s : Standing). s.state) is),
@@ -78,7 +78,7 @@ comes_changes old new message ask (AsksForPlay stored setup paused range planned
         play_asked old new stored setup paused range planned sequence authority ready planned_is is,
       ),
     )
-comes_changes old new message ask (AsksForHalt sequence setup play next playing told halts) =
+comes_changes old new message ask (AsksForHalt sequence setup play next playing told by halts) =
     subst (λ a. Changes a old new) (sym halts.command) (
       subst (IsSameGround old) (sym halts.state) (record { films = refl; settings = refl; source = refl; counts = refl; heard = refl }),
       record { setup = setup; play = play; keep = halts.keep; was = playing; now = ap (λ (s : Standing). s.state) halts.state },

@@ -1,5 +1,5 @@
 -- What a halt leaves.
-use Rattle.std.proofs.Common.{◌≡◌, ℕ, Bool, true, false, if◌then◌else◌, List, [], ◌∷◌, ◌++◌, None, refl}
+use Rattle.std.proofs.Common.{◌≡◌, ℕ, Bool, true, false, ◌||◌, if◌then◌else◌, List, [], ◌∷◌, ◌++◌, None, refl}
 use Rattle.film_frames.specs.declared.stores.Stored.{Stored}
 use Rattle.film_run.specs.declared.runs.Run.{Run}
 use Rattle.session.specs.declared.settings.Settings.{Settings}
@@ -71,3 +71,9 @@ pub halted_torn : (next : Next) (tearing waits torn : Bool) → (tearing ≡ tru
 halted_torn Done tearing waits torn was ends still = was ends still
 halted_torn (Paused rest) tearing waits torn was ends still = cc
 halted_torn Torn tearing waits torn was ends still = cc
+
+pub or_if : (a b : Bool) → (a || b) ≡ (if b then true else a)
+or_if true true = refl
+or_if true false = refl
+or_if false true = refl
+or_if false false = refl

@@ -20,13 +20,13 @@ comes_plays old new message ask setup play (Lacks is) playing free =
     plays_on old new (ap (λ (s : Standing). s.state) is.1) (ap (λ (s : Standing). s.heard) is.1)
 comes_plays old new message ask setup play (Refuses sequence refusal option other is) playing free =
     plays_on old new (ap (λ (s : Standing). s.state) is.1) (ap (λ (s : Standing). s.heard) is.1)
-comes_plays old new message ask setup play (Says sequence fields body tearing command is) playing free =
+comes_plays old new message ask setup play (Says sequence fields body tearing by command is) playing free =
     plays_on old new (ap (λ (s : Standing). s.state) is) (ap (λ (s : Standing). s.heard) is)
 comes_plays old new message ask setup play (SettlesSetup sequence own init ranges command is) playing free =
     absurd (let no : ⊥ = cc in no)
 comes_plays old new message ask setup play (AsksForPlay stored own paused range planned sequence authority ready planned_is command is) playing free =
     absurd (let no : ⊥ = cc in no)
-comes_plays old new message ask setup play (AsksForHalt sequence own going next was told halts) playing free =
+comes_plays old new message ask setup play (AsksForHalt sequence own going next was told by halts) playing free =
     absurd (subst IsNoHalt halts.command free)
 comes_plays old new message ask setup play (AsksForLook sequence look) playing free =
     plays_on old new (ap (λ (s : Standing). s.state) look.state) (ap (λ (s : Standing). s.heard) look.state)
@@ -45,13 +45,13 @@ leaves old text ask new is = inr (is.1 ∙ ap (λ (t : List ℕ). replied old t)
 comes_leaves : (old new : Standing) (message : List ℕ) (ask : Ask) → ComesTo old message ask new → ask ≡ Reply → LeavesOr old new
 comes_leaves old new message ask (Lacks is) reply = leaves old _ ask new is
 comes_leaves old new message ask (Refuses sequence refusal option other is) reply = leaves old _ ask new is
-comes_leaves old new message ask (Says sequence fields body tearing command is) reply =
+comes_leaves old new message ask (Says sequence fields body tearing by command is) reply =
     inl (record { sequence = Some sequence; fields = fields; body = body; text_is = ap (λ (s : Standing). s.text) is })
 comes_leaves old new message ask (SettlesSetup sequence own init ranges command is) reply =
     inl (record { sequence = Some sequence; fields = _; body = _; text_is = ap (λ (s : Standing). s.text) is })
 comes_leaves old new message ask (AsksForPlay stored own paused range planned sequence authority ready planned_is command is) reply =
     absurd (let no : ⊥ = cc (command, reply) in no)
-comes_leaves old new message ask (AsksForHalt sequence own going next was told halts) reply =
+comes_leaves old new message ask (AsksForHalt sequence own going next was told by halts) reply =
     absurd (let no : ⊥ = cc (halts.command, reply) in no)
 comes_leaves old new message ask (AsksForLook sequence look) reply = absurd (let no : ⊥ = cc (look.command, reply) in no)
 comes_leaves old new message ask (AsksForOffer sequence wait planned asks) reply = absurd (let no : ⊥ = cc (asks.command, reply) in no)

@@ -25,3 +25,4 @@ mod SlotCounts
 mod PlayEnds
 mod Offers
 mod Looks
+mod Endings

@@ -41,13 +41,13 @@ comes_room : (old new : Standing) (message : List ℕ) (ask : Ask) → ComesTo o
 comes_room old new message ask (Lacks is) = replies_room old new ask is.0 (ap (λ (s : Standing). s.looks_left) is.1)
 comes_room old new message ask (Refuses sequence refusal option other is) =
     replies_room old new ask is.0 (ap (λ (s : Standing). s.looks_left) is.1)
-comes_room old new message ask (Says sequence fields body tearing command is) =
+comes_room old new message ask (Says sequence fields body tearing by command is) =
     replies_room old new ask command (ap (λ (s : Standing). s.looks_left) is)
 comes_room old new message ask (SettlesSetup sequence setup init ranges command is) =
     replies_room old new ask command (ap (λ (s : Standing). s.looks_left) is)
 comes_room old new message ask (AsksForPlay stored setup paused range planned sequence authority ready planned_is command is) =
     subst (λ a. Keeps (looks_in a) old new) (sym command) (same_room old new (ap (λ (s : Standing). s.looks_left) is))
-comes_room old new message ask (AsksForHalt sequence setup play next playing told halts) =
+comes_room old new message ask (AsksForHalt sequence setup play next playing told by halts) =
     subst (λ a. Keeps (looks_in a) old new) (sym halts.command) (same_room old new (ap (λ (s : Standing). s.looks_left) halts.state))
 comes_room old new message ask (AsksForLook sequence look) =
     let left : new.looks_left ≡ old.looks_left - 1 = ap (λ (s : Standing). s.looks_left) look.state in

@@ -9,11 +9,14 @@ use Rattle.film_frames.specs.Tracks.{IsBoundaryAfter, framed_bytes}
 use Rattle.film_frames.proofs.RunLemmas.{blocks_from-count, count_ended-is}
 use Rattle.film_frames.proofs.TrackLemmas.{begin-all}
 use Rattle.pacer.specs.Boundaries.{boundary_from}
-use Rattle.pacer.specs.Pacings.{IsPacing, next_boundary}
+use Rattle.pacer.specs.Pacings.{IsPacing, next_boundary, whole_pacing}
 use Rattle.pacer.proofs.PacingLemmas.{boundary-from}
 use Rattle.session.specs.declared.asks.Ask.{Ask}
 use Rattle.session.specs.declared.asks.Ask.TheVariants.{Halt as AskHalt}
+use Rattle.film_run.specs.declared.runs.Run.{Run}
+use Rattle.session.specs.declared.plans.Planned.{Planned}
 use Rattle.session.specs.declared.states.Awaited.{Awaited}
+use Rattle.session.specs.declared.states.Awaited.TheVariants.{Nothing, Play, Halt, Look, Offer}
 use Rattle.session.specs.declared.states.Counts.{Counts}
 use Rattle.session.specs.declared.states.Next.{Next}
 use Rattle.session.specs.declared.states.Next.TheVariants.{Done, Paused, Torn}
@@ -22,12 +25,15 @@ use Rattle.session.specs.declared.states.Setup.{Setup}
 use Rattle.session.specs.declared.states.State.{State}
 use Rattle.session.specs.declared.states.State.TheVariants.{Init, Ready, Playing, Stopping}
 use Rattle.session.specs.Films.{IsFilmAt, counts_after, identity_of, sending_of}
-use Rattle.session.specs.Hearings.{Hears, after_halt, counts_done, counts_next, halted_counts, is_answered}
+use Rattle.session.specs.Changes.{IsPlayAsked}
+use Rattle.session.specs.Hearings.{Hears, after_admission, after_halt, counts_of, counts_done, counts_next, halted_counts, is_answered}
 use Rattle.session.specs.Laws.{GoesOn}
-use Rattle.session.specs.PlayLaws.{HasCountedAll, IsNoted, KeepsToBoundary}
+use Rattle.session.specs.Methods.{prepared_of}
+use Rattle.session.specs.PlayLaws.{HasCountedAll, IsNoted, IsSentAsAsked, KeepsToBoundary}
 use Rattle.session.specs.Playing.{IsPlayable}
-use Rattle.session.specs.Sendings.{halted_notes, kept_of, next_of, note_of}
-use Rattle.session.specs.Standings.{Standing}
+use Rattle.session.specs.Sendings.{admitted_in, halted_notes, kept_of, next_of, note_of}
+use Rattle.session.specs.Standings.{HaltAnswer, Standing, awaits_of}
+use Rattle.session.proofs.Carries.{nothing_of}
 use Rattle.session.proofs.Numbers.{identity_goes_on}
 use Rattle.session.proofs.Results.{ComesTo, Lacks, Refuses, Says, SettlesSetup, AsksForPlay, AsksForHalt, AsksForLook, AsksForOffer, comes_to}
 
@@ -57,13 +63,13 @@ comes_halts : (old new : Standing) (message : List ℕ) (keep : ℕ) (setup : Se
 comes_halts old new message keep setup play (Lacks is) playing pacing = absurd (let no : ⊥ = cc (is.0) in no)
 comes_halts old new message keep setup play (Refuses sequence refusal option other is) playing pacing =
     absurd (let no : ⊥ = cc (is.0) in no)
-comes_halts old new message keep setup play (Says sequence fields body tearing command is) playing pacing =
+comes_halts old new message keep setup play (Says sequence fields body tearing by command is) playing pacing =
     absurd (let no : ⊥ = cc (command) in no)
 comes_halts old new message keep setup play (SettlesSetup sequence own init ranges command is) playing pacing =
     absurd (let no : ⊥ = cc (command) in no)
 comes_halts old new message keep setup play (AsksForPlay stored own paused range planned sequence authority ready planned_is command is) playing pacing =
     absurd (let no : ⊥ = cc (command) in no)
-comes_halts old new message keep setup play (AsksForHalt sequence own other next was told halts) playing pacing =
+comes_halts old new message keep setup play (AsksForHalt sequence own other next was told by halts) playing pacing =
     let same : play ≡ other = same_play old.state setup own play other playing was in
     let asked : keep ≡ halts.keep = cc (halts.command) in
     let kept : keep ≡ next_boundary play.pacer = asked ∙ halts.keep_is ∙ ap (λ (p : Played). next_boundary p.pacer) (sym same) in
@@ -121,11 +127,57 @@ run_counted old place stored setup play playing none at all =
 
 -- ---- the note of a play
 
+kept_asked : (awaited : Awaited) (due keep : ℕ) → awaits_of awaited ≡ HaltAnswer keep → kept_of awaited due ≡ keep
+kept_asked Nothing due keep is = absurd (let no : ⊥ = cc in no)
+kept_asked (Play prepared) due keep is = absurd (let no : ⊥ = cc in no)
+kept_asked (Halt other next) due keep is = cc
+kept_asked (Look sequence) due keep is = absurd (let no : ⊥ = cc in no)
+kept_asked (Offer sequence) due keep is = absurd (let no : ⊥ = cc in no)
+
 pub play_noted : (old : Standing) (place : ℕ) (stored : Stored) (setup : Setup) (play : Played) → old.state ≡ Playing setup play
     → IsPlayable stored old.source old.settings setup old.counts play.run play.plan
-    → kept_of old.awaited play.pacer.due ≤ total_bytes play.plan → IsNoted stored old (after_halt old place)
+    → kept_of old.awaited play.pacer.due ≤ total_bytes play.plan → IsNoted stored play old (after_halt old place)
 play_noted old place stored setup play playing playable within = record {
   note = note_of setup play (kept_of old.awaited play.pacer.due);
   plays = ap (λ s. old.plays ++ halted_notes s old.awaited) playing;
   sound = record { run_is = playable.run_of.run_is; plan_is = playable.plan_is; keep = within };
+  asked = λ keep is. kept_asked old.awaited play.pacer.due keep is;
+  due = λ rest. ap (λ (a : Awaited). kept_of a play.pacer.due) (nothing_of old.awaited rest);
 }
+
+-- ---- what is admitted
+
+sent_as_asked : (old asked : Standing) (stored : Stored) (setup : Setup) (paused : Option Run) (planned : Planned) (sequence place start : ℕ)
+    (state : State) (awaited : Awaited) → asked.state ≡ state → asked.awaited ≡ awaited → state ≡ Ready setup paused
+    → awaited ≡ Play (prepared_of old stored setup planned sequence)
+    → IsSentAsAsked old stored setup planned place start (after_admission asked place start)
+sent_as_asked old asked stored setup paused planned sequence place start state awaited s a ready is =
+    let prepared = prepared_of old stored setup planned sequence in
+    let counts : counts_of asked.awaited asked.counts ≡ planned.counts = ap (λ (x : Awaited). counts_of x asked.counts) (a ∙ is) in
+    record {
+      play = record {
+        run = planned.run;
+        place = place;
+        start = start;
+        plan = planned.plan;
+        pacer = whole_pacing (run_pieces prepared.frames) planned.run.sent planned.plan start;
+      };
+      playing = ap (λ (x : State). admitted_in x asked.awaited place start) (s ∙ ready)
+          ∙ ap (λ (x : Awaited). admitted_in (Ready setup paused) x place start) (a ∙ is);
+      run = refl;
+      plan = refl;
+      place_is = refl;
+      start_is = refl;
+      paced = refl;
+      begins = refl;
+      before = refl;
+      none = refl;
+      pieces = ap (λ (n : Counts). run_pieces (sending_of stored.film old.source setup n planned.run)) (sym counts);
+      counts = counts;
+    }
+
+pub play_sent : (old asked : Standing) (is : IsPlayAsked old asked) (place start : ℕ) → asked.state ≡ old.state
+    → IsSentAsAsked old is.stored is.setup is.planned place start (after_admission asked place start)
+play_sent old asked is place start same =
+    sent_as_asked old asked is.stored is.setup is.paused is.planned is.sequence place start asked.state asked.awaited refl refl
+    (same ∙ is.ready) is.awaited

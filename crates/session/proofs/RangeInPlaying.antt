@@ -16,7 +16,7 @@ use Rattle.session.specs.Changes.{HasCode}
 use Rattle.session.specs.Hearings.{Hears, HearsOn}
 use Rattle.session.specs.Judging.{IsJudged, IsReadAs, option_of, place_of}
 use Rattle.session.specs.Methods.{IsRefused, Takes}
-use Rattle.session.specs.PlayLaws.{HasRangeInPlaying, IsElseGood, IsRefusedInPlaying}
+use Rattle.session.specs.PlayLaws.{HasRangeInPlaying, IsElseGood, IsDeclined}
 use Rattle.session.specs.Replies.{code_of, refusal_text}
 use Rattle.session.specs.Standings.{Standing, replied}
 use Rattle.session.proofs.OneVerdict.{AreAlike, not_both, refusal_once}
@@ -55,8 +55,8 @@ not_ok (Buffer least) is = omega (arith, is)
 not_ok Range is = omega (arith, is)
 not_ok Memory is = omega (arith, is)
 
-refused : (old : Standing) (sequence : Option ℕ) (refusal : Refusal) (option : List ℕ) (ask : Ask) (new : Standing)
-    → IsRefused old sequence refusal option ask new → IsRefusedInPlaying old ask new
+pub refused : (old : Standing) (sequence : Option ℕ) (refusal : Refusal) (option : List ℕ) (ask : Ask) (new : Standing)
+    → IsRefused old sequence refusal option ask new → IsDeclined old ask new
 refused old sequence refusal option ask new is =
     let text : new.text ≡ refusal_text sequence refusal option = ap (λ (s : Standing). s.text) is.1 in
     record {
@@ -91,14 +91,14 @@ ranged_as place request other alike is = record {
 
 takes_refused : (old : Standing) (request : Request) (judgement : Result Task Refusal) (ask : Ask) (new : Standing)
     → IsRanged (place_of old.state) request → IsJudged old.films old.id (place_of old.state) request judgement
-    → Takes old request judgement ask new → IsRefusedInPlaying old ask new
+    → Takes old request judgement ask new → IsDeclined old ask new
 takes_refused old request (Ok task) ask new ranged judged takes =
     absurd (never_taken old.films old.id (place_of old.state) request task ranged judged)
 takes_refused old request (Err refusal) ask new ranged judged takes =
     refused old (Some request.sequence) refusal (option_of request.head.now) ask new takes
 
 hears_on_refused : (lost : Bool) (old : Standing) (message : List ℕ) (ask : Ask) (new : Standing) (request : Request)
-    → IsReadAs message request → IsRanged (place_of old.state) request → HearsOn lost old message ask new → IsRefusedInPlaying old ask new
+    → IsReadAs message request → IsRanged (place_of old.state) request → HearsOn lost old message ask new → IsDeclined old ask new
 hears_on_refused true old message ask new request is ranged hears = refused old _ Memory [] ask new hears
 hears_on_refused false old message ask new request is ranged (inl fault) =
     absurd (no_fault message request.method.now request.url.now request.sequence request.head.now request.body.now fault.fault is fault.is_fault)
@@ -116,7 +116,7 @@ ranged_in old message request is = record {
 }
 
 pub range_refused : (old new : Standing) (message : List ℕ) (ask : Ask) (request : Request) → Hears old message ask new
-    → HasRangeInPlaying old message request → IsRefusedInPlaying old ask new
+    → HasRangeInPlaying old message request → IsDeclined old ask new
 range_refused old new message ask request hears is =
     hears_on_refused old.lost old message ask new request is.is_request (ranged_in old message request is) hears
 

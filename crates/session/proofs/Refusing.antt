@@ -115,7 +115,7 @@ comes_text old new message ask (Lacks is) =
     of_text old _ ask new is.0 (ap (λ (s : Standing). s.text) is.1) (refusal_plain _ Memory [])
 comes_text old new message ask (Refuses sequence refusal option other is) =
     of_text old _ ask new is.0 (ap (λ (s : Standing). s.text) is.1) (refusal_plain sequence refusal option)
-comes_text old new message ask (Says sequence fields body tearing command is) =
+comes_text old new message ask (Says sequence fields body tearing by command is) =
     of_text old _ ask new command (ap (λ (s : Standing). s.text) is) (ok_plain (Some sequence) fields body)
 comes_text old new message ask (SettlesSetup sequence setup init ranges command is) =
     of_text old _ ask new command (ap (λ (s : Standing). s.text) is) (ok_plain (Some sequence) _ [])
@@ -123,7 +123,7 @@ comes_text old new message ask (AsksForPlay stored setup paused range planned se
     subst (λ a. RefusesNone a new) (sym command)
     (λ rest. subst (λ (t : List ℕ). IsNoRefusal (t ++ rest)) (sym (ap (λ (s : Standing). s.text) is))
     (plain_front (Some sequence) _ rest))
-comes_text old new message ask (AsksForHalt sequence setup play next playing told halts) =
+comes_text old new message ask (AsksForHalt sequence setup play next playing told by halts) =
     subst (λ a. RefusesNone a new) (sym halts.command)
     (subst IsNoRefusal (sym (ap (λ (s : Standing). s.text) halts.state)) (ok_plain (Some sequence) _ []))
 comes_text old new message ask (AsksForLook sequence look) = subst (λ a. RefusesNone a new) (sym look.command) tt
@@ -140,13 +140,13 @@ comes_500 old new message (Refuses sequence refusal option other is) code =
     let own = own_code refusal in
     let its = subst (λ (t : List ℕ). HasCode 500 t) (ap (λ (s : Standing). s.text) is.1) code in
     absurd (other (own.memory (one_code (code_of refusal) 500 text own.small (omega arith) (refusal_code sequence refusal option) its)))
-comes_500 old new message (Says sequence fields body tearing command is) code =
+comes_500 old new message (Says sequence fields body tearing by command is) code =
     absurd ((subst IsFound (sym (ap (λ (s : Standing). s.text) is)) (found_text (Some sequence) fields body)).found code)
 comes_500 old new message (SettlesSetup sequence setup init ranges command is) code =
     absurd ((subst IsFound (sym (ap (λ (s : Standing). s.text) is)) (found_text (Some sequence) _ [])).found code)
 comes_500 old new message (AsksForPlay stored setup paused range planned sequence authority ready planned_is command is) code =
     absurd (let no : ⊥ = cc in no)
-comes_500 old new message (AsksForHalt sequence setup play next playing told halts) code = absurd (let no : ⊥ = cc (halts.command) in no)
+comes_500 old new message (AsksForHalt sequence setup play next playing told by halts) code = absurd (let no : ⊥ = cc (halts.command) in no)
 comes_500 old new message (AsksForLook sequence look) code = absurd (let no : ⊥ = cc (look.command) in no)
 comes_500 old new message (AsksForOffer sequence wait planned asks) code = absurd (let no : ⊥ = cc (asks.command) in no)
 
@@ -186,13 +186,13 @@ hears_same old one other message ask again films is its there back =
 comes_never : (old new : Standing) (message : List ℕ) (ask : Ask) → ComesTo old message ask new → NeverLacks ask new
 comes_never old new message ask (Lacks is) = subst (λ a. NeverLacks a new) (sym is.0) tt
 comes_never old new message ask (Refuses sequence refusal option other is) = subst (λ a. NeverLacks a new) (sym is.0) tt
-comes_never old new message ask (Says sequence fields body tearing command is) = subst (λ a. NeverLacks a new) (sym command) tt
+comes_never old new message ask (Says sequence fields body tearing by command is) = subst (λ a. NeverLacks a new) (sym command) tt
 comes_never old new message ask (SettlesSetup sequence setup init ranges command is) = subst (λ a. NeverLacks a new) (sym command) tt
 comes_never old new message ask (AsksForPlay stored setup paused range planned sequence authority ready planned_is command is) =
     subst (λ a. NeverLacks a new) (sym command)
     (λ rest. (subst (λ (t : List ℕ). IsFound (t ++ rest)) (sym (ap (λ (s : Standing). s.text) is))
     (found_front (Some sequence) _ rest)).found)
-comes_never old new message ask (AsksForHalt sequence setup play next playing told halts) =
+comes_never old new message ask (AsksForHalt sequence setup play next playing told by halts) =
     subst (λ a. NeverLacks a new) (sym halts.command)
     (subst IsFound (sym (ap (λ (s : Standing). s.text) halts.state)) (found_text (Some sequence) _ [])).found
 comes_never old new message ask (AsksForLook sequence look) = subst (λ a. NeverLacks a new) (sym look.command) tt

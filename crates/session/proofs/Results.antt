@@ -26,8 +26,9 @@ use Rattle.session.specs.declared.states.Play.{Play as Played}
 use Rattle.session.specs.declared.states.Setup.{Setup}
 use Rattle.session.specs.declared.states.State.{State}
 use Rattle.session.specs.declared.states.State.TheVariants.{Init, Ready, Playing, Stopping}
-use Rattle.session.specs.Hearings.{Hears, HearsOn, is_answered}
-use Rattle.session.specs.Judging.{IsJudged, fault_refusal, option_of, place_of}
+use Rattle.session.specs.EndLaws.{IsTeardown}
+use Rattle.session.specs.Hearings.{Hears, HearsOn, is_answered, is_torn}
+use Rattle.session.specs.Judging.{IsJudged, IsReadAs, fault_refusal, option_of, place_of}
 use Rattle.session.specs.Laws.{IsWanting}
 use Rattle.session.specs.Methods.{AsksHalt, AsksLook, AsksOffer, AsksOfferOr, AsksPlayOr, Gets, GetsOffer, IsRefused, IsReplied, IsSetUp, Looks, Pauses, Plays, Takes, TearsDown, play_front, prepared_of}
 use Rattle.session.specs.Planning.{IsPlanned, IsPlannedRun}
@@ -44,7 +45,8 @@ pub data ComesTo (old : Standing) (message : List ℕ) (ask : Ask) (new : Standi
   Refuses : (sequence : Option ℕ) (refusal : Refusal) (option : List ℕ) → refusal ≢ Memory
       → IsRefused old sequence refusal option ask new → ComesTo old message ask new
   -- a 200 that changes nothing, or that a TEARDOWN is answered
-  Says : (sequence : ℕ) (fields : List Field) (body : List ℕ) (tearing : Bool) → ask ≡ Reply
+  Says : (sequence : ℕ) (fields : List Field) (body : List ℕ) (tearing : Bool)
+      → (tearing ≡ old.tearing) ⊎ IsTeardown message → ask ≡ Reply
       → new ≡ record old { text = reply_text 200 (Some sequence) fields body; waits = true; tearing = tearing }
       → ComesTo old message ask new
   SettlesSetup : (sequence : ℕ) (setup : Setup) → old.state ≡ Init
@@ -59,7 +61,8 @@ pub data ComesTo (old : Standing) (message : List ℕ) (ask : Ask) (new : Standi
         text = play_front old stored setup planned sequence authority;
       } → ComesTo old message ask new
   AsksForHalt : (sequence : ℕ) (setup : Setup) (play : Played) (next : Next) → old.state ≡ Playing setup play
-      → is_answered next ≡ true → AsksHalt old sequence setup play next ask new → ComesTo old message ask new
+      → is_answered next ≡ true → (is_torn next ≡ false) ⊎ IsTeardown message → AsksHalt old sequence setup play next ask new
+      → ComesTo old message ask new
   AsksForLook : (sequence : ℕ) → AsksLook old sequence ask new → ComesTo old message ask new
   AsksForOffer : (sequence wait : ℕ) (planned : Planned) → AsksOffer old sequence wait planned ask new → ComesTo old message ask new
 
@@ -128,7 +131,7 @@ module _ (old : Standing) (message : List ℕ) (ask : Ask) (new : Standing) wher
       ]
 
   says : (sequence : ℕ) (fields : List Field) (body : List ℕ) → IsReplied old (reply_text 200 (Some sequence) fields body) ask new → Comes
-  says sequence fields body is = Says sequence fields body old.tearing is.0 is.1
+  says sequence fields body is = Says sequence fields body old.tearing (inl refl) is.0 is.1
 
   looks_to : (sequence : ℕ) → first_sequence message ≡ Some sequence → Looks old sequence ask new → Comes
   looks_to sequence number (inl look) = AsksForLook sequence look
@@ -183,28 +186,29 @@ module _ (old : Standing) (message : List ℕ) (ask : Ask) (new : Standing) wher
   pauses_to : (state : State) (sequence : ℕ) → old.state ≡ state → Pauses state old sequence ask new → Comes
   pauses_to Init sequence same is = absurd is
   pauses_to (Ready setup paused) sequence same is = absurd is
-  pauses_to (Playing setup play) sequence same is = AsksForHalt sequence setup play (Paused is.left) same refl is.asks
+  pauses_to (Playing setup play) sequence same is = AsksForHalt sequence setup play (Paused is.left) same refl (inl refl) is.asks
   pauses_to (Stopping setup stop) sequence same is = absurd is
 
-  tears_to : (state : State) (sequence : ℕ) → old.state ≡ state → TearsDown state old sequence ask new → Comes
-  tears_to Init sequence same is = Says sequence _ [] true is.0 is.1
-  tears_to (Ready setup paused) sequence same is = Says sequence _ [] true is.0 is.1
-  tears_to (Playing setup play) sequence same is = AsksForHalt sequence setup play Torn same refl is
-  tears_to (Stopping setup stop) sequence same is = Says sequence _ [] true is.0 is.1
+  tears_to : (state : State) (sequence : ℕ) → IsTeardown message → old.state ≡ state → TearsDown state old sequence ask new → Comes
+  tears_to Init sequence torn same is = Says sequence _ [] true (inr torn) is.0 is.1
+  tears_to (Ready setup paused) sequence torn same is = Says sequence _ [] true (inr torn) is.0 is.1
+  tears_to (Playing setup play) sequence torn same is = AsksForHalt sequence setup play Torn same refl (inr torn) is
+  tears_to (Stopping setup stop) sequence torn same is = Says sequence _ [] true (inr torn) is.0 is.1
 
-  takes_to : (request : Request) (judgement : Result Task Refusal) → first_sequence message ≡ Some request.sequence
+  takes_to : (request : Request) (judgement : Result Task Refusal) → IsReadAs message request → first_sequence message ≡ Some request.sequence
       → IsJudged old.films old.id (place_of old.state) request judgement → Takes old request judgement ask new → Comes
-  takes_to request (Ok ToOptions) number judged takes = says request.sequence _ [] takes
-  takes_to request (Ok (ToDescribe asked)) number judged takes = says request.sequence _ _ takes.reply
-  takes_to request (Ok (ToSetup film)) number judged takes =
+  takes_to request (Ok ToOptions) read number judged takes = says request.sequence _ [] takes
+  takes_to request (Ok (ToDescribe asked)) read number judged takes = says request.sequence _ _ takes.reply
+  takes_to request (Ok (ToSetup film)) read number judged takes =
       let named = judged.film.1.named.film in
       set_up_to request film takes.read number (init_of old.state judged.state) (slice_get_within old.films film named.stored named.at)
       takes.is_read takes.done
-  takes_to request (Ok (ToPlay asked)) number judged takes = plays_to old.state request asked.authority.now number refl takes
-  takes_to request (Ok ToPause) number judged takes = pauses_to old.state request.sequence refl takes
-  takes_to request (Ok ToTeardown) number judged takes = tears_to old.state request.sequence refl takes
-  takes_to request (Ok ToGetParameter) number judged takes = gets_to request takes.topic number takes.gets
-  takes_to request (Err refusal) number judged takes =
+  takes_to request (Ok (ToPlay asked)) read number judged takes = plays_to old.state request asked.authority.now number refl takes
+  takes_to request (Ok ToPause) read number judged takes = pauses_to old.state request.sequence refl takes
+  takes_to request (Ok ToTeardown) read number judged takes = tears_to old.state request.sequence
+      (record { request = request; is_request = read; method_is = judged.talk.spoken.named }) refl takes
+  takes_to request (Ok ToGetParameter) read number judged takes = gets_to request takes.topic number takes.gets
+  takes_to request (Err refusal) read number judged takes =
       elim (is_memory refusal) [
         | inl memory ↦
             absurd (subst (λ r. IsJudged old.films old.id (place_of old.state) request (Err r)) memory judged)
@@ -215,7 +219,7 @@ module _ (old : Standing) (message : List ℕ) (ask : Ask) (new : Standing) wher
   hears_on_to true refused = Lacks refused
   hears_on_to false (inl fault) = Refuses (first_sequence message) (fault_refusal fault.fault) [] (fault_refuses fault.fault) fault.refused
   hears_on_to false (inr whole) =
-      takes_to whole.request whole.hears.judgement (first_is message whole.request.sequence whole.is_request.sequence_is)
+      takes_to whole.request whole.hears.judgement whole.is_request (first_is message whole.request.sequence whole.is_request.sequence_is)
       whole.hears.judged whole.hears.takes
 
   pub comes_to : Hears old message ask new → Comes

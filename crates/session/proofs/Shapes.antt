@@ -35,11 +35,11 @@ pub data HearsAs (old : Standing) (ask : Ask) (new : Standing) : Type 0 where
 comes_as : (old : Standing) (message : List ℕ) (ask : Ask) (new : Standing) → ComesTo old message ask new → HearsAs old ask new
 comes_as old message ask new (Lacks is) = Replies _ old.tearing is.0 is.1
 comes_as old message ask new (Refuses sequence refusal option other is) = Replies _ old.tearing is.0 is.1
-comes_as old message ask new (Says sequence fields body tearing command is) = Replies _ tearing command is
+comes_as old message ask new (Says sequence fields body tearing by command is) = Replies _ tearing command is
 comes_as old message ask new (SettlesSetup sequence setup init ranges command is) = SetsUp _ setup init command is
 comes_as old message ask new (AsksForPlay stored setup paused range planned sequence authority ready planned_is command is) =
     AsksPlay setup paused (prepared_of old stored setup planned sequence) _ ready command is
-comes_as old message ask new (AsksForHalt sequence setup play next playing told halts) =
+comes_as old message ask new (AsksForHalt sequence setup play next playing told by halts) =
     Stops setup play halts.keep next _ playing told halts.keep_is halts.command halts.state
 comes_as old message ask new (AsksForLook sequence look) = AsksLook _ sequence look.command look.state
 comes_as old message ask new (AsksForOffer sequence wait planned asks) = AsksOffer planned.plan asks.offers sequence asks.command asks.state

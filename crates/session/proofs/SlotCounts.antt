@@ -1,5 +1,5 @@
 -- The slots that are missed, and a play that is done.
-use Rattle.std.proofs.Common.{◌≡◌, ℕ, zero, suc, ◌+◌, ◌-◌, ◌<◌, ◌≤◌, ◌&&◌, Bool, true, false, cond, eqb, ltb, leb, max, sum_by, refl, sym, ap, subst, ◌∙◌, add-one, arith, inl, inr}
+use Rattle.std.proofs.Common.{◌≡◌, ℕ, zero, suc, ◌+◌, ◌-◌, ◌^◌, ◌<◌, ◌≤◌, ◌&&◌, Bool, true, false, cond, eqb, ltb, leb, max, sum_by, refl, sym, ap, subst, ◌∙◌, add-one, arith, inl, inr}
 use Rattle.std.specs.List.{range_with_len}
 use Rattle.std.proofs.lemmas.Bool.{cases_lt}
 use Rattle.std.proofs.lemmas.Bool.Decides.{nat_tests}
@@ -73,6 +73,40 @@ rest_late false sending old slot is = refl
 
 pub resting_late : (old : Standing) (slot : ℕ) → is_sending old.state ≡ false → (after_slot old slot).late ≡ old.late
 resting_late old slot is = rest_late (is_taken old slot) (is_sending old.state) old slot is
+
+-- ---- which slots are taken up
+
+heard_of : (b : Bool) (standing : Standing) → (cond b (sent_reply standing) standing).heard ≡ standing.heard
+heard_of true standing = refl
+heard_of false standing = refl
+
+slot_heard : (taken sending : Bool) (old : Standing) (slot : ℕ) → taken ≡ true
+    → (cond taken (cond sending (after_play (sent_slot old slot)) (record old { heard = slot })) old).heard ≡ slot
+slot_heard true true old slot is = heard_of (old.waits && is_between (stepped_in true slot old.state)) (sent_due old slot)
+slot_heard true false old slot is = refl
+slot_heard false sending old slot is = absurd (let no : ⊥ = cc in no)
+
+later_taken : (heard slot : ℕ) → heard < slot → slot ≤ 2 ^ 62 → (ltb heard slot && leb slot (2 ^ 62)) ≡ true
+later_taken heard slot later most = grind (arith, nat_tests)
+
+past_taken : (heard slot : ℕ) → slot ≤ heard → (ltb heard slot && leb slot (2 ^ 62)) ≡ false
+past_taken heard slot past = grind (arith, nat_tests)
+
+above_taken : (heard slot : ℕ) → 2 ^ 62 < slot → (ltb heard slot && leb slot (2 ^ 62)) ≡ false
+above_taken heard slot above = grind (arith, nat_tests)
+
+pub later_slot : (old : Standing) (slot : ℕ) → old.heard < slot → slot ≤ 2 ^ 62 → (after_slot old slot).heard ≡ slot
+later_slot old slot later most = slot_heard (is_taken old slot) (is_sending old.state) old slot (later_taken old.heard slot later most)
+
+not_taken : (old : Standing) (slot : ℕ) → is_taken old slot ≡ false → after_slot old slot ≡ old
+not_taken old slot is =
+    ap (λ b. cond b (cond (is_sending old.state) (after_play (sent_slot old slot)) (record old { heard = slot })) old) is
+
+pub past_slot : (old : Standing) (slot : ℕ) → slot ≤ old.heard → after_slot old slot ≡ old
+past_slot old slot past = not_taken old slot (past_taken old.heard slot past)
+
+pub slot_above : (old : Standing) (slot : ℕ) → 2 ^ 62 < slot → after_slot old slot ≡ old
+slot_above old slot above = not_taken old slot (above_taken old.heard slot above)
 
 -- ---- a play that is done
 

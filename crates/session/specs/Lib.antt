@@ -20,3 +20,4 @@ pub mod Telling
 pub mod OfferLaws
 pub mod PlayLaws
 pub mod LookLaws
+pub mod EndLaws

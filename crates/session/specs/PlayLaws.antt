@@ -5,7 +5,7 @@ use Rattle.std.specs.List.{range_with_len}
 use Rattle.plan_cert.specs.Slots.{total_bytes}
 use Rattle.film_frames.specs.declared.stores.Stored.{Stored}
 use Rattle.film_frames.specs.Pieces.{frames_in, octets_in}
-use Rattle.film_frames.specs.Runs.{Run as Sending, pieces_in}
+use Rattle.film_frames.specs.Runs.{Run as Sending, pieces_in, run_pieces}
 use Rattle.film_frames.specs.Tracks.{IsBoundaryAfter}
 use Rattle.film_run.specs.declared.runs.Run.{Run}
 use Rattle.film_run.specs.declared.plans.Playback.{Playback}
@@ -20,6 +20,7 @@ use Rattle.session.specs.declared.asks.Ask.{Ask}
 use Rattle.session.specs.declared.asks.Ask.TheVariants.{Reply}
 use Rattle.session.specs.declared.methods.Method.TheVariants.{Play as PlayMethod}
 use Rattle.session.specs.declared.notes.PlayNote.{PlayNote}
+use Rattle.session.specs.declared.plans.Planned.{Planned}
 use Rattle.session.specs.declared.settings.Settings.{Settings}
 use Rattle.session.specs.declared.states.Play.{Play as Played}
 use Rattle.session.specs.declared.states.Setup.{Setup}
@@ -27,7 +28,8 @@ use Rattle.session.specs.declared.states.State.TheVariants.{Playing}
 use Rattle.session.specs.Changes.{HasCode}
 use Rattle.session.specs.Judging.{HasFilm, IsOwnTalk, IsReadAs, place_of}
 use Rattle.session.specs.Laws.{GoesOn}
-use Rattle.session.specs.Standings.{Standing, replied}
+use Rattle.session.specs.Films.{sending_of}
+use Rattle.session.specs.Standings.{HaltAnswer, IsAtRest, Standing, awaits, replied}
 
 -- a PLAY with a Range is heard in Playing
 pub record HasRangeInPlaying (old : Standing) (message : List ℕ) (request : Request) : Type 0 where
@@ -39,9 +41,9 @@ pub record HasRangeInPlaying (old : Standing) (message : List ℕ) (request : Re
   pub method : request.method.now ≡ codes "PLAY"
   pub range : header_value request.head.now (codes "Range") ≡ Some value
 
--- it is refused: nothing is asked of the station, nothing but the reply
--- changes, and that is no 200
-pub record IsRefusedInPlaying (old : Standing) (ask : Ask) (new : Standing) : Type 0 where
+-- a message is refused: nothing is asked of the station, nothing but the reply changes, and that is
+-- no 200
+pub record IsDeclined (old : Standing) (ask : Ask) (new : Standing) : Type 0 where
   pub command : ask ≡ Reply
   pub leaves : new ≡ replied old new.text
   pub no_ok : ¬ HasCode 200 new.text
@@ -95,8 +97,29 @@ pub record IsSoundNote (stored : Stored) (settings : Settings) (note : PlayNote)
       note.plan
   pub keep : note.keep ≤ total_bytes note.plan
 
--- one note more was made, and it is sound
-pub record IsNoted (stored : Stored) (old new : Standing) : Type 0 where
+-- one note more was made, and it is sound; it keeps what the halt was asked to keep, or what is due
+-- as the connection ends
+pub record IsNoted (stored : Stored) (play : Played) (old new : Standing) : Type 0 where
   pub note : PlayNote
   pub plays : new.plays ≡ old.plays ++ note ∷ []
   pub sound : IsSoundNote stored old.settings note
+  pub asked : (keep : ℕ) → awaits old ≡ HaltAnswer keep → note.keep ≡ keep
+  pub due : IsAtRest old → note.keep ≡ play.pacer.due
+
+-- what the station admitted is sent as it was asked for: the run from what was sent of it on, by its
+-- plan from its start on, in frames whose numbers go on from what was sent in all
+pub record IsSentAsAsked (old : Standing) (stored : Stored) (setup : Setup) (planned : Planned)
+    (place start : ℕ) (new : Standing) : Type 0 where
+  pub play : Played
+  pub playing : new.state ≡ Playing setup play
+  pub run : play.run ≡ planned.run
+  pub plan : play.plan ≡ planned.plan
+  pub place_is : play.place ≡ place
+  pub start_is : play.start ≡ start
+  pub paced : play.pacer.plan ≡ planned.plan
+  pub begins : play.pacer.start ≡ start
+  pub before : play.pacer.before ≡ planned.run.sent
+  pub none : play.pacer.sent ≡ 0
+  pub pieces : play.pacer.pieces ≡
+      run_pieces (sending_of stored.film old.source setup new.counts planned.run)
+  pub counts : new.counts ≡ planned.counts

@@ -160,8 +160,8 @@ impl<'a> Session<'a> {
         let (state, note) = state_and_note(setup, play, keep, next);
         self.log.note_play(note);
         self.state = state;
-        self.waits = is_answered(next) || self.waits;
-        self.tearing = is_torn(next) || self.tearing;
+        self.waits |= is_answered(next);
+        self.tearing |= is_torn(next);
     }
 
     /// What the station saw: the slot up to which its book has come, the slot that was looked at
@@ -274,12 +274,7 @@ fn counts_next(
 }
 
 /// The state after a halt, and the note of the play, whose booking keeps so many bytes.
-fn state_and_note<'a>(
-    setup: Setup,
-    play: Play<'a>,
-    keep: u64,
-    next: Next,
-) -> (State<'a>, PlayNote)
+fn state_and_note<'a>(setup: Setup, play: Play<'a>, keep: u64, next: Next) -> (State<'a>, PlayNote)
     requires { setup.film < 2 ^ 32 }
     ensures state { result.0 ≡ state_after setup play.entry next }
     ensures note { result.1 ≡ note_of setup play.entry keep }

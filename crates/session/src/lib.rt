@@ -4,6 +4,7 @@
 mod answers;
 mod asks;
 mod bodies;
+mod end_laws;
 mod films;
 mod laws;
 mod logs;
@@ -25,6 +26,7 @@ mod texts;
 mod wanted;
 
 pub use asks::{Ask, Slotted};
+pub use end_laws::{law_pause_leaves, law_teardown_ends};
 pub use laws::{
     law_answers_told, law_changes, law_film_told, law_numbers_go_on, law_one_hearing, law_phrases,
     law_play_goes_on, law_play_is_asked, law_play_told, law_refusal_leaves, law_resume_goes_on,
@@ -34,8 +36,8 @@ pub use look_laws::law_looks;
 pub use notes::{Notes, OfferNote, PlayNote, Receipt};
 pub use offer_laws::{law_least_buffer, law_offer};
 pub use play_laws::{
-    law_halt_at_boundary, law_play_done, law_play_noted, law_range_in_playing, law_run_counted,
-    law_slots_missed,
+    law_halt_at_boundary, law_play_done, law_play_noted, law_play_sent, law_range_in_playing,
+    law_run_counted, law_slot_taken, law_slots_missed,
 };
 pub use sessions::Session;
 pub use settings::Settings;

@@ -1,6 +1,6 @@
 //! Laws of a play, from its request to its note.
 
-ghost use Rattle.std.specs.Prelude.{◌≡◌, ◌<◌, ◌≤◌, ◌+◌, ℕ, true, false, List, length};
+ghost use Rattle.std.specs.Prelude.{◌≡◌, ◌<◌, ◌≤◌, ◌+◌, ◌^◌, ℕ, true, false, List, length};
 ghost use Rattle.plan_cert.specs.Slots.{total_bytes};
 ghost use Rattle.film_frames.specs.declared.stores.Stored.{Stored};
 ghost use Rattle.film_frames.specs.Runs.{run_pieces};
@@ -11,11 +11,12 @@ ghost use Rattle.session.specs.declared.asks.Ask.{Ask};
 ghost use Rattle.session.specs.declared.states.Play.{Play as Played};
 ghost use Rattle.session.specs.declared.states.Setup.{Setup};
 ghost use Rattle.session.specs.declared.states.State.TheVariants.{Playing};
-ghost use Rattle.session.specs.Changes.{HasCode};
+ghost use Rattle.session.specs.Changes.{HasCode, IsPlayAsked};
 ghost use Rattle.session.specs.Films.{IsFilmAt, identity_of, sending_of};
-ghost use Rattle.session.specs.Hearings.{Hears, after_halt, is_answered};
+ghost use Rattle.session.specs.Hearings.{Hears, after_admission, after_halt, is_answered};
 ghost use Rattle.session.specs.PlayLaws.{HasCountedAll, HasRangeInPlaying, IsElseGood, IsNoted};
-ghost use Rattle.session.specs.PlayLaws.{IsRefusedInPlaying, KeepsToBoundary, slots_missed};
+ghost use Rattle.session.specs.PlayLaws.{IsDeclined, IsSentAsAsked, KeepsToBoundary};
+ghost use Rattle.session.specs.PlayLaws.{slots_missed};
 ghost use Rattle.session.specs.Playing.{IsPlayable};
 ghost use Rattle.session.specs.Sendings.{after_play, is_sending, is_taken, kept_of, next_of};
 ghost use Rattle.session.specs.Sendings.{after_slot, start_in};
@@ -26,7 +27,7 @@ ghost use Rattle.session.specs.Standings.{HaltAnswer, Standing, awaits};
 pub fn law_range_in_playing()
     ensures refused { (old new : Standing) (message : List ℕ) (ask : Ask) (request : Request) →
         Hears old message ask new
-        → HasRangeInPlaying old message request → IsRefusedInPlaying old ask new }
+        → HasRangeInPlaying old message request → IsDeclined old ask new }
     ensures code { (old new : Standing) (message : List ℕ) (ask : Ask) (request : Request) →
         Hears old message ask new
         → HasRangeInPlaying old message request → IsElseGood old request → HasCode 455 new.text }
@@ -76,11 +77,30 @@ pub fn law_run_counted()
 {}
 
 /// The note of a halted play tells its run and its client, and its plan is the plan of that run for
-/// that client. It stands after the notes of the plays before.
+/// that client. It keeps what the halt was asked to keep, or what is due as the connection ends, and
+/// stands after the notes of the plays before.
 pub fn law_play_noted()
     ensures { (old : Standing) (place : ℕ) (stored : Stored) (setup : Setup) (play : Played)
         → old.state ≡ Playing setup play
         → IsPlayable stored old.source old.settings setup old.counts play.run play.plan
         → kept_of old.awaited play.pacer.due ≤ total_bytes play.plan
-        → IsNoted stored old (after_halt old place) }
+        → IsNoted stored play old (after_halt old place) }
+{}
+
+/// A play that the station admitted is sent as it was asked for: the run from what was sent of it
+/// on, by its plan, in frames whose numbers go on from what the session sent in all (RFC 3550
+/// section 5.1).
+pub fn law_play_sent()
+    ensures { (old asked : Standing) (is : IsPlayAsked old asked) (place start : ℕ)
+        → asked.state ≡ old.state → IsSentAsAsked old is.stored is.setup is.planned place start
+        (after_admission asked place start) }
+{}
+
+/// A slot is taken up where it is later than the heard one, and none above 2^62; no other changes
+/// anything.
+pub fn law_slot_taken()
+    ensures later { (old : Standing) (slot : ℕ) → old.heard < slot → slot ≤ 2 ^ 62 →
+        (after_slot old slot).heard ≡ slot }
+    ensures past { (old : Standing) (slot : ℕ) → slot ≤ old.heard → after_slot old slot ≡ old }
+    ensures above { (old : Standing) (slot : ℕ) → 2 ^ 62 < slot → after_slot old slot ≡ old }
 {}

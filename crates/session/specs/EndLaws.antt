@@ -1,0 +1,98 @@
+-- What a PAUSE and a TEARDOWN come to, once the station has halted the play and the reply was sent
+-- (RFC 2326 sections 10.6 and 10.7).
+use Rattle.std.specs.Prelude.{ℕ, ◌≡◌, ◌⊎◌, true, List, [], ◌∷◌, Option, Some, codes}
+use Rattle.film_frames.specs.declared.stores.Stored.{Stored}
+use Rattle.film_run.specs.declared.runs.Run.{Run}
+use Rattle.film_run.specs.Pauses.{IsLeft}
+use Rattle.film_run.specs.Units.{stored_sizes}
+use Rattle.pacer.specs.Pacings.{slots_through}
+use Rattle.rtsp_text.specs.Replies.{Field, reply_text, value_named}
+use Rattle.rtsp_text.specs.declared.requests.Request.{Request}
+use Rattle.session.specs.declared.asks.Ask.{Ask}
+use Rattle.session.specs.declared.asks.Ask.TheVariants.{Reply, Play as AskPlay, Halt as AskHalt}
+use Rattle.session.specs.declared.asks.Ask.TheVariants.{Look as AskLook, Offer as AskOffer}
+use Rattle.session.specs.declared.states.Play.{Play as Played}
+use Rattle.session.specs.declared.states.Setup.{Setup}
+use Rattle.session.specs.declared.states.State.TheVariants.{Ready, Playing}
+use Rattle.session.specs.Films.{IsFilmAt}
+use Rattle.session.specs.Hearings.{after_halt}
+use Rattle.session.specs.Judging.{IsReadAs}
+use Rattle.session.specs.Laws.{InitStage, PlayingStage, ReadyStage, Stage, stage_of}
+use Rattle.session.specs.LookLaws.{Admission, Full, Halt, Happening, Look, Message, Offer}
+use Rattle.session.specs.LookLaws.{Overflow, Sending, Slot}
+use Rattle.session.specs.Playing.{playback_of}
+use Rattle.session.specs.Sendings.{sent_reply}
+use Rattle.session.specs.Standings.{Standing}
+
+-- a message is a request of this method
+pub record IsOfMethod (method message : List ℕ) : Type 0 where
+  pub request : Request
+  pub is_request : IsReadAs message request
+  pub method_is : request.method.now ≡ method
+
+abbrev pub IsTeardown : List ℕ → Type 0
+IsTeardown message = IsOfMethod (codes "TEARDOWN") message
+
+abbrev pub IsPause : List ℕ → Type 0
+IsPause message = IsOfMethod (codes "PAUSE") message
+
+-- a TEARDOWN is heard
+abbrev pub IsTeardownHeard : Happening → Type 0
+IsTeardownHeard (Message message ask) = IsTeardown message
+IsTeardownHeard (Admission place start) = ⊥
+IsTeardownHeard (Overflow place slot booked asked) = ⊥
+IsTeardownHeard (Full entries live) = ⊥
+IsTeardownHeard (Halt place) = ⊥
+IsTeardownHeard (Look place now at booked) = ⊥
+IsTeardownHeard (Offer note) = ⊥
+IsTeardownHeard (Slot slot) = ⊥
+IsTeardownHeard Sending = ⊥
+
+abbrev pub HasTeardown : List Happening → Type 0
+HasTeardown [] = ⊥
+HasTeardown (happening ∷ rest) = IsTeardownHeard happening ⊎ HasTeardown rest
+
+-- a reply of 200 that names the session (RFC 2326 section 12.37)
+pub record IsSessionTold (sequence : ℕ) (id text : List ℕ) : Type 0 where
+  pub fields : List Field
+  pub text_is : text ≡ reply_text 200 (Some sequence) fields []
+  pub session : value_named (codes "Session") fields ≡ Some id
+
+-- a play that is sent is halted, and no other halt is asked for
+abbrev pub HaltsPlay : Stage → Ask → Type 0
+HaltsPlay InitStage ask = ask ≡ Reply
+HaltsPlay ReadyStage ask = ask ≡ Reply
+HaltsPlay PlayingStage ask = (keep : ℕ) × (ask ≡ AskHalt keep)
+
+-- the session is over once its reply was sent, after the halt
+abbrev pub EndsSession : Ask → Standing → Type 0
+EndsSession Reply new = (sent_reply new).torn ≡ true
+EndsSession (AskPlay plan) new = ⊥
+EndsSession (AskHalt keep) new = (place : ℕ) → (sent_reply (after_halt new place)).torn ≡ true
+EndsSession (AskLook slot) new = ⊥
+EndsSession (AskOffer plan offers) new = ⊥
+
+pub record IsTornDown (old : Standing) (ask : Ask) (new : Standing) : Type 0 where
+  pub sequence : ℕ
+  pub told : IsSessionTold sequence old.id new.text
+  pub halts : HaltsPlay (stage_of old.state) ask
+  pub ends : EndsSession ask new
+
+-- a play is halted, and once the reply was sent the session is Ready with what the halt leaves of
+-- its run
+pub record IsPausedPlay (old : Standing) (ask : Ask) (new : Standing) : Type 0 where
+  pub setup : Setup
+  pub play : Played
+  pub stored : Stored
+  pub keep : ℕ
+  pub last : Option ℕ
+  pub left : Run
+  pub sequence : ℕ
+  pub playing : old.state ≡ Playing setup play
+  pub command : ask ≡ AskHalt keep
+  pub told : IsSessionTold sequence old.id new.text
+  pub at : IsFilmAt old.films setup.film stored
+  pub last_is : slots_through last ≡ play.pacer.passed
+  pub left_is : IsLeft (stored_sizes stored)
+      (playback_of stored.film old.settings setup) play.run play.plan last keep left
+  pub state : (place : ℕ) → (sent_reply (after_halt new place)).state ≡ Ready setup (Some left)
