@@ -1,3 +1,5 @@
+//! Booking, releasing and looking for room, segment by segment.
+
 ghost use Rattle.std.specs.Prelude.{◌≡◌, ◌≢◌, ◌+◌, ◌*◌, ◌/◌, ◌^◌, ◌<◌, ◌≤◌, [], ◌∷◌, ℕ};
 ghost use Rattle.std.specs.Prelude.{MatchOption};
 ghost use Rattle.plan_cert.specs.Slots.{total_slots};

@@ -1,3 +1,5 @@
+//! Laws of what plays send and book.
+
 ghost use Rattle.std.specs.Prelude.{◌≡◌, ◌+◌, ◌-◌, ◌<◌, ◌≤◌, ◌++◌, ◌∷◌, ℕ, List, min, slice_index};
 ghost use Rattle.std.specs.Prelude.{sum_by};
 ghost use Rattle.std.specs.List.{range_with_len};

@@ -1,3 +1,5 @@
+//! The capacity of a link over its slots.
+
 ghost use Rattle.std.specs.Prelude.{◌≡◌, ◌+◌, ◌^◌, ◌-◌, ◌<◌, ◌≤◌, ◌↔◌, ℕ, [], ◌∷◌, length, IsTrue};
 ghost use Rattle.std.specs.Prelude.{IfOk};
 ghost use Rattle.slot_calendar.specs.Profiles.{AreAscending, AreSmall, IsProfile, IsCapacity};

@@ -1,3 +1,5 @@
+//! The totals of the slots, with the greatest of each block.
+
 ghost use Rattle.std.specs.Prelude.{◌≡◌, ◌≢◌, ◌+◌, ◌-◌, ◌*◌, ◌/◌, ◌^◌, ◌<◌, ◌≤◌, ℕ, None, Some};
 ghost use Rattle.std.specs.Prelude.{length, IfOk};
 ghost use Rattle.slot_calendar.specs.Rings.{AreZeros, IsGreatest, IsTopped, total_of};

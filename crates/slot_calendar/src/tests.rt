@@ -83,6 +83,45 @@ fn cut(rt: &impl Abort, calendar: &mut Calendar, start: u64, plan: &Plan, keep: 
     calendar.release(start, plan, keep);
 }
 
+fn profile_of(rt: &impl Abort, alloc: Global, pairs: &[(u64, u64)]) -> Result<Profile, AllocError> {
+    let steps = steps_of(alloc, pairs)?;
+    assert!(rt; Profile::is_allowed(steps.as_slice()));
+    Ok(Profile::new(steps))
+}
+
+fn advance(rt: &impl Abort, calendar: &mut Calendar, now: u64) {
+    assert!(rt; calendar.now() <= now && now <= 1 << 62);
+    calendar.advance(now);
+}
+
+fn booked(rt: &impl Abort, calendar: &Calendar, slot: u64) -> u64 {
+    assert!(rt; calendar.now() <= slot);
+    calendar.booked_bytes(slot)
+}
+
+fn ask(
+    rt: &impl Abort,
+    alloc: Global,
+    calendar: &mut Calendar,
+    row: Row<'_>,
+) -> Result<(), AllocError> {
+    match row {
+        Row::Play(start, pairs, want) => {
+            let over = play(rt, calendar, start, &plan_of(rt, alloc, pairs)?);
+            let told = over.map(|over| (over.slot, over.booked, over.asked));
+            assert_eq!(rt; told, want, "a play at {start}");
+        }
+        Row::Cut(start, pairs, keep) => {
+            cut(rt, calendar, start, &plan_of(rt, alloc, pairs)?, keep);
+        }
+        Row::Advance(now) => advance(rt, calendar, now),
+        Row::Booked(slot, want) => {
+            assert_eq!(rt; booked(rt, calendar, slot), want, "slot {slot}");
+        }
+    }
+    Ok(())
+}
+
 // Asks a calendar of this capacity in turn.
 fn run(
     rt: &impl Abort,
@@ -90,36 +129,16 @@ fn run(
     capacity: &[(u64, u64)],
     rows: &[Row<'_>],
 ) -> Result<(), Fail> {
-    let steps = steps_of(alloc, capacity)?;
-    assert!(rt; Profile::is_allowed(steps.as_slice()));
-    let mut calendar = Calendar::new(alloc, Profile::new(steps))?;
+    let mut calendar = Calendar::new(alloc, profile_of(rt, alloc, capacity)?)?;
     assert_eq!(rt; calendar.profile().steps().len(), capacity.len());
-    for (index, row) in rows.iter().enumerate() {
-        match *row {
-            Row::Play(start, pairs, want) => {
-                let over = play(rt, &mut calendar, start, &plan_of(rt, alloc, pairs)?);
-                let told = over.map(|over| (over.slot, over.booked, over.asked));
-                assert_eq!(rt; told, want, "row {index}");
-            }
-            Row::Cut(start, pairs, keep) => {
-                cut(rt, &mut calendar, start, &plan_of(rt, alloc, pairs)?, keep);
-            }
-            Row::Advance(now) => {
-                assert!(rt; calendar.now() <= now && now <= 1 << 62);
-                calendar.advance(now);
-            }
-            Row::Booked(slot, want) => {
-                assert!(rt; calendar.now() <= slot);
-                assert_eq!(rt; calendar.booked_bytes(slot), want, "row {index}");
-            }
-        }
+    for row in rows {
+        ask(rt, alloc, &mut calendar, *row)?;
     }
     Ok(())
 }
 
 #[test]
 fn knows_profiles(rt: HostRuntime) -> Result<(), Fail> {
-    let alloc = rt.alloc();
     let rows: [(&[(u64, u64)], bool); 8] = [
         (&[], false),
         (&[(0, 0)], true),
@@ -131,35 +150,49 @@ fn knows_profiles(rt: HostRuntime) -> Result<(), Fail> {
         (&[(0, 1), (2, 4_398_046_511_105)], false),
     ];
     for (pairs, want) in rows {
-        let steps = steps_of(alloc, pairs)?;
+        let steps = steps_of(rt.alloc(), pairs)?;
         assert_eq!(rt; Profile::is_allowed(steps.as_slice()), want, "{steps:?}");
     }
-    let mut many = steps_of(alloc, &[(0, 5), (3, 3), (10, 7), (11, 0)])?;
-    for from in 12..72 {
-        many.push(CapStep { from, bytes: 1 })?;
-    }
-    assert!(rt; Profile::is_allowed(many.as_slice()));
-    many.push(CapStep { from: 72, bytes: 1 })?;
-    assert!(rt; !Profile::is_allowed(many.as_slice()));
-    many.truncate(4);
-    assert!(rt; Profile::is_allowed(many.as_slice()));
-    let profile = Profile::new(many);
-    for (slot, want) in [(0, 5), (2, 5), (3, 3), (9, 3), (10, 7), (u64::MAX, 0)] {
-        assert_eq!(rt; profile.at(slot), want, "slot {slot}");
-    }
-    assert_eq!(rt; Profile::flat(alloc, 8)?.at(u64::MAX), 8);
     Ok(())
 }
 
-// A capacity of 5, and of 3 from slot 3 on. The plan of 7 bytes sends 2, 2 and 3.
+// A profile has at most 64 steps.
 #[test]
-fn books_and_cuts(rt: HostRuntime) -> Result<(), Fail> {
+fn counts_steps(rt: HostRuntime) -> Result<(), Fail> {
+    let mut many = steps_of(rt.alloc(), &[])?;
+    for from in 0..64 {
+        many.push(CapStep { from, bytes: 1 })?;
+        assert!(rt; Profile::is_allowed(many.as_slice()));
+    }
+    many.push(CapStep { from: 64, bytes: 1 })?;
+    assert!(rt; !Profile::is_allowed(many.as_slice()));
+    Ok(())
+}
+
+#[test]
+fn tells_capacities(rt: HostRuntime) -> Result<(), Fail> {
+    let profile = profile_of(&rt, rt.alloc(), &[(0, 5), (3, 3), (10, 7), (11, 0)])?;
+    for (slot, want) in [(0, 5), (2, 5), (3, 3), (9, 3), (10, 7), (u64::MAX, 0)] {
+        assert_eq!(rt; profile.at(slot), want, "slot {slot}");
+    }
+    assert_eq!(rt; Profile::flat(rt.alloc(), 8)?.at(u64::MAX), 8);
+    Ok(())
+}
+
+// The laws are calls.
+#[test]
+fn states_laws(_rt: HostRuntime) {
     law_sending();
     law_capacity();
     law_release();
     law_room();
     law_shares();
     law_one_overflow();
+}
+
+// A capacity of 5, and of 3 from slot 3 on. The plan of 7 bytes sends 2, 2 and 3.
+#[test]
+fn books_and_cuts(rt: HostRuntime) -> Result<(), Fail> {
     let plan: &[(u64, u64)] = &[(3, 7)];
     let rows = [
         Row::Play(1, plan, None),
