@@ -1,3 +1,5 @@
+//! Blanks around a text.
+
 ghost use Rattle.std.specs.Prelude.{◌≡◌, reverse};
 ghost use Rattle.vod_base.specs.Blanks.{is_blank, without_front_blanks, without_blanks};
 

@@ -1,3 +1,5 @@
+//! What a library of files must give.
+
 ghost use Rattle.std.specs.Prelude.{◌≡◌, ◌≤◌, ℕ, List, Option, Some, length, option_map, IfOk};
 ghost use Rattle.std.specs.Prelude.{OnErr};
 ghost use Rattle.vod_base.specs.Outside.{File, HasRisen, file_named, bytes_named, IsRead};

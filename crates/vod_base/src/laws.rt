@@ -1,3 +1,5 @@
+//! Laws of the definitions, in their own words.
+
 ghost use Rattle.std.specs.Prelude.{◌≡◌, ◌≢◌, ◌+◌, ◌-◌, ◌<◌, ◌^◌, ◌++◌, ◌∷◌, ◌↔◌, ℕ, true, List};
 ghost use Rattle.std.specs.Prelude.{All, Contains, None, Some, codes, decimal, length, replicate};
 ghost use Rattle.std.specs.Prelude.{slice_index};

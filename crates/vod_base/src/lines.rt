@@ -1,3 +1,5 @@
+//! Where a line ends.
+
 ghost use Rattle.std.specs.Prelude.{◌≡◌, ◌≤◌, length, IfSome, IfNone};
 ghost use Rattle.vod_base.specs.Lines.{IsLine, HasNoLine};
 

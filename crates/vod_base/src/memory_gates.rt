@@ -1,3 +1,5 @@
+//! A gate in memory.
+
 ghost use Rattle.std.specs.Prelude.{◌≡◌, ◌-◌, ◌↔◌, ◌||◌, false, Some, None, [], if◌then◌else◌};
 ghost use Rattle.std.specs.Prelude.{nat_lt, map, IfSome, IfOk, IsNone, OnOk, OnErr, is_err};
 ghost use Rattle.std.specs.Prelude.{vec_len};
@@ -26,7 +28,7 @@ pub struct MemoryPart {
 }
 
 /// The most parts.
-const MOST_PARTS: usize = 256;
+const MAX_PARTS: usize = 256;
 
 /// A gate in memory, whose parts give links in memory.
 ///
@@ -91,7 +93,7 @@ impl MemoryGate {
               faults = 0;
             }) }
     {
-        let room = Vec::with_capacity(alloc, MOST_PARTS)?;
+        let room = Vec::with_capacity(alloc, MAX_PARTS)?;
         Ok(MemoryGate {
             alloc,
             opening: None,

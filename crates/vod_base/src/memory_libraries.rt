@@ -1,3 +1,5 @@
+//! A library in memory.
+
 ghost use Rattle.std.specs.Prelude.{◌≡◌, ◌≤◌, ℕ, List, Option, Some, length, map, option_map};
 ghost use Rattle.std.specs.Prelude.{string_bytes, if◌then◌else◌, IfOk, OnOk, OnErr, is_err};
 ghost use Rattle.vod_base.specs.Outside.{File, HasRisen, file_named, bytes_named, IsRead};

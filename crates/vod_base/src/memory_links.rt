@@ -1,3 +1,5 @@
+//! A link in memory.
+
 ghost use Rattle.std.specs.Prelude.{◌≡◌, ◌+◌, ◌<◌, ◌≤◌, ◌++◌, ◌∷◌, [], ◌||◌, length, map, nat_lt};
 ghost use Rattle.std.specs.Prelude.{vec_len, vec_capacity, IfOk, OnOk, OnErr, is_err};
 ghost use Rattle.vod_base.specs.Links.{Sent, doing_of, IsWithin, sends};

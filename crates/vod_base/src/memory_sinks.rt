@@ -1,3 +1,5 @@
+//! A sink in memory.
+
 ghost use Rattle.std.specs.Prelude.{◌≡◌, ◌+◌, ◌<◌, ◌++◌, ◌||◌, [], length, nat_lt, if◌then◌else◌};
 ghost use Rattle.std.specs.Prelude.{IfOk, is_err};
 ghost use Rattle.vod_base.specs.Memory.{SinkState, one_more, fails};

@@ -1,3 +1,5 @@
+//! Decimal numbers.
+
 ghost use Rattle.std.specs.Prelude.{◌≡◌, ◌^◌, ◌<◌, ◌≤◌, true, false, length, take, slice_index};
 ghost use Rattle.std.specs.Prelude.{IfErr, IfSome, IfNone};
 ghost use Rattle.std.specs.List.{list_all};
@@ -47,8 +49,8 @@ fn first_other(text: &[u8]) -> Option<usize>
     None
 }
 
-#[tactic(auto, using(crate::proofs::Digits::digit_steps))]
 /// The value of the digits of `text`, or None where it is 2^64 or more.
+#[tactic(auto, using(crate::proofs::Digits::digit_steps))]
 fn value_of(text: &[u8]) -> Option<u64>
     requires { list_all is_ascii_digit text.now ≡ true }
     ensures value { IfSome result (λ value. value ≡ digits_value 10 text.now) }

@@ -1,3 +1,5 @@
+//! What a sink must keep.
+
 ghost use Rattle.std.specs.Prelude.{◌≡◌, ◌≤◌, ℕ, List, Option, OnOk, OnErr};
 ghost use Rattle.vod_base.specs.Outside.{HasRisen, more, IsFrontMore};
 

@@ -1,3 +1,5 @@
+//! The links that a part of a gate in memory gives and gets back.
+
 ghost use Rattle.std.specs.Prelude.{◌≤◌, vec_len};
 
 use crate::memory_links::MemoryLink;
