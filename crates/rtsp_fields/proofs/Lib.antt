@@ -14,3 +14,6 @@ pub mod ClockTexts
 pub mod TransportTexts
 pub mod TransportDefaults
 pub mod SessionTexts
+pub mod RangeTexts
+pub mod TransportOrder
+pub mod Fractions

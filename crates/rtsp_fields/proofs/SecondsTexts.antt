@@ -57,31 +57,41 @@ digit_not_point w k all inside = λ point.
     let wrong : true ≡ false = sym all ∙ list_all_at is_ascii_digit w k 0 inside other in
     cc
 
--- digits, a point and three digits are a time
-time_of : (w : List ℕ) (n a b c : ℕ) → IsDigits 9 w n → a < 10 → b < 10 → c < 10 →
-    IsTime (w ++ 46 ∷ three_digits a b c) (n * 1000000000 + (a * 100 + b * 10 + c) * 1000000)
-time_of w n a b c d ha hb hc =
-    let text = w ++ 46 ∷ three_digits a b c in
-    let size : length text ≡ length w + (length (three_digits a b c) + 1) = length-append w (46 ∷ three_digits a b c) ∙ omega arith in
-    let digits : list_all is_ascii_digit w ≡ true = (and_parts (nat_lt 0 (length w)) (list_all is_ascii_digit w) d.decimal).1 in
-    let rest : drop (length w + 1) text ≡ three_digits a b c =
-    ap (drop (length w + 1)) (sym (append_assoc w (46 ∷ []) (three_digits a b c))) ∙ drop_at (w ++ 46 ∷ []) (three_digits a b c) (length w + 1) (length-append w (46 ∷ [])) in
-    let whole : slice_range text (length w + 1) (length text) ≡ three_digits a b c =
-    ap (λ (xs : List ℕ). take (length text - (length w + 1)) xs) rest ∙ take_all (length text - (length w + 1)) (three_digits a b c) (omega (arith, size)) in
+-- digits, a point and a fraction are a time
+pub time_of : (w : List ℕ) (n : ℕ) (digits : List ℕ) (part : ℕ) → IsDigits 9 w n → IsFraction digits part → IsTime (w ++ 46 ∷ digits) (n * 1000000000 + part)
+time_of w n digits part d is_part =
+    let text = w ++ 46 ∷ digits in
+    let size : length text ≡ length w + (length digits + 1) = length-append w (46 ∷ digits) ∙ omega arith in
+    let all : list_all is_ascii_digit w ≡ true = (and_parts (nat_lt 0 (length w)) (list_all is_ascii_digit w) d.decimal).1 in
+    let rest : drop (length w + 1) text ≡ digits =
+    ap (drop (length w + 1)) (sym (append_assoc w (46 ∷ []) digits)) ∙ drop_at (w ++ 46 ∷ []) digits (length w + 1) (length-append w (46 ∷ [])) in
+    let whole : slice_range text (length w + 1) (length text) ≡ digits =
+    ap (λ (xs : List ℕ). take (length text - (length w + 1)) xs) rest ∙ take_all (length text - (length w + 1)) digits (omega (arith, size)) in
     record {
       point = length w;
       point_is = record {
         after = omega arith;
         within = omega (arith, size);
-        none = λ k from below point. digit_not_point w k digits below (sym (get_or_append_left w (46 ∷ three_digits a b c) 0 k below) ∙ point);
-        ends = λ inside. get_or-append_right w (46 ∷ three_digits a b c) (length w) (length w) 0 refl (omega arith)
-            ∙ ap (λ k. get_or (46 ∷ three_digits a b c) k 0) (let zero : length w - length w ≡ 0 = omega arith in zero);
+        none = λ k from below point. digit_not_point w k all below (sym (get_or_append_left w (46 ∷ digits) 0 k below) ∙ point);
+        ends = λ inside. get_or-append_right w (46 ∷ digits) (length w) (length w) 0 refl (omega arith)
+            ∙ ap (λ k. get_or (46 ∷ digits) k 0) (let zero : length w - length w ≡ 0 = omega arith in zero);
       };
       seconds = n;
-      fraction = (a * 100 + b * 10 + c) * 1000000;
-      whole = inl (subst (λ (t : List ℕ). IsDigits 9 t n) (sym (take_at w (46 ∷ three_digits a b c) (length w) refl)) d);
-      part = inr (omega (arith, size), subst (λ (t : List ℕ). IsFraction t ((a * 100 + b * 10 + c) * 1000000)) (sym whole) (three_fraction a b c ha hb hc));
+      fraction = part;
+      whole = inl (subst (λ (t : List ℕ). IsDigits 9 t n) (sym (take_at w (46 ∷ digits) (length w) refl)) d);
+      part = inr (omega (arith, size), subst (λ (t : List ℕ). IsFraction t part) (sym whole) is_part);
       nanoseconds_are = refl;
+    }
+
+-- a number of seconds
+pub seconds_digits : (n : ℕ) → n < 10 ^ 9 → IsDigits 9 (decimal n) n
+seconds_digits n below =
+    let fits : n < 2 ^ 64 = omega (arith, below) in
+    let w = decimal n in
+    record {
+      decimal = and_from (nat_lt 0 (length w)) (list_all is_ascii_digit w) (lt-ltb 0 (length w) (decimal_nonempty n fits)) (digits_decimal own n fits);
+      short = length-decimal-le 9 n (omega arith) below fits;
+      value = sym (digits_value-decimal own n fits);
     }
 
 -- the text by its digits
@@ -92,15 +102,11 @@ seconds_text-is ms =
 
 pub seconds_read : (ms : ℕ) → ms < 10 ^ 12 → IsTime (seconds_text ms) (ms * 1000000)
 seconds_read ms small =
-    let below : ms / 1000 < 10 ^ 9 = omega (arith, small) in
-    let fits : ms / 1000 < 2 ^ 64 = omega (arith, below) in
-    let w = decimal (ms / 1000) in
-    let d : IsDigits 9 w (ms / 1000) = record {
-      decimal = and_from (nat_lt 0 (length w)) (list_all is_ascii_digit w) (lt-ltb 0 (length w) (decimal_nonempty (ms / 1000) fits)) (digits_decimal own (ms / 1000) fits);
-      short = length-decimal-le 9 (ms / 1000) (omega arith) below fits;
-      value = sym (digits_value-decimal own (ms / 1000) fits);
-    } in
-    let time = time_of w (ms / 1000) (ms / 100 % 10) (ms / 10 % 10) (ms % 10) d (omega arith) (omega arith) (omega arith) in
-    let same : ms / 1000 * 1000000000 + (ms / 100 % 10 * 100 + ms / 10 % 10 * 10 + ms % 10) * 1000000 ≡ ms * 1000000 = omega arith in
+    let d = seconds_digits (ms / 1000) (omega (arith, small)) in
+    let a = ms / 100 % 10 in
+    let b = ms / 10 % 10 in
+    let c = ms % 10 in
+    let time = time_of (decimal (ms / 1000)) (ms / 1000) (three_digits a b c) ((a * 100 + b * 10 + c) * 1000000) d (three_fraction a b c (omega arith) (omega arith) (omega arith)) in
+    let same : ms / 1000 * 1000000000 + (a * 100 + b * 10 + c) * 1000000 ≡ ms * 1000000 = omega arith in
     subst (λ (t : List ℕ). IsTime t (ms * 1000000)) (sym (seconds_text-is ms))
-    (subst (λ (v : ℕ). IsTime (w ++ 46 ∷ three_digits (ms / 100 % 10) (ms / 10 % 10) (ms % 10)) v) same time)
+    (subst (λ (v : ℕ). IsTime (decimal (ms / 1000) ++ 46 ∷ three_digits a b c) v) same time)

@@ -14,6 +14,7 @@ use Rattle.vod_base.proofs.Written.{written_read}
 use Rattle.rtsp_fields.specs.Pieces.{HasNone, IsStart, IsEnd, IsPiece, NoPiece, NoneBefore, Begins, lower}
 use Rattle.rtsp_fields.specs.Transports.{IsPair, AreChannels, IsOther, NamesChannels, AreNamed, IsTaken, IsTransport, word, after_name}
 use Rattle.rtsp_fields.specs.Values.{IsWithin}
+use Rattle.rtsp_fields.specs.declared.transports.Channels.{Channels}
 use Rattle.rtsp_fields.proofs.Digits.{own}
 
 -- ---- a text that a separator cuts: its first piece, and those of the rest
@@ -35,12 +36,12 @@ later_of c a rest k =
     ap (λ n. get_or (a ++ c ∷ rest) n 0) (let e : length a + 1 + k ≡ length a + suc k = omega arith in e)
     ∙ get_or-append-add a (c ∷ rest) (suc k) 0
 
-long_of : (c : ℕ) (a rest : List ℕ) → length (text_of c a rest) ≡ length a + 1 + length rest
+pub long_of : (c : ℕ) (a rest : List ℕ) → length (text_of c a rest) ≡ length a + 1 + length rest
 unfolding text_of
 long_of c a rest = length-append a (c ∷ rest) ∙ omega arith
 
 -- a piece of the rest is one of the text
-piece_later : (c : ℕ) (a rest : List ℕ) (k end : ℕ) → IsPiece c rest k end → IsPiece c (text_of c a rest) (length a + 1 + k) (length a + 1 + end)
+pub piece_later : (c : ℕ) (a rest : List ℕ) (k end : ℕ) → IsPiece c rest k end → IsPiece c (text_of c a rest) (length a + 1 + k) (length a + 1 + end)
 piece_later c a rest k end p = record {
   start = inr (omega arith, start p.start);
   end = record {
@@ -144,7 +145,7 @@ pub slice_first : (c : ℕ) (a rest : List ℕ) → slice_range (text_of c a res
 unfolding text_of
 slice_first c a rest = take_at a (c ∷ rest) (length a - 0) (omega arith)
 
-slice_later : (c : ℕ) (a rest : List ℕ) (k end : ℕ) → k ≤ end → slice_range (text_of c a rest) (length a + 1 + k) (length a + 1 + end) ≡ slice_range rest k end
+pub slice_later : (c : ℕ) (a rest : List ℕ) (k end : ℕ) → k ≤ end → slice_range (text_of c a rest) (length a + 1 + k) (length a + 1 + end) ≡ slice_range rest k end
 unfolding text_of
 slice_later c a rest k end order =
     let cut : drop (length a + 1 + k) (a ++ c ∷ rest) ≡ drop k rest = dropped a rest k in
@@ -171,22 +172,29 @@ none_more c a rest P none first more = λ k end p. go k end p (piece_cases c a r
         let E : ℕ → Type 0 = λ n. P (slice_range (text_of c a rest) (length a + 1 + l.from) n) in
         more l.from l.to l.piece (subst P (slice_later c a rest l.from l.to l.piece.end.after) (subst E l.to_is (subst S l.from_is is)))
 
-pub none_whole : (c : ℕ) (a : List ℕ) (P : List ℕ → Type 0) → HasNone c a 0 (length a) → ¬ P a → NoPiece c a P
-none_whole c a P none other = λ k end p. go k end p p.start
+-- the piece of a text without the separator is the whole text
+pub piece_is_whole : (c : ℕ) (a : List ℕ) (k end : ℕ) → HasNone c a 0 (length a) → IsPiece c a k end → (k ≡ 0) × (end ≡ length a)
+piece_is_whole c a k end none p = go p.start
   where
-    go : (k end : ℕ) → IsPiece c a k end → IsStart c a k → ¬ P (slice_range a k end)
-    go k end p (inr e) = λ is. none (k - 1) (omega arith) (omega (arith, e.0, p.end.after, p.end.within)) e.1
-    go k end p (inl e) = λ is.
-        let last : end ≡ length a = elim (cases_lt end (length a)) [
-          | inl inside ↦ absurd (none end (omega arith) inside (p.end.ends inside))
-          | inr least ↦ omega (arith, least, p.end.within)
-        ] in
-        let S : ℕ → Type 0 = λ n. P (slice_range a n end) in
-        let E : ℕ → Type 0 = λ n. P (slice_range a 0 n) in
-        let whole : slice_range a 0 (length a) ≡ a = take_all (length a - 0) a (omega arith) in
-        other (subst P whole (subst E last (subst S e is)))
+    go : IsStart c a k → (k ≡ 0) × (end ≡ length a)
+    go (inr e) = absurd (none (k - 1) (omega arith) (omega (arith, e.0, p.end.after, p.end.within)) e.1)
+    go (inl e) = (
+      e,
+      elim (cases_lt end (length a)) [
+        | inl inside ↦ absurd (none end (omega arith) inside (p.end.ends inside))
+        | inr least ↦ omega (arith, least, p.end.within)
+      ],
+    )
 
-none_before : (c : ℕ) (a rest : List ℕ) (at : ℕ) (P : List ℕ → Type 0) → HasNone c a 0 (length a) → ¬ P a → NoneBefore c rest at P → NoneBefore c (text_of c a rest) (length a + 1 + at) P
+pub whole_slice : (c : ℕ) (a : List ℕ) (k end : ℕ) → HasNone c a 0 (length a) → IsPiece c a k end → slice_range a k end ≡ a
+whole_slice c a k end none p =
+    let is = piece_is_whole c a k end none p in
+    ap (λ n. slice_range a n end) is.0 ∙ ap (λ n. slice_range a 0 n) is.1 ∙ take_all (length a - 0) a (omega arith)
+
+pub none_whole : (c : ℕ) (a : List ℕ) (P : List ℕ → Type 0) → HasNone c a 0 (length a) → ¬ P a → NoPiece c a P
+none_whole c a P none other = λ k end p is. other (subst P (whole_slice c a k end none p) is)
+
+pub none_before : (c : ℕ) (a rest : List ℕ) (at : ℕ) (P : List ℕ → Type 0) → HasNone c a 0 (length a) → ¬ P a → NoneBefore c rest at P → NoneBefore c (text_of c a rest) (length a + 1 + at) P
 none_before c a rest at P none first more = λ k end below p. go k end below (piece_cases c a rest k end none p)
   where
     go : (k end : ℕ) → k < length a + 1 + at → ((k ≡ 0) × (end ≡ length a)) ⊎ Later c a rest k end → ¬ P (slice_range (text_of c a rest) k end)
@@ -215,7 +223,7 @@ digit_other : (c b : ℕ) → is_ascii_digit c ≡ false → is_ascii_digit b �
 unfolding other_than
 digit_other c b no_digit digit = grind arith
 
-digits_other : (c : ℕ) (ds : List ℕ) → is_ascii_digit c ≡ false → list_all is_ascii_digit ds ≡ true → list_all (other_than c) ds ≡ true
+pub digits_other : (c : ℕ) (ds : List ℕ) → is_ascii_digit c ≡ false → list_all is_ascii_digit ds ≡ true → list_all (other_than c) ds ≡ true
 digits_other c [] no_digit all = refl
 digits_other c (d ∷ ds) no_digit all =
     let parts = and_parts (is_ascii_digit d) (list_all is_ascii_digit ds) all in
@@ -235,7 +243,7 @@ bare text some first last =
     ∙ ap reverse (bare_front (reverse text) (omega (arith, some, length-reverse text)) (ap is_blank back ∙ last))
     ∙ reverse-reverse text
 
-digit_at : (text : List ℕ) (k : ℕ) → list_all is_ascii_digit text ≡ true → k < length text → is_ascii_digit (get_or text k 0) ≡ true
+pub digit_at : (text : List ℕ) (k : ℕ) → list_all is_ascii_digit text ≡ true → k < length text → is_ascii_digit (get_or text k 0) ≡ true
 digit_at text k all inside = grind (arith, common_steps, list_all_at)
 
 digit_blank : (b : ℕ) → is_ascii_digit b ≡ true → is_blank b ≡ false
@@ -243,41 +251,32 @@ digit_blank b digit = grind arith
 
 -- ---- the value
 
-numbers : ℕ → ℕ → List ℕ
-numbers media control = text_of 45 (decimal media) (decimal control)
+-- what stands after `interleaved=`: numbers of these channels, with neither `;` nor `,` nor a blank at the end
+record AreWritten (numbers : List ℕ) (channels : Channels) : Type 0 where
+  no_semicolon : list_all (other_than 59) numbers ≡ true
+  no_comma : list_all (other_than 44) numbers ≡ true
+  some : 0 < length numbers
+  no_blank : is_blank (get_or numbers (length numbers - 1) 0) ≡ false
+  are : AreChannels numbers channels
 
-named : ℕ → ℕ → List ℕ
-named media control = codes "interleaved=" ++ numbers media control
+named : List ℕ → List ℕ
+named numbers = codes "interleaved=" ++ numbers
 
-value : ℕ → ℕ → List ℕ
-value media control = text_of 59 (codes "RTP/AVP/TCP") (text_of 59 (codes "unicast") (named media control))
-
-digits : (n : ℕ) → n ≤ 255 → list_all is_ascii_digit (decimal n) ≡ true
-digits n small = digits_decimal own n (omega (arith, small))
-
-dash_other : (c : ℕ) → c ≢ 45 → other_than c 45 ≡ true
-unfolding other_than
-dash_other c dash = grind arith
-
-all_numbers : (c m n : ℕ) → is_ascii_digit c ≡ false → c ≢ 45 → m ≤ 255 → n ≤ 255 → list_all (other_than c) (numbers m n) ≡ true
-unfolding numbers text_of
-all_numbers c m n no_digit dash small fits =
-    list_all-append (other_than c) (decimal m) (45 ∷ decimal n)
-    ∙ and_from (list_all (other_than c) (decimal m)) (list_all (other_than c) (45 ∷ decimal n)) (digits_other c (decimal m) no_digit (digits m small))
-    (and_from (other_than c 45) (list_all (other_than c) (decimal n)) (dash_other c dash) (digits_other c (decimal n) no_digit (digits n fits)))
+value : List ℕ → List ℕ
+value numbers = text_of 59 (codes "RTP/AVP/TCP") (text_of 59 (codes "unicast") (named numbers))
 
 -- no part has `;`, and the value no `,`
-named_none : (m n : ℕ) → m ≤ 255 → n ≤ 255 → HasNone 59 (named m n) 0 (length (named m n))
+named_none : (numbers : List ℕ) (channels : Channels) → AreWritten numbers channels → HasNone 59 (named numbers) 0 (length (named numbers))
 unfolding named other_than
-named_none m n small fits =
-    none_from 59 (named m n) (list_all-append (other_than 59) (codes "interleaved=") (numbers m n)
-    ∙ and_from (list_all (other_than 59) (codes "interleaved=")) (list_all (other_than 59) (numbers m n)) refl (all_numbers 59 m n refl (omega arith) small fits))
+named_none numbers channels w =
+    none_from 59 (named numbers) (list_all-append (other_than 59) (codes "interleaved=") numbers
+    ∙ and_from (list_all (other_than 59) (codes "interleaved=")) (list_all (other_than 59) numbers) refl w.no_semicolon)
 
-value_none : (m n : ℕ) → m ≤ 255 → n ≤ 255 → HasNone 44 (value m n) 0 (length (value m n))
+value_none : (numbers : List ℕ) (channels : Channels) → AreWritten numbers channels → HasNone 44 (value numbers) 0 (length (value numbers))
 unfolding value named text_of other_than
-value_none m n small fits =
-    none_from 44 (value m n) (list_all-append (other_than 44) (codes "RTP/AVP/TCP;unicast;interleaved=") (numbers m n)
-    ∙ and_from (list_all (other_than 44) (codes "RTP/AVP/TCP;unicast;interleaved=")) (list_all (other_than 44) (numbers m n)) refl (all_numbers 44 m n refl (omega arith) small fits))
+value_none numbers channels w =
+    none_from 44 (value numbers) (list_all-append (other_than 44) (codes "RTP/AVP/TCP;unicast;interleaved=") numbers
+    ∙ and_from (list_all (other_than 44) (codes "RTP/AVP/TCP;unicast;interleaved=")) (list_all (other_than 44) numbers) refl w.no_comma)
 
 pub protocol_none : HasNone 59 (codes "RTP/AVP/TCP") 0 (length (codes "RTP/AVP/TCP"))
 unfolding other_than
@@ -307,51 +306,132 @@ names_none part c is other = λ names. other (sym is ∙ begins (word part) name
     begins (x ∷ text) b = ap (λ (l : List ℕ). get_or l 0 0) b
 
 -- the part with the channels has no blanks around it
-named_some : (m n : ℕ) → 0 < length (named m n)
+named_long : (numbers : List ℕ) → length (named numbers) ≡ 12 + length numbers
 unfolding named
-named_some m n = omega (arith, length-append (codes "interleaved=") (numbers m n))
+named_long numbers = length-append (codes "interleaved=") numbers
 
-named_first : (m n : ℕ) → is_blank (get_or (named m n) 0 0) ≡ false
+named_first : (numbers : List ℕ) → is_blank (get_or (named numbers) 0 0) ≡ false
 unfolding named
-named_first m n = refl
+named_first numbers = refl
 
-last_digit : (m n : ℕ) → n ≤ 255 → is_blank (get_or (named m n) (length (named m n) - 1) 0) ≡ false
-unfolding named numbers text_of
-last_digit m n fits =
-    let front = codes "interleaved=" ++ (decimal m ++ 45 ∷ []) in
-    let some : 0 < length (decimal n) = decimal_nonempty n (omega (arith, fits)) in
-    let whole : front ++ decimal n ≡ named m n =
-    append_assoc (codes "interleaved=") (decimal m ++ 45 ∷ []) (decimal n) ∙ ap (λ l. codes "interleaved=" ++ l) (append_assoc (decimal m) (45 ∷ []) (decimal n)) in
-    let long : length (named m n) ≡ length front + length (decimal n) = ap length (sym whole) ∙ length-append front (decimal n) in
-    let place : length (named m n) - 1 ≡ length front + (length (decimal n) - 1) = omega (arith, long, some) in
-    let is : get_or (named m n) (length (named m n) - 1) 0 ≡ get_or (decimal n) (length (decimal n) - 1) 0 =
-    ap (λ k. get_or (named m n) k 0) place ∙ ap (λ (l : List ℕ). get_or l (length front + (length (decimal n) - 1)) 0) (sym whole)
-    ∙ get_or-append-add front (decimal n) (length (decimal n) - 1) 0 in
-    ap is_blank is ∙ digit_blank (get_or (decimal n) (length (decimal n) - 1) 0) (digit_at (decimal n) (length (decimal n) - 1) (digits n fits) (omega (arith, some)))
-
-named_bare : (m n : ℕ) → n ≤ 255 → without_blanks (named m n) ≡ named m n
-named_bare m n fits = bare (named m n) (named_some m n) (named_first m n) (last_digit m n fits)
-
-named_word : (m n : ℕ) → n ≤ 255 → word (named m n) ≡ lower (named m n)
-named_word m n fits = ap lower (named_bare m n fits)
-
-named_names : (m n : ℕ) → n ≤ 255 → NamesChannels (named m n)
+named_last : (numbers : List ℕ) (channels : Channels) → AreWritten numbers channels → is_blank (get_or (named numbers) (length (named numbers) - 1) 0) ≡ false
 unfolding named
-named_names m n fits = subst (λ (l : List ℕ). Begins (codes "interleaved=") l) (sym (named_word m n fits)) refl
+named_last numbers channels w =
+    let place : length (named numbers) - 1 ≡ 12 + (length numbers - 1) = omega (arith, named_long numbers, w.some) in
+    ap (λ k. is_blank (get_or (named numbers) k 0)) place
+    ∙ ap is_blank (get_or-append-add (codes "interleaved=") numbers (length numbers - 1) 0) ∙ w.no_blank
 
-named_plain : (m n : ℕ) → n ≤ 255 → ¬ IsOther (named m n)
+named_bare : (numbers : List ℕ) (channels : Channels) → AreWritten numbers channels → without_blanks (named numbers) ≡ named numbers
+named_bare numbers channels w = bare (named numbers) (omega (arith, named_long numbers)) (named_first numbers) (named_last numbers channels w)
+
+named_word : (numbers : List ℕ) (channels : Channels) → AreWritten numbers channels → word (named numbers) ≡ lower (named numbers)
+named_word numbers channels w = ap lower (named_bare numbers channels w)
+
+named_names : (numbers : List ℕ) (channels : Channels) → AreWritten numbers channels → NamesChannels (named numbers)
 unfolding named
-named_plain m n fits = first_letter (named m n) 105 (ap (λ (l : List ℕ). get_or l 0 0) (named_word m n fits)) (omega arith)
+named_names numbers channels w = subst (λ (l : List ℕ). Begins (codes "interleaved=") l) (sym (named_word numbers channels w)) refl
 
-within : (n : ℕ) → n ≤ 255 → IsWithin 0 255 (decimal n) n
-within n fits = record { is_number = written_read 0 n (omega (arith, fits)); above = omega arith; below = fits }
+named_plain : (numbers : List ℕ) (channels : Channels) → AreWritten numbers channels → ¬ IsOther (named numbers)
+unfolding named
+named_plain numbers channels w = first_letter (named numbers) 105 (ap (λ (l : List ℕ). get_or l 0 0) (named_word numbers channels w)) (omega arith)
 
-pair : (m n : ℕ) → m ≤ 255 → n ≤ 255 → m ≢ n → IsPair (numbers m n) (record { media = m; control = n })
-unfolding numbers
+after_named : (numbers : List ℕ) → after_name (named numbers) ≡ numbers
+unfolding named
+after_named numbers = take_all (length (codes "interleaved=" ++ numbers) - 12) numbers (omega (arith, named_long numbers))
+
+rest_of : List ℕ → List ℕ
+rest_of numbers = text_of 59 (codes "unicast") (named numbers)
+
+are_named : (numbers : List ℕ) (channels : Channels) → AreWritten numbers channels → AreNamed (value numbers) channels
+unfolding value rest_of
+are_named numbers channels w =
+    let I = named numbers in
+    let U = rest_of numbers in
+    let last = piece_whole 59 I (named_none numbers channels w) in
+    let middle = piece_later 59 (codes "unicast") I 0 (length I) last in
+    let to = 7 + 1 + length I in
+    let is : slice_range (value numbers) (11 + 1 + (7 + 1 + 0)) (11 + 1 + to) ≡ I =
+    slice_later 59 (codes "RTP/AVP/TCP") U (7 + 1 + 0) to (omega arith) ∙ slice_later 59 (codes "unicast") I 0 (length I) (omega arith)
+    ∙ take_all (length I - 0) I (omega arith) in
+    record {
+      from = 11 + 1 + (7 + 1 + 0);
+      to = 11 + 1 + to;
+      piece = piece_later 59 (codes "RTP/AVP/TCP") U (7 + 1 + 0) to middle;
+      names = subst NamesChannels (sym is) (named_names numbers channels w);
+      first = none_before 59 (codes "RTP/AVP/TCP") U (7 + 1 + 0) NamesChannels protocol_none (names_none (codes "RTP/AVP/TCP") 114 refl (omega arith))
+          (none_before 59 (codes "unicast") I 0 NamesChannels unicast_none (names_none (codes "unicast") 117 refl (omega arith)) (λ k end below p. absurd (omega (arith, below))));
+      are = subst (λ (t : List ℕ). AreChannels (after_name (without_blanks t)) channels) (sym is)
+          (subst (λ (t : List ℕ). AreChannels (after_name t) channels) (sym (named_bare numbers channels w))
+          (subst (λ (t : List ℕ). AreChannels t channels) (sym (after_named numbers)) w.are));
+    }
+
+taken : (numbers : List ℕ) (channels : Channels) → AreWritten numbers channels → IsTaken (value numbers) channels
+unfolding value rest_of
+taken numbers channels w = record {
+  end = 11;
+  first = piece_first 59 (codes "RTP/AVP/TCP") (rest_of numbers) protocol_none;
+  protocol = ap word (slice_first 59 (codes "RTP/AVP/TCP") (rest_of numbers));
+  plain = none_more 59 (codes "RTP/AVP/TCP") (rest_of numbers) IsOther protocol_none (first_letter (codes "RTP/AVP/TCP") 114 refl (omega arith))
+      (none_more 59 (codes "unicast") (named numbers) IsOther unicast_none (first_letter (codes "unicast") 117 refl (omega arith))
+      (none_whole 59 (named numbers) IsOther (named_none numbers channels w) (named_plain numbers channels w)));
+  has = inl (are_named numbers channels w);
+}
+
+-- one alternative that can be taken is the value's
+pub alone : (text : List ℕ) (channels : Channels) → HasNone 44 text 0 (length text) → IsTaken text channels → IsTransport text channels
+alone text channels none is =
+    let whole : slice_range text 0 (length text) ≡ text = take_all (length text - 0) text (omega arith) in
+    record {
+      from = 0;
+      to = length text;
+      piece = piece_whole 44 text none;
+      taken = subst (λ (t : List ℕ). IsTaken t channels) (sym whole) is;
+      first = λ k end below p. absurd (omega (arith, below));
+    }
+
+written_read_back : (numbers : List ℕ) (channels : Channels) → AreWritten numbers channels → IsTransport (codes "RTP/AVP/TCP;unicast;interleaved=" ++ numbers) channels
+unfolding value named text_of
+written_read_back numbers channels w = alone (value numbers) channels (value_none numbers channels w) (taken numbers channels w)
+
+-- ---- the numbers of channels
+
+digits : (n : ℕ) → n ≤ 255 → list_all is_ascii_digit (decimal n) ≡ true
+digits n small = digits_decimal own n (omega (arith, small))
+
+number_free : (c n : ℕ) → is_ascii_digit c ≡ false → n ≤ 255 → list_all (other_than c) (decimal n) ≡ true
+number_free c n no_digit small = digits_other c (decimal n) no_digit (digits n small)
+
+dash_other : (c : ℕ) → c ≢ 45 → other_than c 45 ≡ true
+unfolding other_than
+dash_other c dash = grind arith
+
+pair_free : (c m n : ℕ) → is_ascii_digit c ≡ false → c ≢ 45 → m ≤ 255 → n ≤ 255 → list_all (other_than c) (decimal m ++ 45 ∷ decimal n) ≡ true
+pair_free c m n no_digit dash small fits =
+    list_all-append (other_than c) (decimal m) (45 ∷ decimal n)
+    ∙ and_from (list_all (other_than c) (decimal m)) (list_all (other_than c) (45 ∷ decimal n)) (number_free c m no_digit small)
+    (and_from (other_than c 45) (list_all (other_than c) (decimal n)) (dash_other c dash) (number_free c n no_digit fits))
+
+number_some : (n : ℕ) → n ≤ 255 → 0 < length (decimal n)
+number_some n small = decimal_nonempty n (omega (arith, small))
+
+-- a number after other bytes ends with no blank
+last_digit : (front : List ℕ) (n : ℕ) → n ≤ 255 → is_blank (get_or (front ++ decimal n) (length (front ++ decimal n) - 1) 0) ≡ false
+last_digit front n fits =
+    let some = number_some n fits in
+    let place : length (front ++ decimal n) - 1 ≡ length front + (length (decimal n) - 1) = omega (arith, length-append front (decimal n), some) in
+    ap (λ k. is_blank (get_or (front ++ decimal n) k 0)) place
+    ∙ ap is_blank (get_or-append-add front (decimal n) (length (decimal n) - 1) 0)
+    ∙ digit_blank (get_or (decimal n) (length (decimal n) - 1) 0) (digit_at (decimal n) (length (decimal n) - 1) (digits n fits) (omega (arith, some)))
+
+within : (most n : ℕ) → n ≤ most → most ≤ 255 → IsWithin 0 most (decimal n) n
+within most n fits few = record { is_number = written_read 0 n (omega (arith, fits, few)); above = omega arith; below = fits }
+
+pair : (m n : ℕ) → m ≤ 255 → n ≤ 255 → m ≢ n → IsPair (decimal m ++ 45 ∷ decimal n) (record { media = m; control = n })
+unfolding text_of
 pair m n small fits differ =
-    let text = numbers m n in
+    let text = text_of 45 (decimal m) (decimal n) in
     let dash = length (decimal m) in
-    let none : HasNone 45 (decimal m) 0 dash = none_from 45 (decimal m) (digits_other 45 (decimal m) refl (digits m small)) in
+    let none : HasNone 45 (decimal m) 0 dash = none_from 45 (decimal m) (number_free 45 m refl small) in
     let piece = piece_first 45 (decimal m) (decimal n) none in
     let long = long_of 45 (decimal m) (decimal n) in
     let first : take dash text ≡ decimal m =
@@ -363,68 +443,32 @@ pair m n small fits differ =
       dash = dash;
       is_dash = piece.end;
       inside = omega (arith, long);
-      media = subst (λ (t : List ℕ). IsWithin 0 255 t m) (sym first) (within m small);
-      control = subst (λ (t : List ℕ). IsWithin 0 255 t n) (sym last) (within n fits);
+      media = subst (λ (t : List ℕ). IsWithin 0 255 t m) (sym first) (within 255 m small (omega arith));
+      control = subst (λ (t : List ℕ). IsWithin 0 255 t n) (sym last) (within 255 n fits (omega arith));
       differ = differ;
     }
 
-after_named : (m n : ℕ) → after_name (named m n) ≡ numbers m n
-unfolding named
-after_named m n =
-    let long : length (codes "interleaved=" ++ numbers m n) ≡ 12 + length (numbers m n) = length-append (codes "interleaved=") (numbers m n) in
-    take_all (length (codes "interleaved=" ++ numbers m n) - 12) (numbers m n) (omega (arith, long))
-
-abbrev rest_of : ℕ → ℕ → List ℕ
-rest_of m n = text_of 59 (codes "unicast") (named m n)
-
-are_named : (m n : ℕ) → m ≤ 255 → n ≤ 255 → m ≢ n → AreNamed (value m n) (record { media = m; control = n })
-unfolding value
-are_named m n small fits differ =
-    let I = named m n in
-    let U = rest_of m n in
-    let last = piece_whole 59 I (named_none m n small fits) in
-    let middle = piece_later 59 (codes "unicast") I 0 (length I) last in
-    let to = 7 + 1 + length I in
-    let is : slice_range (value m n) (11 + 1 + (7 + 1 + 0)) (11 + 1 + to) ≡ I =
-    slice_later 59 (codes "RTP/AVP/TCP") U (7 + 1 + 0) to (omega arith) ∙ slice_later 59 (codes "unicast") I 0 (length I) (omega arith)
-    ∙ take_all (length I - 0) I (omega arith) in
-    record {
-      from = 11 + 1 + (7 + 1 + 0);
-      to = 11 + 1 + to;
-      piece = piece_later 59 (codes "RTP/AVP/TCP") U (7 + 1 + 0) to middle;
-      names = subst NamesChannels (sym is) (named_names m n fits);
-      first = none_before 59 (codes "RTP/AVP/TCP") U (7 + 1 + 0) NamesChannels protocol_none (names_none (codes "RTP/AVP/TCP") 114 refl (omega arith))
-          (none_before 59 (codes "unicast") I 0 NamesChannels unicast_none (names_none (codes "unicast") 117 refl (omega arith)) (λ k end below p. absurd (omega (arith, below))));
-      are = subst (λ (t : List ℕ). AreChannels (after_name (without_blanks t)) (record { media = m; control = n })) (sym is)
-          (subst (λ (t : List ℕ). AreChannels (after_name t) (record { media = m; control = n })) (sym (named_bare m n fits))
-          (subst (λ (t : List ℕ). AreChannels t (record { media = m; control = n })) (sym (after_named m n)) (inl (pair m n small fits differ))));
-    }
-
-taken : (m n : ℕ) → m ≤ 255 → n ≤ 255 → m ≢ n → IsTaken (value m n) (record { media = m; control = n })
-unfolding value
-taken m n small fits differ = record {
-  end = 11;
-  first = piece_first 59 (codes "RTP/AVP/TCP") (rest_of m n) protocol_none;
-  protocol = ap word (slice_first 59 (codes "RTP/AVP/TCP") (rest_of m n));
-  plain = none_more 59 (codes "RTP/AVP/TCP") (rest_of m n) IsOther protocol_none (first_letter (codes "RTP/AVP/TCP") 114 refl (omega arith))
-      (none_more 59 (codes "unicast") (named m n) IsOther unicast_none (first_letter (codes "unicast") 117 refl (omega arith))
-      (none_whole 59 (named m n) IsOther (named_none m n small fits) (named_plain m n fits)));
-  has = inl (are_named m n small fits differ);
-}
-
-transport : (m n : ℕ) → m ≤ 255 → n ≤ 255 → m ≢ n → IsTransport (value m n) (record { media = m; control = n })
-transport m n small fits differ =
-    let text = value m n in
-    let whole : slice_range text 0 (length text) ≡ text = take_all (length text - 0) text (omega arith) in
-    record {
-      from = 0;
-      to = length text;
-      piece = piece_whole 44 text (value_none m n small fits);
-      taken = subst (λ (t : List ℕ). IsTaken t (record { media = m; control = n })) (sym whole) (taken m n small fits differ);
-      first = λ k end below p. absurd (omega (arith, below));
-    }
-
+-- two channels
 pub transport_read : (media control : ℕ) → media ≤ 255 → control ≤ 255 → media ≢ control →
     IsTransport (codes "RTP/AVP/TCP;unicast;interleaved=" ++ (decimal media ++ 45 ∷ decimal control)) (record { media = media; control = control })
-unfolding value named numbers text_of
-transport_read media control small fits differ = transport media control small fits differ
+transport_read m n small fits differ =
+    let whole : (decimal m ++ 45 ∷ []) ++ decimal n ≡ decimal m ++ 45 ∷ decimal n = append_assoc (decimal m) (45 ∷ []) (decimal n) in
+    written_read_back (decimal m ++ 45 ∷ decimal n) (record { media = m; control = n }) (record {
+      no_semicolon = pair_free 59 m n refl (omega arith) small fits;
+      no_comma = pair_free 44 m n refl (omega arith) small fits;
+      some = omega (arith, length-append (decimal m) (45 ∷ decimal n));
+      no_blank = subst (λ (l : List ℕ). is_blank (get_or l (length l - 1) 0) ≡ false) whole (last_digit (decimal m ++ 45 ∷ []) n fits);
+      are = inl (pair m n small fits differ);
+    })
+
+-- one channel, which means the next one too
+pub single_read : (media : ℕ) → media ≤ 254 → IsTransport (codes "RTP/AVP/TCP;unicast;interleaved=" ++ decimal media) (record { media = media; control = media + 1 })
+single_read m small =
+    let fits : m ≤ 255 = omega (arith, small) in
+    written_read_back (decimal m) (record { media = m; control = m + 1 }) (record {
+      no_semicolon = number_free 59 m refl fits;
+      no_comma = number_free 44 m refl fits;
+      some = number_some m fits;
+      no_blank = last_digit [] m fits;
+      are = inr (record { media = within 254 m small (omega arith); control = refl });
+    })

@@ -1,6 +1,6 @@
 -- What a description tells a player, in the words of RFC 4566 section 5 and RFC 2326 appendix C;
 -- parameters of a transport.
-use Rattle.std.specs.Prelude.{◌≡◌, ◌≢◌, ◌==◌, ℕ, true, not, List, [], ◌∷◌, ◌++◌, Some, codes}
+use Rattle.std.specs.Prelude.{◌≡◌, ◌≢◌, ◌==◌, ◌⊎◌, ℕ, true, not, List, [], ◌∷◌, ◌++◌, Some, codes}
 use Rattle.std.specs.Prelude.{flat_map, slice_index}
 use Rattle.std.specs.List.{list_all}
 use Rattle.vod_base.specs.Blanks.{without_blanks}
@@ -21,9 +21,10 @@ whole_line line = line ++ codes "\r\n"
 pub record IsDescription (text name : List ℕ) (end : ℕ) : Type 0 where
   pub range : List ℕ
   pub stream : List ℕ
-  pub lines : text ≡ flat_map whole_line (codes "v=0" ∷ codes "o=- 0 0 IN IP4 127.0.0.1" ∷ (codes "s="
-      ++ name) ∷ codes "c=IN IP4 0.0.0.0" ∷ codes "t=0 0" ∷ codes "a=control:*" ∷ (codes "a=range:"
-      ++ range) ∷ codes "m=video 0 RTP/AVP 32" ∷ (codes "a=control:" ++ stream) ∷ [])
+  pub lines : text ≡ flat_map whole_line (
+      codes "v=0" ∷ codes "o=- 0 0 IN IP4 127.0.0.1" ∷ (codes "s=" ++ name)
+      ∷ codes "c=IN IP4 0.0.0.0" ∷ codes "t=0 0" ∷ codes "a=control:*" ∷ (codes "a=range:" ++ range)
+      ∷ codes "m=video 0 RTP/AVP 32" ∷ (codes "a=control:" ++ stream) ∷ [])
   pub name_is : is_one_line name ≡ true
   pub range_is : is_one_line range ≡ true
   pub whole : IsSpan range (record { from = At 0; to = Some end })
@@ -37,3 +38,14 @@ pub record IsOtherParameter (part : List ℕ) : Type 0 where
   pub no_channels : slice_index (lower (without_blanks part)) 0 ≢ 105
   pub no_semicolon : list_all (λ byte. not (byte == 59)) part ≡ true
   pub no_comma : list_all (λ byte. not (byte == 44)) part ≡ true
+
+-- the text has no comma, so it is one alternative
+abbrev pub HasNoComma : List ℕ → Type 0
+HasNoComma text = list_all (λ byte. not (byte == 44)) text ≡ true
+
+-- the path of a film as it may be written: `/`, its name, and nothing, `/`, or the name of its one
+-- stream with `/` after it or not
+abbrev pub IsFilmPath : List ℕ → List ℕ → Type 0
+IsFilmPath path name =
+    (path ≡ codes "/" ++ name) ⊎ ((path ≡ codes "/" ++ name ++ codes "/")
+    ⊎ ((path ≡ codes "/" ++ name ++ codes "/video") ⊎ (path ≡ codes "/" ++ name ++ codes "/video/")))

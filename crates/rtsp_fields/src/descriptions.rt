@@ -1,3 +1,5 @@
+//! The description of a film.
+
 ghost use Rattle.std.specs.Prelude.{◌≡◌, ◌≤◌, true, length, take};
 ghost use Rattle.vod_base.specs.Names.{is_good_name};
 ghost use Rattle.rtsp_fields.specs.Descriptions.{description_text};

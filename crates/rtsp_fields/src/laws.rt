@@ -1,18 +1,21 @@
-ghost use Rattle.std.specs.Prelude.{◌≡◌, ◌≢◌, ◌+◌, ◌*◌, ◌^◌, ◌<◌, ◌≤◌, ◌∷◌, ◌++◌, ◌↔◌, ℕ};
-ghost use Rattle.std.specs.Prelude.{All, List, codes, decimal, flat_map, length, true};
-ghost use Rattle.std.specs.Char.{is_ascii_alphanumeric};
+//! What the definitions of the fields come to.
+
+ghost use Rattle.std.specs.Prelude.{◌≡◌, ◌≢◌, ◌+◌, ◌*◌, ◌/◌, ◌^◌, ◌<◌, ◌≤◌, ◌∷◌, ◌++◌, ◌↔◌, ℕ};
+ghost use Rattle.std.specs.Prelude.{All, List, Some, None, codes, decimal, flat_map, length, true};
+ghost use Rattle.std.specs.Char.{is_ascii_alphanumeric, is_ascii_digit};
 ghost use Rattle.std.specs.List.{list_all};
+ghost use Rattle.std.specs.Str.Parse.{digits_value};
 ghost use Rattle.vod_base.specs.Names.{is_good_name};
 ghost use Rattle.rtsp_text.specs.Grammar.{IsUrl};
-ghost use Rattle.rtsp_fields.specs.Laws.{IsDescription, IsOtherParameter};
+ghost use Rattle.rtsp_fields.specs.Laws.{HasNoComma, IsDescription, IsFilmPath, IsOtherParameter};
 ghost use Rattle.rtsp_fields.specs.Ranges.{IsSpan};
 ghost use Rattle.rtsp_fields.specs.Descriptions.{description_text, seconds_text};
 ghost use Rattle.rtsp_fields.specs.Sessions.{IsSession};
 ghost use Rattle.rtsp_fields.specs.Times.{IsTime};
 ghost use Rattle.rtsp_fields.specs.Transports.{IsTransport};
-ghost use Rattle.rtsp_fields.specs.Urls.{IsAbsoluteUrl, IsTail, NamesFilm};
+ghost use Rattle.rtsp_fields.specs.Urls.{IsAbsoluteUrl, NamesFilm};
 
-use crate::ranges::Span;
+use crate::ranges::{Origin, Span};
 use crate::transports::Channels;
 
 /// A Range value gives one span.
@@ -59,15 +62,12 @@ pub fn law_one_name(path: &[u8], one: &[u8], other: &[u8])
     let _read = (path.len(), one.len(), other.len());
 }
 
-/// The path of a film is `/`, its good name, and nothing, `/`, or `/video` with `/` after it or
-/// not.
-pub fn law_film_path(name: &[u8], tail: &[u8])
-    requires good { is_good_name name.now ≡ true }
-    requires tail { IsTail tail.now }
-    ensures { NamesFilm (codes "/" ++ name.now ++ tail.now) name.now }
-{
-    let _read = (name.len(), tail.len());
-}
+/// A path names a film exactly where it is `/`, the film's good name, and nothing, `/`, or `/video`
+/// with `/` after it or not.
+pub fn law_film_path()
+    ensures { (path name : List ℕ) →
+        NamesFilm path name ↔ ((is_good_name name ≡ true) × IsFilmPath path name) }
+{}
 
 /// Milliseconds below 10^12, written as seconds with three digits, are read back as that time, in
 /// nanoseconds.
@@ -77,6 +77,14 @@ pub fn law_seconds_read(ms: u64)
 {
     let _read = ms;
 }
+
+/// Seconds, a point and digits are read as that time, in nanoseconds: the digits write a part of a
+/// second, which is rounded down (RFC 2326 section 3.6).
+pub fn law_fraction_read()
+    ensures { (seconds : ℕ) (digits : List ℕ) → seconds < 10 ^ 9 →
+        list_all is_ascii_digit digits ≡ true → IsTime (decimal seconds ++ 46 ∷ digits)
+        (seconds * 1000000000 + digits_value 10 digits * 10 ^ 9 / 10 ^ length digits) }
+{}
 
 /// The description of a film that lasts less than 10^12 milliseconds has the lines that RFC 4566
 /// asks for, in their order. A player that reads them finds the whole film's time in it, and the
@@ -94,10 +102,26 @@ pub fn law_clock_read()
         ((hours * 3600 + minutes * 60 + seconds) * 1000000000) }
 {}
 
-/// A Transport value that asks for unicast delivery on the connection itself, on two different
-/// channels, is read as it says (RFC 2326 sections 10.12 and 12.39).
+/// A Range value in normal play time, of a time, `-`, and nothing or a second time, is read as the
+/// span from the one to the other; `now` stands for the present place (RFC 2326 section 3.6).
+pub fn law_range_read()
+    ensures from { (ms : ℕ) → ms < 10 ^ 12 →
+        IsSpan (codes "npt=" ++ (seconds_text ms ++ codes "-"))
+        (record { from = Origin.At (ms * 1000000); to = None }) }
+    ensures between { (ms end_ms : ℕ) → ms < 10 ^ 12 → end_ms < 10 ^ 12 →
+        IsSpan (codes "npt=" ++ (seconds_text ms ++ (codes "-" ++ seconds_text end_ms)))
+        (record { from = Origin.At (ms * 1000000); to = Some (end_ms * 1000000) }) }
+    ensures now { IsSpan (codes "npt=now-") (record { from = Origin.Now; to = None }) }
+{}
+
+/// A Transport value that asks for unicast delivery on the connection itself is read as it says: on
+/// two different channels, or on one, which means the next one too (RFC 2326 sections 10.12 and
+/// 12.39).
 pub fn law_transport_read()
-    ensures { (media control : ℕ) → media ≤ 255 → control ≤ 255 → media ≢ control →
+    ensures single { (media : ℕ) → media ≤ 254 →
+        IsTransport (codes "RTP/AVP/TCP;unicast;interleaved=" ++ decimal media)
+        (record { media = media; control = media + 1 }) }
+    ensures pair { (media control : ℕ) → media ≤ 255 → control ≤ 255 → media ≢ control →
         IsTransport
         (codes "RTP/AVP/TCP;unicast;interleaved=" ++ (decimal media ++ 45 ∷ decimal control))
         (record { media = media; control = control }) }
@@ -118,4 +142,25 @@ pub fn law_session_read()
         IsSession id id }
     ensures parameters { (id rest : List ℕ) → list_all is_ascii_alphanumeric id ≡ true →
         0 < length id → IsSession (id ++ 59 ∷ rest) id }
+{}
+
+/// The alternatives of a Transport value, with a comma between two, are tried in their order: the
+/// first one counts where it can be taken alone, and else the value means what the others mean (RFC
+/// 2326 section 12.39).
+pub fn law_transport_order()
+    ensures first { (first rest : List ℕ) (channels : Channels) → HasNoComma first →
+        IsTransport first channels → IsTransport (first ++ codes "," ++ rest) channels }
+    ensures later { (first rest : List ℕ) (channels : Channels) → HasNoComma first →
+        ((any : Channels) → ¬ IsTransport first any) → IsTransport rest channels →
+        IsTransport (first ++ codes "," ++ rest) channels }
+{}
+
+/// An alternative that asks for delivery to many, or for recording, isn't taken.
+pub fn law_transport_refused()
+    ensures multicast { (front : List ℕ) (channels : Channels) →
+        HasNoComma (front ++ codes ";multicast") →
+        ¬ IsTransport (front ++ codes ";multicast") channels }
+    ensures recording { (front : List ℕ) (channels : Channels) →
+        HasNoComma (front ++ codes ";mode=record") →
+        ¬ IsTransport (front ++ codes ";mode=record") channels }
 {}

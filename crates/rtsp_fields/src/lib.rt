@@ -15,9 +15,10 @@ mod values;
 
 pub use descriptions::description;
 pub use laws::{
-    law_asked_url, law_clock_read, law_description, law_film_path, law_one_authority, law_one_name,
-    law_one_range, law_one_transport, law_seconds_read, law_session_read, law_transport_default,
-    law_transport_read,
+    law_asked_url, law_clock_read, law_description, law_film_path, law_fraction_read,
+    law_one_authority, law_one_name, law_one_range, law_one_transport, law_range_read,
+    law_seconds_read, law_session_read, law_transport_default, law_transport_order,
+    law_transport_read, law_transport_refused,
 };
 pub use ranges::{Origin, Span, read_range};
 pub use seconds::seconds_text;

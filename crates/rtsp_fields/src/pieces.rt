@@ -1,3 +1,5 @@
+//! Texts that a separator cuts into pieces.
+
 ghost use Rattle.std.specs.Prelude.{◌≡◌, ◌≤◌, ◌↔◌, IsTrue, length};
 ghost use Rattle.rtsp_fields.specs.Pieces.{IsEnd, Begins, lower};
 

@@ -1,3 +1,5 @@
+//! The Range header.
+
 ghost use Rattle.std.specs.Prelude.{◌≡◌, ℕ, Option, MatchOption};
 ghost use Rattle.rtsp_fields.specs.declared.ranges.Origin.{Origin};
 ghost use Rattle.rtsp_fields.specs.declared.ranges.Span.{Span};

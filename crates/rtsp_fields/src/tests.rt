@@ -1,3 +1,5 @@
+//! The fields of requests and replies, as texts.
+
 ghost use Rattle.std.specs.Prelude.{◌≤◌, length};
 
 use super::*;

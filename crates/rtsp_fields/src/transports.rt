@@ -1,3 +1,5 @@
+//! The Transport header.
+
 ghost use Rattle.std.specs.Prelude.{◌≡◌, ◌↔◌, IsTrue, ◌⊎◌, MatchOption};
 ghost use Rattle.rtsp_fields.specs.Pieces.{NoPiece, NoneBefore};
 ghost use Rattle.rtsp_fields.specs.declared.transports.Channels.{Channels};

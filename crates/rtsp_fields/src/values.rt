@@ -1,3 +1,5 @@
+//! Numbers in header values.
+
 ghost use Rattle.std.specs.Prelude.{◌≡◌, ℕ, ◌^◌, ◌≤◌, MatchOption};
 ghost use Rattle.rtsp_fields.specs.Values.{IsWithin};
 

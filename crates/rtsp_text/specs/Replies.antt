@@ -59,6 +59,12 @@ unfoldable pub reply_front : ℕ → Option ℕ → List Field → List ℕ
 reply_front code sequence fields =
     status_line code ++ sequence_line sequence ++ flat_map field_line fields
 
+-- a text that is a reply up to its last field has one field more
+abbrev pub AddsField : List ℕ → List ℕ → Field → Type 0
+AddsField before after field = (code : ℕ) (sequence : Option ℕ) (fields : List Field) →
+    before ≡ reply_front code sequence fields →
+    after ≡ reply_front code sequence (fields ++ field ∷ [])
+
 -- a whole reply
 unfoldable pub reply_text : ℕ → Option ℕ → List Field → List ℕ → List ℕ
 reply_text code sequence fields body = reply_front code sequence fields ++ codes "\r\n" ++ body

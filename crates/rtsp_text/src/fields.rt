@@ -1,3 +1,5 @@
+//! The values of a head's header fields.
+
 ghost use Rattle.std.specs.Prelude.{◌≡◌, option_map, option_and_then};
 ghost use Rattle.std.specs.Str.{str_eq_ignore_ascii_case};
 ghost use Rattle.vod_base.specs.Numbers.{number_of};

@@ -1,3 +1,5 @@
+//! The grammar of a head's lines.
+
 ghost use Rattle.std.specs.Prelude.{◌≡◌, ◌≢◌, ◌++◌, ◌==◌, ◌↔◌, ℕ, List, IsTrue, true, codes, map};
 ghost use Rattle.std.specs.Prelude.{not, MatchOption};
 ghost use Rattle.std.specs.List.{list_all};

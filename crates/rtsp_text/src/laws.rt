@@ -1,3 +1,5 @@
+//! What the definitions of requests and replies come to.
+
 ghost use Rattle.std.specs.Prelude.{◌≡◌, ◌<◌, ◌≤◌, ◌++◌, ℕ, IsTrue, true, Option, List, All, Ok, Err};
 ghost use Rattle.std.specs.Prelude.{codes, length, take};
 ghost use Rattle.interleave.specs.Heads.{IsHead};
@@ -94,9 +96,9 @@ pub fn law_request_form()
 {}
 
 /// What is no request has that fault in its lines: the first one is no request line; it is one of
-/// another version; a header line isn't a name, `:` and a value; the first CSeq writes no number, or
-/// there is none; the first Content-Length isn't all digits. Each stands only where those before it
-/// don't.
+/// another version; a header line isn't a name, `:` and a value; the first CSeq writes no number,
+/// or there is none; the first Content-Length isn't all digits. Each stands only where those before
+/// it don't.
 pub fn law_request_faults()
     ensures { (message first : List ℕ) (texts : List (List ℕ)) (fault : RequestFault) →
         HasLines message first texts → IsFault message fault → IsWrong first texts fault }

@@ -1,3 +1,5 @@
+//! The lines of a message's head.
+
 ghost use Rattle.std.specs.Prelude.{◌≡◌, ◌≤◌, [], length, take, drop, MatchOption};
 ghost use Rattle.interleave.specs.Pieces.{IsRequestLength};
 ghost use Rattle.rtsp_text.specs.Lines.{first_line, lines_before_empty, header_lines, IsNextLine};

@@ -1,9 +1,11 @@
+//! Replies, as they are written.
+
 ghost use Rattle.std.specs.Prelude.{◌≡◌, ◌+◌, ◌≤◌, ◌++◌, ℕ, IsTrue, true, Option, List, [], ◌∷◌};
 ghost use Rattle.std.specs.Prelude.{length, decimal, codes, IfOk, sum_by, flat_map};
 ghost use Rattle.std.specs.List.{list_all};
 ghost use Rattle.rtsp_text.specs.Lines.{is_one_line};
 ghost use Rattle.rtsp_text.specs.Replies.{is_code, reason, Field, field_line, sequence_line};
-ghost use Rattle.rtsp_text.specs.Replies.{status_line, reply_front, reply_text};
+ghost use Rattle.rtsp_text.specs.Replies.{status_line, reply_front, reply_text, AddsField};
 
 use itoa::Buffer;
 use std::alloc::Global;
@@ -143,9 +145,8 @@ impl Reply {
             self.old ++ field_line (record { name = name.now; value = value.now }) }
         ensures long { length self.new ≡
             length self.old + (length name.now + length value.now + 4) }
-        ensures front { (code : ℕ) (sequence : Option ℕ) (fields : List Field) →
-            self.old ≡ reply_front code sequence fields →
-            self.new ≡ reply_front code sequence (fields ++ record { name = name.now; value = value.now } ∷ []) }
+        ensures front { AddsField self.old self.new
+            (record { name = name.now; value = value.now }) }
     {
         self.put_field(name, value);
     }
@@ -172,10 +173,8 @@ impl Reply {
             self.new ≡ self.old ++ field_line (record { name = name.now; value = value }) }
         ensures long { let value_length = sum_by (λ part. length part.now) parts.now in
             length self.new ≡ length self.old + (length name.now + value_length + 4) }
-        ensures front { (code : ℕ) (sequence : Option ℕ) (fields : List Field) →
-            self.old ≡ reply_front code sequence fields →
-            let value = flat_map (λ part. part.now) parts.now in
-            self.new ≡ reply_front code sequence (fields ++ record { name = name.now; value = value } ∷ []) }
+        ensures front { let value = flat_map (λ part. part.now) parts.now in
+            AddsField self.old self.new (record { name = name.now; value = value }) }
     {
         self.put(name);
         self.put(b": ");
@@ -189,9 +188,8 @@ impl Reply {
         ensures text { self.new ≡
             self.old ++ field_line (record { name = name.now; value = decimal value }) }
         ensures short { length self.new ≤ length self.old + (length name.now + 24) }
-        ensures front { (code : ℕ) (sequence : Option ℕ) (fields : List Field) →
-            self.old ≡ reply_front code sequence fields →
-            self.new ≡ reply_front code sequence (fields ++ record { name = name.now; value = decimal value } ∷ []) }
+        ensures front { AddsField self.old self.new
+            (record { name = name.now; value = decimal value }) }
     {
         self.put_field(name, Buffer::new().format(value).as_bytes());
     }

@@ -1,3 +1,5 @@
+//! Requests, as they are read.
+
 ghost use Rattle.std.specs.Prelude.{◌≡◌, ◌<◌, ◌≤◌, ℕ, List, All, true, length, codes, option_map};
 ghost use Rattle.std.specs.Prelude.{MatchOption, IsTrue, ◌↔◌, IfOk, IfErr, IfSome, IfNone, IsOkAnd};
 ghost use Rattle.std.specs.Prelude.{Err};
@@ -143,7 +145,8 @@ pub fn read_request(message: &[u8]) -> Result<Request<'_>, RequestFault>
     ensures refused { IfErr result (IsFault message.now) }
     ensures requests { (method url : List ℕ) (sequence : ℕ) (head body : List ℕ) →
         IsRequest message.now method url sequence head body →
-        IsOkAnd result (λ r. (r.method.now ≡ method) × (r.url.now ≡ url) × (r.sequence ≡ sequence) × (r.head.now ≡ head) × (r.body.now ≡ body)) }
+        IsOkAnd result (λ r. (r.method.now ≡ method) × (r.url.now ≡ url)
+        × (r.sequence ≡ sequence) × (r.head.now ≡ head) × (r.body.now ≡ body)) }
     ensures faults { (fault : RequestFault) → IsFault message.now fault → result ≡ Err fault }
     ensures head { IfOk result (λ r. length r.head.now ≤ 16384) }
     ensures url { IfOk result (λ r. length r.url.now < length r.head.now) }

@@ -1,3 +1,5 @@
+//! Replies, as they are read.
+
 ghost use Rattle.std.specs.Prelude.{◌≡◌, ◌≤◌, ◌<◌, ℕ, List, length, MatchOption, IfSome, IsSomeAnd};
 ghost use Rattle.interleave.specs.Pieces.{IsRequestLength};
 ghost use Rattle.rtsp_text.specs.Lines.{first_line};
@@ -65,7 +67,8 @@ pub fn read_reply(message: &[u8]) -> Option<ReplyParts<'_>>
         (λ r. IsReply message.now r.code r.reason.now r.head.now r.body.now) }
     ensures replies { (code : ℕ) (reason head body : List ℕ) →
         IsReply message.now code reason head body →
-        IsSomeAnd result (λ r. (r.code ≡ code) × (r.reason.now ≡ reason) × (r.head.now ≡ head) × (r.body.now ≡ body)) }
+        IsSomeAnd result (λ r. (r.code ≡ code) × (r.reason.now ≡ reason)
+        × (r.head.now ≡ head) × (r.body.now ≡ body)) }
     ensures head { IfSome result (λ r. length r.head.now ≤ 16384) }
     ensures body { IfSome result (λ r. length r.body.now ≤ 65536) }
 {
