@@ -10,3 +10,5 @@ pub mod LoadLemmas
 pub mod SmallNumbers
 pub mod Words
 pub mod TraceWords
+pub mod TraceLines
+pub mod FaultLemmas

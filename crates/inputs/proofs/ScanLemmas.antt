@@ -5,6 +5,7 @@ use Rattle.std.proofs.lemmas.List.{length-take-le}
 use Rattle.vod_base.specs.Outside.{File, file_named}
 use Rattle.mpeg_scan.specs.declared.faults.FilmFault.{FilmFault}
 use Rattle.mpeg_scan.specs.declared.faults.FilmFault.TheVariants.{TooLong}
+use Rattle.mpeg_scan.specs.declared.scanner.Ending.{Ending}
 use Rattle.mpeg_scan.specs.declared.scanner.Scanner.{Scanner}
 use Rattle.mpeg_scan.specs.Codes.{read, codes_of}
 use Rattle.mpeg_scan.specs.Calls.{Call, calls_of, all_calls}
@@ -191,3 +192,14 @@ pub trouble_on : (name : List ℕ) (Refuses : List File → List ℕ → Fault �
     IsReadTrouble (IsNamed name) Refuses told' b c t → IsReadTrouble (IsNamed name) Refuses told a c t
 trouble_on name Refuses told told' a b c t kept count h =
     trouble_map (IsNamed name) (IsNamed name) Refuses Refuses told' told b c a c t (λ n is. is) (λ held n fault is named refused. refused) (λ held is. kept ∙ is) count (omega arith) h
+
+-- the same of a call's answer
+pub troubles_on : (name : List ℕ) (told told' : Option (List File)) (a b c : ℕ) (r : Result Ending Trouble) → told' ≡ told → a ≤ b →
+    IfErr r (IsReadTrouble (IsNamed name) IsFilmRefused told' b c) → IfErr r (IsReadTrouble (IsNamed name) IsFilmRefused told a c)
+troubles_on name told told' a b c (Ok ending) kept count h = tt
+troubles_on name told told' a b c (Err t) kept count h = trouble_on name IsFilmRefused told told' a b c t kept count h
+
+-- a film that is heard where the library tells as much as before
+pub heard_on : (Heard : List Call → Type 0) (name : List ℕ) (told told' : Option (List File)) (r : Result Ending Trouble) → told' ≡ told →
+    IfOk r (λ e. HasHeard Heard told' name e.bytes e.rate) → IfOk r (λ e. HasHeard Heard told name e.bytes e.rate)
+heard_on Heard name told told' r kept h = subst (λ (t : Option (List File)). IfOk r (λ e. HasHeard Heard t name e.bytes e.rate)) kept h

@@ -1,5 +1,5 @@
 -- The tokens of a text, from the front on, and the traces that they write.
-use Rattle.std.proofs.Common.{◌≡◌, ℕ, ◌+◌, ◌-◌, ◌<◌, ◌≤◌, ◌^◌, Bool, true, false, not, ◌&&◌, List, [], ◌∷◌, ◌++◌, length, take, drop, map, sum, Some, Option, refl, sym, ap, ◌∙◌, arith, add-zero, if◌then◌else◌, slice_range, get_or, length-append, length-drop}
+use Rattle.std.proofs.Common.{◌≡◌, ℕ, ◌+◌, ◌-◌, ◌<◌, ◌≤◌, ◌^◌, Bool, true, false, not, List, [], ◌∷◌, ◌++◌, length, take, drop, map, sum, Some, Option, refl, sym, ap, ◌∙◌, arith, add-zero, if◌then◌else◌, slice_range, get_or, length-append, length-drop}
 use Rattle.std.proofs.lemmas.Bool.{and_parts, not-true}
 use Rattle.std.proofs.lemmas.List.{take-append-drop, drop-drop, length-take-le, take_all, map-append, append_assoc}
 use Rattle.std.proofs.Math.Seq.{get_or-append_seam}

@@ -1,8 +1,8 @@
 -- A trace read word by word.
-use Rattle.std.proofs.Common.{◌≡◌, ℕ, ◌+◌, ◌-◌, ◌<◌, ◌≤◌, true, not, List, [], ◌∷◌, ◌++◌, length, length-drop, take, drop, slice_range, refl, sym, ap, ◌∙◌, arith, subst}
+use Rattle.std.proofs.Common.{◌≡◌, ℕ, ◌+◌, ◌-◌, ◌<◌, ◌≤◌, true, not, List, [], ◌∷◌, ◌++◌, length, length-drop, take, drop, slice_range, sym, ap, ◌∙◌, arith, subst}
 use Rattle.std.proofs.lemmas.List.{drop-drop}
 use Rattle.std.proofs.lemmas.List.Sums.{prefix_len-le-length}
-use Rattle.inputs.specs.Traces.{Token, is_blank, begins_token, tokens_from, IsBadTrace, AddsSize}
+use Rattle.inputs.specs.Traces.{is_blank, begins_token, tokens_from, IsBadTrace, AddsSize}
 use Rattle.inputs.specs.Words.{word_length, first_word}
 use Rattle.inputs.proofs.Tokens.{HasRead, more_read, bad_read}
 use Rattle.inputs.proofs.Words.{word_token}

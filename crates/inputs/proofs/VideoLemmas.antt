@@ -1,13 +1,14 @@
 -- A file has one video, and none where it is refused.
-use Rattle.std.proofs.Common.{◌≡◌, ℕ, List, length, Some, None, Option, inl, inr, sym, ap, ◌∙◌, arith, subst}
-use Rattle.vod_base.specs.Outside.{File}
+use Rattle.std.proofs.Common.{◌≡◌, ◌≤◌, ◌^◌, ℕ, List, length, Some, None, Option, inl, inr, sym, ap, ◌∙◌, arith, subst}
+use Rattle.vod_base.specs.Outside.{File, file_named}
+use Rattle.mpeg_scan.specs.declared.faults.FilmFault.TheVariants.{TooLong}
 use Rattle.mpeg_scan.specs.Films.{refusal}
 use Rattle.sys_demux.specs.declared.faults.SystemFault.{SystemFault}
 use Rattle.sys_demux.proofs.OneReading.{not_both, video_once as stream_once}
 use Rattle.troubles.specs.declared.faults.Fault.{Fault}
 use Rattle.troubles.specs.declared.faults.Fault.TheVariants.{Film, System}
 use Rattle.inputs.specs.Scans.{HoldsVideo, IsFilmRefused}
-use Rattle.inputs.specs.Videos.{IsStreamFaultFrom, IsVideo, IsVideoFrom, IsVideoRefused, pack_in}
+use Rattle.inputs.specs.Videos.{IsRefusedAbove, IsStreamFaultFrom, IsVideo, IsVideoFrom, IsVideoRefused, pack_in}
 use Rattle.inputs.proofs.ReadLemmas.{one_file}
 
 from_once : (pack : Option ℕ) (file a b : List ℕ) → IsVideoFrom pack file a → IsVideoFrom pack file b → a ≡ b
@@ -33,12 +34,18 @@ video_not_refused file video (Film fault) is accepted refused =
 video_not_refused file video (System fault) is accepted refused = from_not_fault (pack_in file) file video fault is refused
 video_not_refused file video other is accepted refused = refused
 
+-- a file of at most so many bytes, whose video is accepted, isn't refused
+pub file_not_refused : (held : List File) (name file video : List ℕ) (most : ℕ) (over fault : Fault) → file_named held name ≡ Some file → length file ≤ most → IsVideo file video → refusal video ≡ None →
+    IsRefusedAbove most over held name fault → ⊥
+file_not_refused held name file video most over fault found short is accepted (inl missing) = let both : Some file ≡ None = sym found ∙ missing.1 in cc
+file_not_refused held name file video most over fault found short is accepted (inr other) =
+    let same : file ≡ other.0 = one_file held name file other.0 found other.1.0 in
+    elim other.1.1 [
+      | inl long ↦ omega (arith, ap length same, short, long.0)
+      | inr refused ↦ video_not_refused other.0 video fault (subst (λ (f : List ℕ). IsVideo f video) same is) accepted refused.1
+    ]
+
 -- what is accepted isn't refused
 pub held_not_refused : (held : List File) (name video : List ℕ) (fault : Fault) → HoldsVideo held name video → IsFilmRefused held name fault → ⊥
-held_not_refused held name video fault holds (inl missing) = let both : Some holds.file ≡ None = sym holds.found ∙ missing.1 in cc
-held_not_refused held name video fault holds (inr other) =
-    let same : holds.file ≡ other.0 = one_file held name holds.file other.0 holds.found other.1.0 in
-    elim other.1.1 [
-      | inl long ↦ omega (arith, ap length same, holds.short, long.0)
-      | inr refused ↦ video_not_refused other.0 video fault (subst (λ (f : List ℕ). IsVideo f video) same holds.is_video) holds.accepted refused.1
-    ]
+held_not_refused held name video fault holds refused =
+    file_not_refused held name holds.file video (2 ^ 40) (Film TooLong) fault holds.found holds.short holds.is_video holds.accepted refused

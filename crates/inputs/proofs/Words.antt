@@ -1,5 +1,5 @@
 -- The word at the front of a text: its length, and the number that its digits write.
-use Rattle.std.proofs.Common.{◌≡◌, ◌⊎◌, ℕ, ◌+◌, ◌<◌, ◌≤◌, ◌^◌, true, false, not, List, [], ◌∷◌, length, take, drop, get_or, slice_range, Some, refl, sym, ap, ◌∙◌, arith, add-zero, inl, inr}
+use Rattle.std.proofs.Common.{◌≡◌, ◌⊎◌, ℕ, ◌+◌, ◌<◌, ◌≤◌, ◌^◌, true, false, not, List, [], ◌∷◌, length, take, drop, get_or, slice_range, Some, sym, ap, ◌∙◌, arith, add-zero, inl, inr}
 use Rattle.std.specs.List.{list_all}
 use Rattle.std.specs.Char.{is_ascii_digit}
 use Rattle.std.specs.Str.Parse.{digits_value}
@@ -8,13 +8,13 @@ use Rattle.std.proofs.lemmas.List.{get_or-drop, get_or-take, length-drop, length
 use Rattle.std.proofs.lemmas.List.Sums.{AllPass-from_list_all, list_all-from_AllPass, prefix_len_is, prefix_len-le-length, prefix_len_passes, prefix_len_stops}
 use Rattle.std.proofs.lemmas.Str.Parse.{digits_value-take-le}
 use Rattle.vod_base.specs.Numbers.{number_of}
-use Rattle.inputs.specs.Traces.{Token, is_blank, begins_token, tokens_from}
+use Rattle.inputs.specs.Traces.{is_blank, begins_token, tokens_from}
 use Rattle.inputs.specs.Words.{word_length, first_word, WritesSize}
 use Rattle.inputs.proofs.SmallNumbers.{number_is, number_read}
 use Rattle.inputs.proofs.Tokens.{word_at}
 
 -- a digit is no blank
-digit_no_blank : (b : ℕ) → is_ascii_digit b ≡ true → not (is_blank b) ≡ true
+pub digit_no_blank : (b : ℕ) → is_ascii_digit b ≡ true → not (is_blank b) ≡ true
 digit_no_blank b h = grind arith
 
 -- each of the digits in front is one

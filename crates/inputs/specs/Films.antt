@@ -32,3 +32,7 @@ IsBytesTrouble name file other = ⊥
 abbrev pub IsStreamRefused : List ℕ → StreamRefused → Type 0
 IsStreamRefused stream (StreamFault fault) = IsRefused stream fault
 IsStreamRefused stream NoRoom = Unit {0}
+
+-- there is no reason to refuse that file
+abbrev pub IsNotRefused : (List File → List ℕ → Fault → Type 0) → List File → List ℕ → Type 0
+IsNotRefused Refuses held name = (fault : Fault) → Refuses held name fault → ⊥

@@ -7,3 +7,4 @@ pub mod Traces
 pub mod TraceRefusals
 pub mod Films
 pub mod Words
+pub mod Laws

@@ -30,7 +30,8 @@ joined_tokens at b true (token ∷ tokens) = (record { from = at; bytes = b ∷ 
 abbrev pub tokens_from : ℕ → List ℕ → List Token
 tokens_from at [] = []
 tokens_from at (b ∷ rest) = if is_blank b
-    then tokens_from (at + 1) rest else joined_tokens at b (begins_token rest) (tokens_from (at + 1) rest)
+    then tokens_from (at + 1) rest
+    else joined_tokens at b (begins_token rest) (tokens_from (at + 1) rest)
 
 -- the tokens write these sizes: each up to 2^32, 2^40 together, and at most 1,000,000 of them
 pub record IsTrace (tokens : List Token) (sizes : List ℕ) : Type 0 where

@@ -5,7 +5,8 @@ ghost use Rattle.mpeg_scan.specs.Films.{refusal};
 ghost use Rattle.sys_demux.specs.Streams.{IsSystem};
 ghost use Rattle.troubles.specs.Causes.{IsReadOnly, IsReadTrouble};
 ghost use Rattle.inputs.specs.Files.{IsNamed};
-ghost use Rattle.inputs.specs.Films.{IsBytesTrouble, IsFilmTrouble, IsHeldRefused, IsStreamRefused};
+ghost use Rattle.inputs.specs.Films.{IsBytesTrouble, IsFilmTrouble, IsHeldRefused, IsNotRefused};
+ghost use Rattle.inputs.specs.Films.{IsStreamRefused};
 ghost use Rattle.inputs.specs.Scans.{HoldsVideo};
 ghost use Rattle.inputs.specs.Videos.{IsFilmRefused, IsRefusedAbove, IsVideo};
 
@@ -119,6 +120,8 @@ fn load_within<'a, L: Library>(
     ensures name { IfOk result (λ stored. string_bytes stored.name ≡ name.entry.now) }
     ensures film { (held : List File) → L.files library.old ≡ Some held
         → IfOk result (λ stored. HoldsVideo held name.entry.now stored.film.bytes.items) }
+    ensures small { (held : List File) → L.files library.old ≡ Some held
+        → IfOk result (λ stored. IsNotRefused (IsRefusedAbove most over) held name.entry.now) }
     ensures trouble { IfErr result
         (IsReadTrouble (IsNamed name.entry.now) (IsRefusedAbove most over)
         (L.files library.old) (L.faults library.old) (L.faults library.new)) }
@@ -156,6 +159,8 @@ pub fn load_film<'a, L: Library>(
     ensures name { IfOk result (λ stored. string_bytes stored.name ≡ name.entry.now) }
     ensures film { (held : List File) → L.files library.old ≡ Some held
         → IfOk result (λ stored. HoldsVideo held name.entry.now stored.film.bytes.items) }
+    ensures small { (held : List File) → L.files library.old ≡ Some held
+        → IfOk result (λ stored. IsNotRefused IsHeldRefused held name.entry.now) }
     ensures trouble { IfErr result (IsReadTrouble (IsNamed name.entry.now) IsHeldRefused
         (L.files library.old) (L.faults library.old) (L.faults library.new)) }
 {
@@ -173,6 +178,8 @@ pub fn load_script_film<'a, L: Library>(
     ensures name { IfOk result (λ stored. string_bytes stored.name ≡ name.entry.now) }
     ensures film { (held : List File) → L.files library.old ≡ Some held
         → IfOk result (λ stored. HoldsVideo held name.entry.now stored.film.bytes.items) }
+    ensures small { (held : List File) → L.files library.old ≡ Some held
+        → IfOk result (λ stored. IsNotRefused IsFilmRefused held name.entry.now) }
     ensures trouble { IfErr result (IsReadTrouble (IsNamed name.entry.now) IsFilmRefused
         (L.files library.old) (L.faults library.old) (L.faults library.new)) }
 {

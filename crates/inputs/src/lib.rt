@@ -5,6 +5,7 @@
 mod collectors;
 mod files;
 mod films;
+mod laws;
 mod openings;
 mod scans;
 mod streams;
@@ -13,7 +14,8 @@ mod traces;
 pub use collectors::{ScannedFilm, SizedFilm, scan_film, size_film};
 pub use files::read_input;
 pub use films::{load_film, load_script_film};
-pub use traces::{TraceRefused, law_tokens, read_trace};
+pub use laws::{law_stream_fault, law_tokens, law_trace_lines};
+pub use traces::{TraceRefused, read_trace};
 
 #[cfg(test)]
 mod tests;

@@ -3,8 +3,8 @@ ghost use Rattle.std.specs.Prelude.{length, take, drop, slice_index, MatchOption
 ghost use Rattle.std.specs.List.{list_all};
 ghost use Rattle.std.specs.Char.{is_ascii_digit};
 ghost use Rattle.std.specs.Str.Parse.{digits_value};
-ghost use Rattle.inputs.specs.Traces.{is_blank, begins_token, tokens_from, Token};
-ghost use Rattle.inputs.specs.Traces.{AddsSize, AreSeparated, IsTraceText};
+ghost use Rattle.inputs.specs.Traces.{is_blank, begins_token, tokens_from};
+ghost use Rattle.inputs.specs.Traces.{AddsSize, IsTraceText};
 ghost use Rattle.inputs.specs.Words.{word_length, first_word, WritesSize};
 ghost use Rattle.inputs.specs.TraceRefusals.{IsTraceRefused};
 
@@ -153,12 +153,3 @@ pub fn read_trace(alloc: Global, text: &[u8]) -> Result<Vec<u64>, TraceRefused>
     }
     Ok(sizes)
 }
-
-/// A law: the tokens of a text are the words in it, each with its place: none is empty, none has a
-/// blank in it, and blanks stand between them, in front and at the end. No other list of tokens is
-/// so.
-pub fn law_tokens()
-    ensures are { (text : List ℕ) → AreSeparated 0 text (tokens_from 0 text) }
-    ensures only { (text : List ℕ) (tokens : List Token) → AreSeparated 0 text tokens →
-        tokens ≡ tokens_from 0 text }
-{}

@@ -4,6 +4,7 @@ use Rattle.troubles.proofs.CauseLemmas.{trouble_map}
 use Rattle.inputs.specs.Files.{IsMissing, IsNamed}
 use Rattle.inputs.specs.Videos.{IsRefusedAbove, IsVideo}
 use Rattle.inputs.proofs.LoadLemmas.{bytes_trouble, film_loaded, size_above}
+use Rattle.inputs.proofs.VideoLemmas.{file_not_refused}
 use Rattle.inputs.proofs.films.load_within.Goals as goal
 
 pub returns-in-Err-clause-trouble : goal.returns-in-Err-clause-trouble
@@ -34,3 +35,12 @@ returns-in-Ok-store-clause-film g c = λ held is.
     (omega (arith, (c.in-Ok-read_bytes.ensures {u = tt}).within, c.in-Ok-read_bytes.file.ok, c.if-most-size.false, c.requires))
     (subst (λ (f : Film). IsVideo c.in-Ok-read_bytes.file.items f.bytes.items) (sym same) ((c.in-Ok-scan_file.ensures {u = tt}).film))
     c.in-Ok-store.stored.film.grammar.accepted
+
+pub returns-in-Ok-store-clause-small : goal.returns-in-Ok-store-clause-small
+returns-in-Ok-store-clause-small g c = λ held is fault refused.
+    let same : c.in-Ok-store.stored.film ≡ c.in-Ok-scan_file.film = (c.in-Ok-store.ensures {u = tt}).film in
+    file_not_refused held c.args.name.now c.in-Ok-read_bytes.file.items c.in-Ok-store.stored.film.bytes.items c.args.most c.args.over fault
+    ((c.in-Ok-read_bytes.ensures {u = tt}).read held (c.find_file.ensures.library.kept ∙ is) ((c.in-Ok.ensures {u = tt}).found held is))
+    (omega (arith, (c.in-Ok-read_bytes.ensures {u = tt}).within, c.in-Ok-read_bytes.file.ok, c.if-most-size.false))
+    (subst (λ (f : Film). IsVideo c.in-Ok-read_bytes.file.items f.bytes.items) (sym same) ((c.in-Ok-scan_file.ensures {u = tt}).film))
+    c.in-Ok-store.stored.film.grammar.accepted refused

@@ -1,11 +1,8 @@
-use Rattle.std.proofs.Common.{◌∙◌, List, Option, refl, sym, subst, arith}
-use Rattle.std.specs.Prelude.{IfOk}
-use Rattle.vod_base.specs.Outside.{File}
-use Rattle.troubles.specs.Causes.{IsReadTrouble}
+use Rattle.std.proofs.Common.{◌∙◌, refl, sym, subst, arith}
 use Rattle.troubles.proofs.CauseLemmas.{trouble_map}
 use Rattle.inputs.specs.Files.{IsNamed, IsMissing}
-use Rattle.inputs.specs.Scans.{HasHeard, IsFilmRefused, IsOpened}
-use Rattle.inputs.proofs.ScanLemmas.{err_map, missing_refused, size_refused, trouble_on}
+use Rattle.inputs.specs.Scans.{IsFilmRefused, IsOpened}
+use Rattle.inputs.proofs.ScanLemmas.{heard_on, missing_refused, size_refused, troubles_on}
 use Rattle.inputs.proofs.scans.hear_film.Goals as goal
 
 pub returns-in-Err-clause-trouble : goal.returns-in-Err-clause-trouble
@@ -36,30 +33,22 @@ scan_stream-requires-clause-opened g c = λ held is.
 
 pub returns-in-Ok-None-clause-film : goal.returns-in-Ok-None-clause-film
 returns-in-Ok-None-clause-film g c =
-    subst (λ (t : Option (List File)). IfOk c.scan_plain.result (λ e. HasHeard (g.F.Found.heard c.scan_plain.new.found) t c.args.name.now e.bytes e.rate))
+    heard_on (g.F.Found.heard c.scan_plain.new.found) c.args.name.now (g.L.Library.files c.args.library.now) (g.L.Library.files c.find_pack.new.library) c.scan_plain.result
     (c.find_pack.ensures.library.kept ∙ c.find_file.ensures.library.kept) c.scan_plain.ensures.film
 
 pub returns-in-Ok-None-clause-trouble : goal.returns-in-Ok-None-clause-trouble
 returns-in-Ok-None-clause-trouble g c =
-    err_map
-    (IsReadTrouble (IsNamed c.args.name.now) IsFilmRefused (g.L.Library.files c.find_pack.new.library) (g.L.Library.faults c.find_pack.new.library) (g.L.Library.faults c.scan_plain.new.library))
-    (IsReadTrouble (IsNamed c.args.name.now) IsFilmRefused (g.L.Library.files c.args.library.now) (g.L.Library.faults c.args.library.now) (g.L.Library.faults c.scan_plain.new.library)) c.scan_plain.result
-    (λ t h. trouble_on c.args.name.now IsFilmRefused (g.L.Library.files c.args.library.now) (g.L.Library.files c.find_pack.new.library)
-    (g.L.Library.faults c.args.library.now) (g.L.Library.faults c.find_pack.new.library) (g.L.Library.faults c.scan_plain.new.library) t
-    (c.find_pack.ensures.library.kept ∙ c.find_file.ensures.library.kept) (omega (arith, c.find_file.ensures.library.count, c.find_pack.ensures.library.count)) h)
-    c.scan_plain.ensures.trouble
+    troubles_on c.args.name.now (g.L.Library.files c.args.library.now) (g.L.Library.files c.find_pack.new.library)
+    (g.L.Library.faults c.args.library.now) (g.L.Library.faults c.find_pack.new.library) (g.L.Library.faults c.scan_plain.new.library) c.scan_plain.result
+    (c.find_pack.ensures.library.kept ∙ c.find_file.ensures.library.kept) (omega (arith, c.find_file.ensures.library.count, c.find_pack.ensures.library.count)) c.scan_plain.ensures.trouble
 
 pub returns-in-Ok-Some-clause-film : goal.returns-in-Ok-Some-clause-film
 returns-in-Ok-Some-clause-film g c =
-    subst (λ (t : Option (List File)). IfOk c.scan_stream.result (λ e. HasHeard (g.F.Found.heard c.scan_stream.new.found) t c.args.name.now e.bytes e.rate))
+    heard_on (g.F.Found.heard c.scan_stream.new.found) c.args.name.now (g.L.Library.files c.args.library.now) (g.L.Library.files c.find_pack.new.library) c.scan_stream.result
     (c.find_pack.ensures.library.kept ∙ c.find_file.ensures.library.kept) c.scan_stream.ensures.film
 
 pub returns-in-Ok-Some-clause-trouble : goal.returns-in-Ok-Some-clause-trouble
 returns-in-Ok-Some-clause-trouble g c =
-    err_map
-    (IsReadTrouble (IsNamed c.args.name.now) IsFilmRefused (g.L.Library.files c.find_pack.new.library) (g.L.Library.faults c.find_pack.new.library) (g.L.Library.faults c.scan_stream.new.library))
-    (IsReadTrouble (IsNamed c.args.name.now) IsFilmRefused (g.L.Library.files c.args.library.now) (g.L.Library.faults c.args.library.now) (g.L.Library.faults c.scan_stream.new.library)) c.scan_stream.result
-    (λ t h. trouble_on c.args.name.now IsFilmRefused (g.L.Library.files c.args.library.now) (g.L.Library.files c.find_pack.new.library)
-    (g.L.Library.faults c.args.library.now) (g.L.Library.faults c.find_pack.new.library) (g.L.Library.faults c.scan_stream.new.library) t
-    (c.find_pack.ensures.library.kept ∙ c.find_file.ensures.library.kept) (omega (arith, c.find_file.ensures.library.count, c.find_pack.ensures.library.count)) h)
-    c.scan_stream.ensures.trouble
+    troubles_on c.args.name.now (g.L.Library.files c.args.library.now) (g.L.Library.files c.find_pack.new.library)
+    (g.L.Library.faults c.args.library.now) (g.L.Library.faults c.find_pack.new.library) (g.L.Library.faults c.scan_stream.new.library) c.scan_stream.result
+    (c.find_pack.ensures.library.kept ∙ c.find_file.ensures.library.kept) (omega (arith, c.find_file.ensures.library.count, c.find_pack.ensures.library.count)) c.scan_stream.ensures.trouble

@@ -1,4 +1,4 @@
-use Rattle.std.proofs.Common.{◌≡◌, ◌∙◌, ◌<◌, ◌+◌, ◌-◌, length, length-drop, drop, take, ap, arith, List, ℕ}
+use Rattle.std.proofs.Common.{◌∙◌, ◌+◌, ◌-◌, length, drop, take, ap, arith, List, ℕ}
 use Rattle.std.proofs.lemmas.List.{drop_all}
 use Rattle.inputs.specs.Traces.{tokens_from}
 use Rattle.inputs.proofs.Tokens.{blanks_step, slice_from}

@@ -1,4 +1,4 @@
-use Rattle.std.proofs.Common.{◌≡◌, ◌<◌, ℕ, length, arith, sym, ◌∙◌, true, false, get_or, rules}
+use Rattle.std.proofs.Common.{◌≡◌, ◌<◌, length, arith, sym, ◌∙◌, true, get_or}
 use Rattle.inputs.specs.Traces.{is_blank}
 use Rattle.inputs.proofs.Words.{no_digits, not_whole, too_large, whole_word}
 use Rattle.inputs.proofs.traces.number_in_front.Goals as goal

@@ -1,5 +1,5 @@
 use Rattle.inputs.proofs.TokenLaws.{separated_are, separated_only}
-use Rattle.inputs.proofs.traces.law_tokens.Goals as goal
+use Rattle.inputs.proofs.laws.law_tokens.Goals as goal
 
 pub returns-clause-are : goal.returns-clause-are
 returns-clause-are c = λ text. separated_are text 0
