@@ -4,3 +4,4 @@ pub mod TraceLemmas
 pub mod PackLemmas
 pub mod SystemLemmas
 pub mod SizeLemmas
+pub mod SliceLemmas

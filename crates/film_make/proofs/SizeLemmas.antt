@@ -1,14 +1,13 @@
 -- The bytes of a picture.
-use Rattle.std.proofs.Common.{ℕ, zero, suc, cond, eqb, ◌+◌, ◌*◌, ◌%◌, ◌<◌, ◌≤◌, ◌≡◌, List, [], ◌∷◌}
+use Rattle.std.proofs.Common.{ℕ, cond, eqb, ◌+◌, ◌*◌, ◌%◌, ◌<◌, ◌≤◌, ◌≡◌, List, [], ◌∷◌}
 use Rattle.std.proofs.Common.{◌++◌}
-use Rattle.std.proofs.Common.{length, refl, sym, ◌∙◌, ap, arith, eq-eqb, ne_eqb}
+use Rattle.std.proofs.Common.{length, refl, ◌∙◌, ap, arith, eq-eqb, ne_eqb}
 use Rattle.std.proofs.lemmas.List.{length-append}
 use Rattle.std.proofs.lemmas.List.FromFn.{length-map-range_with_len}
 use Rattle.film_make.specs.declared.pictures.CodingType.{CodingType}
 use Rattle.film_make.specs.declared.pictures.CodingType.TheVariants.{Intra, Predicted}
 use Rattle.film_make.specs.declared.pictures.CodingType.TheVariants.{Bidirectional}
-use Rattle.film_make.specs.Film.{body_length, body_lengths, body_of, coding_type, in_bytes}
-use Rattle.film_make.specs.Film.{least_body}
+use Rattle.film_make.specs.Film.{body_length, body_of, coding_type, in_bytes}
 use Rattle.film_make.specs.Film.{picture_fields, picture_header, picture_of, sequence_and_group}
 use Rattle.film_make.specs.Film.{slice_of}
 use Rattle.film_make.specs.Film.{slice_words, slices_of, temporal_reference}
@@ -57,7 +56,7 @@ slices-length words kind least most body =
     }
 
 -- a header's bytes, and a picture's
-abbrev header-length : CodingType → ℕ → ℕ
+abbrev pub header-length : CodingType → ℕ → ℕ
 header-length Intra place = 8
 header-length Predicted place = 9
 header-length Bidirectional place = 9
@@ -67,13 +66,19 @@ header-is Intra place shown = refl
 header-is Predicted place shown = refl
 header-is Bidirectional place shown = refl
 
-picture-length : (words : ℕ → ℕ) (k : ℕ) → length (picture_of words k) ≡ length (cond (eqb (k % 12) 0) sequence_and_group []) + header-length (coding_type (k % 12)) k + length (slices_of words (coding_type (k % 12)) 4)
+-- a picture is headers, of a known size, and its slices
+pub picture-headers : (words : ℕ → ℕ) (k : ℕ) → (headers : List ℕ) × ((picture_of words k ≡ headers ++ slices_of words (coding_type (k % 12)) 4)
+    × (length headers ≡ length (cond (eqb (k % 12) 0) sequence_and_group []) + header-length (coding_type (k % 12)) k))
 unfolding picture_of picture_header
-picture-length words k =
+picture-headers words k =
     let front : List ℕ = cond (eqb (k % 12) 0) sequence_and_group [] in
     let header : List ℕ = 0 ∷ 0 ∷ 1 ∷ 0 ∷ in_bytes (picture_fields (coding_type (k % 12)) (temporal_reference (k % 12))) in
-    length-append (front ++ header) (slices_of words (coding_type (k % 12)) 4)
-    ∙ ap (λ n. n + length (slices_of words (coding_type (k % 12)) 4)) (length-append front header ∙ ap (λ n. length front + n) (header-is (coding_type (k % 12)) k (temporal_reference (k % 12))))
+    (front ++ header, (refl, length-append front header ∙ ap (λ n. length front + n) (header-is (coding_type (k % 12)) k (temporal_reference (k % 12)))))
+
+picture-length : (words : ℕ → ℕ) (k : ℕ) → length (picture_of words k) ≡ length (cond (eqb (k % 12) 0) sequence_and_group []) + header-length (coding_type (k % 12)) k + length (slices_of words (coding_type (k % 12)) 4)
+picture-length words k =
+    let parts = picture-headers words k in
+    ap (λ (l : List ℕ). length l) parts.1.0 ∙ length-append parts.0 (slices_of words (coding_type (k % 12)) 4) ∙ ap (λ n. n + length (slices_of words (coding_type (k % 12)) 4)) parts.1.1
 
 sized : (words : ℕ → ℕ) (k least most front : ℕ) (kind : CodingType) → coding_type (k % 12) ≡ kind → length (cond (eqb (k % 12) 0) sequence_and_group []) ≡ front → ((w : ℕ → ℕ) → HasBounds least most (body_length w kind)) →
     (front + header-length kind k + 4 * (4 + least) ≤ length (picture_of words k)) × (length (picture_of words k) ≤ front + header-length kind k + 4 * (4 + most))
@@ -84,26 +89,26 @@ sized words k least most front kind is headers body =
     ∙ ap (λ (c : CodingType). front + header-length c k + length (slices_of words c 4)) is in
     (omega (arith, whole, slices.low), omega (arith, whole, slices.high))
 
-kind-first : (j : ℕ) → j ≡ 0 → coding_type j ≡ Intra
+pub kind-first : (j : ℕ) → j ≡ 0 → coding_type j ≡ Intra
 unfolding coding_type
 kind-first j e = ap (λ b. cond b Intra (cond (eqb (j % 2) 1) Predicted Bidirectional)) (eq-eqb j 0 e)
 
-kind-odd : (j : ℕ) → j % 2 ≡ 1 → coding_type j ≡ Predicted
+pub kind-odd : (j : ℕ) → j % 2 ≡ 1 → coding_type j ≡ Predicted
 unfolding coding_type
 kind-odd j odd =
     ap (λ b. cond b Intra (cond (eqb (j % 2) 1) Predicted Bidirectional)) (ne_eqb j 0 (λ e. omega (arith, e, odd)))
     ∙ ap (λ b. cond b Predicted Bidirectional) (eq-eqb (j % 2) 1 odd)
 
-kind-even : (j : ℕ) → 0 < j → j % 2 ≡ 0 → coding_type j ≡ Bidirectional
+pub kind-even : (j : ℕ) → 0 < j → j % 2 ≡ 0 → coding_type j ≡ Bidirectional
 unfolding coding_type
 kind-even j some even =
     ap (λ b. cond b Intra (cond (eqb (j % 2) 1) Predicted Bidirectional)) (ne_eqb j 0 (λ e. omega (arith, e, some)))
     ∙ ap (λ b. cond b Predicted Bidirectional) (ne_eqb (j % 2) 1 (λ e. omega (arith, e, even)))
 
-front-first : (j : ℕ) → j ≡ 0 → length (cond (eqb j 0) sequence_and_group []) ≡ 20
+pub front-first : (j : ℕ) → j ≡ 0 → length (cond (eqb j 0) sequence_and_group []) ≡ 20
 front-first j e = ap (λ b. length (cond b sequence_and_group [])) (eq-eqb j 0 e)
 
-front-other : (j : ℕ) → 0 < j → length (cond (eqb j 0) sequence_and_group []) ≡ 0
+pub front-other : (j : ℕ) → 0 < j → length (cond (eqb j 0) sequence_and_group []) ≡ 0
 front-other j some = ap (λ b. length (cond b sequence_and_group [])) (ne_eqb j 0 (λ e. omega (arith, e, some)))
 
 pub intra-size : (words : ℕ → ℕ) (k : ℕ) → k % 12 ≡ 0 → (28 + 4 * (4 + 300) ≤ length (picture_of words k)) × (length (picture_of words k) ≤ 28 + 4 * (4 + 1499))

@@ -1,6 +1,6 @@
 -- A made system stream in the fields of the standard: a pack header and a packet of video for each
 -- 2,000 bytes.
-use Rattle.std.proofs.Common.{ℕ, zero, suc, min, ◌+◌, ◌-◌, ◌*◌, ◌/◌, ◌%◌, ◌^◌, ◌≤◌, ◌<◌, ◌≡◌, List}
+use Rattle.std.proofs.Common.{ℕ, zero, suc, ◌+◌, ◌*◌, ◌/◌, ◌%◌, ◌^◌, ◌≤◌, ◌≡◌, List}
 use Rattle.std.proofs.Common.{[], ◌∷◌}
 use Rattle.std.proofs.Common.{◌++◌, length, take, drop, None, refl, sym, ap, subst, ◌∙◌, arith, inr}
 use Rattle.std.specs.List.{flat_map, range_with_len}
@@ -13,7 +13,7 @@ use Rattle.sys_demux.specs.Standard.Stamps.{NoStamp}
 use Rattle.sys_demux.specs.Streams.{IsSystem}
 use Rattle.sys_demux.proofs.StandardStreams.{stream_read}
 use Rattle.film_make.specs.Generator.{concat}
-use Rattle.film_make.specs.System.{pack_header, pack_of, packs_of, system_of}
+use Rattle.film_make.specs.System.{pack_header, pack_of, system_of}
 
 -- the packet of some video
 abbrev packet : List ℕ → Element

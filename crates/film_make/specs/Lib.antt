@@ -3,3 +3,4 @@ pub mod Trace
 pub mod Film
 pub mod System
 pub mod Headers
+pub mod Slices

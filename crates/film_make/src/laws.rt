@@ -5,6 +5,7 @@ ghost use Rattle.mpeg_scan.specs.Standard.{temporal_reference};
 ghost use Rattle.sys_demux.specs.Streams.{IsSystem};
 ghost use Rattle.film_make.specs.Film.{picture_of, pictures_of, sequence_and_group};
 ghost use Rattle.film_make.specs.Headers.{IsGroupHeader, IsSequenceHeader, IsWithin, field_of};
+ghost use Rattle.film_make.specs.Slices.{EndsWithSlices};
 ghost use Rattle.film_make.specs.System.{system_of};
 ghost use Rattle.film_make.specs.Trace.{sizes_of, trace_of, trace_size};
 
@@ -49,6 +50,16 @@ pub fn law_picture_sizes()
         IsWithin (9 + 4 * (4 + 60)) (9 + 4 * (4 + 459)) (length (picture_of words k)) }
     ensures bidirectional { (words : ℕ → ℕ) (k : ℕ) → 0 < k % 12 → k % 12 % 2 ≡ 0 →
         IsWithin (9 + 4 * (4 + 30)) (9 + 4 * (4 + 229)) (length (picture_of words k)) }
+{}
+
+/// A picture is its headers and four slices, and nothing else: with those of its sequence and group
+/// 28 bytes of headers, else 9, and slices 1 to 4 in order, each with its start code and bytes among
+/// which no other start code stands.
+pub fn law_picture_slices()
+    ensures first { (words : ℕ → ℕ) (k : ℕ) → k % 12 ≡ 0 →
+        EndsWithSlices 28 4 (picture_of words k) }
+    ensures other { (words : ℕ → ℕ) (k : ℕ) → k % 12 ≢ 0 →
+        EndsWithSlices 9 4 (picture_of words k) }
 {}
 
 /// A film of fewer pictures is the front of a film of more, but for its end.
