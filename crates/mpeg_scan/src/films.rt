@@ -61,7 +61,7 @@ pub fn scan(alloc: Global, bytes: Vec<u8>) -> Result<Film, ScanRefused>
 
 /// A law on the definitions: the start codes of a film's bytes are those that stand in them, each
 /// at its place: the bytes 00 00 01, and a kind.
-pub fn start_codes_stand(bytes: &[u8])
+pub fn law_start_codes(bytes: &[u8])
     ensures { (place : ℕ) (kind : ℕ) →
         HasCode place kind (codes_of (read [] bytes.now)) ↔ StandsAt bytes.now place kind }
 {

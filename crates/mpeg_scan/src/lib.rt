@@ -15,7 +15,7 @@ mod texts;
 mod units;
 
 pub use faults::{FilmFault, ScanRefused};
-pub use films::{Film, scan, start_codes_stand};
+pub use films::{Film, law_start_codes, scan};
 pub use found::Found;
 pub use laws::{
     law_codes_in_order, law_film, law_one_list_of_units, law_picture_rates, law_refusals,

@@ -80,9 +80,12 @@ impl Scanner {
         requires { IsReady (F.ready_at found.old) self }
         ensures ended { IfOk result (λ e. (r : List ℕ) → HasScannedBytes self r
             → (refusal_of r ≡ None) × (e.rate ≡ rate_of (codes_of r)) × (e.bytes ≡ length r)) }
-        ensures tiled { OnOk result ((r : List ℕ) → HasScannedBytes self r → Tiles r (all_calls r)) }
-        ensures grammatical { OnOk result ((r : List ℕ) → HasScannedBytes self r → IsGrammatical r) }
-        ensures numbered { OnOk result ((r : List ℕ) → HasScannedBytes self r → AreNumbered (all_calls r)) }
+        ensures tiled { OnOk result ((r : List ℕ) → HasScannedBytes self r →
+            Tiles r (all_calls r)) }
+        ensures grammatical { OnOk result ((r : List ℕ) → HasScannedBytes self r →
+            IsGrammatical r) }
+        ensures numbered { OnOk result ((r : List ℕ) → HasScannedBytes self r →
+            AreNumbered (all_calls r)) }
         ensures told { OnOk result ((r : List ℕ) (calls : List Call) → HasScannedBytes self r →
             F.heard found.old (calls ++ calls_of (codes_of r))
             → F.heard found.new (calls ++ all_calls r)) }

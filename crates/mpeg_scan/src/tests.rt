@@ -6,8 +6,8 @@ ghost use Rattle.std.specs.Prelude.{⊤, ◌<◌};
 mod refusals;
 
 use crate::{
-    FilmFault, Found, Kind, ScanRefused, Scanner, Unit, law_film, picture_units, scan,
-    start_codes_stand,
+    FilmFault, Found, Kind, ScanRefused, Scanner, Unit, law_film, law_start_codes, picture_units,
+    scan,
 };
 use std::alloc::{AllocError, Global};
 use std::test::Fail;
@@ -140,7 +140,7 @@ fn picture_of(kind: u8) -> [u8; 8]
 #[test]
 fn units_of_films(rt: HostRuntime) -> Result<(), Fail> {
     let bytes = joined(rt.alloc(), &[&SEQUENCE, &GROUP, &PICTURE_I, &SLICE])?;
-    start_codes_stand(&bytes);
+    law_start_codes(&bytes);
     match scan(rt.alloc(), bytes) {
         Ok(film) => {
             assert_eq!(rt; film.rate, 3);
