@@ -1,7 +1,6 @@
 //! A gate that makes a connection, as a client does.
 
-ghost use Rattle.std.specs.Prelude.{◌≡◌, ◌≤◌, None, IfOk, IfSome};
-ghost use Rattle.vod_base.specs.Outside.{HasRisen};
+ghost use Rattle.std.specs.Prelude.{◌≡◌, None, IfOk, IfSome};
 
 use crate::faults::Faults;
 use crate::links::{SlotClock, TcpLink};
@@ -71,15 +70,6 @@ impl<'a, R: Net<Listener = TcpListener, Stream = TcpStream> + Clock> DialGate<'a
             }
         }
     }
-
-    /// Counts a fault.
-    fn fault(&mut self) -> GateFault
-        ensures count { self.old.faults.count ≤ self.new.faults.count }
-        ensures risen { HasRisen self.old.faults.count self.new.faults.count }
-    {
-        self.faults.add();
-        GateFault
-    }
 }
 
 impl<'a, R: Net<Listener = TcpListener, Stream = TcpStream> + Clock> Gate for DialGate<'a, R> {
@@ -98,13 +88,13 @@ impl<'a, R: Net<Listener = TcpListener, Stream = TcpStream> + Clock> Gate for Di
                 self.dialed = Some(dialed);
                 Ok(())
             }
-            Err(_) => Err(self.fault()),
+            Err(_) => Err(self.faults.add_gate_fault()),
         }
     }
 
     fn split(&mut self) -> Result<Self, GateFault> {
         if !self.is_open {
-            return Err(self.fault());
+            return Err(self.faults.add_gate_fault());
         }
         Ok(DialGate {
             rt: self.rt,
@@ -118,7 +108,7 @@ impl<'a, R: Net<Listener = TcpListener, Stream = TcpStream> + Clock> Gate for Di
     fn take(&mut self) -> Result<Option<TcpLink<'a, R>>, GateFault> {
         match self.next_link() {
             Ok(next) => Ok(next),
-            Err(_) => Err(self.fault()),
+            Err(_) => Err(self.faults.add_gate_fault()),
         }
     }
 

@@ -3,6 +3,8 @@
 ghost use Rattle.std.specs.Prelude.{◌≡◌, ◌≤◌, ◌<◌};
 ghost use Rattle.vod_base.specs.Outside.{HasRisen};
 
+use vod_base::GateFault;
+
 /// How many faults an object has counted, at most 2^64 - 1.
 #[derive(Clone, Copy)]
 pub(crate) struct Faults {
@@ -23,6 +25,15 @@ impl Faults {
         ensures risen { HasRisen self.old.count self.new.count }
     {
         self.count = self.count.saturating_add(1);
+    }
+
+    /// Counts a fault of a gate.
+    pub(crate) fn add_gate_fault(&mut self) -> GateFault
+        ensures count { self.old.count ≤ self.new.count }
+        ensures risen { HasRisen self.old.count self.new.count }
+    {
+        self.add();
+        GateFault
     }
 
     /// Counts the faults of a part, too.

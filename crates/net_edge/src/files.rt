@@ -1,3 +1,5 @@
+//! The files of the current folder.
+
 ghost use Rattle.std.specs.Prelude.{◌≡◌, None};
 
 use crate::faults::Faults;

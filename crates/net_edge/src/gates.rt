@@ -1,5 +1,6 @@
-ghost use Rattle.std.specs.Prelude.{◌≡◌, ◌≤◌, None, IfOk, IfSome};
-ghost use Rattle.vod_base.specs.Outside.{HasRisen};
+//! A gate that takes connections, as a server does.
+
+ghost use Rattle.std.specs.Prelude.{◌≡◌, None, IfOk, IfSome};
 
 use crate::faults::Faults;
 use crate::links::{SlotClock, TcpLink};
@@ -123,15 +124,6 @@ impl<'a, R: Net<Listener = TcpListener, Stream = TcpStream> + Clock> TcpGate<'a,
         self.given = self.given.saturating_add(1);
         Ok(Some(link))
     }
-
-    /// Counts a fault.
-    fn fault(&mut self) -> GateFault
-        ensures count { self.old.faults.count ≤ self.new.faults.count }
-        ensures risen { HasRisen self.old.faults.count self.new.faults.count }
-    {
-        self.faults.add();
-        GateFault
-    }
 }
 
 impl<'a, R: Net<Listener = TcpListener, Stream = TcpStream> + Clock> Gate for TcpGate<'a, R> {
@@ -149,7 +141,7 @@ impl<'a, R: Net<Listener = TcpListener, Stream = TcpStream> + Clock> Gate for Tc
                 self.door = Some(door);
                 Ok(())
             }
-            Err(_) => Err(self.fault()),
+            Err(_) => Err(self.faults.add_gate_fault()),
         }
     }
 
@@ -162,14 +154,14 @@ impl<'a, R: Net<Listener = TcpListener, Stream = TcpStream> + Clock> Gate for Tc
                 given: 0,
                 faults: Faults::none(),
             }),
-            Err(_) => Err(self.fault()),
+            Err(_) => Err(self.faults.add_gate_fault()),
         }
     }
 
     fn take(&mut self) -> Result<Option<TcpLink<'a, R>>, GateFault> {
         match self.next_link() {
             Ok(next) => Ok(next),
-            Err(_) => Err(self.fault()),
+            Err(_) => Err(self.faults.add_gate_fault()),
         }
     }
 

@@ -1,3 +1,5 @@
+//! Bytes that wait to be written.
+
 ghost use Rattle.std.specs.Prelude.{◌≡◌, ◌+◌, ◌-◌, ◌<◌, ◌≤◌, ◌++◌, [], length, take, drop, min, vec_capacity, IfOk};
 
 use std::alloc::{AllocError, Global};

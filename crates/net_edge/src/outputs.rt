@@ -1,3 +1,5 @@
+//! Streams that are written to.
+
 ghost use Rattle.std.specs.Prelude.{None};
 
 use crate::faults::Faults;

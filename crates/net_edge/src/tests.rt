@@ -1,8 +1,13 @@
 //! Over the loopback interface and the test's own folder.
+ghost use Rattle.std.specs.Prelude.{IfSome};
+ghost use Rattle.vod_base.specs.Gates.{MaySplit};
+
 use super::*;
+use std::alloc::Global;
 use std::io::{Read, Write};
-use std::net::{Ipv4Addr, Shutdown, SocketAddr, TcpStream};
+use std::net::{Ipv4Addr, Net, Shutdown, SocketAddr, TcpListener, TcpStream};
 use std::test::Fail;
+use std::time::Clock;
 use std::{fs, io};
 use vod_base::{Gate, GateFault, Heard, Library, Link, Opening, Sink};
 
@@ -17,6 +22,53 @@ const HOW: Opening = Opening {
 /// Whether a value may go to another thread.
 fn is_sent<T: Send>(_value: &T) -> bool {
     true
+}
+
+/// An open gate, and its port.
+fn open_gate<'a, R: Net<Listener = TcpListener, Stream = TcpStream> + Clock>(
+    rt: &'a R,
+    alloc: Global,
+    how: &Opening,
+) -> Result<(TcpGate<'a, R>, u16), Fail> {
+    let mut gate = TcpGate::new(rt, alloc);
+    if gate.open(how).is_err() {
+        return Err(Fail::from("the port isn't open"));
+    }
+    match gate.port() {
+        Some(port) => Ok((gate, port)),
+        None => Err(Fail::from("no port")),
+    }
+}
+
+/// A part of a gate.
+fn part_of<G: Gate>(gate: &mut G) -> Result<G, Fail>
+    requires { IfSome (G.told gate.old) MaySplit }
+{
+    match gate.split() {
+        Ok(part) => Ok(part),
+        Err(_) => Err(Fail::from("no part")),
+    }
+}
+
+/// The next connection of a gate.
+fn link_of<G: Gate>(gate: &mut G) -> Result<G::Conn, Fail> {
+    match gate.take() {
+        Ok(Some(link)) => Ok(link),
+        Ok(None) | Err(_) => Err(Fail::from("no connection")),
+    }
+}
+
+/// Whether a gate has no more connections.
+fn gives_none<G: Gate>(gate: &mut G) -> bool
+where
+    G::Conn: Drop,
+{
+    matches!(gate.take(), Ok(None))
+}
+
+/// Whether the next event is a slot.
+fn hears_slot<K: Link>(link: &mut K) -> bool {
+    matches!(link.next(&mut [0; 8]), Ok(Heard::Slot(_)))
 }
 
 /// The next event that is no slot, and how many slots were heard before it.
@@ -39,52 +91,148 @@ fn next_but_slots<K: Link>(link: &mut K, into: &mut [u8; 8]) -> Result<(Heard, u
     Err(Fail::from("slots alone"))
 }
 
+/// Hears these bytes next but for slots, and answers how many slots those are.
+fn hear<K: Link>(link: &mut K, want: &[u8]) -> Result<u32, Fail> {
+    let mut into = [0; 8];
+    match next_but_slots(link, &mut into)? {
+        (Heard::Bytes(count), slots) if into.get(..count) == Some(want) => Ok(slots),
+        _ => Err(Fail::from("other bytes")),
+    }
+}
+
+/// Whether the end is heard next, but for slots.
+fn hears_end<K: Link>(link: &mut K) -> Result<bool, Fail> {
+    Ok(next_but_slots(link, &mut [0; 8])?.0 == Heard::End)
+}
+
+/// Sends each of these texts.
+fn send<K: Link>(link: &mut K, texts: &[&str]) -> Result<(), Fail> {
+    for text in texts {
+        if link.send(text.as_bytes()).is_err() {
+            return Err(Fail::from("nothing sent"));
+        }
+    }
+    Ok(())
+}
+
+/// Bytes go both ways, and the last ones are still on their way at the end.
+fn speak<K: Link, S: Read + Write>(link: &mut K, client: &mut S) -> Result<(), Fail> {
+    client.write_all(b"abc")?;
+    if hear(link, b"abc")? == 0 {
+        return Err(Fail::from("no slot"));
+    }
+    send(link, &["xy", "z"])?;
+    if !hears_slot(link) {
+        return Err(Fail::from("no slot at once"));
+    }
+    let mut came = [0; 3];
+    client.read_exact(&mut came)?;
+    if &came != b"xyz" {
+        return Err(Fail::from("other bytes came"));
+    }
+    client.write_all(b"more")?;
+    send(link, &["last"])
+}
+
 #[test]
 fn speaks_over_loopback(rt: HostRuntime) -> Result<(), Fail> {
-    let mut gate = TcpGate::new(&rt, rt.alloc());
+    let (mut gate, port) = open_gate(&rt, rt.alloc(), &HOW)?;
     assert!(rt; is_sent(&gate));
-    assert_eq!(rt; gate.open(&HOW), Ok(()));
-    let Some(port) = gate.port() else {
-        return Err(Fail::from("no port"));
-    };
-    let Ok(mut part) = gate.split() else {
-        return Err(Fail::from("no part"));
-    };
-    let address = SocketAddr::from((Ipv4Addr::LOCALHOST, port));
-    let mut client = TcpStream::connect(&rt, address)?;
-    client.write_all(b"abc")?;
-    let Ok(Some(mut link)) = part.take() else {
-        return Err(Fail::from("no connection"));
-    };
-    let mut into = [0; 8];
-    let (heard, slots) = next_but_slots(&mut link, &mut into)?;
-    assert_eq!(rt; (heard, slots > 0), (Heard::Bytes(3), true));
-    assert_eq!(rt; into.get(..3), Some(&b"abc"[..]));
-    assert_eq!(rt; link.send(b"xy"), Ok(()));
-    assert_eq!(rt; link.send(b"z"), Ok(()));
-    assert!(rt; matches!(link.next(&mut into), Ok(Heard::Slot(_))));
-    assert_eq!(rt; client.read(&mut into)?, 3);
-    assert_eq!(rt; into.get(..3), Some(&b"xyz"[..]));
-    client.write_all(b"more")?;
-    assert_eq!(rt; link.send(b"last"), Ok(()));
+    let mut part = part_of(&mut gate)?;
+    let mut client = TcpStream::connect(&rt, SocketAddr::from((Ipv4Addr::LOCALHOST, port)))?;
+    let mut link = link_of(&mut part)?;
+    speak(&mut link, &mut client)?;
     client.shutdown(Shutdown::Write)?;
     part.give_back(link);
     let text = io::read_to_string(rt.alloc(), client)?;
     assert_eq!(rt; text.as_str(), "last");
-    assert!(rt; matches!(part.take(), Ok(None)));
+    assert!(rt; gives_none(&mut part));
     gate.rejoin(part);
+    Ok(())
+}
+
+#[test]
+fn refuses_a_port_in_use(rt: HostRuntime) -> Result<(), Fail> {
+    let (_gate, port) = open_gate(&rt, rt.alloc(), &HOW)?;
     let mut second = TcpGate::new(&rt, rt.alloc());
     assert_eq!(rt; second.open(&Opening { port, ..HOW }), Err(GateFault));
     assert!(rt; second.split().is_err());
     Ok(())
 }
 
+/// A gate that is connected to a port.
+fn open_dial<R: Net<Listener = TcpListener, Stream = TcpStream> + Clock>(
+    rt: &R,
+    alloc: Global,
+    port: u16,
+) -> Result<DialGate<'_, R>, Fail> {
+    let mut dial = DialGate::new(rt, alloc);
+    match dial.open(&Opening { port, ..HOW }) {
+        Ok(()) => Ok(dial),
+        Err(_) => Err(Fail::from("not connected")),
+    }
+}
+
+/// What is sent from one end leaves at that end's next wait, and comes to the other.
+fn meet<N: Link, F: Link>(near: &mut N, far: &mut F) -> Result<(), Fail> {
+    let first = hears_slot(near);
+    send(near, &["abc"])?;
+    if !first || !hears_slot(near) {
+        return Err(Fail::from("no slot"));
+    }
+    hear(far, b"abc")?;
+    Ok(())
+}
+
+#[test]
+fn dials_over_loopback(rt: HostRuntime) -> Result<(), Fail> {
+    let (mut gate, port) = open_gate(&rt, rt.alloc(), &Opening { all: true, ..HOW })?;
+    let mut dial = open_dial(&rt, rt.alloc(), port)?;
+    let mut first = part_of(&mut dial)?;
+    let mut second = part_of(&mut dial)?;
+    let mut near = link_of(&mut first)?;
+    assert!(rt; gives_none(&mut first) && gives_none(&mut second));
+    let mut far = link_of(&mut gate)?;
+    meet(&mut near, &mut far)?;
+    drop(far);
+    assert!(rt; hears_end(&mut near)?);
+    first.give_back(near);
+    dial.rejoin(first);
+    dial.rejoin(second);
+    Ok(())
+}
+
+#[test]
+fn dials_nobody(rt: HostRuntime) -> Result<(), Fail> {
+    let (gate, unused) = open_gate(&rt, rt.alloc(), &HOW)?;
+    drop(gate);
+    let mut dial = DialGate::new(&rt, rt.alloc());
+    assert!(rt; dial.split().is_err());
+    assert_eq!(rt;
+        dial.open(&Opening {
+            port: unused,
+            ..HOW
+        }),
+        Err(GateFault)
+    );
+    Ok(())
+}
+
+/// Whether a library reads this text at a place of a file, or fails.
+fn reads<L: Library>(library: &mut L, name: &str, at: u64, want: Option<&str>) -> bool {
+    let mut into = [0; 4];
+    let count = library.read(name, at, &mut into).ok();
+    let text = count.and_then(|count| into.get(..count));
+    text == want.map(|want| want.as_bytes())
+}
+
 #[test]
 fn reads_files(rt: HostRuntime) -> Result<(), Fail> {
     fs::write(&rt, "f.txt", "0123456789")?;
     let mut library = FileLibrary::new(&rt, rt.alloc());
-    assert_eq!(rt; library.find("f.txt"), Ok(Some(10)));
-    assert_eq!(rt; library.find("g.txt"), Ok(None));
+    for (name, size) in [("f.txt", Some(10)), ("g.txt", None)] {
+        assert_eq!(rt; library.find(name), Ok(size), "{name}");
+    }
     for (name, at, want) in [
         ("f.txt", 0, Some("0123")),
         ("f.txt", 4, Some("4567")),
@@ -93,58 +241,18 @@ fn reads_files(rt: HostRuntime) -> Result<(), Fail> {
         ("f.txt", 1, Some("1234")),
         ("g.txt", 0, None),
     ] {
-        let mut into = [0; 4];
-        let count = library.read(name, at, &mut into).ok();
-        assert_eq!(rt; count, want.map(|text| text.len()), "{name} at {at}");
-        let text = into.get(..count.unwrap_or(0));
-        assert_eq!(rt; text, Some(want.unwrap_or("").as_bytes()), "{name} at {at}");
+        assert!(rt; reads(&mut library, name, at, want), "{name} at {at}");
     }
-    let mut sink = OutSink::new(fs::create(&rt, "o.txt")?);
-    assert_eq!(rt; sink.write_all(b"out"), Ok(()));
-    assert_eq!(rt; library.find("o.txt"), Ok(Some(3)));
     Ok(())
 }
 
 #[test]
-fn dials_over_loopback(rt: HostRuntime) -> Result<(), Fail> {
-    let mut gate = TcpGate::new(&rt, rt.alloc());
-    assert_eq!(rt; gate.open(&Opening { all: true, ..HOW }), Ok(()));
-    let Some(port) = gate.port() else {
-        return Err(Fail::from("no port"));
-    };
-    let mut dial = DialGate::new(&rt, rt.alloc());
-    assert!(rt; dial.split().is_err());
-    assert_eq!(rt; dial.open(&Opening { port, ..HOW }), Ok(()));
-    let (Ok(mut first), Ok(mut second)) = (dial.split(), dial.split()) else {
-        return Err(Fail::from("no part"));
-    };
-    let Ok(Some(mut near)) = first.take() else {
-        return Err(Fail::from("no connection"));
-    };
-    assert!(rt; matches!((first.take(), second.take()), (Ok(None), Ok(None))));
-    let Ok(Some(mut far)) = gate.take() else {
-        return Err(Fail::from("nobody came"));
-    };
-    let mut into = [0; 8];
-    assert!(rt; matches!(near.next(&mut into), Ok(Heard::Slot(_))));
-    assert_eq!(rt; near.send(b"abc"), Ok(()));
-    assert!(rt; matches!(near.next(&mut into), Ok(Heard::Slot(_))));
-    assert_eq!(rt; next_but_slots(&mut far, &mut into)?.0, Heard::Bytes(3));
-    assert_eq!(rt; into.get(..3), Some(&b"abc"[..]));
-    drop(far);
-    assert_eq!(rt; next_but_slots(&mut near, &mut into)?.0, Heard::End);
-    first.give_back(near);
-    dial.rejoin(first);
-    dial.rejoin(second);
-    gate.open(&HOW).ok();
-    let unused = gate.port().unwrap_or(1);
-    drop(gate);
+fn writes_files(rt: HostRuntime) -> Result<(), Fail> {
+    let mut sink = OutSink::new(fs::create(&rt, "o.txt")?);
+    assert_eq!(rt; sink.write_all(b"out"), Ok(()));
     assert_eq!(rt;
-        dial.open(&Opening {
-            port: unused,
-            ..HOW
-        }),
-        Err(GateFault)
+        FileLibrary::new(&rt, rt.alloc()).find("o.txt"),
+        Ok(Some(3))
     );
     Ok(())
 }
