@@ -1,0 +1,164 @@
+#!/usr/bin/env python3
+"""Proves the crates of vodserve side by side, and builds the program.
+
+    tools/build.py [JOBS]
+
+Takes JOBS processors, or as many as there are and memory allows. `rt` keeps other runs out of the crates that it works on, and
+of those below them, so each lane has a copy of the sources, and gets the libraries that the other lanes built. What is
+proved and built is rt's affair: at the end `rt run` in crates/vodserve takes each library only where it is of the same sources.
+Says on the error stream how far it is. Ends with 0 where the program was built, else with 1, after what rt said of the crate that failed.
+"""
+
+import concurrent.futures
+import os
+import shutil
+import subprocess
+import sys
+import tempfile
+import time
+
+TOP = os.path.dirname(os.path.dirname(os.path.abspath(__file__)))
+PROGRAM = "vodserve"
+# What one check takes of memory, in bytes, where it is large.
+MEMORY_OF_A_CHECK = 3_000_000_000
+
+
+def say(text):
+    print(f"vodserve: {text}", file=sys.stderr, flush=True)
+
+
+def in_words(seconds):
+    return f"{seconds:.0f} s" if seconds < 90 else f"{seconds / 60:.0f} min"
+
+
+def read_crates():
+    """Returns for each crate of crates.txt the crates of the repository that it stands on."""
+    with open(f"{TOP}/crates.txt", encoding="utf-8") as file:
+        lines = [line.split("#")[0].partition(":") for line in file]
+    names = {name.split()[0]: below.split() for name, _, below in lines if name.strip()}
+    return {name: [it for it in below if it in names] for name, below in names.items()}
+
+
+def all_below(crates, name):
+    return {it for below in crates[name] for it in {below} | all_below(crates, below)}
+
+
+def lines_of(name):
+    """Returns how many lines of code, definitions and proofs a crate has: its check takes about as long as these are many."""
+    count = 0
+    for part in ("src", "specs", "proofs"):
+        for folder, _, files in os.walk(f"{TOP}/crates/{name}/{part}"):
+            for file in files:
+                with open(f"{folder}/{file}", "rb") as it:
+                    count += it.read().count(b"\n")
+    return count
+
+
+def jobs_now():
+    """Returns how many checks run side by side: one a processor, as many as memory holds."""
+    processors = len(os.sched_getaffinity(0))
+    with open("/proc/meminfo", encoding="ascii") as file:
+        free = next((int(it.split()[1]) * 1024 for it in file if it.startswith("MemAvailable")), MEMORY_OF_A_CHECK)
+    return max(1, min(processors, free // MEMORY_OF_A_CHECK))
+
+
+class Build:
+    """The crates below the program, each to be proved once those below it are."""
+
+    def __init__(self, jobs, room):
+        crates = read_crates()
+        self.below = {it: all_below(crates, it) for it in all_below(crates, PROGRAM)}
+        self.lines = {it: lines_of(it) for it in [*self.below, PROGRAM]}
+        self.jobs, self.room, self.done, self.begin = jobs, room, [], time.monotonic()
+        self.lanes = [f"{room}/{lane}" for lane in range(jobs)]
+        for lane in self.lanes:
+            shutil.copytree(f"{TOP}/crates", f"{lane}/crates", ignore=shutil.ignore_patterns("out"))
+            for file in ("crates.txt", "HANDLES"):
+                shutil.copy(f"{TOP}/{file}", lane)
+
+    def rest_of(self, name):
+        """Returns the lines of the longest chain of crates from this one up: those with the longest go first."""
+        above = [self.rest_of(it) for it, below in self.below.items() if name in below]
+        return self.lines[name] + max(above, default=0)
+
+    def prove(self, lane, name, jobs):
+        """Returns whether a lane's rt proved a crate and built its library; what it said stands in the room."""
+        with open(f"{self.room}/{name}.log", "w", encoding="utf-8") as log:
+            words = ["rt", "lib", "--jobs", str(jobs)]
+            return subprocess.call(words, cwd=f"{lane}/crates/{name}", stdout=log, stderr=log, stdin=subprocess.DEVNULL) == 0
+
+    def hand_out(self, lane, name):
+        """Gives the library that a lane built to the other lanes and to the checkout."""
+        for other in [TOP, *self.lanes]:
+            if other != lane:
+                to = f"{other}/crates/{name}/out"
+                shutil.rmtree(f"{to}/rlib", ignore_errors=True)
+                os.makedirs(to, exist_ok=True)
+                shutil.copytree(f"{lane}/crates/{name}/out/rlib", f"{to}/rlib")
+
+    def tell(self, what):
+        taken = time.monotonic() - self.begin
+        proved = sum(self.lines[it] for it in self.done)
+        left = sum(self.lines.values()) - proved
+        # before an eighth is proved there is too little to go by
+        rest = f", about {in_words(taken * left / proved)} left" if proved * 7 >= left else ""
+        say(f"{in_words(taken)}: {what} ({len(self.done)} of {len(self.lines)} crates{rest})")
+
+    def run(self):
+        """Returns the name of a crate that was not proved, or None."""
+        left = sorted(self.below, key=self.rest_of, reverse=True)
+        free, running, lanes = self.jobs, {}, [*self.lanes]
+        with concurrent.futures.ThreadPoolExecutor(self.jobs) as pool:
+            while left or running:
+                ready = [it for it in left if self.below[it] <= {*self.done}]
+                for place, name in enumerate(ready):
+                    if free == 0:
+                        break
+                    jobs = max(1, free // (len(ready) - place))
+                    lane = lanes.pop()
+                    left.remove(name)
+                    free -= jobs
+                    running[pool.submit(self.prove, lane, name, jobs)] = name, lane, jobs
+                ended, _ = concurrent.futures.wait(running, timeout=60, return_when=concurrent.futures.FIRST_COMPLETED)
+                for it in ended:
+                    name, lane, jobs = running.pop(it)
+                    if not it.result():
+                        return name
+                    self.hand_out(lane, name)
+                    lanes.append(lane)
+                    free += jobs
+                    self.done.append(name)
+                    self.tell(f"{name} is proved")
+                if not ended:
+                    self.tell(f"at {', '.join(name for name, _, _ in running.values())}")
+        return None
+
+
+def told_in(file):
+    """Returns the lines of a log that say what failed, and its last line."""
+    with open(file, encoding="utf-8", errors="replace") as it:
+        lines = [line.rstrip() for line in it]
+    return "\n".join([line for line in lines if "error" in line or "not proved" in line][:12] + lines[-1:])
+
+
+def main():
+    jobs = int(sys.argv[1]) if len(sys.argv) > 1 else jobs_now()
+    with tempfile.TemporaryDirectory(prefix="vodserve-build-") as room:
+        build = Build(jobs, room)
+        say(f"proving {len(build.lines)} crates, {jobs} at a time, and building the program, this once")
+        failed = build.run()
+        if failed is None:
+            failed, log = PROGRAM, f"{room}/{PROGRAM}.log"
+            with open(log, "w", encoding="utf-8") as file:
+                words = ["rt", "run", "--", "--version"]
+                status = subprocess.call(words, cwd=f"{TOP}/crates/{PROGRAM}", stdout=file, stderr=file, stdin=subprocess.DEVNULL)
+            if status == 0:
+                say(f"{in_words(time.monotonic() - build.begin)}: all proved, and the program is built")
+                return 0
+        say(f"{failed} could not be proved or built; rt said:")
+        print(told_in(f"{room}/{failed}.log"), file=sys.stderr)
+        return 1
+
+
+if __name__ == "__main__":
+    sys.exit(main())
