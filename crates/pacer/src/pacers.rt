@@ -52,7 +52,8 @@ impl<T: Track> Model for Pacer<T> {
 
     ghost invariant = { λ p.
         IsPacing (pacing_of (T.pieces p.track) p.before p.cursor p.start p.keep
-        (slots_through p.last) p.due p.sent) × (p.total ≡ length (framed_bytes (T.pieces p.track))) };
+        (slots_through p.last) p.due p.sent)
+        × (p.total ≡ length (framed_bytes (T.pieces p.track))) };
 }
 
 /// The later of two slots of a plan, where the first may be none.

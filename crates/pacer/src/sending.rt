@@ -77,8 +77,9 @@ pub(crate) fn send_between<T: Track, K: Link>(
     ensures fault { OnErr result (HasRisen (K.faults link.old) (K.faults link.new)) }
     ensures whole { OnOk result (K.told link.new ≡ told_more (K.told link.old)
         (sends (bytes_between (T.pieces track.now) from to))) }
-    ensures stopped { IfErr result (λ stopped. HasStopped (bytes_between (T.pieces track.now) from to)
-        (K.told link.old) (K.told link.new) stopped.0) }
+    ensures stopped { IfErr result (λ stopped.
+        HasStopped (bytes_between (T.pieces track.now) from to) (K.told link.old) (K.told link.new)
+        stopped.0) }
 {
     let mut head = [0; 52];
     let mut at = from;

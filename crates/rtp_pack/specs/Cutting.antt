@@ -1,15 +1,18 @@
 -- How a unit, a picture with its headers, is cut into the payloads of RTP packets of at most 1,380
 -- bytes. RFC 2250 section 3.1 wants that headers begin a packet and that a slice begins one too, or
--- follows headers or whole slices. Of the ways that it leaves this is one:
--- * the first piece begins with the whole head;
--- * a slice of at most 1,380 bytes is never cut: it goes into the piece that is being filled where
--- all of it
---   fits, and else begins the next;
--- * a longer slice begins in the piece that has nothing but the head, where that leaves room, and
--- else begins
---   the next; it fills each piece to 1,380 bytes, and no slice goes after its last fragment;
--- * a piece ends only where this says so, or with the unit. A unit's cut points are the places
--- where its pieces end, the last of them the unit's end.
+-- follows headers or whole slices. Of the ways that it leaves this is one.
+--
+-- The first piece begins with the whole head.
+--
+-- A slice of at most 1,380 bytes is never cut: it goes into the piece that is being filled where
+-- all of it fits, and else begins the next.
+--
+-- A longer slice begins in the piece that has nothing but the head, where that leaves room, and
+-- else begins the next; it fills each piece to 1,380 bytes, and no slice goes after its last
+-- fragment.
+--
+-- A piece ends only where this says so, or with the unit. A unit's cut points are the places where
+-- its pieces end, the last of them the unit's end.
 use Rattle.std.specs.Prelude.{ℕ, zero, suc, ◌+◌, ◌-◌, ◌*◌, ◌/◌, ◌<◌, ◌≤◌, ◌≡◌, ◌⊎◌, Bool, true}
 use Rattle.std.specs.Prelude.{false, nat_le, nat_lt, if◌then◌else◌, List, [], ◌∷◌, ◌++◌}
 use Rattle.rtp_pack.specs.declared.filling.Filling.{Filling}
