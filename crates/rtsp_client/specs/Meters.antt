@@ -84,6 +84,6 @@ watched_in wish h = record {
   frames = frames h;
   reports = reports h;
   most = most wish h;
-  count_over = count_over wish h;
-  count_under = count_under wish h;
+  over = count_over wish h;
+  under = count_under wish h;
 }
