@@ -1,5 +1,5 @@
 -- Turns of a large day, one after the other.
-use Rattle.std.proofs.Common.{◌≡◌, ◌<◌, ◌+◌, ◌-◌, ◌%◌, ◌==◌, ℕ, max, Bool, false, cond, List, [], ◌∷◌, ◌++◌, length, map, get_or, arith, Result, Ok, Err, IfOk, refl, sym, ap, subst, ◌∙◌, inl, inr}
+use Rattle.std.proofs.Common.{◌≡◌, ◌<◌, ◌+◌, ◌-◌, ◌^◌, ◌%◌, ◌==◌, ℕ, max, Bool, false, cond, List, [], ◌∷◌, ◌++◌, length, map, get_or, arith, Result, Ok, Err, IfOk, refl, sym, ap, subst, ◌∙◌, inl, inr}
 use Rattle.std.specs.Prelude.{OnOk, count_by, sum_by}
 use Rattle.std.specs.List.{fold, range_with_len}
 use Rattle.std.proofs.lemmas.Bool.{cases_Bool, cond-false, eqb-true}
@@ -186,12 +186,15 @@ line-drawn r link client seat old new entries s b d source buffer delay es eb ed
     subst P e is
 
 -- no words are drawn
-pub none-left : (w : ℕ → ℕ) (n : ℕ) → n ≡ 0 → w ≡ after n w
+none-left : (w : ℕ → ℕ) (n : ℕ) → n ≡ 0 → w ≡ after n w
 none-left w n none = sym (ap (λ k. after k w) none ∙ after-zero w)
 
-pub no-words : (clients : List Client) (c : ℕ) (client : Client) → c < length clients → client ≡ get_or clients c client → words_for (seat_of client) ≡ 0
-    → words_for (get_or (map seat_of clients) c Idle) ≡ 0
-no-words clients c client inside at none = ap words_for (seat-at clients c client inside ∙ sym (ap seat_of at)) ∙ none
+-- a client for whom no word is drawn
+pub no-words : (w : ℕ → ℕ) (clients : List Client) (c : ℕ) (client : Client) → length clients ≡ 256 → c < 2 ^ 8 → client ≡ get_or clients c client
+    → words_for (seat_of client) ≡ 0 → w ≡ after (words_for (get_or (map seat_of clients) c Idle)) w
+no-words w clients c client count small at none =
+    let inside : c < length clients = omega (arith, count, small) in
+    none-left w _ (ap words_for (seat-at clients c client inside ∙ sym (ap seat_of at)) ∙ none)
 
 pub ready-morning : (m : Moment) → m ≡ first_moment → IsReady m
 ready-morning m is = ready-kept first_moment m is morning-ready

@@ -25,7 +25,7 @@ use Rattle.admission.proofs.Once.{answer-once}
 use Rattle.day_run.specs.declared.scripts.Line.{Line}
 use Rattle.day_run.specs.declared.scripts.Line.TheVariants as lines
 use Rattle.day_run.specs.DayLaws.{AreClients, IsClient, IsLink, IsSoundRest, IsSoundSeat}
-use Rattle.day_run.specs.Days.{AreRun, IsAnsweredPlay, IsAsked, IsDay, IsFull, IsHaltedPlay, IsLine, IsLookLine, IsNoted, IsOfferLine, IsPauseLine, IsPlayLine, IsResumeLine, IsTold, Link, Moment, entry_by, last_journal, last_lines, first_moment, rest_at, seat_at, with_play}
+use Rattle.day_run.specs.Days.{AreRun, IsAnsweredPlay, IsAsked, IsDay, IsFaulty, IsFull, IsHaltedPlay, IsLine, IsLookLine, IsNoted, IsOfferLine, IsPauseLine, IsPlayLine, IsResumeLine, IsTold, Link, Moment, entry_by, last_journal, last_lines, first_moment, rest_at, seat_at, with_play}
 use Rattle.day_run.specs.Prints.{fault_text, offer_text}
 use Rattle.report.specs.EntryLines.{entry_line}
 use Rattle.day_run.specs.Scripts.{AreLines, StandsAfter, slot_after}
@@ -98,12 +98,15 @@ one-planned link c rest plan old new new' text text' (inr a) (inr b) =
     one-noted link _ _ _ _ old new new' text text' (ap (entry_by c (commands.Play old.heard plan)) same)
     (ap (λ x. with_play c rest plan (length old.entries) x old.seats) same) a.noted b.noted
 
-one-asked : (link : Link) (c : ℕ) (rest : Rest) (old new new' : Moment) (text text' : List ℕ) → (0 < length (rest_sizes rest.sizes rest.run) → IsSoundRest rest)
-    → IsAsked link c rest old new text → IsAsked link c rest old new' text' → IsOne new new' text text'
-one-asked link c rest old new new' text text' own (inl a) (inl b) =
+one-fault : (rest : Rest) (old new new' : Moment) (text text' : List ℕ) → IsFaulty rest old new text → IsFaulty rest old new' text' → IsOne new new' text text'
+one-fault rest old new new' text text' a b =
     let same = fault-once (rest_sizes rest.sizes rest.run) (timing_of rest.playback rest.run) a.fault b.fault a.fault_is b.fault_is in
     let T : CurveFault → Type 0 = λ f. IsTold (fault_text f) old new text in
     one-told (fault_text b.fault) old new new' text text' (subst T same a.told) b.told
+
+one-asked : (link : Link) (c : ℕ) (rest : Rest) (old new new' : Moment) (text text' : List ℕ) → (0 < length (rest_sizes rest.sizes rest.run) → IsSoundRest rest)
+    → IsAsked link c rest old new text → IsAsked link c rest old new' text' → IsOne new new' text text'
+one-asked link c rest old new new' text text' own (inl a) (inl b) = one-fault rest old new new' text text' a b
 one-asked link c rest old new new' text text' own (inl a) (inr b) =
     absurd (fault-apart (rest_sizes rest.sizes rest.run) (timing_of rest.playback rest.run) a.fault a.fault_is b.plan_is.accepted)
 one-asked link c rest old new new' text text' own (inr a) (inl b) =
@@ -165,10 +168,7 @@ one-found one other w s t =
 
 one-offer : (link : Link) (rest : Rest) (wait : ℕ) (old new new' : Moment) (text text' : List ℕ) → (0 < length (rest_sizes rest.sizes rest.run) → IsSoundRest rest)
     → IsOfferLine link rest wait old new text → IsOfferLine link rest wait old new' text' → IsOne new new' text text'
-one-offer link rest wait old new new' text text' own (inl a) (inl b) =
-    let same = fault-once (rest_sizes rest.sizes rest.run) (timing_of rest.playback rest.run) a.fault b.fault a.fault_is b.fault_is in
-    let T : CurveFault → Type 0 = λ f. IsTold (fault_text f) old new text in
-    one-told (fault_text b.fault) old new new' text text' (subst T same a.told) b.told
+one-offer link rest wait old new new' text text' own (inl a) (inl b) = one-fault rest old new new' text text' a b
 one-offer link rest wait old new new' text text' own (inl a) (inr b) =
     absurd (fault-apart (rest_sizes rest.sizes rest.run) (timing_of rest.playback rest.run) a.fault a.fault_is b.plan_is.accepted)
 one-offer link rest wait old new new' text text' own (inr a) (inl b) =

@@ -1,5 +1,5 @@
--- The large day that a number draws: 16 traces, and then turns, in each of which the link may come to
--- a later slot and one client does something. The words are those of the number's generator; n
+-- The large day that a number draws: 16 traces, and then turns, in each of which the link may come
+-- to a later slot and one client does something. The words are those of the number's generator; n
 -- modulo a word's range is what a draw gives.
 use Rattle.std.specs.Prelude.{ℕ, zero, suc, ◌+◌, ◌-◌, ◌%◌, ◌≡◌, ◌==◌, max, Bool, true, false, if◌then◌else◌, List, [], ◌∷◌, codes, count_by, fold, length, map, sum_by, take}
 use Rattle.std.specs.List.{range_with_len}
@@ -151,8 +151,8 @@ made_of entries = record {
   halted = count_by (λ (e : Entry). is_halted e.answer) entries;
 }
 
--- A number's day of so many turns: the journal, which at the end has the halts of the plays that are
--- open, and the one line that is printed.
+-- A number's day of so many turns: the journal, which at the end has the halts of the plays that
+-- are open, and the one line that is printed.
 pub record IsFair (steps : List CapStep) (number plays : ℕ) (text : List ℕ) (journal : List Entry)
     : Type 0 where
   pub turns : List Turn

@@ -108,7 +108,7 @@ reading_of draft = record {
 }
 
 -- this is the place of a good name, which was noted, and nothing else was
-pub record IsSource (old new : Reading) (name : Name) (place : ℕ) : Type 0 where
+pub record IsPlaceOf (old new : Reading) (name : Name) (place : ℕ) : Type 0 where
   pub good : is_good_name name.name ≡ true
   pub place_is : place ≡ source_in old.names name
   pub new_is : new ≡ record old { names = with_name old.names name }

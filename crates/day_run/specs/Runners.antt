@@ -78,7 +78,7 @@ pub record IsKept (old new : Runner) : Type 0 where
   pub reels : new.reels.now ≡ old.reels.now
 
 -- the ranges of what is asked for
-pub record IsAsked (slot_units buffer delay : ℕ) : Type 0 where
+pub record IsWithinRanges (slot_units buffer delay : ℕ) : Type 0 where
   pub some_slot_units : 1 ≤ slot_units
   pub slot_units_fit : slot_units ≤ 360000
   pub some_buffer : 1 ≤ buffer

@@ -109,7 +109,8 @@ sent_between heard slot (Paused rest) = 0
 
 -- a pause is done as soon as all that is kept was sent
 abbrev pub pausing_seat : ℕ → Booked → Rest → Seat
-pausing_seat slot stop rest = if sent_by stop slot == stop.keep then Paused rest else Pausing stop rest
+pausing_seat slot stop rest =
+    if sent_by stop slot == stop.keep then Paused rest else Pausing stop rest
 
 -- a client once a slot was sent
 abbrev pub after_sending : ℕ → Seat → Seat

@@ -98,8 +98,8 @@ AreStanding names count heard (line ∷ lines) =
     IsNextName count line × MayStand heard names line
     × AreStanding names (names_after count line) (slot_after heard line) lines
 
--- Lines that a script may have, with the names of their films and traces, each once, in the order of
--- the lines that name them first.
+-- Lines that a script may have, with the names of their films and traces, each once, in the order
+-- of the lines that name them first.
 pub record AreWritten (names : List Name) (lines : List Line) : Type 0 where
   pub apart : (i j : ℕ) → i < j → j < length names → name_at names i ≢ name_at names j
   pub standing : AreStanding names 0 0 lines

@@ -8,7 +8,7 @@ ghost use Rattle.admission.specs.declared.entries.Answer.TheVariants.{Admitted};
 ghost use Rattle.admission.specs.Histories.{is_admission};
 ghost use Rattle.day_run.specs.Clients.{IsPlanFor, IsPlaying, IsRest, rest_of};
 ghost use Rattle.day_run.specs.Reels.{reel_sizes};
-ghost use Rattle.day_run.specs.Runners.{IsAsked};
+ghost use Rattle.day_run.specs.Runners.{IsWithinRanges};
 ghost use Rattle.day_run.specs.Seats.{Track, whole_rest};
 ghost use Rattle.day_run.specs.Tracks.{reel_track};
 
@@ -26,7 +26,8 @@ use wire_curve::{CurveFault, CurveRefused};
 pub(crate) fn reel_at<'r>(reels: &'r [Reel<'r>], source: usize) -> &'r Reel<'r>
     requires { source < length reels.now }
     ensures { (slot_units : ℕ) (none : Track) →
-        slice_index_or (map (reel_track slot_units) reels.now) source none ≡ reel_track slot_units result.now }
+        slice_index_or (map (reel_track slot_units) reels.now) source none
+        ≡ reel_track slot_units result.now }
 {
     match reels.get(source) {
         Some(reel) => reel,
@@ -41,7 +42,7 @@ pub(crate) fn whole_of<'r>(
     buffer: u64,
     delay: u64,
 ) -> Option<Rest<'r>>
-    requires { IsAsked slot_units buffer delay }
+    requires { IsWithinRanges slot_units buffer delay }
     ensures rest { IfSome result IsRest }
     ensures whole { IfSome result (λ rest.
         rest_of rest ≡ whole_rest slot_units (reel_track slot_units reel.now) buffer delay) }
@@ -62,7 +63,10 @@ pub(crate) fn whole_of<'r>(
 }
 
 /// The plan by which a rest is sent, or the fault of its curves.
-pub(crate) fn plan_rest(alloc: Global, rest: &Rest<'_>) -> Result<Result<Plan, CurveFault>, NoMemory>
+pub(crate) fn plan_rest(
+    alloc: Global,
+    rest: &Rest<'_>,
+) -> Result<Result<Plan, CurveFault>, NoMemory>
     requires { IsRest rest.now }
     ensures plan { IfOk result (λ planned. IfOk planned (IsPlanFor rest.now)) }
     ensures fault { IfOk result (λ planned. IfErr planned (HasFault

@@ -73,7 +73,8 @@ fn run_slot(runner: &mut Runner<'_>, slot: u64, text: &mut Vec<u8>) -> Result<()
     ensures kept { OnOk result (IsKept runner.old runner.new) }
     ensures heard { OnOk result (runner.new.heard ≡ slot) }
     ensures line { OnOk result (IsPrinted text.old.items text.new.items
-        (IsLine (link_on runner.old) (Line.Slot slot) (moment_of runner.old) (moment_of runner.new))) }
+        (IsLine (link_on runner.old) (Line.Slot slot) (moment_of runner.old)
+        (moment_of runner.new))) }
 {
     let from = runner.book.entries().len();
     let passed = runner.slot(slot);

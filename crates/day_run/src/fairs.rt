@@ -31,6 +31,34 @@ const TRACES: usize = 16;
 /// A slot in 1/360,000 second.
 const SLOT_UNITS: u32 = 14_400;
 
+/// A large day that a number determines: 16 drawn traces, 256 clients and so many turns on one
+/// book, 1 to 100,000.
+pub fn fair(alloc: Global, seed: u64, plays: u32, profile: Profile) -> Result<Day, NoMemory>
+    requires { plays ≤ 100000 }
+    ensures fair { IfOk result (λ day.
+        IsFair profile seed plays day.text.items day.journal.items) }
+    ensures legal { IfOk result (λ day. IsLegal profile day.journal.items) }
+{
+    let mut draws = Draws::new(seed);
+    let traces = draw_traces(alloc, &mut draws)?;
+    let reels = reels_of(alloc, &traces)?;
+    let mut runner = Runner::new(alloc, &reels, profile, MAX_ENTRIES, SLOT_UNITS)?;
+    let counts = run_turns(alloc, &mut draws, &mut runner, plays)?;
+    runner.end();
+    let Runner {
+        reels: _,
+        slot_units: _,
+        book,
+        clients: _,
+        heard: _,
+    } = runner;
+    let journal = book.into_entries();
+    let made = count_entries(&journal);
+    let mut text = Vec::new(alloc);
+    push_fair(&mut text, &counts, &made)?;
+    Ok(Day { text, journal })
+}
+
 /// The sizes of a fair's traces.
 fn draw_traces(alloc: Global, draws: &mut Draws) -> Result<Vec<Vec<u64>>, NoMemory>
     ensures count { IfOk result (λ traces. length traces.items ≡ 16) }
@@ -202,7 +230,8 @@ fn run_turn(
     ensures heard { OnOk result (runner.new.heard ≤ runner.old.heard + 3) }
     ensures fitting { OnOk result (IsFitting runner.new.heard counts.new) }
     ensures turned { OnOk result (HasTurned (link_on runner.old) (words_left draws.old)
-        (words_left draws.new) counts.old counts.new (moment_of runner.old) (moment_of runner.new)) }
+        (words_left draws.new) counts.old counts.new (moment_of runner.old)
+        (moment_of runner.new)) }
 {
     let later = u64::from(draws.draw(4));
     go_on(runner, later, counts);
@@ -261,32 +290,4 @@ fn run_turns(
         run_turn(alloc, draws, runner, &mut counts)?;
     }
     Ok(counts)
-}
-
-/// A large day that a number determines: 16 drawn traces, 256 clients and so many turns on one
-/// book, 1 to 100,000.
-pub fn fair(alloc: Global, seed: u64, plays: u32, profile: Profile) -> Result<Day, NoMemory>
-    requires { plays ≤ 100000 }
-    ensures fair { IfOk result (λ day.
-        IsFair profile seed plays day.text.items day.journal.items) }
-    ensures legal { IfOk result (λ day. IsLegal profile day.journal.items) }
-{
-    let mut draws = Draws::new(seed);
-    let traces = draw_traces(alloc, &mut draws)?;
-    let reels = reels_of(alloc, &traces)?;
-    let mut runner = Runner::new(alloc, &reels, profile, MAX_ENTRIES, SLOT_UNITS)?;
-    let counts = run_turns(alloc, &mut draws, &mut runner, plays)?;
-    runner.end();
-    let Runner {
-        reels: _,
-        slot_units: _,
-        book,
-        clients: _,
-        heard: _,
-    } = runner;
-    let journal = book.into_entries();
-    let made = count_entries(&journal);
-    let mut text = Vec::new(alloc);
-    push_fair(&mut text, &counts, &made)?;
-    Ok(Day { text, journal })
 }

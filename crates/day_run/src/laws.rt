@@ -21,13 +21,14 @@ ghost use Rattle.day_run.specs.Spelling.{AreWritten, IsInWords, MayStand, is_ver
 /// slot that was heard last, is what is booked in those slots.
 pub fn law_sent()
     ensures { (link : Link) (sources : ℕ) (lines : List Line) (texts : List (List ℕ))
-        (moment : Moment)
-        (slot : ℕ) → AreClients lines → AreLines sources lines → AreRun link lines texts first_moment moment →
-        moment.heard ≤ slot → sent_up_to moment slot ≡ booked_up_to moment slot }
+        (moment : Moment) (slot : ℕ) → AreClients lines → AreLines sources lines →
+        AreRun link lines texts first_moment moment → moment.heard ≤ slot →
+        sent_up_to moment slot ≡ booked_up_to moment slot }
 {}
 
-/// After lines of a script, where the journal is legal, what the clients are sent in the slots up to
-/// any later one, after the slot that was heard last, is no more than the capacity of those slots.
+/// After lines of a script, where the journal is legal, what the clients are sent in the slots up
+/// to any later one, after the slot that was heard last, is no more than the capacity of those
+/// slots.
 pub fn law_capacity_kept()
     ensures { (link : Link) (sources : ℕ) (lines : List Line) (texts : List (List ℕ))
         (moment : Moment) (slot : ℕ) → AreClients lines → AreLines sources lines →
@@ -42,8 +43,8 @@ pub fn law_texts()
         AreRun link lines texts old new → length texts ≡ length lines }
 {}
 
-/// What the line of a large day says holds: what was sent is what the journal books in its slots, and
-/// no slot has more than the capacity.
+/// What the line of a large day says holds: what was sent is what the journal books in its slots,
+/// and no slot has more than the capacity.
 pub fn law_fair()
     ensures { (steps : List CapStep) (number plays : ℕ) (text : List ℕ) (journal : List Entry) →
         IsFair steps number plays text journal → IsLegal steps journal →
@@ -51,9 +52,9 @@ pub fn law_fair()
 {}
 
 /// A script that is spelled line by line is read as that script. A line whose numbers are out of
-/// their ranges, whose name is none that a file may have, whose slot isn't later, or whose first word
-/// is none of the six verbs with its number of words, is named as the first bad one, whatever stands
-/// after it.
+/// their ranges, whose name is none that a file may have, whose slot isn't later, or whose first
+/// word is none of the six verbs with its number of words, is named as the first bad one, whatever
+/// stands after it.
 pub fn law_script_read_back()
     ensures read { (script : Script) →
         AreWritten (names_of script.named.items) script.lines.items →
@@ -119,8 +120,8 @@ pub fn law_past()
         booked_after (last_journal moment) slot ≡ booked_after moment.entries slot }
 {}
 
-/// At the day's end no play is open: the slots to come have only what is still sent to clients whose
-/// pause isn't done.
+/// At the day's end no play is open: the slots to come have only what is still sent to clients
+/// whose pause isn't done.
 pub fn law_end()
     ensures { (link : Link) (sources slot : ℕ) (lines : List Line) (texts : List (List ℕ))
         (moment : Moment) → AreClients lines → AreLines sources lines →

@@ -30,6 +30,3 @@ pub use laws::{
 pub use reading::read_script;
 pub use reels::Source;
 pub use scripts::{Line, Named, Script, ScriptRefused};
-
-#[cfg(test)]
-mod tests;

@@ -5,7 +5,7 @@ ghost use Rattle.vod_base.specs.Names.{is_good_name};
 ghost use Rattle.day_run.specs.Lines.{texts_at};
 ghost use Rattle.day_run.specs.Sayings.{IsInRange};
 ghost use Rattle.day_run.specs.Scripts.{AreLines, StandsAfter, latest_slot, slot_after};
-ghost use Rattle.day_run.specs.Readings.{IsDraft, IsRefused, IsScript, IsSource, IsTaken, line_read, name_as, named_in, names_of, nothing_read, reading_of, source_in, with_line, with_name, with_saying};
+ghost use Rattle.day_run.specs.Readings.{IsDraft, IsPlaceOf, IsRefused, IsScript, IsTaken, line_read, name_as, named_in, names_of, nothing_read, reading_of, source_in, with_line, with_name, with_saying};
 
 use crate::sayings::{Asked, Saying, saying_in};
 use crate::scripts::{Line, Named, Script, ScriptRefused};
@@ -15,6 +15,46 @@ use vod_base::{NoMemory, good_name};
 
 /// The most lines of a script.
 const MOST_LINES: u64 = 1_000_000;
+
+/// Reads a script. Lines end with LF or CR LF, the last one also with the text. An empty line is
+/// counted and passed over; each other one is a line of [`Line`]'s forms, its words one space apart
+/// and its numbers decimal. There are at most 1,000,000.
+///
+/// It takes time in the text's bytes, and for each line with a name in the names before it.
+///
+/// # Errors
+///
+/// [`ScriptRefused::BadScript`] exactly where a line may not stand there, with the first such line.
+pub fn read_script(alloc: Global, text: &[u8]) -> Result<Script, ScriptRefused>
+    ensures script { IfOk result (IsScript text.now) }
+    ensures refused { IfErr result (IsRefused text.now) }
+    ensures lines { IfOk result (λ script.
+        AreLines (length script.named.items) script.lines.items) }
+{
+    let mut draft = Draft::new(alloc);
+    let mut words = Vec::new(alloc);
+    let mut rest = text;
+    let mut number = 0;
+    while let Some((line, next)) = first_line(rest) {
+        if number == MOST_LINES {
+            return Err(ScriptRefused::BadScript { line: number + 1 });
+        }
+        match draft.read(line, &mut words) {
+            Ok(true) => {}
+            Ok(false) => return Err(ScriptRefused::BadScript { line: number + 1 }),
+            Err(NoMemory) => return Err(ScriptRefused::NoMemory),
+        }
+        number += 1;
+        rest = next;
+    }
+    let Draft {
+        alloc: _,
+        lines,
+        named,
+        slot: _,
+    } = draft;
+    Ok(Script { lines, named })
+}
 
 /// A script as far as it was read.
 #[derive(Drop)]
@@ -105,7 +145,8 @@ impl Draft {
     fn source(&mut self, words: &[&[u8]], asked: Asked) -> Result<Option<usize>, NoMemory>
         ensures found { IfOk result (λ found. MatchOption found
             (is_good_name (named_in (texts_at words.now) asked).name ≡ false)
-            (λ place. IsSource (reading_of self.old) (reading_of self.new) (named_in (texts_at words.now) asked) place)) }
+            (λ place. IsPlaceOf (reading_of self.old) (reading_of self.new)
+            (named_in (texts_at words.now) asked) place)) }
         ensures inside { IfOk result (λ found.
             IfSome found (λ place. place < length self.new.named.items)) }
         ensures longer { OnOk result (length self.old.named.items ≤ length self.new.named.items) }
@@ -126,11 +167,13 @@ impl Draft {
         requires draft { IsDraft self.old }
         requires range { IsInRange saying }
         ensures line { IfOk result (λ found. IfSome found
-            (λ line. with_saying (reading_of self.old) (texts_at words.now) saying ≡ Some (with_line (reading_of self.new) line))) }
+            (λ line. with_saying (reading_of self.old) (texts_at words.now) saying
+            ≡ Some (with_line (reading_of self.new) line))) }
         ensures none { IfOk result (λ found.
             IfNone found (with_saying (reading_of self.old) (texts_at words.now) saying ≡ None)) }
         ensures stands { IfOk result (λ found. IfSome found
-            (λ line. StandsAfter (latest_slot self.old.lines.items) (length self.new.named.items) line)) }
+            (λ line. StandsAfter (latest_slot self.old.lines.items)
+            (length self.new.named.items) line)) }
         ensures slot { IfOk result (λ found. IfSome found
             (λ line. self.new.slot ≡ slot_after (latest_slot self.old.lines.items) line)) }
         ensures longer { OnOk result (length self.old.named.items ≤ length self.new.named.items) }
@@ -202,44 +245,4 @@ impl Draft {
             None => Ok(false),
         }
     }
-}
-
-/// Reads a script. Lines end with LF or CR LF, the last one also with the text. An empty line is
-/// counted and passed over; each other one is a line of [`Line`]'s forms, its words one space apart
-/// and its numbers decimal. There are at most 1,000,000.
-///
-/// It takes time in the text's bytes, and for each line with a name in the names before it.
-///
-/// # Errors
-///
-/// [`ScriptRefused::BadScript`] exactly where a line may not stand there, with the first such line.
-pub fn read_script(alloc: Global, text: &[u8]) -> Result<Script, ScriptRefused>
-    ensures script { IfOk result (IsScript text.now) }
-    ensures refused { IfErr result (IsRefused text.now) }
-    ensures lines { IfOk result (λ script.
-        AreLines (length script.named.items) script.lines.items) }
-{
-    let mut draft = Draft::new(alloc);
-    let mut words = Vec::new(alloc);
-    let mut rest = text;
-    let mut number = 0;
-    while let Some((line, next)) = first_line(rest) {
-        if number == MOST_LINES {
-            return Err(ScriptRefused::BadScript { line: number + 1 });
-        }
-        match draft.read(line, &mut words) {
-            Ok(true) => {}
-            Ok(false) => return Err(ScriptRefused::BadScript { line: number + 1 }),
-            Err(NoMemory) => return Err(ScriptRefused::NoMemory),
-        }
-        number += 1;
-        rest = next;
-    }
-    let Draft {
-        alloc: _,
-        lines,
-        named,
-        slot: _,
-    } = draft;
-    Ok(Script { lines, named })
 }

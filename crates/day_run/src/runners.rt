@@ -3,9 +3,9 @@
 ghost use Rattle.std.specs.Prelude.{◌≡◌, ◌-◌, ◌*◌, ◌^◌, ◌≤◌, ◌<◌, length, map, min, IfOk, OnOk};
 ghost use Rattle.day_run.specs.Clients.{IsPlanFor, IsRest, rest_of};
 ghost use Rattle.day_run.specs.Days.{at_slot, booked_up_to, last_journal, first_moment, rest_at, seat_at, sent_up_to};
-ghost use Rattle.day_run.specs.Days.{IsAsked as IsAskedFor, IsLookLine, IsOfferLine, IsPauseLine, IsPlanned, IsPlayLine, IsResumeLine};
+ghost use Rattle.day_run.specs.Days.{IsAsked, IsLookLine, IsOfferLine, IsPauseLine, IsPlanned, IsPlayLine, IsResumeLine};
 ghost use Rattle.day_run.specs.FairDays.{most_up_to};
-ghost use Rattle.day_run.specs.Runners.{IsAsked, IsKept, IsRunner, link_on, moment_of, offer_lines, told_text};
+ghost use Rattle.day_run.specs.Runners.{IsKept, IsRunner, IsWithinRanges, link_on, moment_of, offer_lines, told_text};
 ghost use Rattle.day_run.specs.Tracks.{reel_track};
 
 use crate::all_clients::{end_each, idle_clients, step_clients};
@@ -103,7 +103,7 @@ impl<'r> Runner<'r> {
     ) -> Result<Told, NoMemory>
         requires runner { IsRunner self.old }
         requires source { source < length self.old.reels.now }
-        requires asked { IsAsked 1 buffer delay }
+        requires asked { IsWithinRanges 1 buffer delay }
         ensures runner { OnOk result (IsRunner self.new) }
         ensures kept { OnOk result (IsKept self.old self.new) }
         ensures heard { OnOk result (self.new.heard ≡ self.old.heard) }
@@ -145,7 +145,7 @@ impl<'r> Runner<'r> {
         ensures kept { OnOk result (IsKept self.old self.new) }
         ensures heard { OnOk result (self.new.heard ≡ self.old.heard) }
         ensures asked { IfOk result (λ told.
-            IsAskedFor (link_on self.old) client (rest_of rest.entry)
+            IsAsked (link_on self.old) client (rest_of rest.entry)
             (moment_of self.old) (moment_of self.new) (told_text self.new.book.entries told)) }
     {
         match plan_rest(alloc, &rest)? {
@@ -230,7 +230,7 @@ impl<'r> Runner<'r> {
     ) -> Result<Result<Offers, CurveFault>, NoMemory>
         requires runner { IsRunner self.now }
         requires source { source < length self.now.reels.now }
-        requires asked { IsAsked 1 buffer delay }
+        requires asked { IsWithinRanges 1 buffer delay }
         requires wait { wait ≤ 255 }
         ensures { IfOk result (λ offered.
             IsOfferLine (link_on self.now) (rest_at (link_on self.now) source buffer delay) wait

@@ -1,28 +1,22 @@
-use Rattle.std.proofs.Common.{◌<◌, length, ap, arith}
+use Rattle.std.proofs.Common.{ap}
 use Rattle.film_make.specs.Generator.{words_left}
 use Rattle.day_run.specs.declared.clients.Client.{Client}
 use Rattle.day_run.specs.Clients.{seat_of}
 use Rattle.day_run.specs.FairDays.{words_for}
-use Rattle.day_run.proofs.FairTurns.{no-words, none-left}
+use Rattle.day_run.proofs.FairTurns.{no-words}
 use Rattle.day_run.proofs.fairs.turn_client.Goals as goal
 
 pub returns-in-Playing-clause-left : goal.returns-in-Playing-clause-left
 returns-in-Playing-clause-left c =
-    let old = c.args.runner.now in
-    let inside : c.args.client < length old.clients.items = omega (arith, c.requires.runner.count, c.ranges.client.fits) in
-    none-left (words_left c.args.draws.now) _
-    (no-words old.clients.items c.args.client c.index.result.now inside c.index.ensures (ap (λ (x : Client). words_for (seat_of x)) c.in-Playing.is))
+    no-words (words_left c.args.draws.now) c.args.runner.now.clients.items c.args.client c.index.result.now c.requires.runner.count c.ranges.client.fits c.index.ensures
+    (ap (λ (x : Client). words_for (seat_of x)) c.in-Playing.is)
 
 pub returns-in-Pausing-clause-left : goal.returns-in-Pausing-clause-left
 returns-in-Pausing-clause-left c =
-    let old = c.args.runner.now in
-    let inside : c.args.client < length old.clients.items = omega (arith, c.requires.runner.count, c.ranges.client.fits) in
-    none-left (words_left c.args.draws.now) _
-    (no-words old.clients.items c.args.client c.index.result.now inside c.index.ensures (ap (λ (x : Client). words_for (seat_of x)) c.in-Pausing.is))
+    no-words (words_left c.args.draws.now) c.args.runner.now.clients.items c.args.client c.index.result.now c.requires.runner.count c.ranges.client.fits c.index.ensures
+    (ap (λ (x : Client). words_for (seat_of x)) c.in-Pausing.is)
 
 pub returns-in_ok-resume-in-Paused-clause-left : goal.returns-in_ok-resume-in-Paused-clause-left
 returns-in_ok-resume-in-Paused-clause-left c =
-    let old = c.args.runner.now in
-    let inside : c.args.client < length old.clients.items = omega (arith, c.requires.runner.count, c.ranges.client.fits) in
-    none-left (words_left c.args.draws.now) _
-    (no-words old.clients.items c.args.client c.index.result.now inside c.index.ensures (ap (λ (x : Client). words_for (seat_of x)) c.in-Paused.is))
+    no-words (words_left c.args.draws.now) c.args.runner.now.clients.items c.args.client c.index.result.now c.requires.runner.count c.ranges.client.fits c.index.ensures
+    (ap (λ (x : Client). words_for (seat_of x)) c.in-Paused.is)
