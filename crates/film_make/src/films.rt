@@ -10,6 +10,18 @@ use vod_base::NoMemory;
 // A sequence end code.
 const SEQUENCE_END: [u8; 4] = [0, 0, 1, 0xb7];
 
+/// The film of a number: MPEG-1 video (ISO/IEC 11172-2) of 25 pictures a second, twelve pictures to
+/// a group, four slices to a picture.
+///
+/// `pictures` is at most 100,000 on the command line, and any number here.
+pub fn make_film(alloc: Global, number: u64, pictures: u32) -> Result<Vec<u8>, NoMemory>
+    ensures film { IfOk result (λ film. film.items ≡ film_of (words_of number) pictures) }
+    ensures begins { 1 ≤ pictures →
+        take 20 (film_of (words_of number) pictures) ≡ sequence_and_group }
+{
+    whole_film(alloc, number, pictures).map_err(|_| NoMemory)
+}
+
 // The pictures of a film, without the end of the sequence.
 fn make_pictures(alloc: Global, number: u64, pictures: u32) -> Result<Vec<u8>, AllocError>
     ensures { IfOk result (λ film. film.items ≡ pictures_of (words_of number) pictures) }
@@ -29,16 +41,4 @@ fn whole_film(alloc: Global, number: u64, pictures: u32) -> Result<Vec<u8>, Allo
     let mut film = make_pictures(alloc, number, pictures)?;
     film.extend_from_slice(&SEQUENCE_END)?;
     Ok(film)
-}
-
-/// The film of a number: MPEG-1 video (ISO/IEC 11172-2) of 25 pictures a second, twelve pictures to
-/// a group, four slices to a picture.
-///
-/// `pictures` is at most 100,000 on the command line, and any number here.
-pub fn make_film(alloc: Global, number: u64, pictures: u32) -> Result<Vec<u8>, NoMemory>
-    ensures film { IfOk result (λ film. film.items ≡ film_of (words_of number) pictures) }
-    ensures begins { 1 ≤ pictures →
-        take 20 (film_of (words_of number) pictures) ≡ sequence_and_group }
-{
-    whole_film(alloc, number, pictures).map_err(|_| NoMemory)
 }

@@ -18,6 +18,18 @@ const PACK: [u8; 16] = [
 // The end code of a system stream.
 const END: [u8; 4] = [0, 0, 1, 0xb9];
 
+/// The film of a number as an MPEG-1 system stream (ISO/IEC 11172-1): packets of 2,000 video bytes,
+/// or of what is left, each in a pack of its own.
+///
+/// `pictures` is at most 100,000 on the command line, and any number here.
+pub fn make_system(alloc: Global, number: u64, pictures: u32) -> Result<Vec<u8>, NoMemory>
+    ensures { IfOk result (λ stream. stream.items ≡
+        system_of (film_of (words_of number) pictures)) }
+{
+    let film = make_film(alloc, number, pictures)?;
+    wrap(alloc, &film).map_err(|_| NoMemory)
+}
+
 // Appends a pack of one packet with these video bytes.
 #[tactic(auto, using(std::proofs::lemmas::List::append_assoc))]
 fn write_pack(video: &[u8], out: &mut Vec<u8>) -> Result<(), AllocError>
@@ -51,16 +63,4 @@ fn wrap(alloc: Global, video: &[u8]) -> Result<Vec<u8>, AllocError>
     write_packs(video, &mut stream)?;
     stream.extend_from_slice(&END)?;
     Ok(stream)
-}
-
-/// The film of a number as an MPEG-1 system stream (ISO/IEC 11172-1): packets of 2,000 video bytes,
-/// or of what is left, each in a pack of its own.
-///
-/// `pictures` is at most 100,000 on the command line, and any number here.
-pub fn make_system(alloc: Global, number: u64, pictures: u32) -> Result<Vec<u8>, NoMemory>
-    ensures { IfOk result (λ stream. stream.items ≡
-        system_of (film_of (words_of number) pictures)) }
-{
-    let film = make_film(alloc, number, pictures)?;
-    wrap(alloc, &film).map_err(|_| NoMemory)
 }

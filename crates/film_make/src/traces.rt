@@ -9,26 +9,6 @@ use itoa::Buffer;
 use std::alloc::{AllocError, Global};
 use vod_base::NoMemory;
 
-// The size of picture `index`, by the next word.
-fn next_size(draws: &mut Draws, index: u32) -> u32
-    ensures value { result ≡
-        (if index % 12 == 0 then 4 else 1) * (200 + words_left draws.old 0 % 1800) }
-    ensures left { words_left draws.new ≡ after 1 (words_left draws.old) }
-{
-    let size = 200 + draws.draw(1800);
-    if index % GROUP == 0 { 4 * size } else { size }
-}
-
-// Appends a line with a number.
-fn write_line(number: u32, out: &mut Vec<u8>) -> Result<(), AllocError>
-    ensures { OnOk result (out.new.items ≡ out.old.items ++ (decimal number ++ 10 ∷ [])) }
-{
-    let mut buffer = Buffer::new();
-    out.extend_from_slice(buffer.format(number).as_bytes())?;
-    out.push(b'\n')?;
-    Ok(())
-}
-
 /// The sizes of a trace by the next draws: one for each picture, in bytes, from 200 to 7,996.
 pub fn draw_sizes(alloc: Global, draws: &mut Draws, pictures: u32) -> Result<Vec<u64>, NoMemory>
     ensures sizes { IfOk result (λ sizes. sizes.items ≡ sizes_of (words_left draws.old) pictures) }
@@ -63,4 +43,24 @@ pub fn make_trace(alloc: Global, number: u64, pictures: u32) -> Result<Vec<u8>, 
 {
     let mut draws = Draws::new(number);
     draw_trace(alloc, &mut draws, pictures)
+}
+
+// The size of picture `index`, by the next word.
+fn next_size(draws: &mut Draws, index: u32) -> u32
+    ensures value { result ≡
+        (if index % 12 == 0 then 4 else 1) * (200 + words_left draws.old 0 % 1800) }
+    ensures left { words_left draws.new ≡ after 1 (words_left draws.old) }
+{
+    let size = 200 + draws.draw(1800);
+    if index % GROUP == 0 { 4 * size } else { size }
+}
+
+// Appends a line with a number.
+fn write_line(number: u32, out: &mut Vec<u8>) -> Result<(), AllocError>
+    ensures { OnOk result (out.new.items ≡ out.old.items ++ (decimal number ++ 10 ∷ [])) }
+{
+    let mut buffer = Buffer::new();
+    out.extend_from_slice(buffer.format(number).as_bytes())?;
+    out.push(b'\n')?;
+    Ok(())
 }
