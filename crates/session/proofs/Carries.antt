@@ -9,7 +9,7 @@ use Rattle.session.specs.Films.{sending_of}
 use Rattle.session.specs.Inside.{IsAwaitedKept, IsGoing, IsPlaying, IsStateKept, IsStopAnswered}
 use Rattle.session.specs.Inside.{coming_of, open_receipts}
 use Rattle.session.specs.Planning.{IsPausedIn}
-use Rattle.session.specs.Plans.{IsPlay}
+use Rattle.session.specs.Plans.{IsPacedPlay}
 use Rattle.session.specs.Playing.{IsPlayable}
 use Rattle.session.specs.Sendings.{IsFinished, is_done_in}
 use Rattle.session.specs.Standings.{NoAnswer, awaits_of}
@@ -25,7 +25,7 @@ use Rattle.session.specs.declared.states.Source.{Source}
 use Rattle.session.specs.declared.states.State.{State}
 use Rattle.session.specs.declared.states.State.TheVariants.{Init, Ready, Playing, Stopping}
 
-play_kept : (old new : Played) → IsPlay old → new.run ≡ old.run → new.plan ≡ old.plan → IsSamePacing old.pacer new.pacer → IsPlay new
+play_kept : (old new : Played) → IsPacedPlay old → new.run ≡ old.run → new.plan ≡ old.plan → IsSamePacing old.pacer new.pacer → IsPacedPlay new
 play_kept old new kept run plan same = record {
   pacing = same.pacing;
   before = same.before ∙ kept.before ∙ ap (λ (r : Run). r.sent) (sym run);

@@ -88,3 +88,6 @@ pub due_between : (between : Bool) (slot : ℕ) (state : State) →
     open_in (if between then stepped_in false slot (stepped_in true slot state) else stepped_in true slot state) ≡ open_in (stepped_in true slot state)
 due_between false slot state = refl
 due_between true slot state = raised_twice true slot state
+
+-- what a slot with a waiting reply is proved by
+pub ruleset due_fronts = (front_left, front_right, raised_twice, due_between)

@@ -1,9 +1,7 @@
 -- What a halt leaves.
-use Rattle.std.proofs.Common.{◌≡◌, ℕ, Bool, true, false, ◌||◌, if◌then◌else◌, List, [], ◌∷◌, ◌++◌, None, refl}
+use Rattle.std.proofs.Common.{◌≡◌, ℕ, Bool, true, false, ◌||◌, if◌then◌else◌, List, refl}
 use Rattle.film_frames.specs.declared.stores.Stored.{Stored}
-use Rattle.film_run.specs.declared.runs.Run.{Run}
 use Rattle.session.specs.declared.settings.Settings.{Settings}
-use Rattle.session.specs.declared.states.Awaited.{Awaited}
 use Rattle.session.specs.declared.states.Awaited.TheVariants.{Nothing}
 use Rattle.session.specs.declared.states.Counts.{Counts}
 use Rattle.session.specs.declared.states.Next.{Next}
@@ -11,28 +9,10 @@ use Rattle.session.specs.declared.states.Next.TheVariants.{Done, Paused, Torn}
 use Rattle.session.specs.declared.states.Play.{Play as Played}
 use Rattle.session.specs.declared.states.Setup.{Setup}
 use Rattle.session.specs.declared.states.Source.{Source}
-use Rattle.session.specs.declared.states.State.{State}
 use Rattle.session.specs.declared.states.State.TheVariants.{Playing}
-use Rattle.session.specs.declared.notes.Receipt.TheVariants.{Entry}
-use Rattle.admission.specs.declared.entries.Answer.TheVariants.{Halted}
-use Rattle.session.specs.Hearings.{after_halt, counts_next, is_answered, is_torn}
+use Rattle.session.specs.Hearings.{counts_next, is_answered, is_torn}
 use Rattle.session.specs.Inside.{IsAwaitedKept, IsNextIn, IsStateKept, IsStopAnswered, open_receipts}
-use Rattle.session.specs.Sendings.{kept_of, next_of, note_of, state_after}
-use Rattle.session.specs.Standings.{Standing, open_in}
-
--- the session after a halt, by what it leads to
-pub halted_as : (old : Standing) (setup : Setup) (play : Played) (asked : Awaited) (next : Next) (keep place : ℕ)
-    → Playing setup play ≡ old.state → asked ≡ old.awaited → next ≡ next_of asked → keep ≡ kept_of asked play.pacer.due
-    → after_halt old place ≡ record old {
-      state = state_after setup play next;
-      counts = counts_next old.films old.source old.counts setup play.run keep next;
-      awaited = Nothing;
-      waits = if is_answered next then true else old.waits;
-      tearing = if is_torn next then true else old.tearing;
-      receipts = old.receipts ++ Entry place Halted ∷ [];
-      plays = old.plays ++ note_of setup play keep ∷ [];
-    }
-halted_as old setup play asked next keep place s a n k = rw (← s, ← a, n, k) refl
+use Rattle.session.specs.Sendings.{state_after}
 
 -- how the state is kept that a halt leaves
 pub halted_kept : (films : List Stored) (source : Source) (settings : Settings) (counts : Counts) (setup : Setup) (play : Played)
@@ -59,11 +39,6 @@ pub halted_closed : (setup : Setup) (play : Played) (next : Next) → open_recei
 halted_closed setup play Done = refl
 halted_closed setup play (Paused rest) = refl
 halted_closed setup play Torn = refl
-
-pub halted_open : (setup : Setup) (play : Played) (next : Next) → open_in (state_after setup play next) ≡ None
-halted_open setup play Done = refl
-halted_open setup play (Paused rest) = refl
-halted_open setup play Torn = refl
 
 -- a session that is torn down by a halt has a reply that waits
 pub halted_torn : (next : Next) (tearing waits torn : Bool) → (tearing ≡ true → waits ≡ false → torn ≡ true)

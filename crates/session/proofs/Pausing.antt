@@ -16,7 +16,7 @@ use Rattle.plan_cert.specs.declared.Segment.{Segment}
 use Rattle.pacer.specs.Pacings.{IsPacing, Pacing, first_slots, is_done, next_boundary, slots_through}
 use Rattle.session.specs.Films.{identity_of, sending_of}
 use Rattle.session.specs.Inside.{IsPlaying, IsUnhalted}
-use Rattle.session.specs.Plans.{IsPlay}
+use Rattle.session.specs.Plans.{IsPacedPlay}
 use Rattle.session.specs.Playing.{IsRunOf, playback_of}
 use Rattle.session.specs.declared.settings.Settings.{Settings}
 use Rattle.session.specs.declared.states.Counts.{Counts}
@@ -80,7 +80,7 @@ left_boundary stored source setup counts run left p keep pieces before boundary 
     (subst (λ (all : List (List ℕ)). IsBoundary all (p.before + keep)) same boundary)
 
 -- a play in hand is halted
-pub halts_play : (play : Played) (last : Option ℕ) (keep : ℕ) (halted : Pacing) → IsPlay play → IsUnhalted play
+pub halts_play : (play : Played) (last : Option ℕ) (keep : ℕ) (halted : Pacing) → IsPacedPlay play → IsUnhalted play
     → halted ≡ record play.pacer { keep = next_boundary play.pacer }
     → IsBoundaryAfter play.pacer.pieces (play.pacer.before + play.pacer.sent) (play.pacer.before + keep) → keep ≤ play.pacer.keep
     → slots_through last ≡ halted.passed → IsHalt play.plan last keep
@@ -95,7 +95,7 @@ keeps_within play keep unhalted most = subst (λ (n : ℕ). keep ≤ n) unhalted
 
 -- what it leaves can be sent on
 pub left_runs : (stored : Stored) (source : Source) (settings : Settings) (setup : Setup) (counts : Counts) (play : Played)
-    (playback : Playback) (last : Option ℕ) (keep : ℕ) (left : Run) → IsPlay play → IsPlaying stored source settings setup counts play
+    (playback : Playback) (last : Option ℕ) (keep : ℕ) (left : Run) → IsPacedPlay play → IsPlaying stored source settings setup counts play
     → playback ≡ playback_of stored.film settings setup → IsBoundary play.pacer.pieces (play.pacer.before + keep)
     → IsLeft (stored_sizes stored) playback play.run play.plan last keep left → IsRun (stored_sizes stored) left
     → Fits playback.buffer left → IsRunOf stored source setup counts left

@@ -1,5 +1,5 @@
 -- What replies tell is read in their fields.
-use Rattle.std.proofs.Common.{◌≡◌, ◌≢◌, ℕ, ◌+◌, ◌-◌, ◌*◌, ◌/◌, ◌%◌, ◌^◌, ◌<◌, ◌≤◌, ◌&&◌, ◌==◌, not, nat_lt, nat_le, true, false, List, [], ◌∷◌, ◌++◌, length, take, drop, get_or, slice_range, slice_index, codes, decimal, string_bytes, Option, Some, Ok, add_comm, refl, sym, ap, subst, ◌∙◌, inl, inr, arith}
+use Rattle.std.proofs.Common.{◌≡◌, ◌≢◌, ℕ, ◌+◌, ◌-◌, ◌*◌, ◌/◌, ◌%◌, ◌^◌, ◌<◌, ◌≤◌, ◌&&◌, ◌==◌, not, nat_lt, nat_le, true, false, List, [], ◌∷◌, ◌++◌, length, take, drop, get_or, slice_range, slice_index, codes, decimal, string_bytes, Option, Some, None, Ok, add_comm, refl, sym, ap, subst, ◌∙◌, inl, inr, arith}
 use Rattle.std.proofs.Math.Nat.{div-mul-le_self, mul-le-mul}
 use Rattle.std.specs.List.{list_all}
 use Rattle.std.specs.Char.{is_ascii_digit}
@@ -37,7 +37,9 @@ use Rattle.session.specs.Films.{begins_at, identity_of, length_ms, ms_at, sendin
 use Rattle.session.specs.Hearings.{after_admission, after_full, after_look, after_overflow, started_text}
 use Rattle.session.specs.Methods.{Describes, IsSetUp, first_number, play_front}
 use Rattle.session.specs.Planning.{IsPlannedRun}
-use Rattle.session.specs.Replies.{code_of, describe_text, field, joined_parts, look_body, play_fields, transport_value}
+use Rattle.session.specs.PublicLaws.{IsPublicTold}
+use Rattle.session.specs.declared.states.State.TheVariants.{Ready}
+use Rattle.session.specs.Replies.{code_of, describe_text, field, joined_parts, look_body, play_fields, public_text, transport_value}
 use Rattle.session.specs.Standings.{Standing, sequence_of}
 use Rattle.std.specs.Int.{w32, to_be_bytes}
 use Rattle.hex.specs.Hex.{encode_lower}
@@ -428,3 +430,19 @@ look_told old place now at booked = record {
   size = refl;
   body_is = look_lines (decimal now) (decimal at) (decimal booked);
 }
+
+-- the reply to an OPTIONS
+pub public_told : (sequence : ℕ) → IsPublicTold sequence (public_text sequence)
+unfolding value_named
+public_told sequence = record {
+  fields = field (codes "Public") (codes "OPTIONS, DESCRIBE, SETUP, PLAY, PAUSE, TEARDOWN, GET_PARAMETER") ∷ [];
+  public = codes "OPTIONS, DESCRIBE, SETUP, PLAY, PAUSE, TEARDOWN, GET_PARAMETER";
+  text_is = refl;
+  public_is = refl;
+  names = refl;
+}
+
+-- the state after a SETUP
+pub setup_ready : (old new : Standing) (sequence : ℕ) (setup : Setup) (ask : Ask) → IsSetUp old sequence (Ok setup) ask new
+    → new.state ≡ Ready setup None
+setup_ready old new sequence setup ask is = ap (λ (s : Standing). s.state) is.1

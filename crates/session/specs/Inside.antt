@@ -7,7 +7,7 @@ use Rattle.film_run.specs.declared.runs.Run.{Run}
 use Rattle.pacer.specs.Pacings.{IsPacing, is_done}
 use Rattle.rtsp_text.specs.Lines.{is_one_line}
 use Rattle.session.specs.Films.{OfFilm, sending_of}
-use Rattle.session.specs.Plans.{IsPlay, IsPrepared}
+use Rattle.session.specs.Plans.{IsPacedPlay, IsPrepared}
 use Rattle.session.specs.Planning.{IsPausedIn}
 use Rattle.session.specs.Playing.{IsPlayable, IsRunOf}
 use Rattle.session.specs.Ranges.{AreFilms, AreSettings, IsSetup}
@@ -89,7 +89,7 @@ IsStateKept films source settings counts Init = ⊤
 IsStateKept films source settings counts (Ready setup paused) = IsSetup (length films) setup
     × IsPausedIn films source counts setup paused
 IsStateKept films source settings counts (Playing setup play) =
-    IsSetup (length films) setup × IsPlay play
+    IsSetup (length films) setup × IsPacedPlay play
     × OfFilm films setup.film (λ stored. IsPlaying stored source settings setup counts play)
 IsStateKept films source settings counts (Stopping setup stop) =
     IsSetup (length films) setup × IsPacing stop.pacer

@@ -21,3 +21,4 @@ pub mod OfferLaws
 pub mod PlayLaws
 pub mod LookLaws
 pub mod EndLaws
+pub mod PublicLaws

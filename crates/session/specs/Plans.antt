@@ -14,7 +14,7 @@ pub record IsGoingOn (pieces : List (List ℕ)) (sent : ℕ) (plan : List Segmen
   pub whole : sent + total_bytes plan ≡ length (framed_bytes pieces)
 
 -- a play: its run as it began, sent by its plan
-pub record IsPlay (play : Played) : Type 0 where
+pub record IsPacedPlay (play : Played) : Type 0 where
   pub pacing : IsPacing play.pacer
   pub before : play.pacer.before ≡ play.run.sent
   pub plan : play.pacer.plan ≡ play.plan

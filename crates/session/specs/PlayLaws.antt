@@ -106,8 +106,8 @@ pub record IsNoted (stored : Stored) (play : Played) (old new : Standing) : Type
   pub asked : (keep : ℕ) → awaits old ≡ HaltAnswer keep → note.keep ≡ keep
   pub due : IsAtRest old → note.keep ≡ play.pacer.due
 
--- what the station admitted is sent as it was asked for: the run from what was sent of it on, by its
--- plan from its start on, in frames whose numbers go on from what was sent in all
+-- what the station admitted is sent as it was asked for: the run from what was sent of it on, by
+-- its plan from its start on, in frames whose numbers go on from what was sent in all
 pub record IsSentAsAsked (old : Standing) (stored : Stored) (setup : Setup) (planned : Planned)
     (place start : ℕ) (new : Standing) : Type 0 where
   pub play : Played

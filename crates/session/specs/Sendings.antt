@@ -3,8 +3,8 @@ use Rattle.std.specs.Prelude.{ℕ, ◌≡◌, ◌+◌, ◌-◌, ◌^◌, ◌++�
 use Rattle.std.specs.Prelude.{Bool, if◌then◌else◌, List, [], ◌∷◌, Option, Some, None}
 use Rattle.vod_base.specs.Links.{Doing, IsFrontTold, sends, told_more}
 use Rattle.film_frames.specs.Runs.{run_pieces}
-use Rattle.pacer.specs.Pacings.{is_done, plan_bytes, at_slot, stands_at_boundary, step_end, after_step}
-use Rattle.pacer.specs.Pacings.{whole_pacing}
+use Rattle.pacer.specs.Pacings.{after_step, at_slot, is_done, plan_bytes, stands_at_boundary}
+use Rattle.pacer.specs.Pacings.{step_end, whole_pacing}
 use Rattle.session.specs.declared.states.Play.{Play as Played}
 use Rattle.session.specs.declared.states.Setup.{Setup}
 use Rattle.session.specs.declared.states.Next.{Next}

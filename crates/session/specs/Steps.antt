@@ -4,7 +4,7 @@ use Rattle.plan_cert.specs.Slots.{total_bytes}
 use Rattle.pacer.specs.Pacings.{IsPacing, Pacing}
 use Rattle.session.specs.declared.states.State.{State}
 use Rattle.session.specs.declared.states.State.TheVariants.{Init, Ready, Playing, Stopping}
-use Rattle.session.specs.Plans.{IsPlay}
+use Rattle.session.specs.Plans.{IsPacedPlay}
 
 -- the same sending, in which only more may be due
 pub record IsSamePacing (old new : Pacing) : Type 0 where
@@ -71,7 +71,7 @@ IsHaltIn (Stopping setup stop) keep = ⊥
 abbrev pub IsPlayIn : State → Type 0
 IsPlayIn Init = ⊤
 IsPlayIn (Ready setup paused) = ⊤
-IsPlayIn (Playing setup play) = IsPlay play
+IsPlayIn (Playing setup play) = IsPacedPlay play
 IsPlayIn (Stopping setup stop) = ⊤
 
 -- the state as soon as the reply of a PAUSE or a TEARDOWN was sent

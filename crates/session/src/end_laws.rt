@@ -21,8 +21,8 @@ pub fn law_teardown_ends()
         → now.torn ≡ true → HasTeardown happenings }
 {}
 
-/// A PAUSE that isn't refused halts the play. Once its reply was sent the session is Ready with what
-/// the halt leaves of the run, which a PLAY without a Range then sends on.
+/// A PAUSE that isn't refused halts the play. Once its reply was sent the session is Ready with
+/// what the halt leaves of the run, which a PLAY without a Range then sends on.
 pub fn law_pause_leaves()
     ensures { (old new : Standing) (message : List ℕ) (ask : Ask) → IsPause message
         → Hears old message ask new → IsDeclined old ask new ⊎ IsPausedPlay old ask new }

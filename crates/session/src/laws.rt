@@ -12,7 +12,7 @@ ghost use Rattle.session.specs.declared.states.Counts.{Counts};
 ghost use Rattle.session.specs.declared.states.Play.{Play as Played};
 ghost use Rattle.session.specs.declared.states.Setup.{Setup};
 ghost use Rattle.session.specs.declared.states.Source.{Source};
-ghost use Rattle.session.specs.declared.states.State.TheVariants.{Playing};
+ghost use Rattle.session.specs.declared.states.State.TheVariants.{Playing, Ready};
 ghost use Rattle.session.specs.Films.{counts_after, identity_of, sending_of};
 ghost use Rattle.session.specs.Changes.{AsksOrLacks, CanBePlayed, ChangesState, IsSameGround};
 ghost use Rattle.session.specs.Changes.{RefusesNone};
@@ -24,7 +24,8 @@ ghost use Rattle.session.specs.Laws.{ReadyStage, Resumes, StaysOr};
 ghost use Rattle.session.specs.Methods.{IsSetUp, play_front};
 ghost use Rattle.session.specs.Planning.{IsPlannedRun};
 ghost use Rattle.session.specs.Ranges.{AreFilms};
-ghost use Rattle.session.specs.Replies.{code_of};
+ghost use Rattle.session.specs.PublicLaws.{IsPublicTold};
+ghost use Rattle.session.specs.Replies.{code_of, public_text};
 ghost use Rattle.session.specs.Standings.{Standing, sequence_of};
 ghost use Rattle.session.specs.Telling.{IsDescribed, IsFilmTold, IsFullTold, IsLookTold};
 ghost use Rattle.session.specs.Telling.{IsOverflowTold, IsPlayTold, IsSetupTold, IsStartTold};
@@ -102,8 +103,8 @@ pub fn law_play_is_asked()
 /// session after it, with its state and its reply. Where memory is wanting, it is answered 500, as
 /// for no other reason, and nothing else changes.
 pub fn law_one_hearing()
-    ensures one { (old one other : Standing) (message : List ℕ) (ask again : Ask) → AreFilms old.films
-        → Hears old message ask one → Hears old message again other
+    ensures one { (old one other : Standing) (message : List ℕ) (ask again : Ask) →
+        AreFilms old.films → Hears old message ask one → Hears old message again other
         → IsOneHearing old message ask one again other }
     ensures memory { (old new : Standing) (message : List ℕ) (ask : Ask) →
         Hears old message ask new
@@ -143,9 +144,12 @@ pub fn law_start_told()
 {}
 
 /// The reply to a SETUP tells the session's id, the channels on which its frames and reports are
-/// sent, and their source (RFC 2326 section 12.39).
+/// sent, and their source (RFC 2326 section 12.39). The session is then Ready, and no run of it is
+/// paused.
 pub fn law_setup_told()
-    ensures { (old new : Standing) (sequence : ℕ) (setup : Setup) (counts : Counts) (ask : Ask)
+    ensures ready { (old new : Standing) (sequence : ℕ) (setup : Setup) (ask : Ask)
+        → IsSetUp old sequence (Ok setup) ask new → new.state ≡ Ready setup None }
+    ensures told { (old new : Standing) (sequence : ℕ) (setup : Setup) (counts : Counts) (ask : Ask)
         → IsSetUp old sequence (Ok setup) ask new
         → IsSetupTold sequence (identity_of old.source setup counts) old.id new.text }
 {}
@@ -160,4 +164,9 @@ pub fn law_answers_told()
     ensures look { (old : Standing) (place now at booked : ℕ)
         → IsLookTold (sequence_of old.awaited) now at booked
         (after_look old place now at booked).text }
+{}
+
+/// The reply to an OPTIONS names the methods by which requests are judged (RFC 2326 section 10.1).
+pub fn law_methods_told()
+    ensures { (sequence : ℕ) → IsPublicTold sequence (public_text sequence) }
 {}

@@ -70,15 +70,16 @@ pub fn law_run_counted()
         → old.state ≡ Playing setup play → is_answered (next_of old.awaited) ≡ false
         → IsFilmAt old.films setup.film stored
         → play.run.sent + kept_of old.awaited play.pacer.due
-        ≡ length (framed_bytes (run_pieces (sending_of stored.film old.source setup old.counts play.run)))
+        ≡ length (framed_bytes (run_pieces
+        (sending_of stored.film old.source setup old.counts play.run)))
         → HasCountedAll (identity_of old.source setup old.counts)
         (identity_of old.source setup (after_halt old place).counts)
         (sending_of stored.film old.source setup old.counts play.run) }
 {}
 
 /// The note of a halted play tells its run and its client, and its plan is the plan of that run for
-/// that client. It keeps what the halt was asked to keep, or what is due as the connection ends, and
-/// stands after the notes of the plays before.
+/// that client. It keeps what the halt was asked to keep, or what is due as the connection ends,
+/// and stands after the notes of the plays before.
 pub fn law_play_noted()
     ensures { (old : Standing) (place : ℕ) (stored : Stored) (setup : Setup) (play : Played)
         → old.state ≡ Playing setup play

@@ -217,7 +217,8 @@ pub(crate) fn info_of<'m>(
     ensures end { result.end_ms ≡ ms_at stored.now.film prepared.now.run.end_unit }
     ensures authority { result.authority.now ≡ authority.now }
     ensures name { result.name.now ≡ string_bytes stored.now.name }
-    ensures number { let sent = counts_after prepared.now.counts prepared.now.frames prepared.now.run.sent in
+    ensures number { let sent = counts_after prepared.now.counts prepared.now.frames
+        prepared.now.run.sent in
         result.sequence ≡ (identity_of source setup.now sent).sequence }
     ensures time { result.timestamp ≡
         timestamp_at stored.now.film source prepared.now.run.from_unit }

@@ -93,7 +93,7 @@ fn is_between(state: &State<'_>) -> bool
 
 /// Sends what is due in a slot, and the reply, if one waits, at the first boundary that is reached.
 /// It tells whether the reply was sent.
-#[tactic(auto, using(crate::proofs::Fronts::front_left, crate::proofs::Fronts::front_right, crate::proofs::Fronts::raised_twice, crate::proofs::Fronts::due_between))]
+#[tactic(auto, using(crate::proofs::Fronts::due_fronts))]
 fn send_due<K: Link>(
     state: &mut State<'_>,
     reply: &Reply,
@@ -174,13 +174,13 @@ fn done_bytes(state: &State<'_>) -> Option<u64>
 }
 
 /// The state as soon as the reply of a PAUSE or a TEARDOWN was sent.
-fn settle(state: State<'_>) -> State<'_>
-    ensures { result ≡ after_stop state.entry }
+fn settle(state: &mut State<'_>)
+    ensures { state.new ≡ after_stop state.old }
 {
-    match state {
+    *state = match mem::replace(state, State::Init) {
         State::Stopping(setup, stop) => State::Ready(setup, stop.paused),
         other => other,
-    }
+    };
 }
 
 /// Asks for the halt of a play that is done.
@@ -241,7 +241,7 @@ impl<'a> Session<'a> {
         if replied {
             self.waits = false;
             self.torn = self.tearing;
-            self.state = settle(mem::replace(&mut self.state, State::Init));
+            settle(&mut self.state);
             return Ok(finish(&self.state, &mut self.awaited));
         }
         Ok(finish(&self.state, &mut self.awaited))
@@ -281,7 +281,7 @@ impl<'a> Session<'a> {
         };
         self.waits = false;
         self.torn = self.tearing;
-        self.state = settle(mem::replace(&mut self.state, State::Init));
+        settle(&mut self.state);
         Ok(())
     }
 }
