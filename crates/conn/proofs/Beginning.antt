@@ -12,7 +12,7 @@ use Rattle.session.specs.declared.states.Prepared.{Prepared}
 use Rattle.session.specs.declared.states.Setup.{Setup}
 use Rattle.session.specs.declared.states.State.{State}
 use Rattle.session.specs.declared.states.State.TheVariants.{Init, Playing, Ready, Stopping}
-use Rattle.session.specs.Plans.{IsPlay}
+use Rattle.session.specs.Plans.{IsPacedPlay}
 use Rattle.session.specs.Steps.{IsPlayIn}
 use Rattle.session.specs.Sendings.{admitted_in}
 use Rattle.session.specs.Standings.{Standing}
@@ -29,7 +29,7 @@ new_play prepared place start = record {
   pacer = whole_pacing (run_pieces prepared.frames) prepared.run.sent prepared.paced start;
 }
 
-nothing_sent : (prepared : Prepared) (place start heard : ℕ) → heard < start → IsPlay (new_play prepared place start) → HasSent (new_play prepared place start) heard []
+nothing_sent : (prepared : Prepared) (place start heard : ℕ) → heard < start → IsPacedPlay (new_play prepared place start) → HasSent (new_play prepared place start) heard []
 nothing_sent prepared place start heard later is =
     let none : heard + 1 - start ≡ 0 = omega (arith, later) in record {
       pacing = is.pacing;
@@ -58,7 +58,7 @@ play_begins old new placed start setup prepared answered ready awaits =
     ap (λ (s : Standing). s.state) answered.1 ∙ ap (λ a. admitted_in old.state a placed.place start) awaits
     ∙ admitted_is old.state setup prepared placed.place start ready in
     let heard : new.heard ≡ old.heard = ap (λ (s : Standing). s.heard) answered.1 in
-    let is : IsPlay play = subst IsPlayIn state answered.2 in record {
+    let is : IsPacedPlay play = subst IsPlayIn state answered.2 in record {
       play = play;
       state = state;
       run = refl;
