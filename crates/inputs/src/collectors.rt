@@ -18,63 +18,6 @@ use vod_base::{Library, NoMemory};
 /// The bytes of the report before a group.
 const REPORT: u64 = 52;
 
-/// Keeps a film's units.
-#[derive(Drop)]
-struct UnitList {
-    units: Vec<Unit>,
-}
-
-impl Found for UnitList {
-    ghost heard = { λ list calls. list.units.items ≡ units_in calls };
-
-    fn head(&mut self, _from: u64, _to: u64) -> Result<(), NoMemory> {
-        Ok(())
-    }
-
-    fn slice(&mut self, _from: u64, _to: u64) -> Result<(), NoMemory> {
-        Ok(())
-    }
-
-    fn unit(&mut self, unit: Unit) -> Result<(), NoMemory> {
-        match self.units.push(unit) {
-            Ok(()) => Ok(()),
-            Err(_) => Err(NoMemory),
-        }
-    }
-}
-
-/// Adds up the wire size of a unit as its parts come, and keeps those of the units that have ended.
-#[derive(Drop)]
-struct SizeList {
-    unit: UnitSize,
-    sizes: Vec<u64>,
-}
-
-impl Found for SizeList {
-    ghost heard = { λ list calls. IsSized list.unit list.sizes.items calls };
-
-    ghost ready_at = { λ list place. bytes_of list.unit ≤ place };
-
-    fn head(&mut self, from: u64, to: u64) -> Result<(), NoMemory> {
-        self.unit = UnitSize::begin(to - from);
-        Ok(())
-    }
-
-    fn slice(&mut self, from: u64, to: u64) -> Result<(), NoMemory> {
-        self.unit.slice(to - from);
-        Ok(())
-    }
-
-    fn unit(&mut self, unit: Unit) -> Result<(), NoMemory> {
-        let ended = mem::replace(&mut self.unit, UnitSize::begin(1));
-        let report = if unit.starts_group { REPORT } else { 0 };
-        match self.sizes.push(report + ended.end()) {
-            Ok(()) => Ok(()),
-            Err(_) => Err(NoMemory),
-        }
-    }
-}
-
 /// A film that was scanned and accepted.
 #[derive(Drop)]
 pub struct ScannedFilm {
@@ -146,5 +89,62 @@ pub fn size_film<'a, L: Library>(
             sizes: found.sizes,
         }),
         Err(trouble) => Err(trouble),
+    }
+}
+
+/// Keeps a film's units.
+#[derive(Drop)]
+struct UnitList {
+    units: Vec<Unit>,
+}
+
+impl Found for UnitList {
+    ghost heard = { λ list calls. list.units.items ≡ units_in calls };
+
+    fn head(&mut self, _from: u64, _to: u64) -> Result<(), NoMemory> {
+        Ok(())
+    }
+
+    fn slice(&mut self, _from: u64, _to: u64) -> Result<(), NoMemory> {
+        Ok(())
+    }
+
+    fn unit(&mut self, unit: Unit) -> Result<(), NoMemory> {
+        match self.units.push(unit) {
+            Ok(()) => Ok(()),
+            Err(_) => Err(NoMemory),
+        }
+    }
+}
+
+/// Adds up the wire size of a unit as its parts come, and keeps those of the units that have ended.
+#[derive(Drop)]
+struct SizeList {
+    unit: UnitSize,
+    sizes: Vec<u64>,
+}
+
+impl Found for SizeList {
+    ghost heard = { λ list calls. IsSized list.unit list.sizes.items calls };
+
+    ghost ready_at = { λ list place. bytes_of list.unit ≤ place };
+
+    fn head(&mut self, from: u64, to: u64) -> Result<(), NoMemory> {
+        self.unit = UnitSize::begin(to - from);
+        Ok(())
+    }
+
+    fn slice(&mut self, from: u64, to: u64) -> Result<(), NoMemory> {
+        self.unit.slice(to - from);
+        Ok(())
+    }
+
+    fn unit(&mut self, unit: Unit) -> Result<(), NoMemory> {
+        let ended = mem::replace(&mut self.unit, UnitSize::begin(1));
+        let report = if unit.starts_group { REPORT } else { 0 };
+        match self.sizes.push(report + ended.end()) {
+            Ok(()) => Ok(()),
+            Err(_) => Err(NoMemory),
+        }
     }
 }

@@ -11,6 +11,26 @@ use vod_base::Library;
 /// The most bytes that one read asks for.
 pub(crate) const PIECE: usize = 65_536;
 
+/// Reads the whole input of that name, by reads of at most 65,536 bytes.
+pub fn read_input<'a, L: Library>(
+    alloc: Global,
+    library: &mut L,
+    name: &'a str,
+) -> Result<Vec<u8>, Trouble<'a>>
+    ensures library { IsReadOnly (L.files library.old) (L.files library.new) (L.faults library.old)
+        (L.faults library.new) }
+    ensures found { (held : List File) → L.files library.old ≡ Some held
+        → IfOk result (λ text. file_named held name.entry.now ≡ Some text.items) }
+    ensures trouble { IfErr result (IsReadTrouble (IsNamed name.entry.now) IsMissing
+        (L.files library.old) (L.faults library.old) (L.faults library.new)) }
+{
+    let size = match find_file(library, name) {
+        Ok(size) => size,
+        Err(trouble) => return Err(trouble),
+    };
+    read_bytes(alloc, library, name, size)
+}
+
 /// That many zero bytes.
 pub(crate) fn zeros(alloc: Global, len: usize) -> Result<Vec<u8>, AllocError>
     ensures { IfOk result (λ zeros. vec_len zeros ≡ len) }
@@ -63,6 +83,38 @@ pub(crate) fn read_at<'a, L: Library>(
     }
 }
 
+/// Reads a file of that size, by reads of at most 65,536 bytes from its beginning, until a read
+/// answers 0 or the size is reached.
+pub(crate) fn read_bytes<'a, L: Library>(
+    alloc: Global,
+    library: &mut L,
+    name: &'a str,
+    size: u64,
+) -> Result<Vec<u8>, Trouble<'a>>
+    ensures library { IsReadOnly (L.files library.old) (L.files library.new) (L.faults library.old)
+        (L.faults library.new) }
+    ensures read { (held : List File) → L.files library.old ≡ Some held
+        → Some size ≡ option_map length (file_named held name.entry.now)
+        → IfOk result (λ bytes. file_named held name.entry.now ≡ Some bytes.items) }
+    ensures within { IfOk result (λ bytes. vec_len bytes ≤ size) }
+    ensures trouble { IfErr result (IsReadTrouble (IsNamed name.entry.now) IsNever
+        (L.files library.old) (L.faults library.old) (L.faults library.new)) }
+{
+    let mut bytes = Vec::new(alloc);
+    let mut piece = match zeros(alloc, PIECE) {
+        Ok(piece) => piece,
+        Err(_) => return Err(Trouble::NoMemory),
+    };
+    let mut more = true;
+    while more && (bytes.len() as u64) < size {
+        more = match read_piece(library, name, size, &mut piece, &mut bytes) {
+            Ok(more) => more,
+            Err(trouble) => return Err(trouble),
+        };
+    }
+    Ok(bytes)
+}
+
 /// Reads one piece after the bytes read so far, and tells whether there was more to read.
 fn read_piece<'a, L: Library>(
     library: &mut L,
@@ -96,56 +148,4 @@ fn read_piece<'a, L: Library>(
         Ok(()) => Ok(true),
         Err(_) => Err(Trouble::NoMemory),
     }
-}
-
-/// Reads a file of that size, by reads of at most 65,536 bytes from its beginning, until a read
-/// answers 0 or the size is reached.
-pub(crate) fn read_bytes<'a, L: Library>(
-    alloc: Global,
-    library: &mut L,
-    name: &'a str,
-    size: u64,
-) -> Result<Vec<u8>, Trouble<'a>>
-    ensures library { IsReadOnly (L.files library.old) (L.files library.new) (L.faults library.old)
-        (L.faults library.new) }
-    ensures read { (held : List File) → L.files library.old ≡ Some held
-        → Some size ≡ option_map length (file_named held name.entry.now)
-        → IfOk result (λ bytes. file_named held name.entry.now ≡ Some bytes.items) }
-    ensures within { IfOk result (λ bytes. vec_len bytes ≤ size) }
-    ensures trouble { IfErr result (IsReadTrouble (IsNamed name.entry.now) IsNever
-        (L.files library.old) (L.faults library.old) (L.faults library.new)) }
-{
-    let mut bytes = Vec::new(alloc);
-    let mut piece = match zeros(alloc, PIECE) {
-        Ok(piece) => piece,
-        Err(_) => return Err(Trouble::NoMemory),
-    };
-    let mut more = true;
-    while more && (bytes.len() as u64) < size {
-        more = match read_piece(library, name, size, &mut piece, &mut bytes) {
-            Ok(more) => more,
-            Err(trouble) => return Err(trouble),
-        };
-    }
-    Ok(bytes)
-}
-
-/// Reads the whole input of that name, by reads of at most 65,536 bytes.
-pub fn read_input<'a, L: Library>(
-    alloc: Global,
-    library: &mut L,
-    name: &'a str,
-) -> Result<Vec<u8>, Trouble<'a>>
-    ensures library { IsReadOnly (L.files library.old) (L.files library.new) (L.faults library.old)
-        (L.faults library.new) }
-    ensures found { (held : List File) → L.files library.old ≡ Some held
-        → IfOk result (λ text. file_named held name.entry.now ≡ Some text.items) }
-    ensures trouble { IfErr result (IsReadTrouble (IsNamed name.entry.now) IsMissing
-        (L.files library.old) (L.faults library.old) (L.faults library.new)) }
-{
-    let size = match find_file(library, name) {
-        Ok(size) => size,
-        Err(trouble) => return Err(trouble),
-    };
-    read_bytes(alloc, library, name, size)
 }

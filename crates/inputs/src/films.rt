@@ -24,6 +24,45 @@ use vod_base::{Library, NoMemory};
 /// The most bytes of a film that a server holds.
 const HELD: u64 = 1 << 30;
 
+/// Loads a film that is to be served, an MPEG-1 video stream or a system stream with one. Its file
+/// has at most 2^30 bytes.
+pub fn load_film<'a, L: Library>(
+    alloc: Global,
+    library: &mut L,
+    name: &'a str,
+) -> Result<Stored, Trouble<'a>>
+    ensures library { IsReadOnly (L.files library.old) (L.files library.new) (L.faults library.old)
+        (L.faults library.new) }
+    ensures name { IfOk result (λ stored. string_bytes stored.name ≡ name.entry.now) }
+    ensures film { (held : List File) → L.files library.old ≡ Some held
+        → IfOk result (λ stored. HoldsVideo held name.entry.now stored.film.bytes.items) }
+    ensures small { (held : List File) → L.files library.old ≡ Some held
+        → IfOk result (λ stored. IsNotRefused IsHeldRefused held name.entry.now) }
+    ensures trouble { IfErr result (IsReadTrouble (IsNamed name.entry.now) IsHeldRefused
+        (L.files library.old) (L.faults library.old) (L.faults library.new)) }
+{
+    load_within(alloc, library, name, HELD, Fault::FilmTooLarge)
+}
+
+/// Loads a film that a script plays, of at most 2^40 bytes.
+pub fn load_script_film<'a, L: Library>(
+    alloc: Global,
+    library: &mut L,
+    name: &'a str,
+) -> Result<Stored, Trouble<'a>>
+    ensures library { IsReadOnly (L.files library.old) (L.files library.new) (L.faults library.old)
+        (L.faults library.new) }
+    ensures name { IfOk result (λ stored. string_bytes stored.name ≡ name.entry.now) }
+    ensures film { (held : List File) → L.files library.old ≡ Some held
+        → IfOk result (λ stored. HoldsVideo held name.entry.now stored.film.bytes.items) }
+    ensures small { (held : List File) → L.files library.old ≡ Some held
+        → IfOk result (λ stored. IsNotRefused IsFilmRefused held name.entry.now) }
+    ensures trouble { IfErr result (IsReadTrouble (IsNamed name.entry.now) IsFilmRefused
+        (L.files library.old) (L.faults library.old) (L.faults library.new)) }
+{
+    load_within(alloc, library, name, FILM, Fault::Film(FilmFault::TooLong))
+}
+
 /// The film under its name, with its table of frames.
 fn store(alloc: Global, name: &str, film: Film) -> Result<Stored, NoMemory>
     ensures name { IfOk result (λ stored. string_bytes stored.name ≡ name.now) }
@@ -145,43 +184,4 @@ fn load_within<'a, L: Library>(
         Ok(stored) => Ok(stored),
         Err(NoMemory) => Err(Trouble::NoMemory),
     }
-}
-
-/// Loads a film that is to be served, an MPEG-1 video stream or a system stream with one. Its file
-/// has at most 2^30 bytes.
-pub fn load_film<'a, L: Library>(
-    alloc: Global,
-    library: &mut L,
-    name: &'a str,
-) -> Result<Stored, Trouble<'a>>
-    ensures library { IsReadOnly (L.files library.old) (L.files library.new) (L.faults library.old)
-        (L.faults library.new) }
-    ensures name { IfOk result (λ stored. string_bytes stored.name ≡ name.entry.now) }
-    ensures film { (held : List File) → L.files library.old ≡ Some held
-        → IfOk result (λ stored. HoldsVideo held name.entry.now stored.film.bytes.items) }
-    ensures small { (held : List File) → L.files library.old ≡ Some held
-        → IfOk result (λ stored. IsNotRefused IsHeldRefused held name.entry.now) }
-    ensures trouble { IfErr result (IsReadTrouble (IsNamed name.entry.now) IsHeldRefused
-        (L.files library.old) (L.faults library.old) (L.faults library.new)) }
-{
-    load_within(alloc, library, name, HELD, Fault::FilmTooLarge)
-}
-
-/// Loads a film that a script plays, of at most 2^40 bytes.
-pub fn load_script_film<'a, L: Library>(
-    alloc: Global,
-    library: &mut L,
-    name: &'a str,
-) -> Result<Stored, Trouble<'a>>
-    ensures library { IsReadOnly (L.files library.old) (L.files library.new) (L.faults library.old)
-        (L.faults library.new) }
-    ensures name { IfOk result (λ stored. string_bytes stored.name ≡ name.entry.now) }
-    ensures film { (held : List File) → L.files library.old ≡ Some held
-        → IfOk result (λ stored. HoldsVideo held name.entry.now stored.film.bytes.items) }
-    ensures small { (held : List File) → L.files library.old ≡ Some held
-        → IfOk result (λ stored. IsNotRefused IsFilmRefused held name.entry.now) }
-    ensures trouble { IfErr result (IsReadTrouble (IsNamed name.entry.now) IsFilmRefused
-        (L.files library.old) (L.faults library.old) (L.faults library.new)) }
-{
-    load_within(alloc, library, name, FILM, Fault::Film(FilmFault::TooLong))
 }
