@@ -39,7 +39,7 @@ path_end name tail good is_tail = record {
       get_or-append_right (47 ∷ name) tail (1 + length name) (1 + length name) 0 (omega arith) (omega arith) ∙ ap (λ n. get_or tail n 0) zero ∙ first_of_tail tail is_tail some;
 }
 
-film_path : (name tail : List ℕ) → is_good_name name ≡ true → IsTail tail → NamesFilm (47 ∷ name ++ tail) name
+pub film_path : (name tail : List ℕ) → is_good_name name ≡ true → IsTail tail → NamesFilm (47 ∷ name ++ tail) name
 film_path name tail good is_tail =
     let size : 1 + length name - 1 ≡ length name = omega arith in
     let front : take (1 + length name - 1) (name ++ tail) ≡ name = take_at name tail (1 + length name - 1) (sym size) in
