@@ -1,5 +1,5 @@
 -- The entries of a maker, and what they tell of the whole history.
-use Rattle.std.proofs.Common.{◌≡◌, ◌<◌, ◌+◌, ℕ, zero, suc, eqb, List, [], ◌∷◌, length, get_or, All, Some, arith, refl, sym, ap, subst, ◌∙◌, inl, inr, eq-eqb}
+use Rattle.std.proofs.Common.{◌≡◌, ◌<◌, ◌+◌, ℕ, zero, suc, eqb, List, [], ◌∷◌, length, get_or, All, Some, map, filter, arith, refl, sym, ap, subst, ◌∙◌, inl, inr, eq-eqb}
 use Rattle.std.proofs.lemmas.Bool.{cases_Bool, cond-true, cond-false, eqb-true}
 use Rattle.std.proofs.lemmas.List.{get_or_default}
 use Rattle.std.proofs.lemmas.List.Elements.{All-nil, All-cons, All-head, All-tail, All-weaker}
@@ -43,6 +43,30 @@ all-made place maker (e ∷ rest) =
           )
       | inr other ↦ subst (All P) (sym (cond-false (eqb e.maker maker) (here ∷ made_from (place + 1) maker rest) (made_from (place + 1) maker rest) other)) later
     ]
+
+-- the entries alone, and where each stands
+pub made_entries : (place maker : ℕ) (xs : List Entry) → map (λ p. p.entry) (made_from place maker xs) ≡ filter (λ e. eqb e.maker maker) xs
+made_entries place maker [] = refl
+made_entries place maker (e ∷ rest) =
+    let more = made_from (place + 1) maker rest in
+    let here : Placed = record { place = place; entry = e } in
+    let others = filter (λ (x : Entry). eqb x.maker maker) rest in
+    let later : map (λ p. p.entry) more ≡ others = made_entries (place + 1) maker rest in
+    elim (cases_Bool (eqb e.maker maker)) [
+      | inl his ↦ ap (map (λ (p : Placed). p.entry)) (cond-true (eqb e.maker maker) (here ∷ more) more his)
+          ∙ ap (λ es. e ∷ es) later ∙ sym (cond-true (eqb e.maker maker) (e ∷ others) others his)
+      | inr other ↦ ap (map (λ (p : Placed). p.entry)) (cond-false (eqb e.maker maker) (here ∷ more) more other)
+          ∙ later ∙ sym (cond-false (eqb e.maker maker) (e ∷ others) others other)
+    ]
+
+pub made_places : (maker : ℕ) (xs : List Entry) → All (λ p. (p.place < length xs) × ((none : Entry) → get_or xs p.place none ≡ p.entry)) (made_by maker xs)
+made_places maker xs =
+    All-weaker (IsMade 0 maker xs) (λ p. (p.place < length xs) × ((none : Entry) → get_or xs p.place none ≡ p.entry)) (λ p made. (
+      omega (arith, made.place_is, made.inside),
+      λ none.
+          let at : p.place ≡ made.at = omega (arith, made.place_is) in
+          ap (λ (n : ℕ). get_or xs n none) at ∙ get_or_default xs made.at none no_entry made.inside ∙ sym made.entry_is,
+    )) (made_by maker xs) (all-made 0 maker xs)
 
 -- ---- each entry of a maker is among them
 one-made : (P : Placed → Type 0) (place maker : ℕ) (xs : List Entry) (i : ℕ) → All P (made_from place maker xs) → i < length xs →

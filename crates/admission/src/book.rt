@@ -1,3 +1,5 @@
+//! The book, and its limit of entries.
+
 ghost use Rattle.std.specs.Prelude.{ℕ, ◌≡◌, ◌+◌, ◌^◌, ◌<◌, ◌≤◌, [], min, max, IfOk, IfErr, OnOk};
 ghost use Rattle.std.specs.Prelude.{OnErr};
 ghost use Rattle.plan_cert.specs.Slots.{total_bytes};
@@ -60,15 +62,12 @@ impl Book {
             book ≡ record { steps = profile; limit = limit; entries = [] }) }
     {
         let calendar = Calendar::new(alloc, profile)?;
-        match Vec::with_capacity(alloc, limit as usize) {
-            Ok(entries) => Ok(Book {
-                calendar,
-                entries,
-                limit,
-                live: 0,
-            }),
-            Err(_) => Err(NoMemory),
-        }
+        Ok(Book {
+            calendar,
+            entries: Vec::with_capacity(alloc, limit as usize)?,
+            limit,
+            live: 0,
+        })
     }
 
     /// How many entries there are, and how many plays are open.

@@ -1,3 +1,5 @@
+//! Commands, answers and entries.
+
 use plan_cert::Plan;
 use std::error::Error;
 use std::fmt;

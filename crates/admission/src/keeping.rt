@@ -1,3 +1,5 @@
+//! What each command does to the calendar.
+
 ghost use Rattle.std.specs.Prelude.{◌≡◌, ◌+◌, ◌^◌, ◌<◌, ◌≤◌, ◌++◌, [], ◌∷◌, ℕ, length, vec_len};
 ghost use Rattle.std.specs.Prelude.{vec_capacity, if◌then◌else◌};
 ghost use Rattle.admission.specs.Machine.{State, CanHalt, IsAnswer, IsWithin, next_state};

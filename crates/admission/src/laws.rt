@@ -1,5 +1,7 @@
+//! Laws of the machine and of its histories.
+
 ghost use Rattle.std.specs.Prelude.{◌≡◌, ◌+◌, ◌<◌, ◌≤◌, ◌++◌, [], ◌∷◌, ℕ, List, All, Some};
-ghost use Rattle.std.specs.Prelude.{count_by, false, length, map, max, slice_index_or, take, true};
+ghost use Rattle.std.specs.Prelude.{◌==◌, filter, count_by, false, length, map, max, slice_index_or, take, true};
 ghost use Rattle.plan_cert.specs.declared.Segment.{Segment};
 ghost use Rattle.plan_cert.specs.Plan.{IsPlan};
 ghost use Rattle.slot_calendar.specs.Plays.{asked_at, cut_at};
@@ -14,7 +16,7 @@ ghost use Rattle.admission.specs.Machine.{held_as};
 ghost use Rattle.admission.specs.Histories.{IsAdmission, IsHalt, IsLegal, IsStillOpen, IsUnhalted};
 ghost use Rattle.admission.specs.Histories.{booked_after, is_admission, is_halt, latest_asked};
 ghost use Rattle.admission.specs.Histories.{open_count, state_after};
-ghost use Rattle.admission.specs.Makers.{AreHaltsOwn, IsOpenAmong, made_by};
+ghost use Rattle.admission.specs.Makers.{AreHaltsOwn, IsOpenAmong, Placed, made_by};
 
 /// A history that is legal is legal up to each place.
 pub fn law_prefix()
@@ -86,6 +88,18 @@ pub fn law_counts()
         ≡ count_by (λ (e : Entry). is_admission e.answer) entries }
     ensures now { (steps : List CapStep) (entries : List Entry) → IsLegal steps entries →
         (state_after entries).now ≡ latest_asked entries }
+{}
+
+/// A maker's entries are those of the journal that it made, in order, each with the place at which
+/// it stands.
+pub fn law_makers()
+    ensures entries { (maker : ℕ) (entries : List Entry) →
+        map (λ (p : Placed). p.entry) (made_by maker entries)
+        ≡ filter (λ (e : Entry). e.maker == maker) entries }
+    ensures places { (maker : ℕ) (entries : List Entry) →
+        All (λ (p : Placed). (p.place < length entries)
+        × ((none : Entry) → slice_index_or entries p.place none ≡ p.entry))
+        (made_by maker entries) }
 {}
 
 /// A play that is open among its maker's own entries can be halted, in a legal history in which
