@@ -25,7 +25,7 @@ cuts_drop input rest step n first length_is dropped = record {
       (pieces ++ told_pieces input (Ok step), subst (λ x. AreCut bytes (pieces ++ told_pieces input (Ok step)) x) is (next_pieces input (Ok step) first bytes pieces cut));
 }
 
--- bytes came behind those that wait
+-- bytes came after those that wait
 pub cuts_same : (old new : List ℕ) → new ≡ old → CutsOn old new
 cuts_same old new same = subst (CutsOn old) (sym same) (cuts_none old)
 

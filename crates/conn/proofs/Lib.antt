@@ -18,8 +18,11 @@ pub mod Progress
 pub mod Steps
 pub mod Rooms
 pub mod Sighting
+pub mod Outcomes
 pub mod Staying
 pub mod Taking
 pub mod Telling
 pub mod Workers
 pub mod Journals
+mod Spent
+mod Drawn

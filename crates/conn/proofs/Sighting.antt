@@ -10,48 +10,34 @@ use Rattle.interleave.specs.declared.pieces.Step.TheVariants.{Request}
 use Rattle.interleave.specs.declared.pieces.DemuxFault.{DemuxFault}
 use Rattle.interleave.specs.declared.pieces.DemuxFault.TheVariants.{HeadTooLong as LongHead}
 use Rattle.interleave.specs.declared.pieces.DemuxFault.TheVariants.{BodyTooLong as LongBody}
-use Rattle.vod_base.specs.Links.{Doing, IsFrontTold, Sent, HeardBytes, HeardEnd, HeardSlot, sends}
+use Rattle.vod_base.specs.Links.{Doing, IsFrontTold, Sent, HeardBytes, HeardSlot, sends}
 use Rattle.vod_base.specs.Links.{told_more}
 use Rattle.vod_base.specs.declared.links.Heard.{Heard}
 use Rattle.vod_base.specs.declared.links.Heard.TheVariants.{Bytes, Slot, End}
-use Rattle.station.specs.Answers.{IsFull, IsRefused, Made}
-use Rattle.station.specs.declared.answers.PlayRefused.{PlayRefused}
-use Rattle.station.specs.Ledgers.{IsOffered}
-use Rattle.station.specs.declared.answers.Offered.{Offered as Told}
-use Rattle.station.specs.Seats.{IsSameSeat, IsSeat, Sitting}
-use Rattle.early_start.specs.Offered.{Found}
-use Rattle.plan_cert.specs.declared.Segment.{Segment}
-use Rattle.admission.specs.declared.entries.Answer.{Answer}
-use Rattle.admission.specs.declared.entries.Answer.TheVariants.{Halted}
-use Rattle.admission.specs.declared.entries.Command.{Command}
-use Rattle.admission.specs.declared.entries.Command.TheVariants.{Halt}
+use Rattle.station.specs.Seats.{Sitting}
 use Rattle.conn.specs.declared.reports.ConnEnd.{ConnEnd}
 use Rattle.conn.specs.declared.reports.ConnEnd.TheVariants.{Ended, TornDown, LinkFault, TooMuchInput}
 use Rattle.conn.specs.declared.reports.ConnEnd.TheVariants.{HeadTooLong, BodyTooLong, TurnsSpent}
 use Rattle.conn.specs.declared.reports.ConnEnd.TheVariants.{NoMemory}
-use Rattle.session.specs.Hearings.{Halts, Hears}
-use Rattle.session.specs.declared.asks.Ask.{Ask}
-use Rattle.session.specs.declared.asks.Ask.TheVariants.{Reply as AskReply, Halt as AskHalt}
 use Rattle.session.specs.Sendings.{IsTold, can_reply, due_bytes, is_between, is_sending, is_taken}
 use Rattle.session.specs.Sendings.{step_bytes, stepped_in}
-use Rattle.session.specs.Standings.{IsDue, Open, Standing, open_of}
+use Rattle.session.specs.Standings.{Standing}
 use Rattle.conn.specs.declared.connections.Connection.{Connection}
-use Rattle.conn.specs.Events.{HasHeard, IsEndOf, IsWaiting}
-use Rattle.conn.specs.Journals.{AgreeWith, entries_needed, terms_of}
+use Rattle.conn.specs.Events.{HasTakenEvent, IsEndOf, IsWaiting}
+use Rattle.conn.specs.Journals.{AgreeWith, terms_of}
 use Rattle.conn.proofs.Cutting.{seat_none, seat_on}
-use Rattle.conn.proofs.Journals.{agree_then, entry_agrees, full_agrees, offer_agrees, terms_same}
-use Rattle.conn.specs.Served.{HasClosed}
-use Rattle.conn.specs.Turns.{Outcome, Unasked, Entered, WasFull, Offered, Part, Film, Text, Stage}
-use Rattle.conn.specs.Turns.{Taking, Passed, Answered, IsAnswered, IsClosed, IsHalted, IsNext}
+use Rattle.conn.proofs.Journals.{agree_then, terms_same}
+use Rattle.conn.specs.Turns.{Outcome, Unasked, Part, Film, Text, Stage}
+use Rattle.conn.specs.Turns.{Taking, Passed, Answered, IsNext}
 use Rattle.conn.specs.Turns.{IsPassed, Takes, TakesAll, after_reply, due_parts, entry_in}
 use Rattle.conn.specs.Turns.{parts_bytes, reply_parts, slot_parts, stage}
-use Rattle.conn.specs.Rounds.{Comes, Ends, Unheard, PeerEnded, Overfull, AtPiece, InSlot, InReply}
+use Rattle.conn.specs.Rounds.{Comes, Ends, Unheard, Overfull, AtPiece, InSlot, InReply}
 use Rattle.conn.specs.Rounds.{IsIdle, IsStopped, IsUnheard, Round, Runs, RunsAll, ending_bytes}
 use Rattle.conn.specs.Rounds.{ending_doings, ending_events, ending_outcomes, entries_in}
 use Rattle.conn.specs.Rounds.{round_bytes}
 use Rattle.conn.specs.Rounds.{round_outcomes, rounds_doings, rounds_outcomes, taking_bytes}
 use Rattle.conn.specs.Rounds.{taking_outcomes, takings_bytes, takings_outcomes}
-use Rattle.conn.specs.Sights.{AreNoted, HasAnswered, HasAsked, HasBroken, HasComeTo}
+use Rattle.conn.specs.Sights.{AreNoted, HasAsked, HasBroken, HasComeTo}
 use Rattle.conn.specs.Sights.{HasCourse, HasEnded, HasLost, HasPassed, HasRound, HasRun, HasTaken}
 use Rattle.conn.specs.Sights.{HasTakenUp, IsSent, Sight}
 
@@ -225,11 +211,6 @@ slot_broken slot a c broken =
       noted = subst (λ s. AreNoted a.seat s []) (sym broken.noted) (noted_none a.seat);
     }
 
-pub peer_ended : (a c : Sight) → c ≡ a → HasComeTo (Some Ended) HeardEnd a c
-peer_ended a c is =
-    subst (λ s. HasComeTo (Some Ended) HeardEnd a s) (sym is)
-    (λ count. record { ending = PeerEnded; event_is = refl; ends = (refl, refl); sent = sent_none a.told; noted = noted_none a.seat })
-
 pub overfull : (bytes : List ℕ) (a c : Sight) → 131072 < length a.stage.input + length bytes → a.stage.session.waits ≡ true → c ≡ a →
     HasComeTo (Some TooMuchInput) (HeardBytes bytes) a c
 overfull bytes a c many waits is =
@@ -241,7 +222,7 @@ abbrev GoesOn : Option ConnEnd → Type 0
 GoesOn None = ⊤
 GoesOn (Some end) = ⊥
 
-pub goes_on : (heard : Heard) (waiting : ℕ) (c : Connection) → HasHeard heard waiting None c →
+pub goes_on : (heard : Heard) (waiting : ℕ) (c : Connection) → HasTakenEvent heard waiting None c →
     (c.session.torn ≡ false) × (c.session.lost ≡ false) × IsWaiting c
 goes_on End waiting c has = absurd (subst GoesOn has tt)
 goes_on (Slot slot) waiting c has = (has.0, has.1, has.2)
@@ -353,75 +334,6 @@ taken_fault a b LongHead end same torn first is =
 taken_fault a b LongBody end same torn first is =
     subst (λ (s : Sight). HasTaken a s × IsStopped end s.stage) (sym same) (taken_none a, subst (λ e. IsStopped e a.stage) (sym is) (torn, first))
 
--- the station's answers
-pub answered_entry : (old : Standing) (ask : Ask) (new : Standing) (seat next : Sitting) (more : ℕ) (command : Command) (place : ℕ) (answer : Answer)
-    → IsSeat seat → IsSeat next → IsSameSeat seat next → Made seat next more command place answer → more ≡ entries_needed command
-    → IsAnswered old ask (Entered (record { place = place; entry = record { maker = seat.number; command = command; answer = answer } })) new
-    → HasAnswered old ask new seat next
-answered_entry old ask new seat next more command place answer kept also same made needed answered = record {
-  outcome = Entered (record { place = place; entry = record { maker = seat.number; command = command; answer = answer } });
-  answered = answered;
-  noted = record { mine = made.mine; seat = same; agree = entry_agrees seat next more command place answer kept also same made needed };
-}
-
-pub answered_full : (old : Standing) (ask : Ask) (new : Standing) (seat next : Sitting) (more entries live : ℕ) → IsSameSeat seat next
-    → IsFull seat next more entries live → IsAnswered old ask (WasFull more entries live) new → HasAnswered old ask new seat next
-answered_full old ask new seat next more entries live same full answered = record {
-  outcome = WasFull more entries live;
-  answered = answered;
-  noted = record { mine = full.mine ∙ sym (append-nil seat.mine); seat = same; agree = full_agrees seat next more entries live same full };
-}
-
--- a play is refused as its cause says
-pub refused_as : (seat next : Sitting) (heard : ℕ) (plan : List Segment) (was is : PlayRefused) → IsRefused seat next heard plan was → was ≡ is →
-    IsRefused seat next heard plan is
-refused_as seat next heard plan was is refused same = subst (IsRefused seat next heard plan) same refused
-
-pub answered_offer : (old : Standing) (ask : Ask) (new : Standing) (seat next : Sitting) (heard : ℕ) (plan : List Segment) (told : Told) (found : Found)
-    → IsSameSeat seat next → next.mine ≡ seat.mine → IsOffered next.steps next.seen heard plan told found
-    → IsAnswered old ask (Offered heard (record { seen = told.seen; first = told.first; plan = plan; offers = found })) new
-    → HasAnswered old ask new seat next
-answered_offer old ask new seat next heard plan told found same mine offered answered = record {
-  outcome = Offered heard (record { seen = told.seen; first = told.first; plan = plan; offers = found });
-  answered = answered;
-  noted = record { mine = mine ∙ sym (append-nil seat.mine); seat = same; agree = offer_agrees seat next heard plan told found same offered };
-}
-
-pub halted_entry : (old : Standing) (keep : ℕ) (new : Standing) (seat next : Sitting) (number place : ℕ) → IsSeat seat → IsSeat next → IsSameSeat seat next
-    → Made seat next 0 (Halt number keep) place Halted → Halts old place new → HasAnswered old (AskHalt keep) new seat next
-halted_entry old keep new seat next number place kept also same made halts = record {
-  outcome = Entered (record { place = place; entry = record { maker = seat.number; command = Halt number keep; answer = Halted } });
-  answered = record { number = number; command = refl; answer = refl; halts = halts };
-  noted = record { mine = made.mine; seat = same; agree = entry_agrees seat next 0 (Halt number keep) place Halted kept also same made refl };
-}
-
--- a request, by what it asks for
-pub asked_reply : (old : Standing) (message : List ℕ) (ask : Ask) (new : Standing) (seat next : Sitting) → Hears old message ask new → ask ≡ AskReply →
-    next ≡ seat → HasAsked old message new seat next
-asked_reply old message ask new seat next hears is same = record {
-  outcome = Unasked;
-  heard = record {
-    ask = ask;
-    asking = new;
-    hears = hears;
-    answered = subst (λ a. IsAnswered new a Unasked new) (sym is) refl;
-  };
-  noted = subst (λ s. AreNoted seat s (Unasked ∷ [])) (sym same) (noted_unasked seat);
-}
-
-pub asked_station : (old : Standing) (message : List ℕ) (ask is_ask : Ask) (asking new : Standing) (seat next : Sitting) → Hears old message ask asking →
-    ask ≡ is_ask → HasAnswered asking is_ask new seat next → HasAsked old message new seat next
-asked_station old message ask is_ask asking new seat next hears is has = record {
-  outcome = has.outcome;
-  heard = record {
-    ask = ask;
-    asking = asking;
-    hears = hears;
-    answered = subst (λ a. IsAnswered asking a has.outcome new) (sym is) has.answered;
-  };
-  noted = has.noted;
-}
-
 -- what a slot brings is what is sent in it
 due_is : (waits between : Bool) (one plain after text : List ℕ) →
     parts_bytes (if waits then Film one ∷ (if between then Text text ∷ Film after ∷ [] else []) else Film plain ∷ [])
@@ -499,22 +411,3 @@ lost_reply a b asked n first replied torn heard can is told =
       sent = told.1.1;
       noted = heard.noted;
     }
-
--- a booking that is open at the end
-pub closed_none : (booking : Option Open) (session : Standing) (seat next : Sitting) → booking ≡ None → next ≡ seat → open_of session ≡ booking →
-    HasClosed session session seat next
-closed_none booking session seat next none same is = record {
-  halt = Unasked;
-  closes = subst (λ b. IsClosed b session Unasked session) (sym (is ∙ none)) refl;
-  noted = subst (λ s. AreNoted seat s (Unasked ∷ [])) (sym same) (noted_unasked seat);
-}
-
-pub closed_some : (booking : Option Open) (old : Standing) (due : ℕ) (new : Standing) (seat next : Sitting) → open_of old ≡ booking → IsDue booking due →
-    HasAnswered old (AskHalt due) new seat next → HasClosed old new seat next
-closed_some None old due new seat next is due_is halted = absurd due_is
-closed_some (Some booking) old due new seat next is due_is halted = record {
-  halt = halted.outcome;
-  closes = subst (λ b. IsClosed b old halted.outcome new) (sym is)
-      (subst (λ n. IsHalted old n halted.outcome new) due_is halted.answered);
-  noted = halted.noted;
-}

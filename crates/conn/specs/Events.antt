@@ -42,10 +42,10 @@ IsTakenUp (Some TurnsSpent) c = ⊥
 IsTakenUp (Some NoMemory) c = ⊥
 
 -- an event was taken up, where so many bytes waited before it
-abbrev pub HasHeard : Heard → ℕ → Option ConnEnd → Connection → Type 0
-HasHeard PeerEnd waiting end c = end ≡ Some Ended
-HasHeard (Slot slot) waiting end c = IsTakenUp end c
-HasHeard (Bytes n) waiting end c =
+abbrev pub HasTakenEvent : Heard → ℕ → Option ConnEnd → Connection → Type 0
+HasTakenEvent PeerEnd waiting end c = end ≡ Some Ended
+HasTakenEvent (Slot slot) waiting end c = IsTakenUp end c
+HasTakenEvent (Bytes n) waiting end c =
     ((131072 < waiting + n) × (end ≡ Some TooMuchInput))
     ⊎ ((waiting + n < 131073) × IsTakenUp end c)
 

@@ -72,7 +72,8 @@ AgreeWith terms journal from (Unasked ∷ outcomes) = AgreeWith terms journal fr
 AgreeWith terms journal from (Entered placed ∷ outcomes) =
     StandsIn terms journal from placed
     × AgreeWith terms journal (placed.place + 1) outcomes
-AgreeWith terms journal from (WasFull more entries open_count ∷ outcomes) =
-    IsFullIn terms.limit journal from more entries open_count × AgreeWith terms journal entries outcomes
+AgreeWith terms journal from (WasFull more entries live_plays ∷ outcomes) =
+    IsFullIn terms.limit journal from more entries live_plays
+    × AgreeWith terms journal entries outcomes
 AgreeWith terms journal from (Offered at_slot note ∷ outcomes) =
     IsOfferedIn terms.steps journal from at_slot note × AgreeWith terms journal note.seen outcomes

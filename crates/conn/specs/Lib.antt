@@ -11,3 +11,4 @@ pub mod Plays
 pub mod Promises
 pub mod Admissions
 pub mod Journals
+pub mod Endings

@@ -27,7 +27,7 @@ pub record Round : Type 0 where
   pub halt : Outcome
   pub takings : List Taking
 
--- an event came: its bytes wait behind those that waited, at most 131,072 in all; or its slot was
+-- an event came: its bytes wait after those that waited, at most 131,072 in all; or its slot was
 -- taken up
 abbrev pub Comes : Stage → Doing → List Part → Outcome → Stage → Type 0
 Comes old (HeardBytes bytes) due halt new =

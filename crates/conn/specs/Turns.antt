@@ -15,7 +15,8 @@ use Rattle.session.specs.declared.asks.Ask.TheVariants.{Offer as AskOffer}
 use Rattle.session.specs.declared.notes.OfferNote.{OfferNote}
 use Rattle.session.specs.Hearings.{Halts, Hears, after_admission, after_full, after_look}
 use Rattle.session.specs.Hearings.{after_offer, after_overflow}
-use Rattle.session.specs.Sendings.{can_reply, is_between, is_sending, is_taken, sent_reply, after_slot}
+use Rattle.session.specs.Sendings.{after_slot, can_reply, is_between, is_sending, is_taken}
+use Rattle.session.specs.Sendings.{sent_reply}
 use Rattle.session.specs.Sendings.{step_bytes, stepped_in}
 use Rattle.session.specs.Steps.{IsPlayIn}
 use Rattle.session.specs.Standings.{Awaits, HaltAnswer, NoAnswer, Open, Standing, awaits}

@@ -14,7 +14,7 @@ ghost use Rattle.conn.specs.Sights.{HasPassed, HasTakenUp, TakesNext, sight};
 ghost use Rattle.session.specs.declared.asks.Ask.{Ask};
 ghost use Rattle.conn.specs.Served.{HasClosed};
 ghost use Rattle.session.specs.Hearings.{new_standing};
-ghost use Rattle.conn.specs.Events.{CutsOn, HasCounted, HasHeard, IsEndOf, IsTaken, IsTakenUp};
+ghost use Rattle.conn.specs.Events.{CutsOn, HasCounted, HasTakenEvent, IsEndOf, IsTaken, IsTakenUp};
 ghost use Rattle.conn.specs.Events.{IsWaiting, end_in, with_heard};
 ghost use Rattle.vod_base.specs.Outside.{HasRisen};
 
@@ -94,7 +94,7 @@ impl<'a> Connection<'a> {
             (sight self.old (K.told link.old) seat.old)
             (sight self.new (K.told link.new) seat.new) }
         ensures cut { CutsOn (with_heard self.old.input heard bytes.now) self.new.input }
-        ensures taken { HasHeard heard (list_length self.old.input) result self.new }
+        ensures taken { HasTakenEvent heard (list_length self.old.input) result self.new }
         ensures counted { HasCounted result (K.faults link.old) (K.faults link.new) }
     {
         match heard {
@@ -290,7 +290,9 @@ impl<'a> Connection<'a> {
                     asked,
                 },
             ) => self.session.hear_overflow(place, slot, booked, asked),
-            Err(PlayRefused::JournalFull { entries, live, .. }) => self.session.hear_full(entries, live),
+            Err(PlayRefused::JournalFull { entries, live, .. }) => {
+                self.session.hear_full(entries, live);
+            }
         }
     }
 

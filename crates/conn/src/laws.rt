@@ -1,6 +1,10 @@
-//! Laws of a connection's course: what is sent of a film while its play isn't halted.
+//! Laws of a connection: what is sent of a film while its play isn't halted, how plays are
+//! answered, how many events are heard, and the random words.
 
-ghost use Rattle.std.specs.Prelude.{◌≡◌, ◌++◌, ◌+◌, ◌-◌, ℕ, List, length};
+ghost use Rattle.std.specs.Prelude.{◌≡◌, ◌++◌, ◌+◌, ◌-◌, ◌*◌, ◌^◌, ◌<◌, ◌≤◌, ℕ, List, length};
+ghost use Rattle.std.specs.Prelude.{slice_index};
+ghost use Rattle.rand_chacha.specs.Block.{block_word};
+ghost use Rattle.rand_chacha.specs.ChaCha.{key_of};
 ghost use Rattle.admission.specs.declared.entries.Answer.{Answer};
 ghost use Rattle.admission.specs.Makers.{Placed};
 ghost use Rattle.pacer.specs.Pacings.{first_slots};
@@ -17,7 +21,11 @@ ghost use Rattle.session.specs.Standings.{AreSettings, Standing};
 ghost use Rattle.conn.specs.Admissions.{IsPlayCompleted, IsPlayReplied};
 ghost use Rattle.conn.specs.Turns.{Entered, HasHeard, IsAnswered, IsPlayAnswered, Outcome};
 ghost use Rattle.conn.specs.Plays.{ArePlaysKept};
+ghost use Rattle.conn.specs.declared.reports.ConnEnd.{ConnEnd};
+ghost use Rattle.conn.specs.Endings.{events_heard};
 ghost use Rattle.conn.specs.Rounds.{Round};
+ghost use Rattle.conn.specs.Sights.{HasCourse, Sight};
+ghost use Rattle.conn.specs.Words.{stream_of, words_of};
 ghost use Rattle.conn.specs.Films.{GoesOn, HasBegun, HasSent, HasSentOn, IsReady, StandBetween};
 ghost use Rattle.conn.specs.Films.{Stretch, TellsOverflow};
 ghost use Rattle.conn.specs.Films.{rounds_film, rounds_parts, takings_parts};
@@ -102,4 +110,31 @@ pub fn law_play_completed()
     ensures { (old new : Standing) (message : List ℕ) (outcome : Outcome)
         → CanBePlayed old message → HasHeard old message outcome new
         → IsPlayCompleted old outcome new }
+{}
+
+/// At most 2^40 events of a connection are heard. [`crate::ConnEnd::TurnsSpent`] is its end exactly
+/// where so many were and none of them ended it.
+pub fn law_turns_spent()
+    ensures few { (end : ConnEnd) (old new : Sight) (course : HasCourse end old new)
+        → events_heard end old new course ≤ 2 ^ 40 }
+    ensures spent { (old new : Sight) (course : HasCourse ConnEnd.TurnsSpent old new)
+        → events_heard ConnEnd.TurnsSpent old new course ≡ 2 ^ 40 }
+    ensures all { (end : ConnEnd) (old new : Sight) (course : HasCourse end old new)
+        → length course.rounds ≡ 2 ^ 40 → end ≡ ConnEnd.TurnsSpent }
+{}
+
+/// The words of a worker's connection are the first five of the first block of ChaCha20, ten double
+/// rounds, whose key is the server's seed and whose nonce of 64 bits is the worker's number, high,
+/// and the connection's, low (Bernstein 2008). Connections whose numbers are below 2^32 share no
+/// stream.
+pub fn law_connection_words()
+    ensures words { (seed : List ℕ) (worker connection place : ℕ) → worker < 2 ^ 32 →
+        connection < 2 ^ 32 → place < 5 → slice_index (words_of seed worker connection) place
+        ≡ block_word 10 (key_of seed) 0 (worker * 2 ^ 32 + connection) place }
+    ensures worker { (worker other connection next : ℕ) → worker < 2 ^ 32 → other < 2 ^ 32
+        → connection < 2 ^ 32 → next < 2 ^ 32
+        → stream_of worker connection ≡ stream_of other next → worker ≡ other }
+    ensures connection { (worker other connection next : ℕ) → worker < 2 ^ 32 → other < 2 ^ 32
+        → connection < 2 ^ 32 → next < 2 ^ 32
+        → stream_of worker connection ≡ stream_of other next → connection ≡ next }
 {}

@@ -1,6 +1,6 @@
 use Rattle.std.proofs.Common.{rules}
 use Rattle.conn.specs.Keeping.{business}
-use Rattle.conn.proofs.Sighting.{halted_entry}
+use Rattle.conn.proofs.Outcomes.{halted_entry}
 use Rattle.conn.proofs.Going.{gone_halt}
 use Rattle.conn.proofs.connections.Connection.halt.Goals as goal
 

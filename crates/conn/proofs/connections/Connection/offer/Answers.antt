@@ -1,6 +1,6 @@
 use Rattle.std.proofs.Common.{refl, rules}
 use Rattle.session.specs.declared.asks.Ask.TheVariants.{Offer as AskOffer}
-use Rattle.conn.proofs.Sighting.{answered_offer}
+use Rattle.conn.proofs.Outcomes.{answered_offer}
 use Rattle.conn.proofs.connections.Connection.offer.Goals as goal
 
 pub returns-clause-answered : goal.returns-clause-answered

@@ -4,7 +4,7 @@ use Rattle.session.specs.Standings.{open_of}
 use Rattle.conn.specs.Keeping.{business}
 use Rattle.station.specs.Ledgers.{play_of}
 use Rattle.session.specs.declared.asks.Ask.TheVariants.{Play as AskPlay}
-use Rattle.conn.proofs.Sighting.{answered_entry, answered_full, refused_as}
+use Rattle.conn.proofs.Outcomes.{answered_entry, answered_full, refused_as}
 use Rattle.conn.proofs.Going.{gone_play, gone_overflow, gone_full, held_none}
 use Rattle.conn.proofs.connections.Connection.play.Goals as goal
 

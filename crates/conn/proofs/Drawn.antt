@@ -1,0 +1,31 @@
+-- The words of a connection as words of a block.
+use Rattle.std.proofs.Common.{◌≡◌, ℕ, zero, suc, ◌+◌, ◌*◌, ◌%◌, ◌^◌, ◌<◌, List, slice_index, refl, ap, ◌∙◌, arith}
+use Rattle.rand_chacha.specs.Block.{block_word}
+use Rattle.rand_chacha.specs.ChaCha.{key_of}
+use Rattle.conn.specs.Words.{stream_of, words_of}
+
+stream_is : (worker connection : ℕ) → worker < 2 ^ 32 → connection < 2 ^ 32 → stream_of worker connection ≡ worker * 2 ^ 32 + connection
+stream_is worker connection small few = omega (arith, small, few)
+
+word_of : (seed : List ℕ) (worker connection place : ℕ) → place < 5
+    → slice_index (words_of seed worker connection) place ≡ block_word 10 (key_of seed) 0 (stream_of worker connection) place
+word_of seed worker connection zero less = refl
+word_of seed worker connection (suc zero) less = refl
+word_of seed worker connection (suc (suc zero)) less = refl
+word_of seed worker connection (suc (suc (suc zero))) less = refl
+word_of seed worker connection (suc (suc (suc (suc zero)))) less = refl
+word_of seed worker connection (suc (suc (suc (suc (suc place))))) less = absurd (omega (arith, less))
+
+pub word_drawn : (seed : List ℕ) (worker connection place : ℕ) → worker < 2 ^ 32 → connection < 2 ^ 32 → place < 5
+    → slice_index (words_of seed worker connection) place ≡ block_word 10 (key_of seed) 0 (worker * 2 ^ 32 + connection) place
+word_drawn seed worker connection place small few less =
+    word_of seed worker connection place less
+    ∙ ap (λ stream. block_word 10 (key_of seed) 0 stream place) (stream_is worker connection small few)
+
+pub worker_apart : (worker other connection next : ℕ) → worker < 2 ^ 32 → other < 2 ^ 32 → connection < 2 ^ 32 → next < 2 ^ 32
+    → stream_of worker connection ≡ stream_of other next → worker ≡ other
+worker_apart worker other connection next a b c d same = omega (arith, same)
+
+pub connection_apart : (worker other connection next : ℕ) → worker < 2 ^ 32 → other < 2 ^ 32 → connection < 2 ^ 32 → next < 2 ^ 32
+    → stream_of worker connection ≡ stream_of other next → connection ≡ next
+connection_apart worker other connection next a b c d same = omega (arith, same)
