@@ -166,7 +166,11 @@ fn follow(
     for ahead in 0..60 {
         let slot = calendar.now().saturating_add(ahead);
         assert!(rt; slot >= calendar.now());
-        assert_eq!(rt; calendar.booked_bytes(slot), plain.booked(slot), "slot {slot}");
+        assert_eq!(rt;
+            calendar.booked_bytes(slot),
+            plain.booked(slot),
+            "slot {slot}"
+        );
     }
     assert_eq!(rt; book.entries().len() as u64, plain.entries);
     Ok(counts)
