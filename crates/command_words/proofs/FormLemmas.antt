@@ -1,14 +1,15 @@
 -- Words with a meaning have the form of their command.
-use Rattle.std.proofs.Common.{◌≡◌, ℕ, ◌+◌, ◌^◌, ◌-◌, ◌<◌, ◌≤◌, ◌&&◌, ◌==◌, All, List, [], ◌∷◌, ◌++◌, length, sym, ap, ◌∙◌, arith, Option, Some, None, Bool, true, false, refl, codes, if◌then◌else◌, nat_le, nat_lt, get_or}
-use Rattle.std.specs.List.{after_first, before_first, list_all, position_or_len}
+use Rattle.std.proofs.Common.{◌≡◌, ℕ, ◌+◌, ◌^◌, ◌-◌, ◌<◌, ◌≤◌, ◌&&◌, ◌||◌, ◌==◌, All, List, [], ◌∷◌, ◌++◌, length, sym, ap, ◌∙◌, arith, Option, Some, None, Bool, true, false, refl, codes, if◌then◌else◌, nat_le, nat_lt, get_or, not, inl, inr, zero, suc}
+use Rattle.std.specs.List.{after_first, before_first, list_all, list_any, position_or_len}
 use Rattle.std.specs.Option.{is_some, option_and_then}
 use Rattle.std.specs.Prelude.{option_map}
 use Rattle.std.specs.Str.{bytes_eq}
-use Rattle.std.proofs.lemmas.Bool.{and_parts, eqb-true, leb-true, ltb-true}
+use Rattle.std.proofs.lemmas.Bool.{and_parts, cases_Bool, cond-false, cond-true, eqb-true, leb-true, ltb-true}
 use Rattle.std.proofs.lemmas.List.Elements.{All-cons, All-nil}
 use Rattle.std.proofs.lemmas.List.Folds.{Any-from_list_any}
 use Rattle.std.proofs.lemmas.List.Sums.{passes_at_first, split_at_first}
 use Rattle.std.proofs.lemmas.Slice.Eq.{bytes_eq-Decides}
+use Rattle.vod_base.specs.Names.{is_good_name}
 use Rattle.slot_calendar.specs.declared.profiles.CapStep.{CapStep}
 use Rattle.command_words.specs.Settings.{number_or, one_name, one_number, setting_value, values_of}
 use Rattle.command_words.specs.Capacities.{one_capacity}
@@ -16,9 +17,9 @@ use Rattle.command_words.specs.Keys.{Made, film_given, cert_given, script_given,
 use Rattle.command_words.specs.Commands.{command_named, is_word_of, keys_of}
 use Rattle.command_words.specs.declared.commands.Command.{Command}
 use Rattle.command_words.specs.declared.commands.Command.TheVariants.{Plan, Check, Scan, Make, Day, Fair, Serve, Watch}
-use Rattle.command_words.specs.Forms.{HasSource, HaveForm, IsOneSource, IsSettingOf, most_times, needed_keys, times}
+use Rattle.command_words.specs.Forms.{AreApart, HasFilms, HasSource, HaveForm, HaveMeaning, IsOneSource, IsSettingOf, most_times, needed_keys, times}
 use Rattle.command_words.specs.Spelling.{word_of}
-use Rattle.command_words.specs.Words.{Source, Viewer, Pace, Listening, Order, plan_of, check_of, scan_of, day_of, fair_of, serve_of, watch_of, are_films, are_names, source_of, source_given, viewer_given, script_run_given, fair_run_given, listening_given, pace_given, serving_given, watching_given, order_given, meaning}
+use Rattle.command_words.specs.Words.{Source, Viewer, Pace, Listening, Order, help, version, plan_of, check_of, scan_of, day_of, fair_of, serve_of, watch_of, are_distinct, are_films, are_names, command_order, lone_order, source_of, source_given, viewer_given, script_run_given, fair_run_given, listening_given, pace_given, serving_given, watching_given, order_given, meaning}
 use Rattle.command_words.proofs.MeaningLemmas.{meaning_of}
 
 none_is_some : {A : Type 0} {a : A} → None ≡ Some a → ⊥
@@ -329,6 +330,46 @@ keys_form Fair words order e = fair_form words order e
 keys_form Serve words order e = serve_form words order e
 keys_form Watch words order e = watch_form words order e
 
+-- ---- no two films are alike
+or_true : (b : Bool) → (b || true) ≡ true
+or_true true = refl
+or_true false = refl
+
+any_at : (test : List ℕ → Bool) (names : List (List ℕ)) (k : ℕ) → k < length names → test (get_or names k []) ≡ true → list_any test names ≡ true
+any_at test [] k inside e = absurd (omega (arith, inside))
+any_at test (name ∷ names) zero inside e = ap (λ (b : Bool). b || list_any test names) e
+any_at test (name ∷ names) (suc k) inside e = ap (λ (b : Bool). test name || b) (any_at test names k (omega (arith, inside)) e) ∙ or_true (test name)
+
+apart : (names : List (List ℕ)) → are_distinct names ≡ true → AreApart names
+apart [] e i j order inside = absurd (omega (arith, inside))
+apart (name ∷ names) e zero zero order inside = absurd (omega (arith, order))
+apart (name ∷ names) e zero (suc j) order inside = λ same.
+    let parts = and_parts (not (list_any (bytes_eq name) names)) (are_distinct names) e in
+    let found : list_any (bytes_eq name) names ≡ true = any_at (bytes_eq name) names j (omega (arith, inside)) ((bytes_eq-Decides name (get_or names j [])).1 same) in
+    let bad : false ≡ true = sym (ap not found) ∙ parts.0 in cc
+apart (name ∷ names) e (suc i) zero order inside = absurd (omega (arith, order))
+apart (name ∷ names) e (suc i) (suc j) order inside =
+    apart names (and_parts (not (list_any (bytes_eq name) names)) (are_distinct names) e).1 i j (omega (arith, order)) (omega (arith, inside))
+
+films_apart : (words : List (List ℕ)) (order : Order) → order_given Serve words ≡ Some order → AreApart (values_of (codes "film") words)
+films_apart words order e =
+    let serving = last_step_found serve_of (serving_given words) order e in
+    let films = values_of (codes "film") words in
+    let films_pass = test_passes (are_films films) _ serving.0 serving.1 in
+    let some = and_parts (nat_le 1 (length films)) (nat_le (length films) 64 && are_names films) films_pass.0 in
+    let few = and_parts (nat_le (length films) 64) (are_names films) some.1 in
+    apart films (and_parts (list_all is_good_name films) (are_distinct films) few.1).1
+
+films_form : (command : Command) (words : List (List ℕ)) (order : Order) → order_given command words ≡ Some order → HasFilms command words
+films_form Plan words order e = tt
+films_form Check words order e = tt
+films_form Scan words order e = tt
+films_form Make words order e = tt
+films_form Day words order e = tt
+films_form Fair words order e = tt
+films_form Serve words order e = films_apart words order e
+films_form Watch words order e = tt
+
 -- ---- each word
 -- a value that a word gives to a key stands after it and `=`
 value_after : (key word : List ℕ) → is_some (setting_value key word) ≡ true → (value : List ℕ) × (word ≡ word_of (record { key = key; value = value }))
@@ -365,9 +406,50 @@ each_word command (word ∷ words) e =
     let parts = and_parts (is_word_of command word) (list_all (is_word_of command) words) e in
     All-cons (IsSettingOf command) word words (word_form command word parts.0) (each_word command words parts.1)
 
-pub words_form : (name : List ℕ) (command : Command) (words : List (List ℕ)) (order : Order) → command_named name ≡ Some command → meaning (name ∷ words) ≡ Some order →
+words_form : (name : List ℕ) (command : Command) (words : List (List ℕ)) (order : Order) → command_named name ≡ Some command → meaning (name ∷ words) ≡ Some order →
     HaveForm command words
 words_form name command words order named e =
     let mine = test_passes (list_all (is_word_of command) words) (order_given command words) order (sym (meaning_of name command words named) ∙ e) in
     let keys = keys_form command words order mine.1 in
-    record { each = each_word command words mine.0; few = keys.few; needed = keys.needed; source = keys.source }
+    record { each = each_word command words mine.0; few = keys.few; needed = keys.needed; source = keys.source; films = films_form command words order mine.1 }
+
+-- ---- words with a meaning
+alone : (lone : Order) (words : List (List ℕ)) (order : Order) → lone_order lone words ≡ Some order → words ≡ []
+alone lone [] order e = refl
+alone lone (word ∷ words) order e = absurd (none_is_some e)
+
+pub meaning_form : (words : List (List ℕ)) (order : Order) → meaning words ≡ Some order → HaveMeaning words
+meaning_form [] order e = absurd (none_is_some e)
+meaning_form (first ∷ words) order e =
+    let helps = bytes_eq first (codes "--help") in
+    let tells = bytes_eq first (codes "--version") in
+    let command : Option Order = option_and_then (command_order words) (command_named first) in
+    elim (cases_Bool (bytes_eq first (codes "--help"))) [
+      | inl is ↦ (
+          let name = (bytes_eq-Decides first (codes "--help")).0 is in
+          let none = alone help words order (sym (cond-true helps (lone_order help words) (if tells then lone_order version words else command) is) ∙ e) in
+          inl (ap (λ (w : List ℕ). w ∷ words) name ∙ ap (λ (ws : List (List ℕ)). codes "--help" ∷ ws) none)
+          )
+      | inr not_help ↦ (
+          let more : (if tells then lone_order version words else command) ≡ Some order =
+          sym (cond-false helps (lone_order help words) (if tells then lone_order version words else command) not_help) ∙ e in
+          elim (cases_Bool (bytes_eq first (codes "--version"))) [
+            | inl is ↦ (
+                let name = (bytes_eq-Decides first (codes "--version")).0 is in
+                let none = alone version words order (sym (cond-true tells (lone_order version words) command is) ∙ more) in
+                inr (inl (ap (λ (w : List ℕ). w ∷ words) name ∙ ap (λ (ws : List (List ℕ)). codes "--version" ∷ ws) none))
+                )
+            | inr not_version ↦ (
+                let named = step_found (command_order words) (command_named first) order (sym (cond-false tells (lone_order version words) command not_version) ∙ more) in
+                inr (inr (record {
+                  name = first;
+                  rest = words;
+                  command = named.0;
+                  parts = refl;
+                  named = named.1;
+                  form = words_form first named.0 words order named.1 e;
+                }))
+                )
+          ]
+          )
+    ]

@@ -1,10 +1,11 @@
 -- The words of a command, each by its key: which it needs, which it may leave out, and what holds
 -- then.
-use Rattle.std.specs.Prelude.{ℕ, ◌≡◌, ◌<◌, ◌≤◌, ◌⊎◌, ◌+◌, if◌then◌else◌, All, List, [], ◌∷◌, length, None, codes}
+use Rattle.std.specs.Prelude.{ℕ, ◌≡◌, ◌≢◌, ◌<◌, ◌≤◌, ◌⊎◌, ◌+◌, if◌then◌else◌, All, List, [], ◌∷◌}
+use Rattle.std.specs.Prelude.{length, slice_index_or, Some, None, codes}
 use Rattle.std.specs.List.{Contains}
 use Rattle.std.specs.Str.{bytes_eq}
 use Rattle.command_words.specs.Settings.{setting_value, values_of}
-use Rattle.command_words.specs.Commands.{keys_of}
+use Rattle.command_words.specs.Commands.{command_named, keys_of}
 use Rattle.command_words.specs.Spelling.{Setting, text_setting, word_of}
 use Rattle.command_words.specs.declared.commands.Command.{Command}
 use Rattle.command_words.specs.declared.commands.Command.TheVariants.{Plan, Check, Scan, Make, Day, Fair, Serve, Watch}
@@ -67,6 +68,16 @@ HasSource Plan words = IsOneSource words
 HasSource Check words = IsOneSource words
 HasSource _ words = Unit {0}
 
+-- no two of these are alike
+abbrev pub AreApart : List (List ℕ) → Type 0
+AreApart names = (i j : ℕ) → i < j → j < length names →
+    slice_index_or names i [] ≢ slice_index_or names j []
+
+-- the films of a server have names of their own
+abbrev pub HasFilms : Command → List (List ℕ) → Type 0
+HasFilms Serve words = AreApart (values_of (codes "film") words)
+HasFilms _ words = Unit {0}
+
 -- the words are settings of the command, each key is given as often as it may be, and what it needs
 -- is given
 pub record HaveForm (command : Command) (words : List (List ℕ)) : Type 0 where
@@ -74,3 +85,18 @@ pub record HaveForm (command : Command) (words : List (List ℕ)) : Type 0 where
   pub few : All (λ key. times key words ≤ most_times command key) (keys_of command)
   pub needed : All (λ key. 1 ≤ times key words) (needed_keys command)
   pub source : HasSource command words
+  pub films : HasFilms command words
+
+-- a command, and words of its form
+pub record AreCommand (words : List (List ℕ)) : Type 0 where
+  pub name : List ℕ
+  pub rest : List (List ℕ)
+  pub command : Command
+  pub parts : words ≡ name ∷ rest
+  pub named : command_named name ≡ Some command
+  pub form : HaveForm command rest
+
+-- `--help` or `--version` alone, or a command
+abbrev pub HaveMeaning : List (List ℕ) → Type 0
+HaveMeaning words =
+    (words ≡ codes "--help" ∷ []) ⊎ ((words ≡ codes "--version" ∷ []) ⊎ AreCommand words)

@@ -1,3 +1,5 @@
+//! The capacity of a link, as a word gives it.
+
 ghost use Rattle.std.specs.Prelude.{◌≡◌, ◌^◌, ◌≤◌, [], true, false, IfSome};
 ghost use Rattle.slot_calendar.specs.Profiles.{IsProfile};
 ghost use Rattle.command_words.specs.Settings.{texts, values_of};

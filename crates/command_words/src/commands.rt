@@ -1,3 +1,5 @@
+//! The commands and their keys.
+
 ghost use Rattle.std.specs.Prelude.{◌≡◌, map};
 ghost use Rattle.std.specs.List.{list_all};
 ghost use Rattle.command_words.specs.Settings.{texts};
@@ -82,6 +84,7 @@ fn is_word_of(command: Command, word: &str) -> bool
     false
 }
 
+/// Whether each word gives a value to a key of the command.
 pub(crate) fn are_words_of(command: Command, words: &[String]) -> bool
     ensures { result ≡ list_all (is_word_of command) (texts words.now) }
 {

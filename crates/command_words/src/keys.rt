@@ -1,3 +1,5 @@
+//! The value of each key.
+
 ghost use Rattle.std.specs.Prelude.{◌≡◌, ◌≤◌, ◌^◌, ◌∷◌, [], true, option_map, IfSome};
 ghost use Rattle.std.specs.Option.{option_copied};
 ghost use Rattle.vod_base.specs.Names.{is_good_name};
@@ -11,6 +13,7 @@ use crate::orders::Made;
 use crate::settings::{Given, find_given, number_or, one_name, one_number};
 use crate::steps::Steps;
 
+/// The one film.
 pub(crate) fn film_given<'a>(words: &'a [String]) -> Option<&'a str>
     ensures name { option_copied result ≡ film_given (texts words.entry.now) }
     ensures good { IfSome result (λ name. is_good_name name.now ≡ true) }
@@ -18,18 +21,21 @@ pub(crate) fn film_given<'a>(words: &'a [String]) -> Option<&'a str>
     one_name(words, "film")
 }
 
+/// The certificate.
 pub(crate) fn cert_given<'a>(words: &'a [String]) -> Option<&'a str>
     ensures { option_copied result ≡ cert_given (texts words.entry.now) }
 {
     one_name(words, "cert")
 }
 
+/// The script.
 pub(crate) fn script_given<'a>(words: &'a [String]) -> Option<&'a str>
     ensures { option_copied result ≡ script_given (texts words.entry.now) }
 {
     one_name(words, "script")
 }
 
+/// A client's buffer, in bytes.
 pub(crate) fn buffer_given(words: &[String]) -> Option<u64>
     ensures buffer { result ≡ buffer_given (texts words.now) }
     ensures range { IfSome result (λ buffer. (1 ≤ buffer) × (buffer ≤ 2 ^ 42)) }
@@ -37,6 +43,7 @@ pub(crate) fn buffer_given(words: &[String]) -> Option<u64>
     number_or(words, "buffer", 1_048_576, 1, 1 << 42)
 }
 
+/// A start delay, in slots.
 pub(crate) fn startup_given(words: &[String]) -> Option<u64>
     ensures startup { result ≡ startup_given (texts words.now) }
     ensures range { IfSome result (λ startup. startup ≤ 10000) }
@@ -44,6 +51,7 @@ pub(crate) fn startup_given(words: &[String]) -> Option<u64>
     number_or(words, "startup", 25, 0, 10_000)
 }
 
+/// The length of a slot, in 1/360,000 second.
 pub(crate) fn slot_given(words: &[String]) -> Option<u32>
     ensures slot { result ≡ slot_given (texts words.now) }
     ensures range { IfSome result (λ slot. (360 ≤ slot) × (slot ≤ 360000)) }
@@ -52,6 +60,7 @@ pub(crate) fn slot_given(words: &[String]) -> Option<u32>
     Some(slot as u32)
 }
 
+/// The capacity of a link.
 pub(crate) fn capacity_given(words: &[String]) -> Option<Steps>
     ensures capacity { result ≡ capacity_given (texts words.now) }
     ensures profile { IfSome result IsProfile }
@@ -59,6 +68,7 @@ pub(crate) fn capacity_given(words: &[String]) -> Option<Steps>
     one_capacity(words, "capacity")
 }
 
+/// The most entries of a journal.
 pub(crate) fn journal_given(words: &[String]) -> Option<u64>
     ensures journal { result ≡ journal_given (texts words.now) }
     ensures range { IfSome result (λ journal. (2 ≤ journal) × (journal ≤ 1048576)) }
@@ -66,6 +76,7 @@ pub(crate) fn journal_given(words: &[String]) -> Option<u64>
     number_or(words, "journal", 65_536, 2, 1_048_576)
 }
 
+/// The port.
 pub(crate) fn port_given(words: &[String]) -> Option<u16>
     ensures port { result ≡ port_given (texts words.now) }
     ensures range { IfSome result (λ port. (1 ≤ port) × (port ≤ 65535)) }
@@ -74,6 +85,7 @@ pub(crate) fn port_given(words: &[String]) -> Option<u16>
     Some(port as u16)
 }
 
+/// The number of workers.
 pub(crate) fn workers_given(words: &[String]) -> Option<u32>
     ensures workers { result ≡ workers_given (texts words.now) }
     ensures range { IfSome result (λ workers. (1 ≤ workers) × (workers ≤ 256)) }
@@ -82,18 +94,21 @@ pub(crate) fn workers_given(words: &[String]) -> Option<u32>
     Some(workers as u32)
 }
 
+/// The connections of each worker; 0 is no end.
 pub(crate) fn connections_given(words: &[String]) -> Option<u64>
     ensures { result ≡ connections_given (texts words.now) }
 {
     number_or(words, "connections", 0, 0, u64::MAX)
 }
 
+/// The number that a generator begins with.
 pub(crate) fn seed_given(words: &[String]) -> Option<u64>
     ensures { result ≡ seed_given (texts words.now) }
 {
     one_number(words, "seed", 0, u64::MAX)
 }
 
+/// The number of pictures that are made.
 pub(crate) fn pictures_given(words: &[String]) -> Option<u32>
     ensures pictures { result ≡ pictures_given (texts words.now) }
     ensures range { IfSome result (λ pictures. (1 ≤ pictures) × (pictures ≤ 100000)) }
@@ -102,6 +117,7 @@ pub(crate) fn pictures_given(words: &[String]) -> Option<u32>
     Some(pictures as u32)
 }
 
+/// The number of turns that are run.
 pub(crate) fn plays_given(words: &[String]) -> Option<u32>
     ensures plays { result ≡ plays_given (texts words.now) }
     ensures range { IfSome result (λ plays. (1 ≤ plays) × (plays ≤ 100000)) }
@@ -110,6 +126,7 @@ pub(crate) fn plays_given(words: &[String]) -> Option<u32>
     Some(plays as u32)
 }
 
+/// The kind of that name.
 fn kind_named(text: &str) -> Option<Made>
     ensures { option_map made_of result ≡ one_kind (text.now ∷ []) }
 {
@@ -124,6 +141,7 @@ fn kind_named(text: &str) -> Option<Made>
     }
 }
 
+/// The kind that is given once.
 pub(crate) fn one_kind(words: &[String], key: &str) -> Option<Made>
     ensures { option_map made_of result ≡ one_kind (values_of key.now (texts words.now)) }
 {
@@ -133,6 +151,7 @@ pub(crate) fn one_kind(words: &[String], key: &str) -> Option<Made>
     }
 }
 
+/// Whether all addresses are listened at; else this machine alone.
 pub(crate) fn one_bind(words: &[String], key: &str) -> Option<bool>
     ensures { result ≡ one_bind (values_of key.now (texts words.now)) }
 {

@@ -6,16 +6,15 @@ ghost use Rattle.std.specs.Prelude.{◌≡◌, ◌∷◌, ◌++◌, ℕ, List, S
 ghost use Rattle.command_words.specs.Words.{Order as Asked, meaning};
 ghost use Rattle.command_words.specs.Commands.{command_named};
 ghost use Rattle.command_words.specs.declared.commands.Command.{Command as Named};
-ghost use Rattle.command_words.specs.Forms.{HaveForm, HaveOtherKeys, IsLeftOut};
+ghost use Rattle.command_words.specs.Forms.{HaveMeaning, HaveOtherKeys, IsLeftOut};
 ghost use Rattle.command_words.specs.Spelling.{Setting, word_of};
 
-/// A law: words with a meaning are a command's: each is `key=value` with a key that the command
-/// takes, each key comes once at most, but for `film` in `serve`, and each key that the command
-/// needs is given.
+/// A law: words with a meaning are `--help` or `--version` alone, or a command's: each is
+/// `key=value` with a key that the command takes, each key comes once at most, but for `film` in
+/// `serve`, where no two are alike, and each key that the command needs is given.
 pub fn law_words_have_form()
-    ensures { (name : List ℕ) (command : Named) (words : List (List ℕ)) (order : Asked) →
-        command_named name ≡ Some command → meaning (name ∷ words) ≡ Some order →
-        HaveForm command words }
+    ensures { (words : List (List ℕ)) (order : Asked) → meaning words ≡ Some order →
+        HaveMeaning words }
 {}
 
 /// A law: a command in which a word is left out means what it means with that word and its default.

@@ -1,3 +1,5 @@
+//! A server's settings.
+
 ghost use Rattle.std.specs.Prelude.{◌≡◌, option_map, IfSome};
 ghost use Rattle.command_words.specs.Settings.{texts};
 ghost use Rattle.command_words.specs.Words.{listening_given, pace_given, serving_given, watching_given};
@@ -11,6 +13,7 @@ use crate::keys::{
 };
 use crate::orders::{Listening, Pace, Serving, Watching};
 
+/// Where the words have a server listen.
 fn listening_given(words: &[String]) -> Option<Listening>
     ensures listening { option_map listening_of result ≡ listening_given (texts words.now) }
     ensures range { IfSome result IsListeningInRange }
@@ -27,6 +30,7 @@ fn listening_given(words: &[String]) -> Option<Listening>
     })
 }
 
+/// The words' client, and their slot length.
 fn pace_given(words: &[String]) -> Option<Pace>
     ensures pace { option_map pace_of result ≡ pace_given (texts words.now) }
     ensures range { IfSome result IsPaceInRange }
@@ -41,6 +45,7 @@ fn pace_given(words: &[String]) -> Option<Pace>
     })
 }
 
+/// The server that the words describe.
 pub(crate) fn serving_given<'a>(words: &'a [String]) -> Option<Serving<'a>>
     ensures serving { option_map serving_of result ≡ serving_given (texts words.entry.now) }
     ensures range { IfSome result IsServingInRange }
@@ -61,6 +66,7 @@ pub(crate) fn serving_given<'a>(words: &'a [String]) -> Option<Serving<'a>>
     })
 }
 
+/// The film that the words have watched.
 pub(crate) fn watching_given<'a>(words: &'a [String]) -> Option<Watching<'a>>
     ensures watching { option_map watching_of result ≡ watching_given (texts words.entry.now) }
     ensures range { IfSome result IsWatchingInRange }

@@ -1,3 +1,5 @@
+//! Words of the form `key=value`.
+
 ghost use Rattle.std.specs.Prelude.{◌≡◌, ◌≤◌, ◌^◌, true, IfSome};
 ghost use Rattle.std.specs.Option.{option_copied};
 ghost use Rattle.vod_base.specs.Names.{is_good_name};
@@ -23,6 +25,7 @@ pub(crate) fn setting<'a>(word: &'a str, key: &str) -> Option<&'a str>
     if name == key { Some(value) } else { None }
 }
 
+/// The value that is given to a key, where it is given once.
 pub(crate) fn find_given<'a>(words: &'a [String], key: &str) -> Given<'a>
     ensures { IsGiven result (values_of key.now (texts words.entry.now)) }
 {
@@ -41,6 +44,7 @@ pub(crate) fn find_given<'a>(words: &'a [String], key: &str) -> Given<'a>
     }
 }
 
+/// The good name that is given to a key once.
 pub(crate) fn one_name<'a>(words: &'a [String], key: &str) -> Option<&'a str>
     ensures name { option_copied result ≡ one_name (values_of key.now (texts words.entry.now)) }
     ensures good { IfSome result (λ name. is_good_name name.now ≡ true) }
@@ -51,6 +55,7 @@ pub(crate) fn one_name<'a>(words: &'a [String], key: &str) -> Option<&'a str>
     }
 }
 
+/// The number in its range that a text writes.
 pub(crate) fn number_within(text: &str, least: u64, most: u64) -> Option<u64>
     ensures number { result ≡ in_range least most (number_of text.now) }
     ensures range { IfSome result (λ number. (least ≤ number) × (number ≤ most)) }
@@ -61,6 +66,7 @@ pub(crate) fn number_within(text: &str, least: u64, most: u64) -> Option<u64>
     }
 }
 
+/// The number in its range that is given to a key once.
 pub(crate) fn one_number(words: &[String], key: &str, least: u64, most: u64) -> Option<u64>
     ensures { result ≡ one_number least most (values_of key.now (texts words.now)) }
 {
@@ -70,6 +76,7 @@ pub(crate) fn one_number(words: &[String], key: &str, least: u64, most: u64) -> 
     }
 }
 
+/// The same, or the default where the key is given no value.
 pub(crate) fn number_or(
     words: &[String],
     key: &str,

@@ -1,3 +1,5 @@
+//! The steps of a capacity.
+
 ghost use Rattle.std.specs.Prelude.{◌≡◌, ◌<◌, ◌++◌, ◌∷◌, [], length};
 
 use slot_calendar::CapStep;

@@ -1,7 +1,10 @@
+//! Words and their meanings.
+
 use crate::{Order, Serving, Source, command_named, keys_of, read_words};
 use std::alloc::{AllocError, Global};
 use std::test::Fail;
 
+/// The words of a line.
 fn words_of(alloc: Global, line: &str) -> Result<Vec<String>, AllocError> {
     let mut words = Vec::new(alloc);
     for word in line.split_whitespace() {

@@ -1,3 +1,5 @@
+//! A client's settings.
+
 ghost use Rattle.std.specs.Prelude.{◌≡◌, ◌∷◌, [], option_map, codes, IfSome};
 ghost use Rattle.command_words.specs.Settings.{is_absent, texts, values_of};
 ghost use Rattle.command_words.specs.Words.{source_given, source_of, viewer_given, script_run_given, fair_run_given};
@@ -36,6 +38,7 @@ fn trace_alone<'a>(words: &[String], name: &'a str) -> Option<Source<'a>>
     }
 }
 
+/// What is planned: a trace or a film.
 fn source_given<'a>(words: &'a [String]) -> Option<Source<'a>>
     ensures source { option_map source_read result ≡ source_given (texts words.entry.now) }
     ensures range { IfSome result IsSourceInRange }
@@ -51,6 +54,7 @@ fn source_given<'a>(words: &'a [String]) -> Option<Source<'a>>
     }
 }
 
+/// What is planned, and for which client.
 pub(crate) fn viewer_given<'a>(words: &'a [String]) -> Option<Viewer<'a>>
     ensures viewer { option_map viewer_of result ≡ viewer_given (texts words.entry.now) }
     ensures range { IfSome result IsViewerInRange }
@@ -65,6 +69,7 @@ pub(crate) fn viewer_given<'a>(words: &'a [String]) -> Option<Viewer<'a>>
     })
 }
 
+/// The script that is run, and its link.
 pub(crate) fn script_run_given<'a>(words: &'a [String]) -> Option<ScriptRun<'a>>
     ensures run { option_map script_run_of result ≡ script_run_given (texts words.entry.now) }
     ensures range { IfSome result IsScriptRunInRange }
@@ -81,6 +86,7 @@ pub(crate) fn script_run_given<'a>(words: &'a [String]) -> Option<ScriptRun<'a>>
     })
 }
 
+/// The drawn plays that are run, and their link.
 pub(crate) fn fair_run_given(words: &[String]) -> Option<FairRun>
     ensures run { option_map fair_run_of result ≡ fair_run_given (texts words.now) }
     ensures range { IfSome result IsFairRunInRange }

@@ -1,3 +1,5 @@
+//! What the words of the command line mean.
+
 ghost use Rattle.std.specs.Prelude.{◌≡◌, Some, option_map, codes, IfSome};
 ghost use Rattle.command_words.specs.Settings.{texts, values_of};
 ghost use Rattle.command_words.specs.Ranges.{IsOrderInRange};
@@ -11,6 +13,32 @@ use crate::orders::Order;
 use crate::servers::{serving_given, watching_given};
 use crate::viewers::{fair_run_given, script_run_given, viewer_given};
 
+/// Reads what the words of the command line ask for, or None where they mean nothing.
+pub fn read_words<'a>(words: &'a [String]) -> Option<Order<'a>>
+    ensures order { option_map order_of result ≡ meaning (texts words.entry.now) }
+    ensures range { IfSome result IsOrderInRange }
+{
+    if words.is_empty() {
+        return None;
+    }
+    let command = words[0].as_str();
+    let rest = &words[1..];
+    if command == "--help" {
+        return lone_order(Order::Help, rest);
+    }
+    if command == "--version" {
+        return lone_order(Order::Version, rest);
+    }
+    let command = command_named(command)?;
+    command_order(command, rest)
+}
+
+/// A law: an order that may be asked is what its words mean, in which each key has its value.
+pub fn law_words_read_back()
+    ensures { (order : Asked) → MayBeAsked order → meaning (words_of order) ≡ Some order }
+{}
+
+/// What the settings of `check` ask for.
 fn check_given<'a>(words: &'a [String]) -> Option<Order<'a>>
     ensures order { option_map order_of result ≡ check_given (texts words.entry.now) }
     ensures range { IfSome result IsOrderInRange }
@@ -20,6 +48,7 @@ fn check_given<'a>(words: &'a [String]) -> Option<Order<'a>>
     Some(Order::Check(viewer, cert))
 }
 
+/// What the settings of `make` ask for.
 fn make_given<'a>(words: &[String]) -> Option<Order<'a>>
     ensures order { option_map order_of result ≡ make_given (texts words.now) }
     ensures range { IfSome result IsOrderInRange }
@@ -71,28 +100,3 @@ fn lone_order<'a>(order: Order<'a>, rest: &[String]) -> Option<Order<'a>>
         _ => None,
     }
 }
-
-/// Reads what the words of the command line ask for, or None where they mean nothing.
-pub fn read_words<'a>(words: &'a [String]) -> Option<Order<'a>>
-    ensures order { option_map order_of result ≡ meaning (texts words.entry.now) }
-    ensures range { IfSome result IsOrderInRange }
-{
-    if words.is_empty() {
-        return None;
-    }
-    let command = words[0].as_str();
-    let rest = &words[1..];
-    if command == "--help" {
-        return lone_order(Order::Help, rest);
-    }
-    if command == "--version" {
-        return lone_order(Order::Version, rest);
-    }
-    let command = command_named(command)?;
-    command_order(command, rest)
-}
-
-/// A law: an order that may be asked is what its words mean, in which each key has its value.
-pub fn law_words_read_back()
-    ensures { (order : Asked) → MayBeAsked order → meaning (words_of order) ≡ Some order }
-{}

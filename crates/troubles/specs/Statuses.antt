@@ -17,7 +17,8 @@ status_of LinkFault = 8
 -- the cause that a status tells: of each status, which trouble alone ends with it
 pub record TellsCause (status : ℕ) (trouble : Trouble) : Type 0 where
   pub usage : status ≡ 2 → trouble ≡ Usage
-  pub refused : status ≡ 3 → (name : Bor (List ℕ)) × ((fault : Fault) × (trouble ≡ Refused name fault))
+  pub refused : status ≡ 3 → (name : Bor (List ℕ))
+      × ((fault : Fault) × (trouble ≡ Refused name fault))
   pub store : status ≡ 4 → (name : Bor (List ℕ)) × (trouble ≡ StoreFault name)
   pub sink : status ≡ 5 → trouble ≡ SinkFault
   pub memory : status ≡ 6 → trouble ≡ NoMemory

@@ -1,3 +1,5 @@
+//! What keeps the program from its work.
+
 use mpeg_scan::FilmFault;
 use sys_demux::SystemFault;
 use thiserror::Error;

@@ -1,3 +1,5 @@
+//! The line of a trouble.
+
 ghost use Rattle.std.specs.Prelude.{◌≡◌, ◌++◌};
 ghost use Rattle.troubles.specs.Said.{GoesOn, IsSaid, with_label, number_text};
 ghost use Rattle.troubles.specs.Lines.{fault_text, trouble_text};

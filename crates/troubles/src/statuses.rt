@@ -1,3 +1,5 @@
+//! The exit status of a trouble.
+
 ghost use Rattle.std.specs.Prelude.{◌≡◌};
 ghost use Rattle.troubles.specs.Statuses.{TellsCause, status_of};
 ghost use Rattle.troubles.specs.declared.faults.Trouble.{Trouble as Cause};

@@ -1,3 +1,5 @@
+//! Lines and statuses.
+
 use crate::{Fault, Trouble, add, add_count, say, status_of};
 use mpeg_scan::FilmFault;
 use std::alloc::AllocError;
