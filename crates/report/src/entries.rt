@@ -1,22 +1,42 @@
+//! The line of a journal entry.
+
 ghost use Rattle.std.specs.Prelude.{◌++◌};
 ghost use Rattle.report.specs.Appends.{IsAppended};
 ghost use Rattle.report.specs.Kinds.{IsOfKind};
 ghost use Rattle.report.specs.EntryLines.{answer_words, command_words, entry_line};
 
-use crate::fields::{push, push_field, push_number};
+use crate::fields::{push, push_field, push_number, push_three};
 use admission::{Answer, Command, Entry};
 use vod_base::NoMemory;
+
+/// Appends the line of the journal's entry at `place`: `PLACE seat=M` and then, for a play, `play
+/// slot=S slots=N bytes=B admitted start=T` or `play slot=S slots=N bytes=B overflow slot=U
+/// booked=X asked=Y`, for a halt `halt number=K keep=P halted`, for a look `look slot=S looked
+/// now=T at=U booked=X`. Numbers are decimal, and the line ends with LF.
+///
+/// After `NoMemory` the beginning of the line was appended.
+pub fn entry_line(place: u64, entry: &Entry, out: &mut Vec<u8>) -> Result<(), NoMemory>
+    requires { IsOfKind entry.now.command entry.now.answer }
+    ensures { IsAppended out.old.items (entry_line place entry.now) out.new.items result }
+{
+    push_number(out, place)?;
+    push_field(out, b" seat=", u64::from(entry.maker))?;
+    push_command(out, &entry.command)?;
+    push_answer(out, entry.answer)?;
+    push(out, b"\n")
+}
 
 /// Appends what was asked.
 fn push_command(out: &mut Vec<u8>, command: &Command) -> Result<(), NoMemory>
     ensures { IsAppended out.old.items (command_words command.now) out.new.items result }
 {
     match command {
-        Command::Play { slot, plan } => {
-            push_field(out, b" play slot=", *slot)?;
-            push_field(out, b" slots=", plan.slots())?;
-            push_field(out, b" bytes=", plan.bytes())
-        }
+        Command::Play { slot, plan } => push_three(
+            out,
+            (b" play slot=", *slot),
+            (b" slots=", plan.slots()),
+            (b" bytes=", plan.bytes()),
+        ),
         Command::Halt { number, keep } => {
             push_field(out, b" halt number=", *number)?;
             push_field(out, b" keep=", *keep)
@@ -35,33 +55,18 @@ fn push_answer(out: &mut Vec<u8>, answer: Answer) -> Result<(), NoMemory>
             slot,
             booked,
             asked,
-        } => {
-            push_field(out, b" overflow slot=", slot)?;
-            push_field(out, b" booked=", booked)?;
-            push_field(out, b" asked=", asked)
-        }
+        } => push_three(
+            out,
+            (b" overflow slot=", slot),
+            (b" booked=", booked),
+            (b" asked=", asked),
+        ),
         Answer::Halted => push(out, b" halted"),
-        Answer::Looked { now, at, booked } => {
-            push_field(out, b" looked now=", now)?;
-            push_field(out, b" at=", at)?;
-            push_field(out, b" booked=", booked)
-        }
+        Answer::Looked { now, at, booked } => push_three(
+            out,
+            (b" looked now=", now),
+            (b" at=", at),
+            (b" booked=", booked),
+        ),
     }
-}
-
-/// Appends the line of the journal's entry at `place`: `PLACE seat=M` and then, for a play, `play
-/// slot=S slots=N bytes=B admitted start=T` or `play slot=S slots=N bytes=B overflow slot=U
-/// booked=X asked=Y`, for a halt `halt number=K keep=P halted`, for a look `look slot=S looked
-/// now=T at=U booked=X`. Numbers are decimal, and the line ends with LF.
-///
-/// After `NoMemory` the beginning of the line was appended.
-pub fn entry_line(place: u64, entry: &Entry, out: &mut Vec<u8>) -> Result<(), NoMemory>
-    requires { IsOfKind entry.now.command entry.now.answer }
-    ensures { IsAppended out.old.items (entry_line place entry.now) out.new.items result }
-{
-    push_number(out, place)?;
-    push_field(out, b" seat=", u64::from(entry.maker))?;
-    push_command(out, &entry.command)?;
-    push_answer(out, entry.answer)?;
-    push(out, b"\n")
 }

@@ -1,3 +1,5 @@
+//! Texts and numbers that are appended.
+
 ghost use Rattle.std.specs.Prelude.{◌++◌, decimal};
 ghost use Rattle.report.specs.Appends.{IsAppended};
 ghost use Rattle.report.specs.Fields.{field};
@@ -28,4 +30,21 @@ pub(crate) fn push_field(out: &mut Vec<u8>, label: &[u8], number: u64) -> Result
 {
     push(out, label)?;
     push_number(out, number)
+}
+
+/// Appends three labels, each with its number.
+pub(crate) fn push_three(
+    out: &mut Vec<u8>,
+    one: (&[u8], u64),
+    two: (&[u8], u64),
+    three: (&[u8], u64),
+) -> Result<(), NoMemory>
+    ensures { IsAppended out.old.items
+        (field one.entry.0.now one.entry.1 ++ field two.entry.0.now two.entry.1
+        ++ field three.entry.0.now three.entry.1)
+        out.new.items result }
+{
+    push_field(out, one.0, one.1)?;
+    push_field(out, two.0, two.1)?;
+    push_field(out, three.0, three.1)
 }

@@ -1,3 +1,5 @@
+//! Laws of lines and texts, and of the answers of each command.
+
 ghost use Rattle.std.specs.Prelude.{◌≡◌, ◌^◌, ◌<◌, ◌≤◌, ℕ, List, length, slice_index_or};
 ghost use Rattle.std.specs.List.{Contains};
 ghost use Rattle.slot_calendar.specs.declared.profiles.CapStep.{CapStep};
