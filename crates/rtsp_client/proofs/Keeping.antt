@@ -209,7 +209,7 @@ play-frame : (play : Option Play) (h : History) (b : List ℕ) → IsPlayOf play
 play-frame None h b is = is
 play-frame (Some play) h b is = record { playing = is.playing; start_is = is.start_is; slot_is = is.slot_is; end_is = is.end_is }
 
-sum-one : (sizes : List ℕ) (size : ℕ) → sum (sizes ++ size ∷ []) ≡ sum sizes + size
+pub sum-one : (sizes : List ℕ) (size : ℕ) → sum (sizes ++ size ∷ []) ≡ sum sizes + size
 sum-one sizes size = omega (arith, sum_by-append (λ (x : ℕ). x) sizes (size ∷ []))
 
 frame-taken : (l : Bool) (sizes : List ℕ) (bytes_pending n taken : ℕ) → taken ≡ sum sizes + bytes_pending

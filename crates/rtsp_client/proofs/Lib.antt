@@ -14,3 +14,4 @@ pub mod Promising
 pub mod Handing
 pub mod Asking
 pub mod AskedTexts
+pub mod Telling

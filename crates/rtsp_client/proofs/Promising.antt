@@ -32,7 +32,7 @@ not-yet wish all p j came n some timed between next =
     ]
 
 -- what is used of the whole units is what is used of the film
-same-used : (wish : Wish) (all : List ℕ) (p j n : ℕ) → 0 < wish.slot_units → 0 < p → (n < length all → j < use_slot wish p n)
+pub same-used : (wish : Wish) (all : List ℕ) (p j n : ℕ) → 0 < wish.slot_units → 0 < p → (n < length all → j ≤ use_slot wish p n)
     → used_before wish p j 0 (take n all) ≡ used_before wish p j 0 all
 same-used wish all p j n some timed early =
     let c = div_ceil ((j - wish.startup) * wish.slot_units) p in
@@ -47,7 +47,7 @@ same-used wish all p j n some timed early =
     ]
 
 -- before the first frame any time will do
-used-time : (wish : Wish) (h : History) (p j : ℕ) → (0 < frames h → time h ≡ p) → played_before wish h j ≡ used_before wish p j 0 (sizes h)
+pub used-time : (wish : Wish) (h : History) (p j : ℕ) → (0 < frames h → time h ≡ p) → played_before wish h j ≡ used_before wish p j 0 (sizes h)
 used-time wish h p j is =
     elim (cases_lt 0 (frames h)) [
       | inl some ↦ ap (λ t. used_before wish t j 0 (sizes h)) (is some)
@@ -62,7 +62,7 @@ played-is wish all p h j cut some timed heard between =
     let n = length (sizes h) in
     used-time wish h p j heard.time_is
     ∙ (ap (used_before wish p j 0) heard.sizes_are
-    ∙ same-used wish all p j n some timed (λ fewer. not-yet wish all p j (bytes_received h + cut) n some timed between (heard.next fewer)))
+    ∙ same-used wish all p j n some timed (λ fewer. omega (arith, not-yet wish all p j (bytes_received h + cut) n some timed between (heard.next fewer))))
 
 -- the buffer holds what waits
 fits : (wish : Wish) (all : List ℕ) (p : ℕ) (h : History) (slot cut : ℕ) → 0 < wish.slot_units → 0 < p → IsHeardOf all p h cut
@@ -82,7 +82,7 @@ and-none : (a : Bool) → (a && false) ≡ false
 and-none true = refl
 and-none false = refl
 
-use-first : (wish : Wish) (t : ℕ) → use_slot wish t 0 ≡ wish.startup
+pub use-first : (wish : Wish) (t : ℕ) → use_slot wish t 0 ≡ wish.startup
 use-first wish t = omega (arith, ap (λ n. n / wish.slot_units) (zero-times t), zero-over wish.slot_units)
 
 enough : (wish : Wish) (all : List ℕ) (p : ℕ) (h : History) (j cut : ℕ) → 0 < wish.slot_units → 0 < p → 0 < length all → IsHeardOf all p h cut

@@ -2,8 +2,8 @@
 -- curves at each reading.
 use Rattle.std.specs.Prelude.{◌≡◌, ℕ, ◌+◌, ◌<◌, ◌≤◌, ⊤, true, List, [], ◌∷◌, length, sum, take}
 use Rattle.rtsp_client.specs.declared.wishes.Wish.{Wish}
-use Rattle.rtsp_client.specs.Moments.{History, Moment, Frame, Reply, Report, Slot, frames, bytes_received}
-use Rattle.rtsp_client.specs.Moments.{sizes}
+use Rattle.rtsp_client.specs.Moments.{History, Moment, Frame, Reply, Report, Slot}
+use Rattle.rtsp_client.specs.Moments.{bytes_received, frames, sizes}
 use Rattle.rtsp_client.specs.Films.{units}
 use Rattle.rtsp_client.specs.Meters.{is_read, place_in, time, used_before}
 
@@ -35,6 +35,16 @@ IsBetweenAlways wish all picture_time (Slot slot cut ∷ h) =
     × (is_read h slot ≡ true
     → IsHeardOf all picture_time h cut
     × IsBetween wish all picture_time (place_in h slot) (bytes_received h + cut))
+
+-- at each reading what was heard is of such a film
+abbrev pub IsHeardAlways : Wish → List ℕ → ℕ → History → Type 0
+IsHeardAlways wish all picture_time [] = ⊤
+IsHeardAlways wish all picture_time (Reply message ∷ h) = IsHeardAlways wish all picture_time h
+IsHeardAlways wish all picture_time (Frame block ∷ h) = IsHeardAlways wish all picture_time h
+IsHeardAlways wish all picture_time (Report block ∷ h) = IsHeardAlways wish all picture_time h
+IsHeardAlways wish all picture_time (Slot slot cut ∷ h) =
+    IsHeardAlways wish all picture_time h
+    × (is_read h slot ≡ true → IsHeardOf all picture_time h cut)
 
 -- the frames among moments
 abbrev pub frames_of : List Moment → List (List ℕ)

@@ -12,7 +12,7 @@ CameAfter None slot = Unit {0}
 CameAfter (Some play) slot = (play.slot_before ≤ slot) × (play.end_ms < 2 ^ 100)
 
 -- a film's times and units, of which so many are whole
-pub record IsSource (source : Source) (whole : ℕ) : Type 0 where
+pub record IsSoundSource (source : Source) (whole : ℕ) : Type 0 where
   pub some_time : 0 < source.picture_units
   pub most_time : source.picture_units ≤ 15015
   pub most_units : source.units ≤ 4194304
@@ -20,7 +20,7 @@ pub record IsSource (source : Source) (whole : ℕ) : Type 0 where
 
 abbrev pub HasSource : Option Source → ℕ → Type 0
 HasSource None whole = whole ≡ 0
-HasSource (Some source) whole = IsSource source whole
+HasSource (Some source) whole = IsSoundSource source whole
 
 -- the counts are at most the bytes that were received, and those of readings at most the greatest
 -- slot

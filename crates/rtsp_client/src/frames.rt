@@ -1,7 +1,7 @@
 //! What the frames of a film say of it (RFC 2326 section 10.12, RFC 3550, RFC 2250).
 
 ghost use Rattle.std.specs.Prelude.{◌≡◌, ◌^◌, ◌<◌, IfSome};
-ghost use Rattle.rtsp_client.specs.Sound.{IsSource};
+ghost use Rattle.rtsp_client.specs.Sound.{IsSoundSource};
 ghost use Rattle.rtsp_client.specs.Films.{begins_film, units_until};
 ghost use Rattle.rtsp_client.specs.States.{first_source, next_source};
 
@@ -55,7 +55,7 @@ impl Source {
     pub(crate) fn first(head: &Head, payload: &[u8], end_ms: u128) -> Option<Source>
         requires { end_ms < 2 ^ 100 }
         ensures source { result ≡ first_source head.now payload.now end_ms }
-        ensures follows { IfSome result (λ source. IsSource source 1) }
+        ensures follows { IfSome result (λ source. IsSoundSource source 1) }
     {
         if !begins_film(payload) {
             return None;

@@ -1,6 +1,6 @@
 //! What the definitions of a watching come to.
 
-ghost use Rattle.std.specs.Prelude.{◌≡◌, ◌-◌, ◌^◌, ◌<◌, ◌≤◌, ℕ, List, length, take, drop};
+ghost use Rattle.std.specs.Prelude.{◌≡◌, ◌-◌, ◌^◌, ◌<◌, ◌≤◌, ◌↔◌, ℕ, List, length, take, drop};
 ghost use Rattle.rtp_pack.specs.Packets.{OfUnit};
 ghost use Rattle.film_frames.specs.Laws.{run_frames};
 ghost use Rattle.film_frames.specs.Runs.{run_of};
@@ -9,7 +9,7 @@ ghost use Rattle.rtsp_client.specs.Asked.{IsAsked, IsSessionId};
 ghost use Rattle.rtsp_client.specs.Asked.{play_parts, setup_parts, teardown_parts};
 ghost use Rattle.rtsp_client.specs.Meters.{most, count_over, count_under};
 ghost use Rattle.rtsp_client.specs.Moments.{History, Moment};
-ghost use Rattle.rtsp_client.specs.Promises.{IsBetweenAlways, frames_of};
+ghost use Rattle.rtsp_client.specs.Promises.{IsBetweenAlways, IsHeardAlways, frames_of};
 ghost use Rattle.rtsp_client.specs.Requests.{play_text, setup_text, teardown_text};
 ghost use Rattle.rtsp_client.specs.Wishes.{IsWish};
 ghost use Rattle.rtsp_client.specs.declared.wishes.Wish.{Wish};
@@ -26,7 +26,23 @@ pub fn law_meter_within(wish: &Wish)
     ensures { (sizes : List ℕ) (picture_time : ℕ) (h : History) → 0 < picture_time →
         0 < length sizes →
         IsBetweenAlways wish.now sizes picture_time h →
-        (count_over wish.now h ≡ 0) × (count_under wish.now h ≡ 0) × (most wish.now h ≤ wish.now.buffer) }
+        (count_over wish.now h ≡ 0) × (count_under wish.now h ≡ 0)
+        × (most wish.now h ≤ wish.now.buffer) }
+{
+    let _read = wish.port;
+}
+
+/// The meter tells when the bytes that came leave the space between the two curves: where a film's
+/// first units were heard and no reading was over or under, what came lay between the curves at each
+/// reading; and the most that waited is above the buffer exactly where a reading was over.
+pub fn law_meter_tells(wish: &Wish)
+    requires { IsWish wish.now }
+    ensures between { (sizes : List ℕ) (picture_time : ℕ) (h : History) → 0 < picture_time →
+        IsHeardAlways wish.now sizes picture_time h →
+        count_over wish.now h ≡ 0 → count_under wish.now h ≡ 0 →
+        IsBetweenAlways wish.now sizes picture_time h }
+    ensures most { (h : History) →
+        (most wish.now h ≤ wish.now.buffer) ↔ (count_over wish.now h ≡ 0) }
 {
     let _read = wish.port;
 }

@@ -2,7 +2,7 @@
 
 ghost use Rattle.std.specs.Prelude.{◌≡◌, ◌+◌, ◌^◌, ◌<◌, ◌≤◌, ℕ, Option, Some, None, true, false};
 ghost use Rattle.std.specs.Prelude.{length, IfSome, OnOk};
-ghost use Rattle.rtsp_client.specs.Sound.{IsSource};
+ghost use Rattle.rtsp_client.specs.Sound.{IsSoundSource};
 ghost use Rattle.rtsp_client.specs.States.{after_frame, after_play, after_reading, after_report};
 ghost use Rattle.rtsp_client.specs.States.{after_slot, has_all, is_between, is_lacking, new_state};
 ghost use Rattle.rtsp_client.specs.States.{place_of, played_of, source_after, source_with};
@@ -112,7 +112,7 @@ impl Watching {
     pub(crate) fn source_with(&self, block: &[u8]) -> Option<Source>
         requires { 4 ≤ length block.now }
         ensures source { result ≡ source_with self.now block.now }
-        ensures follows { IfSome result (λ source. IsSource source (self.now.watched.units + 1)) }
+        ensures follows { IfSome result (λ source. IsSoundSource source (self.now.watched.units + 1)) }
         ensures long { IfSome result (λ source. 20 ≤ length block.now) }
     {
         let Some(play) = &self.play else {
@@ -133,7 +133,7 @@ impl Watching {
         requires open { has_all self.now ≡ false }
         requires short { end_ms < 2 ^ 100 }
         ensures source { result ≡ source_after self.now.source head.now payload.now end_ms }
-        ensures follows { IfSome result (λ source. IsSource source (self.now.watched.units + 1)) }
+        ensures follows { IfSome result (λ source. IsSoundSource source (self.now.watched.units + 1)) }
     {
         match &self.source {
             Some(source) => source.next(head),
@@ -143,7 +143,7 @@ impl Watching {
 
     /// Counts a frame of so many bytes that is the next one of its film.
     pub(crate) fn add_frame(&mut self, source: Source, length: u64) -> Result<(), NoMemory>
-        requires source { IsSource source (self.old.watched.units + 1) }
+        requires source { IsSoundSource source (self.old.watched.units + 1) }
         requires head { 20 ≤ length }
         requires few { self.old.received + length < 2 ^ 63 }
         ensures { OnOk result (self.new ≡ after_frame self.old source length) }

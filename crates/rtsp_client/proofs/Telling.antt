@@ -1,0 +1,128 @@
+-- A meter that was never over and never under: what came lay between the curves at each reading.
+use Rattle.std.proofs.Common.{◌≡◌, ℕ, ◌+◌, ◌-◌, ◌*◌, ◌<◌, ◌≤◌, ◌==◌, ◌&&◌, ◌↔◌, Bool, true, false, not, nat_lt, nat_le, cond, List, [], ◌∷◌, ◌++◌, length, take, sum, max, refl, sym, ap, subst, ◌∙◌, arith, inl, inr}
+use Rattle.std.proofs.lemmas.Bool.{cases_Bool, cases_lt, and_parts, eqb-true, le-ltb}
+use Rattle.std.proofs.lemmas.Bool.Decides.{nat_tests}
+use Rattle.std.proofs.lemmas.List.Sums.{sum_by-take-le}
+use Rattle.std.specs.Int.{div_ceil}
+use Rattle.rtsp_client.specs.declared.wishes.Wish.{Wish}
+use Rattle.rtsp_client.specs.Moments.{History, Frame, Reply, Report, Slot, bytes_pending, bytes_received, frames, is_inside, is_last, is_playing, sizes}
+use Rattle.rtsp_client.specs.Films.{is_complete, units}
+use Rattle.rtsp_client.specs.Meters.{bytes_waiting, count_over, count_under, is_read, lacks, most, place_in, played_before, time, use_slot, used_before}
+use Rattle.rtsp_client.specs.Promises.{IsBetween, IsBetweenAlways, IsHeardAlways, IsHeardOf}
+use Rattle.rtsp_client.proofs.Keeping.{sum-one}
+use Rattle.rtsp_client.proofs.Metering.{no-units, used-sum}
+use Rattle.rtsp_client.proofs.Promising.{same-used, use-first, used-time}
+
+-- the bytes of whole units are among those that came
+frame-received : (last : Bool) (whole : List ℕ) (pending n came : ℕ) → sum whole + pending ≤ came
+    → sum (cond last (whole ++ (pending + n) ∷ []) whole) + cond last 0 (pending + n) ≤ came + n
+frame-received true whole pending n came is = omega (arith, is, sum-one whole (pending + n))
+frame-received false whole pending n came is = omega (arith, is)
+
+report-received : (playing outside : Bool) (whole pending n came : ℕ) → whole + pending ≤ came
+    → whole + cond (playing && outside) (pending + n) pending ≤ cond playing (came + n) came
+report-received true true whole pending n came is = omega (arith, is)
+report-received true false whole pending n came is = omega (arith, is)
+report-received false outside whole pending n came is = is
+
+whole-received : (h : History) → sum (sizes h) + bytes_pending h ≤ bytes_received h
+whole-received [] = omega arith
+whole-received (Reply m ∷ h) = whole-received h
+whole-received (Frame b ∷ h) = frame-received (is_last b) (sizes h) (bytes_pending h) (length b) (bytes_received h) (whole-received h)
+whole-received (Report b ∷ h) = report-received (is_playing h) (not (is_inside h)) (sum (sizes h)) (bytes_pending h) (length b) (bytes_received h) (whole-received h)
+whole-received (Slot slot cut ∷ h) = whole-received h
+
+-- what is used is among all
+used-most : (wish : Wish) (p j : ℕ) (xs : List ℕ) → 0 < wish.slot_units → 0 < p → used_before wish p j 0 xs ≤ sum xs
+used-most wish p j xs some timed =
+    let c = div_ceil ((j - wish.startup) * wish.slot_units) p in
+    omega (arith, used-sum wish p j 0 xs some timed, sum_by-take-le (λ (x : ℕ). x) xs (c - 0))
+
+-- where none lacks, the next unit isn't used yet
+next-early : (wish : Wish) (all : List ℕ) (p : ℕ) (h : History) (j cut : ℕ) → IsHeardOf all p h cut → lacks wish h j ≡ false
+    → length (sizes h) < length all → j < use_slot wish p (length (sizes h))
+next-early wish all p h j cut heard enough fewer =
+    let n = length (sizes h) in
+    elim (cases_Bool (is_complete h)) [
+      | inl complete ↦
+          let parts = and_parts (nat_lt 0 (frames h)) (n == units h) complete in
+          let some : nat_lt 0 (frames h) ≡ true = parts.0 in
+          let begun : 0 < frames h = grind (arith, nat_tests) in
+          absurd (omega (arith, eqb-true n (units h) parts.1, heard.units_are begun, fewer))
+      | inr open_ ↦
+          let late : nat_le (use_slot wish (time h) n) j ≡ false = sym (ap (λ b. not b && nat_le (use_slot wish (time h) n) j) open_) ∙ enough in
+          let below : j < use_slot wish (time h) n = grind (arith, nat_tests) in
+          elim (cases_lt 0 (frames h)) [
+            | inl begun ↦ subst (λ t. j < use_slot wish t n) (heard.time_is begun) below
+            | inr none ↦
+                let empty : n ≡ 0 = ap length (no-units h (omega (arith, none))) in
+                let here : j < use_slot wish (time h) 0 = subst (λ k. j < use_slot wish (time h) k) empty below in
+                let there : j < use_slot wish p 0 = omega (arith, here, use-first wish p, use-first wish (time h)) in
+                subst (λ k. j < use_slot wish p k) (sym empty) there
+          ]
+    ]
+
+between : (wish : Wish) (all : List ℕ) (p : ℕ) (h : History) (slot cut : ℕ) → 0 < wish.slot_units → 0 < p → IsHeardOf all p h cut
+    → nat_lt wish.buffer (bytes_waiting wish h slot cut) ≡ false → lacks wish h (place_in h slot) ≡ false
+    → IsBetween wish all p (place_in h slot) (bytes_received h + cut)
+between wish all p h slot cut some timed heard not_over not_under =
+    let n = length (sizes h) in
+    let j = place_in h slot in
+    let early : n < length all → j < use_slot wish p n = next-early wish all p h j cut heard not_under in
+    let by_end : used_before wish p (j + 1) 0 (take n all) ≡ used_before wish p (j + 1) 0 all =
+    same-used wish all p (j + 1) n some timed (λ fewer. omega (arith, early fewer)) in
+    let before : used_before wish p j 0 (take n all) ≡ used_before wish p j 0 all =
+    same-used wish all p j n some timed (λ fewer. omega (arith, early fewer)) in
+    let played : played_before wish h j ≡ used_before wish p j 0 all =
+    used-time wish h p j heard.time_is ∙ (ap (used_before wish p j 0) heard.sizes_are ∙ before) in
+    let holds : bytes_waiting wish h slot cut ≤ wish.buffer = grind (arith, nat_tests) in
+    record {
+      low = omega (arith, by_end, used-most wish p (j + 1) (take n all) some timed, ap sum heard.sizes_are, whole-received h);
+      up = omega (arith, played, holds);
+    }
+
+-- nothing was counted
+no-count : (b : Bool) (n : ℕ) → cond b (n + 1) n ≡ 0 → (b ≡ false) × (n ≡ 0)
+no-count true n none = absurd (omega (arith, none))
+no-count false n none = (refl, none)
+
+tested : (a b : Bool) → a ≡ true → (a && b) ≡ false → b ≡ false
+tested a b is none = sym (ap (λ c. c && b) is) ∙ none
+
+pub between-always : (wish : Wish) (all : List ℕ) (p : ℕ) (h : History) → 0 < wish.slot_units → 0 < p → IsHeardAlways wish all p h
+    → count_over wish h ≡ 0 → count_under wish h ≡ 0 → IsBetweenAlways wish all p h
+between-always wish all p [] some timed heard over under = tt
+between-always wish all p (Reply m ∷ h) some timed heard over under = between-always wish all p h some timed heard over under
+between-always wish all p (Frame b ∷ h) some timed heard over under = between-always wish all p h some timed heard over under
+between-always wish all p (Report b ∷ h) some timed heard over under = between-always wish all p h some timed heard over under
+between-always wish all p (Slot slot cut ∷ h) some timed heard over under =
+    let o = no-count (is_read h slot && nat_lt wish.buffer (bytes_waiting wish h slot cut)) (count_over wish h) over in
+    let u = no-count (is_read h slot && lacks wish h (place_in h slot)) (count_under wish h) under in (
+      between-always wish all p h some timed heard.0 o.1 u.1,
+      λ read. (
+        heard.1 read,
+        between wish all p h slot cut some timed (heard.1 read)
+            (tested (is_read h slot) (nat_lt wish.buffer (bytes_waiting wish h slot cut)) read o.0)
+            (tested (is_read h slot) (lacks wish h (place_in h slot)) read u.0),
+      ),
+    )
+
+-- the most that waited is above the buffer where a reading was over
+most-step : (read : Bool) (before waiting over buffer : ℕ) → ((before ≤ buffer) ↔ (over ≡ 0))
+    → (cond read (max before waiting) before ≤ buffer) ↔ (cond (read && nat_lt buffer waiting) (over + 1) over ≡ 0)
+most-step false before waiting over buffer same = same
+most-step true before waiting over buffer same = (
+  (λ fits. ap (λ b. cond b (over + 1) over) (le-ltb buffer waiting (omega (arith, fits))) ∙ same.0 (omega (arith, fits))),
+  (λ none.
+      let parts = no-count (nat_lt buffer waiting) over none in
+      let small : nat_lt buffer waiting ≡ false = parts.0 in
+      let holds : waiting ≤ buffer = grind (arith, nat_tests) in
+      omega (arith, same.1 parts.1, holds)),
+)
+
+pub most-tells : (wish : Wish) (h : History) → (most wish h ≤ wish.buffer) ↔ (count_over wish h ≡ 0)
+most-tells wish [] = ((λ fits. refl), (λ none. omega arith))
+most-tells wish (Reply m ∷ h) = most-tells wish h
+most-tells wish (Frame b ∷ h) = most-tells wish h
+most-tells wish (Report b ∷ h) = most-tells wish h
+most-tells wish (Slot slot cut ∷ h) = most-step (is_read h slot) (most wish h) (bytes_waiting wish h slot cut) (count_over wish h) wish.buffer (most-tells wish h)
