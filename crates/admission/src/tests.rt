@@ -130,8 +130,59 @@ fn asked(
     }
 }
 
+fn play(maker: u32, slot: u64) -> Ask {
+    Ask::Play { maker, slot }
+}
+
+fn halt(maker: u32, number: u64, keep: u64) -> Ask {
+    Ask::Halt {
+        maker,
+        number,
+        keep,
+    }
+}
+
+fn look(maker: u32, slot: u64) -> Ask {
+    Ask::Look { maker, slot }
+}
+
 fn noted(place: u64, answer: Answer) -> Result<Noted, Full> {
     Ok(Noted { place, answer })
+}
+
+fn admitted(place: u64, start: u64) -> Result<Noted, Full> {
+    noted(place, Answer::Admitted { start })
+}
+
+fn overflow(place: u64, slot: u64, booked: u64, asked: u64) -> Result<Noted, Full> {
+    noted(
+        place,
+        Answer::Overflow {
+            slot,
+            booked,
+            asked,
+        },
+    )
+}
+
+fn halted(place: u64) -> Result<Noted, Full> {
+    noted(place, Answer::Halted)
+}
+
+fn looked(place: u64, now: u64, at: u64, booked: u64) -> Result<Noted, Full> {
+    noted(place, Answer::Looked { now, at, booked })
+}
+
+fn full(entries: u64, live: u64) -> Result<Noted, Full> {
+    Err(Full { entries, live })
+}
+
+// The bytes booked so many slots from now.
+pub(crate) fn booked_ahead(rt: &impl Abort, book: &Book, ahead: u64) -> u64 {
+    let calendar = book.calendar();
+    let slot = calendar.now().saturating_add(ahead);
+    assert!(rt; slot >= calendar.now());
+    calendar.booked_bytes(slot)
 }
 
 // Asks in turn, and compares each answer; then what is booked from now on.
@@ -146,11 +197,12 @@ fn run(
         let told = asked(rt, alloc, book, *ask)?;
         assert_eq!(rt; told, *want);
     }
-    let calendar = book.calendar();
-    for (index, want) in booked.iter().enumerate() {
-        let slot = calendar.now().saturating_add(index as u64);
-        assert!(rt; slot >= calendar.now());
-        assert_eq!(rt; calendar.booked_bytes(slot), *want, "slot {slot}");
+    for (ahead, want) in booked.iter().enumerate() {
+        assert_eq!(rt;
+            booked_ahead(rt, book, ahead as u64),
+            *want,
+            "{ahead} slots from now"
+        );
     }
     Ok(())
 }
@@ -160,66 +212,18 @@ fn run(
 fn admits_and_halts(rt: HostRuntime) -> Result<(), Fail> {
     let mut book = book_of(&rt, rt.alloc(), &[(0, 5)], 64)?;
     let rows = [
-        (
-            Ask::Play { maker: 0, slot: 0 },
-            noted(0, Answer::Admitted { start: 1 }),
-        ),
-        (
-            Ask::Play { maker: 1, slot: 0 },
-            noted(
-                1,
-                Answer::Overflow {
-                    slot: 3,
-                    booked: 3,
-                    asked: 3,
-                },
-            ),
-        ),
-        (
-            Ask::Play { maker: 1, slot: 2 },
-            noted(2, Answer::Admitted { start: 3 }),
-        ),
-        (
-            Ask::Halt {
-                maker: 0,
-                number: 0,
-                keep: 7,
-            },
-            noted(3, Answer::Halted),
-        ),
-        (
-            Ask::Halt {
-                maker: 1,
-                number: 2,
-                keep: 2,
-            },
-            noted(4, Answer::Halted),
-        ),
+        (play(0, 0), admitted(0, 1)),
+        (play(1, 0), overflow(1, 3, 3, 3)),
+        (play(1, 2), admitted(2, 3)),
+        (halt(0, 0, 7), halted(3)),
+        (halt(1, 2, 2), halted(4)),
     ];
-    run(
-        &rt,
-        rt.alloc(),
-        &mut book,
-        rows.as_slice(),
-        &[2, 5, 0, 0, 0],
-    )?;
+    let booked = [2, 5, 0, 0, 0];
+    run(&rt, rt.alloc(), &mut book, rows.as_slice(), &booked)?;
     assert_eq!(rt; book.calendar().now(), 2);
-    let entries = book.entries();
+    let entries = book.into_entries();
     assert_eq!(rt; entries.len(), 5);
-    assert_eq!(rt;
-        (entries[1].maker, entries[1].answer),
-        (
-            1,
-            Answer::Overflow {
-                slot: 3,
-                booked: 3,
-                asked: 3
-            }
-        )
-    );
-    let journal = book.into_entries();
-    assert_eq!(rt; journal.len(), 5);
-    assert_eq!(rt; (journal[4].maker, journal[4].answer), (1, Answer::Halted));
+    assert_eq!(rt; (entries[4].maker, entries[4].answer), (1, Answer::Halted));
     Ok(())
 }
 
@@ -227,32 +231,12 @@ fn admits_and_halts(rt: HostRuntime) -> Result<(), Fail> {
 #[test]
 fn is_full(rt: HostRuntime) -> Result<(), Fail> {
     let mut book = book_of(&rt, rt.alloc(), &[(0, 100)], 2)?;
-    let full = Err(Full {
-        entries: 1,
-        live: 1,
-    });
     let rows = [
-        (
-            Ask::Play { maker: 0, slot: 0 },
-            noted(0, Answer::Admitted { start: 1 }),
-        ),
-        (Ask::Play { maker: 1, slot: 0 }, full),
-        (Ask::Look { maker: 1, slot: 0 }, full),
-        (
-            Ask::Halt {
-                maker: 0,
-                number: 0,
-                keep: 0,
-            },
-            noted(1, Answer::Halted),
-        ),
-        (
-            Ask::Look { maker: 0, slot: 0 },
-            Err(Full {
-                entries: 2,
-                live: 0,
-            }),
-        ),
+        (play(0, 0), admitted(0, 1)),
+        (play(1, 0), full(1, 1)),
+        (look(1, 0), full(1, 1)),
+        (halt(0, 0, 0), halted(1)),
+        (look(0, 0), full(2, 0)),
     ];
     run(&rt, rt.alloc(), &mut book, rows.as_slice(), &[0, 0, 0, 0])
 }
@@ -263,61 +247,14 @@ fn looks(rt: HostRuntime) -> Result<(), Fail> {
     let mut book = book_of(&rt, rt.alloc(), &[(0, 5)], 64)?;
     let latest = 4_611_686_018_427_387_904;
     let rows = [
-        (
-            Ask::Play { maker: 0, slot: 0 },
-            noted(0, Answer::Admitted { start: 1 }),
-        ),
-        (
-            Ask::Look { maker: 0, slot: 3 },
-            noted(
-                1,
-                Answer::Looked {
-                    now: 0,
-                    at: 3,
-                    booked: 3,
-                },
-            ),
-        ),
-        (
-            Ask::Look {
-                maker: 0,
-                slot: u64::MAX,
-            },
-            noted(
-                2,
-                Answer::Looked {
-                    now: 0,
-                    at: latest,
-                    booked: 0,
-                },
-            ),
-        ),
-        (
-            Ask::Play {
-                maker: 0,
-                slot: u64::MAX,
-            },
-            noted(3, Answer::Admitted { start: latest + 1 }),
-        ),
-        (
-            Ask::Look { maker: 0, slot: 3 },
-            noted(
-                4,
-                Answer::Looked {
-                    now: latest,
-                    at: latest,
-                    booked: 0,
-                },
-            ),
-        ),
+        (play(0, 0), admitted(0, 1)),
+        (look(0, 3), looked(1, 0, 3, 3)),
+        (look(0, u64::MAX), looked(2, 0, latest, 0)),
+        (play(0, u64::MAX), admitted(3, latest + 1)),
+        (look(0, 3), looked(4, latest, latest, 0)),
     ];
-    run(
-        &rt,
-        rt.alloc(),
-        &mut book,
-        rows.as_slice(),
-        &[0, 2, 2, 3, 0],
-    )
+    let booked = [0, 2, 2, 3, 0];
+    run(&rt, rt.alloc(), &mut book, rows.as_slice(), &booked)
 }
 
 // A capacity of 5 bytes, and of 3 from slot 3 on.
@@ -325,39 +262,16 @@ fn looks(rt: HostRuntime) -> Result<(), Fail> {
 fn keeps_each_capacity(rt: HostRuntime) -> Result<(), Fail> {
     let mut book = book_of(&rt, rt.alloc(), &[(0, 5), (3, 3)], 64)?;
     let rows = [
-        (
-            Ask::Play { maker: 0, slot: 0 },
-            noted(0, Answer::Admitted { start: 1 }),
-        ),
-        (
-            Ask::Play { maker: 1, slot: 0 },
-            noted(
-                1,
-                Answer::Overflow {
-                    slot: 3,
-                    booked: 3,
-                    asked: 3,
-                },
-            ),
-        ),
-        (
-            Ask::Play { maker: 1, slot: 1 },
-            noted(
-                2,
-                Answer::Overflow {
-                    slot: 3,
-                    booked: 3,
-                    asked: 2,
-                },
-            ),
-        ),
+        (play(0, 0), admitted(0, 1)),
+        (play(1, 0), overflow(1, 3, 3, 3)),
+        (play(1, 1), overflow(2, 3, 3, 2)),
     ];
     run(&rt, rt.alloc(), &mut book, rows.as_slice(), &[2, 2, 3, 0])
 }
 
-// The laws are calls, and the refusals have texts.
+// The laws are calls.
 #[test]
-fn states_laws(rt: HostRuntime) -> Result<(), Fail> {
+fn states_laws(_rt: HostRuntime) {
     law_bookings();
     law_prefix();
     law_starts();
@@ -369,6 +283,12 @@ fn states_laws(rt: HostRuntime) -> Result<(), Fail> {
     law_counts();
     law_looks();
     law_own_play();
+    law_makers();
+    law_halts_fit();
+}
+
+#[test]
+fn tells_refusals(rt: HostRuntime) -> Result<(), Fail> {
     let full = Full {
         entries: 2,
         live: 1,
@@ -376,9 +296,7 @@ fn states_laws(rt: HostRuntime) -> Result<(), Fail> {
     let plan = plan_of(&rt, rt.alloc(), &[(3, 7)])?;
     let text = "the journal is full: 2 entries, 1 open plays";
     assert_eq!(rt; format!(in rt.alloc(); "{full}")?.as_str(), text);
-    assert_eq!(rt;
-        format!(in rt.alloc(); "{}", PlayFull { plan, full })?.as_str(),
-        text
-    );
+    let refused = PlayFull { plan, full };
+    assert_eq!(rt; format!(in rt.alloc(); "{refused}")?.as_str(), text);
     Ok(())
 }

@@ -41,6 +41,21 @@ fn is_of_kind(entry: &Entry) -> bool
     }
 }
 
+// The line of an entry at a place, after what stood before.
+fn tells(
+    rt: &impl Abort,
+    alloc: Global,
+    place: u64,
+    entry: &Entry,
+    want: &[u8],
+) -> Result<(), AllocError> {
+    assert!(rt; is_of_kind(entry));
+    let mut out = Vec::from_slice(alloc, b"front ")?;
+    assert_eq!(rt; entry_line(place, entry, &mut out), Ok(()));
+    assert_eq!(rt; out.strip_prefix(b"front "), Some(want));
+    Ok(())
+}
+
 #[test]
 fn lines_of_entries(rt: HostRuntime) -> Result<(), Fail> {
     let alloc = rt.alloc();
@@ -53,11 +68,6 @@ fn lines_of_entries(rt: HostRuntime) -> Result<(), Fail> {
         now: 0,
         at: 3,
         booked: 3,
-    };
-    let later = Answer::Looked {
-        now: 20,
-        at: 30,
-        booked: 0,
     };
     let plan = plan_of(&rt, alloc, 3, 7)?;
     let other = plan_of(&rt, alloc, 3, 7)?;
@@ -110,14 +120,21 @@ fn lines_of_entries(rt: HostRuntime) -> Result<(), Fail> {
             command,
             answer,
         };
-        assert!(rt; is_of_kind(&entry));
-        let mut out = Vec::from_slice(alloc, b"front ")?;
-        assert_eq!(rt; entry_line(place, &entry, &mut out), Ok(()));
-        assert_eq!(rt; out.strip_prefix(b"front "), Some(want));
+        tells(&rt, alloc, place, &entry, want)?;
     }
-    law_entry_line();
+    Ok(())
+}
+
+// The laws are calls.
+#[test]
+fn states_laws(rt: HostRuntime) -> Result<(), Fail> {
+    let profile = Profile::flat(rt.alloc(), 5)?;
+    law_kinds(&profile, &[]);
     law_answer_kinds();
-    law_kinds(&Profile::flat(alloc, 5)?, &[]);
+    law_entry_line();
+    law_calendar_lines();
+    law_slot_lines();
+    law_state_text();
     Ok(())
 }
 
@@ -148,9 +165,6 @@ fn texts_of_calendars(rt: HostRuntime) -> Result<(), Fail> {
     // the last slot of the ring
     let byte = plan_of(&rt, alloc, 1, 1)?;
     assert!(rt; calendar.now() == 2 && byte.slots() == 1);
-    law_calendar_lines();
-    law_slot_lines();
-    law_state_text();
     assert!(rt; calendar.first_overflow(1_048_577, &byte).is_none());
     calendar.book(1_048_577, &byte);
     out.clear();

@@ -41,7 +41,7 @@ pub record IsFull (old new : Sitting) (more entries live_plays : ℕ) : Type 0 w
 
 -- why a play is refused
 abbrev pub IsRefused : Sitting → Sitting → ℕ → List Segment → PlayRefused → Type 0
-IsRefused old new heard asked (JournalFull plan entries open_count) = (plan ≡ asked)
-    × IsFull old new 2 entries open_count
+IsRefused old new heard asked (JournalFull plan entries live_plays) = (plan ≡ asked)
+    × IsFull old new 2 entries live_plays
 IsRefused old new heard asked (PlayOverflow place slot booked bytes) =
     Made old new 2 (play_of heard asked) place (Overflow slot booked bytes)

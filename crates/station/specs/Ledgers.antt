@@ -42,8 +42,8 @@ pub record IsFullFor (old new : Journal) (more entries live_plays : ℕ) : Type 
 
 -- why a play is refused
 abbrev pub IsPlayRefused : Journal → Journal → ℕ → ℕ → List Segment → PlayRefused → Type 0
-IsPlayRefused old new maker heard asked (JournalFull plan entries open_count) = (plan ≡ asked)
-    × IsFullFor old new 2 entries open_count
+IsPlayRefused old new maker heard asked (JournalFull plan entries live_plays) = (plan ≡ asked)
+    × IsFullFor old new 2 entries live_plays
 IsPlayRefused old new maker heard asked (PlayOverflow place slot booked bytes) =
     IsEntered old new maker 2 (play_of heard asked) place (Overflow slot booked bytes)
 

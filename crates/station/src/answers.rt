@@ -1,3 +1,5 @@
+//! What a station answers.
+
 use plan_cert::Plan;
 use thiserror::Error;
 

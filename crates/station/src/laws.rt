@@ -1,3 +1,5 @@
+//! Laws of seats, entries and offers.
+
 ghost use Rattle.std.specs.Prelude.{◌≡◌, ◌+◌, ◌^◌, ◌<◌, ◌≤◌, ℕ, List, [], ◌∷◌, ◌++◌, length, min};
 ghost use Rattle.std.specs.Prelude.{slice_index_or, take, Some};
 ghost use mathlib.Core.List.{IsPrefix};

@@ -1,3 +1,5 @@
+//! A seat.
+
 ghost use Rattle.std.specs.Prelude.{◌≡◌};
 ghost use Rattle.station.specs.Seats.{IsSeat};
 

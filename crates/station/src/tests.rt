@@ -182,12 +182,17 @@ fn four<R: Threads + Wait + Abort + Sync>(rt: &R, alloc: Global, station: Statio
     assert!(rt; count_of(&book, 0) == 0 && book.entries().len() > 800);
 }
 
+// The laws are calls.
 #[test]
-fn threads_share_one_book(rt: HostRuntime) -> Result<(), Fail> {
-    let alloc = rt.alloc();
+fn states_laws(_rt: HostRuntime) {
     law_longer_journal();
     law_last_entry();
     law_still_open();
+}
+
+#[test]
+fn threads_share_one_book(rt: HostRuntime) -> Result<(), Fail> {
+    let alloc = rt.alloc();
     let (station, seat) = Station::new(alloc, Profile::flat(alloc, 36)?, 1024)?;
     assert_eq!(rt; seat.number(), 0);
     two(&rt, alloc, station, seat);
@@ -204,21 +209,20 @@ fn tells_refusals(rt: HostRuntime) -> Result<(), Fail> {
         entries: 3,
         live: 1,
     };
-    let text = format!(in alloc; "{full}")?;
-    assert_eq!(rt;
-        text.as_str(),
-        "the journal is full: 3 entries, 1 open plays"
-    );
     let overflow = PlayRefused::Overflow {
         place: 2,
         slot: 1,
         booked: 22,
         asked: 23,
     };
-    let text = format!(in alloc; "{overflow}")?;
-    assert_eq!(rt;
-        text.as_str(),
-        "slot 1 has no room: 22 bytes are booked and 23 asked"
-    );
+    for (refused, want) in [
+        (full, "the journal is full: 3 entries, 1 open plays"),
+        (
+            overflow,
+            "slot 1 has no room: 22 bytes are booked and 23 asked",
+        ),
+    ] {
+        assert_eq!(rt; format!(in alloc; "{refused}")?.as_str(), want);
+    }
     Ok(())
 }

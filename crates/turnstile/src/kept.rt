@@ -1,3 +1,5 @@
+//! What a turnstile may keep.
+
 ghost use Rattle.std.specs.Prelude.{◌≡◌, List, length};
 ghost use Rattle.admission.specs.declared.entries.Entry.{Entry};
 ghost use Rattle.turnstile.specs.declared.view.Terms.{Terms};

@@ -1,3 +1,5 @@
+//! A pass.
+
 ghost use Rattle.std.specs.Prelude.{◌≡◌, false, true};
 ghost use Rattle.turnstile.specs.Sized.{IsFree};
 ghost use Rattle.turnstile.specs.Taken.{IsViewOf, stands_as};

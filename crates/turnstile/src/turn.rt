@@ -1,3 +1,5 @@
+//! A turn at the kept value.
+
 ghost use Rattle.std.specs.Prelude.{◌≡◌, Some, None};
 ghost use Rattle.std.specs.Borrow.{sem};
 ghost use Rattle.turnstile.specs.Lending.{LendsValue};

@@ -1,3 +1,5 @@
+//! The turnstile.
+
 ghost use Rattle.std.specs.Prelude.{◌≡◌, ◌≢◌, ◌+◌, ◌^◌, ◌<◌, [], ◌∷◌, ◌++◌, IfOk, true, false};
 ghost use mathlib.Core.List.{IsPrefix};
 ghost use Rattle.admission.specs.Makers.{made_by};

@@ -1,4 +1,5 @@
 //! What a pass knows.
+
 use admission::Entry;
 use slot_calendar::CapStep;
 use std::collections::LinkedList;
@@ -7,7 +8,9 @@ use std::marker::Model;
 /// What stays of a kept value: the steps of the link's capacity and the most entries. No value of
 /// it is made.
 pub struct Terms {
+    /// The steps of the capacity.
     pub steps: LinkedList<CapStep>,
+    /// The most entries.
     pub limit: u64,
 }
 
@@ -27,29 +30,42 @@ impl Model for Made {
 
 /// What a pass that was joined had made. No value of it is made.
 pub struct Joined {
+    /// Its number.
     pub number: u32,
+    /// Its own entries.
     pub mine: LinkedList<Made>,
 }
 
 /// Where a pass stands: it has no ticket, or waits for the turn of its ticket, or has that turn.
 pub enum Stage {
+    /// It has no ticket.
     Idle,
+    /// It waits for the turn of this ticket.
     Waits(u64),
+    /// It has the turn of this ticket.
     Holds(u64),
 }
 
 /// What a pass knows. No value of it is made.
 pub struct View {
+    /// Whether it was joined, and is no more.
     pub spent: bool,
+    /// Its number.
     pub number: u32,
+    /// Where it stands.
     pub stage: Stage,
+    /// What stays of the kept value.
     pub terms: Terms,
+    /// The list as it has seen it.
     pub seen: LinkedList<Entry>,
     /// What a pass that was joined had seen.
     pub told: LinkedList<Entry>,
     /// The terms that it had.
     pub told_terms: Terms,
+    /// Its own entries.
     pub mine: LinkedList<Made>,
+    /// How many passes were split from it.
     pub splits: u64,
+    /// What those that were joined to it had made.
     pub joined: LinkedList<Joined>,
 }

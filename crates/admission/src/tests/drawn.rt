@@ -1,7 +1,7 @@
 //! Events drawn from a number, at a book and at a plain one.
 
 use super::plain::PlainBook;
-use super::{book_of, may_halt, plan_of};
+use super::{book_of, booked_ahead, may_halt, plan_of};
 use crate::entries::{Answer, Full, Noted};
 use crate::{Book, MAX_ENTRIES};
 use std::alloc::Global;
@@ -161,13 +161,11 @@ fn follow(
             count(&mut counts, told);
         }
     }
-    let calendar = book.calendar();
-    assert_eq!(rt; calendar.now(), plain.now);
+    assert_eq!(rt; book.calendar().now(), plain.now);
     for ahead in 0..60 {
-        let slot = calendar.now().saturating_add(ahead);
-        assert!(rt; slot >= calendar.now());
+        let slot = plain.now.saturating_add(ahead);
         assert_eq!(rt;
-            calendar.booked_bytes(slot),
+            booked_ahead(rt, &book, ahead),
             plain.booked(slot),
             "slot {slot}"
         );
