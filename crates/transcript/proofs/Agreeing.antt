@@ -10,11 +10,13 @@ use Rattle.slot_calendar.specs.declared.profiles.CapStep.{CapStep}
 use Rattle.admission.specs.declared.entries.Entry.{Entry}
 use Rattle.admission.specs.Histories.{IsLegal}
 use Rattle.admission.specs.Makers.{Placed, made_from}
-use Rattle.station.specs.Seats.{IsSeat, Sitting}
+use Rattle.station.specs.Seats.{Sitting}
 use Rattle.station.proofs.Grown.{prefix-at}
 use Rattle.session.specs.declared.settings.Settings.{Settings}
 use Rattle.session.specs.Hearings.{new_standing}
+use Rattle.session.specs.Standings.{Standing}
 use Rattle.conn.specs.Parts.{HasServedOne, fresh_told}
+use Rattle.conn.specs.Promises.{KeepsPromise}
 use Rattle.conn.specs.Rounds.{ending_outcomes, entries_in, rounds_outcomes}
 use Rattle.conn.specs.Served.{HasServedConnection, HasServedFrom}
 use Rattle.conn.specs.Turns.{Outcome, entry_in}
@@ -32,9 +34,9 @@ told_in None = []
 told_in (Some told) = told
 
 served_agrees : (visit : Visit) (old new : Sitting)
-    → HasServedFrom (new_standing visit.films visit.settings visit.report.words) (Some []) (Some visit.told) old new visit.report → IsSeat new
+    → HasServedFrom (new_standing visit.films visit.settings visit.report.words) (Some []) (Some visit.told) old new visit.report → IsLegal new.steps new.seen
     → Agrees visit (terms_of new) new.seen
-served_agrees visit old new served seat =
+served_agrees visit old new served legal =
     let course = served.course in
     let doings : Doings = record { rounds = course.rounds; ending = course.ending; halt = served.closes.halt } in
     let front : List Outcome = rounds_outcomes course.rounds ++ ending_outcomes course.ending in
@@ -44,7 +46,7 @@ served_agrees visit old new served seat =
     subst (λ terms. AgreeWith terms new.seen 0 (doings_outcomes doings)) (sym (terms_same old new noted.seat))
     (agree_lower (terms_of old) new.seen 0 (length old.seen) (doings_outcomes doings) (omega arith) noted.agree) in
     record {
-      legal = seat.legal;
+      legal = legal;
       doings = doings;
       told_is = ap told_in (served.told ∙ course.told);
       done = record {
@@ -62,17 +64,23 @@ served_agrees visit old new served seat =
 
 connection_agrees : (visit : Visit) (old new : Sitting)
     → HasServedConnection (new_standing visit.films visit.settings visit.report.words) (Some []) (Some visit.told) old new visit.report
-    → (visit.report.end ≡ NoMemory → ⊥) → IsSeat new → Agrees visit (terms_of new) new.seen
-connection_agrees visit old new (inl served) memory seat = served_agrees visit old new served seat
-connection_agrees visit old new (inr nothing) memory seat = absurd (memory nothing.end)
+    → (visit.report.end ≡ NoMemory → ⊥) → IsLegal new.steps new.seen → Agrees visit (terms_of new) new.seen
+connection_agrees visit old new (inl served) memory legal = served_agrees visit old new served legal
+connection_agrees visit old new (inr nothing) memory legal = absurd (memory nothing.end)
+
+-- a connection that did something keeps its promise: what its seat has seen is legal
+legal_seen : (session : Standing) (old_told new_told : Option (List Doing)) (old new : Sitting) (report : ConnReport)
+    → KeepsPromise session old_told new_told old new report → (report.end ≡ NoMemory → ⊥) → IsLegal new.steps new.seen
+legal_seen session old_told new_told old new report (inl keeps) memory = keeps.booked.legal
+legal_seen session old_told new_told old new report (inr nothing) memory = absurd (memory nothing.end)
 
 -- what was served agrees with the seat's journal
 pub returned_agrees : (visit : Visit) (returned : Returned) (old new : Sitting) → HasServedOne visit.films visit.settings returned visit.report old new
-    → returned.told ≡ Some visit.told → (visit.report.end ≡ NoMemory → ⊥) → IsSeat new → Agrees visit (terms_of new) new.seen
-returned_agrees visit returned old new one tells memory seat =
+    → returned.told ≡ Some visit.told → (visit.report.end ≡ NoMemory → ⊥) → Agrees visit (terms_of new) new.seen
+returned_agrees visit returned old new one tells memory =
     connection_agrees visit old new
     (subst (λ t. HasServedConnection (new_standing visit.films visit.settings visit.report.words) (fresh_told t) t old new visit.report) tells one.served)
-    memory seat
+    memory (legal_seen (new_standing visit.films visit.settings visit.report.words) (fresh_told returned.told) returned.told old new visit.report one.keeps memory)
 
 -- and with each longer legal journal
 pub agrees_longer : (visit : Visit) (terms : Terms) (journal longer : List Entry) → Agrees visit terms journal → IsPrefix journal longer

@@ -37,5 +37,6 @@ pub mod Told
 pub mod Asked
 pub mod Noting
 pub mod NotedCourses
+pub mod Receipting
 pub mod Missing
 pub mod Failing

@@ -9,4 +9,5 @@ pub mod Carried
 pub mod Played
 pub mod Replied
 pub mod Notes
+pub mod Receipts
 pub mod Failures

@@ -42,7 +42,8 @@ due_by slot plays = sum_by (due_of slot) plays
 abbrev pub bytes_of_plays : List FilmPlay → List ℕ
 bytes_of_plays [] = []
 bytes_of_plays (play ∷ []) = film_of play
-bytes_of_plays (play ∷ next ∷ plays) = take play.keep (film_of play) ++ bytes_of_plays (next ∷ plays)
+bytes_of_plays (play ∷ next ∷ plays) =
+    take play.keep (film_of play) ++ bytes_of_plays (next ∷ plays)
 
 -- what is written of films by the end of a slot: of the films joined, as many bytes as are due
 abbrev pub film_written : ℕ → List FilmPlay → List ℕ

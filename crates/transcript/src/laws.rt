@@ -5,7 +5,7 @@ ghost use Rattle.vod_base.specs.Links.{Doing, HeardSlot};
 ghost use Rattle.film_frames.specs.declared.stores.Stored.{Stored};
 ghost use Rattle.admission.specs.declared.entries.Entry.{Entry};
 ghost use Rattle.admission.specs.Histories.{IsLegal};
-ghost use Rattle.station.specs.Seats.{IsSeat, Sitting};
+ghost use Rattle.station.specs.Seats.{Sitting};
 ghost use Rattle.session.specs.Ranges.{AreFilms};
 ghost use Rattle.session.specs.declared.settings.Settings.{Settings};
 ghost use Rattle.conn.specs.Films.{rounds_film};
@@ -22,6 +22,7 @@ ghost use Rattle.transcript.specs.Courses.{first_stage, greatest_slot, rounds_by
 ghost use Rattle.transcript.specs.Cuttings.{AllLackAlike, AreFronts, AreSameAnswers, Beginning, Cutting, HearAlike, Hearing, SendAlike, TakesUp};
 ghost use Rattle.transcript.specs.Failures.{IsCutShort};
 ghost use Rattle.transcript.specs.Notes.{ending_missed, notes_of, outcome_of, rounds_missed, turns_of};
+ghost use Rattle.transcript.specs.Receipts.{offers_in, receipts_in};
 ghost use Rattle.transcript.specs.Places.{AreSentAt, slots_from};
 ghost use Rattle.transcript.specs.Plays.{AreOver, booked_plays, booking_of};
 ghost use Rattle.transcript.specs.Requests.{AreTaken};
@@ -61,7 +62,8 @@ pub fn law_replies_woven()
     ensures woven { (course : Course)
         → rounds_bytes course.rounds ≡ with_texts 0 (course_film course) (course_texts course) }
     ensures order { (course : Course)
-        → map text_of (course_texts course) ++ waiting_reply course.last.session ≡ course_replies course }
+        → map text_of (course_texts course) ++ waiting_reply course.last.session
+        ≡ course_replies course }
 {}
 
 /// Each reply stands at the first boundary of the films that are sent, the end of a frame or of a
@@ -133,6 +135,18 @@ pub fn law_plays_noted()
         ≡ doings_outcomes doings }
 {}
 
+/// A report's receipts are, in order, those of what the station answered: of each entry its place
+/// in the journal and its answer, and of each full journal its two numbers. Its offers are those
+/// that the station made, in order.
+pub fn law_receipts_told()
+    ensures receipts { (films : List Stored) (settings : Settings) (words : List ℕ)
+        (doings : Doings) (report : ConnReport) → HasDone films settings words doings report
+        → report.receipts.items ≡ receipts_in (doings_outcomes doings) }
+    ensures offers { (films : List Stored) (settings : Settings) (words : List ℕ)
+        (doings : Doings) (report : ConnReport) → HasDone films settings words doings report
+        → report.offers.items ≡ offers_in (doings_outcomes doings) }
+{}
+
 /// A report's missed slots are those that were not heard while a play, or its rest, was being sent:
 /// at each slot that was heard then, the slots before it that are later than the last one heard,
 /// from the play's first one on.
@@ -149,7 +163,7 @@ pub fn law_missed_told()
 pub fn law_agrees()
     ensures seen { (visit : Visit) (returned : Returned) (old new : Sitting)
         → HasServedOne visit.films visit.settings returned visit.report old new
-        → returned.told ≡ Some visit.told → ¬ (visit.report.end ≡ NoMemory) → IsSeat new
+        → returned.told ≡ Some visit.told → ¬ (visit.report.end ≡ NoMemory)
         → Agrees visit (terms_of new) new.seen }
     ensures longer { (visit : Visit) (terms : Terms) (journal longer : List Entry)
         → Agrees visit terms journal → IsPrefix journal longer → IsLegal terms.steps longer

@@ -24,12 +24,17 @@ fn stored(alloc: Global, name: &str, bytes: Vec<u8>) -> Result<Stored, NoMemory>
     Stored::new(alloc, String::from_str(alloc, name)?, film)
 }
 
+/// The film of two pictures, `b.mpg`.
+pub(crate) fn short_film(alloc: Global) -> Result<Stored, NoMemory> {
+    stored(alloc, "b.mpg", bytes_of(alloc, FILM_B)?)
+}
+
 /// The server's films: `b.mpg` of two pictures, and `news.mpg` of 250, 10 seconds.
 #[tactic(auto, using(crate::proofs::ServerFilms::two_films))]
 pub(crate) fn server_films(rt: &impl Abort, alloc: Global) -> Result<Vec<Stored>, NoMemory>
     ensures { IfOk result (λ films. AreFilms films.items) }
 {
-    let short = stored(alloc, "b.mpg", bytes_of(alloc, FILM_B)?)?;
+    let short = short_film(alloc)?;
     let long = stored(alloc, "news.mpg", make_film(alloc, 1, 250)?)?;
     assert!(rt; good_name(short.name.as_bytes()));
     assert!(rt; good_name(long.name.as_bytes()));
