@@ -13,7 +13,7 @@ use Rattle.inputs.specs.Scans.{HoldsFilm}
 use Rattle.vodserve.specs.ScanText.{scan_text}
 use Rattle.command_words.specs.Words.{Viewer}
 use Rattle.vodserve.specs.Carrying.{IsScanned}
-use Rattle.vodserve.specs.Plans.{HasCurves, IsChecked}
+use Rattle.vodserve.specs.Plans.{HasCurves, IsChecked, IsVerdict}
 use Rattle.vodserve.specs.Verdict.{cert_fault_text}
 use Rattle.vodserve.specs.declared.done.Done.{Done}
 
@@ -33,12 +33,10 @@ pub record HasCertificate (held : List File) (viewer : Viewer) (cert : List ℕ)
   pub bytes : ℕ
   pub certificate : IsCertificate written slots bytes segments
 
-pub least_checked : {E : Type 0} (held : List File) (viewer : Viewer) (cert : List ℕ) (curves : Curves) (segments : List Segment) → HasCertificate held viewer cert curves segments →
-    IsBestPlan curves.from curves.low.items curves.up.items segments →
-    (r : Result (Vec ℕ Global) E) → IfOk r (λ v. v.items ≡ codes "least\n") →
-    (done : Done) → (done.status ≡ 0) × (r ≡ Ok done.text) × (done.plan ≡ None) →
-    IsChecked held viewer cert done.status done.text.items
-least_checked held viewer cert curves segments read best r text done is = record {
+-- with the verdict on that
+checked : (held : List File) (viewer : Viewer) (cert : List ℕ) (curves : Curves) (segments : List Segment) → HasCertificate held viewer cert curves segments →
+    (status : ℕ) (text : List ℕ) → IsVerdict curves.from curves.low.items curves.up.items segments status text → IsChecked held viewer cert status text
+checked held viewer cert curves segments read status text verdict = record {
   curves = curves;
   has = read.has;
   written = read.written;
@@ -47,25 +45,25 @@ least_checked held viewer cert curves segments read best r text done is = record
   bytes = read.bytes;
   segments = segments;
   certificate = read.certificate;
-  verdict = inl (is.0, best, text_of (codes "least\n") r done.text text is.1);
+  verdict = verdict;
 }
+
+pub least_checked : {E : Type 0} (held : List File) (viewer : Viewer) (cert : List ℕ) (curves : Curves) (segments : List Segment) → HasCertificate held viewer cert curves segments →
+    IsBestPlan curves.from curves.low.items curves.up.items segments →
+    (r : Result (Vec ℕ Global) E) → IfOk r (λ v. v.items ≡ codes "least\n") →
+    (done : Done) → (done.status ≡ 0) × (r ≡ Ok done.text) × (done.plan ≡ None) →
+    IsChecked held viewer cert done.status done.text.items
+least_checked held viewer cert curves segments read best r text done is =
+    checked held viewer cert curves segments read done.status done.text.items (inl (is.0, best, text_of (codes "least\n") r done.text text is.1))
 
 pub fault_checked : {E : Type 0} (held : List File) (viewer : Viewer) (cert : List ℕ) (curves : Curves) (segments : List Segment) → HasCertificate held viewer cert curves segments →
     (fault : CertFault) → IsFirstFault curves.from curves.low.items curves.up.items segments fault →
     (r : Result (Vec ℕ Global) E) → IfOk r (λ v. v.items ≡ codes "refused " ++ cert_fault_text fault ++ codes "\n") →
     (done : Done) → (done.status ≡ 1) × (r ≡ Ok done.text) × (done.plan ≡ None) →
     IsChecked held viewer cert done.status done.text.items
-fault_checked held viewer cert curves segments read fault first r text done is = record {
-  curves = curves;
-  has = read.has;
-  written = read.written;
-  found = read.found;
-  slots = read.slots;
-  bytes = read.bytes;
-  segments = segments;
-  certificate = read.certificate;
-  verdict = inr (fault, (is.0, first, text_of (codes "refused " ++ cert_fault_text fault ++ codes "\n") r done.text text is.1));
-}
+fault_checked held viewer cert curves segments read fault first r text done is =
+    checked held viewer cert curves segments read done.status done.text.items
+    (inr (fault, (is.0, first, text_of (codes "refused " ++ cert_fault_text fault ++ codes "\n") r done.text text is.1)))
 
 pub film_done : {E : Type 0} (held : List File) (film : List ℕ) (size rate : ℕ) (units : List PictureUnit) → HoldsFilm held film size rate units →
     (r : Result (Vec ℕ Global) E) → IfOk r (λ v. v.items ≡ scan_text size rate units) →

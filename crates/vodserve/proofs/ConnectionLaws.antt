@@ -13,11 +13,13 @@ use Rattle.session.specs.declared.settings.Settings.{Settings}
 use Rattle.station.specs.Seats.{Sitting}
 use Rattle.station.proofs.Makers.{IsAt, all-at}
 use Rattle.turnstile.proofs.Prefixes.{prefix_self, prefix_trans}
+use Rattle.conn.specs.Journals.{terms_of}
 use Rattle.conn.specs.Keeping.{entry_receipts, receipt_for}
 use Rattle.conn.specs.Parts.{AreServed, AreTold, Duty, HasServed, HasServedOne, Outlet, duty, entries_told}
 use Rattle.conn.specs.declared.reports.ConnReport.{ConnReport}
 use Rattle.conn.specs.declared.reports.PartEnd.TheVariants.{NoMemory as PartNoMemory}
 use Rattle.conn.specs.declared.reports.PartReport.{PartReport}
+use Rattle.conn.proofs.Journals.{terms_same}
 use Rattle.command_words.specs.Words.{Serving}
 use Rattle.vodserve.specs.Laws.{IsReceiptIn, IsReportIn, IsServedPart, ServesEach, TellsItsJournal}
 use Rattle.vodserve.specs.Run.{HasServed as HasServedFilms, World}
@@ -72,17 +74,17 @@ told_receipts journal seat (report ∷ reports) all =
     (told_receipts journal seat reports (all_right (IsReceiptIn journal seat) own (entries_told reports) all))
 
 -- all that a worker's seat made was made by its connections
-made_all : (by : Duty) (journal : List Entry) (gate gate' : Outlet) (report : PartReport) (worked : HasWorked by journal gate gate' report) →
+made_all : (serving : Serving) (by : Duty) (journal : List Entry) (gate gate' : Outlet) (report : PartReport) (worked : HasWorked serving by journal gate gate' report) →
     worked.served.entries.made ≡ made_by (by.worker + 1) journal
-made_all by journal gate gate' report worked =
+made_all serving by journal gate gate' report worked =
     ap (λ (m : List Placed). m ++ worked.served.entries.made) (sym worked.mine) ∙ sym worked.served.entries.mine_is ∙ worked.made
 
 -- the reports of a worker
-part_told : (by : Duty) (journal : List Entry) (gate gate' : Outlet) (report : PartReport) → HasWorked by journal gate gate' report →
+part_told : (serving : Serving) (by : Duty) (journal : List Entry) (gate gate' : Outlet) (report : PartReport) → HasWorked serving by journal gate gate' report →
     All (IsReportIn journal) report.reports.items
-part_told by journal gate gate' report worked =
+part_told serving by journal gate gate' report worked =
     let entries : HasServed worked.seat.mine report.reports.items worked.left.mine = worked.served.entries in
-    let made : entries.made ≡ made_by (by.worker + 1) journal = made_all by journal gate gate' report worked in
+    let made : entries.made ≡ made_by (by.worker + 1) journal = made_all serving by journal gate gate' report worked in
     let receipts : All (IsReceiptIn journal (by.worker + 1)) (entries_told report.reports.items) =
     subst (All (IsReceiptIn journal (by.worker + 1))) (ap (map receipt_for) (sym made) ∙ sym entries.receipts_are) (made_receipts journal (by.worker + 1)) in
     let all = told_receipts journal (by.worker + 1) report.reports.items receipts in
@@ -90,12 +92,12 @@ part_told by journal gate gate' report worked =
     subst (λ (n : ℕ). All (IsReceiptIn journal (n + 1)) (slice_index_or report.reports.items k none).receipts.items) (sym (worked.served.reports.worker_is k none inside))
     (all k none inside)
 
-parts_told : (films : List Stored) (settings : Settings) (seed : List ℕ) (journal : List Entry) (gate gate' : Outlet) (from : ℕ) (parts : List PartReport) →
-    AllWorked films settings seed journal gate gate' from parts → All (IsReportIn journal) (all_reports parts)
-parts_told films settings seed journal gate gate' from [] all = All-nil (IsReportIn journal)
-parts_told films settings seed journal gate gate' from (part ∷ parts) all =
-    All-append (IsReportIn journal) part.reports.items (all_reports parts) (part_told (duty films settings seed from) journal gate gate' part all.0)
-    (parts_told films settings seed journal gate gate' (from + 1) parts all.1)
+parts_told : (films : List Stored) (serving : Serving) (seed : List ℕ) (journal : List Entry) (gate gate' : Outlet) (from : ℕ) (parts : List PartReport) →
+    AllWorked films serving seed journal gate gate' from parts → All (IsReportIn journal) (all_reports parts)
+parts_told films serving seed journal gate gate' from [] all = All-nil (IsReportIn journal)
+parts_told films serving seed journal gate gate' from (part ∷ parts) all =
+    All-append (IsReportIn journal) part.reports.items (all_reports parts) (part_told serving (duty films (settings_of serving) seed from) journal gate gate' part all.0)
+    (parts_told films serving seed journal gate gate' (from + 1) parts all.1)
 
 -- the reports are those of the workers
 reports_whole : (before after : World) (seed : List ℕ) (serving : Serving) (ended : Ended) (served : HasServedFilms before after seed serving ended) →
@@ -110,22 +112,24 @@ tells_its_journal before after seed serving ended (inl kept) status =
     subst (All (IsReportIn ended.journal.items)) (sym kept.1.2.1) (All-nil (IsReportIn ended.journal.items))
 tells_its_journal before after seed serving ended (inr served) status =
     subst (All (IsReportIn ended.journal.items)) (sym (reports_whole before after seed serving ended served (ended_whole before after _ served.end ended served.ends status)))
-    (parts_told served.films (settings_of serving) seed ended.journal.items before.gate after.gate 0 served.worked.parts served.worked.each)
+    (parts_told served.films serving seed ended.journal.items before.gate after.gate 0 served.worked.parts served.worked.each)
 
 -- ---- connections
 
--- a connection adds to what its seat made and to what it has seen
+-- a connection adds to what its seat made and to what it has seen, under the same terms
 pub record GoesOn (old new : Sitting) : Type 0 where
+  pub terms : terms_of new ≡ terms_of old
   pub mine : IsPrefix old.mine new.mine
   pub seen : IsPrefix old.seen new.seen
 
 same_on : (old new : Sitting) → new ≡ old → GoesOn old new
-same_on old new same = subst (GoesOn old) (sym same) (record { mine = prefix_self old.mine; seen = prefix_self old.seen })
+same_on old new same = subst (GoesOn old) (sym same) (record { terms = refl; mine = prefix_self old.mine; seen = prefix_self old.seen })
 
 one_on : (films : List Stored) (settings : Settings) (returned : Returned) (report : ConnReport) (old new : Sitting) → HasServedOne films settings returned report old new →
     GoesOn old new
 one_on films settings returned report old new one = elim one.served [
   | inl from ↦ record {
+    terms = terms_same from.ended.seat new from.closes.noted.seat ∙ terms_same old from.ended.seat from.course.noted.seat;
     mine = prefix_trans old.mine from.ended.seat.mine new.mine (_, sym from.course.noted.mine) (_, sym from.closes.noted.mine);
     seen = prefix_trans old.seen from.ended.seat.seen new.seen from.course.noted.seat.longer from.closes.noted.seat.longer;
   }
@@ -141,33 +145,43 @@ all_on films settings old (returned ∷ back) (report ∷ reports) new served =
     let one = one_on films settings returned report old served.0 served.1.0 in
     let rest = all_on films settings served.0 back reports new served.1.1 in
     record {
+      terms = rest.terms ∙ one.terms;
       mine = prefix_trans old.mine served.0.mine new.mine one.mine rest.mine;
       seen = prefix_trans old.seen served.0.seen new.seen one.seen rest.seen;
     }
 
 -- one of the connections that came back, with the report at its place
-record IsOne (films : List Stored) (settings : Settings) (returned : Returned) (report : ConnReport) (left : Sitting) : Type 0 where
+record IsOne (films : List Stored) (settings : Settings) (returned : Returned) (report : ConnReport) (first left : Sitting) : Type 0 where
   old : Sitting
   new : Sitting
+  terms : terms_of new ≡ terms_of first
   served : HasServedOne films settings returned report old new
   on : GoesOn new left
 
 one_at : (films : List Stored) (settings : Settings) (old : Sitting) (back : List Returned) (reports : List ConnReport) (new : Sitting) →
     AreServed films settings old back reports new → (k : ℕ) (none : Returned) (no_report : ConnReport) → k < length back →
-    IsOne films settings (slice_index_or back k none) (slice_index_or reports k no_report) new
+    IsOne films settings (slice_index_or back k none) (slice_index_or reports k no_report) old new
 one_at films settings old [] reports new served k none no_report inside = absurd (omega (arith, inside))
 one_at films settings old (returned ∷ back) [] new served k none no_report inside = absurd served
 one_at films settings old (returned ∷ back) (report ∷ reports) new served zero none no_report inside = record {
   old = old;
   new = served.0;
+  terms = (one_on films settings returned report old served.0 served.1.0).terms;
   served = served.1.0;
   on = all_on films settings served.0 back reports new served.1.1;
 }
 one_at films settings old (returned ∷ back) (report ∷ reports) new served (suc k) none no_report inside =
-    one_at films settings served.0 back reports new served.1.1 k none no_report (omega (arith, inside))
+    let rest = one_at films settings served.0 back reports new served.1.1 k none no_report (omega (arith, inside)) in
+    record {
+      old = rest.old;
+      new = rest.new;
+      terms = rest.terms ∙ (one_on films settings returned report old served.0 served.1.0).terms;
+      served = rest.served;
+      on = rest.on;
+    }
 
 part_served : (films : List Stored) (serving : Serving) (seed : List ℕ) (journal : List Entry) (gate gate' : Outlet) (content : Content) (worker : ℕ) (report : PartReport) →
-    HasWorked (duty films (settings_of serving) seed worker) journal gate gate' report → gate'.told ≡ Some content →
+    HasWorked serving (duty films (settings_of serving) seed worker) journal gate gate' report → gate'.told ≡ Some content →
     (part : Part) × ((slice_index_or content.parts worker None ≡ Some part) × IsServedPart films seed serving journal worker part report.reports.items)
 part_served films serving seed journal gate gate' content worker report worked told =
     let settings = settings_of serving in
@@ -182,7 +196,7 @@ part_served films serving seed journal gate gate' content worker report worked t
         record {
           count = sym long;
           each = λ k none no_report inside.
-              let one : IsOne films settings (slice_index_or back.0.own.back k none) (slice_index_or reports k no_report) worked.left =
+              let one : IsOne films settings (slice_index_or back.0.own.back k none) (slice_index_or reports k no_report) worked.seat worked.left =
               one_at films settings worked.seat back.0.own.back reports worked.left served k none no_report inside in
               record {
                 worker_is = worked.served.reports.worker_is k no_report (omega (arith, inside, long));
@@ -190,10 +204,11 @@ part_served films serving seed journal gate gate' content worker report worked t
                 old = one.old;
                 new = one.new;
                 served = one.served;
+                terms = one.terms ∙ worked.terms;
                 entries = subst (λ (m : List Placed). IsPrefix one.new.mine m) worked.made one.on.mine;
                 seen = prefix_trans one.new.seen worked.left.seen journal one.on.seen worked.seen;
               };
-          entries = worked.served.entries.receipts_are ∙ ap (map receipt_for) (made_all (duty films settings seed worker) journal gate gate' report worked);
+          entries = worked.served.entries.receipts_are ∙ ap (map receipt_for) (made_all serving (duty films settings seed worker) journal gate gate' report worked);
         },
       ),
     )
@@ -205,6 +220,7 @@ serves_each before after seed serving ended gate serves told have_run =
     record {
       films = run.served.films;
       loaded = run.served.loaded;
+      journal = run.served.journal;
       parts = worked.parts;
       count = worked.count;
       reports = reports_whole before after seed serving ended run.served run.found;

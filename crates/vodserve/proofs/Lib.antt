@@ -12,3 +12,5 @@ pub mod ConnectionLaws
 pub mod DayLemmas
 pub mod FieldLemmas
 pub mod TextReading
+pub mod LineReading
+pub mod WatchLemmas

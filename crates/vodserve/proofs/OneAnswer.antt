@@ -123,7 +123,7 @@ bad_no_trace text sizes place trace bad =
 pub no_file : (text : List ℕ) → Some text ≡ None → ⊥
 no_file text e = cc
 
-trace_not_refused : (held : List File) (name sizes : List ℕ) (fault : Fault) → HoldsTrace held name sizes → IsTraceRefused held name fault → ⊥
+pub trace_not_refused : (held : List File) (name sizes : List ℕ) (fault : Fault) → HoldsTrace held name sizes → IsTraceRefused held name fault → ⊥
 trace_not_refused held name sizes fault holds (inl missing) = no_file holds.text (sym holds.found ∙ missing.1)
 trace_not_refused held name sizes (BadTrace place) holds (inr refused) =
     bad_no_trace refused.0 sizes place

@@ -14,19 +14,19 @@ use Rattle.command_words.specs.Words.{Serving}
 use Rattle.troubles.specs.Statuses.{status_of}
 use Rattle.troubles.specs.declared.faults.Trouble.{Trouble}
 use Rattle.troubles.specs.declared.faults.Trouble.TheVariants.{Usage, Refused, StoreFault, SinkFault, NoMemory, GateFault, LinkFault}
-use Rattle.vodserve.specs.Laws.{GivesEachBack, HasGivenBack, HasNoFault, HaveRun, IsServable, LeavesNoneOut, ServesWhatItMay}
+use Rattle.vodserve.specs.Laws.{GivesEachBack, HasGivenBack, HasNoFault, HaveRun, IsServable, LeavesNoneOut, ServesNoRefused, ServesWhatItMay}
 use Rattle.vodserve.specs.Run.{Ends, HasServed, Serves, World}
 use Rattle.vodserve.specs.Served.{HasFewer, IsPrinted, IsServeTrouble}
 use Rattle.vodserve.specs.declared.run.Ended.{Ended}
-use Rattle.vodserve.specs.Worked.{AllWorked, AreLeft, HasBack, HasWorked, IsOpenAs, HasParts, opening_of, settings_of}
+use Rattle.vodserve.specs.Worked.{AllWorked, AreLeft, HasBack, HasWorked, IsOpenAs, HasParts, MayBeServed, opening_of, settings_of}
 use Rattle.vodserve.proofs.WorkerLemmas.{risen_some}
-use Rattle.vodserve.proofs.ServeLemmas.{worker_worked}
+use Rattle.vodserve.proofs.ServeLemmas.{all_accepted, worker_worked}
 
 -- what keeps from serving, where nothing is refused and nothing failed, is want of memory
 kept_by_memory : (before after : World) (serving : Serving) (trouble : Trouble) → IsServable serving before.store.told → HasNoFault before after →
     IsServeTrouble serving before.store.told before.store.faults after.store.faults before.gate after.gate trouble → status_of trouble ≡ 6
 kept_by_memory before after serving Usage may none is = absurd is
-kept_by_memory before after serving (Refused name fault) may none is = absurd (may.accepted name.now fault is.0 (is.1 may.held may.told_is))
+kept_by_memory before after serving (Refused name fault) may none is = absurd (may.accepted name.now fault is.0 (is.1 may.held may.told_is).refused)
 kept_by_memory before after serving (StoreFault name) may none is = absurd (none.store is.1)
 kept_by_memory before after serving SinkFault may none is = absurd is
 kept_by_memory before after serving NoMemory may none is = refl
@@ -61,6 +61,15 @@ not_none SinkFault is = omega (arith, is)
 not_none NoMemory is = omega (arith, is)
 not_none GateFault is = omega (arith, is)
 not_none LinkFault is = omega (arith, is)
+
+-- a film that is refused is never served
+pub serves_no_refused : ServesNoRefused
+serves_no_refused before after seed serving ended held name fault (inl kept) told named refused =
+    (λ zero. not_none kept.0 (sym kept.1.3.status ∙ zero), kept.1.1, kept.1.2)
+serves_no_refused before after seed serving ended held name fault (inr served) told named refused =
+    let may : All (MayBeServed held) serving.films =
+    subst (All (MayBeServed held)) served.loaded.names_are (all_accepted before.store.told held served.films told served.loaded.held) in
+    absurd (subst (MayBeServed held) named.2 (may named.0 name named.1) fault refused)
 
 -- ---- how a server's run ended
 
@@ -160,39 +169,39 @@ given_back (Some old) new (Some c) count served is =
 abbrev LastOf : World → World → Part → Type 0
 LastOf before after part = (part.last ≡ NoMore) ⊎ ((part.last ≡ Failed) × HasRisen before.gate.faults after.gate.faults)
 
-last_of : (before after : World) (by : Duty) (journal : List Entry) (report : PartReport) (end : PartEnd) (new : Content) →
-    (worked : HasWorked by journal before.gate after.gate report) → report.end ≡ end → end ≢ PartNoMemory → worked.after.told ≡ Some new → LastOf before after new.own
-last_of before after by journal report AllTaken new worked is found told =
+last_of : (before after : World) (serving : Serving) (by : Duty) (journal : List Entry) (report : PartReport) (end : PartEnd) (new : Content) →
+    (worked : HasWorked serving by journal before.gate after.gate report) → report.end ≡ end → end ≢ PartNoMemory → worked.after.told ≡ Some new → LastOf before after new.own
+last_of before after serving by journal report AllTaken new worked is found told =
     inl (subst (λ (t : Option Content). IfSome t (λ c. c.own.last ≡ NoMore)) told (worked.served.all is))
-last_of before after by journal report PartFault new worked is found told =
+last_of before after serving by journal report PartFault new worked is found told =
     inr (
       subst (λ (t : Option Content). IfSome t (λ c. c.own.last ≡ Failed)) told (worked.served.failed is),
       worked.counted (risen_some 0 worked.after.faults (worked.served.fault is)),
     )
-last_of before after by journal report PartNoMemory new worked is found told = absurd (found refl)
+last_of before after serving by journal report PartNoMemory new worked is found told = absurd (found refl)
 
 -- the part of a worker is back in the gate
-pub part_back : (before after : World) (by : Duty) (journal : List Entry) (content : Content) (report : PartReport) → HasWorked by journal before.gate after.gate report →
+pub part_back : (before after : World) (serving : Serving) (by : Duty) (journal : List Entry) (content : Content) (report : PartReport) → HasWorked serving by journal before.gate after.gate report →
     report.end ≢ PartNoMemory → after.gate.told ≡ Some content → (part : Part) × ((slice_index_or content.parts by.worker None ≡ Some part) × HasGivenBack before after part)
-part_back before after by journal content report worked found told =
+part_back before after serving by journal content report worked found told =
     let back : HasBack by.worker worked.after.told content = subst (λ (t : Option Content). IfSome t (HasBack by.worker worked.after.told)) told worked.back in (
       back.0.own,
       (
         back.1.1,
         record {
           back = (given_back worked.part back.0 worked.after.told (length report.reports.items) worked.served.served back.1.0).0;
-          last = last_of before after by journal report report.end back.0 worked refl found back.1.0;
+          last = last_of before after serving by journal report report.end back.0 worked refl found back.1.0;
         },
       ),
     )
 
 -- the worker of a number, from 0 on
 pub worker_of : (films : List Stored) (seed : List ℕ) (serving : Serving) (journal : List Entry) (gate gate' : Outlet) (parts : List PartReport) →
-    AllWorked films (settings_of serving) seed journal gate gate' 0 parts → (worker : ℕ) (none : PartReport) → worker < length parts →
-    HasWorked (duty films (settings_of serving) seed worker) journal gate gate' (slice_index_or parts worker none)
+    AllWorked films serving seed journal gate gate' 0 parts → (worker : ℕ) (none : PartReport) → worker < length parts →
+    HasWorked serving (duty films (settings_of serving) seed worker) journal gate gate' (slice_index_or parts worker none)
 worker_of films seed serving journal gate gate' parts all worker none inside =
-    subst (λ (n : ℕ). HasWorked (duty films (settings_of serving) seed n) journal gate gate' (slice_index_or parts worker none)) (zero-add worker)
-    (worker_worked films (settings_of serving) seed journal gate gate' 0 parts all worker none inside)
+    subst (λ (n : ℕ). HasWorked serving (duty films (settings_of serving) seed n) journal gate gate' (slice_index_or parts worker none)) (zero-add worker)
+    (worker_worked films serving seed journal gate gate' 0 parts all worker none inside)
 
 -- each worker found memory
 pub each_found : (parts : List PartReport) (end : PartEnd) (reports : List ConnReport) → AreLeft parts end reports → end ≢ PartNoMemory →
@@ -212,7 +221,7 @@ gives_each_back before after seed serving ended gate serves told have_run =
       count = subst (HasParts serving.listening.workers) told worked.split;
       each = λ worker inside.
           let within : worker < length worked.parts = omega (arith, inside, worked.count) in
-          part_back before after (duty run.served.films (settings_of serving) seed worker) ended.journal.items gate (slice_index_or worked.parts worker none)
+          part_back before after serving (duty run.served.films (settings_of serving) seed worker) ended.journal.items gate (slice_index_or worked.parts worker none)
           (worker_of run.served.films seed serving ended.journal.items before.gate after.gate worked.parts worked.each worker none within)
           (each_found worked.parts run.served.end ended.reports.items worked.left run.found worker none within) told;
     }
@@ -223,9 +232,9 @@ all_taken : (before after : World) (text : List ℕ) (end : PartEnd) (ended : En
 all_taken before after text end ended (inl whole) status = whole.0.1
 all_taken before after text end ended (inr wrong) status = absurd (not_none wrong.0 (sym wrong.1.1.status ∙ status))
 
-part_taken : (by : Duty) (journal : List Entry) (gate gate' : Outlet) (content : Content) (report : PartReport) → HasWorked by journal gate gate' report →
+part_taken : (serving : Serving) (by : Duty) (journal : List Entry) (gate gate' : Outlet) (content : Content) (report : PartReport) → HasWorked serving by journal gate gate' report →
     report.end ≡ AllTaken → gate'.told ≡ Some content → (part : Part) × ((slice_index_or content.parts by.worker None ≡ Some part) × (part.last ≡ NoMore))
-part_taken by journal gate gate' content report worked taken told =
+part_taken serving by journal gate gate' content report worked taken told =
     let back : HasBack by.worker worked.after.told content = subst (λ (t : Option Content). IfSome t (HasBack by.worker worked.after.told)) told worked.back in
     (back.0.own, (back.1.1, subst (λ (t : Option Content). IfSome t (λ c. c.own.last ≡ NoMore)) back.1.0 (worked.served.all taken)))
 
@@ -239,7 +248,7 @@ leaves_none_out before after seed serving ended gate (inr served) status told =
       count = subst (HasParts serving.listening.workers) told worked.split;
       each = λ worker inside.
           let within : worker < length worked.parts = omega (arith, inside, worked.count) in
-          part_taken (duty served.films (settings_of serving) seed worker) ended.journal.items before.gate after.gate gate (slice_index_or worked.parts worker none)
+          part_taken serving (duty served.films (settings_of serving) seed worker) ended.journal.items before.gate after.gate gate (slice_index_or worked.parts worker none)
           (worker_of served.films seed serving ended.journal.items before.gate after.gate worked.parts worked.each worker none within)
           (worked.left.taken (all_taken before after _ served.end ended served.ends status) worker none within) told;
     }

@@ -7,12 +7,11 @@ use Rattle.std.specs.Str.{bytes_eq}
 use Rattle.std.proofs.Math.Seq.{drop-cons, get_or-append_seam}
 use Rattle.std.proofs.lemmas.Bool.{and_parts, eq-eqb, leb-true, not-true, true≢false}
 use Rattle.std.proofs.lemmas.List.{length-map}
-use Rattle.std.proofs.lemmas.List.Elements.{All-cons, All-nil}
+use Rattle.std.proofs.lemmas.List.Elements.{All-cons, All-map, All-nil}
 use Rattle.std.proofs.lemmas.List.Folds.{list_any_at}
 use Rattle.vod_base.specs.Names.{is_good_name}
 use Rattle.film_frames.specs.declared.stores.Stored.{Stored}
 use Rattle.session.specs.Ranges.{AreFilms, names_of}
-use Rattle.session.specs.declared.settings.Settings.{Settings}
 use Rattle.turnstile.specs.declared.view.Joined.{Joined}
 use Rattle.conn.specs.Parts.{Outlet, duty}
 use Rattle.conn.specs.declared.reports.ConnReport.{ConnReport}
@@ -32,14 +31,15 @@ use Rattle.admission.specs.Makers.{made_by}
 use Rattle.station.specs.Seats.{Hall, Sitting, IsWhole}
 use Rattle.command_words.specs.Words.{Serving}
 use Rattle.troubles.specs.Causes.{IsReadTrouble}
+use Rattle.troubles.specs.declared.faults.Fault.{Fault}
 use Rattle.troubles.specs.declared.faults.Trouble.{Trouble}
 use Rattle.troubles.specs.declared.faults.Trouble.TheVariants.{Usage, Refused, StoreFault, SinkFault, NoMemory, GateFault, LinkFault}
 use Rattle.inputs.specs.Films.{IsHeldRefused}
-use Rattle.vodserve.specs.Worked.{AllWorked, AreLeft, HasOne, HasWorked, HaveWorked, IsHeld, IsOpenAs, opening_of, settings_of}
+use Rattle.vodserve.specs.Worked.{AllWorked, AreLeft, HasOne, HasWorked, HaveWorked, IsHeld, IsOpenAs, MayBeServed, opening_of, settings_of}
 use Rattle.vodserve.specs.Workers.{AreJoined, AreWorkers, HasFinished, IsMakeTrouble, report_of}
-use Rattle.vodserve.specs.Served.{HasFewer, IsJournal, IsNewlyOpen, IsServeTrouble, IsWordNamed}
+use Rattle.vodserve.specs.Served.{HasFewer, IsFirstRefused, IsJournal, IsNewlyOpen, IsServeTrouble, IsWordNamed}
 use Rattle.vodserve.specs.declared.workers.Worker.{Worker}
-use Rattle.vodserve.proofs.WorkerLemmas.{all_worked, counted_parts, risen_since, risen_some}
+use Rattle.vodserve.proofs.WorkerLemmas.{IsStationOf, all_worked, counted_parts, risen_since, risen_some}
 
 contains_seam : (xs ys zs : List (List ℕ)) (y : List ℕ) → zs ≡ xs ++ y ∷ ys → Contains zs y
 contains_seam xs ys zs y is = subst (λ (l : List (List ℕ)). Contains l y) (sym is)
@@ -53,14 +53,39 @@ values_rest key words i word h at =
     ∙ ap (λ (w : String Global). option_to_list (setting_value key (string_bytes w)) ++ values_of key (texts (drop (suc i) words))) (sym at)
     ∙ ap (λ (j : ℕ). option_to_list (setting_value key (string_bytes word)) ++ values_of key (texts (drop j words))) (sym (add-one i))
 
+-- the films of the words, at the film of a word
+word_split : (words : List (String Global)) (i : ℕ) (word : String Global) (so_far : List (List ℕ)) (name : List ℕ) → i < length words → word ≡ get_or words i word →
+    values_of (codes "film") (texts words) ≡ so_far ++ values_of (codes "film") (texts (drop i words)) → IsWordNamed (string_bytes word) name →
+    values_of (codes "film") (texts words) ≡ so_far ++ name ∷ values_of (codes "film") (texts (drop (i + 1) words))
+word_split words i word so_far name h at whole named =
+    whole ∙ ap (λ (vs : List (List ℕ)). so_far ++ vs) (values_rest (codes "film") words i word h at
+    ∙ ap (λ (o : Option (List ℕ)). option_to_list o ++ values_of (codes "film") (texts (drop (i + 1) words))) named)
+
 -- the film of a word is one of the films
 pub word_film : (words : List (String Global)) (i : ℕ) (word : String Global) (so_far : List (List ℕ)) (name : List ℕ) → i < length words → word ≡ get_or words i word →
     values_of (codes "film") (texts words) ≡ so_far ++ values_of (codes "film") (texts (drop i words)) → IsWordNamed (string_bytes word) name →
     Contains (values_of (codes "film") (texts words)) name
 word_film words i word so_far name h at whole named =
     contains_seam so_far (values_of (codes "film") (texts (drop (i + 1) words))) (values_of (codes "film") (texts words)) name
-    (whole ∙ ap (λ (vs : List (List ℕ)). so_far ++ vs) (values_rest (codes "film") words i word h at
-    ∙ ap (λ (o : Option (List ℕ)). option_to_list o ++ values_of (codes "film") (texts (drop (i + 1) words))) named))
+    (word_split words i word so_far name h at whole named)
+
+-- films that are held may be served
+pub all_accepted : (told : Option (List File)) (held : List File) (films : List Stored) → told ≡ Some held → All (IsHeld told) films → All (MayBeServed held) (names_of films)
+all_accepted told held films told_is all =
+    All-map (MayBeServed held) (λ (film : Stored). string_bytes film.name) films (λ i d inside. (all i d inside held told_is).1)
+
+-- where a film of a word is refused, it is the first one
+pub first_refused : (told : Option (List File)) (held : List File) (words : List (String Global)) (i : ℕ) (word : String Global) (films : List Stored) (name : List ℕ) (fault : Fault) →
+    i < length words → word ≡ get_or words i word →
+    values_of (codes "film") (texts words) ≡ names_of films ++ values_of (codes "film") (texts (drop i words)) → IsWordNamed (string_bytes word) name →
+    told ≡ Some held → All (IsHeld told) films → IsHeldRefused held name fault → IsFirstRefused (values_of (codes "film") (texts words)) held name fault
+first_refused told held words i word films name fault h at whole named told_is all refused = record {
+  before = names_of films;
+  rest = values_of (codes "film") (texts (drop (i + 1) words));
+  names_are = word_split words i word (names_of films) name h at whole named;
+  accepted = all_accepted told held films told_is all;
+  refused = refused;
+}
 
 bytes_same : (x : List ℕ) → bytes_eq x x ≡ true
 bytes_same [] = refl
@@ -97,14 +122,18 @@ films_are films names is named =
       differ = λ i j before inside. apart (names_of films) each.1 i j before (omega (arith, inside, long));
     }
 
--- a film that the library holds under its name
+-- a film that the library holds under its name, and that may be served
 pub held_film : (told : Option (List File)) (film : Stored) (name : List ℕ) → string_bytes film.name ≡ name →
-    ((held : List File) → told ≡ Some held → HoldsVideo held name film.film.bytes.items) → IsHeld told film
-held_film told film name named is = λ held told_is. subst (λ (n : List ℕ). HoldsVideo held n film.film.bytes.items) (sym named) (is held told_is)
+    ((held : List File) → told ≡ Some held → HoldsVideo held name film.film.bytes.items) →
+    ((held : List File) → told ≡ Some held → MayBeServed held name) → IsHeld told film
+held_film told film name named is may = λ held told_is. (
+  subst (λ (n : List ℕ). HoldsVideo held n film.film.bytes.items) (sym named) (is held told_is),
+  subst (MayBeServed held) (sym named) (may held told_is),
+)
 
 -- a trouble of reading keeps from serving
 pub read_serves : (serving : Serving) (told : Option (List File)) (faults faults' : ℕ) (gate gate' : Outlet) (t : Trouble) →
-    IsReadTrouble (Contains serving.films) IsHeldRefused told faults faults' t → IsServeTrouble serving told faults faults' gate gate' t
+    IsReadTrouble (Contains serving.films) (IsFirstRefused serving.films) told faults faults' t → IsServeTrouble serving told faults faults' gate gate' t
 read_serves serving told faults faults' gate gate' Usage is = is
 read_serves serving told faults faults' gate gate' (Refused name fault) is = is
 read_serves serving told faults faults' gate gate' (StoreFault name) is = is
@@ -154,12 +183,12 @@ pub have_worked : {G : Type 0} (told : G → Option Content) (faults : G → ℕ
     (workers : List (Worker G)) (seat : Sitting) (entries : List Entry) (gate gate' : Outlet) (end : PartEnd) (reports : List ConnReport) →
     AreWorkers told faults hall 0 workers → All (HasFinished told faults films (settings_of serving) seed) workers →
     AreJoined told hall (length workers) workers seat gate'.told → All (λ worker. 0 < faults worker.part → HasRisen gate.faults gate'.faults) workers →
-    IsWhole seat entries → length workers ≡ serving.listening.workers → IsOpenAs (opening_of serving) gate'.told → AreLeft (map report_of workers) end reports →
+    IsWhole seat entries → IsStationOf serving hall → length workers ≡ serving.listening.workers → IsOpenAs (opening_of serving) gate'.told → AreLeft (map report_of workers) end reports →
     HaveWorked films seed serving entries gate gate' end reports
-have_worked told faults films seed serving hall workers seat entries gate gate' end reports all finished back counted whole count open_as left = record {
+have_worked told faults films seed serving hall workers seat entries gate gate' end reports all finished back counted whole of_words count open_as left = record {
   parts = map report_of workers;
   count = length-map workers report_of ∙ count;
-  each = all_worked told faults films (settings_of serving) seed entries seat.seen gate gate' hall 0 workers all finished back.seen whole.seen back.back counted
+  each = all_worked told faults films serving seed entries seat.seen gate gate' hall 0 workers of_words all finished back.seen whole.seen back.back counted
       (subst (All (λ (joined : Joined). joined.mine ≡ made_by joined.number entries)) back.joined whole.joined);
   open_as = open_as;
   split = counted_parts (length workers) (length workers) serving.listening.workers gate'.told back.out count;
@@ -167,17 +196,17 @@ have_worked told faults films seed serving hall workers seat entries gate gate' 
 }
 
 -- the same from an earlier count of the gate's faults on
-worked_since : (films : List Stored) (settings : Settings) (seed : List ℕ) (entries : List Entry) (before gate gate' : Outlet) (from : ℕ) (parts : List PartReport) →
-    AllWorked films settings seed entries gate gate' from parts → before.faults ≤ gate.faults → AllWorked films settings seed entries before gate' from parts
-worked_since films settings seed entries before gate gate' from [] all low = tt
-worked_since films settings seed entries before gate gate' from (part ∷ parts) all low = (
+worked_since : (films : List Stored) (serving : Serving) (seed : List ℕ) (entries : List Entry) (before gate gate' : Outlet) (from : ℕ) (parts : List PartReport) →
+    AllWorked films serving seed entries gate gate' from parts → before.faults ≤ gate.faults → AllWorked films serving seed entries before gate' from parts
+worked_since films serving seed entries before gate gate' from [] all low = tt
+worked_since films serving seed entries before gate gate' from (part ∷ parts) all low = (
   record {
     seat = all.0.seat;
     left = all.0.left;
     part = all.0.part;
     after = all.0.after;
     served = all.0.served;
-    number = all.0.number;
+    terms = all.0.terms;
     mine = all.0.mine;
     untouched = all.0.untouched;
     seen = all.0.seen;
@@ -185,7 +214,7 @@ worked_since films settings seed entries before gate gate' from (part ∷ parts)
     back = all.0.back;
     counted = λ some. risen_since before.faults gate.faults gate'.faults (all.0.counted some) low;
   },
-  worked_since films settings seed entries before gate gate' (from + 1) parts all.1 low,
+  worked_since films serving seed entries before gate gate' (from + 1) parts all.1 low,
 )
 
 pub have_worked_since : (films : List Stored) (seed : List ℕ) (serving : Serving) (entries : List Entry) (before gate gate' : Outlet) (end : PartEnd) (reports : List ConnReport) →
@@ -194,33 +223,33 @@ have_worked_since films seed serving entries before gate gate' end reports worke
     record {
       parts = worked.parts;
       count = worked.count;
-      each = worked_since films (settings_of serving) seed entries before gate gate' 0 worked.parts worked.each low;
+      each = worked_since films serving seed entries before gate gate' 0 worked.parts worked.each low;
       open_as = worked.open_as;
       split = worked.split;
       left = worked.left;
     }
 
 -- the worker of a number
-pub worker_worked : (films : List Stored) (settings : Settings) (seed : List ℕ) (entries : List Entry) (gate gate' : Outlet) (from : ℕ) (parts : List PartReport) →
-    AllWorked films settings seed entries gate gate' from parts → (k : ℕ) (none : PartReport) → k < length parts →
-    HasWorked (duty films settings seed (from + k)) entries gate gate' (slice_index_or parts k none)
-worker_worked films settings seed entries gate gate' from [] all k none inside = absurd (omega (arith, inside))
-worker_worked films settings seed entries gate gate' from (part ∷ parts) all zero none inside =
-    subst (λ (n : ℕ). HasWorked (duty films settings seed n) entries gate gate' part) (sym (add-zero from)) all.0
-worker_worked films settings seed entries gate gate' from (part ∷ parts) all (suc k) none inside =
+pub worker_worked : (films : List Stored) (serving : Serving) (seed : List ℕ) (entries : List Entry) (gate gate' : Outlet) (from : ℕ) (parts : List PartReport) →
+    AllWorked films serving seed entries gate gate' from parts → (k : ℕ) (none : PartReport) → k < length parts →
+    HasWorked serving (duty films (settings_of serving) seed (from + k)) entries gate gate' (slice_index_or parts k none)
+worker_worked films serving seed entries gate gate' from [] all k none inside = absurd (omega (arith, inside))
+worker_worked films serving seed entries gate gate' from (part ∷ parts) all zero none inside =
+    subst (λ (n : ℕ). HasWorked serving (duty films (settings_of serving) seed n) entries gate gate' part) (sym (add-zero from)) all.0
+worker_worked films serving seed entries gate gate' from (part ∷ parts) all (suc k) none inside =
     let on : from + 1 + k ≡ from + suc k = omega arith in
-    subst (λ (n : ℕ). HasWorked (duty films settings seed n) entries gate gate' (slice_index_or parts k none)) on
-    (worker_worked films settings seed entries gate gate' (from + 1) parts all.1 k none (omega (arith, inside)))
+    subst (λ (n : ℕ). HasWorked serving (duty films (settings_of serving) seed n) entries gate gate' (slice_index_or parts k none)) on
+    (worker_worked films serving seed entries gate gate' (from + 1) parts all.1 k none (omega (arith, inside)))
 
 -- a part that failed was counted
-fault_counted : (films : List Stored) (settings : Settings) (seed : List ℕ) (entries : List Entry) (gate gate' : Outlet) (parts : List PartReport) →
-    AllWorked films settings seed entries gate gate' 0 parts → HasOne PartFault parts → HasRisen gate.faults gate'.faults
-fault_counted films settings seed entries gate gate' [] all one = absurd (omega (arith, one.inside))
-fault_counted films settings seed entries gate gate' (part ∷ parts) all one =
-    let worked = worker_worked films settings seed entries gate gate' 0 (part ∷ parts) all one.worker part one.inside in
+fault_counted : (films : List Stored) (serving : Serving) (seed : List ℕ) (entries : List Entry) (gate gate' : Outlet) (parts : List PartReport) →
+    AllWorked films serving seed entries gate gate' 0 parts → HasOne PartFault parts → HasRisen gate.faults gate'.faults
+fault_counted films serving seed entries gate gate' [] all one = absurd (omega (arith, one.inside))
+fault_counted films serving seed entries gate gate' (part ∷ parts) all one =
+    let worked = worker_worked films serving seed entries gate gate' 0 (part ∷ parts) all one.worker part one.inside in
     worked.counted (risen_some 0 worked.after.faults (worked.served.fault (one.ended part)))
 
 pub fault_risen : (films : List Stored) (seed : List ℕ) (serving : Serving) (entries : List Entry) (gate gate' : Outlet) (end : PartEnd) (reports : List ConnReport) →
     HaveWorked films seed serving entries gate gate' end reports → end ≡ PartFault → HasRisen gate.faults gate'.faults
 fault_risen films seed serving entries gate gate' end reports worked is =
-    fault_counted films (settings_of serving) seed entries gate gate' worked.parts worked.each (worked.left.failed is)
+    fault_counted films serving seed entries gate gate' worked.parts worked.each (worked.left.failed is)

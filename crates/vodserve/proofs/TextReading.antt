@@ -21,7 +21,8 @@ use Rattle.troubles.specs.Said.{number_text}
 use Rattle.troubles.proofs.WordLemmas.{AreShort, HasNo, none_by, numbers_back, numbers_of, split, split_words}
 use Rattle.vodserve.specs.ScanText.{film_line, kind_text, mark, scan_text, unit_line, unit_lines, unit_marks, unit_name, unit_places}
 use Rattle.vodserve.specs.Served.{journal_lines, last_line, served_text}
-use Rattle.vodserve.specs.TextLaws.{AreAlike, IsSameScan, IsShortFault, IsShortUnit, refused_line}
+use Rattle.vodserve.specs.TextLaws.{AreAlike, IsSameScan, IsShortFault, IsShortUnit}
+use Rattle.vodserve.specs.Verdict.{refused_line}
 use Rattle.vodserve.specs.Verdict.{cert_fault_text, fault_name, fault_number}
 use Rattle.vodserve.proofs.FieldLemmas.{AreCut, AreSame, field_cut, last_cut, line_cut, two_cut}
 
@@ -291,11 +292,11 @@ not_least fault e = let first : 114 ≡ 108 = ap (λ (l : List ℕ). get_or l 0 
 
 -- ---- a server
 -- all but the last line, and the last line without its end
-record HasLastLine (entries : List Entry) (connections : ℕ) : Type 0 where
-  front : List ℕ
-  shape : served_text entries connections ≡ (front ++ 10 ∷ (codes "served connections=" ++ (decimal connections ++ 32 ∷ (codes "entries=" ++ decimal (length entries))))) ++ codes "\n"
+pub record HasLastLine (entries : List Entry) (connections : ℕ) : Type 0 where
+  pub front : List ℕ
+  pub shape : served_text entries connections ≡ (front ++ 10 ∷ (codes "served connections=" ++ (decimal connections ++ 32 ∷ (codes "entries=" ++ decimal (length entries))))) ++ codes "\n"
 
-last_line_of : (entries : List Entry) (connections : ℕ) → HasLastLine entries connections
+pub last_line_of : (entries : List Entry) (connections : ℕ) → HasLastLine entries connections
 last_line_of entries connections =
     let slots = flat_map (slot_line (booked_in (state_after entries))) (booked_slots (state_after entries).now (booked_in (state_after entries))) in
     record {
@@ -303,7 +304,7 @@ last_line_of entries connections =
       shape = simp append_assoc;
     }
 
-last_clean : (connections entries : ℕ) → connections < 2 ^ 64 → entries < 2 ^ 64 →
+pub last_clean : (connections entries : ℕ) → connections < 2 ^ 64 → entries < 2 ^ 64 →
     All (λ b. b ≢ 10) (codes "served connections=" ++ (decimal connections ++ 32 ∷ (codes "entries=" ++ decimal entries)))
 last_clean connections entries small small' =
     let digits : (n : ℕ) → n < 2 ^ 64 → HasNo 10 (decimal n) = λ (n : ℕ) few. not_in_decimal 10 n few (λ within. omega (arith, within.0)) in

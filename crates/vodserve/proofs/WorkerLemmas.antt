@@ -14,18 +14,20 @@ use Rattle.vod_base.specs.declared.gates.Opening.{Opening}
 use Rattle.film_frames.specs.declared.stores.Stored.{Stored}
 use Rattle.admission.specs.declared.entries.Entry.{Entry}
 use Rattle.admission.specs.Makers.{made_by}
+use Rattle.slot_calendar.specs.declared.profiles.CapStep.{CapStep}
 use Rattle.turnstile.specs.Passes.{IsJoined}
 use Rattle.turnstile.specs.declared.view.Joined.{Joined}
 use Rattle.turnstile.proofs.Prefixes.{prefix_trans}
-use Rattle.session.specs.declared.settings.Settings.{Settings}
-use Rattle.station.specs.Seats.{AllJoined, Hall, Sitting, after_join}
+use Rattle.conn.specs.Journals.{Terms, terms_of}
+use Rattle.station.specs.Seats.{AllJoined, Hall, IsSameSeat, Sitting, after_join}
 use Rattle.conn.specs.Parts.{IsServed, IsUntouched, Outlet, duty, outlet}
 use Rattle.conn.specs.declared.reports.ConnReport.{ConnReport}
 use Rattle.conn.specs.declared.reports.PartReport.{PartReport}
 use Rattle.conn.specs.declared.reports.PartEnd.{PartEnd}
+use Rattle.command_words.specs.Words.{Serving}
 use Rattle.conn.specs.declared.reports.PartEnd.TheVariants.{AllTaken, GateFault as PartFault, NoMemory}
 use Rattle.vodserve.specs.Served.{HasFewer}
-use Rattle.vodserve.specs.Worked.{AllWorked, AreLeft, HasBack, HasOne, HasParts, HasWorked, IsOpenAs, IsWorse, all_reports}
+use Rattle.vodserve.specs.Worked.{AllWorked, AreLeft, HasBack, HasOne, HasParts, HasWorked, IsOpenAs, IsWorse, all_reports, settings_of, terms_for}
 use Rattle.vodserve.specs.Workers.{AreBack, AreJoined, AreOut, AreWorkers, HasFinished, IsWorker, joined_of, report_of}
 use Rattle.vodserve.specs.declared.workers.Worker.{Worker}
 
@@ -280,18 +282,34 @@ left_short parts reports = record {
   whole = inl refl;
 }
 
+-- a station has the capacity and the limit that the words say
+pub record IsStationOf (serving : Serving) (hall : Hall) : Type 0 where
+  pub steps : hall.steps ≡ serving.capacity
+  pub limit : hall.limit ≡ serving.journal
+
+abbrev terms_with : List CapStep → ℕ → ℕ → Terms
+terms_with steps limit maker = record { steps = steps; limit = limit; maker = maker }
+
+-- so has each seat of it
+seat_terms : (serving : Serving) (hall : Hall) (seat left : Sitting) (worker : ℕ) → IsStationOf serving hall → IsSameSeat seat left → left.steps ≡ hall.steps →
+    left.limit ≡ hall.limit → left.number ≡ worker + 1 → terms_of seat ≡ terms_for serving worker
+seat_terms serving hall seat left worker is same steps limit number =
+    ap (λ (s : List CapStep). terms_with s seat.limit seat.number) (sym same.steps ∙ steps ∙ is.steps)
+    ∙ ap (λ (l : ℕ). terms_with serving.capacity l seat.number) (sym same.limit ∙ limit ∙ is.limit)
+    ∙ ap (λ (n : ℕ). terms_with serving.capacity serving.journal n) (sym same.number ∙ number)
+
 -- a worker that served, as the closed journal and the gate tell of it
-one_worked : {G : Type 0} (told : G → Option Content) (faults : G → ℕ) (films : List Stored) (settings : Settings) (seed : List ℕ) (journal seen : List Entry) (gate gate' : Outlet)
-    (hall : Hall) (worker : Worker G) → IsWorker told faults hall worker → HasFinished told faults films settings seed worker → IsPrefix worker.seat.seen seen → IsPrefix seen journal →
+one_worked : {G : Type 0} (told : G → Option Content) (faults : G → ℕ) (films : List Stored) (serving : Serving) (seed : List ℕ) (journal seen : List Entry) (gate gate' : Outlet)
+    (hall : Hall) (worker : Worker G) → IsStationOf serving hall → IsWorker told faults hall worker → HasFinished told faults films (settings_of serving) seed worker → IsPrefix worker.seat.seen seen → IsPrefix seen journal →
     IfSome gate'.told (HasBack worker.number (told worker.part)) → (0 < faults worker.part → HasRisen gate.faults gate'.faults) →
-    worker.seat.mine ≡ made_by worker.seat.number journal → HasWorked (duty films settings seed worker.number) journal gate gate' worker.report
-one_worked told faults films settings seed journal seen gate gate' hall worker is finished front whole back counted made = record {
+    worker.seat.mine ≡ made_by worker.seat.number journal → HasWorked serving (duty films (settings_of serving) seed worker.number) journal gate gate' worker.report
+one_worked told faults films serving seed journal seen gate gate' hall worker of_words is finished front whole back counted made = record {
   seat = finished.seat;
   left = worker.seat;
   part = finished.part;
   after = outlet (faults worker.part) (told worker.part);
   served = finished.served;
-  number = finished.number;
+  terms = seat_terms serving hall finished.seat worker.seat worker.number of_words finished.served.seat is.steps is.limit is.seat;
   mine = finished.mine;
   untouched = finished.untouched;
   seen = prefix_trans worker.seat.seen seen journal front whole;
@@ -300,22 +318,23 @@ one_worked told faults films settings seed journal seen gate gate' hall worker i
   counted = counted;
 }
 
-pub all_worked : {G : Type 0} (told : G → Option Content) (faults : G → ℕ) (films : List Stored) (settings : Settings) (seed : List ℕ) (journal seen : List Entry)
-    (gate gate' : Outlet) (hall : Hall) (from : ℕ) (workers : List (Worker G)) → AreWorkers told faults hall from workers → All (HasFinished told faults films settings seed) workers →
+pub all_worked : {G : Type 0} (told : G → Option Content) (faults : G → ℕ) (films : List Stored) (serving : Serving) (seed : List ℕ) (journal seen : List Entry)
+    (gate gate' : Outlet) (hall : Hall) (from : ℕ) (workers : List (Worker G)) → IsStationOf serving hall → AreWorkers told faults hall from workers →
+    All (HasFinished told faults films (settings_of serving) seed) workers →
     All (λ worker. IsPrefix worker.seat.seen seen) workers → IsPrefix seen journal → AreBack told gate'.told from workers →
     All (λ worker. 0 < faults worker.part → HasRisen gate.faults gate'.faults) workers → All (λ joined. joined.mine ≡ made_by joined.number journal) (map joined_of workers) →
-    AllWorked films settings seed journal gate gate' from (map report_of workers)
-all_worked told faults films settings seed journal seen gate gate' hall from [] all finished front whole back counted made = tt
-all_worked told faults films settings seed journal seen gate gate' hall from (worker ∷ workers) all finished front whole back counted made =
-    let Ends : Worker _ → Type 0 = HasFinished told faults films settings seed in
+    AllWorked films serving seed journal gate gate' from (map report_of workers)
+all_worked told faults films serving seed journal seen gate gate' hall from [] of_words all finished front whole back counted made = tt
+all_worked told faults films serving seed journal seen gate gate' hall from (worker ∷ workers) of_words all finished front whole back counted made =
+    let Ends : Worker _ → Type 0 = HasFinished told faults films (settings_of serving) seed in
     let Saw : Worker _ → Type 0 = λ worker. IsPrefix worker.seat.seen seen in
     let Counts : Worker _ → Type 0 = λ worker. 0 < faults worker.part → HasRisen gate.faults gate'.faults in
     let Made : Joined → Type 0 = λ joined. joined.mine ≡ made_by joined.number journal in (
-      subst (λ (n : ℕ). HasWorked (duty films settings seed n) journal gate gate' worker.report) all.0
-          (one_worked told faults films settings seed journal seen gate gate' hall worker all.1 (All-head Ends worker workers finished) (All-head Saw worker workers front) whole
+      subst (λ (n : ℕ). HasWorked serving (duty films (settings_of serving) seed n) journal gate gate' worker.report) all.0
+          (one_worked told faults films serving seed journal seen gate gate' hall worker of_words all.1 (All-head Ends worker workers finished) (All-head Saw worker workers front) whole
           (subst (λ (n : ℕ). IfSome gate'.told (HasBack n (told worker.part))) (sym all.0) back.0) (All-head Counts worker workers counted)
           (All-head Made (joined_of worker) (map joined_of workers) made)),
-      all_worked told faults films settings seed journal seen gate gate' hall (from + 1) workers all.2 (All-tail Ends worker workers finished) (All-tail Saw worker workers front) whole back.1
+      all_worked told faults films serving seed journal seen gate gate' hall (from + 1) workers of_words all.2 (All-tail Ends worker workers finished) (All-tail Saw worker workers front) whole back.1
           (All-tail Counts worker workers counted) (All-tail Made (joined_of worker) (map joined_of workers) made),
     )
 

@@ -1,8 +1,10 @@
 -- What carrying out the words gives, as a library holds its files.
 use Rattle.std.specs.List.{Contains}
-use Rattle.std.specs.Prelude.{◌≡◌, ◌≤◌, ◌⊎◌, ℕ, List, Option, Some, None}
+use Rattle.std.specs.Prelude.{◌≡◌, ◌⊎◌, ℕ, List, Option, Some, None, codes}
 use Rattle.vod_base.specs.Outside.{File}
 use Rattle.plan_cert.specs.declared.Segment.{Segment}
+use Rattle.plan_cert.specs.Text.{cert_text}
+use Rattle.cert_check.specs.declared.CertFault.{CertFault}
 use Rattle.film_make.specs.Generator.{words_of}
 use Rattle.film_make.specs.Trace.{trace_of}
 use Rattle.film_make.specs.Film.{film_of}
@@ -17,6 +19,7 @@ use Rattle.troubles.specs.declared.faults.Fault.{Fault}
 pub use Rattle.vodserve.specs.Plans.{IsCertRefused, IsChecked, IsPlanned, IsViewerRefused}
 use Rattle.vodserve.specs.ScanText.{scan_text}
 use Rattle.vodserve.specs.Texts.{help_text, version_text}
+use Rattle.vodserve.specs.Verdict.{refused_line}
 
 -- the film that the library holds is accepted, and its size, rate and units are printed
 pub record IsScanned (held : List File) (film text : List ℕ) : Type 0 where
@@ -36,15 +39,32 @@ made_text made_system seed pictures = system_of (film_of (words_of seed) picture
 abbrev pub IfTold : Option (List File) → (List File → Type 0) → Type 0
 IfTold told P = (held : List File) → told ≡ Some held → P held
 
+-- the text is the certificate of the plan
+abbrev pub IsCertificateOf : List ℕ → Option (List Segment) → Type 0
+IsCertificateOf text plan =
+    (segments : List Segment) × ((plan ≡ Some segments) × (text ≡ cert_text segments))
+
+-- the line of a verdict: with status 0 that of the best plan, with status 1 that of a fault
+abbrev pub IsVerdictLine : ℕ → List ℕ → Type 0
+IsVerdictLine status text = ((status ≡ 0) × (text ≡ codes "least\n"))
+    ⊎ ((fault : CertFault) × ((status ≡ 1) × (text ≡ refused_line fault)))
+
+-- the text is that of some film's scan
+pub record IsSomeScan (text : List ℕ) : Type 0 where
+  pub size : ℕ
+  pub rate : ℕ
+  pub units : List PictureUnit
+  pub printed : text ≡ scan_text size rate units
+
 -- the status, the text for the output and the plan of what is asked for. What `--help`, `--version`
--- and `make` give is the same over every library, also one that tells nothing; and status 1 is that
--- of `check` alone
+-- and `make` give is the same over every library, also one that tells nothing; over each library a
+-- plan is given with its certificate, and status 1 is that of `check` alone
 abbrev pub IsDone : Option (List File) → Order → ℕ → List ℕ → Option (List Segment) → Type 0
 IsDone told help status text plan = (status ≡ 0) × (plan ≡ None) × (text ≡ help_text)
 IsDone told version status text plan = (status ≡ 0) × (plan ≡ None) × (text ≡ version_text)
 IsDone told (plan_of viewer) status text plan = (status ≡ 0)
-    × IfTold told (λ held. IsPlanned held viewer text plan)
-IsDone told (check_of viewer cert) status text plan = (status ≤ 1) × (plan ≡ None)
+    × IsCertificateOf text plan × IfTold told (λ held. IsPlanned held viewer text plan)
+IsDone told (check_of viewer cert) status text plan = IsVerdictLine status text × (plan ≡ None)
     × IfTold told (λ held. IsChecked held viewer cert status text)
 IsDone told (day_of run) status text plan = ⊥
 IsDone told (fair_of run) status text plan = ⊥
@@ -52,7 +72,7 @@ IsDone told (watch_of watching) status text plan = ⊥
 IsDone told (make_of kind seed pictures) status text plan = (status ≡ 0) × (plan ≡ None)
     × (text ≡ made_text kind seed pictures)
 IsDone told (scan_of film) status text plan = (status ≡ 0) × (plan ≡ None)
-    × IfTold told (λ held. IsScanned held film text)
+    × IsSomeScan text × IfTold told (λ held. IsScanned held film text)
 IsDone told (serve_of serving) status text plan = ⊥
 
 -- the inputs that are read

@@ -1,5 +1,5 @@
 -- What `day` reads, and why it is refused.
-use Rattle.std.specs.Prelude.{◌≡◌, ◌⊎◌, ℕ, ◌<◌, Bool, true, false, List, length, map, slice_index_or, Option, Some, string_bytes}
+use Rattle.std.specs.Prelude.{◌≡◌, ◌⊎◌, ℕ, ◌<◌, Bool, true, false, List, ◌∷◌, ◌++◌, All, length, map, slice_index_or, Option, Some, string_bytes}
 use Rattle.std.specs.List.{Contains}
 use Rattle.vod_base.specs.Outside.{File, file_named}
 use Rattle.troubles.specs.declared.faults.Fault.{Fault}
@@ -46,11 +46,19 @@ IsRefusedAs false held name fault = IsTraceRefused held name fault
 abbrev pub IsNamedRefused : Named → List File → List ℕ → Fault → Type 0
 IsNamedRefused named held name fault = IsRefusedAs named.film held name fault
 
--- one of these films and traces has that name, and is refused
-pub record IsOneRefused (named : List Named) (held : List File) (name : List ℕ) (fault : Fault)
-    : Type 0 where
+-- there is no reason to refuse a film or trace
+abbrev pub IsNotRefusedAs : List File → Named → Type 0
+IsNotRefusedAs held named =
+    (fault : Fault) → IsNamedRefused named held (string_bytes named.name) fault → ⊥
+
+-- the first of these films and traces that is refused has that name; each before it isn't refused
+pub record IsFirstNamedRefused (named : List Named) (held : List File) (name : List ℕ)
+    (fault : Fault) : Type 0 where
+  pub before : List Named
   pub one : Named
-  pub inside : Contains named one
+  pub rest : List Named
+  pub named_are : named ≡ before ++ one ∷ rest
+  pub accepted : All (IsNotRefusedAs held) before
   pub name_is : IsNameOf one name
   pub refused : IsNamedRefused one held name fault
 
@@ -79,9 +87,10 @@ IsPlayed told script name =
 abbrev pub IsDayInput : Option (List File) → List ℕ → List ℕ → Type 0
 IsDayInput told script name = (name ≡ script) ⊎ IsPlayed told script name
 
--- the script is refused; or it is read, and one of the films and traces that it names is refused
+-- the script is refused; or it is read, and one of the films and traces that it names is refused:
+-- the first, in their order
 abbrev pub IsDayRefused : List ℕ → List File → List ℕ → Fault → Type 0
 IsDayRefused script held name fault =
     ((name ≡ script) × IsScriptRefused held name fault)
     ⊎ ((read : Script)
-    × (HoldsScript held script read × IsOneRefused read.named.items held name fault))
+    × (HoldsScript held script read × IsFirstNamedRefused read.named.items held name fault))

@@ -10,6 +10,7 @@ use Rattle.admission.specs.Makers.{made_by}
 use Rattle.session.specs.declared.notes.Receipt.{Receipt}
 use Rattle.session.specs.declared.notes.Receipt.TheVariants.{Entry as EntryReceipt, Full as FullReceipt}
 use Rattle.station.specs.Seats.{Sitting}
+use Rattle.conn.specs.Journals.{terms_of}
 use Rattle.conn.specs.Keeping.{receipt_for}
 use Rattle.conn.specs.Parts.{HasServedOne, entries_told}
 use Rattle.conn.specs.Words.{words_of}
@@ -18,8 +19,9 @@ use Rattle.conn.specs.declared.reports.PartReport.{PartReport}
 use Rattle.inputs.specs.Films.{IsHeldRefused}
 use Rattle.troubles.specs.declared.faults.Fault.{Fault}
 use Rattle.command_words.specs.Words.{Serving}
-use Rattle.vodserve.specs.Worked.{AreLoaded, all_reports, opening_of, settings_of}
-use Rattle.vodserve.specs.Run.{Serves, World}
+use Rattle.vodserve.specs.Worked.{AreLoaded, all_reports, opening_of, settings_of, terms_for}
+use Rattle.vodserve.specs.Run.{HasServedNothing, Serves, World}
+use Rattle.vodserve.specs.Served.{IsJournal}
 use Rattle.vodserve.specs.declared.run.Ended.{Ended}
 
 -- the library tells what it holds, and refuses no film that the words name
@@ -42,6 +44,14 @@ ServesWhatItMay =
     (before after : World) (seed : List ℕ) (serving : Serving) (ended : Ended) →
     Serves before after seed serving ended → IsServable serving before.store.told →
     HasNoFault before after → (ended.status ≡ 0) ⊎ (ended.status ≡ 6)
+
+-- a film that is refused is never served: the server does nothing, and says so by its status
+abbrev pub ServesNoRefused : Type 0
+ServesNoRefused =
+    (before after : World) (seed : List ℕ) (serving : Serving) (ended : Ended) (held : List File)
+    (name : List ℕ) (fault : Fault) → Serves before after seed serving ended →
+    before.store.told ≡ Some held → Contains serving.films name → IsHeldRefused held name fault →
+    (ended.status ≢ 0) × (after.out ≡ before.out) × HasServedNothing ended
 
 -- the workers of a server ran: with status 0 or 5, and with 7 where as many parts as workers were
 -- split from the gate
@@ -100,7 +110,8 @@ TellsItsJournal =
 
 -- a connection of a worker, the one of that place among those of its part, from 0: its report has
 -- the worker's number and the connection's words, it was served as the report tells and kept what
--- it promises, what its seat made up to its end are the first of the journal's entries of that
+-- it promises, under the capacity and the most entries that the words say. What its seat, of the
+-- number after the worker's own, made up to its end are the first of the journal's entries of that
 -- seat, and all that the seat had seen by then is the journal's front
 pub record IsServedBy (films : List Stored) (seed : List ℕ) (serving : Serving)
     (journal : List Entry) (worker place : ℕ) (returned : Returned) (report : ConnReport)
@@ -110,6 +121,7 @@ pub record IsServedBy (films : List Stored) (seed : List ℕ) (serving : Serving
   pub old : Sitting
   pub new : Sitting
   pub served : HasServedOne films (settings_of serving) returned report old new
+  pub terms : terms_of new ≡ terms_for serving worker
   pub entries : IsPrefix new.mine (made_by (worker + 1) journal)
   pub seen : IsPrefix new.seen journal
 
@@ -123,12 +135,14 @@ pub record IsServedPart (films : List Stored) (seed : List ℕ) (serving : Servi
       (slice_index_or reports k no_report)
   pub entries : entries_told reports ≡ map receipt_for (made_by (worker + 1) journal)
 
--- the films are those of the library, each connection of each worker was served, and the reports
--- are those of the first worker, then those of the next, and so on
+-- the films are those of the library, the journal is a legal history over the capacity, each
+-- connection of each worker was served, and the reports are those of the first worker, then those
+-- of the next, and so on
 pub record HasServedAll (before : World) (seed : List ℕ) (serving : Serving) (ended : Ended)
     (gate : Content) : Type 0 where
   pub films : List Stored
   pub loaded : AreLoaded before.store.told serving.films films
+  pub journal : IsJournal serving ended.journal.items
   pub parts : List PartReport
   pub count : length parts ≡ serving.listening.workers
   pub reports : ended.reports.items ≡ all_reports parts

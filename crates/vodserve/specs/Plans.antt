@@ -20,7 +20,7 @@ use Rattle.inputs.specs.Traces.{IsTraceText, IsBadTrace as IsBadTraceText}
 use Rattle.command_words.specs.Words.{Source, trace_source, film_source, Viewer}
 use Rattle.troubles.specs.declared.faults.Fault.{Fault}
 use Rattle.troubles.specs.declared.faults.Fault.TheVariants.{BadTrace, Curves, BadCert}
-use Rattle.vodserve.specs.Verdict.{cert_fault_text}
+use Rattle.vodserve.specs.Verdict.{refused_line}
 
 -- ---- the pictures that are planned
 
@@ -127,7 +127,7 @@ IsVerdict from low up segments status text =
     ((status ≡ 0) × IsBestPlan from low up segments × (text ≡ codes "least\n"))
     ⊎ ((fault : CertFault)
     × ((status ≡ 1) × IsFirstFault from low up segments fault
-    × (text ≡ codes "refused " ++ cert_fault_text fault ++ codes "\n")))
+    × (text ≡ refused_line fault)))
 
 -- the verdict on the segments of the certificate that the library holds, under the curves of the
 -- trace or film

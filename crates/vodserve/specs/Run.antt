@@ -24,13 +24,13 @@ use Rattle.troubles.specs.Causes.{IsReadOnly, IsReadTrouble}
 use Rattle.troubles.specs.declared.faults.Trouble.{Trouble}
 use Rattle.troubles.specs.declared.faults.Trouble.TheVariants.{Usage, Refused, StoreFault, SinkFault, NoMemory, GateFault, LinkFault}
 use Rattle.troubles.specs.declared.faults.Fault.TheVariants.{NoConnection}
-use Rattle.vodserve.specs.Watches.{HasHeardFilm, HasPart, IsWishOf, idle_part, refusal_of, watched_text}
+use Rattle.vodserve.specs.Watches.{HasHeardFilm, HasPart, IsWishOf, idle_part, opening_at, refusal_of, watched_text}
 use Rattle.vod_base.specs.Gates.{Content}
 use Rattle.film_frames.specs.declared.stores.Stored.{Stored}
 use Rattle.conn.specs.Parts.{Outlet, outlet}
 use Rattle.conn.specs.declared.reports.PartEnd.{PartEnd}
 use Rattle.conn.specs.declared.reports.PartEnd.TheVariants.{GateFault as PartFault}
-use Rattle.vodserve.specs.Worked.{AreLoaded, HaveWorked}
+use Rattle.vodserve.specs.Worked.{AreLoaded, HaveWorked, IsOpenAs}
 use Rattle.vodserve.specs.Served.{IsJournal, IsPrinted, IsServeTrouble, served_text}
 use Rattle.vodserve.specs.Carrying.{IfTold, IsDone, IsRead, IsInputRefused}
 use Rattle.vodserve.specs.declared.done.Done.{Done}
@@ -220,13 +220,18 @@ RunsFair out out' err err' run ended =
     HasNotRun out out' err err' (λ trouble. trouble ≡ NoMemory) ended
     ⊎ HasRun out out' err err' run.capacity (IsFair run.capacity run.seed run.plays) ended
 
--- what keeps a client from a film: no connection; the gate, which counted a fault; or want of memory
-abbrev pub IsWatchTrouble : List ℕ → Outlet → Outlet → Trouble → Type 0
-IsWatchTrouble film gate gate' (Refused name NoConnection) =
-    (name.now ≡ film) × HasPart gate'.told idle_part
-IsWatchTrouble film gate gate' NoMemory = ⊤
-IsWatchTrouble film gate gate' GateFault = HasRisen gate.faults gate'.faults
-IsWatchTrouble film gate gate' _ = ⊥
+-- a gate was opened for a client as the words say
+abbrev pub IsOpenFor : Watching → Outlet → Type 0
+IsOpenFor watching gate = IsOpenAs (opening_at watching.port watching.pace.slot) gate.told
+
+-- what keeps a client from a film: no connection at the port; the gate, which counted a fault; or
+-- want of memory
+abbrev pub IsWatchTrouble : Watching → Outlet → Outlet → Trouble → Type 0
+IsWatchTrouble watching gate gate' (Refused name NoConnection) =
+    (name.now ≡ watching.film) × IsOpenFor watching gate' × HasPart gate'.told idle_part
+IsWatchTrouble watching gate gate' NoMemory = ⊤
+IsWatchTrouble watching gate gate' GateFault = HasRisen gate.faults gate'.faults
+IsWatchTrouble watching gate gate' _ = ⊥
 
 -- a server's fault, as the refusal of the film
 abbrev pub IsRefusalOf : List ℕ → WatchFault → Trouble → Type 0
@@ -249,11 +254,12 @@ EndsWatch err err' film WatchLinkFault ended = Fails err err' LinkFault ended
 EndsWatch err err' film WatchSinkFault ended = Fails err err' SinkFault ended
 EndsWatch err err' film WatchNoMemory ended = Fails err err' NoMemory ended
 
--- a client that watched a film over the gate's one connection
+-- a client that watched a film over the one connection of a gate that was opened as the words say
 pub record HasWatchedFilm (out out' err err' : Seen (List ℕ)) (gate' : Outlet)
     (watching : Watching) (ended : Ended) : Type 0 where
   pub wish : Wish
   pub wish_is : IsWishOf watching wish
+  pub open_as : IsOpenFor watching gate'
   pub end : WatchEnd
   pub heard : HasHeardFilm wish gate'.told out.faults out'.faults out.told out'.told end
   pub nothing : HasServedNothing ended
@@ -264,7 +270,7 @@ abbrev pub Watches : Seen (List ℕ) → Seen (List ℕ) → Seen (List ℕ) →
     Outlet → Watching → Ended → Type 0
 Watches out out' err err' gate gate' watching ended =
     ((trouble : Trouble)
-    × (IsWatchTrouble watching.film gate gate' trouble × (out' ≡ out) × HasServedNothing ended
+    × (IsWatchTrouble watching gate gate' trouble × (out' ≡ out) × HasServedNothing ended
     × Fails err err' trouble ended))
     ⊎ HasWatchedFilm out out' err err' gate' watching ended
 

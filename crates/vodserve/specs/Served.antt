@@ -1,5 +1,5 @@
 -- What a server prints and leaves.
-use Rattle.std.specs.Prelude.{◌≡◌, ◌≢◌, ℕ, ◌+◌, ◌<◌, List, [], ◌∷◌, ◌++◌, length, codes, decimal, Option, Some, None, IfSome}
+use Rattle.std.specs.Prelude.{◌≡◌, ◌≢◌, ℕ, ◌+◌, ◌<◌, List, [], ◌∷◌, ◌++◌, length, codes, decimal, All, Option, Some, None, IfSome}
 use Rattle.std.specs.List.{Contains}
 use Rattle.vod_base.specs.Outside.{File, HasRisen, IsFrontMore, more}
 use Rattle.vod_base.specs.Gates.{Content}
@@ -15,10 +15,12 @@ use Rattle.report.specs.EntryLines.{entry_line}
 use Rattle.report.specs.CalendarTexts.{calendar_text}
 use Rattle.inputs.specs.Films.{IsHeldRefused}
 use Rattle.troubles.specs.Causes.{IsReadTrouble}
+use Rattle.troubles.specs.declared.faults.Fault.{Fault}
 use Rattle.troubles.specs.declared.faults.Trouble.{Trouble}
 use Rattle.troubles.specs.declared.faults.Trouble.TheVariants.{Refused, StoreFault, SinkFault, NoMemory, GateFault}
 use Rattle.command_words.specs.Settings.{setting_value}
 use Rattle.command_words.specs.Words.{Serving}
+use Rattle.vodserve.specs.Worked.{MayBeServed}
 
 -- the lines of entries, of which the first stands at a place
 abbrev pub journal_lines : ℕ → List Entry → List ℕ
@@ -50,14 +52,25 @@ pub record IsJournal (serving : Serving) (entries : List Entry) : Type 0 where
 abbrev pub HasFewer : ℕ → Option Content → Type 0
 HasFewer workers told = IfSome told (λ content. length content.parts < workers)
 
--- what keeps a server from its work: a film, the library, memory, or the gate, which counted a
--- fault and gave a part too few
+-- the first film of these names that is refused: each before it may be served
+pub record IsFirstRefused (names : List (List ℕ)) (held : List File) (name : List ℕ) (fault : Fault)
+    : Type 0 where
+  pub before : List (List ℕ)
+  pub rest : List (List ℕ)
+  pub names_are : names ≡ before ++ name ∷ rest
+  pub accepted : All (MayBeServed held) before
+  pub refused : IsHeldRefused held name fault
+
+-- what keeps a server from its work: the first film that is refused, in the order of the words; the
+-- library, memory, or the gate, which counted a fault and gave a part too few
 abbrev pub IsServeTrouble : Serving → Option (List File) → ℕ → ℕ → Outlet → Outlet → Trouble →
     Type 0
 IsServeTrouble serving told faults faults' gate gate' (Refused name fault) =
-    IsReadTrouble (Contains serving.films) IsHeldRefused told faults faults' (Refused name fault)
+    IsReadTrouble (Contains serving.films) (IsFirstRefused serving.films) told faults faults'
+    (Refused name fault)
 IsServeTrouble serving told faults faults' gate gate' (StoreFault name) =
-    IsReadTrouble (Contains serving.films) IsHeldRefused told faults faults' (StoreFault name)
+    IsReadTrouble (Contains serving.films) (IsFirstRefused serving.films) told faults faults'
+    (StoreFault name)
 IsServeTrouble serving told faults faults' gate gate' NoMemory = Unit {0}
 IsServeTrouble serving told faults faults' gate gate' GateFault =
     HasRisen gate.faults gate'.faults × HasFewer serving.listening.workers gate'.told

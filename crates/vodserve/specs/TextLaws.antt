@@ -1,13 +1,15 @@
 -- What a reader of the output can tell from it.
-use Rattle.std.specs.Prelude.{ℕ, ◌≡◌, ◌<◌, ◌^◌, List, ◌++◌, All, IfSome, codes}
-use Rattle.std.specs.List.{AllZip}
+use Rattle.std.specs.Prelude.{ℕ, ◌≡◌, ◌≢◌, ◌<◌, ◌^◌, ◌==◌, ◌||◌, List, [], ◌∷◌, ◌++◌, All, IfSome}
+use Rattle.std.specs.Prelude.{codes, decimal, length}
+use Rattle.std.specs.List.{AllZip, slice_split}
 use Rattle.mpeg_scan.specs.declared.units.Unit.{Unit as PictureUnit}
 use Rattle.cert_check.specs.declared.CertFault.{CertFault}
-use Rattle.vodserve.specs.Verdict.{cert_fault_text, fault_number}
-
--- the line that names a certificate's fault
-abbrev pub refused_line : CertFault → List ℕ
-refused_line fault = codes "refused " ++ cert_fault_text fault ++ codes "\n"
+use Rattle.command_words.specs.Settings.{values_of}
+use Rattle.rtsp_client.specs.Meters.{count_over, count_under, most}
+use Rattle.rtsp_client.specs.Moments.{History, frames, payloads, reports, sizes}
+use Rattle.rtsp_client.specs.declared.wishes.Watched.{Watched}
+use Rattle.rtsp_client.specs.declared.wishes.Wish.{Wish}
+use Rattle.vodserve.specs.Verdict.{fault_number}
 
 -- its number, if it has one, has 64 bits
 abbrev pub IsShortFault : CertFault → Type 0
@@ -39,3 +41,47 @@ pub record IsSameScan (bytes bytes' rate rate' : ℕ) (units units' : List Pictu
   pub bytes_are : bytes ≡ bytes'
   pub rate_is : rate ≡ rate'
   pub units_are : AllZip AreAlike units units'
+
+-- the words of a line, parted by blanks and by its end
+abbrev pub words_in : List ℕ → List (List ℕ)
+words_in line = slice_split (λ b. (b == 32) || (b == 10)) line
+
+-- one word of a line is `key=number`, and no other has that key
+abbrev pub GivesOnce : List ℕ → List ℕ → ℕ → Type 0
+GivesOnce line key number = values_of key (words_in line) ≡ decimal number ∷ []
+
+-- numbers of 64 bits, as those of every watching
+pub record IsShortWatched (watched : Watched) : Type 0 where
+  pub units_short : watched.units < 2 ^ 64
+  pub bytes_short : watched.bytes < 2 ^ 64
+  pub frames_short : watched.frames < 2 ^ 64
+  pub reports_short : watched.reports < 2 ^ 64
+  pub most_short : watched.most < 2 ^ 64
+  pub over_short : watched.over < 2 ^ 64
+  pub under_short : watched.under < 2 ^ 64
+
+-- What a line tells of a client's play: the pictures that came whole, the film's bytes that were
+-- handed on, the frames and reports that came; the most bytes that waited to be played, at how many
+-- slots more waited than the buffer holds, and at how many a picture lacked that was to be played.
+pub record TellsPlay (wish : Wish) (history : History) (line : List ℕ) : Type 0 where
+  pub pictures_told : GivesOnce line (codes "units") (length (sizes history))
+  pub bytes_told : GivesOnce line (codes "bytes") (length (payloads history))
+  pub frames_told : GivesOnce line (codes "frames") (frames history)
+  pub reports_told : GivesOnce line (codes "reports") (reports history)
+  pub most_told : GivesOnce line (codes "most") (most wish history)
+  pub over_told : GivesOnce line (codes "over") (count_over wish history)
+  pub under_told : GivesOnce line (codes "under") (count_under wish history)
+
+-- the last line of a text, without its end
+pub record IsLastLine (text line : List ℕ) : Type 0 where
+  pub front : List ℕ
+  pub text_is : text ≡ (front ++ 10 ∷ line) ++ codes "\n"
+  pub one_line : All (λ b. b ≢ 10) line
+
+-- the last line of a server's text tells how many connections were served, and how many entries its
+-- journal has
+pub record TellsServed (connections entries : ℕ) (text : List ℕ) : Type 0 where
+  pub line : List ℕ
+  pub last : IsLastLine text line
+  pub connections_told : GivesOnce line (codes "connections") connections
+  pub entries_told : GivesOnce line (codes "entries") entries

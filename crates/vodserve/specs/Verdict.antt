@@ -33,3 +33,7 @@ with_number name (Some n) = name ++ number_text n
 
 abbrev pub cert_fault_text : CertFault → List ℕ
 cert_fault_text fault = with_number (fault_name fault) (fault_number fault)
+
+-- the line that names a certificate's fault
+abbrev pub refused_line : CertFault → List ℕ
+refused_line fault = codes "refused " ++ cert_fault_text fault ++ codes "\n"

@@ -1,7 +1,8 @@
 -- What a client that watches a film comes to.
-use Rattle.std.specs.Prelude.{◌≡◌, ℕ, List, [], ◌∷◌, ◌++◌, codes, option_map, slice_index_or, string_bytes, Option, Some, None, IfSome}
+use Rattle.std.specs.Prelude.{◌≡◌, ℕ, false, List, [], ◌∷◌, ◌++◌, codes, option_map, slice_index_or, string_bytes, Option, Some, None, IfSome}
 use Rattle.vod_base.specs.Outside.{HasRisen}
 use Rattle.vod_base.specs.Links.{Doing}
+use Rattle.vod_base.specs.declared.gates.Opening.{Opening}
 use Rattle.vod_base.specs.Gates.{Content, Gave, NoMore, Part, Returned, after_take, after_empty_take, after_return}
 use Rattle.rtsp_client.specs.Courses.{HasWatched}
 use Rattle.rtsp_client.specs.declared.wishes.Wish.{Wish}
@@ -31,6 +32,11 @@ pub record IsWishOf (watching : Watching) (wish : Wish) : Type 0 where
   pub buffer : wish.buffer ≡ watching.pace.buffer
   pub startup : wish.startup ≡ watching.pace.startup
   pub slot : wish.slot_units ≡ watching.pace.slot
+
+-- how the gate is opened for a client: for one connection to a port of this machine
+abbrev pub opening_at : ℕ → ℕ → Opening
+opening_at port slot =
+    record { port = port; all = false; connections = 1; slot_units = slot }
 
 -- the line on what the meter read
 abbrev pub watched_text : Watched → List ℕ

@@ -10,12 +10,14 @@ use Rattle.admission.specs.Makers.{made_by}
 use Rattle.session.specs.Ranges.{names_of}
 use Rattle.session.specs.declared.settings.Settings.{Settings}
 use Rattle.station.specs.Seats.{Sitting}
+use Rattle.conn.specs.Journals.{Terms, terms_of}
 use Rattle.conn.specs.Parts.{Duty, HasServedPart, IsUntouched, Outlet, duty, outlet}
 use Rattle.conn.specs.declared.reports.ConnReport.{ConnReport}
 use Rattle.conn.specs.declared.reports.PartReport.{PartReport}
 use Rattle.conn.specs.declared.reports.PartEnd.{PartEnd}
 use Rattle.conn.specs.declared.reports.PartEnd.TheVariants.{AllTaken, GateFault, NoMemory}
 use Rattle.command_words.specs.Words.{Serving}
+use Rattle.inputs.specs.Films.{IsHeldRefused, IsNotRefused}
 use Rattle.inputs.specs.Scans.{HoldsVideo}
 
 -- how the words open the gate
@@ -37,10 +39,21 @@ settings_of serving =
       startup = serving.pace.startup;
     }
 
--- a film is what the library holds under its name
+-- what a worker's seat is asked under: the capacity and the most entries that the words say, and the
+-- number after the worker's own
+abbrev pub terms_for : Serving → ℕ → Terms
+terms_for serving worker =
+    record { steps = serving.capacity; limit = serving.journal; maker = worker + 1 }
+
+-- the film of that name may be served: there is no reason to refuse it
+abbrev pub MayBeServed : List File → List ℕ → Type 0
+MayBeServed held name = IsNotRefused IsHeldRefused held name
+
+-- a film is what the library holds under its name, and may be served
 abbrev pub IsHeld : Option (List File) → Stored → Type 0
 IsHeld told film = (held : List File) → told ≡ Some held →
     HoldsVideo held (string_bytes film.name) film.film.bytes.items
+    × MayBeServed held (string_bytes film.name)
 
 -- the films of these names, in their order, as the library holds them
 pub record AreLoaded (told : Option (List File)) (names : List (List ℕ)) (films : List Stored)
@@ -62,17 +75,17 @@ HasBack number told gate = (part : Content)
     × ((told ≡ Some part) × (slice_index_or gate.parts number None ≡ Some part.own))
 
 -- A worker served its part of the gate, of which no connection had been taken before, from the seat
--- of the number after its own. The journal's entries of that seat are those that the worker made,
--- and all that it saw of the journal is its front. The part is back in the gate, and a fault of it
--- was counted there.
-pub record HasWorked (by : Duty) (journal : List Entry) (gate gate' : Outlet) (report : PartReport)
-    : Type 0 where
+-- of the number after its own, under the capacity and the most entries that the words say. The
+-- journal's entries of that seat are those that the worker made, and all that it saw of the journal
+-- is its front. The part is back in the gate, and a fault of it was counted there.
+pub record HasWorked (serving : Serving) (by : Duty) (journal : List Entry) (gate gate' : Outlet)
+    (report : PartReport) : Type 0 where
   pub seat : Sitting
   pub left : Sitting
   pub part : Option Content
   pub after : Outlet
   pub served : HasServedPart by seat left (outlet 0 part) after report
-  pub number : seat.number ≡ by.worker + 1
+  pub terms : terms_of seat ≡ terms_for serving by.worker
   pub mine : seat.mine ≡ []
   pub untouched : IfSome part IsUntouched
   pub seen : IsPrefix left.seen journal
@@ -81,12 +94,12 @@ pub record HasWorked (by : Duty) (journal : List Entry) (gate gate' : Outlet) (r
   pub counted : 0 < after.faults → HasRisen gate.faults gate'.faults
 
 -- workers whose numbers go on from one, with their reports
-abbrev pub AllWorked : List Stored → Settings → List ℕ → List Entry → Outlet → Outlet → ℕ →
+abbrev pub AllWorked : List Stored → Serving → List ℕ → List Entry → Outlet → Outlet → ℕ →
     List PartReport → Type 0
-AllWorked films settings seed journal gate gate' from [] = ⊤
-AllWorked films settings seed journal gate gate' from (report ∷ reports) =
-    HasWorked (duty films settings seed from) journal gate gate' report
-    × AllWorked films settings seed journal gate gate' (from + 1) reports
+AllWorked films serving seed journal gate gate' from [] = ⊤
+AllWorked films serving seed journal gate gate' from (report ∷ reports) =
+    HasWorked serving (duty films (settings_of serving) seed from) journal gate gate' report
+    × AllWorked films serving seed journal gate gate' (from + 1) reports
 
 -- the reports of workers on their connections: those of the first one, then those of the next, and
 -- so on
@@ -122,7 +135,7 @@ pub record HaveWorked (films : List Stored) (seed : List ℕ) (serving : Serving
     (reports : List ConnReport) : Type 0 where
   pub parts : List PartReport
   pub count : length parts ≡ serving.listening.workers
-  pub each : AllWorked films (settings_of serving) seed journal gate gate' 0 parts
+  pub each : AllWorked films serving seed journal gate gate' 0 parts
   pub open_as : IsOpenAs (opening_of serving) gate'.told
   pub split : HasParts serving.listening.workers gate'.told
   pub left : AreLeft parts end reports

@@ -21,6 +21,7 @@ pub record IsWorker {G : Type 0} (told : G → Option Content) (faults : G →
     ℕ) (hall : Hall) (worker : Worker G) : Type 0 where
   pub id : worker.seat.id ≡ hall.id
   pub steps : worker.seat.steps ≡ hall.steps
+  pub limit : worker.seat.limit ≡ hall.limit
   pub seat : worker.seat.number ≡ worker.number + 1
   pub joined : worker.seat.joined ≡ []
   pub part : IfSome (told worker.part) (λ content. content.own.number ≡ worker.number)

@@ -21,7 +21,8 @@ fn end_day<O: Sink, E: Sink>(alloc: Global, out: &mut O, err: &mut E, day: Day) 
     ensures count { O.faults out.old ≤ O.faults out.new }
     ensures written { IsTextWritten (sight_of O.faults O.written out.old)
         (sight_of O.faults O.written out.new)
-        (sight_of E.faults E.written err.old) (sight_of E.faults E.written err.new) day.text.items result }
+        (sight_of E.faults E.written err.old) (sight_of E.faults E.written err.new)
+        day.text.items result }
 {
     let Day { text, journal } = day;
     match out.write_all(&text) {
@@ -55,7 +56,8 @@ pub(crate) fn day<L: Library, O: Sink, E: Sink>(
     ensures library { IsReadOnly (L.files library.old) (L.files library.new) (L.faults library.old)
         (L.faults library.new) }
     ensures count { O.faults out.old ≤ O.faults out.new }
-    ensures runs { RunsDay (sight_of L.faults L.files library.old) (sight_of L.faults L.files library.new)
+    ensures runs { RunsDay
+        (sight_of L.faults L.files library.old) (sight_of L.faults L.files library.new)
         (sight_of O.faults O.written out.old) (sight_of O.faults O.written out.new)
         (sight_of E.faults E.written err.old) (sight_of E.faults E.written err.new)
         (script_run_of run.now) result }
@@ -83,7 +85,8 @@ pub(crate) fn fair<O: Sink, E: Sink>(
 ) -> Ended
     requires { IsFairRunInRange run.now }
     ensures count { O.faults out.old ≤ O.faults out.new }
-    ensures runs { RunsFair (sight_of O.faults O.written out.old) (sight_of O.faults O.written out.new)
+    ensures runs { RunsFair
+        (sight_of O.faults O.written out.old) (sight_of O.faults O.written out.new)
         (sight_of E.faults E.written err.old) (sight_of E.faults E.written err.new)
         (fair_run_of run.now) result }
 {

@@ -10,8 +10,12 @@ ghost use Rattle.day_run.specs.FairDays.{IsFair};
 ghost use Rattle.day_run.specs.Scripts.{AreLines};
 ghost use Rattle.day_run.specs.Sources.{AreSources, IsSource};
 ghost use Rattle.troubles.specs.Causes.{IsReadOnly, IsReadTrouble};
+ghost use Rattle.day_run.specs.declared.reels.Source.{Source};
+ghost use Rattle.day_run.specs.declared.scripts.Script.{Script};
+ghost use Rattle.troubles.specs.declared.faults.Fault.{Fault};
 ghost use Rattle.inputs.specs.Files.{IsNamed};
-ghost use Rattle.vodserve.specs.Days.{AreHeldAs, HoldsScript, IsHeldAs, IsNameOf, IsNamedRefused, IsOneRefused, IsScriptRefused, names_in};
+ghost use Rattle.vodserve.specs.Days.{AreHeldAs, HoldsScript, IsDayRefused, IsFirstNamedRefused, IsHeldAs, IsNameOf};
+ghost use Rattle.vodserve.specs.Days.{IsNamedRefused, IsScriptRefused, names_in};
 
 use crate::serving::profile_of;
 use crate::traces::load_trace;
@@ -93,7 +97,7 @@ pub(crate) fn load_sources<'a, L: Library>(
     ensures held { (held : List File) → L.files library.old ≡ Some held →
         IfOk result (λ sources. AreHeldAs held named.entry.now sources.items) }
     ensures trouble { IfErr result (IsReadTrouble (Contains (names_in named.entry.now))
-        (IsOneRefused named.entry.now)
+        (IsFirstNamedRefused named.entry.now)
         (L.files library.old) (L.faults library.old) (L.faults library.new)) }
 {
     let mut sources = Vec::new(alloc);
@@ -139,3 +143,11 @@ pub(crate) fn run_fair(alloc: Global, run: &FairRun) -> Result<Day, NoMemory>
     let profile = profile_of(alloc, run.capacity.as_slice())?;
     fair(alloc, run.seed, run.plays, profile)
 }
+
+/// A law: a script that a library holds, with each film and trace that it names, isn't refused
+/// besides. So status 3 comes only where there is no day to run.
+pub fn law_day_not_refused()
+    ensures { (held : List File) (name : List ℕ) (script : Script) (sources : List Source)
+        (input : List ℕ) (fault : Fault) → HoldsScript held name script →
+        AreHeldAs held script.named.items sources → IsDayRefused name held input fault → ⊥ }
+{}

@@ -2,6 +2,7 @@
 //! watched.
 
 use crate::run::run;
+use crate::test_inputs::{FILM, library_of_film, words_of};
 use net_edge::{DialGate, TcpGate};
 use std::alloc::Global;
 use std::net::{Net, TcpListener, TcpStream};
@@ -9,13 +10,7 @@ use std::sync::Wait;
 use std::test::Fail;
 use std::thread::{self, Threads};
 use std::time::{Clock, Duration};
-use vod_base::{Gate, MemoryLibrary, MemorySink, NoMemory, Opening};
-
-/// Two pictures: a sequence header, a group header, an I picture of one slice, and a P picture of
-/// one slice.
-const FILM: &[u8] =
-    b"\x00\x00\x01\xb3\x16\x01\x20\x13\xff\xff\xe0\xa0\x00\x00\x01\xb8\x00\x08\x00\x40\
-\x00\x00\x01\x00\x00\x0f\xff\xf8\x00\x00\x01\x01\x12\x34\x00\x00\x01\x00\x00\x57\xff\xf8\x80\x00\x00\x01\x01\x12\x34";
+use vod_base::{Gate, MemorySink, NoMemory, Opening};
 
 /// How often a client asks for a server that isn't there yet.
 const MOST_DIALS: u32 = 1_000;
@@ -38,16 +33,8 @@ fn carry_out<R: Threads + Wait + Sync, G: Gate + Send + Drop>(
 where
     G::Conn: Send,
 {
-    let mut words = Vec::new(alloc);
-    for word in line.split_whitespace() {
-        words.push(String::from_str(alloc, word)?)?;
-    }
-    let mut held = Vec::new(alloc);
-    held.push((
-        String::from_str(alloc, "b.mpg")?,
-        Vec::from_slice(alloc, FILM)?,
-    ))?;
-    let mut library = MemoryLibrary::new(held, Vec::new(alloc));
+    let words = words_of(alloc, line)?;
+    let mut library = library_of_film(alloc)?;
     let mut out = MemorySink::new(alloc, 1 << 10, Vec::new(alloc))?;
     let mut err = MemorySink::new(alloc, 1 << 10, Vec::new(alloc))?;
     let ended = run(

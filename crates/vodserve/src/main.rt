@@ -27,6 +27,8 @@ mod serve_tests;
 mod served;
 mod serving;
 #[cfg(test)]
+mod test_inputs;
+#[cfg(test)]
 mod tests;
 mod text_laws;
 mod texts;

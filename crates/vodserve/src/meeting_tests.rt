@@ -4,6 +4,7 @@
 ghost use Rattle.std.specs.Prelude.{◌≤◌, None, length};
 
 use crate::run::{Ended, run};
+use crate::test_inputs::{library_of_film, words_of};
 use conn::ConnEnd;
 use std::alloc::Global;
 use std::sync::Wait;
@@ -11,13 +12,7 @@ use std::sync::atomic::{AtomicU64, Ordering};
 use std::test::Fail;
 use std::thread::Threads;
 use std::time::Duration;
-use vod_base::{Gate, GateFault, Heard, Link, LinkFault, MemoryLibrary, MemorySink, Opening};
-
-/// Two pictures: a sequence header, a group header, an I picture of one slice, and a P picture of
-/// one slice.
-const FILM: &[u8] =
-    b"\x00\x00\x01\xb3\x16\x01\x20\x13\xff\xff\xe0\xa0\x00\x00\x01\xb8\x00\x08\x00\x40\
-\x00\x00\x01\x00\x00\x0f\xff\xf8\x00\x00\x01\x01\x12\x34\x00\x00\x01\x00\x00\x57\xff\xf8\x80\x00\x00\x01\x01\x12\x34";
+use vod_base::{Gate, GateFault, Heard, Link, LinkFault, MemorySink, Opening};
 
 /// What the first connections of the workers hear at once, by the words of the seed of 32 bytes 7.
 const FIRST: &[u8] =
@@ -180,12 +175,7 @@ fn carry_out<R: Threads + Wait + Sync>(
         given: false,
         faults: 0,
     };
-    let mut held = Vec::new(alloc);
-    held.push((
-        String::from_str(alloc, "b.mpg")?,
-        Vec::from_slice(alloc, FILM)?,
-    ))?;
-    let mut library = MemoryLibrary::new(held, Vec::new(alloc));
+    let mut library = library_of_film(alloc)?;
     let mut out = MemorySink::new(alloc, 1 << 20, Vec::new(alloc))?;
     let mut err = MemorySink::new(alloc, 1 << 20, Vec::new(alloc))?;
     Ok(run(
@@ -207,10 +197,7 @@ fn serves_two_at_the_same_time(rt: HostRuntime) -> Result<(), Fail> {
         first: AtomicU64::new(0),
         second: AtomicU64::new(0),
     };
-    let mut words = Vec::new(alloc);
-    for word in "serve film=b.mpg workers=2 capacity=100".split_whitespace() {
-        words.push(String::from_str(alloc, word)?)?;
-    }
+    let words = words_of(alloc, "serve film=b.mpg workers=2 capacity=100")?;
     let ended = carry_out(&rt, alloc, &words, &sends)?;
     assert_eq!(rt; (ended.status, ended.journal.len()), (0, 4));
     assert_eq!(rt; ended.reports.len(), 2);

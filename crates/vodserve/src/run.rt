@@ -10,7 +10,7 @@ ghost use Rattle.vodserve.specs.Carrying.{IsChecked, IsDone, IsInputRefused, IsP
 ghost use Rattle.command_words.specs.Orders.{serving_of};
 ghost use Rattle.command_words.specs.Ranges.{IsServingInRange};
 ghost use Rattle.vodserve.specs.Served.{served_text};
-ghost use Rattle.vodserve.specs.Laws.{GivesEachBack, LeavesNoneOut, ServesEach, ServesWhatItMay, TellsItsJournal};
+ghost use Rattle.vodserve.specs.Laws.{GivesEachBack, LeavesNoneOut, ServesEach, ServesNoRefused, ServesWhatItMay, TellsItsJournal};
 ghost use Rattle.vodserve.specs.Run.{Ends, Fails, HasServedNothing, Printed, Ran, Serves, gate_seen, sight_of, world};
 
 use crate::checks::check_viewer;
@@ -50,7 +50,8 @@ pub struct Ended {
 
 /// Ends with a trouble: says its line, whose own faults change nothing.
 pub(crate) fn end_with<E: Sink>(alloc: Global, err: &mut E, trouble: Trouble<'_>) -> Ended
-    ensures fails { Fails (sight_of E.faults E.written err.old) (sight_of E.faults E.written err.new)
+    ensures fails { Fails
+        (sight_of E.faults E.written err.old) (sight_of E.faults E.written err.new)
         trouble.entry result }
     ensures nothing { HasServedNothing result }
 {
@@ -71,8 +72,10 @@ fn print<O: Sink, E: Sink>(
     err: &mut E,
     done: Result<Done, Trouble<'_>>,
 ) -> Ended
-    ensures printed { Printed (sight_of O.faults O.written out.old) (sight_of O.faults O.written out.new)
-        (sight_of E.faults E.written err.old) (sight_of E.faults E.written err.new) done.entry result }
+    ensures printed { Printed
+        (sight_of O.faults O.written out.old) (sight_of O.faults O.written out.new)
+        (sight_of E.faults E.written err.old) (sight_of E.faults E.written err.new)
+        done.entry result }
     ensures count { O.faults out.old ≤ O.faults out.new }
     ensures nothing { HasServedNothing result }
 {
@@ -120,7 +123,8 @@ fn end_server<O: Sink, E: Sink>(alloc: Global, out: &mut O, err: &mut E, closed:
     ensures journal { result.journal.items ≡ closed.book.entries }
     ensures reports { result.reports.items ≡ closed.reports.items }
     ensures count { O.faults out.old ≤ O.faults out.new }
-    ensures ends { Ends (sight_of O.faults O.written out.old) (sight_of O.faults O.written out.new)
+    ensures ends { Ends
+        (sight_of O.faults O.written out.old) (sight_of O.faults O.written out.new)
         (sight_of E.faults E.written err.old) (sight_of E.faults E.written err.new)
         (served_text closed.book.entries (length closed.reports.items)) closed.end result }
 {
@@ -182,9 +186,10 @@ where
 }
 
 /// A law: a server whose films are accepted serves, where nothing fails outside and memory is
-/// found.
+/// found. Where one of its films is refused, it does nothing.
 pub fn law_serves()
-    ensures { ServesWhatItMay }
+    ensures accepted { ServesWhatItMay }
+    ensures refused { ServesNoRefused }
 {}
 
 /// A law: where the workers ran, the gate was opened as the words say, and each part of it got back
@@ -213,9 +218,11 @@ pub fn law_serves_each()
 /// Carries out the words of the command line, which come without the program's name.
 ///
 /// Each command's text goes to `out` when all of it is known, and a trouble's line to `err`. With
-/// the statuses 2, 3 and 4 nothing is written to `out`, with 5 a front of the text; a fault of
+/// the statuses 2, 3 and 4 nothing is written to `out`, with 5 a front of the text. But `watch`
+/// writes the film's bytes to `out` as they come, so that those which came before a trouble stand
+/// there, with the statuses 3, 6 and 8 too; at the film's end it says one line on `err`. A fault of
 /// `err` changes no status. `serve` takes its connections from `gate`, and draws their identities
-/// from `seed`.
+/// from `seed`; `watch` makes its one connection by `gate`.
 pub fn run<R: Threads + Wait + Sync, L: Library, O: Sink, E: Sink, G: Gate + Send + Drop>(
     rt: &R,
     alloc: Global,

@@ -1,8 +1,11 @@
 //! Runs of the program over objects in memory, by scripts.
 
 use crate::run::{Ended, run};
+use crate::test_inputs::words_of;
 use admission::{Answer, Entry};
 use conn::{ConnEnd, ConnReport};
+use film_frames::Stored;
+use mpeg_scan::scan;
 use std::alloc::Global;
 use std::process::Abort;
 use std::sync::Wait;
@@ -44,7 +47,7 @@ struct Left {
 }
 
 /// The most bytes that an object in memory keeps.
-const ROOM: usize = 1 << 20;
+const ROOM: usize = 1 << 25;
 
 fn no_failing(alloc: Global) -> Failing {
     Failing {
@@ -191,6 +194,22 @@ impl Stage {
         Ok(bytes)
     }
 
+    /// The sizes of a film's units on the wire, as a trace.
+    fn sizes_of(&self, alloc: Global, film: &str) -> Result<Vec<u8>, NoMemory> {
+        let bytes = self.held(film).unwrap_or(&[]);
+        let Ok(film) = scan(alloc, Vec::from_slice(alloc, bytes)?) else {
+            return Err(NoMemory);
+        };
+        let film = Stored::new(alloc, String::new(alloc), film)?;
+        let mut text = Vec::new(alloc);
+        for unit in 0..film.film.units.len() {
+            let mut digits = itoa::Buffer::new();
+            text.extend_from_slice(digits.format(film.wire_size(unit)).as_bytes())?;
+            text.push(b'\n')?;
+        }
+        Ok(text)
+    }
+
     fn library(&mut self, alloc: Global) -> Result<MemoryLibrary, NoMemory> {
         let mut files = Vec::new(alloc);
         for (name, bytes) in &self.files {
@@ -208,10 +227,7 @@ impl Stage {
         alloc: Global,
         line: &str,
     ) -> Result<(), NoMemory> {
-        let mut words = Vec::new(alloc);
-        for word in line.split_whitespace() {
-            words.push(String::from_str(alloc, word)?)?;
-        }
+        let words = words_of(alloc, line)?;
         let mut library = self.library(alloc)?;
         let failing = std::mem::replace(&mut self.failing, no_failing(alloc));
         let mut out = MemorySink::new(alloc, ROOM, failing.out)?;
@@ -281,9 +297,14 @@ impl Stage {
         let (first, more) = word_and_rest(rest);
         if word == "file" {
             self.keep(alloc, first, bytes_of(alloc, more, b"\n")?)?;
+        } else if word == "reply" {
+            self.keep(alloc, first, bytes_of(alloc, more, b"\r\n")?)?;
         } else if word == "bytes" {
             let bytes = self.joined(alloc, more)?;
             self.keep(alloc, first, bytes)?;
+        } else if word == "sizes" {
+            let sizes = self.sizes_of(alloc, more)?;
+            self.keep(alloc, first, sizes)?;
         } else if word == "hears" {
             self.events
                 .push(Event::Bytes(bytes_of(alloc, rest, b"\r\n")?))?;
@@ -435,9 +456,9 @@ impl Stage {
 
 /// Takes up the lines of a script, one after another.
 ///
-/// `file NAME TEXT`, `bytes NAME WORDS`, `hears TEXT`, `gets WORDS`, `slots FIRST LAST`, `part
-/// [CALL]` and `fails OBJECT CALL` say what the next run is over; `> WORDS` runs; and the lines
-/// after it say what it left: `STATUS TEXT` its status and its whole text, of the output or else of
+/// `file NAME TEXT`, `reply NAME TEXT`, `bytes NAME WORDS`, `sizes NAME FILM`, `hears TEXT`, `gets
+/// WORDS`, `slots FIRST LAST`, `part [CALL]` and `fails OBJECT CALL` say what the next run is over;
+/// `> WORDS` runs; and the lines after it say what it left: `STATUS TEXT` its status and its whole text, of the output or else of
 /// the error stream, `ends STATUS` its status alone, `out TEXT`, `err TEXT` and `is NAME` a whole
 /// text, `has TEXT` a part of the output, `counts REPORTS ENTRIES`, `says REPLY`, `sends WORDS`,
 /// `plays NAME` and `said LINKS TEXT` what its links sent. `keeps NAME` makes a file of the output.

@@ -12,7 +12,7 @@ ghost use Rattle.command_words.specs.Orders.{serving_of};
 ghost use Rattle.command_words.specs.Ranges.{IsServingInRange};
 ghost use Rattle.troubles.specs.Causes.{IsReadOnly, IsReadTrouble};
 ghost use Rattle.inputs.specs.Films.{IsHeldRefused};
-ghost use Rattle.vodserve.specs.Served.{HasFewer, IsJournal, IsNewlyOpen, IsServeTrouble, IsWordNamed};
+ghost use Rattle.vodserve.specs.Served.{HasFewer, IsFirstRefused, IsJournal, IsNewlyOpen, IsServeTrouble, IsWordNamed};
 ghost use Rattle.vodserve.specs.Worked.{AreLoaded, HaveWorked, IsHeld, opening_of};
 ghost use Rattle.vodserve.specs.Workers.{IsMakeTrouble};
 
@@ -78,7 +78,7 @@ fn add_film<'a, L: Library>(
     }
 }
 
-/// Loads the films that the words name, one by one.
+/// Loads the films that the words name, one by one: the first that is refused is named.
 fn load_films<'a, L: Library>(
     alloc: Global,
     library: &mut L,
@@ -91,7 +91,8 @@ fn load_films<'a, L: Library>(
     ensures loaded { IfOk result (λ films. AreLoaded (L.files library.old)
         (values_of (codes "film") (texts words.entry.now)) films.items) }
     ensures trouble { IfErr result (IsReadTrouble
-        (Contains (values_of (codes "film") (texts words.entry.now))) IsHeldRefused
+        (Contains (values_of (codes "film") (texts words.entry.now)))
+        (IsFirstRefused (values_of (codes "film") (texts words.entry.now)))
         (L.files library.old) (L.faults library.old) (L.faults library.new)) }
 {
     let mut films = Vec::new(alloc);
@@ -121,6 +122,7 @@ fn make_station(alloc: Global, steps: &[CapStep], limit: u64) -> Result<(Station
     requires some { 2 ≤ limit }
     requires few { limit ≤ 1048576 }
     ensures steps { IfOk result (λ made. made.0.steps ≡ steps.now) }
+    ensures limit { IfOk result (λ made. made.0.limit ≡ limit) }
     ensures seat { IfOk result (λ made. made.1 ≡ first_seat made.0) }
 {
     let profile = match profile_of(alloc, steps) {
@@ -146,6 +148,8 @@ pub(crate) fn prepare<'a, L: Library, G: Gate>(
         (serving_of serving.entry.now).films prepared.films.items) }
     ensures steps { IfOk result (λ prepared.
         prepared.station.steps ≡ serving.entry.now.capacity) }
+    ensures limit { IfOk result (λ prepared.
+        prepared.station.limit ≡ serving.entry.now.journal) }
     ensures seat { IfOk result (λ prepared. prepared.seat ≡ first_seat prepared.station) }
     ensures opened { IfOk result (λ prepared.
         IsNewlyOpen (opening_of (serving_of serving.entry.now)) (G.told gate.new)) }
@@ -192,6 +196,7 @@ where
     requires range { IsServingInRange serving.now }
     requires films { AreFilms prepared.films.items }
     requires steps { prepared.station.steps ≡ serving.now.capacity }
+    requires limit { prepared.station.limit ≡ serving.now.journal }
     requires seat { prepared.seat ≡ first_seat prepared.station }
     requires opened { IsNewlyOpen (opening_of (serving_of serving.now)) (G.told gate.old) }
     ensures count { G.faults gate.old ≤ G.faults gate.new }

@@ -171,6 +171,16 @@ has film bytes=268101 rate=3 pictures=250|0 I show=0 from=0
 ends 0
 > check film=stream slot=7200 cert=cert
 0 least|
+# the certificate of a long film is that of the sizes of its units on the wire
+> make seed=5 pictures=20000 kind=film
+keeps long
+sizes trace long
+> plan trace=trace
+keeps long_cert
+> plan film=long
+is long_cert
+> check film=long cert=long_cert
+0 least|
 > --help
 has usage: vodserve COMMAND KEY=VALUE ..|
 ends 0

@@ -1,6 +1,6 @@
 //! The command `watch`.
 
-ghost use Rattle.std.specs.Prelude.{◌≡◌, ◌≤◌, IfSome, IfOk, OnErr, option_map};
+ghost use Rattle.std.specs.Prelude.{◌≡◌, ◌≤◌, IfSome, IfOk, OnErr, OnOk, option_map};
 ghost use Rattle.vod_base.specs.Outside.{HasRisen};
 ghost use Rattle.vod_base.specs.Gates.{Failed, after_empty_take};
 ghost use Rattle.rtsp_client.specs.Wishes.{IsWish};
@@ -9,7 +9,8 @@ ghost use Rattle.command_words.specs.Ranges.{IsWatchingInRange};
 ghost use Rattle.conn.specs.Parts.{IsUntouched};
 ghost use Rattle.troubles.specs.Said.{IsSaid};
 ghost use Rattle.vodserve.specs.Run.{EndsWatch, HasServedNothing, SaysWatched, Watches, gate_seen, sight_of};
-ghost use Rattle.vodserve.specs.Watches.{Hears, HearsPart, IsSameOutput, IsWishOf, refusal_of, watched_text};
+ghost use Rattle.vodserve.specs.Watches.{Hears, HearsPart, IsSameOutput, IsWishOf, opening_at, refusal_of, watched_text};
+ghost use Rattle.vodserve.specs.Worked.{IsOpenAs};
 
 use crate::run::{Ended, end_with};
 use command_words::Watching;
@@ -109,6 +110,8 @@ fn watch_gate<O: Sink, G: Gate + Drop>(
     ensures fault { OnErr result (HasRisen (G.faults gate.old) (G.faults gate.new)) }
     ensures kept { OnErr result (IsSameOutput (O.faults out.old) (O.faults out.new)
         (O.written out.old) (O.written out.new)) }
+    ensures opened { OnOk result (IsOpenAs (opening_at wish.entry.now.port
+        wish.entry.now.slot_units) (G.told gate.new)) }
     ensures heard { IfOk result (Hears wish.entry.now (G.told gate.new)
         (O.faults out.old) (O.faults out.new) (O.written out.old) (O.written out.new)) }
 {
@@ -134,7 +137,8 @@ fn watch_gate<O: Sink, G: Gate + Drop>(
 /// Ends with what the meter of the client's buffer read.
 fn end_watched<E: Sink>(alloc: Global, err: &mut E, watched: &Watched) -> Ended
     ensures nothing { HasServedNothing result }
-    ensures says { SaysWatched (sight_of E.faults E.written err.old) (sight_of E.faults E.written err.new)
+    ensures says { SaysWatched
+        (sight_of E.faults E.written err.old) (sight_of E.faults E.written err.new)
         watched.now result }
 {
     let _ = say_watched(err, watched);
@@ -149,7 +153,8 @@ fn end_watched<E: Sink>(alloc: Global, err: &mut E, watched: &Watched) -> Ended
 /// Ends a watching: says what the meter read, or what kept from the film's end.
 fn end_watch<E: Sink>(alloc: Global, err: &mut E, film: &str, end: WatchEnd) -> Ended
     ensures nothing { HasServedNothing result }
-    ensures ends { EndsWatch (sight_of E.faults E.written err.old) (sight_of E.faults E.written err.new)
+    ensures ends { EndsWatch
+        (sight_of E.faults E.written err.old) (sight_of E.faults E.written err.new)
         film.entry.now end result }
 {
     match end {
@@ -176,7 +181,8 @@ pub(crate) fn watch_film<O: Sink, E: Sink, G: Gate + Drop>(
     requires { IsWatchingInRange watching.now }
     ensures output { O.faults out.old ≤ O.faults out.new }
     ensures gate { G.faults gate.old ≤ G.faults gate.new }
-    ensures watches { Watches (sight_of O.faults O.written out.old) (sight_of O.faults O.written out.new)
+    ensures watches { Watches
+        (sight_of O.faults O.written out.old) (sight_of O.faults O.written out.new)
         (sight_of E.faults E.written err.old) (sight_of E.faults E.written err.new)
         (gate_seen G.faults G.told gate.old) (gate_seen G.faults G.told gate.new)
         (watching_of watching.entry.now) result }

@@ -5,8 +5,10 @@ use Rattle.command_words.specs.Orders.{source_name, source_read, viewer_of}
 use Rattle.troubles.proofs.CauseLemmas.{trouble_map}
 use Rattle.inputs.specs.Files.{IsMissing, IsNamed}
 use Rattle.vodserve.specs.Carrying.{IsDone, IsInputRefused, IsRead}
+use Rattle.std.specs.Prelude.{codes}
 use Rattle.vodserve.specs.Plans.{IsViewerTrouble}
-use Rattle.vodserve.proofs.CommandLemmas.{ok_map, HasCertificate, least_checked, fault_checked}
+use Rattle.vodserve.specs.Verdict.{refused_line}
+use Rattle.vodserve.proofs.CommandLemmas.{ok_map, text_of, HasCertificate, least_checked, fault_checked}
 use Rattle.vodserve.proofs.checks.check_viewer.Goals as goal
 
 pub returns-in-Err-clause-trouble : goal.returns-in-Err-clause-trouble
@@ -61,7 +63,7 @@ returns-in-Ok-check-clause-done g c =
     ok_map (λ done. (done.status ≡ 0) × (c.from_slice.result ≡ Ok done.text) × (done.plan ≡ None))
     (λ done. IsDone (g.L.Library.files c.args.library.now) (check_of (viewer_of c.args.viewer) c.args.cert.now) done.status done.text.items done.plan) c.finish.result
     (λ done is. (
-      omega (arith, is.0),
+      inl (is.0, text_of (codes "least\n") c.from_slice.result done.text c.from_slice.ensures.items is.1),
       is.2,
       λ held told.
           least_checked held (viewer_of c.args.viewer) c.args.cert.now c.in-Ok.curves c.deref-2.result.now (read held told) (c.in-Ok-check.ensures {u = tt}).best c.from_slice.result c.from_slice.ensures.items done is,
@@ -82,7 +84,7 @@ returns-clause-done g c =
     ok_map (λ done. (done.status ≡ 1) × (c.refusal_text.result ≡ Ok done.text) × (done.plan ≡ None))
     (λ done. IsDone (g.L.Library.files c.args.library.now) (check_of (viewer_of c.args.viewer) c.args.cert.now) done.status done.text.items done.plan) c.finish-in-Err-check.result
     (λ done is. (
-      omega (arith, is.0),
+      inr (c.in-Err-check.fault, (is.0, text_of (refused_line c.in-Err-check.fault) c.refusal_text.result done.text c.refusal_text.ensures is.1)),
       is.2,
       λ held told.
           fault_checked held (viewer_of c.args.viewer) c.args.cert.now c.in-Ok.curves c.deref-2.result.now (read held told) c.in-Err-check.fault (c.in-Err-check.ensures {u = tt}).verdict c.refusal_text.result c.refusal_text.ensures done is,

@@ -1,18 +1,19 @@
 use Rattle.std.proofs.Common.{rules, ◌≡◌, ◌∙◌, ◌+◌, ◌++◌, ◌∷◌, [], sym, arith, length, length-append, string_bytes}
 use Rattle.std.specs.List.{Contains}
 use Rattle.troubles.proofs.CauseLemmas.{trouble_map}
-use Rattle.vodserve.specs.Days.{IsNameOf, IsNamedRefused, IsOneRefused, names_in}
-use Rattle.vodserve.proofs.DayLemmas.{held_none, held_push, held_whole, named_contains, one_refused, sources_push}
+use Rattle.vodserve.specs.Days.{IsFirstNamedRefused, IsNameOf, IsNamedRefused, names_in}
+use Rattle.vodserve.proofs.DayLemmas.{first_named_refused, held_none, held_push, held_whole, named_contains, sources_push}
 use Rattle.vodserve.proofs.days.load_sources.Goals as goal
 
 pub returns-in-Err-clause-trouble : goal.returns-in-Err-clause-trouble
 returns-in-Err-clause-trouble g c =
-    trouble_map (IsNameOf c.one-item.result) (Contains (names_in c.args.named.now)) (IsNamedRefused c.one-item.result) (IsOneRefused c.args.named.now)
+    trouble_map (IsNameOf c.one-item.result) (Contains (names_in c.args.named.now)) (IsNamedRefused c.one-item.result) (IsFirstNamedRefused c.args.named.now)
     (g.L.Library.files c.loop-one.library) (g.L.Library.files c.args.library.now)
     (g.L.Library.faults c.loop-one.library) (g.L.Library.faults c.load_source.new.library) (g.L.Library.faults c.args.library.now) (g.L.Library.faults c.load_source.new.library)
     c.in-Err.trouble
     (λ name is. named_contains c.args.named.now c.loop-one.one-index c.one-item.result name c.loop-one-test.true c.one-item.is is)
-    (λ held name fault told is refused. one_refused held c.args.named.now c.loop-one.one-index c.one-item.result name fault c.loop-one-test.true c.one-item.is is refused)
+    (λ held name fault told is refused. first_named_refused held c.args.named.now c.loop-one.sources.items c.loop-one.one-index c.one-item.result name fault
+    c.loop-one-test.true c.one-item.is c.loop-one.invariant.count (c.loop-one.invariant.held held told) is refused)
     (λ held told. c.loop-one.invariant.library.kept ∙ told)
     (omega (arith, c.loop-one.invariant.library.count)) (omega arith) ((c.in-Err.ensures {u = tt}).trouble)
 

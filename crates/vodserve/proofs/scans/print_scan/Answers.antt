@@ -2,7 +2,8 @@ use Rattle.std.proofs.Common.{◌≡◌, None, Ok}
 use Rattle.command_words.specs.Words.{scan_of}
 use Rattle.inputs.specs.Scans.{HoldsFilm}
 use Rattle.vodserve.specs.Carrying.{IsDone}
-use Rattle.vodserve.proofs.CommandLemmas.{ok_map, film_done}
+use Rattle.vodserve.specs.ScanText.{scan_text}
+use Rattle.vodserve.proofs.CommandLemmas.{ok_map, film_done, text_of}
 use Rattle.vodserve.proofs.scans.print_scan.Goals as goal
 
 pub returns-clause-done : goal.returns-clause-done
@@ -12,6 +13,12 @@ returns-clause-done g c =
     (λ done is. (
       is.0,
       is.2,
+      record {
+        size = c.in-Ok.scanned.bytes;
+        rate = c.in-Ok.scanned.rate;
+        units = c.deref.result.now;
+        printed = text_of (scan_text c.in-Ok.scanned.bytes c.in-Ok.scanned.rate c.deref.result.now) c.scan_text.result done.text c.scan_text.ensures is.1;
+      },
       λ held told.
           let holds : HoldsFilm held c.args.film.now c.in-Ok.scanned.bytes c.in-Ok.scanned.rate c.deref.result.now =
           rw c.deref.ensures.value ((c.in-Ok.ensures {u = tt}).film held told) in

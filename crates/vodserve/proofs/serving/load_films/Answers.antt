@@ -9,19 +9,23 @@ use Rattle.session.specs.Ranges.{names_of}
 use Rattle.command_words.specs.Settings.{setting_value, texts, values_of}
 use Rattle.troubles.proofs.CauseLemmas.{trouble_map}
 use Rattle.inputs.specs.Films.{IsHeldRefused}
-use Rattle.vodserve.specs.Served.{IsWordNamed}
-use Rattle.vodserve.proofs.ServeLemmas.{films_are, values_rest, word_film}
+use Rattle.vodserve.specs.Served.{IsFirstRefused, IsWordNamed}
+use Rattle.vodserve.proofs.ServeLemmas.{films_are, first_refused, values_rest, word_film}
 use Rattle.vodserve.proofs.serving.load_films.Goals as goal
 
 pub returns-in-Err-clause-trouble : goal.returns-in-Err-clause-trouble
 returns-in-Err-clause-trouble g c =
-    trouble_map (IsWordNamed c.as_str.result.now) (Contains (values_of (codes "film") (texts c.args.words.now))) IsHeldRefused IsHeldRefused
+    trouble_map (IsWordNamed c.as_str.result.now) (Contains (values_of (codes "film") (texts c.args.words.now)))
+    IsHeldRefused (IsFirstRefused (values_of (codes "film") (texts c.args.words.now)))
     (g.L.Library.files c.loop-word.library) (g.L.Library.files c.args.library.now)
     (g.L.Library.faults c.loop-word.library) (g.L.Library.faults c.add_film.new.library) (g.L.Library.faults c.args.library.now) (g.L.Library.faults c.add_film.new.library)
     c.in-Err.trouble
     (λ name named. word_film c.args.words.now c.loop-word.word-index c.word-item.result (names_of c.loop-word.films.items) name c.loop-word-test.true c.word-item.is
     c.loop-word.invariant.names (rw c.as_str.ensures.value at named))
-    (λ held name fault told named refused. refused) (λ held told. c.loop-word.invariant.library.kept ∙ told)
+    (λ held name fault told named refused. first_refused (g.L.Library.files c.args.library.now) held c.args.words.now c.loop-word.word-index c.word-item.result
+    c.loop-word.films.items name fault c.loop-word-test.true c.word-item.is c.loop-word.invariant.names (rw c.as_str.ensures.value at named) told
+    c.loop-word.invariant.held refused)
+    (λ held told. c.loop-word.invariant.library.kept ∙ told)
     (omega (arith, c.loop-word.invariant.library.count)) (omega arith) ((c.in-Err.ensures {u = tt}).trouble)
 
 pub returns-clause-films : goal.returns-clause-films

@@ -41,7 +41,7 @@ returns-clause-worked g c =
     c.as_slice.ensures.value c.run_workers.ensures.finished)
     c.join_workers-end.ensures.joined
     (λ i d h some. risen_since before (g.G.Gate.faults c.make_workers.new.gate) after (c.join_workers-end.ensures.counted i d h some) c.make_workers.ensures.count)
-    c.close-book.ensures.whole (c.run_workers.ensures.count ∙ (c.in-Ok.ensures {u = tt}).made)
+    c.close-book.ensures.whole (record { steps = c.requires.steps; limit = c.requires.limit }) (c.run_workers.ensures.count ∙ (c.in-Ok.ensures {u = tt}).made)
     (c.join_workers-end.ensures.opened (opening_of serving)
     (c.make_workers.ensures.opened (opening_of serving) (newly_open_as (opening_of serving) (g.G.Gate.told c.args.gate.now) c.requires.opened)))
     c.join_workers-end.ensures.left

@@ -1,11 +1,14 @@
 use Rattle.std.proofs.Common.{inr, subst}
+use Rattle.command_words.specs.Orders.{watching_of}
 use Rattle.vodserve.specs.Watches.{Hears}
+use Rattle.vodserve.proofs.WatchLemmas.{opened_for}
 use Rattle.vodserve.proofs.watches.watch_film.Goals as goal
 
 pub returns-in-Ok-Some-clause-watches : goal.returns-in-Ok-Some-clause-watches
 returns-in-Ok-Some-clause-watches g c = inr (record {
   wish = c.in-Ok.wish;
   wish_is = (c.in-Ok.ensures {u = tt}).words;
+  open_as = opened_for (watching_of c.args.watching.now) c.in-Ok.wish (g.G.Gate.told c.watch_gate.new.gate) ((c.in-Ok.ensures {u = tt}).words) ((c.in-Ok-Some.ensures {u = tt}).opened);
   end = c.in-Ok-Some.end;
   heard = subst (Hears c.in-Ok.wish (g.G.Gate.told c.watch_gate.new.gate) (g.O.Sink.faults c.args.out.now) (g.O.Sink.faults c.watch_gate.new.out)
       (g.O.Sink.written c.args.out.now) (g.O.Sink.written c.watch_gate.new.out)) c.in-Ok-Some.field-0-is ((c.in-Ok-Some.ensures {u = tt}).heard);

@@ -20,6 +20,7 @@ loop-number-preserved g c =
     let is : IsWorker g.G.Gate.told g.G.Gate.faults c.args.station.now worker = record {
       id = ap (λ (s : Sitting). s.id) c.split-in-loop-number.ensures.new ∙ ap (λ (s : Sitting). s.id) c.loop-number.invariant.seat;
       steps = ap (λ (s : Sitting). s.steps) c.split-in-loop-number.ensures.new ∙ ap (λ (s : Sitting). s.steps) c.loop-number.invariant.seat;
+      limit = ap (λ (s : Sitting). s.limit) c.split-in-loop-number.ensures.new ∙ ap (λ (s : Sitting). s.limit) c.loop-number.invariant.seat;
       seat = ap (λ (s : Sitting). s.number) c.split-in-loop-number.ensures.new ∙ ap (λ (s : Sitting). s.splits + 1) c.loop-number.invariant.seat;
       joined = ap (λ (s : Sitting). s.joined) c.split-in-loop-number.ensures.new;
       part = new_number c.loop-number.number (g.G.Gate.told c.loop-number.gate) (g.G.Gate.told c.in-Ok.part) c.loop-number.invariant.parts

@@ -9,6 +9,7 @@ returns-clause-worker g c =
     record {
       id = served.seat.id ∙ c.requires.worker.id;
       steps = served.seat.steps ∙ c.requires.worker.steps;
+      limit = served.seat.limit ∙ c.requires.worker.limit;
       seat = served.seat.number ∙ c.requires.worker.seat;
       joined = served.seat.joined ∙ c.requires.worker.joined;
       part = served_number (g.G.Gate.told c.args.worker.now.part) (g.G.Gate.told c.serve_part.new.part) (length c.serve_part.result.reports.items) c.args.worker.now.number
