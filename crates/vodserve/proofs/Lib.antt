@@ -14,3 +14,4 @@ pub mod FieldLemmas
 pub mod TextReading
 pub mod LineReading
 pub mod WatchLemmas
+pub mod HelpReading

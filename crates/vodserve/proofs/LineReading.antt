@@ -1,5 +1,6 @@
 -- The line of a client that watched is read back.
-use Rattle.std.proofs.Common.{◌≡◌, ◌≢◌, ◌∙◌, ℕ, ◌<◌, ◌^◌, ◌==◌, ◌||◌, not, Bool, true, false, ⊤, List, [], ◌∷◌, ◌++◌, All, map, Option, Some, None, codes, decimal, length, refl, sym, ap, arith}
+use Rattle.std.proofs.Common.{◌≡◌, ◌≢◌, ◌∙◌, ℕ, ◌<◌, ◌^◌, ◌==◌, ◌||◌, not, Bool, true, false, List, [], ◌∷◌, ◌++◌, All, map, Option, Some, None, codes, decimal, length, refl, sym, ap, arith}
+use Rattle.std.specs.Prelude.{⊤}
 use Rattle.std.specs.List.{list_all, slice_split}
 use Rattle.std.proofs.lemmas.Bool.{ne_eqb}
 use Rattle.std.proofs.lemmas.List.{append-nil, append_assoc}
@@ -16,6 +17,7 @@ use Rattle.rtsp_client.specs.Meters.{watched_in}
 use Rattle.rtsp_client.specs.Moments.{History}
 use Rattle.rtsp_client.specs.declared.wishes.Watched.{Watched}
 use Rattle.rtsp_client.specs.declared.wishes.Wish.{Wish}
+use Rattle.troubles.specs.Said.{with_label}
 use Rattle.troubles.proofs.WordLemmas.{HasNo, none_by}
 use Rattle.vodserve.specs.TextLaws.{GivesOnce, IsShortWatched, TellsPlay, TellsServed, words_in}
 use Rattle.vodserve.specs.Served.{served_text}
@@ -100,20 +102,48 @@ settings_of w =
 
 watched-line : (w : Watched) → watched_text w ≡ codes "watched" ++ line_rest (10 ∷ []) (settings_of w)
 unfolding line_rest settings_of
-watched-line w = simp append_assoc
+watched-line w =
+    let head : List ℕ = codes "watched" in
+    let units : List ℕ = with_label (codes "units") w.units in
+    let bytes : List ℕ = with_label (codes "bytes") w.bytes in
+    let frames : List ℕ = with_label (codes "frames") w.frames in
+    let reports : List ℕ = with_label (codes "reports") w.reports in
+    let most : List ℕ = with_label (codes "most") w.most in
+    let over : List ℕ = with_label (codes "over") w.over in
+    let under : List ℕ = with_label (codes "under") w.under in
+    append_assoc (head ++ units ++ bytes ++ frames ++ reports ++ most ++ over) under (codes "\n")
+    ∙ append_assoc (head ++ units ++ bytes ++ frames ++ reports ++ most) over (under ++ codes "\n")
+    ∙ append_assoc (head ++ units ++ bytes ++ frames ++ reports) most (over ++ (under ++ codes "\n"))
+    ∙ append_assoc (head ++ units ++ bytes ++ frames) reports (most ++ (over ++ (under ++ codes "\n")))
+    ∙ append_assoc (head ++ units ++ bytes) frames (reports ++ (most ++ (over ++ (under ++ codes "\n"))))
+    ∙ append_assoc (head ++ units) bytes (frames ++ (reports ++ (most ++ (over ++ (under ++ codes "\n")))))
+    ∙ append_assoc head units (bytes ++ (frames ++ (reports ++ (most ++ (over ++ (under ++ codes "\n"))))))
 
 watched-words : (w : Watched) → IsShortWatched w → All (λ s. IsWord (word_of s)) (settings_of w)
 unfolding settings_of AreWords
 watched-words w short =
-    all-words (settings_of w)
-    (number-word (codes "units") w.units short.units_short (none_by 32 (codes "units") refl) (none_by 10 (codes "units") refl),
-    (number-word (codes "bytes") w.bytes short.bytes_short (none_by 32 (codes "bytes") refl) (none_by 10 (codes "bytes") refl),
-    (number-word (codes "frames") w.frames short.frames_short (none_by 32 (codes "frames") refl) (none_by 10 (codes "frames") refl),
-    (number-word (codes "reports") w.reports short.reports_short (none_by 32 (codes "reports") refl) (none_by 10 (codes "reports") refl),
-    (number-word (codes "most") w.most short.most_short (none_by 32 (codes "most") refl) (none_by 10 (codes "most") refl),
-    (number-word (codes "over") w.over short.over_short (none_by 32 (codes "over") refl) (none_by 10 (codes "over") refl),
-    (number-word (codes "under") w.under short.under_short (none_by 32 (codes "under") refl) (none_by 10 (codes "under") refl),
-    tt)))))))
+    all-words (settings_of w) (
+      number-word (codes "units") w.units short.units_short (none_by 32 (codes "units") refl) (none_by 10 (codes "units") refl),
+      (
+        number-word (codes "bytes") w.bytes short.bytes_short (none_by 32 (codes "bytes") refl) (none_by 10 (codes "bytes") refl),
+        (
+          number-word (codes "frames") w.frames short.frames_short (none_by 32 (codes "frames") refl) (none_by 10 (codes "frames") refl),
+          (
+            number-word (codes "reports") w.reports short.reports_short (none_by 32 (codes "reports") refl) (none_by 10 (codes "reports") refl),
+            (
+              number-word (codes "most") w.most short.most_short (none_by 32 (codes "most") refl) (none_by 10 (codes "most") refl),
+              (
+                number-word (codes "over") w.over short.over_short (none_by 32 (codes "over") refl) (none_by 10 (codes "over") refl),
+                (
+                  number-word (codes "under") w.under short.under_short (none_by 32 (codes "under") refl) (none_by 10 (codes "under") refl),
+                  tt,
+                ),
+              ),
+            ),
+          ),
+        ),
+      ),
+    )
 
 -- a key of the line has its number
 told : (w : Watched) (key : List ℕ) (number : ℕ) → IsShortWatched w → setting_value key (codes "watched") ≡ None →
@@ -144,9 +174,10 @@ counts_of connections entries = number_setting (codes "connections") connections
 counts-words : (connections entries : ℕ) → connections < 2 ^ 64 → entries < 2 ^ 64 → All (λ s. IsWord (word_of s)) (counts_of connections entries)
 unfolding counts_of AreWords
 counts-words connections entries small small' =
-    all-words (counts_of connections entries)
-    (number-word (codes "connections") connections small (none_by 32 (codes "connections") refl) (none_by 10 (codes "connections") refl),
-    (number-word (codes "entries") entries small' (none_by 32 (codes "entries") refl) (none_by 10 (codes "entries") refl), tt))
+    all-words (counts_of connections entries) (
+      number-word (codes "connections") connections small (none_by 32 (codes "connections") refl) (none_by 10 (codes "connections") refl),
+      (number-word (codes "entries") entries small' (none_by 32 (codes "entries") refl) (none_by 10 (codes "entries") refl), tt),
+    )
 
 counted : (connections entries : ℕ) (key : List ℕ) (number : ℕ) → connections < 2 ^ 64 → entries < 2 ^ 64 → setting_value key (codes "served") ≡ None →
     picked key (counts_of connections entries) ≡ decimal number ∷ [] → are_plain (counts_of connections entries) ≡ true →

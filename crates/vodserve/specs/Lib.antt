@@ -12,3 +12,4 @@ pub mod Served
 pub mod Laws
 pub mod Days
 pub mod TextLaws
+pub mod HelpLaws

@@ -5,6 +5,18 @@ use itoa::Buffer;
 use mpeg_scan::{Kind, Unit};
 use std::alloc::{AllocError, Global};
 
+/// The text of a film with that number of bytes, that rate code and those units.
+pub fn scan_text(alloc: Global, bytes: u64, rate: u8, units: &[Unit]) -> Result<Vec<u8>, AllocError>
+    ensures { IfOk result (λ text. text.items ≡ scan_text bytes rate units.now) }
+{
+    let mut text = film_text(alloc, bytes, rate, units.len() as u64)?;
+    for (number, unit) in units.iter().enumerate() {
+        push_unit(&mut text, number as u64, unit)?;
+    }
+    text.extend_from_slice(b"end\n")?;
+    Ok(text)
+}
+
 /// Appends a label and a number.
 fn push_field(text: &mut Vec<u8>, label: &[u8], number: u64) -> Result<(), AllocError>
     ensures { OnOk result (text.new.items ≡ text.old.items ++ label.now ++ decimal number) }
@@ -84,17 +96,5 @@ fn film_text(alloc: Global, bytes: u64, rate: u8, pictures: u64) -> Result<Vec<u
     push_field(&mut text, b" rate=", u64::from(rate))?;
     push_field(&mut text, b" pictures=", pictures)?;
     text.extend_from_slice(b"\n")?;
-    Ok(text)
-}
-
-/// The text of a film with that number of bytes, that rate code and those units.
-pub fn scan_text(alloc: Global, bytes: u64, rate: u8, units: &[Unit]) -> Result<Vec<u8>, AllocError>
-    ensures { IfOk result (λ text. text.items ≡ scan_text bytes rate units.now) }
-{
-    let mut text = film_text(alloc, bytes, rate, units.len() as u64)?;
-    for (number, unit) in units.iter().enumerate() {
-        push_unit(&mut text, number as u64, unit)?;
-    }
-    text.extend_from_slice(b"end\n")?;
     Ok(text)
 }

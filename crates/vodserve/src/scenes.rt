@@ -458,11 +458,11 @@ impl Stage {
 ///
 /// `file NAME TEXT`, `reply NAME TEXT`, `bytes NAME WORDS`, `sizes NAME FILM`, `hears TEXT`, `gets
 /// WORDS`, `slots FIRST LAST`, `part [CALL]` and `fails OBJECT CALL` say what the next run is over;
-/// `> WORDS` runs; and the lines after it say what it left: `STATUS TEXT` its status and its whole text, of the output or else of
-/// the error stream, `ends STATUS` its status alone, `out TEXT`, `err TEXT` and `is NAME` a whole
-/// text, `has TEXT` a part of the output, `counts REPORTS ENTRIES`, `says REPLY`, `sends WORDS`,
-/// `plays NAME` and `said LINKS TEXT` what its links sent. `keeps NAME` makes a file of the output.
-/// What no line reads is to be empty.
+/// `> WORDS` runs; and the lines after it say what it left: `STATUS TEXT` its status and its whole
+/// text, of the output or else of the error stream, `ends STATUS` its status alone, `out TEXT`,
+/// `err TEXT` and `is NAME` a whole text, `has TEXT` a part of the output, `counts REPORTS ENTRIES`,
+/// `says REPLY`, `sends WORDS`, `plays NAME` and `said LINKS TEXT` what its links sent. `keeps NAME`
+/// makes a file of the output. What no line reads is to be empty.
 fn play_out<R: Threads + Wait + Sync + Abort>(
     rt: &R,
     alloc: Global,

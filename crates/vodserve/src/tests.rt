@@ -1,8 +1,6 @@
 //! Traces, certificates, generated material and the words of the command line, through `run`.
 
 use crate::scenes::passes;
-use crate::texts::help;
-use command_words::{command_named, keys_of};
 use std::test::Fail;
 
 /// Plans of traces, and verdicts on certificates of them.
@@ -206,29 +204,4 @@ fn says_what_failed(rt: HostRuntime) -> Result<(), Fail> {
 #[test]
 fn makes_the_same_from_a_number(rt: HostRuntime) -> Result<(), Fail> {
     passes(&rt, rt.alloc(), MADE)
-}
-
-/// The commands that `--help` has to name with each of their keys.
-const COMMANDS: &str = "plan check scan make day fair serve watch";
-
-#[test]
-fn helps_with_every_key(rt: HostRuntime) -> Result<(), Fail> {
-    let alloc = rt.alloc();
-    let bytes = help(alloc)?;
-    let Ok(text) = str::from_utf8(&bytes) else {
-        return Err(Fail::from("no text"));
-    };
-    for name in COMMANDS.split_whitespace() {
-        let Some(command) = command_named(name) else {
-            return Err(Fail::from("no command"));
-        };
-        let Some((_, after)) = text.split_once(&format!(in alloc; "\n  {name} ")?) else {
-            return Err(Fail::from("no help"));
-        };
-        for key in keys_of(command) {
-            let word = format!(in alloc; "{key}=")?;
-            assert!(rt; after.contains(word.as_str()), "{name} {key}");
-        }
-    }
-    Ok(())
 }

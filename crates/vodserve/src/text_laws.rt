@@ -1,9 +1,17 @@
 //! What a reader of the output can tell from it: laws over the texts that are printed.
 
-ghost use Rattle.std.specs.Prelude.{◌≡◌, ◌≢◌, ◌<◌, ◌^◌, ℕ, List, All, codes, length};
+ghost use Rattle.std.specs.Prelude.{◌≡◌, ◌≢◌, ◌<◌, ◌^◌, ℕ, true, List, All, codes, length};
+ghost use Rattle.std.specs.List.{list_all};
 ghost use Rattle.mpeg_scan.specs.declared.units.Unit.{Unit};
 ghost use Rattle.cert_check.specs.declared.CertFault.{CertFault};
 ghost use Rattle.admission.specs.declared.entries.Entry.{Entry};
+ghost use Rattle.command_words.specs.Commands.{keys_of};
+ghost use Rattle.command_words.specs.Forms.{defaults};
+ghost use Rattle.command_words.specs.Spelling.{name_of};
+ghost use Rattle.command_words.specs.Words.{Order};
+ghost use Rattle.command_words.specs.declared.commands.Command.{Command};
+ghost use Rattle.vodserve.specs.HelpLaws.{fits_into, shows_command, shows_default, shows_key};
+ghost use Rattle.vodserve.specs.Texts.{help_text};
 ghost use Rattle.vodserve.specs.ScanText.{scan_text};
 ghost use Rattle.vodserve.specs.Served.{served_text};
 ghost use Rattle.rtsp_client.specs.Meters.{watched_in};
@@ -55,4 +63,14 @@ pub fn law_served_tells_counts()
 pub fn law_line_tells_play()
     ensures { (wish : Wish) (history : History) → IsShortWatched (watched_in wish history) →
         TellsPlay wish history (watched_text (watched_in wish history)) }
+{}
+
+/// A law: `--help` names each command in a line of its own and each key that a command takes, says
+/// in the row of a key what holds where it is left out, and fits into 79 columns.
+pub fn law_help()
+    ensures commands { (order : Order) → shows_command help_text (name_of order) ≡ true }
+    ensures keys { (command : Command) →
+        list_all (shows_key help_text) (keys_of command) ≡ true }
+    ensures defaults { list_all (shows_default help_text) defaults ≡ true }
+    ensures columns { fits_into 79 help_text ≡ true }
 {}
