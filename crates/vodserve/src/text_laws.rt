@@ -12,24 +12,29 @@ ghost use Rattle.command_words.specs.Words.{Order};
 ghost use Rattle.command_words.specs.declared.commands.Command.{Command};
 ghost use Rattle.vodserve.specs.HelpLaws.{fits_into, shows_command, shows_default, shows_key};
 ghost use Rattle.vodserve.specs.Texts.{help_text};
-ghost use Rattle.vodserve.specs.ScanText.{scan_text};
+ghost use Rattle.vodserve.specs.ScanText.{film_line, scan_text, unit_line};
 ghost use Rattle.vodserve.specs.Served.{served_text};
 ghost use Rattle.rtsp_client.specs.Meters.{watched_in};
 ghost use Rattle.rtsp_client.specs.Moments.{History};
 ghost use Rattle.rtsp_client.specs.declared.wishes.Wish.{Wish};
 ghost use Rattle.vodserve.specs.TextLaws.{IsSameScan, IsShortFault, IsShortUnit, IsShortWatched};
-ghost use Rattle.vodserve.specs.TextLaws.{TellsPlay, TellsServed};
+ghost use Rattle.vodserve.specs.TextLaws.{TellsFilm, TellsPlay, TellsServed, TellsUnit};
 ghost use Rattle.vodserve.specs.Verdict.{refused_line};
 ghost use Rattle.vodserve.specs.Watches.{watched_text};
 
 /// A law: the text of a scan tells the film's size, its rate code and its units, one for each line
-/// between the first and the last: scans with the same text tell the same of each.
+/// between the first and the last: scans with the same text tell the same of each, and in a line
+/// each number stands by its key.
 pub fn law_scan_tells_units()
-    ensures { (bytes bytes' rate rate' : ℕ) (units units' : List Unit) → bytes < 2 ^ 64 →
+    ensures same { (bytes bytes' rate rate' : ℕ) (units units' : List Unit) → bytes < 2 ^ 64 →
         bytes' < 2 ^ 64 → rate < 2 ^ 64 → rate' < 2 ^ 64 → length units < 2 ^ 64 →
         length units' < 2 ^ 64 → All IsShortUnit units → All IsShortUnit units' →
         scan_text bytes rate units ≡ scan_text bytes' rate' units' →
         IsSameScan bytes bytes' rate rate' units units' }
+    ensures film { (bytes rate pictures : ℕ) → bytes < 2 ^ 64 → rate < 2 ^ 64 →
+        pictures < 2 ^ 64 → TellsFilm bytes rate pictures (film_line bytes rate pictures) }
+    ensures unit { (number : ℕ) (unit : Unit) → number < 2 ^ 64 → IsShortUnit unit →
+        TellsUnit number unit (unit_line number unit) }
 {}
 
 /// A law: the line of a refused certificate tells its fault, with its number, and is another than
