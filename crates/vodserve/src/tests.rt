@@ -169,16 +169,6 @@ has film bytes=268101 rate=3 pictures=250|0 I show=0 from=0
 ends 0
 > check film=stream slot=7200 cert=cert
 0 least|
-# the certificate of a long film is that of the sizes of its units on the wire
-> make seed=5 pictures=20000 kind=film
-keeps long
-sizes trace long
-> plan trace=trace
-keeps long_cert
-> plan film=long
-is long_cert
-> check film=long cert=long_cert
-0 least|
 > --help
 has usage: vodserve COMMAND KEY=VALUE ..|
 ends 0
@@ -204,4 +194,22 @@ fn says_what_failed(rt: HostRuntime) -> Result<(), Fail> {
 #[test]
 fn makes_the_same_from_a_number(rt: HostRuntime) -> Result<(), Fail> {
     passes(&rt, rt.alloc(), MADE)
+}
+
+/// The certificate of a long film is that of the sizes of its units on the wire.
+const LONG: &str = "\
+> make seed=5 pictures=20000 kind=film
+keeps long
+sizes trace long
+> plan trace=trace
+keeps cert
+> plan film=long
+is cert
+> check film=long cert=cert
+0 least|
+";
+
+#[test]
+fn plans_a_long_film(rt: HostRuntime) -> Result<(), Fail> {
+    passes(&rt, rt.alloc(), LONG)
 }
