@@ -5,7 +5,7 @@ use Rattle.admission.specs.declared.entries.Entry.{Entry}
 use Rattle.std.specs.List.{Contains}
 use Rattle.inputs.specs.Files.{IsNamed}
 use Rattle.troubles.proofs.CauseLemmas.{trouble_map}
-use Rattle.vodserve.specs.Days.{IsDayInput, IsDayRefused, IsOneRefused, IsScriptRefused, names_in}
+use Rattle.vodserve.specs.Days.{IsDayInput, IsDayRefused, IsFirstNamedRefused, IsScriptRefused, names_in}
 use Rattle.vodserve.proofs.day_ends.day.Goals as goal
 
 pub returns-in-Err-clause-runs : goal.returns-in-Err-clause-runs
@@ -32,7 +32,7 @@ returns-in-Err-load_sources-clause-runs g c =
       c.in-Err-load_sources.trouble,
       (
         trouble_map (Contains (names_in c.deref.result.now)) (IsDayInput (g.L.Library.files c.args.library.now) c.args.run.now.script.now)
-            (IsOneRefused c.deref.result.now) (IsDayRefused c.args.run.now.script.now)
+            (IsFirstNamedRefused c.deref.result.now) (IsDayRefused c.args.run.now.script.now)
             (g.L.Library.files c.load_script.new.library) (g.L.Library.files c.args.library.now)
             (g.L.Library.faults c.load_script.new.library) (g.L.Library.faults c.load_sources.new.library) (g.L.Library.faults c.args.library.now) (g.L.Library.faults c.load_sources.new.library)
             c.in-Err-load_sources.trouble
