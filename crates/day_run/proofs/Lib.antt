@@ -32,3 +32,4 @@ pub mod OfferLaws
 pub mod SpelledLines
 pub mod SpelledScripts
 pub mod ScriptEnds
+pub mod DrawnTurns

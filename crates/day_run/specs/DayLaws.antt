@@ -1,5 +1,5 @@
 -- What holds of every day.
-use Rattle.std.specs.Prelude.{ℕ, ◌≡◌, ◌+◌, ◌-◌, ◌*◌, ◌<◌, ◌≤◌, ◌++◌, List, Option, Some, None, codes, flat_map, fold, length, map, max, slice_index_or, sum_by}
+use Rattle.std.specs.Prelude.{ℕ, ◌≡◌, ◌+◌, ◌-◌, ◌*◌, ◌<◌, ◌≤◌, ◌⊎◌, ◌++◌, List, [], Option, Some, None, codes, flat_map, fold, length, map, max, slice_index_or, sum_by}
 use Rattle.std.specs.List.{range_with_len}
 use Rattle.admission.specs.Histories.{booked_after, state_after}
 use Rattle.admission.specs.Machine.{start_after}
@@ -13,11 +13,11 @@ use Rattle.admission.specs.declared.entries.Entry.{Entry}
 use Rattle.day_run.specs.declared.counts.Counts.{Counts}
 use Rattle.plan_cert.specs.Slots.{sum_through, total_bytes}
 use Rattle.film_run.specs.Units.{IsTrace}
-use Rattle.day_run.specs.Days.{Link, Moment}
+use Rattle.day_run.specs.Days.{IsLine, IsTold, Link, Moment}
 use Rattle.film_frames.specs.Tracks.{IsBoundary}
 use Rattle.film_run.specs.Plans.{CanPlay, IsPlanOf}
 use Rattle.day_run.specs.Seats.{Idle, Playing, Pausing, Paused, Play as ClientPlay, Rest, Seat, Track}
-use Rattle.day_run.specs.FairDays.{made_of}
+use Rattle.day_run.specs.FairDays.{Turn, at_later, made_of}
 use Rattle.day_run.specs.Prints.{fair_text, start_words, tried_text}
 use Rattle.day_run.specs.declared.scripts.Line.{Line}
 use Rattle.day_run.specs.declared.scripts.Line.TheVariants.{Play, Pause, Resume, Look, Slot, Offer}
@@ -121,3 +121,23 @@ pub record IsFairLine (steps : List CapStep) (plays : ℕ) (text : List ℕ) (jo
   pub booked_is : counts.booked ≡ sum_by (booked_after journal) (range_with_len 1 counts.last)
   pub peak_is : counts.peak ≡ fold max 0 (map (booked_after journal) (range_with_len 1 counts.last))
   pub within : (most : ℕ) → ((t : ℕ) → capacity_at steps t ≤ most) → counts.peak ≤ most
+
+-- the lines that a turn of a large day brings: a play of one of its 16 traces, for a buffer of
+-- 16,384 to 32,767 bytes and a start delay of at most 25 slots; a pause; or a resume
+abbrev pub IsDrawnLine : Line → Type 0
+IsDrawnLine (Play client source buffer delay) =
+    (client < 256) × (source < 16) × (16384 ≤ buffer) × (buffer < 32768) × (delay ≤ 25)
+IsDrawnLine (Pause client) = client < 256
+IsDrawnLine (Resume client) = client < 256
+IsDrawnLine (Look slot) = ⊥
+IsDrawnLine (Slot slot) = ⊥
+IsDrawnLine (Offer client source buffer delay wait) = ⊥
+
+-- a turn of a large day: the link comes to a slot that is at most three later, or stays at its own;
+-- then such a line is run, or nothing is done
+pub record IsDrawnTurn (link : Link) (turn : Turn) : Type 0 where
+  pub later : ℕ
+  pub few : later ≤ 3
+  pub mid_is : turn.mid ≡ at_later turn.old later
+  pub done : IsTold [] turn.mid turn.new turn.text
+      ⊎ ((line : Line) × (IsDrawnLine line × IsLine link line turn.mid turn.new turn.text))

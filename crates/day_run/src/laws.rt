@@ -8,9 +8,9 @@ ghost use Rattle.admission.specs.declared.entries.Entry.{Entry};
 ghost use Rattle.admission.specs.Histories.{IsLegal, booked_after, state_after};
 ghost use Rattle.day_run.specs.Balanced.{share_of};
 ghost use Rattle.day_run.specs.Clients.{after_open};
-ghost use Rattle.day_run.specs.DayLaws.{AreClients, IsClient, IsFairLine, IsLink, IsOfferTold, IsSoundSeat};
+ghost use Rattle.day_run.specs.DayLaws.{AreClients, IsClient, IsDrawnTurn, IsFairLine, IsLink, IsOfferTold, IsSoundSeat};
 ghost use Rattle.day_run.specs.Days.{AreRun, IsDay, IsFaulty, IsLine, Link, Moment, booked_up_to, last_journal, first_moment, rest_at, seat_at, sent_up_to};
-ghost use Rattle.day_run.specs.FairDays.{IsFair};
+ghost use Rattle.day_run.specs.FairDays.{IsFair, IsTurn, Turn};
 ghost use Rattle.day_run.specs.declared.scripts.Script.{Script};
 ghost use Rattle.day_run.specs.Lines.{lines_of_script};
 ghost use Rattle.day_run.specs.Readings.{IsBadLine, IsScript, Name, Reading, lines_read, names_of};
@@ -49,6 +49,13 @@ pub fn law_fair()
     ensures { (steps : List CapStep) (number plays : ℕ) (text : List ℕ) (journal : List Entry) →
         IsFair steps number plays text journal → IsLegal steps journal →
         IsFairLine steps plays text journal }
+{}
+
+/// Each turn of a large day is a script's: at most one slot, of the next three, and then at most
+/// one line, by which one of 256 clients plays, pauses or goes on.
+pub fn law_drawn_turns()
+    ensures { (link : Link) (words : ℕ → ℕ) (turn : Turn) → IsTurn link words turn →
+        IsDrawnTurn link turn }
 {}
 
 /// A script that is spelled line by line is read as that script. A line whose numbers are out of

@@ -124,10 +124,16 @@ impl Client {
         ensures cause { IfErr result (λ end.
             HasCause end (K.faults link.old) (K.faults link.new) (O.faults out.old)
             (O.faults out.new)) }
-        ensures on { (h : History) → Keeps wish.now h self.old → OnOk result
-            (HasRound wish.now h self.old.input (doing_of heard bytes.now) self.new (sight (K.told link.old) (O.written out.old)) (sight (K.told link.new) (O.written out.new))) }
-        ensures ended { (h : History) → Keeps wish.now h self.old → IfErr result
-            (λ end. HasEnded wish.now h self.old.input (doing_of heard bytes.now) end (sight (K.told link.old) (O.written out.old)) (sight (K.told link.new) (O.written out.new))) }
+        ensures on { (h : History) → Keeps wish.now h self.old →
+            let before = sight (K.told link.old) (O.written out.old) in
+            let after = sight (K.told link.new) (O.written out.new) in
+            OnOk result
+            (HasRound wish.now h self.old.input (doing_of heard bytes.now) self.new before after) }
+        ensures ended { (h : History) → Keeps wish.now h self.old →
+            let before = sight (K.told link.old) (O.written out.old) in
+            let after = sight (K.told link.new) (O.written out.new) in
+            IfErr result (λ end.
+            HasEnded wish.now h self.old.input (doing_of heard bytes.now) end before after) }
     {
         match heard {
             Heard::End => {
@@ -166,8 +172,10 @@ impl Client {
             OnOk result (HasTaken wish.now h self.old.input self.new
             (sight (K.told link.old) (O.written out.old))
             (sight (K.told link.new) (O.written out.new))) }
-        ensures stopped { (h : History) → Keeps wish.now h self.old → IfErr result
-            (λ end. HasStopped wish.now h self.old.input end (sight (K.told link.old) (O.written out.old)) (sight (K.told link.new) (O.written out.new))) }
+        ensures stopped { (h : History) → Keeps wish.now h self.old →
+            let before = sight (K.told link.old) (O.written out.old) in
+            let after = sight (K.told link.new) (O.written out.new) in
+            IfErr result (λ end. HasStopped wish.now h self.old.input end before after) }
     {
         'pieces: loop {
             match self.take_next(wish, link, out) {
@@ -203,8 +211,10 @@ impl Client {
             OnOk result (HasTaken wish.now h self.old.input self.new
             (sight (K.told link.old) (O.written out.old))
             (sight (K.told link.new) (O.written out.new))) }
-        ensures stopped { (h : History) → Keeps wish.now h self.old → IfErr result
-            (λ end. HasStopped wish.now h self.old.input end (sight (K.told link.old) (O.written out.old)) (sight (K.told link.new) (O.written out.new))) }
+        ensures stopped { (h : History) → Keeps wish.now h self.old →
+            let before = sight (K.told link.old) (O.written out.old) in
+            let after = sight (K.told link.new) (O.written out.new) in
+            IfErr result (λ end. HasStopped wish.now h self.old.input end before after) }
     {
         match self.input.look() {
             Err(_) => Err(WatchEnd::Fault(WatchFault::Framing)),
@@ -257,10 +267,16 @@ impl Client {
         ensures cause { IfErr result (λ end.
             HasCause end (K.faults link.old) (K.faults link.new) (O.faults out.old)
             (O.faults out.new)) }
-        ensures passed { (h : History) → Keeps wish.now h self.old → OnOk result
-            (HasPassed wish.now h (block_moments channel (take length self.old.input)) self.new (sight (K.told link.old) (O.written out.old)) (sight (K.told link.new) (O.written out.new))) }
-        ensures ended { (h : History) → Keeps wish.now h self.old → IfErr result
-            (λ end. (channel ≡ 0) × HasEndedAt wish.now h (Frame (take length self.old.input)) end (sight (K.told link.old) (O.written out.old)) (sight (K.told link.new) (O.written out.new))) }
+        ensures passed { (h : History) → Keeps wish.now h self.old →
+            let before = sight (K.told link.old) (O.written out.old) in
+            let after = sight (K.told link.new) (O.written out.new) in
+            let moments = block_moments channel (take length self.old.input) in
+            OnOk result (HasPassed wish.now h moments self.new before after) }
+        ensures ended { (h : History) → Keeps wish.now h self.old →
+            let before = sight (K.told link.old) (O.written out.old) in
+            let after = sight (K.told link.new) (O.written out.new) in
+            let piece = Frame (take length self.old.input) in
+            IfErr result (λ end. (channel ≡ 0) × HasEndedAt wish.now h piece end before after) }
     {
         match channel {
             0 => self.take_frame(wish, length, link, out),
@@ -293,10 +309,16 @@ impl Client {
         ensures cause { IfErr result (λ end.
             HasCause end (K.faults link.old) (K.faults link.new) (O.faults out.old)
             (O.faults out.new)) }
-        ensures passed { (h : History) → Keeps wish.now h self.old → OnOk result
-            (HasPassed wish.now h (Frame (take length self.old.input) ∷ []) self.new (sight (K.told link.old) (O.written out.old)) (sight (K.told link.new) (O.written out.new))) }
-        ensures ended { (h : History) → Keeps wish.now h self.old → IfErr result
-            (λ end. HasEndedAt wish.now h (Frame (take length self.old.input)) end (sight (K.told link.old) (O.written out.old)) (sight (K.told link.new) (O.written out.new))) }
+        ensures passed { (h : History) → Keeps wish.now h self.old →
+            let before = sight (K.told link.old) (O.written out.old) in
+            let after = sight (K.told link.new) (O.written out.new) in
+            let piece = Frame (take length self.old.input) in
+            OnOk result (HasPassed wish.now h (piece ∷ []) self.new before after) }
+        ensures ended { (h : History) → Keeps wish.now h self.old →
+            let before = sight (K.told link.old) (O.written out.old) in
+            let after = sight (K.told link.new) (O.written out.new) in
+            let piece = Frame (take length self.old.input) in
+            IfErr result (λ end. HasEndedAt wish.now h piece end before after) }
     {
         let block = &self.input.waiting()[..length];
         let Some(source) = self.watching.source_with(block) else {
@@ -358,11 +380,15 @@ impl Client {
         ensures cause { IfErr result (λ end.
             HasCause end (K.faults link.old) (K.faults link.new) 0 0) }
         ensures passed { (h : History) (out : Option (List ℕ)) → Keeps wish.now h self.old →
-            OnOk result
-            (HasPassed wish.now h (Reply (take length self.old.input) ∷ []) self.new (sight (K.told link.old) out) (sight (K.told link.new) out)) }
+            let before = sight (K.told link.old) out in
+            let after = sight (K.told link.new) out in
+            let piece = Reply (take length self.old.input) in
+            OnOk result (HasPassed wish.now h (piece ∷ []) self.new before after) }
         ensures ended { (h : History) (out : Option (List ℕ)) → Keeps wish.now h self.old →
-            IfErr result
-            (λ end. HasEndedAt wish.now h (Reply (take length self.old.input)) end (sight (K.told link.old) out) (sight (K.told link.new) out)) }
+            let before = sight (K.told link.old) out in
+            let after = sight (K.told link.new) out in
+            let piece = Reply (take length self.old.input) in
+            IfErr result (λ end. HasEndedAt wish.now h piece end before after) }
     {
         match self.awaited_code(&self.input.waiting()[..length]) {
             None => {
@@ -395,11 +421,15 @@ impl Client {
         ensures cause { IfErr result (λ end.
             HasCause end (K.faults link.old) (K.faults link.new) 0 0) }
         ensures passed { (h : History) (out : Option (List ℕ)) → Keeps wish.now h self.old →
-            OnOk result
-            (HasPassed wish.now h (Reply (take length self.old.input) ∷ []) self.new (sight (K.told link.old) out) (sight (K.told link.new) out)) }
+            let before = sight (K.told link.old) out in
+            let after = sight (K.told link.new) out in
+            let piece = Reply (take length self.old.input) in
+            OnOk result (HasPassed wish.now h (piece ∷ []) self.new before after) }
         ensures ended { (h : History) (out : Option (List ℕ)) → Keeps wish.now h self.old →
-            IfErr result
-            (λ end. HasEndedAt wish.now h (Reply (take length self.old.input)) end (sight (K.told link.old) out) (sight (K.told link.new) out)) }
+            let before = sight (K.told link.old) out in
+            let after = sight (K.told link.new) out in
+            let piece = Reply (take length self.old.input) in
+            IfErr result (λ end. HasEndedAt wish.now h piece end before after) }
     {
         if self.replies == 0 {
             return self.take_setup(wish, length, link);
@@ -427,11 +457,15 @@ impl Client {
         ensures cause { IfErr result (λ end.
             HasCause end (K.faults link.old) (K.faults link.new) 0 0) }
         ensures passed { (h : History) (out : Option (List ℕ)) → Keeps wish.now h self.old →
-            OnOk result
-            (HasPassed wish.now h (Reply (take length self.old.input) ∷ []) self.new (sight (K.told link.old) out) (sight (K.told link.new) out)) }
+            let before = sight (K.told link.old) out in
+            let after = sight (K.told link.new) out in
+            let piece = Reply (take length self.old.input) in
+            OnOk result (HasPassed wish.now h (piece ∷ []) self.new before after) }
         ensures ended { (h : History) (out : Option (List ℕ)) → Keeps wish.now h self.old →
-            IfErr result
-            (λ end. HasEndedAt wish.now h (Reply (take length self.old.input)) end (sight (K.told link.old) out) (sight (K.told link.new) out)) }
+            let before = sight (K.told link.old) out in
+            let after = sight (K.told link.new) out in
+            let piece = Reply (take length self.old.input) in
+            IfErr result (λ end. HasEndedAt wish.now h piece end before after) }
     {
         let Some(session) = session_in(&self.input.waiting()[..length]) else {
             return Err(WatchEnd::Fault(WatchFault::BadReply(1)));
