@@ -460,9 +460,9 @@ impl Stage {
 /// WORDS`, `slots FIRST LAST`, `part [CALL]` and `fails OBJECT CALL` say what the next run is over;
 /// `> WORDS` runs; and the lines after it say what it left: `STATUS TEXT` its status and its whole
 /// text, of the output or else of the error stream, `ends STATUS` its status alone, `out TEXT`,
-/// `err TEXT` and `is NAME` a whole text, `has TEXT` a part of the output, `says REPLY`, `sends
-/// WORDS`, `plays NAME` and `said LINKS TEXT` what its links sent, and `counts REPORTS ENTRIES`.
-/// `keeps NAME` makes a file of the output. What no line reads is to be empty.
+/// `err TEXT` and `is NAME` a whole text, `has TEXT` a part of the output, `counts REPORTS ENTRIES`,
+/// `says REPLY`, `sends WORDS`, `plays NAME` and `said LINKS TEXT` what its links sent. `keeps NAME`
+/// makes a file of the output. What no line reads is to be empty.
 fn play_out<R: Threads + Wait + Sync + Abort>(
     rt: &R,
     alloc: Global,
