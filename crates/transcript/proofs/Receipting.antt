@@ -210,9 +210,11 @@ logs-ending old new count (AtPiece round) end ends = logs-round old new round en
 logs-ending old new count (InSlot slot front) end ends = logs-same old.session new.session ends.1.receipts ends.1.offers
 logs-ending old new count (InReply round message outcome front) end ends =
     let e = ends.1 in
-    logs-then old.session e.mid.session new.session (round_outcomes round) (outcome ∷ []) (logs-round old e.mid round e.runs)
-    (subst (λ (s : Stage). Logs e.mid.session s.session (outcome ∷ [])) (sym e.fails.new_is)
-    (logs-heard e.mid.session e.fails.answered message outcome e.fails.heard))
+    let last = logs-heard e.mid.session e.fails.answered message outcome e.fails.heard in
+    logs-then old.session e.mid.session new.session (round_outcomes round) (outcome ∷ []) (logs-round old e.mid round e.runs) (record {
+      receipts = ap (λ (s : Stage). s.session.receipts) e.fails.new_is ∙ last.receipts;
+      offers = ap (λ (s : Stage). s.session.offers) e.fails.new_is ∙ last.offers;
+    })
 
 logs-closed : (booking : Option Open) (last closed : Standing) (halt : Outcome) → IsClosed booking last halt closed → Logs last closed (halt ∷ [])
 logs-closed None last closed Unasked is = logs-unasked last closed Unasked is
