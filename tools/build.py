@@ -81,6 +81,10 @@ class Build:
         above = [self.rest_of(it) for it, below in self.below.items() if name in below]
         return self.lines[name] + max(above, default=0)
 
+    def is_longest(self, name):
+        """Whether no crate that isn't proved yet has a longer chain above it: the whole waits for this one."""
+        return self.rest_of(name) == max(self.rest_of(it) for it in self.below if it not in self.done)
+
     def prove(self, lane, name, jobs):
         """Returns whether a lane's rt proved a crate and built its library; what it said stands in the room."""
         with open(f"{self.room}/{name}.log", "w", encoding="utf-8") as log:
@@ -114,7 +118,7 @@ class Build:
                 for place, name in enumerate(ready):
                     if free == 0:
                         break
-                    jobs = max(1, free // (len(ready) - place))
+                    jobs = max(free // (len(ready) - place), min(2, free) if self.is_longest(name) else 1)
                     lane = lanes.pop()
                     left.remove(name)
                     free -= jobs
