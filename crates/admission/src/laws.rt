@@ -1,7 +1,8 @@
 //! Laws of the machine and of its histories.
 
 ghost use Rattle.std.specs.Prelude.{◌≡◌, ◌+◌, ◌<◌, ◌≤◌, ◌++◌, [], ◌∷◌, ℕ, List, All, Some};
-ghost use Rattle.std.specs.Prelude.{◌==◌, filter, count_by, false, length, map, max, slice_index_or, take, true};
+ghost use Rattle.std.specs.Prelude.{◌==◌, filter, count_by, false, length, map, max};
+ghost use Rattle.std.specs.Prelude.{slice_index_or, take, true};
 ghost use Rattle.plan_cert.specs.declared.Segment.{Segment};
 ghost use Rattle.plan_cert.specs.Plan.{IsPlan};
 ghost use Rattle.slot_calendar.specs.Plays.{asked_at, cut_at};

@@ -5,7 +5,9 @@ use Rattle.slope_frac.specs.Order.{IsBelow, IsLevel}
 use Rattle.plan_cert.specs.declared.Segment.{Segment}
 use Rattle.plan_cert.specs.Slots.{total_slots, total_bytes}
 use Rattle.cert_check.specs.declared.CertFault.{CertFault}
-use Rattle.cert_check.specs.declared.CertFault.TheVariants.{EmptySegment, WrongLength, WrongTotal, BelowLow, AboveUp, EqualSlopes, RiseOffUpper, FallOffLower}
+use Rattle.cert_check.specs.declared.CertFault.TheVariants.{EmptySegment, WrongLength, WrongTotal}
+use Rattle.cert_check.specs.declared.CertFault.TheVariants.{BelowLow, AboveUp, EqualSlopes}
+use Rattle.cert_check.specs.declared.CertFault.TheVariants.{RiseOffUpper, FallOffLower}
 use Rattle.wire_curve.specs.Sound.{bound_at}
 use Rattle.cert_check.specs.Line.{slope_of, segment_at, line_top, line_under, end_place, end_height}
 

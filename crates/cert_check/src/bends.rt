@@ -9,30 +9,6 @@ use plan_cert::Segment;
 use slope_frac::{Slope, compare};
 use wire_curve::Curves;
 
-/// The slope of a segment.
-fn slope(segment: Segment) -> Slope
-    ensures { result ≡ slope_of segment }
-{
-    Slope {
-        bytes: segment.bytes,
-        slots: segment.slots,
-    }
-}
-
-/// Whether the first slope is less than the second.
-fn rises(before: Segment, after: Segment) -> bool
-    ensures { IsTrue result ↔ IsBelow (slope_of before) (slope_of after) }
-{
-    compare(slope(before), slope(after)).is_lt()
-}
-
-/// Whether the slopes are equal.
-fn stays_level(before: Segment, after: Segment) -> bool
-    ensures { IsTrue result ↔ IsLevel (slope_of before) (slope_of after) }
-{
-    compare(slope(before), slope(after)).is_eq()
-}
-
 /// The first segment that has the slope of the next one.
 pub fn first_equal(segments: &[Segment]) -> Option<u64>
     ensures { MatchOption result ((i : ℕ) →
@@ -86,4 +62,28 @@ pub fn first_fall_off(curves: &Curves, segments: &[Segment]) -> Option<u64>
         }
     }
     None
+}
+
+/// The slope of a segment.
+fn slope(segment: Segment) -> Slope
+    ensures { result ≡ slope_of segment }
+{
+    Slope {
+        bytes: segment.bytes,
+        slots: segment.slots,
+    }
+}
+
+/// Whether the first slope is less than the second.
+fn rises(before: Segment, after: Segment) -> bool
+    ensures { IsTrue result ↔ IsBelow (slope_of before) (slope_of after) }
+{
+    compare(slope(before), slope(after)).is_lt()
+}
+
+/// Whether the slopes are equal.
+fn stays_level(before: Segment, after: Segment) -> bool
+    ensures { IsTrue result ↔ IsLevel (slope_of before) (slope_of after) }
+{
+    compare(slope(before), slope(after)).is_eq()
 }

@@ -30,6 +30,27 @@ pub fn check(curves: &Curves, segments: &[Segment]) -> Result<(), CertFault>
     find_fault(curves, segments)
 }
 
+/// The law: a list of segments that passes [`check`] is best. Its slots keep the running sum
+/// between the curves; no feasible list of slots sends less above any rate, nor has a smaller
+/// greatest slot; and no other list of segments passes.
+pub fn law_best(curves: &Curves, segments: &[Segment])
+    requires sound { IsSound curves.now.from curves.now.low.items curves.now.up.items }
+    requires taut { IsTaut curves.now.from curves.now.low.items curves.now.up.items segments.now }
+    ensures { IsBestPlan curves.now.from curves.now.low.items curves.now.up.items segments.now }
+{
+    let _first = segments.first();
+    let _from = curves.from;
+}
+
+/// The law: the kinds of faults are looked for in this order.
+pub fn law_order()
+    ensures { (i : ℕ) → map kind_of
+        (EmptySegment i ∷ WrongLength ∷ WrongTotal ∷ BelowLow i ∷ AboveUp i ∷ EqualSlopes i
+        ∷ RiseOffUpper i ∷ FallOffLower i ∷ [])
+        ≡ 0 ∷ 1 ∷ 2 ∷ 3 ∷ 4 ∷ 5 ∷ 6 ∷ 7 ∷ [] }
+{}
+
+
 /// The first fault.
 fn find_fault(curves: &Curves, segments: &[Segment]) -> Result<(), CertFault>
     requires { IsSound curves.now.from curves.now.low.items curves.now.up.items }
@@ -75,23 +96,3 @@ fn check_bends(curves: &Curves, segments: &[Segment]) -> Result<(), CertFault>
     }
     Ok(())
 }
-
-/// The law: a list of segments that passes [`check`] is best. Its slots keep the running sum
-/// between the curves; no feasible list of slots sends less above any rate, nor has a smaller
-/// greatest slot; and no other list of segments passes.
-pub fn law_best(curves: &Curves, segments: &[Segment])
-    requires sound { IsSound curves.now.from curves.now.low.items curves.now.up.items }
-    requires taut { IsTaut curves.now.from curves.now.low.items curves.now.up.items segments.now }
-    ensures { IsBestPlan curves.now.from curves.now.low.items curves.now.up.items segments.now }
-{
-    let _first = segments.first();
-    let _from = curves.from;
-}
-
-/// The law: the kinds of faults are looked for in this order.
-pub fn law_order()
-    ensures { (i : ℕ) → map kind_of
-        (EmptySegment i ∷ WrongLength ∷ WrongTotal ∷ BelowLow i ∷ AboveUp i ∷ EqualSlopes i
-        ∷ RiseOffUpper i ∷ FallOffLower i ∷ [])
-        ≡ 0 ∷ 1 ∷ 2 ∷ 3 ∷ 4 ∷ 5 ∷ 6 ∷ 7 ∷ [] }
-{}

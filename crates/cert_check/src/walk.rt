@@ -16,6 +16,36 @@ pub enum Outside {
     Nowhere,
 }
 
+/// Where the exact line first leaves the curves, by one pass over the slots.
+pub fn first_outside(curves: &Curves, segments: &[Segment]) -> Outside
+    requires { IsWhole curves.now.from curves.now.low.items curves.now.up.items segments.now }
+    ensures { Leaves curves.now.from curves.now.low.items curves.now.up.items segments.now result }
+{
+    let low = curves.low.as_slice();
+    let up = curves.up.as_slice();
+    let mut walk = Walk {
+        index: 0,
+        passed: 0,
+        height: curves.from,
+    };
+    let mut above = None;
+    for t in 0..low.len() {
+        walk = next(walk, segments);
+        let segment = segments[walk.index];
+        let height = scaled_height(walk, segment);
+        if height < u128::from(low[t]) * u128::from(segment.slots) {
+            return Outside::Below(t as u64);
+        }
+        if above.is_none() && height > u128::from(up[t]) * u128::from(segment.slots) {
+            above = Some(t as u64);
+        }
+    }
+    match above {
+        Some(t) => Outside::Above(t),
+        None => Outside::Nowhere,
+    }
+}
+
 /// A walk along the line: `passed` slots into segment `index`, which begins at `height`.
 #[derive(Clone, Copy)]
 struct Walk {
@@ -57,34 +87,4 @@ fn scaled_height(walk: Walk, segment: Segment) -> u128
 {
     u128::from(walk.height) * u128::from(segment.slots)
         + u128::from(walk.passed) * u128::from(segment.bytes)
-}
-
-/// Where the exact line first leaves the curves, by one pass over the slots.
-pub fn first_outside(curves: &Curves, segments: &[Segment]) -> Outside
-    requires { IsWhole curves.now.from curves.now.low.items curves.now.up.items segments.now }
-    ensures { Leaves curves.now.from curves.now.low.items curves.now.up.items segments.now result }
-{
-    let low = curves.low.as_slice();
-    let up = curves.up.as_slice();
-    let mut walk = Walk {
-        index: 0,
-        passed: 0,
-        height: curves.from,
-    };
-    let mut above = None;
-    for t in 0..low.len() {
-        walk = next(walk, segments);
-        let segment = segments[walk.index];
-        let height = scaled_height(walk, segment);
-        if height < u128::from(low[t]) * u128::from(segment.slots) {
-            return Outside::Below(t as u64);
-        }
-        if above.is_none() && height > u128::from(up[t]) * u128::from(segment.slots) {
-            above = Some(t as u64);
-        }
-    }
-    match above {
-        Some(t) => Outside::Above(t),
-        None => Outside::Nowhere,
-    }
 }

@@ -1,10 +1,12 @@
 -- The commands, and the keys that each takes.
-use Rattle.std.specs.Prelude.{ℕ, Bool, if◌then◌else◌, List, [], ◌∷◌, Option, Some, None, is_some, codes}
+use Rattle.std.specs.Prelude.{ℕ, Bool, if◌then◌else◌, List, [], ◌∷◌, Option, Some, None, is_some}
+use Rattle.std.specs.Prelude.{codes}
 use Rattle.std.specs.List.{list_any}
 use Rattle.std.specs.Str.{bytes_eq}
 use Rattle.command_words.specs.Settings.{setting_value}
 use Rattle.command_words.specs.declared.commands.Command.{Command}
-use Rattle.command_words.specs.declared.commands.Command.TheVariants.{Plan, Check, Scan, Make, Day, Fair, Serve, Watch}
+use Rattle.command_words.specs.declared.commands.Command.TheVariants.{Plan, Check, Scan, Make, Day}
+use Rattle.command_words.specs.declared.commands.Command.TheVariants.{Fair, Serve, Watch}
 
 abbrev pub command_named : List ℕ → Option Command
 command_named word =

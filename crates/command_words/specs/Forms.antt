@@ -8,7 +8,8 @@ use Rattle.command_words.specs.Settings.{setting_value, values_of}
 use Rattle.command_words.specs.Commands.{command_named, keys_of}
 use Rattle.command_words.specs.Spelling.{Setting, text_setting, word_of}
 use Rattle.command_words.specs.declared.commands.Command.{Command}
-use Rattle.command_words.specs.declared.commands.Command.TheVariants.{Plan, Check, Scan, Make, Day, Fair, Serve, Watch}
+use Rattle.command_words.specs.declared.commands.Command.TheVariants.{Plan, Check, Scan, Make, Day}
+use Rattle.command_words.specs.declared.commands.Command.TheVariants.{Fair, Serve, Watch}
 
 -- the settings that hold where words leave them out
 abbrev pub defaults : List Setting

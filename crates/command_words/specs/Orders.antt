@@ -2,11 +2,16 @@
 use Rattle.std.specs.Prelude.{ℕ, List, codes}
 use Rattle.command_words.specs.Settings.{texts, values_of}
 use Rattle.command_words.specs.Keys.{Made, made_film, made_trace, made_system}
-use Rattle.command_words.specs.Words.{Source, trace_source, film_source, Viewer, Listening, Pace, Serving, ScriptRun, FairRun, Watching, Order, help, version, plan_of, check_of, scan_of, make_of, day_of, fair_of, serve_of, watch_of}
+use Rattle.command_words.specs.Words.{Source, trace_source, film_source, Viewer, Listening, Pace}
+use Rattle.command_words.specs.Words.{Serving, ScriptRun, FairRun, Watching, Order, help, version}
+use Rattle.command_words.specs.Words.{plan_of, check_of, scan_of, make_of, day_of, fair_of}
+use Rattle.command_words.specs.Words.{serve_of, watch_of}
 use Rattle.command_words.specs.declared.orders.Order.{Order as OrderRead}
-use Rattle.command_words.specs.declared.orders.Order.TheVariants.{Help, Version, Plan, Check, Scan, Make, Day, Fair, Serve, Watch}
+use Rattle.command_words.specs.declared.orders.Order.TheVariants.{Help, Version, Plan, Check, Scan}
+use Rattle.command_words.specs.declared.orders.Order.TheVariants.{Make, Day, Fair, Serve, Watch}
 use Rattle.command_words.specs.declared.orders.Source.{Source as SourceRead}
-use Rattle.command_words.specs.declared.orders.Source.TheVariants.{Trace as TraceNamed, Film as FilmNamed}
+use Rattle.command_words.specs.declared.orders.Source.TheVariants.{Trace as TraceNamed}
+use Rattle.command_words.specs.declared.orders.Source.TheVariants.{Film as FilmNamed}
 use Rattle.command_words.specs.declared.orders.Viewer.{Viewer as ViewerRead}
 use Rattle.command_words.specs.declared.orders.Made.{Made as MadeRead}
 use Rattle.command_words.specs.declared.orders.Made.TheVariants.{Film, Trace, System}

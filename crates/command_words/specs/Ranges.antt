@@ -5,7 +5,8 @@ use Rattle.slot_calendar.specs.Profiles.{IsProfile}
 use Rattle.command_words.specs.Settings.{texts, values_of}
 use Rattle.command_words.specs.Words.{are_films}
 use Rattle.command_words.specs.declared.orders.Order.{Order}
-use Rattle.command_words.specs.declared.orders.Order.TheVariants.{Help, Version, Plan, Check, Scan, Make, Day, Fair, Serve, Watch}
+use Rattle.command_words.specs.declared.orders.Order.TheVariants.{Help, Version, Plan, Check, Scan}
+use Rattle.command_words.specs.declared.orders.Order.TheVariants.{Make, Day, Fair, Serve, Watch}
 use Rattle.command_words.specs.declared.orders.Source.{Source}
 use Rattle.command_words.specs.declared.orders.Source.TheVariants.{Trace, Film}
 use Rattle.command_words.specs.declared.orders.Viewer.{Viewer}

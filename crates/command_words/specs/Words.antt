@@ -1,15 +1,20 @@
 -- What the words of the command line mean: a command, and its settings.
-use Rattle.std.specs.Prelude.{ℕ, Bool, true, not, ◌&&◌, if◌then◌else◌, nat_le, List, [], ◌∷◌, length, Option, Some, None, option_map, codes}
+use Rattle.std.specs.Prelude.{ℕ, Bool, true, not, ◌&&◌, if◌then◌else◌, nat_le, List, [], ◌∷◌}
+use Rattle.std.specs.Prelude.{length, Option, Some, None, option_map, codes}
 use Rattle.std.specs.List.{list_all, list_any}
 use Rattle.std.specs.Option.{option_and_then}
 use Rattle.std.specs.Str.{bytes_eq}
 use Rattle.vod_base.specs.Names.{is_good_name}
 use Rattle.slot_calendar.specs.declared.profiles.CapStep.{CapStep}
 use Rattle.command_words.specs.Settings.{values_of, one_name, number_or}
-use Rattle.command_words.specs.Keys.{Made, film_given, cert_given, script_given, buffer_given, startup_given, slot_given, capacity_given, journal_given, port_given, workers_given, connections_given, seed_given, pictures_given, plays_given, one_kind, one_bind}
+use Rattle.command_words.specs.Keys.{Made, film_given, cert_given, script_given, buffer_given}
+use Rattle.command_words.specs.Keys.{startup_given, slot_given, capacity_given, journal_given}
+use Rattle.command_words.specs.Keys.{port_given, workers_given, connections_given, seed_given}
+use Rattle.command_words.specs.Keys.{pictures_given, plays_given, one_kind, one_bind}
 use Rattle.command_words.specs.Commands.{command_named, is_word_of}
 use Rattle.command_words.specs.declared.commands.Command.{Command}
-use Rattle.command_words.specs.declared.commands.Command.TheVariants.{Plan, Check, Scan, Make, Day, Fair, Serve, Watch}
+use Rattle.command_words.specs.declared.commands.Command.TheVariants.{Plan, Check, Scan, Make, Day}
+use Rattle.command_words.specs.declared.commands.Command.TheVariants.{Fair, Serve, Watch}
 
 -- what is planned: a trace, or a film in slots of a length in 1/360,000 second
 pub data Source : Type 0 where

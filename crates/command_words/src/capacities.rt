@@ -3,7 +3,9 @@
 ghost use Rattle.std.specs.Prelude.{◌≡◌, ◌^◌, ◌≤◌, [], true, false, IfSome};
 ghost use Rattle.slot_calendar.specs.Profiles.{IsProfile};
 ghost use Rattle.command_words.specs.Settings.{texts, values_of};
-ghost use Rattle.command_words.specs.Capacities.{IsFront, capacity_of, flat_steps, may_follow, one_capacity, stands_after, step_of, steps_of, step_more};
+ghost use Rattle.command_words.specs.Capacities.{IsFront, capacity_of, flat_steps, may_follow};
+ghost use Rattle.command_words.specs.Capacities.{one_capacity, stands_after, step_of, steps_of};
+ghost use Rattle.command_words.specs.Capacities.{step_more};
 
 use crate::settings::{Given, find_given, number_within};
 use crate::steps::{MOST_STEPS, Steps};
@@ -18,6 +20,18 @@ const LAST_SLOT: u64 = 1 << 62;
 
 /// The bytes of a slot where the words say nothing.
 const BYTES: u64 = 50_000;
+
+/// The steps of the capacity that the words give.
+pub(crate) fn one_capacity(words: &[String], key: &str) -> Option<Steps>
+    ensures steps { result ≡ one_capacity (values_of key.now (texts words.now)) }
+    ensures profile { IfSome result IsProfile }
+{
+    match find_given(words, key) {
+        Given::Absent => Some(flat(BYTES)),
+        Given::Once(text) => read_capacity(text),
+        Given::Again => None,
+    }
+}
 
 /// The step that a text SLOT:BYTES writes.
 fn read_step(text: &str) -> Option<CapStep>
@@ -112,16 +126,4 @@ fn read_capacity(text: &str) -> Option<Steps>
     }
     let bytes = number_within(text, 1, MOST_BYTES)?;
     Some(flat(bytes))
-}
-
-/// The steps of the capacity that the words give.
-pub(crate) fn one_capacity(words: &[String], key: &str) -> Option<Steps>
-    ensures steps { result ≡ one_capacity (values_of key.now (texts words.now)) }
-    ensures profile { IfSome result IsProfile }
-{
-    match find_given(words, key) {
-        Given::Absent => Some(flat(BYTES)),
-        Given::Once(text) => read_capacity(text),
-        Given::Again => None,
-    }
 }

@@ -72,18 +72,6 @@ pub fn keys_of(command: Command) -> &'static [&'static str]
     }
 }
 
-/// Whether the word gives a value to a key that the command takes.
-fn is_word_of(command: Command, word: &str) -> bool
-    ensures { result ≡ is_word_of command word.now }
-{
-    for key in keys_of(command) {
-        if setting(word, key).is_some() {
-            return true;
-        }
-    }
-    false
-}
-
 /// Whether each word gives a value to a key of the command.
 pub(crate) fn are_words_of(command: Command, words: &[String]) -> bool
     ensures { result ≡ list_all (is_word_of command) (texts words.now) }
@@ -94,4 +82,16 @@ pub(crate) fn are_words_of(command: Command, words: &[String]) -> bool
         }
     }
     true
+}
+
+/// Whether the word gives a value to a key that the command takes.
+fn is_word_of(command: Command, word: &str) -> bool
+    ensures { result ≡ is_word_of command word.now }
+{
+    for key in keys_of(command) {
+        if setting(word, key).is_some() {
+            return true;
+        }
+    }
+    false
 }

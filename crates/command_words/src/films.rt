@@ -20,20 +20,6 @@ pub fn film_named<'a>(word: &'a str) -> Option<&'a str>
     setting(word, "film")
 }
 
-/// Whether one of the words names that film.
-fn is_named(words: &[String], name: &str) -> bool
-    ensures { result ≡ list_any (bytes_eq name.now) (values_of (codes "film") (texts words.now)) }
-{
-    for word in words {
-        if let Some(other) = film_named(word.as_str()) {
-            if name == other {
-                return true;
-            }
-        }
-    }
-    false
-}
-
 /// Whether the words name 1 to 64 films, with good names, no two alike.
 pub(crate) fn are_films(words: &[String]) -> bool
     ensures { result ≡ are_films (values_of (codes "film") (texts words.now)) }
@@ -48,4 +34,18 @@ pub(crate) fn are_films(words: &[String]) -> bool
         }
     }
     1 <= count && count <= MOST_FILMS
+}
+
+/// Whether one of the words names that film.
+fn is_named(words: &[String], name: &str) -> bool
+    ensures { result ≡ list_any (bytes_eq name.now) (values_of (codes "film") (texts words.now)) }
+{
+    for word in words {
+        if let Some(other) = film_named(word.as_str()) {
+            if name == other {
+                return true;
+            }
+        }
+    }
+    false
 }

@@ -5,7 +5,11 @@ ghost use Rattle.std.specs.Option.{option_copied};
 ghost use Rattle.vod_base.specs.Names.{is_good_name};
 ghost use Rattle.slot_calendar.specs.Profiles.{IsProfile};
 ghost use Rattle.command_words.specs.Settings.{texts, values_of};
-ghost use Rattle.command_words.specs.Keys.{film_given, cert_given, script_given, buffer_given, startup_given, slot_given, capacity_given, journal_given, port_given, workers_given, connections_given, seed_given, pictures_given, plays_given, one_kind, one_bind};
+ghost use Rattle.command_words.specs.Keys.{film_given, cert_given, script_given, buffer_given};
+ghost use Rattle.command_words.specs.Keys.{startup_given, slot_given, capacity_given};
+ghost use Rattle.command_words.specs.Keys.{journal_given, port_given, workers_given};
+ghost use Rattle.command_words.specs.Keys.{connections_given, seed_given, pictures_given};
+ghost use Rattle.command_words.specs.Keys.{plays_given, one_kind, one_bind};
 ghost use Rattle.command_words.specs.Orders.{made_of};
 
 use crate::capacities::one_capacity;
@@ -126,21 +130,6 @@ pub(crate) fn plays_given(words: &[String]) -> Option<u32>
     Some(plays as u32)
 }
 
-/// The kind of that name.
-fn kind_named(text: &str) -> Option<Made>
-    ensures { option_map made_of result ≡ one_kind (text.now ∷ []) }
-{
-    if text == "film" {
-        Some(Made::Film)
-    } else if text == "trace" {
-        Some(Made::Trace)
-    } else if text == "system" {
-        Some(Made::System)
-    } else {
-        None
-    }
-}
-
 /// The kind that is given once.
 pub(crate) fn one_kind(words: &[String], key: &str) -> Option<Made>
     ensures { option_map made_of result ≡ one_kind (values_of key.now (texts words.now)) }
@@ -165,5 +154,20 @@ pub(crate) fn one_bind(words: &[String], key: &str) -> Option<bool>
             None
         },
         Given::Again => None,
+    }
+}
+
+/// The kind of that name.
+fn kind_named(text: &str) -> Option<Made>
+    ensures { option_map made_of result ≡ one_kind (text.now ∷ []) }
+{
+    if text == "film" {
+        Some(Made::Film)
+    } else if text == "trace" {
+        Some(Made::Trace)
+    } else if text == "system" {
+        Some(Made::System)
+    } else {
+        None
     }
 }

@@ -2,9 +2,11 @@
 
 ghost use Rattle.std.specs.Prelude.{◌≡◌, option_map, IfSome};
 ghost use Rattle.command_words.specs.Settings.{texts};
-ghost use Rattle.command_words.specs.Words.{listening_given, pace_given, serving_given, watching_given};
+ghost use Rattle.command_words.specs.Words.{listening_given, pace_given, serving_given};
+ghost use Rattle.command_words.specs.Words.{watching_given};
 ghost use Rattle.command_words.specs.Orders.{listening_of, pace_of, serving_of, watching_of};
-ghost use Rattle.command_words.specs.Ranges.{IsListeningInRange, IsPaceInRange, IsServingInRange, IsWatchingInRange};
+ghost use Rattle.command_words.specs.Ranges.{IsListeningInRange, IsPaceInRange, IsServingInRange};
+ghost use Rattle.command_words.specs.Ranges.{IsWatchingInRange};
 
 use crate::films::are_films;
 use crate::keys::{
@@ -12,38 +14,6 @@ use crate::keys::{
     port_given, slot_given, startup_given, workers_given,
 };
 use crate::orders::{Listening, Pace, Serving, Watching};
-
-/// Where the words have a server listen.
-fn listening_given(words: &[String]) -> Option<Listening>
-    ensures listening { option_map listening_of result ≡ listening_given (texts words.now) }
-    ensures range { IfSome result IsListeningInRange }
-{
-    let port = port_given(words)?;
-    let all = one_bind(words, "bind")?;
-    let workers = workers_given(words)?;
-    let connections = connections_given(words)?;
-    Some(Listening {
-        port,
-        all,
-        workers,
-        connections,
-    })
-}
-
-/// The words' client, and their slot length.
-fn pace_given(words: &[String]) -> Option<Pace>
-    ensures pace { option_map pace_of result ≡ pace_given (texts words.now) }
-    ensures range { IfSome result IsPaceInRange }
-{
-    let buffer = buffer_given(words)?;
-    let startup = startup_given(words)?;
-    let slot = slot_given(words)?;
-    Some(Pace {
-        buffer,
-        startup,
-        slot,
-    })
-}
 
 /// The server that the words describe.
 pub(crate) fn serving_given<'a>(words: &'a [String]) -> Option<Serving<'a>>
@@ -75,4 +45,36 @@ pub(crate) fn watching_given<'a>(words: &'a [String]) -> Option<Watching<'a>>
     let port = port_given(words)?;
     let pace = pace_given(words)?;
     Some(Watching { film, port, pace })
+}
+
+/// Where the words have a server listen.
+fn listening_given(words: &[String]) -> Option<Listening>
+    ensures listening { option_map listening_of result ≡ listening_given (texts words.now) }
+    ensures range { IfSome result IsListeningInRange }
+{
+    let port = port_given(words)?;
+    let all = one_bind(words, "bind")?;
+    let workers = workers_given(words)?;
+    let connections = connections_given(words)?;
+    Some(Listening {
+        port,
+        all,
+        workers,
+        connections,
+    })
+}
+
+/// The words' client, and their slot length.
+fn pace_given(words: &[String]) -> Option<Pace>
+    ensures pace { option_map pace_of result ≡ pace_given (texts words.now) }
+    ensures range { IfSome result IsPaceInRange }
+{
+    let buffer = buffer_given(words)?;
+    let startup = startup_given(words)?;
+    let slot = slot_given(words)?;
+    Some(Pace {
+        buffer,
+        startup,
+        slot,
+    })
 }

@@ -4,7 +4,8 @@ ghost use Rattle.std.specs.Prelude.{◌≡◌, ◌≤◌, ◌^◌, true, IfSome}
 ghost use Rattle.std.specs.Option.{option_copied};
 ghost use Rattle.vod_base.specs.Names.{is_good_name};
 ghost use Rattle.vod_base.specs.Numbers.{number_of};
-ghost use Rattle.command_words.specs.Settings.{texts, setting_value, values_of, one_name, in_range, one_number, number_or};
+ghost use Rattle.command_words.specs.Settings.{texts, setting_value, values_of, one_name, in_range};
+ghost use Rattle.command_words.specs.Settings.{one_number, number_or};
 ghost use Rattle.command_words.specs.Given.{IsGiven};
 
 use vod_base::{good_name, read_number};

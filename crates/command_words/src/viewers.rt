@@ -2,9 +2,11 @@
 
 ghost use Rattle.std.specs.Prelude.{◌≡◌, ◌∷◌, [], option_map, codes, IfSome};
 ghost use Rattle.command_words.specs.Settings.{is_absent, texts, values_of};
-ghost use Rattle.command_words.specs.Words.{source_given, source_of, viewer_given, script_run_given, fair_run_given};
+ghost use Rattle.command_words.specs.Words.{source_given, source_of, viewer_given};
+ghost use Rattle.command_words.specs.Words.{script_run_given, fair_run_given};
 ghost use Rattle.command_words.specs.Orders.{source_read, viewer_of, script_run_of, fair_run_of};
-ghost use Rattle.command_words.specs.Ranges.{IsSourceInRange, IsViewerInRange, IsScriptRunInRange, IsFairRunInRange};
+ghost use Rattle.command_words.specs.Ranges.{IsSourceInRange, IsViewerInRange, IsScriptRunInRange};
+ghost use Rattle.command_words.specs.Ranges.{IsFairRunInRange};
 
 use crate::keys::{
     buffer_given, capacity_given, film_given, journal_given, plays_given, script_given, seed_given,
@@ -13,46 +15,6 @@ use crate::keys::{
 use crate::orders::{FairRun, ScriptRun, Source, Viewer};
 use crate::settings::{Given, find_given};
 use vod_base::good_name;
-
-/// Whether the words give no value to the key.
-fn is_absent(words: &[String], key: &str) -> bool
-    ensures { result ≡ is_absent (values_of key.now (texts words.now)) }
-{
-    match find_given(words, key) {
-        Given::Absent => true,
-        Given::Once(_) => false,
-        Given::Again => false,
-    }
-}
-
-/// The trace of that name, where neither a film nor a slot's length is given.
-fn trace_alone<'a>(words: &[String], name: &'a str) -> Option<Source<'a>>
-    ensures source { option_map source_read result ≡ source_of (name.entry.now ∷ [])
-        (values_of (codes "film") (texts words.now)) (values_of (codes "slot") (texts words.now)) }
-    ensures range { IfSome result IsSourceInRange }
-{
-    if good_name(name.as_bytes()) && is_absent(words, "film") && is_absent(words, "slot") {
-        Some(Source::Trace(name))
-    } else {
-        None
-    }
-}
-
-/// What is planned: a trace or a film.
-fn source_given<'a>(words: &'a [String]) -> Option<Source<'a>>
-    ensures source { option_map source_read result ≡ source_given (texts words.entry.now) }
-    ensures range { IfSome result IsSourceInRange }
-{
-    match find_given(words, "trace") {
-        Given::Absent => {
-            let name = film_given(words)?;
-            let slot = slot_given(words)?;
-            Some(Source::Film(name, slot))
-        }
-        Given::Once(name) => trace_alone(words, name),
-        Given::Again => None,
-    }
-}
 
 /// What is planned, and for which client.
 pub(crate) fn viewer_given<'a>(words: &'a [String]) -> Option<Viewer<'a>>
@@ -99,4 +61,44 @@ pub(crate) fn fair_run_given(words: &[String]) -> Option<FairRun>
         plays,
         capacity,
     })
+}
+
+/// Whether the words give no value to the key.
+fn is_absent(words: &[String], key: &str) -> bool
+    ensures { result ≡ is_absent (values_of key.now (texts words.now)) }
+{
+    match find_given(words, key) {
+        Given::Absent => true,
+        Given::Once(_) => false,
+        Given::Again => false,
+    }
+}
+
+/// The trace of that name, where neither a film nor a slot's length is given.
+fn trace_alone<'a>(words: &[String], name: &'a str) -> Option<Source<'a>>
+    ensures source { option_map source_read result ≡ source_of (name.entry.now ∷ [])
+        (values_of (codes "film") (texts words.now)) (values_of (codes "slot") (texts words.now)) }
+    ensures range { IfSome result IsSourceInRange }
+{
+    if good_name(name.as_bytes()) && is_absent(words, "film") && is_absent(words, "slot") {
+        Some(Source::Trace(name))
+    } else {
+        None
+    }
+}
+
+/// What is planned: a trace or a film.
+fn source_given<'a>(words: &'a [String]) -> Option<Source<'a>>
+    ensures source { option_map source_read result ≡ source_given (texts words.entry.now) }
+    ensures range { IfSome result IsSourceInRange }
+{
+    match find_given(words, "trace") {
+        Given::Absent => {
+            let name = film_given(words)?;
+            let slot = slot_given(words)?;
+            Some(Source::Film(name, slot))
+        }
+        Given::Once(name) => trace_alone(words, name),
+        Given::Again => None,
+    }
 }

@@ -3,7 +3,8 @@
 ghost use Rattle.std.specs.Prelude.{◌≡◌, Some, option_map, codes, IfSome};
 ghost use Rattle.command_words.specs.Settings.{texts, values_of};
 ghost use Rattle.command_words.specs.Ranges.{IsOrderInRange};
-ghost use Rattle.command_words.specs.Words.{Order as Asked, check_given, make_given, order_given, command_order, lone_order, meaning};
+ghost use Rattle.command_words.specs.Words.{Order as Asked, check_given, make_given, order_given};
+ghost use Rattle.command_words.specs.Words.{command_order, lone_order, meaning};
 ghost use Rattle.command_words.specs.Orders.{order_of};
 ghost use Rattle.command_words.specs.Spelling.{MayBeAsked, words_of};
 

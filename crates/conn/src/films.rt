@@ -10,6 +10,15 @@ use film_frames::Stored;
 use film_run::Units;
 use mpeg_scan::{Film, law_film, picture_units};
 
+/// So it is of all.
+pub(crate) fn law_all_shown(films: &[Stored])
+    ensures { (number : ℕ) → OfFilm films.now number IsShown }
+{
+    for film in 0..films.len() {
+        law_shown(&films[film]);
+    }
+}
+
 /// The time of a picture in 1/360,000 second.
 fn picture_time(film: &Film) -> u32
     ensures time { result ≡ picture_time film.now.rate }
@@ -26,13 +35,4 @@ fn law_shown(stored: &Stored)
 {
     let _units = stored.count();
     let _time = picture_time(&stored.film);
-}
-
-/// So it is of all.
-pub(crate) fn law_all_shown(films: &[Stored])
-    ensures { (number : ℕ) → OfFilm films.now number IsShown }
-{
-    for film in 0..films.len() {
-        law_shown(&films[film]);
-    }
 }

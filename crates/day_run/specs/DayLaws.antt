@@ -1,5 +1,6 @@
 -- What holds of every day.
-use Rattle.std.specs.Prelude.{ℕ, ◌≡◌, ◌+◌, ◌-◌, ◌*◌, ◌<◌, ◌≤◌, ◌⊎◌, ◌++◌, List, [], Option, Some, None, codes, flat_map, fold, length, map, max, slice_index_or, sum_by}
+use Rattle.std.specs.Prelude.{ℕ, ◌≡◌, ◌+◌, ◌-◌, ◌*◌, ◌<◌, ◌≤◌, ◌⊎◌, ◌++◌, List, [], Option, Some}
+use Rattle.std.specs.Prelude.{None, codes, flat_map, fold, length, map, max, slice_index_or, sum_by}
 use Rattle.std.specs.List.{range_with_len}
 use Rattle.admission.specs.Histories.{booked_after, state_after}
 use Rattle.admission.specs.Machine.{start_after}
@@ -16,7 +17,8 @@ use Rattle.film_run.specs.Units.{IsTrace}
 use Rattle.day_run.specs.Days.{IsLine, IsTold, Link, Moment}
 use Rattle.film_frames.specs.Tracks.{IsBoundary}
 use Rattle.film_run.specs.Plans.{CanPlay, IsPlanOf}
-use Rattle.day_run.specs.Seats.{Idle, Playing, Pausing, Paused, Play as ClientPlay, Rest, Seat, Track}
+use Rattle.day_run.specs.Seats.{Idle, Playing, Pausing, Paused, Play as ClientPlay, Rest, Seat}
+use Rattle.day_run.specs.Seats.{Track}
 use Rattle.day_run.specs.FairDays.{Turn, at_later, made_of}
 use Rattle.day_run.specs.Prints.{fair_text, start_words, tried_text}
 use Rattle.day_run.specs.declared.scripts.Line.{Line}

@@ -1,6 +1,8 @@
 -- A link's day: what the lines of a script bring on one link, line by line. Client C is maker C of
 -- the link's machine, and maker 0 looks.
-use Rattle.std.specs.Prelude.{ℕ, ◌+◌, ◌-◌, ◌^◌, ◌≡◌, ◌<◌, ◌≤◌, ◌⊎◌, min, max, if◌then◌else◌, List, [], ◌∷◌, ◌++◌, flat_map, length, map, replicate, sum_by, slice_index_or, slice_set}
+use Rattle.std.specs.Prelude.{ℕ, ◌+◌, ◌-◌, ◌^◌, ◌≡◌, ◌<◌, ◌≤◌, ◌⊎◌, min, max, if◌then◌else◌, List}
+use Rattle.std.specs.Prelude.{[], ◌∷◌, ◌++◌, flat_map, length, map, replicate, sum_by}
+use Rattle.std.specs.Prelude.{slice_index_or, slice_set}
 use Rattle.std.specs.List.{range_with_len}
 use Rattle.plan_cert.specs.declared.Segment.{Segment}
 use Rattle.plan_cert.specs.Slots.{total_bytes}
@@ -25,7 +27,9 @@ use Rattle.day_run.specs.declared.reels.Source.{Source}
 use Rattle.day_run.specs.declared.scripts.Line.{Line}
 use Rattle.day_run.specs.declared.scripts.Line.TheVariants as lines
 use Rattle.day_run.specs.Prints.{fault_text, full_text, offer_text, slot_text, state_text}
-use Rattle.day_run.specs.Seats.{Track, Rest, Play, Seat, Idle, Playing, Pausing, Paused, IsPause, after_play, after_sending, booking_of, is_done, no_track, sent_between, sent_by, track_of, whole_rest}
+use Rattle.day_run.specs.Seats.{Track, Rest, Play, Seat, Idle, Playing, Pausing, Paused, IsPause}
+use Rattle.day_run.specs.Seats.{after_play, after_sending, booking_of, is_done, no_track}
+use Rattle.day_run.specs.Seats.{sent_between, sent_by, track_of, whole_rest}
 
 -- the steps of the link's capacity, the most entries of its journal, the time of a slot in
 -- 1/360,000 s, and what can be played

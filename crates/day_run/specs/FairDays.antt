@@ -1,7 +1,9 @@
 -- The large day that a number draws: 16 traces, and then turns, in each of which the link may come
 -- to a later slot and one client does something. The words are those of the number's generator; n
 -- modulo a word's range is what a draw gives.
-use Rattle.std.specs.Prelude.{ℕ, zero, suc, ◌+◌, ◌-◌, ◌%◌, ◌≡◌, ◌==◌, max, Bool, true, false, if◌then◌else◌, List, [], ◌∷◌, codes, count_by, fold, length, map, sum_by, take}
+use Rattle.std.specs.Prelude.{ℕ, zero, suc, ◌+◌, ◌-◌, ◌%◌, ◌≡◌, ◌==◌, max, Bool, true, false}
+use Rattle.std.specs.Prelude.{if◌then◌else◌, List, [], ◌∷◌, codes, count_by, fold, length, map}
+use Rattle.std.specs.Prelude.{sum_by, take}
 use Rattle.std.specs.List.{range_with_len}
 use Rattle.std.specs.Str.{bytes_eq}
 use Rattle.film_make.specs.Generator.{after, words_of}
@@ -15,7 +17,8 @@ use Rattle.admission.specs.Machine.{booked_in}
 use Rattle.day_run.specs.declared.counts.Counts.{Counts}
 use Rattle.day_run.specs.declared.counts.Made.{Made}
 use Rattle.day_run.specs.declared.scripts.Line.TheVariants as lines
-use Rattle.day_run.specs.Days.{IsLine, IsTold, Link, Moment, at_slot, booked_up_to, last_journal, first_moment, seat_at, sent_up_to}
+use Rattle.day_run.specs.Days.{IsLine, IsTold, Link, Moment, at_slot, booked_up_to, last_journal}
+use Rattle.day_run.specs.Days.{first_moment, seat_at, sent_up_to}
 use Rattle.day_run.specs.Prints.{fair_text}
 use Rattle.day_run.specs.Seats.{Seat, Idle, Playing, Pausing, Paused, trace_track}
 

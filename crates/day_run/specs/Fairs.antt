@@ -1,12 +1,14 @@
 -- A large day as far as it has been drawn.
-use Rattle.std.specs.Prelude.{ℕ, ◌≡◌, ◌+◌, ◌*◌, ◌^◌, ◌<◌, ◌≤◌, max, if◌then◌else◌, List, [], ◌∷◌, length, map, slice_index_or, Option, Some, None}
+use Rattle.std.specs.Prelude.{ℕ, ◌≡◌, ◌+◌, ◌*◌, ◌^◌, ◌<◌, ◌≤◌, max, if◌then◌else◌, List, [], ◌∷◌}
+use Rattle.std.specs.Prelude.{length, map, slice_index_or, Option, Some, None}
 use Rattle.std.specs.Global.{Vec}
 use Rattle.film_run.specs.Units.{IsTrace}
 use Rattle.admission.specs.declared.entries.Entry.{Entry}
 use Rattle.day_run.specs.declared.counts.Counts.{Counts}
 use Rattle.day_run.specs.declared.runners.Told.{Told}
 use Rattle.day_run.specs.Days.{Link, Moment, booked_up_to, first_moment, sent_up_to}
-use Rattle.day_run.specs.FairDays.{AreTurns, IsTurn, Turn, after_turn, counts_of, is_refused, most_up_to, turn_booked, turn_peak, turn_sent}
+use Rattle.day_run.specs.FairDays.{AreTurns, IsTurn, Turn, after_turn, counts_of, is_refused}
+use Rattle.day_run.specs.FairDays.{most_up_to, turn_booked, turn_peak, turn_sent}
 use Rattle.day_run.specs.Runners.{told_text}
 
 pub record AreTraces (traces : List (Vec ℕ)) : Type 0 where

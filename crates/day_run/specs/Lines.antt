@@ -1,5 +1,6 @@
 -- A script as its lines, and a line as its words.
-use Rattle.std.specs.Prelude.{ℕ, ◌-◌, Bool, ◌==◌, if◌then◌else◌, List, [], ◌∷◌, ◌++◌, map, length, take, slice_index}
+use Rattle.std.specs.Prelude.{ℕ, ◌-◌, Bool, ◌==◌, if◌then◌else◌, List, [], ◌∷◌, ◌++◌, map, length}
+use Rattle.std.specs.Prelude.{take, slice_index}
 use Rattle.std.specs.Borrow.{Bor}
 use Rattle.plan_cert.specs.Reading.{lines_of}
 

@@ -6,7 +6,8 @@ use Rattle.early_start.specs.Offered.{Found}
 use Rattle.early_start.specs.declared.Tried.{Tried}
 use Rattle.report.specs.Fields.{field}
 use Rattle.wire_curve.specs.declared.film.CurveFault.{CurveFault}
-use Rattle.wire_curve.specs.declared.film.CurveFault.TheVariants.{NoPictures, TooManySlots, BufferTooSmall}
+use Rattle.wire_curve.specs.declared.film.CurveFault.TheVariants.{NoPictures, TooManySlots}
+use Rattle.wire_curve.specs.declared.film.CurveFault.TheVariants.{BufferTooSmall}
 use Rattle.day_run.specs.declared.counts.Counts.{Counts}
 use Rattle.day_run.specs.declared.counts.Made.{Made}
 

@@ -1,5 +1,7 @@
 -- A script, read line by line.
-use Rattle.std.specs.Prelude.{ℕ, ◌≡◌, ◌-◌, ◌≤◌, Bool, true, false, ◌&&◌, ◌==◌, ◌⊎◌, if◌then◌else◌, nat_lt, List, [], ◌∷◌, ◌++◌, length, map, take, slice_index_or, Option, Some, None, string_bytes}
+use Rattle.std.specs.Prelude.{ℕ, ◌≡◌, ◌-◌, ◌≤◌, Bool, true, false, ◌&&◌, ◌==◌, ◌⊎◌, if◌then◌else◌}
+use Rattle.std.specs.Prelude.{nat_lt, List, [], ◌∷◌, ◌++◌, length, map, take, slice_index_or}
+use Rattle.std.specs.Prelude.{Option, Some, None, string_bytes}
 use Rattle.std.specs.List.{position_or_len, slice_split}
 use Rattle.std.specs.Option.{option_and_then}
 use Rattle.std.specs.Bool.{beq}
@@ -7,7 +9,8 @@ use Rattle.std.specs.Str.{bytes_eq}
 use Rattle.vod_base.specs.Names.{is_good_name}
 use Rattle.day_run.specs.declared.sayings.Asked.{Asked}
 use Rattle.day_run.specs.declared.sayings.Saying.{Saying}
-use Rattle.day_run.specs.declared.sayings.Saying.TheVariants.{Play, Pause, Resume, Look, Slot, Offer}
+use Rattle.day_run.specs.declared.sayings.Saying.TheVariants.{Play, Pause, Resume, Look, Slot}
+use Rattle.day_run.specs.declared.sayings.Saying.TheVariants.{Offer}
 use Rattle.day_run.specs.declared.scripts.Line.{Line}
 use Rattle.day_run.specs.declared.scripts.Line.TheVariants as lines
 use Rattle.day_run.specs.declared.scripts.Named.{Named}

@@ -1,11 +1,13 @@
 -- What the words of a line say.
-use Rattle.std.specs.Prelude.{ℕ, ◌≤◌, ◌^◌, Bool, true, false, ◌&&◌, if◌then◌else◌, nat_le, List, [], ◌∷◌, codes, Option, Some, None, option_map}
+use Rattle.std.specs.Prelude.{ℕ, ◌≤◌, ◌^◌, Bool, true, false, ◌&&◌, if◌then◌else◌, nat_le, List, []}
+use Rattle.std.specs.Prelude.{◌∷◌, codes, Option, Some, None, option_map}
 use Rattle.std.specs.Option.{option_and_then}
 use Rattle.std.specs.Str.{bytes_eq}
 use Rattle.vod_base.specs.Numbers.{number_of}
 use Rattle.day_run.specs.declared.sayings.Asked.{Asked}
 use Rattle.day_run.specs.declared.sayings.Saying.{Saying}
-use Rattle.day_run.specs.declared.sayings.Saying.TheVariants.{Play, Pause, Resume, Look, Slot, Offer}
+use Rattle.day_run.specs.declared.sayings.Saying.TheVariants.{Play, Pause, Resume, Look, Slot}
+use Rattle.day_run.specs.declared.sayings.Saying.TheVariants.{Offer}
 
 -- a number that is in a range
 abbrev pub in_range : ℕ → ℕ → Option ℕ → Option ℕ

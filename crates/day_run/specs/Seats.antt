@@ -1,5 +1,6 @@
 -- The clients of a day: what each of them plays, and what of it was sent by a slot.
-use Rattle.std.specs.Prelude.{ℕ, ◌+◌, ◌-◌, min, nat_lt, nat_le, ◌&&◌, ◌==◌, Bool, true, false, ◌≡◌, if◌then◌else◌, List, [], length, Option, Some, None}
+use Rattle.std.specs.Prelude.{ℕ, ◌+◌, ◌-◌, min, nat_lt, nat_le, ◌&&◌, ◌==◌, Bool, true, false, ◌≡◌}
+use Rattle.std.specs.Prelude.{if◌then◌else◌, List, [], length, Option, Some, None}
 use Rattle.plan_cert.specs.declared.Segment.{Segment}
 use Rattle.plan_cert.specs.Slots.{total_bytes}
 use Rattle.mpeg_scan.specs.Rates.{picture_time}

@@ -1,11 +1,13 @@
 //! What all clients of a day do: they come to a slot, and plays are halted.
 
-ghost use Rattle.std.specs.Prelude.{◌≡◌, ◌≤◌, ◌<◌, ◌++◌, ℕ, List, length, map, slice_set, slice_index_or, IfSome, IfNone, IfOk, OnSome};
+ghost use Rattle.std.specs.Prelude.{◌≡◌, ◌≤◌, ◌<◌, ◌++◌, ℕ, List, length, map, slice_set};
+ghost use Rattle.std.specs.Prelude.{slice_index_or, IfSome, IfNone, IfOk, OnSome};
 ghost use Rattle.admission.specs.declared.entries.Entry.{Entry};
 ghost use Rattle.admission.specs.Histories.{state_after};
 ghost use Rattle.day_run.specs.declared.clients.Client.{Client};
 ghost use Rattle.day_run.specs.declared.clients.Client.TheVariants.{Idle};
-ghost use Rattle.day_run.specs.Clients.{AreBooked, AreGoing, AreIdle, AreSteps, AreTimed, AreUndone};
+ghost use Rattle.day_run.specs.Clients.{AreBooked, AreGoing, AreIdle, AreSteps, AreTimed};
+ghost use Rattle.day_run.specs.Clients.{AreUndone};
 ghost use Rattle.day_run.specs.Clients.{IsHaltOf, halt_for, halts_of, seat_for, seat_of};
 ghost use Rattle.day_run.specs.Days.{halts};
 
@@ -46,29 +48,6 @@ pub(crate) fn step_clients(clients: &mut [Client<'_>], slot: u64) -> u64
     sent
 }
 
-/// Halts a client's play.
-fn end_play(book: &mut Book, clients: &mut [Client<'_>], client: usize, halt: Option<Halt>)
-    requires inside { client < length clients.old }
-    requires few { length clients.old ≤ 256 }
-    requires halt { IfSome halt (λ h. (none : Client) →
-        IsHaltOf (slice_index_or clients.old client none) h) }
-    requires going { AreGoing clients.old }
-    requires booked { AreBooked book.old.entries clients.old }
-    ensures going { AreGoing clients.new }
-    ensures booked { AreBooked book.new.entries clients.new }
-    ensures steps { book.new.steps ≡ book.old.steps }
-    ensures now { (state_after book.new.entries).now ≡ (state_after book.old.entries).now }
-    ensures ended { OnSome halt (clients.new ≡ slice_set clients.old client Idle) }
-    ensures left { IfNone halt (clients.new ≡ clients.old) }
-    ensures entries { book.new.entries ≡ book.old.entries ++ halts_of client halt }
-    ensures limit { book.new.limit ≡ book.old.limit }
-{
-    if let Some(halt) = halt {
-        clients[client] = Client::Idle;
-        let _noted = book.halt(client as u32, halt.number, halt.keep);
-    }
-}
-
 /// Halts the plays that are done, or all that are open.
 pub(crate) fn end_each(book: &mut Book, clients: &mut [Client<'_>], which: Which)
     requires few { length clients.old ≤ 256 }
@@ -89,5 +68,28 @@ pub(crate) fn end_each(book: &mut Book, clients: &mut [Client<'_>], which: Which
     for client in 0..clients.len() {
         let halt = clients[client].halt_of(which);
         end_play(book, clients, client, halt);
+    }
+}
+
+/// Halts a client's play.
+fn end_play(book: &mut Book, clients: &mut [Client<'_>], client: usize, halt: Option<Halt>)
+    requires inside { client < length clients.old }
+    requires few { length clients.old ≤ 256 }
+    requires halt { IfSome halt (λ h. (none : Client) →
+        IsHaltOf (slice_index_or clients.old client none) h) }
+    requires going { AreGoing clients.old }
+    requires booked { AreBooked book.old.entries clients.old }
+    ensures going { AreGoing clients.new }
+    ensures booked { AreBooked book.new.entries clients.new }
+    ensures steps { book.new.steps ≡ book.old.steps }
+    ensures now { (state_after book.new.entries).now ≡ (state_after book.old.entries).now }
+    ensures ended { OnSome halt (clients.new ≡ slice_set clients.old client Idle) }
+    ensures left { IfNone halt (clients.new ≡ clients.old) }
+    ensures entries { book.new.entries ≡ book.old.entries ++ halts_of client halt }
+    ensures limit { book.new.limit ≡ book.old.limit }
+{
+    if let Some(halt) = halt {
+        clients[client] = Client::Idle;
+        let _noted = book.halt(client as u32, halt.number, halt.keep);
     }
 }

@@ -1,6 +1,7 @@
 //! How a client's play begins: what is asked for, its plan, and the play that was admitted.
 
-ghost use Rattle.std.specs.Prelude.{◌≡◌, ◌<◌, ℕ, false, length, map, slice_index_or, IfSome, IfNone, IfOk, IfErr};
+ghost use Rattle.std.specs.Prelude.{◌≡◌, ◌<◌, ℕ, false, length, map, slice_index_or, IfSome};
+ghost use Rattle.std.specs.Prelude.{IfNone, IfOk, IfErr};
 ghost use Rattle.wire_curve.specs.Refusal.{HasFault};
 ghost use Rattle.film_run.specs.Plans.{rest_sizes, timing_of};
 ghost use Rattle.pacer.specs.Pacings.{is_done};

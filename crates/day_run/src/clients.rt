@@ -1,6 +1,7 @@
 //! A client of a day: what it plays, and how far it has come.
 
-ghost use Rattle.std.specs.Prelude.{◌≡◌, ◌+◌, ◌-◌, ◌^◌, ◌≤◌, ◌<◌, ℕ, List, false, IfSome, IfNone, OnSome, IsTrue};
+ghost use Rattle.std.specs.Prelude.{◌≡◌, ◌+◌, ◌-◌, ◌^◌, ◌≤◌, ◌<◌, ℕ, List, false, IfSome, IfNone};
+ghost use Rattle.std.specs.Prelude.{OnSome, IsTrue};
 ghost use Rattle.plan_cert.specs.Slots.{total_bytes};
 ghost use Rattle.pacer.specs.Pacings.{IsPacing, is_done, after_step};
 ghost use Rattle.admission.specs.declared.entries.Entry.{Entry};
@@ -8,9 +9,11 @@ ghost use Rattle.film_run.specs.Plans.{IsPlanOf};
 ghost use Rattle.film_run.specs.Pauses.{IsHalt};
 ghost use Rattle.film_frames.specs.Tracks.{IsBoundary};
 ghost use Rattle.day_run.specs.Reels.{reel_pieces, reel_sizes};
-ghost use Rattle.day_run.specs.Clients.{IsBooked, IsGoing, IsHaltOf, IsPauseOf, IsPlaying, IsQuiet, IsRest, IsStep, IsTimed, IsUndone, IsUnpaused};
+ghost use Rattle.day_run.specs.Clients.{IsBooked, IsGoing, IsHaltOf, IsPauseOf, IsPlaying, IsQuiet};
+ghost use Rattle.day_run.specs.Clients.{IsRest, IsStep, IsTimed, IsUndone, IsUnpaused};
 ghost use Rattle.day_run.specs.declared.clients.Client.TheVariants.{Paused};
-ghost use Rattle.day_run.specs.Clients.{after_open, halt_for, halts_of, play_of, seat_after, seat_for, seat_of};
+ghost use Rattle.day_run.specs.Clients.{after_open, halt_for, halts_of, play_of, seat_after};
+ghost use Rattle.day_run.specs.Clients.{seat_for, seat_of};
 ghost use Rattle.day_run.specs.Days.{done_halt, open_halt};
 ghost use Rattle.day_run.specs.Seats.{IsPause, after_play, is_busy};
 
@@ -72,18 +75,6 @@ pub(crate) struct Halt {
 pub(crate) enum Which {
     Done,
     Open,
-}
-
-/// Sends what is due in a slot, and tells how many bytes that was.
-fn send(pacer: &mut Pacer<Sending<'_>>, slot: u64) -> u64
-    ensures state { pacer.new ≡ after_step false slot pacer.old }
-    ensures sent { result ≡ pacer.new.sent - pacer.old.sent }
-    ensures pacing { IsPacing pacer.new }
-{
-    match pacer.step(slot, false, &mut Drain) {
-        Ok(sending) => sending.sent,
-        Err(_) => unreachable!(),
-    }
 }
 
 impl<'r> Client<'r> {
@@ -214,6 +205,18 @@ impl<'r> Client<'r> {
                 None
             }
         }
+    }
+}
+
+/// Sends what is due in a slot, and tells how many bytes that was.
+fn send(pacer: &mut Pacer<Sending<'_>>, slot: u64) -> u64
+    ensures state { pacer.new ≡ after_step false slot pacer.old }
+    ensures sent { result ≡ pacer.new.sent - pacer.old.sent }
+    ensures pacing { IsPacing pacer.new }
+{
+    match pacer.step(slot, false, &mut Drain) {
+        Ok(sending) => sending.sent,
+        Err(_) => unreachable!(),
     }
 }
 

@@ -2,8 +2,10 @@
 
 ghost use Rattle.std.specs.Prelude.{◌≡◌, ◌^◌, ◌≤◌, ◌<◌, ◌++◌, [], drop, length, IfOk, OnOk};
 ghost use Rattle.admission.specs.Histories.{IsLegal};
-ghost use Rattle.day_run.specs.Days.{IsDay, IsLine, entry_lines, last_journal, last_lines, link_of, first_moment};
-ghost use Rattle.day_run.specs.Runners.{HasRun, IsKept, IsPrinted, IsRunner, link_on, moment_of, offer_lines, told_text};
+ghost use Rattle.day_run.specs.Days.{IsDay, IsLine, entry_lines, last_journal, last_lines, link_of};
+ghost use Rattle.day_run.specs.Days.{first_moment};
+ghost use Rattle.day_run.specs.Runners.{HasRun, IsKept, IsPrinted, IsRunner, link_on, moment_of};
+ghost use Rattle.day_run.specs.Runners.{offer_lines, told_text};
 ghost use Rattle.day_run.specs.Scripts.{AreLines, StandsAfter, slot_after};
 ghost use Rattle.day_run.specs.Sources.{AreSources};
 
@@ -27,6 +29,50 @@ pub struct Day {
     pub text: Vec<u8>,
     /// Its journal.
     pub journal: Vec<Entry>,
+}
+
+/// Runs a script on a link of this capacity, whose journal has room for `limit` entries, 2 to
+/// 1,048,576, in slots of `slot_units`, 1 to 360,000, in 1/360,000 s. The sources are those that
+/// the script names, in order.
+///
+/// # Errors
+///
+/// [`NoMemory`] alone.
+pub fn run_script(
+    alloc: Global,
+    script: &Script,
+    sources: &[Source],
+    profile: Profile,
+    limit: u64,
+    slot_units: u32,
+) -> Result<Day, NoMemory>
+    requires some { 2 ≤ limit }
+    requires few { limit ≤ 1048576 }
+    requires some_slot_units { 1 ≤ slot_units }
+    requires slot_units_fit { slot_units ≤ 360000 }
+    requires sources { AreSources sources.now }
+    requires lines { AreLines (length sources.now) script.now.lines.items }
+    ensures day { IfOk result (λ day.
+        IsDay (link_of profile limit slot_units sources.now) script.now.lines.items
+        day.text.items day.journal.items) }
+    ensures legal { IfOk result (λ day. IsLegal profile day.journal.items) }
+{
+    let reels = reels_of(alloc, sources)?;
+    let mut runner = Runner::new(alloc, &reels, profile, limit, slot_units)?;
+    let mut text = Vec::new(alloc);
+    run_lines(alloc, &mut runner, &script.lines, &mut text)?;
+    run_end(&mut runner, &mut text)?;
+    let Runner {
+        reels: _,
+        slot_units: _,
+        book,
+        clients: _,
+        heard: _,
+    } = runner;
+    Ok(Day {
+        text,
+        journal: book.into_entries(),
+    })
 }
 
 /// Prints the entries of a journal from a place on.
@@ -166,48 +212,4 @@ fn run_lines(
         run_line(alloc, runner, *line, text)?;
     }
     Ok(())
-}
-
-/// Runs a script on a link of this capacity, whose journal has room for `limit` entries, 2 to
-/// 1,048,576, in slots of `slot_units`, 1 to 360,000, in 1/360,000 s. The sources are those that
-/// the script names, in order.
-///
-/// # Errors
-///
-/// [`NoMemory`] alone.
-pub fn run_script(
-    alloc: Global,
-    script: &Script,
-    sources: &[Source],
-    profile: Profile,
-    limit: u64,
-    slot_units: u32,
-) -> Result<Day, NoMemory>
-    requires some { 2 ≤ limit }
-    requires few { limit ≤ 1048576 }
-    requires some_slot_units { 1 ≤ slot_units }
-    requires slot_units_fit { slot_units ≤ 360000 }
-    requires sources { AreSources sources.now }
-    requires lines { AreLines (length sources.now) script.now.lines.items }
-    ensures day { IfOk result (λ day.
-        IsDay (link_of profile limit slot_units sources.now) script.now.lines.items
-        day.text.items day.journal.items) }
-    ensures legal { IfOk result (λ day. IsLegal profile day.journal.items) }
-{
-    let reels = reels_of(alloc, sources)?;
-    let mut runner = Runner::new(alloc, &reels, profile, limit, slot_units)?;
-    let mut text = Vec::new(alloc);
-    run_lines(alloc, &mut runner, &script.lines, &mut text)?;
-    run_end(&mut runner, &mut text)?;
-    let Runner {
-        reels: _,
-        slot_units: _,
-        book,
-        clients: _,
-        heard: _,
-    } = runner;
-    Ok(Day {
-        text,
-        journal: book.into_entries(),
-    })
 }

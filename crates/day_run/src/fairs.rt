@@ -1,14 +1,17 @@
 //! A large day from a number.
 
-ghost use Rattle.std.specs.Prelude.{◌≡◌, ◌+◌, ◌*◌, ◌^◌, ◌≤◌, ◌<◌, ◌%◌, List, false, if◌then◌else◌, length, map, IfOk, OnOk};
+ghost use Rattle.std.specs.Prelude.{◌≡◌, ◌+◌, ◌*◌, ◌^◌, ◌≤◌, ◌<◌, ◌%◌, List, false, if◌then◌else◌};
+ghost use Rattle.std.specs.Prelude.{length, map, IfOk, OnOk};
 ghost use Rattle.film_make.specs.Generator.{after, words_left};
 ghost use Rattle.film_run.specs.Units.{IsTrace};
 ghost use Rattle.admission.specs.declared.entries.Entry.{Entry};
 ghost use Rattle.admission.specs.Histories.{IsLegal};
 ghost use Rattle.day_run.specs.Balanced.{IsReady};
 ghost use Rattle.day_run.specs.Days.{IsPlayLine, entry_lines, first_moment, rest_at, seat_at};
-ghost use Rattle.day_run.specs.FairDays.{IsDone, IsFair, after_traces, at_later, is_full_line, made_of, traces_drawn, words_for};
-ghost use Rattle.day_run.specs.Fairs.{AreTraces, HasCome, HasTurned, IsFitting, said_text, sizes_in, with_slot};
+ghost use Rattle.day_run.specs.FairDays.{IsDone, IsFair, after_traces, at_later, is_full_line};
+ghost use Rattle.day_run.specs.FairDays.{made_of, traces_drawn, words_for};
+ghost use Rattle.day_run.specs.Fairs.{AreTraces, HasCome, HasTurned, IsFitting, said_text};
+ghost use Rattle.day_run.specs.Fairs.{sizes_in, with_slot};
 ghost use Rattle.day_run.specs.Runners.{IsKept, IsRunner, link_on, moment_of, told_text};
 ghost use Rattle.day_run.specs.Seats.{trace_track};
 ghost use Rattle.day_run.specs.Tracks.{reel_track};

@@ -1,4 +1,5 @@
-ghost use Rattle.std.specs.Prelude.{ℕ, List, ◌≡◌, ◌≤◌, ◌<◌, ◌+◌, ◌-◌, ◌⊎◌, ◌++◌, ◌∷◌, false, true, length, map, sum_by, All, [], ◌≢◌, slice_index};
+ghost use Rattle.std.specs.Prelude.{ℕ, List, ◌≡◌, ◌≤◌, ◌<◌, ◌+◌, ◌-◌, ◌⊎◌, ◌++◌, ◌∷◌, false, true};
+ghost use Rattle.std.specs.Prelude.{length, map, sum_by, All, [], ◌≢◌, slice_index};
 ghost use Rattle.std.specs.List.{list_all, range_with_len};
 ghost use Rattle.day_run.specs.declared.scripts.Line.{Line};
 ghost use Rattle.day_run.specs.declared.scripts.Line.TheVariants as Lines;
@@ -8,14 +9,17 @@ ghost use Rattle.admission.specs.declared.entries.Entry.{Entry};
 ghost use Rattle.admission.specs.Histories.{IsLegal, booked_after, state_after};
 ghost use Rattle.day_run.specs.Balanced.{share_of};
 ghost use Rattle.day_run.specs.Clients.{after_open};
-ghost use Rattle.day_run.specs.DayLaws.{AreClients, IsClient, IsDrawnTurn, IsFairLine, IsLink, IsOfferTold, IsSoundSeat};
-ghost use Rattle.day_run.specs.Days.{AreRun, IsDay, IsFaulty, IsLine, Link, Moment, booked_up_to, last_journal, first_moment, rest_at, seat_at, sent_up_to};
+ghost use Rattle.day_run.specs.DayLaws.{AreClients, IsClient, IsDrawnTurn, IsFairLine, IsLink};
+ghost use Rattle.day_run.specs.DayLaws.{IsOfferTold, IsSoundSeat};
+ghost use Rattle.day_run.specs.Days.{AreRun, IsDay, IsFaulty, IsLine, Link, Moment, booked_up_to};
+ghost use Rattle.day_run.specs.Days.{last_journal, first_moment, rest_at, seat_at, sent_up_to};
 ghost use Rattle.day_run.specs.FairDays.{IsFair, IsTurn, Turn};
 ghost use Rattle.day_run.specs.declared.scripts.Script.{Script};
 ghost use Rattle.day_run.specs.Lines.{lines_of_script};
 ghost use Rattle.day_run.specs.Readings.{IsBadLine, IsScript, Name, Reading, lines_read, names_of};
 ghost use Rattle.day_run.specs.Scripts.{AreLines, StandsAfter, latest_slot};
-ghost use Rattle.day_run.specs.Spelling.{AreWritten, IsInWords, MayStand, is_verb, is_word, line_text, names_used, script_text, words_text};
+ghost use Rattle.day_run.specs.Spelling.{AreWritten, IsInWords, MayStand, is_verb, is_word};
+ghost use Rattle.day_run.specs.Spelling.{line_text, names_used, script_text, words_text};
 
 /// After lines of a script, what the clients are sent in the slots up to any later one, after the
 /// slot that was heard last, is what is booked in those slots.

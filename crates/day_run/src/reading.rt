@@ -1,11 +1,15 @@
 //! A script's text, read line by line.
 
-ghost use Rattle.std.specs.Prelude.{◌≡◌, ◌+◌, ◌<◌, ◌≤◌, [], false, true, length, IfOk, IfErr, IfSome, IfNone, OnOk, MatchOption, slice_index_or, string_bytes};
+ghost use Rattle.std.specs.Prelude.{◌≡◌, ◌+◌, ◌<◌, ◌≤◌, [], false, true, length, IfOk, IfErr};
+ghost use Rattle.std.specs.Prelude.{IfSome, IfNone, OnOk, MatchOption, slice_index_or};
+ghost use Rattle.std.specs.Prelude.{string_bytes};
 ghost use Rattle.vod_base.specs.Names.{is_good_name};
 ghost use Rattle.day_run.specs.Lines.{texts_at};
 ghost use Rattle.day_run.specs.Sayings.{IsInRange};
 ghost use Rattle.day_run.specs.Scripts.{AreLines, StandsAfter, latest_slot, slot_after};
-ghost use Rattle.day_run.specs.Readings.{IsDraft, IsPlaceOf, IsRefused, IsScript, IsTaken, line_read, name_as, named_in, names_of, nothing_read, reading_of, source_in, with_line, with_name, with_saying};
+ghost use Rattle.day_run.specs.Readings.{IsDraft, IsPlaceOf, IsRefused, IsScript, IsTaken};
+ghost use Rattle.day_run.specs.Readings.{line_read, name_as, named_in, names_of, nothing_read};
+ghost use Rattle.day_run.specs.Readings.{reading_of, source_in, with_line, with_name, with_saying};
 
 use crate::sayings::{Asked, Saying, saying_in};
 use crate::scripts::{Line, Named, Script, ScriptRefused};
@@ -64,54 +68,6 @@ pub(crate) struct Draft {
     named: Vec<Named>,
     /// The slot of the last `slot` line, 0 before the first.
     slot: u64,
-}
-
-/// A name as a text.
-fn text_of(alloc: Global, name: &[u8]) -> Result<String, NoMemory>
-    requires { is_good_name name.now ≡ true }
-    ensures { IfOk result (λ text. string_bytes text ≡ name.now) }
-{
-    match str::from_utf8(name) {
-        Ok(text) => Ok(String::from_str(alloc, text)?),
-        Err(_) => unreachable!(),
-    }
-}
-
-/// Where a name stands among these, or how many they are.
-fn place_of(named: &[Named], film: bool, name: &[u8]) -> usize
-    ensures value { result ≡ source_in (names_of named.now) (name_as film name.now) }
-    ensures most { result ≤ length named.now }
-{
-    for place in 0..named.len() {
-        let other = &named[place];
-        if film == other.film && name == other.name.as_bytes() {
-            return place;
-        }
-    }
-    named.len()
-}
-
-/// The place of a film or trace among the names, which have it from now on.
-fn source_of(
-    alloc: Global,
-    named: &mut Vec<Named>,
-    film: bool,
-    name: &[u8],
-) -> Result<usize, NoMemory>
-    requires { is_good_name name.now ≡ true }
-    ensures inside { IfOk result (λ place. place < length named.new.items) }
-    ensures longer { OnOk result (length named.old.items ≤ length named.new.items) }
-    ensures place { IfOk result (λ place. place ≡
-        source_in (names_of named.old.items) (name_as film name.now)) }
-    ensures names { OnOk result (names_of named.new.items ≡
-        with_name (names_of named.old.items) (name_as film name.now)) }
-{
-    let place = place_of(named, film, name);
-    if place == named.len() {
-        let name = text_of(alloc, name)?;
-        named.push(Named { film, name })?;
-    }
-    Ok(place)
 }
 
 impl Draft {
@@ -245,4 +201,52 @@ impl Draft {
             None => Ok(false),
         }
     }
+}
+
+/// A name as a text.
+fn text_of(alloc: Global, name: &[u8]) -> Result<String, NoMemory>
+    requires { is_good_name name.now ≡ true }
+    ensures { IfOk result (λ text. string_bytes text ≡ name.now) }
+{
+    match str::from_utf8(name) {
+        Ok(text) => Ok(String::from_str(alloc, text)?),
+        Err(_) => unreachable!(),
+    }
+}
+
+/// Where a name stands among these, or how many they are.
+fn place_of(named: &[Named], film: bool, name: &[u8]) -> usize
+    ensures value { result ≡ source_in (names_of named.now) (name_as film name.now) }
+    ensures most { result ≤ length named.now }
+{
+    for place in 0..named.len() {
+        let other = &named[place];
+        if film == other.film && name == other.name.as_bytes() {
+            return place;
+        }
+    }
+    named.len()
+}
+
+/// The place of a film or trace among the names, which have it from now on.
+fn source_of(
+    alloc: Global,
+    named: &mut Vec<Named>,
+    film: bool,
+    name: &[u8],
+) -> Result<usize, NoMemory>
+    requires { is_good_name name.now ≡ true }
+    ensures inside { IfOk result (λ place. place < length named.new.items) }
+    ensures longer { OnOk result (length named.old.items ≤ length named.new.items) }
+    ensures place { IfOk result (λ place. place ≡
+        source_in (names_of named.old.items) (name_as film name.now)) }
+    ensures names { OnOk result (names_of named.new.items ≡
+        with_name (names_of named.old.items) (name_as film name.now)) }
+{
+    let place = place_of(named, film, name);
+    if place == named.len() {
+        let name = text_of(alloc, name)?;
+        named.push(Named { film, name })?;
+    }
+    Ok(place)
 }

@@ -2,10 +2,13 @@
 
 ghost use Rattle.std.specs.Prelude.{◌≡◌, ◌-◌, ◌*◌, ◌^◌, ◌≤◌, ◌<◌, length, map, min, IfOk, OnOk};
 ghost use Rattle.day_run.specs.Clients.{IsPlanFor, IsRest, rest_of};
-ghost use Rattle.day_run.specs.Days.{at_slot, booked_up_to, last_journal, first_moment, rest_at, seat_at, sent_up_to};
-ghost use Rattle.day_run.specs.Days.{IsAsked, IsLookLine, IsOfferLine, IsPauseLine, IsPlanned, IsPlayLine, IsResumeLine};
+ghost use Rattle.day_run.specs.Days.{at_slot, booked_up_to, last_journal, first_moment, rest_at};
+ghost use Rattle.day_run.specs.Days.{seat_at, sent_up_to};
+ghost use Rattle.day_run.specs.Days.{IsAsked, IsLookLine, IsOfferLine, IsPauseLine, IsPlanned};
+ghost use Rattle.day_run.specs.Days.{IsPlayLine, IsResumeLine};
 ghost use Rattle.day_run.specs.FairDays.{most_up_to};
-ghost use Rattle.day_run.specs.Runners.{IsKept, IsRunner, IsWithinRanges, link_on, moment_of, offer_lines, told_text};
+ghost use Rattle.day_run.specs.Runners.{IsKept, IsRunner, IsWithinRanges, link_on, moment_of};
+ghost use Rattle.day_run.specs.Runners.{offer_lines, told_text};
 ghost use Rattle.day_run.specs.Tracks.{reel_track};
 
 use crate::all_clients::{end_each, idle_clients, step_clients};

@@ -4,7 +4,8 @@ ghost use Rattle.std.specs.Prelude.{◌≡◌, ◌≤◌, ◌^◌, IfSome};
 ghost use Rattle.std.specs.Str.{bytes_eq};
 ghost use Rattle.vod_base.specs.Numbers.{number_of};
 ghost use Rattle.day_run.specs.Lines.{texts_at};
-ghost use Rattle.day_run.specs.Sayings.{IsAskedInRange, IsInRange, asked_in, film_in, number_in, client_in, pair_in, play_in, offer_in, saying_in};
+ghost use Rattle.day_run.specs.Sayings.{IsAskedInRange, IsInRange, asked_in, film_in, number_in};
+ghost use Rattle.day_run.specs.Sayings.{client_in, pair_in, play_in, offer_in, saying_in};
 
 use vod_base::read_number;
 
@@ -26,6 +27,23 @@ pub(crate) enum Saying {
     Look(u64),
     Slot(u64),
     Offer(Asked, u64),
+}
+
+/// What a line of these words says.
+pub(crate) fn saying_in(words: &[&[u8]]) -> Option<Saying>
+    ensures saying { result ≡ saying_in (texts_at words.now) }
+    ensures range { IfSome result IsInRange }
+{
+    match words {
+        [verb, word] => pair_in(verb, word),
+        [verb, client, kind, _, buffer, delay] => {
+            play_in(verb, asked_in(client, kind, buffer, delay))
+        }
+        [verb, client, kind, _, buffer, delay, wait] => {
+            offer_in(verb, asked_in(client, kind, buffer, delay), wait)
+        }
+        _ => None,
+    }
 }
 
 /// Whether a word is this text.
@@ -133,21 +151,4 @@ fn offer_in(verb: &[u8], asked: Option<Asked>, wait: &[u8]) -> Option<Saying>
     let asked = asked?;
     let wait = number_in(wait, 0, 255)?;
     Some(Saying::Offer(asked, wait))
-}
-
-/// What a line of these words says.
-pub(crate) fn saying_in(words: &[&[u8]]) -> Option<Saying>
-    ensures saying { result ≡ saying_in (texts_at words.now) }
-    ensures range { IfSome result IsInRange }
-{
-    match words {
-        [verb, word] => pair_in(verb, word),
-        [verb, client, kind, _, buffer, delay] => {
-            play_in(verb, asked_in(client, kind, buffer, delay))
-        }
-        [verb, client, kind, _, buffer, delay, wait] => {
-            offer_in(verb, asked_in(client, kind, buffer, delay), wait)
-        }
-        _ => None,
-    }
 }

@@ -9,18 +9,6 @@ use crate::reels::{Reel, Source};
 use std::alloc::Global;
 use vod_base::NoMemory;
 
-/// A source as it is played.
-fn reel_of<'s>(alloc: Global, source: &'s Source) -> Result<Reel<'s>, NoMemory>
-    requires { IsSource source.now }
-    ensures { IfOk result (λ reel. (slot_units : ℕ) →
-        reel_track slot_units reel ≡ track_of slot_units source.entry.now) }
-{
-    match source {
-        Source::Film(stored) => Ok(Reel::Film(stored)),
-        Source::Trace(sizes) => Reel::trace(alloc, sizes),
-    }
-}
-
 /// The sources as they are played.
 pub(crate) fn reels_of<'s>(alloc: Global, sources: &'s [Source]) -> Result<Vec<Reel<'s>>, NoMemory>
     requires { AreSources sources.now }
@@ -33,4 +21,16 @@ pub(crate) fn reels_of<'s>(alloc: Global, sources: &'s [Source]) -> Result<Vec<R
         reels.push(reel_of(alloc, source)?)?;
     }
     Ok(reels)
+}
+
+/// A source as it is played.
+fn reel_of<'s>(alloc: Global, source: &'s Source) -> Result<Reel<'s>, NoMemory>
+    requires { IsSource source.now }
+    ensures { IfOk result (λ reel. (slot_units : ℕ) →
+        reel_track slot_units reel ≡ track_of slot_units source.entry.now) }
+{
+    match source {
+        Source::Film(stored) => Ok(Reel::Film(stored)),
+        Source::Trace(sizes) => Reel::trace(alloc, sizes),
+    }
 }

@@ -1,32 +1,12 @@
 //! A text as its lines, and a line as its words.
 
-ghost use Rattle.std.specs.Prelude.{◌≡◌, ◌≢◌, ◌==◌, ◌∷◌, ◌<◌, [], All, length, MatchOption, OnOk, IfNone, IfSome, map};
+ghost use Rattle.std.specs.Prelude.{◌≡◌, ◌≢◌, ◌==◌, ◌∷◌, ◌<◌, [], All, length, MatchOption, OnOk};
+ghost use Rattle.std.specs.Prelude.{IfNone, IfSome, map};
 ghost use Rattle.std.specs.List.{slice_split};
 ghost use Rattle.plan_cert.specs.Reading.{IsCut};
 ghost use Rattle.day_run.specs.Lines.{is_space, lines_of_script, texts_at, without_return};
 
 use vod_base::NoMemory;
-
-/// The part before the first byte `c`, and the part after it.
-fn cut(text: &[u8], c: u8) -> Option<(&[u8], &[u8])>
-    ensures { MatchOption result (All (λ b. b ≢ c) text.now)
-        (λ parts. IsCut c text.now parts.0.now parts.1.now) }
-{
-    for at in 0..text.len() {
-        if text[at] == c {
-            return Some((&text[..at], &text[at + 1..]));
-        }
-    }
-    None
-}
-
-/// A line that LF ended, without a CR at its end.
-fn without_return(line: &[u8]) -> &[u8]
-    ensures { result.now ≡ without_return line.now }
-{
-    let ends = !line.is_empty() && line[line.len() - 1] == b'\r';
-    if ends { &line[..line.len() - 1] } else { line }
-}
 
 /// The first line of a text, and the text after it. A line is ended by LF or CR LF, the last one
 /// also by the end of the text; where no byte stands, no line begins.
@@ -57,4 +37,25 @@ pub(crate) fn split_words<'a>(line: &'a [u8], words: &mut Vec<&'a [u8]>) -> Resu
     }
     words.push(rest)?;
     Ok(())
+}
+
+/// The part before the first byte `c`, and the part after it.
+fn cut(text: &[u8], c: u8) -> Option<(&[u8], &[u8])>
+    ensures { MatchOption result (All (λ b. b ≢ c) text.now)
+        (λ parts. IsCut c text.now parts.0.now parts.1.now) }
+{
+    for at in 0..text.len() {
+        if text[at] == c {
+            return Some((&text[..at], &text[at + 1..]));
+        }
+    }
+    None
+}
+
+/// A line that LF ended, without a CR at its end.
+fn without_return(line: &[u8]) -> &[u8]
+    ensures { result.now ≡ without_return line.now }
+{
+    let ends = !line.is_empty() && line[line.len() - 1] == b'\r';
+    if ends { &line[..line.len() - 1] } else { line }
 }

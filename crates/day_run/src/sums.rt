@@ -8,13 +8,6 @@ ghost use Rattle.admission.specs.Machine.{booked_in};
 use admission::Book;
 use slot_calendar::RING_SLOTS;
 
-/// The greater of two numbers of bytes.
-fn greater(one: u64, other: u64) -> u64
-    ensures { result ≡ max one other }
-{
-    one.max(other)
-}
-
 /// The bytes booked in the slots after `from` up to `to`, and the most in one of them.
 pub(crate) fn booked_between(book: &Book, from: u64, to: u64) -> (u64, u64)
     requires from_now { (state_after book.now.entries).now ≤ from }
@@ -36,4 +29,11 @@ pub(crate) fn booked_between(book: &Book, from: u64, to: u64) -> (u64, u64)
         peak = greater(peak, here);
     }
     (booked, peak)
+}
+
+/// The greater of two numbers of bytes.
+fn greater(one: u64, other: u64) -> u64
+    ensures { result ≡ max one other }
+{
+    one.max(other)
 }

@@ -2,7 +2,9 @@
 
 ghost use Rattle.std.specs.Prelude.{◌≡◌, ◌++◌, OnOk, decimal, flat_map};
 ghost use Rattle.report.specs.Fields.{field};
-ghost use Rattle.day_run.specs.Prints.{fair_text, fault_text, fault_words, full_text, made_words, offer_text, slot_text, slot_words, start_words, state_text, sum_words, tried_text, turn_words};
+ghost use Rattle.day_run.specs.Prints.{fair_text, fault_text, fault_words, full_text, made_words};
+ghost use Rattle.day_run.specs.Prints.{offer_text, slot_text, slot_words, start_words, state_text};
+ghost use Rattle.day_run.specs.Prints.{sum_words, tried_text, turn_words};
 
 use crate::counts::{Counts, Made};
 use admission::Full;
@@ -11,53 +13,11 @@ use itoa::Buffer;
 use vod_base::NoMemory;
 use wire_curve::CurveFault;
 
-/// Appends a text.
-fn push(out: &mut Vec<u8>, text: &[u8]) -> Result<(), NoMemory>
-    ensures { OnOk result (out.new.items ≡ out.old.items ++ text.now) }
-{
-    match out.extend_from_slice(text) {
-        Ok(()) => Ok(()),
-        Err(_) => Err(NoMemory),
-    }
-}
-
-/// Appends a number in decimal, without leading zeros.
-fn push_number(out: &mut Vec<u8>, number: u64) -> Result<(), NoMemory>
-    ensures { OnOk result (out.new.items ≡ out.old.items ++ (decimal number)) }
-{
-    push(out, Buffer::new().format(number).as_bytes())
-}
-
-#[tactic(auto, using(std::proofs::lemmas::List::append_assoc))]
-/// Appends a label and a number.
-fn push_field(out: &mut Vec<u8>, label: &[u8], number: u64) -> Result<(), NoMemory>
-    ensures { OnOk result (out.new.items ≡ out.old.items ++ (field label.now number)) }
-{
-    push(out, label)?;
-    push_number(out, number)
-}
-
 /// Appends the line of a client that can't be asked in its state.
 pub(crate) fn push_state(out: &mut Vec<u8>) -> Result<(), NoMemory>
     ensures { OnOk result (out.new.items ≡ out.old.items ++ state_text) }
 {
     push(out, b"refused state\n")
-}
-
-#[tactic(auto, using(std::proofs::lemmas::List::append_assoc))]
-/// Appends the name of the curves' refusal and its numbers.
-fn push_fault_words(out: &mut Vec<u8>, fault: CurveFault) -> Result<(), NoMemory>
-    ensures { OnOk result (out.new.items ≡ out.old.items ++ (fault_words fault)) }
-{
-    match fault {
-        CurveFault::NoPictures => push(out, b"refused NoPictures"),
-        CurveFault::TooManySlots { slots } => push_field(out, b"refused TooManySlots ", slots),
-        CurveFault::BufferTooSmall { slot, used, least } => {
-            push_field(out, b"refused BufferTooSmall ", slot)?;
-            push_field(out, b" ", used)?;
-            push_field(out, b" ", least)
-        }
-    }
 }
 
 #[tactic(auto, using(std::proofs::lemmas::List::append_assoc))]
@@ -96,6 +56,70 @@ pub(crate) fn push_slot(
 }
 
 #[tactic(auto, using(std::proofs::lemmas::List::append_assoc))]
+/// Appends the lines of an offer: one for each start that was tried in vain, and one for what is
+/// offered.
+pub(crate) fn push_offer(out: &mut Vec<u8>, offers: &Offers) -> Result<(), NoMemory>
+    ensures { OnOk result (out.new.items ≡ out.old.items ++ (offer_text offers.now)) }
+{
+    push_all_tried(out, offers.tries())?;
+    push_start(out, offers.start())?;
+    push_field(out, b" tried=", offers.tries().len() as u64)?;
+    push(out, b"\n")
+}
+
+#[tactic(auto, using(std::proofs::lemmas::List::append_assoc))]
+/// Appends the line of a fair.
+pub(crate) fn push_fair(out: &mut Vec<u8>, counts: &Counts, made: &Made) -> Result<(), NoMemory>
+    ensures { OnOk result (out.new.items ≡ out.old.items ++ fair_text counts.now made.now) }
+{
+    push_turns(out, counts, made)?;
+    push_slots(out, counts)?;
+    push(out, b"\n")
+}
+
+/// Appends a text.
+fn push(out: &mut Vec<u8>, text: &[u8]) -> Result<(), NoMemory>
+    ensures { OnOk result (out.new.items ≡ out.old.items ++ text.now) }
+{
+    match out.extend_from_slice(text) {
+        Ok(()) => Ok(()),
+        Err(_) => Err(NoMemory),
+    }
+}
+
+/// Appends a number in decimal, without leading zeros.
+fn push_number(out: &mut Vec<u8>, number: u64) -> Result<(), NoMemory>
+    ensures { OnOk result (out.new.items ≡ out.old.items ++ (decimal number)) }
+{
+    push(out, Buffer::new().format(number).as_bytes())
+}
+
+#[tactic(auto, using(std::proofs::lemmas::List::append_assoc))]
+/// Appends a label and a number.
+fn push_field(out: &mut Vec<u8>, label: &[u8], number: u64) -> Result<(), NoMemory>
+    ensures { OnOk result (out.new.items ≡ out.old.items ++ (field label.now number)) }
+{
+    push(out, label)?;
+    push_number(out, number)
+}
+
+#[tactic(auto, using(std::proofs::lemmas::List::append_assoc))]
+/// Appends the name of the curves' refusal and its numbers.
+fn push_fault_words(out: &mut Vec<u8>, fault: CurveFault) -> Result<(), NoMemory>
+    ensures { OnOk result (out.new.items ≡ out.old.items ++ (fault_words fault)) }
+{
+    match fault {
+        CurveFault::NoPictures => push(out, b"refused NoPictures"),
+        CurveFault::TooManySlots { slots } => push_field(out, b"refused TooManySlots ", slots),
+        CurveFault::BufferTooSmall { slot, used, least } => {
+            push_field(out, b"refused BufferTooSmall ", slot)?;
+            push_field(out, b" ", used)?;
+            push_field(out, b" ", least)
+        }
+    }
+}
+
+#[tactic(auto, using(std::proofs::lemmas::List::append_assoc))]
 /// Appends the line of a start that was tried in vain.
 fn push_tried(out: &mut Vec<u8>, tried: &Tried) -> Result<(), NoMemory>
     ensures { OnOk result (out.new.items ≡ out.old.items ++ (tried_text tried.now)) }
@@ -125,18 +149,6 @@ fn push_start(out: &mut Vec<u8>, start: Option<u64>) -> Result<(), NoMemory>
         Some(start) => push_field(out, b"offer start=", start),
         None => push(out, b"offer none"),
     }
-}
-
-#[tactic(auto, using(std::proofs::lemmas::List::append_assoc))]
-/// Appends the lines of an offer: one for each start that was tried in vain, and one for what is
-/// offered.
-pub(crate) fn push_offer(out: &mut Vec<u8>, offers: &Offers) -> Result<(), NoMemory>
-    ensures { OnOk result (out.new.items ≡ out.old.items ++ (offer_text offers.now)) }
-{
-    push_all_tried(out, offers.tries())?;
-    push_start(out, offers.start())?;
-    push_field(out, b" tried=", offers.tries().len() as u64)?;
-    push(out, b"\n")
 }
 
 #[tactic(auto, using(std::proofs::lemmas::List::append_assoc), unfolding(crate::specs::Prints::made_words))]
@@ -176,14 +188,4 @@ fn push_slots(out: &mut Vec<u8>, counts: &Counts) -> Result<(), NoMemory>
     push_field(out, b" full=", counts.full)?;
     push_field(out, b" last=", counts.last)?;
     push_sums(out, counts)
-}
-
-#[tactic(auto, using(std::proofs::lemmas::List::append_assoc))]
-/// Appends the line of a fair.
-pub(crate) fn push_fair(out: &mut Vec<u8>, counts: &Counts, made: &Made) -> Result<(), NoMemory>
-    ensures { OnOk result (out.new.items ≡ out.old.items ++ fair_text counts.now made.now) }
-{
-    push_turns(out, counts, made)?;
-    push_slots(out, counts)?;
-    push(out, b"\n")
 }

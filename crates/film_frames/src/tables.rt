@@ -33,45 +33,6 @@ pub struct FrameTable {
     firsts: Vec<u64>,
 }
 
-/// Appends a number.
-fn push(numbers: &mut Vec<u64>, number: u64) -> Result<(), NoMemory>
-    ensures { OnOk result (numbers.new.items ≡ numbers.old.items ++ number ∷ []) }
-{
-    match numbers.push(number) {
-        Ok(()) => Ok(()),
-        Err(_) => Err(NoMemory),
-    }
-}
-
-/// How many reports a unit has: one if it starts a group.
-fn report_count(unit: &Unit) -> usize
-    ensures { result ≡ length (unit_reports unit.now) }
-{
-    if unit.starts_group { 1 } else { 0 }
-}
-
-/// How many reports and frames a film has. The packets of each unit are written into the list.
-fn count_pieces(packets: &mut Vec<Packet>, film: &Film) -> Result<usize, NoMemory>
-    ensures { IfOk result (λ count. count ≡ length (film_pieces film.now)) }
-{
-    let mut count = 0;
-    for number in 0..film.units.len() {
-        refill_packets(packets, film, number)?;
-        count += packets.len() + report_count(&film.units[number]);
-    }
-    Ok(count)
-}
-
-/// Appends the number of a piece if it is a report.
-fn add_report(reports: &mut Vec<u64>, number: u64, piece: &Piece) -> Result<(), NoMemory>
-    ensures { OnOk result (reports.new.items ≡ with_report number piece.now reports.old.items) }
-{
-    match piece {
-        Piece::Report(_) => push(reports, number),
-        Piece::Frame(..) => Ok(()),
-    }
-}
-
 impl FrameTable {
     /// The table of a film.
     pub fn make(alloc: Global, film: &Film) -> Result<FrameTable, NoMemory>
@@ -238,5 +199,44 @@ impl FrameTable {
         ensures { result ≡ get_or self.now.rows.items piece result }
     {
         self.rows[piece]
+    }
+}
+
+/// Appends a number.
+fn push(numbers: &mut Vec<u64>, number: u64) -> Result<(), NoMemory>
+    ensures { OnOk result (numbers.new.items ≡ numbers.old.items ++ number ∷ []) }
+{
+    match numbers.push(number) {
+        Ok(()) => Ok(()),
+        Err(_) => Err(NoMemory),
+    }
+}
+
+/// How many reports a unit has: one if it starts a group.
+fn report_count(unit: &Unit) -> usize
+    ensures { result ≡ length (unit_reports unit.now) }
+{
+    if unit.starts_group { 1 } else { 0 }
+}
+
+/// How many reports and frames a film has. The packets of each unit are written into the list.
+fn count_pieces(packets: &mut Vec<Packet>, film: &Film) -> Result<usize, NoMemory>
+    ensures { IfOk result (λ count. count ≡ length (film_pieces film.now)) }
+{
+    let mut count = 0;
+    for number in 0..film.units.len() {
+        refill_packets(packets, film, number)?;
+        count += packets.len() + report_count(&film.units[number]);
+    }
+    Ok(count)
+}
+
+/// Appends the number of a piece if it is a report.
+fn add_report(reports: &mut Vec<u64>, number: u64, piece: &Piece) -> Result<(), NoMemory>
+    ensures { OnOk result (reports.new.items ≡ with_report number piece.now reports.old.items) }
+{
+    match piece {
+        Piece::Report(_) => push(reports, number),
+        Piece::Frame(..) => Ok(()),
     }
 }

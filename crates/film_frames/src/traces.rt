@@ -13,14 +13,6 @@ const PART: u64 = 1024;
 /// What the parts show.
 static ZEROS: [u8; 1024] = [0; 1024];
 
-/// So many zero bytes.
-fn zeros(length: u64) -> &'static [u8]
-    requires { length ≤ 1024 }
-    ensures { result.now ≡ replicate length 0 }
-{
-    &ZEROS[..length as usize]
-}
-
 /// A track of frames of zero bytes, by their sizes. Contracts see the sizes.
 #[derive(Debug, Drop)]
 pub struct TraceTrack {
@@ -94,4 +86,12 @@ impl Track for TraceTrack {
             payload: zeros((end - at).min(PART)),
         }
     }
+}
+
+/// So many zero bytes.
+fn zeros(length: u64) -> &'static [u8]
+    requires { length ≤ 1024 }
+    ensures { result.now ≡ replicate length 0 }
+{
+    &ZEROS[..length as usize]
 }

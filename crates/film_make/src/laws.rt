@@ -1,4 +1,5 @@
-ghost use Rattle.std.specs.Prelude.{◌≡◌, ◌≢◌, ℕ, ◌+◌, ◌*◌, ◌%◌, ◌<◌, ◌≤◌, ◌++◌, [], ◌∷◌, List, decimal};
+ghost use Rattle.std.specs.Prelude.{◌≡◌, ◌≢◌, ℕ, ◌+◌, ◌*◌, ◌%◌, ◌<◌, ◌≤◌, ◌++◌, [], ◌∷◌, List};
+ghost use Rattle.std.specs.Prelude.{decimal};
 ghost use Rattle.std.specs.Prelude.{drop, flat_map, length, take};
 ghost use Rattle.mpeg_scan.specs.Standard.{backward_vector, forward_vector, picture_coding_type};
 ghost use Rattle.mpeg_scan.specs.Standard.{temporal_reference};

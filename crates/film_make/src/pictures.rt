@@ -72,6 +72,20 @@ impl CodingType {
     }
 }
 
+#[tactic(auto, using(std::proofs::lemmas::List::append_assoc), unfolding(crate::specs::Film::picture_of))]
+/// Appends picture `index` of a film, whose draws are the next ones.
+pub fn write_picture(draws: &mut Draws, index: u32, out: &mut Vec<u8>) -> Result<(), AllocError>
+    ensures bytes { OnOk result (out.new.items ≡
+        out.old.items ++ picture_of (words_left draws.old) index) }
+    ensures left { OnOk result (words_left draws.new ≡
+        slice_words (coding_type (index % 12)) (words_left draws.old) 4) }
+{
+    let place = index % GROUP;
+    begin_group(place, out)?;
+    write_picture_header(place, out)?;
+    write_slices(draws, CodingType::at(place), out)
+}
+
 // The place in the order of showing of a picture of a group.
 #[tactic(auto, unfolding(crate::specs::Film::temporal_reference))]
 fn temporal_reference_at(place: u32) -> u32
@@ -168,18 +182,4 @@ fn begin_group(place: u32, out: &mut Vec<u8>) -> Result<(), AllocError>
         out.extend_from_slice(&SEQUENCE_AND_GROUP)?;
     }
     Ok(())
-}
-
-#[tactic(auto, using(std::proofs::lemmas::List::append_assoc), unfolding(crate::specs::Film::picture_of))]
-/// Appends picture `index` of a film, whose draws are the next ones.
-pub fn write_picture(draws: &mut Draws, index: u32, out: &mut Vec<u8>) -> Result<(), AllocError>
-    ensures bytes { OnOk result (out.new.items ≡
-        out.old.items ++ picture_of (words_left draws.old) index) }
-    ensures left { OnOk result (words_left draws.new ≡
-        slice_words (coding_type (index % 12)) (words_left draws.old) 4) }
-{
-    let place = index % GROUP;
-    begin_group(place, out)?;
-    write_picture_header(place, out)?;
-    write_slices(draws, CodingType::at(place), out)
 }

@@ -13,6 +13,45 @@ use crate::runs::Run;
 use crate::units::Units;
 use plan_cert::Plan;
 
+/// What a halt leaves of a run: its play by `plan` stepped the plan's slot `last` last, or none,
+/// isn't done, and keeps `keep` bytes of its plan, at least those that were due.
+///
+/// The run was sent up to what is kept. It is unplayed from the first picture on that is used in
+/// the slot in which the play stops or after it: the later of the slot last stepped and the first
+/// one through which the plan has what is kept. Some of it is then unplayed, and what was sent and
+/// isn't played fits in the client's buffer.
+///
+/// It takes time in the pictures that were played and some twenty times in the plan's segments, and
+/// no memory.
+pub fn run_after<U: Units>(
+    units: &U,
+    playback: &Playback,
+    run: &Run,
+    plan: &Plan,
+    last: Option<u64>,
+    keep: u64,
+) -> Run
+    requires playback { IsPlayback playback.now }
+    requires run { IsRun (U.sizes units.now) run.now }
+    requires fits { Fits playback.now.buffer run.now }
+    requires plan { IsPlanOf (U.sizes units.now) playback.now run.now plan.now }
+    requires halt { IsHalt plan.now last keep }
+    ensures left { IsLeft (U.sizes units.now) playback.now run.now plan.now last keep result }
+    ensures run { IsRun (U.sizes units.now) result }
+    ensures fits { Fits playback.now.buffer result }
+{
+    let _count = units.count();
+    let stop = stop_slot(plan, last, keep);
+    let first = run.from_unit;
+    let mut left = *run;
+    left.sent += keep;
+    while due_slot(playback, run, (left.from_unit - first) as u64) < stop {
+        left.played += units.wire_size(left.from_unit);
+        left.from_unit += 1;
+    }
+    left
+}
+
 /// The first slot of a plan through which it has so many bytes. It asks the plan for about twenty
 /// slots.
 fn slot_with(plan: &Plan, bytes: u64) -> u64
@@ -56,43 +95,4 @@ fn due_slot(playback: &Playback, run: &Run, picture: u64) -> u64
 {
     let _run = run;
     picture * u64::from(playback.picture_units) / u64::from(playback.slot_units) + playback.delay
-}
-
-/// What a halt leaves of a run: its play by `plan` stepped the plan's slot `last` last, or none,
-/// isn't done, and keeps `keep` bytes of its plan, at least those that were due.
-///
-/// The run was sent up to what is kept. It is unplayed from the first picture on that is used in
-/// the slot in which the play stops or after it: the later of the slot last stepped and the first
-/// one through which the plan has what is kept. Some of it is then unplayed, and what was sent and
-/// isn't played fits in the client's buffer.
-///
-/// It takes time in the pictures that were played and some twenty times in the plan's segments, and
-/// no memory.
-pub fn run_after<U: Units>(
-    units: &U,
-    playback: &Playback,
-    run: &Run,
-    plan: &Plan,
-    last: Option<u64>,
-    keep: u64,
-) -> Run
-    requires playback { IsPlayback playback.now }
-    requires run { IsRun (U.sizes units.now) run.now }
-    requires fits { Fits playback.now.buffer run.now }
-    requires plan { IsPlanOf (U.sizes units.now) playback.now run.now plan.now }
-    requires halt { IsHalt plan.now last keep }
-    ensures left { IsLeft (U.sizes units.now) playback.now run.now plan.now last keep result }
-    ensures run { IsRun (U.sizes units.now) result }
-    ensures fits { Fits playback.now.buffer result }
-{
-    let _count = units.count();
-    let stop = stop_slot(plan, last, keep);
-    let first = run.from_unit;
-    let mut left = *run;
-    left.sent += keep;
-    while due_slot(playback, run, (left.from_unit - first) as u64) < stop {
-        left.played += units.wire_size(left.from_unit);
-        left.from_unit += 1;
-    }
-    left
 }

@@ -33,33 +33,6 @@ pub struct Playback {
     pub delay: u64,
 }
 
-/// When the pictures of a run's play are used, and what was sent and played before.
-fn timing_of(playback: &Playback, run: &Run) -> Timing
-    ensures { result ≡ timing_of playback.now run.now }
-{
-    Timing {
-        picture_units: playback.picture_units,
-        slot_units: playback.slot_units,
-        buffer: playback.buffer,
-        delay: playback.delay,
-        played: run.played,
-        sent: run.sent,
-    }
-}
-
-/// The sizes of the units that a run hasn't played.
-fn rest_sizes<U: Units>(alloc: Global, units: &U, run: &Run) -> Result<Vec<u64>, AllocError>
-    requires order { run.now.from_unit ≤ run.now.end_unit }
-    requires within { run.now.end_unit ≤ length (U.sizes units.now) }
-    ensures { IfOk result (λ sizes. sizes.items ≡ rest_sizes (U.sizes units.now) run.now) }
-{
-    let mut sizes = Vec::with_capacity(alloc, run.end_unit - run.from_unit)?;
-    for unit in run.from_unit..run.end_unit {
-        sizes.push(units.wire_size(unit))?;
-    }
-    Ok(sizes)
-}
-
 /// The plan by which a run is sent on: the taut one between the curves of the units that weren't
 /// played. It sends all bytes of the run that weren't sent, and no plan that keeps between the
 /// curves sends less above any rate.
@@ -94,4 +67,31 @@ pub fn plan_of<U: Units>(
         Ok(plan) => Ok(plan),
         Err(NoMemory) => Err(CurveRefused::NoMemory),
     }
+}
+
+/// When the pictures of a run's play are used, and what was sent and played before.
+fn timing_of(playback: &Playback, run: &Run) -> Timing
+    ensures { result ≡ timing_of playback.now run.now }
+{
+    Timing {
+        picture_units: playback.picture_units,
+        slot_units: playback.slot_units,
+        buffer: playback.buffer,
+        delay: playback.delay,
+        played: run.played,
+        sent: run.sent,
+    }
+}
+
+/// The sizes of the units that a run hasn't played.
+fn rest_sizes<U: Units>(alloc: Global, units: &U, run: &Run) -> Result<Vec<u64>, AllocError>
+    requires order { run.now.from_unit ≤ run.now.end_unit }
+    requires within { run.now.end_unit ≤ length (U.sizes units.now) }
+    ensures { IfOk result (λ sizes. sizes.items ≡ rest_sizes (U.sizes units.now) run.now) }
+{
+    let mut sizes = Vec::with_capacity(alloc, run.end_unit - run.from_unit)?;
+    for unit in run.from_unit..run.end_unit {
+        sizes.push(units.wire_size(unit))?;
+    }
+    Ok(sizes)
 }

@@ -21,6 +21,25 @@ const UNITS: u128 = 9;
 /// No film is as long, in nanoseconds.
 const LONGEST: u128 = 1 << 64;
 
+/// The new run from a time on, up to another or the film's end, in nanoseconds: from the last group
+/// that begins at or before the first time, up to the first later group that begins at or after the
+/// second. None exactly where the film has ended at the first time, or the second isn't after it.
+pub fn run_between(film: &Film, from: u128, to: Option<u128>) -> Option<Run>
+    ensures asked { MatchOption result (HasNothing film.now from to) (IsAsked film.now from to) }
+    ensures run { IfSome result (IsFilmRun film.now) }
+{
+    law_film(film);
+    law_units(film);
+    if is_reversed(from, to) {
+        return None;
+    }
+    let time = picture_time(film);
+    let units = film.units.as_slice();
+    let first_unit = group_by(units, time, from)?;
+    let end_unit = end_of(units, time, to, first_unit);
+    Some(new_run(first_unit, end_unit))
+}
+
 /// A time in whole units of 1/360,000 second, where a part of one isn't counted.
 fn units_before(nanoseconds: u128) -> u64
     ensures most { result ≤ 2 ^ 63 }
@@ -151,23 +170,4 @@ fn is_reversed(from: u128, to: Option<u128>) -> bool
         Some(to) => to <= from,
         None => false,
     }
-}
-
-/// The new run from a time on, up to another or the film's end, in nanoseconds: from the last group
-/// that begins at or before the first time, up to the first later group that begins at or after the
-/// second. None exactly where the film has ended at the first time, or the second isn't after it.
-pub fn run_between(film: &Film, from: u128, to: Option<u128>) -> Option<Run>
-    ensures asked { MatchOption result (HasNothing film.now from to) (IsAsked film.now from to) }
-    ensures run { IfSome result (IsFilmRun film.now) }
-{
-    law_film(film);
-    law_units(film);
-    if is_reversed(from, to) {
-        return None;
-    }
-    let time = picture_time(film);
-    let units = film.units.as_slice();
-    let first_unit = group_by(units, time, from)?;
-    let end_unit = end_of(units, time, to, first_unit);
-    Some(new_run(first_unit, end_unit))
 }

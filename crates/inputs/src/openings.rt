@@ -15,6 +15,58 @@ use vod_base::Library;
 /// The kind of a pack's start code (ISO/IEC 11172-1, section 2.4.4.2).
 const PACK: u8 = 0xba;
 
+/// Where the system stream in a file begins, if its first start code is that of a pack.
+pub(crate) fn pack_in(file: &[u8]) -> Option<u64>
+    requires { length file.now ≤ 2 ^ 40 }
+    ensures place { result ≡ pack_in file.now }
+    ensures within { IfSome result (λ place. place ≤ length file.now) }
+{
+    match open_piece(Prefix::Nothing, 0, file) {
+        Opening::Pack(place) => Some(place),
+        Opening::Other => None,
+        Opening::Open(_) => None,
+    }
+}
+
+/// Where the system stream in a file of that size begins, if its first start code is that of a
+/// pack.
+pub(crate) fn find_pack<'a, L: Library>(
+    library: &mut L,
+    name: &'a str,
+    size: u64,
+    piece: &mut [u8],
+) -> Result<Option<u64>, Trouble<'a>>
+    requires some { 0 < length piece.old }
+    requires short { size ≤ 2 ^ 40 }
+    ensures library { IsReadOnly (L.files library.old) (L.files library.new) (L.faults library.old)
+        (L.faults library.new) }
+    ensures opened { (held : List File) → L.files library.old ≡ Some held
+        → Some size ≡ option_map length (file_named held name.entry.now)
+        → IfOk result (IsOpened held name.entry.now size) }
+    ensures within { IfOk result (λ from. IfSome from (λ place. place ≤ size)) }
+    ensures trouble { IfErr result (IsReadTrouble (IsNamed name.entry.now) IsNever
+        (L.files library.old) (L.faults library.old) (L.faults library.new)) }
+{
+    let mut prefix = Prefix::Nothing;
+    let mut at = 0;
+    while at < size {
+        let count = match read_at(library, name, size, at, piece) {
+            Ok(count) => count,
+            Err(trouble) => return Err(trouble),
+        };
+        if count == 0 {
+            return Ok(None);
+        }
+        match open_piece(prefix, at, &piece[..count]) {
+            Opening::Open(next) => prefix = next,
+            Opening::Pack(place) => return Ok(Some(place)),
+            Opening::Other => return Ok(None),
+        }
+        at += count as u64;
+    }
+    Ok(None)
+}
+
 /// How much of the prefix 00 00 01 of a start code the bytes so far end with.
 #[derive(Clone, Copy)]
 enum Prefix {
@@ -72,56 +124,4 @@ fn open_piece(before: Prefix, at: u64, piece: &[u8]) -> Opening
         }
     }
     Opening::Open(prefix)
-}
-
-/// Where the system stream in a file begins, if its first start code is that of a pack.
-pub(crate) fn pack_in(file: &[u8]) -> Option<u64>
-    requires { length file.now ≤ 2 ^ 40 }
-    ensures place { result ≡ pack_in file.now }
-    ensures within { IfSome result (λ place. place ≤ length file.now) }
-{
-    match open_piece(Prefix::Nothing, 0, file) {
-        Opening::Pack(place) => Some(place),
-        Opening::Other => None,
-        Opening::Open(_) => None,
-    }
-}
-
-/// Where the system stream in a file of that size begins, if its first start code is that of a
-/// pack.
-pub(crate) fn find_pack<'a, L: Library>(
-    library: &mut L,
-    name: &'a str,
-    size: u64,
-    piece: &mut [u8],
-) -> Result<Option<u64>, Trouble<'a>>
-    requires some { 0 < length piece.old }
-    requires short { size ≤ 2 ^ 40 }
-    ensures library { IsReadOnly (L.files library.old) (L.files library.new) (L.faults library.old)
-        (L.faults library.new) }
-    ensures opened { (held : List File) → L.files library.old ≡ Some held
-        → Some size ≡ option_map length (file_named held name.entry.now)
-        → IfOk result (IsOpened held name.entry.now size) }
-    ensures within { IfOk result (λ from. IfSome from (λ place. place ≤ size)) }
-    ensures trouble { IfErr result (IsReadTrouble (IsNamed name.entry.now) IsNever
-        (L.files library.old) (L.faults library.old) (L.faults library.new)) }
-{
-    let mut prefix = Prefix::Nothing;
-    let mut at = 0;
-    while at < size {
-        let count = match read_at(library, name, size, at, piece) {
-            Ok(count) => count,
-            Err(trouble) => return Err(trouble),
-        };
-        if count == 0 {
-            return Ok(None);
-        }
-        match open_piece(prefix, at, &piece[..count]) {
-            Opening::Open(next) => prefix = next,
-            Opening::Pack(place) => return Ok(Some(place)),
-            Opening::Other => return Ok(None),
-        }
-        at += count as u64;
-    }
-    Ok(None)
 }

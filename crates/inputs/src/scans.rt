@@ -19,6 +19,61 @@ use vod_base::Library;
 /// The most bytes of a film.
 pub(crate) const FILM: u64 = 1 << 40;
 
+/// Ends the scan of a video.
+pub(crate) fn end_film<'a, F: Found>(
+    name: &'a str,
+    scanner: Scanner,
+    found: &mut F,
+) -> Result<Ending, Trouble<'a>>
+    requires ready { IsReady (F.ready_at found.old) scanner }
+    ensures ended { (video : List ℕ) → length video ≤ 2 ^ 40 →
+        HasTaken (F.heard found.old) scanner video
+        → IfOk result (λ ending. HasEnded (F.heard found.new) video ending.bytes ending.rate) }
+    ensures trouble { IfErr result
+        (IsFilmTrouble name.entry.now (IsRefusedAtEnd (F.heard found.old) scanner)) }
+{
+    match scanner.finish(found) {
+        Ok(ending) => Ok(ending),
+        Err(ScanRefused::Fault(fault)) => Err(Trouble::Refused(name, Fault::Film(fault))),
+        Err(ScanRefused::NoMemory) => Err(Trouble::NoMemory),
+    }
+}
+
+/// Scans a film of the library, by reads of at most 65,536 bytes, and keeps nothing of it but what
+/// `found` keeps: the video that the file is, or that of its system stream.
+pub(crate) fn hear_film<'a, L: Library, F: Found>(
+    alloc: Global,
+    library: &mut L,
+    name: &'a str,
+    found: &mut F,
+) -> Result<Ending, Trouble<'a>>
+    requires fresh { F.heard found.old [] }
+    ensures library { IsReadOnly (L.files library.old) (L.files library.new) (L.faults library.old)
+        (L.faults library.new) }
+    ensures film { IfOk result (λ ending.
+        HasHeard (F.heard found.new) (L.files library.old) name.entry.now ending.bytes
+        ending.rate) }
+    ensures trouble { IfErr result (IsReadTrouble (IsNamed name.entry.now) IsFilmRefused
+        (L.files library.old) (L.faults library.old) (L.faults library.new)) }
+{
+    let size = match find_file(library, name) {
+        Ok(size) => size,
+        Err(trouble) => return Err(trouble),
+    };
+    if FILM < size {
+        return Err(Trouble::Refused(name, Fault::Film(FilmFault::TooLong)));
+    }
+    let mut piece = match zeros(alloc, PIECE) {
+        Ok(piece) => piece,
+        Err(_) => return Err(Trouble::NoMemory),
+    };
+    match find_pack(library, name, size, &mut piece) {
+        Ok(None) => scan_plain(library, name, size, &mut piece, found),
+        Ok(Some(from)) => scan_stream(library, name, size, from, &mut piece, found),
+        Err(trouble) => Err(trouble),
+    }
+}
+
 /// Reads one piece of the film at `at`, feeds it to the scanner, and answers how many bytes it had:
 /// 0 at the end.
 fn feed_piece<'a, L: Library, F: Found>(
@@ -97,26 +152,6 @@ fn feed_film<'a, L: Library, F: Found>(
     Ok(())
 }
 
-/// Ends the scan of a video.
-pub(crate) fn end_film<'a, F: Found>(
-    name: &'a str,
-    scanner: Scanner,
-    found: &mut F,
-) -> Result<Ending, Trouble<'a>>
-    requires ready { IsReady (F.ready_at found.old) scanner }
-    ensures ended { (video : List ℕ) → length video ≤ 2 ^ 40 →
-        HasTaken (F.heard found.old) scanner video
-        → IfOk result (λ ending. HasEnded (F.heard found.new) video ending.bytes ending.rate) }
-    ensures trouble { IfErr result
-        (IsFilmTrouble name.entry.now (IsRefusedAtEnd (F.heard found.old) scanner)) }
-{
-    match scanner.finish(found) {
-        Ok(ending) => Ok(ending),
-        Err(ScanRefused::Fault(fault)) => Err(Trouble::Refused(name, Fault::Film(fault))),
-        Err(ScanRefused::NoMemory) => Err(Trouble::NoMemory),
-    }
-}
-
 /// Scans the video that a file is.
 fn scan_plain<'a, L: Library, F: Found>(
     library: &mut L,
@@ -140,41 +175,6 @@ fn scan_plain<'a, L: Library, F: Found>(
     let mut scanner = Scanner::new();
     match feed_film(library, name, size, piece, &mut scanner, found) {
         Ok(()) => end_film(name, scanner, found),
-        Err(trouble) => Err(trouble),
-    }
-}
-
-/// Scans a film of the library, by reads of at most 65,536 bytes, and keeps nothing of it but what
-/// `found` keeps: the video that the file is, or that of its system stream.
-pub(crate) fn hear_film<'a, L: Library, F: Found>(
-    alloc: Global,
-    library: &mut L,
-    name: &'a str,
-    found: &mut F,
-) -> Result<Ending, Trouble<'a>>
-    requires fresh { F.heard found.old [] }
-    ensures library { IsReadOnly (L.files library.old) (L.files library.new) (L.faults library.old)
-        (L.faults library.new) }
-    ensures film { IfOk result (λ ending.
-        HasHeard (F.heard found.new) (L.files library.old) name.entry.now ending.bytes
-        ending.rate) }
-    ensures trouble { IfErr result (IsReadTrouble (IsNamed name.entry.now) IsFilmRefused
-        (L.files library.old) (L.faults library.old) (L.faults library.new)) }
-{
-    let size = match find_file(library, name) {
-        Ok(size) => size,
-        Err(trouble) => return Err(trouble),
-    };
-    if FILM < size {
-        return Err(Trouble::Refused(name, Fault::Film(FilmFault::TooLong)));
-    }
-    let mut piece = match zeros(alloc, PIECE) {
-        Ok(piece) => piece,
-        Err(_) => return Err(Trouble::NoMemory),
-    };
-    match find_pack(library, name, size, &mut piece) {
-        Ok(None) => scan_plain(library, name, size, &mut piece, found),
-        Ok(Some(from)) => scan_stream(library, name, size, from, &mut piece, found),
         Err(trouble) => Err(trouble),
     }
 }

@@ -38,6 +38,49 @@ pub(crate) fn move_fault(place: u64, fault: SystemFault) -> SystemFault
     }
 }
 
+/// Scans the video of the system stream that begins at `from`.
+pub(crate) fn scan_stream<'a, L: Library, F: Found>(
+    library: &mut L,
+    name: &'a str,
+    size: u64,
+    from: u64,
+    piece: &mut [u8],
+    found: &mut F,
+) -> Result<Ending, Trouble<'a>>
+    requires some { 0 < length piece.old }
+    requires short { size ≤ 2 ^ 40 }
+    requires opened { WasOpened (L.files library.old) name.now size (Some from) }
+    requires within { from ≤ size }
+    requires fresh { F.heard found.old [] }
+    ensures library { IsReadOnly (L.files library.old) (L.files library.new) (L.faults library.old)
+        (L.faults library.new) }
+    ensures film { IfOk result (λ ending.
+        HasHeard (F.heard found.new) (L.files library.old) name.entry.now ending.bytes
+        ending.rate) }
+    ensures trouble { IfErr result (IsReadTrouble (IsNamed name.entry.now) IsFilmRefused
+        (L.files library.old) (L.faults library.old) (L.faults library.new)) }
+{
+    let mut unwrapper = Unwrapper::new();
+    let mut scanner = Scanner::new();
+    match feed_stream(
+        library,
+        name,
+        size,
+        from,
+        piece,
+        &mut unwrapper,
+        &mut scanner,
+        found,
+    ) {
+        Ok(()) => {}
+        Err(trouble) => return Err(trouble),
+    }
+    match unwrapper.finish() {
+        Ok(()) => end_film(name, scanner, found),
+        Err(fault) => Err(Trouble::Refused(name, Fault::System(move_fault(from, fault)))),
+    }
+}
+
 /// Feeds video of a stream to the scanner. Where it refuses the film it does so again when the
 /// stream has ended, and till then the stream is read on: its own faults go first.
 fn take_video<F: Found>(scanner: &mut Scanner, video: &[u8], found: &mut F) -> Result<(), NoMemory>
@@ -207,47 +250,4 @@ fn feed_stream<'a, L: Library, F: Found>(
         more = 0 < count;
     }
     Ok(())
-}
-
-/// Scans the video of the system stream that begins at `from`.
-pub(crate) fn scan_stream<'a, L: Library, F: Found>(
-    library: &mut L,
-    name: &'a str,
-    size: u64,
-    from: u64,
-    piece: &mut [u8],
-    found: &mut F,
-) -> Result<Ending, Trouble<'a>>
-    requires some { 0 < length piece.old }
-    requires short { size ≤ 2 ^ 40 }
-    requires opened { WasOpened (L.files library.old) name.now size (Some from) }
-    requires within { from ≤ size }
-    requires fresh { F.heard found.old [] }
-    ensures library { IsReadOnly (L.files library.old) (L.files library.new) (L.faults library.old)
-        (L.faults library.new) }
-    ensures film { IfOk result (λ ending.
-        HasHeard (F.heard found.new) (L.files library.old) name.entry.now ending.bytes
-        ending.rate) }
-    ensures trouble { IfErr result (IsReadTrouble (IsNamed name.entry.now) IsFilmRefused
-        (L.files library.old) (L.faults library.old) (L.faults library.new)) }
-{
-    let mut unwrapper = Unwrapper::new();
-    let mut scanner = Scanner::new();
-    match feed_stream(
-        library,
-        name,
-        size,
-        from,
-        piece,
-        &mut unwrapper,
-        &mut scanner,
-        found,
-    ) {
-        Ok(()) => {}
-        Err(trouble) => return Err(trouble),
-    }
-    match unwrapper.finish() {
-        Ok(()) => end_film(name, scanner, found),
-        Err(fault) => Err(Trouble::Refused(name, Fault::System(move_fault(from, fault)))),
-    }
 }

@@ -32,6 +32,31 @@ pub enum TraceRefused {
     NoMemory,
 }
 
+/// Reads the picture sizes of a trace: decimal numbers up to 2^32 with blanks between them, at most
+/// 1,000,000 numbers with a sum up to 2^40.
+pub fn read_trace(alloc: Global, text: &[u8]) -> Result<Vec<u64>, TraceRefused>
+    ensures trace { IfOk result (λ sizes. IsTraceText text.now sizes.items) }
+    ensures refused { IfErr result (IsTraceRefused text.now) }
+{
+    let most = (text.len() / 2 + 1).min(MOST_PICTURES);
+    let Ok(mut sizes) = Vec::with_capacity(alloc, most) else {
+        return Err(TraceRefused::NoMemory);
+    };
+    let mut total = 0u64;
+    let mut at = 0usize;
+    while let Some(from) = next_place(text, at) {
+        let Some(size) = next_size(&text[from..], sizes.len(), total) else {
+            return Err(TraceRefused::BadTrace(from as u64));
+        };
+        if sizes.push(size.value).is_err() {
+            return Err(TraceRefused::NoMemory);
+        }
+        total += size.value;
+        at = from + size.len;
+    }
+    Ok(sizes)
+}
+
 /// A number that stands at the front of a text, and how many bytes write it.
 #[derive(Clone, Copy)]
 struct Number {
@@ -127,29 +152,4 @@ fn next_size(rest: &[u8], count: usize, total: u64) -> Option<Number>
     } else {
         None
     }
-}
-
-/// Reads the picture sizes of a trace: decimal numbers up to 2^32 with blanks between them, at most
-/// 1,000,000 numbers with a sum up to 2^40.
-pub fn read_trace(alloc: Global, text: &[u8]) -> Result<Vec<u64>, TraceRefused>
-    ensures trace { IfOk result (λ sizes. IsTraceText text.now sizes.items) }
-    ensures refused { IfErr result (IsTraceRefused text.now) }
-{
-    let most = (text.len() / 2 + 1).min(MOST_PICTURES);
-    let Ok(mut sizes) = Vec::with_capacity(alloc, most) else {
-        return Err(TraceRefused::NoMemory);
-    };
-    let mut total = 0u64;
-    let mut at = 0usize;
-    while let Some(from) = next_place(text, at) {
-        let Some(size) = next_size(&text[from..], sizes.len(), total) else {
-            return Err(TraceRefused::BadTrace(from as u64));
-        };
-        if sizes.push(size.value).is_err() {
-            return Err(TraceRefused::NoMemory);
-        }
-        total += size.value;
-        at = from + size.len;
-    }
-    Ok(sizes)
 }

@@ -51,62 +51,6 @@ impl Model for Demux {
     ghost invariant = { IsBuffer };
 }
 
-/// How many bytes CR and LF stand in front.
-fn line_ends(bytes: &[u8]) -> usize
-    ensures { AreLineEnds bytes.now result }
-{
-    for (place, byte) in bytes.iter().enumerate() {
-        if !is_line_end(*byte) {
-            return place;
-        }
-    }
-    bytes.len()
-}
-
-/// The block in front, where it is whole.
-fn block_step(bytes: &[u8]) -> Step
-    requires { StartsBlock bytes.now }
-    ensures { IsFirst bytes.now (Ok result) }
-{
-    if bytes.len() < 4 {
-        return Step::More;
-    }
-    let length = 4 + usize::from(bytes[2]) * 256 + usize::from(bytes[3]);
-    if length <= bytes.len() {
-        Step::Block(bytes[1], length)
-    } else {
-        Step::More
-    }
-}
-
-/// Moves what stands from `start` on to the front, and leaves nothing else.
-fn move_to_front(bytes: &mut Vec<u8>, start: usize)
-    requires { start ≤ length bytes.old.items }
-    ensures items { bytes.new.items ≡ drop start bytes.old.items }
-    ensures capacity { vec_capacity bytes.new ≡ vec_capacity bytes.old }
-{
-    let left = bytes.len() - start;
-    bytes.copy_within(start.., 0);
-    bytes.truncate(left);
-}
-
-/// Makes room for more bytes, and answers where those that wait begin now.
-fn make_room(bytes: &mut Vec<u8>, start: usize, more: usize) -> usize
-    requires start { start ≤ length bytes.old.items }
-    requires most { length bytes.old.items ≤ 131072 }
-    requires fits { length bytes.old.items + more ≤ 131072 + start }
-    ensures waiting { drop result bytes.new.items ≡ drop start bytes.old.items }
-    ensures start { result ≤ length bytes.new.items }
-    ensures room { length bytes.new.items + more ≤ 131072 }
-    ensures capacity { vec_capacity bytes.new ≡ vec_capacity bytes.old }
-{
-    if more <= ROOM - bytes.len() {
-        return start;
-    }
-    move_to_front(bytes, start);
-    0
-}
-
 impl Demux {
     /// Reserves room for 131,072 bytes; no other call takes memory.
     pub fn new(alloc: Global) -> Result<Demux, NoMemory>
@@ -179,4 +123,60 @@ impl Demux {
             self.known = Known::Searched(0);
         }
     }
+}
+
+/// How many bytes CR and LF stand in front.
+fn line_ends(bytes: &[u8]) -> usize
+    ensures { AreLineEnds bytes.now result }
+{
+    for (place, byte) in bytes.iter().enumerate() {
+        if !is_line_end(*byte) {
+            return place;
+        }
+    }
+    bytes.len()
+}
+
+/// The block in front, where it is whole.
+fn block_step(bytes: &[u8]) -> Step
+    requires { StartsBlock bytes.now }
+    ensures { IsFirst bytes.now (Ok result) }
+{
+    if bytes.len() < 4 {
+        return Step::More;
+    }
+    let length = 4 + usize::from(bytes[2]) * 256 + usize::from(bytes[3]);
+    if length <= bytes.len() {
+        Step::Block(bytes[1], length)
+    } else {
+        Step::More
+    }
+}
+
+/// Moves what stands from `start` on to the front, and leaves nothing else.
+fn move_to_front(bytes: &mut Vec<u8>, start: usize)
+    requires { start ≤ length bytes.old.items }
+    ensures items { bytes.new.items ≡ drop start bytes.old.items }
+    ensures capacity { vec_capacity bytes.new ≡ vec_capacity bytes.old }
+{
+    let left = bytes.len() - start;
+    bytes.copy_within(start.., 0);
+    bytes.truncate(left);
+}
+
+/// Makes room for more bytes, and answers where those that wait begin now.
+fn make_room(bytes: &mut Vec<u8>, start: usize, more: usize) -> usize
+    requires start { start ≤ length bytes.old.items }
+    requires most { length bytes.old.items ≤ 131072 }
+    requires fits { length bytes.old.items + more ≤ 131072 + start }
+    ensures waiting { drop result bytes.new.items ≡ drop start bytes.old.items }
+    ensures start { result ≤ length bytes.new.items }
+    ensures room { length bytes.new.items + more ≤ 131072 }
+    ensures capacity { vec_capacity bytes.new ≡ vec_capacity bytes.old }
+{
+    if more <= ROOM - bytes.len() {
+        return start;
+    }
+    move_to_front(bytes, start);
+    0
 }

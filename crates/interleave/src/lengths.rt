@@ -10,6 +10,19 @@ const CONTENT_LENGTH: &[u8; 15] = b"Content-Length:";
 /// The most bytes of a body.
 const LONGEST_BODY: u64 = 65_536;
 
+/// The length of the body of a message with this head, or None where it is above 65,536.
+pub(crate) fn body_length(head: &[u8]) -> Option<usize>
+    ensures { MatchOption result (IsLongBody head.now) (λ n. (n ≤ 65536)
+        × IsBodyLength head.now n) }
+{
+    for at in 0..head.len() {
+        if is_length_line(head, at) {
+            return length_at(head, at + CONTENT_LENGTH.len());
+        }
+    }
+    Some(0)
+}
+
 /// The length that a value writes, or None where it is above 65,536.
 fn length_of_value(value: &[u8]) -> Option<usize>
     ensures { MatchOption result (65536 < written_length value.now) (λ n. (n ≤ 65536)
@@ -43,17 +56,4 @@ fn length_at(head: &[u8], at: usize) -> Option<usize>
         Some(line) => length_of_value(trim(&head[at..line.text_end])),
         None => Some(0),
     }
-}
-
-/// The length of the body of a message with this head, or None where it is above 65,536.
-pub(crate) fn body_length(head: &[u8]) -> Option<usize>
-    ensures { MatchOption result (IsLongBody head.now) (λ n. (n ≤ 65536)
-        × IsBodyLength head.now n) }
-{
-    for at in 0..head.len() {
-        if is_length_line(head, at) {
-            return length_at(head, at + CONTENT_LENGTH.len());
-        }
-    }
-    Some(0)
 }

@@ -20,6 +20,41 @@ pub(crate) enum Known {
 /// The most bytes of a head, with its empty line.
 const LONGEST_HEAD: usize = 16_384;
 
+/// Learns what the waiting bytes tell of the request in front.
+pub(crate) fn learn(bytes: &[u8], known: Known) -> Result<Known, DemuxFault>
+    requires request { StartsRequest bytes.now }
+    requires known { IsKnown bytes.now known }
+    ensures { MatchResult result (IsSettled bytes.now) (λ f. IsFirst bytes.now (Err f)) }
+{
+    let Known::Searched(from) = known else {
+        return Ok(known);
+    };
+    let to = bytes.len().min(LONGEST_HEAD);
+    match find_head(bytes, from, to) {
+        Some(head) => length_with_head(bytes, head),
+        None if to == LONGEST_HEAD => Err(DemuxFault::HeadTooLong),
+        None => Ok(Known::Searched(to)),
+    }
+}
+
+/// The step that all that can be known of the request in front leads to.
+pub(crate) fn request_step(bytes: &[u8], known: Known) -> Step
+    requires request { StartsRequest bytes.now }
+    requires known { IsSettled bytes.now known }
+    ensures { IsFirst bytes.now (Ok result) }
+{
+    match known {
+        Known::Length(total) => {
+            if total <= bytes.len() {
+                Step::Request(total)
+            } else {
+                Step::More
+            }
+        }
+        Known::Searched(_) => Step::More,
+    }
+}
+
 /// Whether an empty line ends with the byte at `at`.
 fn empty_line_ends(bytes: &[u8], at: usize) -> bool
     requires { at < length bytes.now }
@@ -57,40 +92,5 @@ fn length_with_head(bytes: &[u8], head: usize) -> Result<Known, DemuxFault>
     match body_length(&bytes[..head]) {
         Some(body) => Ok(Known::Length(head + body)),
         None => Err(DemuxFault::BodyTooLong),
-    }
-}
-
-/// Learns what the waiting bytes tell of the request in front.
-pub(crate) fn learn(bytes: &[u8], known: Known) -> Result<Known, DemuxFault>
-    requires request { StartsRequest bytes.now }
-    requires known { IsKnown bytes.now known }
-    ensures { MatchResult result (IsSettled bytes.now) (λ f. IsFirst bytes.now (Err f)) }
-{
-    let Known::Searched(from) = known else {
-        return Ok(known);
-    };
-    let to = bytes.len().min(LONGEST_HEAD);
-    match find_head(bytes, from, to) {
-        Some(head) => length_with_head(bytes, head),
-        None if to == LONGEST_HEAD => Err(DemuxFault::HeadTooLong),
-        None => Ok(Known::Searched(to)),
-    }
-}
-
-/// The step that all that can be known of the request in front leads to.
-pub(crate) fn request_step(bytes: &[u8], known: Known) -> Step
-    requires request { StartsRequest bytes.now }
-    requires known { IsSettled bytes.now known }
-    ensures { IsFirst bytes.now (Ok result) }
-{
-    match known {
-        Known::Length(total) => {
-            if total <= bytes.len() {
-                Step::Request(total)
-            } else {
-                Step::More
-            }
-        }
-        Known::Searched(_) => Step::More,
     }
 }

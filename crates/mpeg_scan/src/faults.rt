@@ -122,31 +122,6 @@ const GROUP_PICTURES: u32 = 1024;
 
 const FILM_PICTURES: u32 = 4_194_304;
 
-fn rate_fault(rate: u8, code: &Code) -> Option<FilmFault>
-    ensures { result ≡ rate_fault rate code.now }
-{
-    let own = rate_code(code);
-    if own == 0 || 8 < own || (0 < rate && own != rate) {
-        Some(FilmFault::BadRate(code.place, own))
-    } else {
-        None
-    }
-}
-
-fn picture_fault(code: &Code, end: u64) -> Option<FilmFault>
-    ensures { result ≡ picture_fault code.now end }
-{
-    let kind = type_of(code);
-    let length = end.saturating_sub(code.place);
-    if length < PICTURE_HEADER || ((kind == 2 || kind == 3) && length < VECTORS_HEADER) {
-        Some(FilmFault::ShortHeader(code.place))
-    } else if 1 <= kind && kind <= 4 {
-        None
-    } else {
-        Some(FilmFault::BadType(code.place))
-    }
-}
-
 /// The refusal of the header that `code` begins, where the next code, or the film's end, stands at
 /// `end`. `rate` is the rate code of the film, or 0 before its first sequence header.
 pub fn header_fault(rate: u8, code: &Code, end: u64) -> Option<FilmFault>
@@ -169,6 +144,63 @@ pub fn header_fault(rate: u8, code: &Code, end: u64) -> Option<FilmFault>
         picture_fault(code, end)
     } else {
         None
+    }
+}
+
+/// The refusal of a code after those of `tally`, once the headers before it are judged.
+pub fn code_fault(tally: &Tally, place: u64, kind: u8) -> Option<FilmFault>
+    ensures { result ≡ code_fault tally.now place kind }
+{
+    if let Some(fault) = kind_fault(tally, place, kind) {
+        return Some(fault);
+    }
+    if let Some(fault) = second_fault(tally, kind) {
+        return Some(fault);
+    }
+    if let Some(fault) = first_slice_fault(tally, place, kind) {
+        return Some(fault);
+    }
+    count_fault(tally, place, kind)
+}
+
+/// The refusal at a film's end, once the headers are judged.
+pub fn last_fault(tally: &Tally) -> Option<FilmFault>
+    ensures { result ≡ last_fault tally.now }
+{
+    if !tally.begun {
+        Some(FilmFault::NoSequence)
+    } else if 0 < tally.slices {
+        None
+    } else {
+        match tally.picture {
+            None => Some(FilmFault::HeadWithoutPicture(tally.unit)),
+            Some(picture) => Some(FilmFault::PictureWithoutSlices(picture.place)),
+        }
+    }
+}
+
+fn rate_fault(rate: u8, code: &Code) -> Option<FilmFault>
+    ensures { result ≡ rate_fault rate code.now }
+{
+    let own = rate_code(code);
+    if own == 0 || 8 < own || (0 < rate && own != rate) {
+        Some(FilmFault::BadRate(code.place, own))
+    } else {
+        None
+    }
+}
+
+fn picture_fault(code: &Code, end: u64) -> Option<FilmFault>
+    ensures { result ≡ picture_fault code.now end }
+{
+    let kind = type_of(code);
+    let length = end.saturating_sub(code.place);
+    if length < PICTURE_HEADER || ((kind == 2 || kind == 3) && length < VECTORS_HEADER) {
+        Some(FilmFault::ShortHeader(code.place))
+    } else if 1 <= kind && kind <= 4 {
+        None
+    } else {
+        Some(FilmFault::BadType(code.place))
     }
 }
 
@@ -229,37 +261,5 @@ fn count_fault(tally: &Tally, place: u64, kind: u8) -> Option<FilmFault>
         Some(FilmFault::TooLong)
     } else {
         None
-    }
-}
-
-/// The refusal of a code after those of `tally`, once the headers before it are judged.
-pub fn code_fault(tally: &Tally, place: u64, kind: u8) -> Option<FilmFault>
-    ensures { result ≡ code_fault tally.now place kind }
-{
-    if let Some(fault) = kind_fault(tally, place, kind) {
-        return Some(fault);
-    }
-    if let Some(fault) = second_fault(tally, kind) {
-        return Some(fault);
-    }
-    if let Some(fault) = first_slice_fault(tally, place, kind) {
-        return Some(fault);
-    }
-    count_fault(tally, place, kind)
-}
-
-/// The refusal at a film's end, once the headers are judged.
-pub fn last_fault(tally: &Tally) -> Option<FilmFault>
-    ensures { result ≡ last_fault tally.now }
-{
-    if !tally.begun {
-        Some(FilmFault::NoSequence)
-    } else if 0 < tally.slices {
-        None
-    } else {
-        match tally.picture {
-            None => Some(FilmFault::HeadWithoutPicture(tally.unit)),
-            Some(picture) => Some(FilmFault::PictureWithoutSlices(picture.place)),
-        }
     }
 }

@@ -42,6 +42,44 @@ pub trait Found {
             heard self.new (calls ++ unit_call unit ∷ [])) };
 }
 
+/// Tells of the latest unit's last slice and of the unit, which end at `to`.
+#[tactic(auto, using(std::proofs::lemmas::List::append_assoc))]
+pub fn tell_unit<F: Found>(tally: &Tally, to: u64, found: &mut F) -> Result<(), NoMemory>
+    requires least { tally.now.slice + 4 ≤ to }
+    requires within { to ≤ 2 ^ 40 }
+    requires ready { F.ready_at found.old tally.now.slice }
+    ensures { OnOk result ((calls : List Call) → F.heard found.old calls →
+        F.heard found.new (calls ++ unit_end tally.now to)) }
+{
+    found.slice(tally.slice, to)?;
+    found.unit(unit_at(tally, to))
+}
+
+/// Tells of what ends at a code after those of `tally`.
+#[tactic(auto, unfolding(crate::specs::Calls::calls_at))]
+pub fn tell<F: Found>(tally: &Tally, place: u64, kind: u8, found: &mut F) -> Result<(), NoMemory>
+    requires head { is_slice kind ≡ true → tally.now.slices ≡ 0 → tally.now.unit < place }
+    requires short { is_slice kind ≡ true → tally.now.slices ≡ 0 → place ≤ tally.now.unit + 1380 }
+    requires least { 0 < tally.now.slices → tally.now.slice + 4 ≤ place }
+    requires within { place ≤ 2 ^ 40 }
+    requires ready { AwaitsSlice (F.ready_at found.old) tally.now }
+    ensures ready { OnOk result (AwaitsSliceAfter (F.ready_at found.new) tally.now place kind) }
+    ensures told { OnOk result ((calls : List Call) → F.heard found.old calls →
+        F.heard found.new (calls ++ calls_at tally.now place kind)) }
+{
+    if is_slice(kind) {
+        if tally.slices == 0 {
+            found.head(tally.unit, place)
+        } else {
+            found.slice(tally.slice, place)
+        }
+    } else if is_head(kind) && 0 < tally.slices {
+        tell_unit(tally, place, found)
+    } else {
+        Ok(())
+    }
+}
+
 // The kind of a picture of type 1 to 4.
 fn kind_of(coding: u8) -> Kind
     ensures { result ≡ kind_of coding }
@@ -79,43 +117,5 @@ fn unit_at(tally: &Tally, to: u64) -> Unit
         vectors: picture.vectors,
         has_sequence: tally.has_sequence,
         starts_group: tally.starts_group,
-    }
-}
-
-/// Tells of the latest unit's last slice and of the unit, which end at `to`.
-#[tactic(auto, using(std::proofs::lemmas::List::append_assoc))]
-pub fn tell_unit<F: Found>(tally: &Tally, to: u64, found: &mut F) -> Result<(), NoMemory>
-    requires least { tally.now.slice + 4 ≤ to }
-    requires within { to ≤ 2 ^ 40 }
-    requires ready { F.ready_at found.old tally.now.slice }
-    ensures { OnOk result ((calls : List Call) → F.heard found.old calls →
-        F.heard found.new (calls ++ unit_end tally.now to)) }
-{
-    found.slice(tally.slice, to)?;
-    found.unit(unit_at(tally, to))
-}
-
-/// Tells of what ends at a code after those of `tally`.
-#[tactic(auto, unfolding(crate::specs::Calls::calls_at))]
-pub fn tell<F: Found>(tally: &Tally, place: u64, kind: u8, found: &mut F) -> Result<(), NoMemory>
-    requires head { is_slice kind ≡ true → tally.now.slices ≡ 0 → tally.now.unit < place }
-    requires short { is_slice kind ≡ true → tally.now.slices ≡ 0 → place ≤ tally.now.unit + 1380 }
-    requires least { 0 < tally.now.slices → tally.now.slice + 4 ≤ place }
-    requires within { place ≤ 2 ^ 40 }
-    requires ready { AwaitsSlice (F.ready_at found.old) tally.now }
-    ensures ready { OnOk result (AwaitsSliceAfter (F.ready_at found.new) tally.now place kind) }
-    ensures told { OnOk result ((calls : List Call) → F.heard found.old calls →
-        F.heard found.new (calls ++ calls_at tally.now place kind)) }
-{
-    if is_slice(kind) {
-        if tally.slices == 0 {
-            found.head(tally.unit, place)
-        } else {
-            found.slice(tally.slice, place)
-        }
-    } else if is_head(kind) && 0 < tally.slices {
-        tell_unit(tally, place, found)
-    } else {
-        Ok(())
     }
 }

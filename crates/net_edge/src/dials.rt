@@ -23,28 +23,6 @@ pub struct DialGate<'a, R: Net<Listener = TcpListener, Stream = TcpStream> + Clo
     faults: Faults,
 }
 
-/// A connection that was made.
-#[derive(Drop)]
-struct Dialed {
-    stream: TcpStream,
-    clock: SlotClock,
-}
-
-/// Connects to a port of this machine.
-fn dial<R: Net<Listener = TcpListener, Stream = TcpStream> + Clock>(
-    rt: &R,
-    how: &Opening,
-) -> io::Result<Dialed> {
-    let stream = TcpStream::connect(rt, SocketAddr::from((Ipv4Addr::LOCALHOST, how.port)))?;
-    Ok(Dialed {
-        stream,
-        clock: SlotClock {
-            opened: Instant::now(rt)?,
-            slot_units: how.slot_units,
-        },
-    })
-}
-
 impl<'a, R: Net<Listener = TcpListener, Stream = TcpStream> + Clock> DialGate<'a, R> {
     /// A gate that isn't open.
     pub fn new(rt: &'a R, alloc: Global) -> DialGate<'a, R> {
@@ -119,4 +97,26 @@ impl<'a, R: Net<Listener = TcpListener, Stream = TcpStream> + Clock> Gate for Di
     fn rejoin(&mut self, part: Self) {
         self.faults.join(part.faults);
     }
+}
+
+/// A connection that was made.
+#[derive(Drop)]
+struct Dialed {
+    stream: TcpStream,
+    clock: SlotClock,
+}
+
+/// Connects to a port of this machine.
+fn dial<R: Net<Listener = TcpListener, Stream = TcpStream> + Clock>(
+    rt: &R,
+    how: &Opening,
+) -> io::Result<Dialed> {
+    let stream = TcpStream::connect(rt, SocketAddr::from((Ipv4Addr::LOCALHOST, how.port)))?;
+    Ok(Dialed {
+        stream,
+        clock: SlotClock {
+            opened: Instant::now(rt)?,
+            slot_units: how.slot_units,
+        },
+    })
 }

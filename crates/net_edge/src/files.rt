@@ -19,14 +19,6 @@ pub struct FileLibrary<'a, R: Files> {
     faults: Faults,
 }
 
-/// A file that was read, and the place of its next byte.
-#[derive(Drop)]
-struct Open<F> {
-    name: String,
-    file: F,
-    place: u64,
-}
-
 impl<'a, R: Files> FileLibrary<'a, R> {
     /// A library of the current folder. It keeps names in memory of this allocator.
     pub fn new(rt: &'a R, alloc: Global) -> FileLibrary<'a, R> {
@@ -68,17 +60,6 @@ impl<'a, R: Files> FileLibrary<'a, R> {
     }
 }
 
-/// Reads, again where a signal interrupted it.
-fn read_some<F: Read>(file: &mut F, into: &mut [u8]) -> io::Result<usize> {
-    for _ in 0..u64::MAX {
-        match file.read(into) {
-            Err(error) if error.kind() == ErrorKind::Interrupted => {}
-            read => return read,
-        }
-    }
-    Ok(0)
-}
-
 impl<R: Files> Library for FileLibrary<'_, R> {
     ghost faults = { λ l. l.faults.count };
 
@@ -104,4 +85,23 @@ impl<R: Files> Library for FileLibrary<'_, R> {
             }
         }
     }
+}
+
+/// A file that was read, and the place of its next byte.
+#[derive(Drop)]
+struct Open<F> {
+    name: String,
+    file: F,
+    place: u64,
+}
+
+/// Reads, again where a signal interrupted it.
+fn read_some<F: Read>(file: &mut F, into: &mut [u8]) -> io::Result<usize> {
+    for _ in 0..u64::MAX {
+        match file.read(into) {
+            Err(error) if error.kind() == ErrorKind::Interrupted => {}
+            read => return read,
+        }
+    }
+    Ok(0)
 }

@@ -22,67 +22,6 @@ pub struct TcpGate<'a, R: Net<Listener = TcpListener, Stream = TcpStream> + Cloc
     faults: Faults,
 }
 
-/// An open port.
-#[derive(Drop)]
-struct Door {
-    listener: TcpListener,
-    clock: SlotClock,
-    /// The most connections that are given, or 0 where there is no end.
-    connections: u64,
-}
-
-/// Opens a port.
-fn open_door<R: Net<Listener = TcpListener, Stream = TcpStream> + Clock>(
-    rt: &R,
-    how: &Opening,
-) -> io::Result<Door> {
-    let host = if how.all {
-        Ipv4Addr::UNSPECIFIED
-    } else {
-        Ipv4Addr::LOCALHOST
-    };
-    let listener = TcpListener::bind(rt, SocketAddr::from((host, how.port)))?;
-    Ok(Door {
-        listener,
-        clock: SlotClock {
-            opened: Instant::now(rt)?,
-            slot_units: how.slot_units,
-        },
-        connections: how.connections,
-    })
-}
-
-/// Whether an `accept` failed for a connection that ended before it was taken, or for a signal.
-fn has_passed(error: &io::Error) -> bool {
-    matches!(
-        error.kind(),
-        ErrorKind::Interrupted | ErrorKind::ConnectionAborted
-    )
-}
-
-impl Door {
-    /// Another handle of the same port.
-    fn copy(&self) -> io::Result<Door> {
-        Ok(Door {
-            listener: self.listener.try_clone()?,
-            clock: self.clock,
-            connections: self.connections,
-        })
-    }
-
-    /// Waits for the next connection.
-    fn accept(&self) -> io::Result<TcpStream> {
-        for _ in 0..u64::MAX {
-            match self.listener.accept() {
-                Ok((stream, _)) => return Ok(stream),
-                Err(error) if has_passed(&error) => {}
-                Err(error) => return Err(error),
-            }
-        }
-        Err(io::Error::from(ErrorKind::TimedOut))
-    }
-}
-
 impl<'a, R: Net<Listener = TcpListener, Stream = TcpStream> + Clock> TcpGate<'a, R> {
     /// A gate that isn't open.
     pub fn new(rt: &'a R, alloc: Global) -> TcpGate<'a, R> {
@@ -171,5 +110,66 @@ impl<'a, R: Net<Listener = TcpListener, Stream = TcpStream> + Clock> Gate for Tc
 
     fn rejoin(&mut self, part: Self) {
         self.faults.join(part.faults);
+    }
+}
+
+/// An open port.
+#[derive(Drop)]
+struct Door {
+    listener: TcpListener,
+    clock: SlotClock,
+    /// The most connections that are given, or 0 where there is no end.
+    connections: u64,
+}
+
+/// Opens a port.
+fn open_door<R: Net<Listener = TcpListener, Stream = TcpStream> + Clock>(
+    rt: &R,
+    how: &Opening,
+) -> io::Result<Door> {
+    let host = if how.all {
+        Ipv4Addr::UNSPECIFIED
+    } else {
+        Ipv4Addr::LOCALHOST
+    };
+    let listener = TcpListener::bind(rt, SocketAddr::from((host, how.port)))?;
+    Ok(Door {
+        listener,
+        clock: SlotClock {
+            opened: Instant::now(rt)?,
+            slot_units: how.slot_units,
+        },
+        connections: how.connections,
+    })
+}
+
+/// Whether an `accept` failed for a connection that ended before it was taken, or for a signal.
+fn has_passed(error: &io::Error) -> bool {
+    matches!(
+        error.kind(),
+        ErrorKind::Interrupted | ErrorKind::ConnectionAborted
+    )
+}
+
+impl Door {
+    /// Another handle of the same port.
+    fn copy(&self) -> io::Result<Door> {
+        Ok(Door {
+            listener: self.listener.try_clone()?,
+            clock: self.clock,
+            connections: self.connections,
+        })
+    }
+
+    /// Waits for the next connection.
+    fn accept(&self) -> io::Result<TcpStream> {
+        for _ in 0..u64::MAX {
+            match self.listener.accept() {
+                Ok((stream, _)) => return Ok(stream),
+                Err(error) if has_passed(&error) => {}
+                Err(error) => return Err(error),
+            }
+        }
+        Err(io::Error::from(ErrorKind::TimedOut))
     }
 }

@@ -1,6 +1,7 @@
 //! Bytes that wait to be written.
 
-ghost use Rattle.std.specs.Prelude.{◌≡◌, ◌+◌, ◌-◌, ◌<◌, ◌≤◌, ◌++◌, [], length, take, drop, min, vec_capacity, IfOk};
+ghost use Rattle.std.specs.Prelude.{◌≡◌, ◌+◌, ◌-◌, ◌<◌, ◌≤◌, ◌++◌, [], length, take, drop, min};
+ghost use Rattle.std.specs.Prelude.{vec_capacity, IfOk};
 
 use std::alloc::{AllocError, Global};
 use std::marker::Model;
@@ -26,17 +27,6 @@ impl Model for Gathered {
 
     ghost invariant = { λ g. (g.start ≤ length g.bytes.items)
         × (length g.bytes.items ≤ 16384) × (16384 ≤ vec_capacity g.bytes) };
-}
-
-/// Moves what stands from `start` on to the front, and leaves nothing else.
-fn move_to_front(bytes: &mut Vec<u8>, start: usize)
-    requires { start ≤ length bytes.old.items }
-    ensures items { bytes.new.items ≡ drop start bytes.old.items }
-    ensures capacity { vec_capacity bytes.new ≡ vec_capacity bytes.old }
-{
-    let left = bytes.len() - start;
-    bytes.copy_within(start.., 0);
-    bytes.truncate(left);
 }
 
 impl Gathered {
@@ -85,4 +75,15 @@ impl Gathered {
             self.start = 0;
         }
     }
+}
+
+/// Moves what stands from `start` on to the front, and leaves nothing else.
+fn move_to_front(bytes: &mut Vec<u8>, start: usize)
+    requires { start ≤ length bytes.old.items }
+    ensures items { bytes.new.items ≡ drop start bytes.old.items }
+    ensures capacity { vec_capacity bytes.new ≡ vec_capacity bytes.old }
+{
+    let left = bytes.len() - start;
+    bytes.copy_within(start.., 0);
+    bytes.truncate(left);
 }

@@ -56,16 +56,6 @@ impl<T: Track> Model for Pacer<T> {
         × (p.total ≡ length (framed_bytes (T.pieces p.track))) };
 }
 
-/// The later of two slots of a plan, where the first may be none.
-fn later(last: Option<u64>, slot: u64) -> Option<u64>
-    ensures { slots_through result ≡ max (slots_through last) (slot + 1) }
-{
-    match last {
-        Some(last) => Some(last.max(slot)),
-        None => Some(slot),
-    }
-}
-
 impl<T: Track> Pacer<T> {
     ghost use Rattle.pacer.specs.Pacings.{whole_pacing, IsPacing, next_boundary, at_slot};
     ghost use Rattle.pacer.specs.Pacings.{plan_bytes, step_end, after_step, stands_at_boundary};
@@ -248,5 +238,15 @@ impl<T: Track> Pacer<T> {
             sent: _,
         } = self;
         (track, cursor.into_plan())
+    }
+}
+
+/// The later of two slots of a plan, where the first may be none.
+fn later(last: Option<u64>, slot: u64) -> Option<u64>
+    ensures { slots_through result ≡ max (slots_through last) (slot + 1) }
+{
+    match last {
+        Some(last) => Some(last.max(slot)),
+        None => Some(slot),
     }
 }

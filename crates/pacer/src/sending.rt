@@ -13,6 +13,37 @@ use vod_base::{Link, LinkFault};
 #[derive(Clone, Copy, Debug)]
 pub(crate) struct Stopped(pub(crate) u64);
 
+/// Sends the bytes of a track from one place up to another, in at most two sends for each of its
+/// parts.
+pub(crate) fn send_between<T: Track, K: Link>(
+    track: &T,
+    from: u64,
+    to: u64,
+    link: &mut K,
+) -> Result<(), Stopped>
+    requires order { from ≤ to }
+    requires within { to ≤ length (framed_bytes (T.pieces track.now)) }
+    ensures count { K.faults link.old ≤ K.faults link.new }
+    ensures fault { OnErr result (HasRisen (K.faults link.old) (K.faults link.new)) }
+    ensures whole { OnOk result (K.told link.new ≡ told_more (K.told link.old)
+        (sends (bytes_between (T.pieces track.now) from to))) }
+    ensures stopped { IfErr result (λ stopped.
+        HasStopped (bytes_between (T.pieces track.now) from to) (K.told link.old) (K.told link.new)
+        stopped.0) }
+{
+    let mut head = [0; 52];
+    let mut at = from;
+    while at < to {
+        let part = track.part(at, &mut head);
+        let front = &head[part.head_from..part.head_to];
+        match send_part(front, part.payload, to - at, link) {
+            Ok(sent) => at += sent,
+            Err(Stopped(sent)) => return Err(Stopped(at - from + sent)),
+        }
+    }
+    Ok(())
+}
+
 /// The first `most` bytes, or all if there are fewer.
 fn front(bytes: &[u8], most: u64) -> &[u8]
     ensures { result.now ≡ take most bytes.now }
@@ -61,35 +92,4 @@ fn send_part<K: Link>(head: &[u8], payload: &[u8], most: u64, link: &mut K) -> R
         return Err(Stopped(head_bytes));
     };
     Ok(head_bytes + payload.len() as u64)
-}
-
-/// Sends the bytes of a track from one place up to another, in at most two sends for each of its
-/// parts.
-pub(crate) fn send_between<T: Track, K: Link>(
-    track: &T,
-    from: u64,
-    to: u64,
-    link: &mut K,
-) -> Result<(), Stopped>
-    requires order { from ≤ to }
-    requires within { to ≤ length (framed_bytes (T.pieces track.now)) }
-    ensures count { K.faults link.old ≤ K.faults link.new }
-    ensures fault { OnErr result (HasRisen (K.faults link.old) (K.faults link.new)) }
-    ensures whole { OnOk result (K.told link.new ≡ told_more (K.told link.old)
-        (sends (bytes_between (T.pieces track.now) from to))) }
-    ensures stopped { IfErr result (λ stopped.
-        HasStopped (bytes_between (T.pieces track.now) from to) (K.told link.old) (K.told link.new)
-        stopped.0) }
-{
-    let mut head = [0; 52];
-    let mut at = from;
-    while at < to {
-        let part = track.part(at, &mut head);
-        let front = &head[part.head_from..part.head_to];
-        match send_part(front, part.payload, to - at, link) {
-            Ok(sent) => at += sent,
-            Err(Stopped(sent)) => return Err(Stopped(at - from + sent)),
-        }
-    }
-    Ok(())
 }

@@ -2,7 +2,8 @@
 -- Salehi, Zhang, Kurose and Towsley, "Supporting stored video: reducing rate variability and
 -- end-to-end resource requirements through optimal smoothing", IEEE/ACM Transactions on Networking,
 -- 1998.
-use Rattle.std.specs.Prelude.{ℕ, ◌+◌, ◌-◌, ◌*◌, ◌<◌, ◌≤◌, ◌≡◌, List, length, take, sum, sum_by, slice_index}
+use Rattle.std.specs.Prelude.{ℕ, ◌+◌, ◌-◌, ◌*◌, ◌<◌, ◌≤◌, ◌≡◌, List, length, take, sum, sum_by}
+use Rattle.std.specs.Prelude.{slice_index}
 
 -- The bytes x(0), x(1), .. keep the running sum, which begins at `from`, between the two curves at
 -- the end of each slot.

@@ -1,5 +1,7 @@
 -- The grammar of certificates, line by line.
-use Rattle.std.specs.Prelude.{ℕ, ◌≡◌, ◌≢◌, ◌+◌, ◌<◌, ◌≤◌, ◌^◌, ◌⊎◌, List, [], ◌∷◌, ◌++◌, codes, decimal, length, All, drop, flat_map, slice_index_or, if◌then◌else◌, ◌==◌}
+use Rattle.std.specs.Prelude.{ℕ, ◌≡◌, ◌≢◌, ◌+◌, ◌<◌, ◌≤◌, ◌^◌, ◌⊎◌, List, [], ◌∷◌, ◌++◌, codes}
+use Rattle.std.specs.Prelude.{decimal, length, All, drop, flat_map, slice_index_or, if◌then◌else◌}
+use Rattle.std.specs.Prelude.{◌==◌}
 use Rattle.plan_cert.specs.declared.Segment.{Segment}
 use Rattle.plan_cert.specs.declared.reading.CertRead.{CertRead}
 use Rattle.plan_cert.specs.declared.reading.CertRead.TheVariants.{BadCert, NoMemory}

@@ -54,6 +54,21 @@ const MAX_SEGMENTS: u64 = 1_000_000;
 /// The greatest number of a certificate.
 const MAX_NUMBER: u64 = 1 << 42;
 
+/// Reads a certificate: the text that [`crate::write_cert`] gives of a plan, and of any segments
+/// with numbers up to 2^42, at most 1,000,000 of them. Such a text is read as its own segments, or
+/// there is no memory; any other is refused.
+pub fn read_cert(alloc: Global, text: &[u8]) -> Result<CertText, CertRead>
+    ensures read { IfOk result (λ cert.
+        IsCertificate text.now cert.slots cert.bytes cert.segments.items) }
+    ensures refused { IfErr result (IsRefused text.now) }
+    ensures certificates { (slots bytes : ℕ) (segments : List Segment) →
+        IsCertificate text.now slots bytes segments →
+        MatchResult result (λ cert. cert.segments.items ≡ segments)
+        (λ refusal. refusal ≡ CertRead.NoMemory) }
+{
+    read_lines(alloc, text)
+}
+
 /// The part before the first byte `c`, and the part after it.
 fn cut(text: &[u8], c: u8) -> Option<(&[u8], &[u8])>
     ensures { MatchOption result (All (λ b. b ≢ c) text.now)
@@ -205,21 +220,6 @@ fn read_body(alloc: Global, text: &[u8]) -> Result<Vec<Segment>, CertRead>
         rest = after;
     }
     unreachable!()
-}
-
-/// Reads a certificate: the text that [`crate::write_cert`] gives of a plan, and of any segments
-/// with numbers up to 2^42, at most 1,000,000 of them. Such a text is read as its own segments, or
-/// there is no memory; any other is refused.
-pub fn read_cert(alloc: Global, text: &[u8]) -> Result<CertText, CertRead>
-    ensures read { IfOk result (λ cert.
-        IsCertificate text.now cert.slots cert.bytes cert.segments.items) }
-    ensures refused { IfErr result (IsRefused text.now) }
-    ensures certificates { (slots bytes : ℕ) (segments : List Segment) →
-        IsCertificate text.now slots bytes segments →
-        MatchResult result (λ cert. cert.segments.items ≡ segments)
-        (λ refusal. refusal ≡ CertRead.NoMemory) }
-{
-    read_lines(alloc, text)
 }
 
 /// Reads the head and the body, and compares the sums.

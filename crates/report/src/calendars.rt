@@ -7,6 +7,21 @@ use crate::fields::{push, push_field};
 use slot_calendar::{Calendar, RING_SLOTS};
 use vod_base::NoMemory;
 
+/// Appends the text of a calendar: `calendar from=T` with T its now, then `at S booked=X` for each
+/// slot S of its ring, from now on, in which X bytes are booked, above 0, and then `end`. Numbers
+/// are decimal, and each line ends with LF.
+///
+/// After `NoMemory` the beginning of the text was appended. One pass over the slots.
+pub fn calendar_text(calendar: &Calendar, out: &mut Vec<u8>) -> Result<(), NoMemory>
+    ensures { IsAppended out.old.items
+        (calendar_text calendar.now.first (booked_at calendar.now)) out.new.items result }
+{
+    push_field(out, b"calendar from=", calendar.now())?;
+    push(out, b"\n")?;
+    push_slots(out, calendar)?;
+    push(out, b"end\n")
+}
+
 /// Appends the line of a slot.
 fn push_slot(out: &mut Vec<u8>, slot: u64, booked: u64) -> Result<(), NoMemory>
     ensures { IsAppended out.old.items (slot_words slot booked ++ codes "\n") out.new.items result }
@@ -32,19 +47,4 @@ fn push_slots(out: &mut Vec<u8>, calendar: &Calendar) -> Result<(), NoMemory>
         }
     }
     Ok(())
-}
-
-/// Appends the text of a calendar: `calendar from=T` with T its now, then `at S booked=X` for each
-/// slot S of its ring, from now on, in which X bytes are booked, above 0, and then `end`. Numbers
-/// are decimal, and each line ends with LF.
-///
-/// After `NoMemory` the beginning of the text was appended. One pass over the slots.
-pub fn calendar_text(calendar: &Calendar, out: &mut Vec<u8>) -> Result<(), NoMemory>
-    ensures { IsAppended out.old.items
-        (calendar_text calendar.now.first (booked_at calendar.now)) out.new.items result }
-{
-    push_field(out, b"calendar from=", calendar.now())?;
-    push(out, b"\n")?;
-    push_slots(out, calendar)?;
-    push(out, b"end\n")
 }

@@ -102,18 +102,6 @@ pub fn read_head(bytes: &[u8]) -> Result<Head, HeadFault>
     })
 }
 
-/// picture_coding_type (ISO/IEC 11172-2, 2.4.3.4).
-fn coding_type(kind: Kind) -> u32
-    ensures { result ≡ coding_type kind }
-{
-    match kind {
-        Kind::I => 1,
-        Kind::P => 2,
-        Kind::B => 3,
-        Kind::D => 4,
-    }
-}
-
 /// The video header of a packet of a unit, its first byte the highest (RFC 2250 section 3.4).
 pub fn video_header(unit: &Unit, packet: &Packet) -> u32
     ensures { result ≡ video_word unit.now packet.now }
@@ -163,5 +151,17 @@ pub fn packet_head(
         timestamp: media_timestamp(identity, picture_time, unit),
         ssrc: identity.ssrc,
         video: video_header(unit, packet),
+    }
+}
+
+/// picture_coding_type (ISO/IEC 11172-2, 2.4.3.4).
+fn coding_type(kind: Kind) -> u32
+    ensures { result ≡ coding_type kind }
+{
+    match kind {
+        Kind::I => 1,
+        Kind::P => 2,
+        Kind::B => 3,
+        Kind::D => 4,
     }
 }

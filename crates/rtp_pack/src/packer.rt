@@ -11,6 +11,37 @@ use crate::payloads::Packet;
 use mpeg_scan::Unit;
 use vod_base::NoMemory;
 
+/// The packets of a unit, by the places of its film's slices, in place of what the list has.
+pub(crate) fn pack(
+    packets: &mut Vec<Packet>,
+    unit: &Unit,
+    slice_starts: &[u64],
+) -> Result<(), NoMemory>
+    requires { IsLaid slice_starts.now unit.now }
+    ensures list { OnOk result (packets.new.items ≡ unit_packets slice_starts.now unit.now) }
+    ensures rules { OnOk result (ArePackets slice_starts.now unit.now packets.new.items) }
+    ensures cover { OnOk result (DoCover unit.now.from packets.new.items unit.now.to) }
+    ensures size { OnOk result (frames_size packets.new.items ≡
+        unit_size slice_starts.now unit.now) }
+    ensures bound { OnOk result
+        (frames_size packets.new.items + 52 ≤ 2 * (unit.now.to - unit.now.from) + 112) }
+{
+    let first = unit.first_slice as usize;
+    let starts = &slice_starts[first..first + unit.slices as usize];
+    packets.clear();
+    let mut filling = Filling {
+        from: unit.from,
+        at: unit.head_end,
+        holds: Holds::HeadAlone,
+    };
+    for index in 0..starts.len() {
+        let end = slice_end(starts, index, unit.to);
+        filling = put_slice(packets, unit, filling, end)?;
+    }
+    close(packets, unit, filling)?;
+    Ok(())
+}
+
 /// The packet of a piece, where it is known whether it begins and ends with a slice.
 fn packet(unit: &Unit, from: u64, to: u64, begin: bool, end: bool) -> Packet
     ensures { result ≡ packet unit.now from to begin end }
@@ -102,35 +133,4 @@ fn slice_end(starts: &[u64], index: usize, to: u64) -> u64
         Some(next) => *next,
         None => to,
     }
-}
-
-/// The packets of a unit, by the places of its film's slices, in place of what the list has.
-pub(crate) fn pack(
-    packets: &mut Vec<Packet>,
-    unit: &Unit,
-    slice_starts: &[u64],
-) -> Result<(), NoMemory>
-    requires { IsLaid slice_starts.now unit.now }
-    ensures list { OnOk result (packets.new.items ≡ unit_packets slice_starts.now unit.now) }
-    ensures rules { OnOk result (ArePackets slice_starts.now unit.now packets.new.items) }
-    ensures cover { OnOk result (DoCover unit.now.from packets.new.items unit.now.to) }
-    ensures size { OnOk result (frames_size packets.new.items ≡
-        unit_size slice_starts.now unit.now) }
-    ensures bound { OnOk result
-        (frames_size packets.new.items + 52 ≤ 2 * (unit.now.to - unit.now.from) + 112) }
-{
-    let first = unit.first_slice as usize;
-    let starts = &slice_starts[first..first + unit.slices as usize];
-    packets.clear();
-    let mut filling = Filling {
-        from: unit.from,
-        at: unit.head_end,
-        holds: Holds::HeadAlone,
-    };
-    for index in 0..starts.len() {
-        let end = slice_end(starts, index, unit.to);
-        filling = put_slice(packets, unit, filling, end)?;
-    }
-    close(packets, unit, filling)?;
-    Ok(())
 }

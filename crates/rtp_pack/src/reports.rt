@@ -57,18 +57,6 @@ pub fn write_report(report: &Report) -> [u8; 48]
     bytes
 }
 
-/// The media time of a unit in seconds, 32 bits before the point and 32 after it.
-///
-/// `picture_time` is the time of a picture in 1/360,000 second.
-fn unit_time(picture_time: u32, unit: &Unit) -> u64
-    ensures { result ≡ unit_time picture_time unit.now }
-{
-    let ticks = u128::from(unit.presentation) * u128::from(picture_time);
-    let seconds = (ticks / 360_000 % 0x1_0000_0000) as u64;
-    let fraction = (ticks % 360_000) as u64 * 0x1_0000_0000 / 360_000;
-    seconds * 0x1_0000_0000 + fraction
-}
-
 /// The report before a unit that has so many packets and octets of its run before it.
 ///
 /// `picture_time` is the time of a picture in 1/360,000 second.
@@ -88,4 +76,16 @@ pub fn unit_report(
         packets: wrapped_sum(identity.packets, u128::from(packets)),
         octets: wrapped_sum(identity.octets, u128::from(octets)),
     }
+}
+
+/// The media time of a unit in seconds, 32 bits before the point and 32 after it.
+///
+/// `picture_time` is the time of a picture in 1/360,000 second.
+fn unit_time(picture_time: u32, unit: &Unit) -> u64
+    ensures { result ≡ unit_time picture_time unit.now }
+{
+    let ticks = u128::from(unit.presentation) * u128::from(picture_time);
+    let seconds = (ticks / 360_000 % 0x1_0000_0000) as u64;
+    let fraction = (ticks % 360_000) as u64 * 0x1_0000_0000 / 360_000;
+    seconds * 0x1_0000_0000 + fraction
 }

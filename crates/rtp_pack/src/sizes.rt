@@ -1,5 +1,6 @@
 ghost use Rattle.std.specs.Prelude.{◌≡◌, ◌+◌, ◌*◌, ◌^◌, ◌≤◌, []};
-ghost use Rattle.rtp_pack.specs.Sizes.{HasSlice, IsSize, measure_from_head, bytes_of, frames_of, measure_of};
+ghost use Rattle.rtp_pack.specs.Sizes.{HasSlice, IsSize, measure_from_head, bytes_of, frames_of};
+ghost use Rattle.rtp_pack.specs.Sizes.{measure_of};
 ghost use Rattle.rtp_pack.specs.Sizes.{with_slice};
 
 use crate::filling::{Filling, Holds, PAYLOAD, full_before, goes_in, holds_after};

@@ -7,7 +7,8 @@ use Rattle.rtsp_client.specs.declared.frames.Source.{Source}
 use Rattle.rtsp_client.specs.declared.plays.Play.{Play}
 use Rattle.rtsp_client.specs.declared.wishes.Wish.{Wish}
 use Rattle.rtsp_client.specs.Moments.{History, end_ms, first_frame, frames, is_inside, is_last}
-use Rattle.rtsp_client.specs.Moments.{is_playing, last_slot, latest_frame, bytes_pending, bytes_received}
+use Rattle.rtsp_client.specs.Moments.{is_playing, last_slot, latest_frame, bytes_pending}
+use Rattle.rtsp_client.specs.Moments.{bytes_received}
 use Rattle.rtsp_client.specs.Moments.{replies, session, sizes, slot_before, start}
 use Rattle.rtsp_client.specs.Films.{time_in, units}
 use Rattle.rtsp_client.specs.Meters.{watched_in}

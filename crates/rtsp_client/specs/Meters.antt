@@ -4,7 +4,8 @@ use Rattle.std.specs.Prelude.{max, nat_le, nat_lt, if◌then◌else◌, List, []
 use Rattle.rtsp_client.specs.declared.wishes.Wish.{Wish}
 use Rattle.rtsp_client.specs.declared.wishes.Watched.{Watched}
 use Rattle.rtsp_client.specs.Moments.{History, Frame, Reply, Report, Slot, first_frame}
-use Rattle.rtsp_client.specs.Moments.{frames, is_playing, last_slot, payloads, bytes_received, reports}
+use Rattle.rtsp_client.specs.Moments.{frames, is_playing, last_slot, payloads, bytes_received}
+use Rattle.rtsp_client.specs.Moments.{reports}
 use Rattle.rtsp_client.specs.Moments.{sizes, slot_before, start}
 use Rattle.rtsp_client.specs.Films.{is_complete, time_in}
 

@@ -37,29 +37,6 @@ pub(crate) struct Client {
     watching: Watching,
 }
 
-/// How many bytes wait of a block on channel 0 or 1 that isn't whole; of a block whose channel
-/// didn't come yet, one.
-fn cut_bytes(waiting: &[u8]) -> usize
-    ensures cut { result ≡ cut_bytes waiting.now }
-    ensures within { result ≤ list_length waiting.now }
-{
-    if waiting.is_empty() || waiting[0] != b'$' {
-        return 0;
-    }
-    if waiting.len() >= 2 && waiting[1] >= 2 {
-        return 0;
-    }
-    waiting.len()
-}
-
-/// While no whole piece and no fault is in front, few bytes wait.
-fn waits_little(waiting: &[u8])
-    requires { IsFirst waiting.now (Ok More) }
-    ensures { list_length waiting.now ≤ 81920 }
-{
-    let _read = waiting.len();
-}
-
 impl Client {
     /// A client that did nothing yet.
     pub(crate) fn new(alloc: Global) -> Result<Client, NoMemory>
@@ -509,4 +486,27 @@ impl Client {
         self.replies = 2;
         Ok(())
     }
+}
+
+/// How many bytes wait of a block on channel 0 or 1 that isn't whole; of a block whose channel
+/// didn't come yet, one.
+fn cut_bytes(waiting: &[u8]) -> usize
+    ensures cut { result ≡ cut_bytes waiting.now }
+    ensures within { result ≤ list_length waiting.now }
+{
+    if waiting.is_empty() || waiting[0] != b'$' {
+        return 0;
+    }
+    if waiting.len() >= 2 && waiting[1] >= 2 {
+        return 0;
+    }
+    waiting.len()
+}
+
+/// While no whole piece and no fault is in front, few bytes wait.
+fn waits_little(waiting: &[u8])
+    requires { IsFirst waiting.now (Ok More) }
+    ensures { list_length waiting.now ≤ 81920 }
+{
+    let _read = waiting.len();
 }

@@ -26,27 +26,6 @@ pub(crate) struct Source {
     pub(crate) units: u64,
 }
 
-/// Whether a sequence header is in front (ISO/IEC 11172-2, 2.4.2.3), with a picture rate code from
-/// 1 to 8.
-fn begins_film(payload: &[u8]) -> bool
-    ensures { result ≡ begins_film payload.now }
-{
-    payload.len() >= 12
-        && (payload[0] == 0 && payload[1] == 0 && payload[2] == 1 && payload[3] == 0xb3)
-        && payload[7] % 16 >= 1
-        && payload[7] % 16 <= 8
-}
-
-/// The pictures of a film that ends so many milliseconds after its beginning: the least number that
-/// lasts as long.
-fn units_until(end_ms: u128, picture_units: u32) -> u128
-    requires some { 0 < picture_units }
-    requires short { end_ms < 2 ^ 100 }
-    ensures { result ≡ units_until end_ms picture_units }
-{
-    (end_ms * 360).div_ceil(u128::from(picture_units))
-}
-
 impl Source {
     /// What the first frame of a film says, whose payload begins with a sequence header.
     ///
@@ -89,4 +68,25 @@ impl Source {
             ..*self
         })
     }
+}
+
+/// Whether a sequence header is in front (ISO/IEC 11172-2, 2.4.2.3), with a picture rate code from
+/// 1 to 8.
+fn begins_film(payload: &[u8]) -> bool
+    ensures { result ≡ begins_film payload.now }
+{
+    payload.len() >= 12
+        && (payload[0] == 0 && payload[1] == 0 && payload[2] == 1 && payload[3] == 0xb3)
+        && payload[7] % 16 >= 1
+        && payload[7] % 16 <= 8
+}
+
+/// The pictures of a film that ends so many milliseconds after its beginning: the least number that
+/// lasts as long.
+fn units_until(end_ms: u128, picture_units: u32) -> u128
+    requires some { 0 < picture_units }
+    requires short { end_ms < 2 ^ 100 }
+    ensures { result ≡ units_until end_ms picture_units }
+{
+    (end_ms * 360).div_ceil(u128::from(picture_units))
 }

@@ -11,13 +11,6 @@ ghost use Rattle.rtsp_client.specs.Replies.{session_in, time_in};
 use rtsp_text::{header_of, read_reply};
 use vod_base::{read_number, trim};
 
-/// The number that a field of a message writes, where the field's first line is one.
-fn number_in(message: &[u8], name: &[u8]) -> Option<u64>
-    ensures { result ≡ number_in message.now name.now }
-{
-    read_number(header_of(message, name)?).ok()
-}
-
 /// The code of a reply to the request of this number.
 ///
 /// None where its first line isn't `RTSP/1.0`, three digits and a reason, or its CSeq isn't the
@@ -42,6 +35,38 @@ pub(crate) fn reply_code(message: &[u8], number: u64) -> Option<u16>
     }
 }
 
+/// The session that a reply names.
+pub(crate) fn session_in(message: &[u8]) -> Option<&[u8]>
+    ensures { option_map (λ session. session.now) result ≡ session_in message.now }
+{
+    Some(session_id(header_of(message, b"Session")?))
+}
+
+/// The end of the range that a reply to PLAY gives, in milliseconds from the film's beginning.
+pub(crate) fn play_range(message: &[u8]) -> Option<u128>
+    ensures range { result ≡ play_range message.now }
+    ensures short { IfSome result (λ end_ms. end_ms < 2 ^ 100) }
+{
+    range_end(header_of(message, b"Range")?)
+}
+
+/// In how many slots the play starts that a reply tells: from 1 to 2^62 + 1.
+pub(crate) fn play_start(message: &[u8]) -> Option<u64>
+    ensures { result ≡ play_start message.now }
+{
+    match number_in(message, b"x-Start") {
+        Some(start) if 1 <= start && start <= (1 << 62) + 1 => Some(start),
+        _ => None,
+    }
+}
+
+/// The number that a field of a message writes, where the field's first line is one.
+fn number_in(message: &[u8], name: &[u8]) -> Option<u64>
+    ensures { result ≡ number_in message.now name.now }
+{
+    read_number(header_of(message, name)?).ok()
+}
+
 /// Where a session's id ends: at the first `;`, or at the value's end.
 fn id_end(value: &[u8]) -> usize
     ensures within { result ≤ length value.now }
@@ -60,13 +85,6 @@ fn session_id(value: &[u8]) -> &[u8]
     ensures { result.now ≡ session_id value.now }
 {
     trim(&value[..id_end(value)])
-}
-
-/// The session that a reply names.
-pub(crate) fn session_in(message: &[u8]) -> Option<&[u8]>
-    ensures { option_map (λ session. session.now) result ≡ session_in message.now }
-{
-    Some(session_id(header_of(message, b"Session")?))
 }
 
 /// The milliseconds of seconds and a fraction of three digits.
@@ -107,23 +125,5 @@ fn range_end(value: &[u8]) -> Option<u128>
     match value.strip_prefix(b"npt=0.000-") {
         Some(text) => time_in(text),
         None => None,
-    }
-}
-
-/// The end of the range that a reply to PLAY gives, in milliseconds from the film's beginning.
-pub(crate) fn play_range(message: &[u8]) -> Option<u128>
-    ensures range { result ≡ play_range message.now }
-    ensures short { IfSome result (λ end_ms. end_ms < 2 ^ 100) }
-{
-    range_end(header_of(message, b"Range")?)
-}
-
-/// In how many slots the play starts that a reply tells: from 1 to 2^62 + 1.
-pub(crate) fn play_start(message: &[u8]) -> Option<u64>
-    ensures { result ≡ play_start message.now }
-{
-    match number_in(message, b"x-Start") {
-        Some(start) if 1 <= start && start <= (1 << 62) + 1 => Some(start),
-        _ => None,
     }
 }

@@ -18,34 +18,6 @@ pub(crate) fn copy_of(alloc: Global, text: &[u8]) -> Result<Vec<u8>, NoMemory>
     }
 }
 
-/// Appends bytes.
-fn put(text: &mut Vec<u8>, bytes: &[u8]) -> Result<(), NoMemory>
-    ensures { OnOk result (text.new.items ≡ text.old.items ++ bytes.now) }
-{
-    match text.extend_from_slice(bytes) {
-        Ok(()) => Ok(()),
-        Err(_) => Err(NoMemory),
-    }
-}
-
-/// Appends a number in decimal.
-fn put_number(text: &mut Vec<u8>, number: u64) -> Result<(), NoMemory>
-    ensures { OnOk result (text.new.items ≡ text.old.items ++ decimal number) }
-{
-    put(text, Buffer::new().format(number).as_bytes())
-}
-
-/// Appends the film's URL.
-fn put_url(text: &mut Vec<u8>, wish: &Wish) -> Result<(), NoMemory>
-    ensures { OnOk result (text.new.items ≡ text.old.items ++ film_url wish.now) }
-{
-    put(text, b"rtsp://127.0.0.1:")?;
-    put_number(text, u64::from(wish.port))?;
-    put(text, b"/")?;
-    put(text, wish.name.as_bytes())?;
-    Ok(())
-}
-
 /// SETUP of the film's video, interleaved on the channels 0 and 1, with the client's buffer and
 /// start delay.
 pub(crate) fn setup_request(alloc: Global, wish: &Wish) -> Result<Vec<u8>, NoMemory>
@@ -64,28 +36,6 @@ pub(crate) fn setup_request(alloc: Global, wish: &Wish) -> Result<Vec<u8>, NoMem
     put(&mut text, b"\r\nx-Startup: ")?;
     put_number(&mut text, wish.startup)?;
     put(&mut text, b"\r\n\r\n")?;
-    Ok(text)
-}
-
-/// A request on the film, in this session: its method, the head's text between URL and session, and
-/// what follows the session.
-fn session_request(
-    alloc: Global,
-    wish: &Wish,
-    session: &[u8],
-    method: &[u8],
-    fields: &[u8],
-    end: &[u8],
-) -> Result<Vec<u8>, NoMemory>
-    ensures { IfOk result (λ text. text.items
-        ≡ (((method.now ++ film_url wish.now) ++ fields.now) ++ session.now) ++ end.now) }
-{
-    let mut text = Vec::new(alloc);
-    put(&mut text, method)?;
-    put_url(&mut text, wish)?;
-    put(&mut text, fields)?;
-    put(&mut text, session)?;
-    put(&mut text, end)?;
     Ok(text)
 }
 
@@ -114,4 +64,54 @@ pub(crate) fn teardown_request(
 {
     let fields = b" RTSP/1.0\r\nCSeq: 3\r\nSession: ";
     session_request(alloc, wish, session, b"TEARDOWN ", fields, b"\r\n\r\n")
+}
+
+/// Appends bytes.
+fn put(text: &mut Vec<u8>, bytes: &[u8]) -> Result<(), NoMemory>
+    ensures { OnOk result (text.new.items ≡ text.old.items ++ bytes.now) }
+{
+    match text.extend_from_slice(bytes) {
+        Ok(()) => Ok(()),
+        Err(_) => Err(NoMemory),
+    }
+}
+
+/// Appends a number in decimal.
+fn put_number(text: &mut Vec<u8>, number: u64) -> Result<(), NoMemory>
+    ensures { OnOk result (text.new.items ≡ text.old.items ++ decimal number) }
+{
+    put(text, Buffer::new().format(number).as_bytes())
+}
+
+/// Appends the film's URL.
+fn put_url(text: &mut Vec<u8>, wish: &Wish) -> Result<(), NoMemory>
+    ensures { OnOk result (text.new.items ≡ text.old.items ++ film_url wish.now) }
+{
+    put(text, b"rtsp://127.0.0.1:")?;
+    put_number(text, u64::from(wish.port))?;
+    put(text, b"/")?;
+    put(text, wish.name.as_bytes())?;
+    Ok(())
+}
+
+/// A request on the film, in this session: its method, the head's text between URL and session, and
+/// what follows the session.
+fn session_request(
+    alloc: Global,
+    wish: &Wish,
+    session: &[u8],
+    method: &[u8],
+    fields: &[u8],
+    end: &[u8],
+) -> Result<Vec<u8>, NoMemory>
+    ensures { IfOk result (λ text. text.items
+        ≡ (((method.now ++ film_url wish.now) ++ fields.now) ++ session.now) ++ end.now) }
+{
+    let mut text = Vec::new(alloc);
+    put(&mut text, method)?;
+    put_url(&mut text, wish)?;
+    put(&mut text, fields)?;
+    put(&mut text, session)?;
+    put(&mut text, end)?;
+    Ok(text)
 }

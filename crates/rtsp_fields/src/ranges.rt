@@ -26,6 +26,28 @@ pub struct Span {
     pub to: Option<u128>,
 }
 
+/// Reads the value of a Range header in normal play time (RFC 2326 sections 3.6 and 12.29):
+/// `npt=FROM-` or `npt=FROM-TO`.
+///
+/// `npt` is in any case. FROM is `now`, in lower case, or a time, TO a time. A time is 1 to 9
+/// digits, or 1 to 5 digits for hours and twice one or two digits up to 59 for minutes and seconds,
+/// with `:` between them; a point and any digits may follow, of which nine count. None exactly
+/// where the value is of no such form. Whether TO is after FROM isn't judged here.
+pub fn read_range(value: &[u8]) -> Option<Span>
+    ensures { MatchOption result ((span : Span) → ¬ IsSpan value.now span) (IsSpan value.now) }
+{
+    if !starts_with(value, b"npt=") {
+        return None;
+    }
+    let dash = piece_end(value, 4, b'-');
+    if dash == value.len() {
+        return None;
+    }
+    let from = read_origin(&value[4..dash])?;
+    let to = read_limit(&value[dash + 1..])?;
+    Some(Span { from, to })
+}
+
 fn read_origin(text: &[u8]) -> Option<Origin>
     ensures { MatchOption result ((origin : Origin) →
         ¬ IsOrigin text.now origin) (IsOrigin text.now) }
@@ -50,26 +72,4 @@ fn read_limit(text: &[u8]) -> Option<Option<u128>>
         Some(time) => Some(Some(time)),
         None => None,
     }
-}
-
-/// Reads the value of a Range header in normal play time (RFC 2326 sections 3.6 and 12.29):
-/// `npt=FROM-` or `npt=FROM-TO`.
-///
-/// `npt` is in any case. FROM is `now`, in lower case, or a time, TO a time. A time is 1 to 9
-/// digits, or 1 to 5 digits for hours and twice one or two digits up to 59 for minutes and seconds,
-/// with `:` between them; a point and any digits may follow, of which nine count. None exactly
-/// where the value is of no such form. Whether TO is after FROM isn't judged here.
-pub fn read_range(value: &[u8]) -> Option<Span>
-    ensures { MatchOption result ((span : Span) → ¬ IsSpan value.now span) (IsSpan value.now) }
-{
-    if !starts_with(value, b"npt=") {
-        return None;
-    }
-    let dash = piece_end(value, 4, b'-');
-    if dash == value.len() {
-        return None;
-    }
-    let from = read_origin(&value[4..dash])?;
-    let to = read_limit(&value[dash + 1..])?;
-    Some(Span { from, to })
 }

@@ -16,25 +16,6 @@ pub(crate) fn put(into: &mut [u8], at: usize, text: &[u8]) -> usize
     at + text.len()
 }
 
-fn put_number(into: &mut [u8], at: usize, number: u64) -> usize
-    requires { at + 20 ≤ length into.old }
-    ensures place { result ≤ at + 20 }
-    ensures text { take result into.new ≡ take at into.old ++ decimal number }
-{
-    let mut buffer = Buffer::new();
-    put(into, at, buffer.format(number).as_bytes())
-}
-
-/// Puts one digit at a place, and answers the next place.
-fn put_digit(into: &mut [u8], at: usize, digit: u8) -> usize
-    requires digit { digit < 10 }
-    requires fits { at + 1 ≤ length into.old }
-    ensures place { result ≡ at + 1 }
-    ensures text { take result into.new ≡ take at into.old ++ decimal digit }
-{
-    put(into, at, &[b'0' + digit])
-}
-
 /// Puts milliseconds as seconds, a point and three digits, and answers the place after them.
 pub(crate) fn put_seconds(into: &mut [u8], at: usize, ms: u64) -> usize
     requires { at + 24 ≤ length into.old }
@@ -57,4 +38,23 @@ pub fn seconds_text(ms: u64, into: &mut [u8; 24]) -> &[u8]
 {
     let end = put_seconds(into, 0, ms);
     &into[..end]
+}
+
+fn put_number(into: &mut [u8], at: usize, number: u64) -> usize
+    requires { at + 20 ≤ length into.old }
+    ensures place { result ≤ at + 20 }
+    ensures text { take result into.new ≡ take at into.old ++ decimal number }
+{
+    let mut buffer = Buffer::new();
+    put(into, at, buffer.format(number).as_bytes())
+}
+
+/// Puts one digit at a place, and answers the next place.
+fn put_digit(into: &mut [u8], at: usize, digit: u8) -> usize
+    requires digit { digit < 10 }
+    requires fits { at + 1 ≤ length into.old }
+    ensures place { result ≡ at + 1 }
+    ensures text { take result into.new ≡ take at into.old ++ decimal digit }
+{
+    put(into, at, &[b'0' + digit])
 }

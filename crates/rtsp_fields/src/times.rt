@@ -8,6 +8,20 @@ ghost use Rattle.rtsp_fields.specs.Times.{AreSeconds, IsClock, IsDigits, IsFract
 use crate::pieces::piece_end;
 use vod_base::read_number;
 
+/// A time in nanoseconds.
+pub(crate) fn read_time(text: &[u8]) -> Option<u128>
+    ensures { MatchOption result ((n : ℕ) → ¬ IsTime text.now n) (IsTime text.now) }
+{
+    let point = piece_end(text, 0, b'.');
+    let seconds = read_seconds(&text[..point])?;
+    let fraction = if point < text.len() {
+        read_fraction(&text[point + 1..])?
+    } else {
+        0
+    };
+    Some(u128::from(seconds) * 1_000_000_000 + u128::from(fraction))
+}
+
 /// The number that one to `most` digits write.
 fn read_digits(text: &[u8], most: usize) -> Option<u64>
     requires { most ≤ 9 }
@@ -73,18 +87,4 @@ fn read_fraction(text: &[u8]) -> Option<u64>
     let counted = &text[..text.len().min(9)];
     let value = read_digits(counted, 9).unwrap_or(0);
     Some(value * 10u64.pow(9 - counted.len() as u32))
-}
-
-/// A time in nanoseconds.
-pub(crate) fn read_time(text: &[u8]) -> Option<u128>
-    ensures { MatchOption result ((n : ℕ) → ¬ IsTime text.now n) (IsTime text.now) }
-{
-    let point = piece_end(text, 0, b'.');
-    let seconds = read_seconds(&text[..point])?;
-    let fraction = if point < text.len() {
-        read_fraction(&text[point + 1..])?
-    } else {
-        0
-    };
-    Some(u128::from(seconds) * 1_000_000_000 + u128::from(fraction))
 }

@@ -19,6 +19,30 @@ pub struct Channels {
     pub control: u8,
 }
 
+/// Reads the value of a Transport header (RFC 2326 section 12.39): the channels of the first
+/// alternative that asks for unicast delivery on the connection itself (section 10.12).
+///
+/// An alternative, between commas, can be taken where its first part, between `;`, is
+/// `RTP/AVP/TCP`, no part is `multicast` or a `mode` other than `play`, and its first part that
+/// begins `interleaved=`, if any, is two different channels, or one channel up to 254, which means
+/// itself and the next. Without one the channels are 0 and 1. Letters are in any case, and blanks
+/// may stand around each part. None exactly where no alternative can be taken.
+#[tactic(auto, using(crate::proofs::Places::steps))]
+pub fn read_transport(value: &[u8]) -> Option<Channels>
+    ensures { MatchOption result ((channels : Channels) →
+        ¬ IsTransport value.now channels) (IsTransport value.now) }
+{
+    let mut from = 0;
+    while from <= value.len() {
+        let end = piece_end(value, from, b',');
+        if let Some(channels) = read_alternative(&value[from..end]) {
+            return Some(channels);
+        }
+        from = end + 1;
+    }
+    None
+}
+
 /// Two different channels with `-` between them.
 fn read_pair(text: &[u8]) -> Option<Channels>
     ensures { MatchOption result ((channels : Channels) →
@@ -123,28 +147,4 @@ fn read_alternative(text: &[u8]) -> Option<Channels>
         return None;
     }
     channels_of(text)
-}
-
-/// Reads the value of a Transport header (RFC 2326 section 12.39): the channels of the first
-/// alternative that asks for unicast delivery on the connection itself (section 10.12).
-///
-/// An alternative, between commas, can be taken where its first part, between `;`, is
-/// `RTP/AVP/TCP`, no part is `multicast` or a `mode` other than `play`, and its first part that
-/// begins `interleaved=`, if any, is two different channels, or one channel up to 254, which means
-/// itself and the next. Without one the channels are 0 and 1. Letters are in any case, and blanks
-/// may stand around each part. None exactly where no alternative can be taken.
-#[tactic(auto, using(crate::proofs::Places::steps))]
-pub fn read_transport(value: &[u8]) -> Option<Channels>
-    ensures { MatchOption result ((channels : Channels) →
-        ¬ IsTransport value.now channels) (IsTransport value.now) }
-{
-    let mut from = 0;
-    while from <= value.len() {
-        let end = piece_end(value, from, b',');
-        if let Some(channels) = read_alternative(&value[from..end]) {
-            return Some(channels);
-        }
-        from = end + 1;
-    }
-    None
 }

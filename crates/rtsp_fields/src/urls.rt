@@ -20,6 +20,34 @@ pub struct Url<'a> {
     pub name: Option<&'a [u8]>,
 }
 
+/// Reads an RTSP URL: `rtsp://` in any case, an authority, and nothing or a path that begins with
+/// `/`, all of them printable bytes other than the space.
+///
+/// None exactly where the URL isn't of this form; `*` isn't. Percent signs aren't decoded. The
+/// authority and the name have no LF; the authority has at most as many bytes as the URL, and the
+/// name is a good name, of at most 64 bytes.
+pub fn read_url(url: &[u8]) -> Option<Url<'_>>
+    ensures read { MatchOption result ((path : ℕ) → ¬ IsAbsoluteUrl url.now path)
+        (λ read. IsRead url.now read.authority.now (option_copied read.name)) }
+    ensures authority { IfSome result (λ read. length read.authority.now ≤ length url.now) }
+    ensures authority_line { IfSome result (λ read. is_one_line read.authority.now ≡ true) }
+    ensures name { IfSome result (λ read. IfSome read.name (λ name. is_good_name name.now ≡ true)) }
+    ensures name_line { IfSome result (λ read.
+        IfSome read.name (λ name. is_one_line name.now ≡ true)) }
+{
+    if !rtsp_text::has_url_bytes(url) || !starts_with(url, b"rtsp://") {
+        return None;
+    }
+    let path = piece_end(url, 7, b'/');
+    if path == 7 {
+        return None;
+    }
+    Some(Url {
+        authority: &url[7..path],
+        name: film_name(&url[path..]),
+    })
+}
+
 /// Whether this names a film's one stream.
 fn is_stream(tail: &[u8]) -> bool
     ensures { IsTrue result ↔ IsStream tail.now }
@@ -52,32 +80,4 @@ fn film_name(path: &[u8]) -> Option<&[u8]>
     } else {
         None
     }
-}
-
-/// Reads an RTSP URL: `rtsp://` in any case, an authority, and nothing or a path that begins with
-/// `/`, all of them printable bytes other than the space.
-///
-/// None exactly where the URL isn't of this form; `*` isn't. Percent signs aren't decoded. The
-/// authority and the name have no LF; the authority has at most as many bytes as the URL, and the
-/// name is a good name, of at most 64 bytes.
-pub fn read_url(url: &[u8]) -> Option<Url<'_>>
-    ensures read { MatchOption result ((path : ℕ) → ¬ IsAbsoluteUrl url.now path)
-        (λ read. IsRead url.now read.authority.now (option_copied read.name)) }
-    ensures authority { IfSome result (λ read. length read.authority.now ≤ length url.now) }
-    ensures authority_line { IfSome result (λ read. is_one_line read.authority.now ≡ true) }
-    ensures name { IfSome result (λ read. IfSome read.name (λ name. is_good_name name.now ≡ true)) }
-    ensures name_line { IfSome result (λ read.
-        IfSome read.name (λ name. is_one_line name.now ≡ true)) }
-{
-    if !rtsp_text::has_url_bytes(url) || !starts_with(url, b"rtsp://") {
-        return None;
-    }
-    let path = piece_end(url, 7, b'/');
-    if path == 7 {
-        return None;
-    }
-    Some(Url {
-        authority: &url[7..path],
-        name: film_name(&url[path..]),
-    })
 }

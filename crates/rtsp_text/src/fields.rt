@@ -13,23 +13,6 @@ use vod_base::{read_number, trim};
 /// The name of the field that has the sequence number.
 const SEQUENCE: &[u8; 4] = b"CSeq";
 
-/// Whether the names are the same, in any case.
-fn is_same_name(one: &[u8], other: &[u8]) -> bool
-    ensures { result ≡ str_eq_ignore_ascii_case one.now other.now }
-{
-    one.eq_ignore_ascii_case(other)
-}
-
-/// The value of a line of that name.
-fn value_in<'a>(name: &[u8], line: &'a [u8]) -> Option<&'a [u8]>
-    ensures { option_map (λ value. value.now) result ≡ value_in name.now line.now }
-{
-    match cut(line, b':') {
-        Some((front, value)) if is_same_name(front, name) => Some(trim(value)),
-        _ => None,
-    }
-}
-
 /// The value that a head gives the field of that name.
 pub(crate) fn header_value<'a>(head: &'a [u8], name: &[u8]) -> Option<&'a [u8]>
     ensures { option_map (λ value. value.now) result ≡ header_value head.now name.now }
@@ -42,16 +25,6 @@ pub(crate) fn header_value<'a>(head: &'a [u8], name: &[u8]) -> Option<&'a [u8]>
         rest = after;
     }
     None
-}
-
-/// The number that a value is.
-fn number_in(value: Option<&[u8]>) -> Option<u64>
-    ensures { result ≡ option_and_then number_of (option_map (λ text. text.now) value.entry) }
-{
-    match value {
-        Some(text) => read_number(text).ok(),
-        None => None,
-    }
 }
 
 /// The sequence number that a head gives its request.
@@ -73,4 +46,31 @@ pub(crate) fn first_sequence(head: &[u8]) -> Option<u64>
         rest = after;
     }
     None
+}
+
+/// Whether the names are the same, in any case.
+fn is_same_name(one: &[u8], other: &[u8]) -> bool
+    ensures { result ≡ str_eq_ignore_ascii_case one.now other.now }
+{
+    one.eq_ignore_ascii_case(other)
+}
+
+/// The value of a line of that name.
+fn value_in<'a>(name: &[u8], line: &'a [u8]) -> Option<&'a [u8]>
+    ensures { option_map (λ value. value.now) result ≡ value_in name.now line.now }
+{
+    match cut(line, b':') {
+        Some((front, value)) if is_same_name(front, name) => Some(trim(value)),
+        _ => None,
+    }
+}
+
+/// The number that a value is.
+fn number_in(value: Option<&[u8]>) -> Option<u64>
+    ensures { result ≡ option_and_then number_of (option_map (λ text. text.now) value.entry) }
+{
+    match value {
+        Some(text) => read_number(text).ok(),
+        None => None,
+    }
 }

@@ -22,6 +22,71 @@ pub(crate) fn cut(text: &[u8], c: u8) -> Option<(&[u8], &[u8])>
     None
 }
 
+/// Whether the text is one or more digits.
+pub(crate) fn is_decimal(text: &[u8]) -> bool
+    ensures { result ≡ is_decimal text.now }
+{
+    !text.is_empty() && has_digits(text)
+}
+
+/// Whether all bytes are printable and none is the space, as in a URL.
+pub fn has_url_bytes(text: &[u8]) -> bool
+    ensures { result ≡ list_all is_url_byte text.now }
+{
+    text.iter().all(|byte| is_url_byte(*byte))
+}
+
+/// The scheme of a URL, with what parts it from the authority.
+const SCHEME: &[u8; 7] = b"rtsp://";
+
+/// The three words of a request line.
+#[derive(Clone, Copy)]
+pub(crate) struct RequestLine<'a> {
+    pub(crate) method: &'a [u8],
+    pub(crate) url: &'a [u8],
+    pub(crate) version: &'a [u8],
+}
+
+/// Reads a request line of any version.
+pub(crate) fn request_line(text: &[u8]) -> Option<RequestLine<'_>>
+    ensures { MatchOption result ((method url version : List ℕ) →
+        ¬ IsRequestLine text.now method url version)
+        (λ line. IsRequestLine text.now line.method.now line.url.now line.version.now) }
+{
+    let Some((method, rest)) = cut(text, b' ') else {
+        return None;
+    };
+    let Some((url, version)) = cut(rest, b' ') else {
+        return None;
+    };
+    if is_token(method) && is_url(url) && is_version(version) {
+        Some(RequestLine {
+            method,
+            url,
+            version,
+        })
+    } else {
+        None
+    }
+}
+
+/// Whether the text is a name, `:` and a value.
+pub(crate) fn is_header_line(text: &[u8]) -> bool
+    ensures { IsTrue result ↔ IsHeaderLine text.now }
+{
+    match cut(text, b':') {
+        Some((name, value)) => is_token(name) && has_value_bytes(value),
+        None => false,
+    }
+}
+
+/// Whether the text is the version of RTSP 1.0.
+pub(crate) fn is_rtsp_1_0(version: &[u8]) -> bool
+    ensures { IsTrue result ↔ (version.now ≡ codes "RTSP/1.0") }
+{
+    version == b"RTSP/1.0".as_slice()
+}
+
 fn is_token_byte(byte: u8) -> bool
     ensures { result ≡ is_token_byte byte }
 {
@@ -47,24 +112,10 @@ fn has_digits(text: &[u8]) -> bool
     text.iter().all(|byte| byte.is_ascii_digit())
 }
 
-/// Whether the text is one or more digits.
-pub(crate) fn is_decimal(text: &[u8]) -> bool
-    ensures { result ≡ is_decimal text.now }
-{
-    !text.is_empty() && has_digits(text)
-}
-
 fn is_url_byte(byte: u8) -> bool
     ensures { result ≡ is_url_byte byte }
 {
     33 <= byte && byte <= 126
-}
-
-/// Whether all bytes are printable and none is the space, as in a URL.
-pub fn has_url_bytes(text: &[u8]) -> bool
-    ensures { result ≡ list_all is_url_byte text.now }
-{
-    text.iter().all(|byte| is_url_byte(*byte))
 }
 
 fn is_value_byte(byte: u8) -> bool
@@ -78,9 +129,6 @@ fn has_value_bytes(text: &[u8]) -> bool
 {
     text.iter().all(|byte| is_value_byte(*byte))
 }
-
-/// The scheme of a URL, with what parts it from the authority.
-const SCHEME: &[u8; 7] = b"rtsp://";
 
 /// Whether the text is `rtsp://` in any case.
 fn is_scheme(text: &[u8]) -> bool
@@ -141,52 +189,4 @@ fn is_version(text: &[u8]) -> bool
         Some(numbers) => are_version_numbers(numbers),
         None => false,
     }
-}
-
-/// The three words of a request line.
-#[derive(Clone, Copy)]
-pub(crate) struct RequestLine<'a> {
-    pub(crate) method: &'a [u8],
-    pub(crate) url: &'a [u8],
-    pub(crate) version: &'a [u8],
-}
-
-/// Reads a request line of any version.
-pub(crate) fn request_line(text: &[u8]) -> Option<RequestLine<'_>>
-    ensures { MatchOption result ((method url version : List ℕ) →
-        ¬ IsRequestLine text.now method url version)
-        (λ line. IsRequestLine text.now line.method.now line.url.now line.version.now) }
-{
-    let Some((method, rest)) = cut(text, b' ') else {
-        return None;
-    };
-    let Some((url, version)) = cut(rest, b' ') else {
-        return None;
-    };
-    if is_token(method) && is_url(url) && is_version(version) {
-        Some(RequestLine {
-            method,
-            url,
-            version,
-        })
-    } else {
-        None
-    }
-}
-
-/// Whether the text is a name, `:` and a value.
-pub(crate) fn is_header_line(text: &[u8]) -> bool
-    ensures { IsTrue result ↔ IsHeaderLine text.now }
-{
-    match cut(text, b':') {
-        Some((name, value)) => is_token(name) && has_value_bytes(value),
-        None => false,
-    }
-}
-
-/// Whether the text is the version of RTSP 1.0.
-pub(crate) fn is_rtsp_1_0(version: &[u8]) -> bool
-    ensures { IsTrue result ↔ (version.now ≡ codes "RTSP/1.0") }
-{
-    version == b"RTSP/1.0".as_slice()
 }

@@ -1,6 +1,7 @@
 //! What the definitions of requests and replies come to.
 
-ghost use Rattle.std.specs.Prelude.{◌≡◌, ◌<◌, ◌≤◌, ◌++◌, ℕ, IsTrue, true, Option, List, All, Ok, Err};
+ghost use Rattle.std.specs.Prelude.{◌≡◌, ◌<◌, ◌≤◌, ◌++◌, ℕ, IsTrue, true, Option, List, All, Ok};
+ghost use Rattle.std.specs.Prelude.{Err};
 ghost use Rattle.std.specs.Prelude.{codes, length, take};
 ghost use Rattle.interleave.specs.Heads.{IsHead};
 ghost use Rattle.interleave.specs.Pieces.{IsFirst, IsRequestLength};

@@ -7,21 +7,6 @@ ghost use Rattle.rtsp_text.specs.Lines.{IsNextHeaderLine, IsSplit};
 
 use vod_base::line_end;
 
-/// The text of the first line, and what stands after that line's end. The last line may have no
-/// end.
-fn next_line(bytes: &[u8]) -> Option<(&[u8], &[u8])>
-    ensures { MatchOption result (bytes.now ≡
-        []) (λ parts. IsNextLine bytes.now parts.0.now parts.1.now) }
-{
-    if bytes.is_empty() {
-        return None;
-    }
-    match line_end(bytes, 0) {
-        Some(line) => Some((&bytes[..line.text_end], &bytes[line.next..])),
-        None => Some((bytes, &bytes[bytes.len()..])),
-    }
-}
-
 /// The text of a message's first line.
 pub(crate) fn first_line(message: &[u8]) -> &[u8]
     ensures { result.now ≡ first_line message.now }
@@ -54,6 +39,29 @@ pub(crate) fn next_header_line(bytes: &[u8]) -> Option<(&[u8], &[u8])>
     }
 }
 
+/// The head and the body of a whole request.
+pub(crate) fn split(message: &[u8]) -> (&[u8], &[u8])
+    requires { IsRequestLength message.now (length message.now) }
+    ensures { IsSplit message.now result.0.now result.1.now }
+{
+    message.split_at(head_end(message))
+}
+
+/// The text of the first line, and what stands after that line's end. The last line may have no
+/// end.
+fn next_line(bytes: &[u8]) -> Option<(&[u8], &[u8])>
+    ensures { MatchOption result (bytes.now ≡
+        []) (λ parts. IsNextLine bytes.now parts.0.now parts.1.now) }
+{
+    if bytes.is_empty() {
+        return None;
+    }
+    match line_end(bytes, 0) {
+        Some(line) => Some((&bytes[..line.text_end], &bytes[line.next..])),
+        None => Some((bytes, &bytes[bytes.len()..])),
+    }
+}
+
 /// Where the head of a whole request ends, after its empty line.
 fn head_end(message: &[u8]) -> usize
     requires { IsRequestLength message.now (length message.now) }
@@ -71,12 +79,4 @@ fn head_end(message: &[u8]) -> usize
         at = line.next;
     }
     unreachable!()
-}
-
-/// The head and the body of a whole request.
-pub(crate) fn split(message: &[u8]) -> (&[u8], &[u8])
-    requires { IsRequestLength message.now (length message.now) }
-    ensures { IsSplit message.now result.0.now result.1.now }
-{
-    message.split_at(head_end(message))
 }

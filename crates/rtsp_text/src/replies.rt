@@ -33,30 +33,6 @@ impl Model for Reply {
     ghost invariant = { λ r. 65536 ≤ vec_capacity r.text };
 }
 
-/// The reason of a code.
-fn reason(code: u16) -> &'static [u8]
-    requires { IsTrue (is_code code) }
-    ensures text { result.now ≡ reason code }
-    ensures short { length result.now ≤ 30 }
-{
-    match code {
-        200 => b"OK",
-        400 => b"Bad Request",
-        404 => b"Not Found",
-        451 => b"Parameter Not Understood",
-        453 => b"Not Enough Bandwidth",
-        454 => b"Session Not Found",
-        455 => b"Method Not Valid In This State",
-        457 => b"Invalid Range",
-        461 => b"Unsupported Transport",
-        500 => b"Internal Server Error",
-        501 => b"Not Implemented",
-        503 => b"Service Unavailable",
-        505 => b"RTSP Version Not Supported",
-        _ => b"Option Not Supported",
-    }
-}
-
 impl Reply {
     /// Reserves room for 65,536 bytes; no other call takes memory.
     pub fn new(alloc: Global) -> Result<Reply, NoMemory>
@@ -205,5 +181,29 @@ impl Reply {
     {
         self.put(b"\r\n"); // the empty line
         self.put(body);
+    }
+}
+
+/// The reason of a code.
+fn reason(code: u16) -> &'static [u8]
+    requires { IsTrue (is_code code) }
+    ensures text { result.now ≡ reason code }
+    ensures short { length result.now ≤ 30 }
+{
+    match code {
+        200 => b"OK",
+        400 => b"Bad Request",
+        404 => b"Not Found",
+        451 => b"Parameter Not Understood",
+        453 => b"Not Enough Bandwidth",
+        454 => b"Session Not Found",
+        455 => b"Method Not Valid In This State",
+        457 => b"Invalid Range",
+        461 => b"Unsupported Transport",
+        500 => b"Internal Server Error",
+        501 => b"Not Implemented",
+        503 => b"Service Unavailable",
+        505 => b"RTSP Version Not Supported",
+        _ => b"Option Not Supported",
     }
 }

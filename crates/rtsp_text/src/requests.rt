@@ -105,6 +105,29 @@ pub fn sequence_of(message: &[u8]) -> Option<u64>
     fields::first_sequence(message)
 }
 
+/// Reads a whole request, head and body, as [`interleave::Demux`] cuts it from a connection's
+/// bytes.
+///
+/// Ok exactly where the message is a request of RTSP 1.0, with its parts; each fault exactly where
+/// its cause holds and none before it in [`RequestFault`]. The head has at most 16,384 bytes, the
+/// body at most 65,536.
+pub fn read_request(message: &[u8]) -> Result<Request<'_>, RequestFault>
+    requires { IsRequestLength message.now (length message.now) }
+    ensures read { IfOk result (λ r.
+        IsRequest message.now r.method.now r.url.now r.sequence r.head.now r.body.now) }
+    ensures refused { IfErr result (IsFault message.now) }
+    ensures requests { (method url : List ℕ) (sequence : ℕ) (head body : List ℕ) →
+        IsRequest message.now method url sequence head body →
+        IsOkAnd result (λ r. (r.method.now ≡ method) × (r.url.now ≡ url)
+        × (r.sequence ≡ sequence) × (r.head.now ≡ head) × (r.body.now ≡ body)) }
+    ensures faults { (fault : RequestFault) → IsFault message.now fault → result ≡ Err fault }
+    ensures head { IfOk result (λ r. length r.head.now ≤ 16384) }
+    ensures url { IfOk result (λ r. length r.url.now < length r.head.now) }
+    ensures body { IfOk result (λ r. length r.body.now ≤ 65536) }
+{
+    read_parts(message)
+}
+
 /// The number, from 1, of the first header line that isn't a name, `:` and a value.
 fn first_bad(message: &[u8]) -> Option<u64>
     ensures { MatchOption result (All IsHeaderLine (header_lines message.now))
@@ -130,29 +153,6 @@ fn has_length(message: &[u8]) -> bool
         Some(value) => is_decimal(value),
         None => true,
     }
-}
-
-/// Reads a whole request, head and body, as [`interleave::Demux`] cuts it from a connection's
-/// bytes.
-///
-/// Ok exactly where the message is a request of RTSP 1.0, with its parts; each fault exactly where
-/// its cause holds and none before it in [`RequestFault`]. The head has at most 16,384 bytes, the
-/// body at most 65,536.
-pub fn read_request(message: &[u8]) -> Result<Request<'_>, RequestFault>
-    requires { IsRequestLength message.now (length message.now) }
-    ensures read { IfOk result (λ r.
-        IsRequest message.now r.method.now r.url.now r.sequence r.head.now r.body.now) }
-    ensures refused { IfErr result (IsFault message.now) }
-    ensures requests { (method url : List ℕ) (sequence : ℕ) (head body : List ℕ) →
-        IsRequest message.now method url sequence head body →
-        IsOkAnd result (λ r. (r.method.now ≡ method) × (r.url.now ≡ url)
-        × (r.sequence ≡ sequence) × (r.head.now ≡ head) × (r.body.now ≡ body)) }
-    ensures faults { (fault : RequestFault) → IsFault message.now fault → result ≡ Err fault }
-    ensures head { IfOk result (λ r. length r.head.now ≤ 16384) }
-    ensures url { IfOk result (λ r. length r.url.now < length r.head.now) }
-    ensures body { IfOk result (λ r. length r.body.now ≤ 65536) }
-{
-    read_parts(message)
 }
 
 /// Reads a whole request.

@@ -22,6 +22,34 @@ pub struct ReplyParts<'a> {
     pub body: &'a [u8],
 }
 
+/// Reads a whole reply, head and body, as [`interleave::Demux`] cuts it from a connection's bytes.
+///
+/// None exactly where the first line isn't `RTSP/1.0`, three digits and a reason, with single
+/// spaces. Header lines aren't judged. The head has at most 16,384 bytes, the body at most 65,536.
+pub fn read_reply(message: &[u8]) -> Option<ReplyParts<'_>>
+    requires { IsRequestLength message.now (length message.now) }
+    ensures read { MatchOption result ((code : ℕ) (reason : List ℕ) →
+        ¬ IsStatusLine (first_line message.now) code reason)
+        (λ r. IsReply message.now r.code r.reason.now r.head.now r.body.now) }
+    ensures replies { (code : ℕ) (reason head body : List ℕ) →
+        IsReply message.now code reason head body →
+        IsSomeAnd result (λ r. (r.code ≡ code) × (r.reason.now ≡ reason)
+        × (r.head.now ≡ head) × (r.body.now ≡ body)) }
+    ensures head { IfSome result (λ r. length r.head.now ≤ 16384) }
+    ensures body { IfSome result (λ r. length r.body.now ≤ 65536) }
+{
+    let Some((code, reason)) = status_line(first_line(message)) else {
+        return None;
+    };
+    let (head, body) = split(message);
+    Some(ReplyParts {
+        code,
+        reason,
+        head,
+        body,
+    })
+}
+
 /// The code that three digits write.
 fn read_code(text: &[u8]) -> Option<u16>
     ensures { MatchOption result ((code : ℕ) → ¬ IsCode text.now code) (IsCode text.now) }
@@ -54,32 +82,4 @@ fn status_line(text: &[u8]) -> Option<(u16, &[u8])>
         Some(code) => Some((code, reason)),
         None => None,
     }
-}
-
-/// Reads a whole reply, head and body, as [`interleave::Demux`] cuts it from a connection's bytes.
-///
-/// None exactly where the first line isn't `RTSP/1.0`, three digits and a reason, with single
-/// spaces. Header lines aren't judged. The head has at most 16,384 bytes, the body at most 65,536.
-pub fn read_reply(message: &[u8]) -> Option<ReplyParts<'_>>
-    requires { IsRequestLength message.now (length message.now) }
-    ensures read { MatchOption result ((code : ℕ) (reason : List ℕ) →
-        ¬ IsStatusLine (first_line message.now) code reason)
-        (λ r. IsReply message.now r.code r.reason.now r.head.now r.body.now) }
-    ensures replies { (code : ℕ) (reason head body : List ℕ) →
-        IsReply message.now code reason head body →
-        IsSomeAnd result (λ r. (r.code ≡ code) × (r.reason.now ≡ reason)
-        × (r.head.now ≡ head) × (r.body.now ≡ body)) }
-    ensures head { IfSome result (λ r. length r.head.now ≤ 16384) }
-    ensures body { IfSome result (λ r. length r.body.now ≤ 65536) }
-{
-    let Some((code, reason)) = status_line(first_line(message)) else {
-        return None;
-    };
-    let (head, body) = split(message);
-    Some(ReplyParts {
-        code,
-        reason,
-        head,
-        body,
-    })
 }

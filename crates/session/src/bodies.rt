@@ -21,6 +21,20 @@ pub(crate) fn put_look(body: &mut Text, now: u64, at: u64, booked: u64)
     body.put(b"\r\n");
 }
 
+/// From which slot on a play would fit, and the first slot without room for each start that was
+/// tried in vain.
+pub(crate) fn put_offer(body: &mut Text, offers: &Offers)
+    ensures text { body.new ≡ offer_body offers.now.start offers.now.tried }
+    ensures short { length body.new ≤ 24576 }
+{
+    let _most = offers.wait(); // at most 255, so at most 256 starts were tried
+    body.clear();
+    put_start_line(body, offers.start());
+    for tried in offers.tries() {
+        put_over_line(body, tried);
+    }
+}
+
 fn put_start_text(body: &mut Text, start: Option<u64>)
     requires { length body.old + 20 ≤ 24576 }
     ensures text { body.new ≡ body.old ++ start_text start }
@@ -56,18 +70,4 @@ fn put_over_line(body: &mut Text, tried: &Tried)
     body.put(b" ");
     body.put_number(tried.over.asked);
     body.put(b"\r\n");
-}
-
-/// From which slot on a play would fit, and the first slot without room for each start that was
-/// tried in vain.
-pub(crate) fn put_offer(body: &mut Text, offers: &Offers)
-    ensures text { body.new ≡ offer_body offers.now.start offers.now.tried }
-    ensures short { length body.new ≤ 24576 }
-{
-    let _most = offers.wait(); // at most 255, so at most 256 starts were tried
-    body.clear();
-    put_start_line(body, offers.start());
-    for tried in offers.tries() {
-        put_over_line(body, tried);
-    }
 }

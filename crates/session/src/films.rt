@@ -58,22 +58,6 @@ pub(crate) fn length_ms(film: &Film) -> u64
     ms_at(film, film.units.len())
 }
 
-/// A sum modulo 2^16.
-#[tactic(auto, using(crate::proofs::Sums::sum_mod))]
-fn sum_16(one: u16, other: u32) -> u16
-    ensures { result ≡ (one + other) % 65536 }
-{
-    ((u32::from(one) + other % 65_536) % 65_536) as u16
-}
-
-/// A sum modulo 2^32.
-#[tactic(auto, using(crate::proofs::Sums::sum_mod))]
-fn sum_32(one: u32, other: u64) -> u32
-    ensures { result ≡ (one + other) % 4294967296 }
-{
-    ((u64::from(one) + other % 4_294_967_296) % 4_294_967_296) as u32
-}
-
 /// The timestamp of a unit, in 1/90,000 second.
 pub(crate) fn timestamp_at(film: &Film, source: Source, unit: usize) -> u32
     requires { unit ≤ 4194304 }
@@ -127,4 +111,20 @@ pub(crate) fn counts_after(counts: Counts, frames: &Frames<'_>, sent: u64) -> Co
         frames: sum_32(counts.frames, frames.frames_before(sent)),
         octets: sum_32(counts.octets, frames.octets_before(sent)),
     }
+}
+
+/// A sum modulo 2^16.
+#[tactic(auto, using(crate::proofs::Sums::sum_mod))]
+fn sum_16(one: u16, other: u32) -> u16
+    ensures { result ≡ (one + other) % 65536 }
+{
+    ((u32::from(one) + other % 65_536) % 65_536) as u16
+}
+
+/// A sum modulo 2^32.
+#[tactic(auto, using(crate::proofs::Sums::sum_mod))]
+fn sum_32(one: u32, other: u64) -> u32
+    ensures { result ≡ (one + other) % 4294967296 }
+{
+    ((u64::from(one) + other % 4_294_967_296) % 4_294_967_296) as u32
 }

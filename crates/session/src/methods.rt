@@ -51,6 +51,21 @@ pub(crate) enum Topic {
     Unknown,
 }
 
+/// What the body of a GET_PARAMETER asks for.
+pub(crate) fn read_topic(body: &[u8]) -> Topic
+    ensures { IsTopic body.now result }
+{
+    if body.is_empty() {
+        Topic::Nothing
+    } else if is_booked(body) {
+        Topic::Booked
+    } else if is_offer(body) {
+        Topic::Offer
+    } else {
+        Topic::Unknown
+    }
+}
+
 /// Whether a body asks for what is booked: this word, with or without one line end after it.
 fn is_booked(body: &[u8]) -> bool
     ensures { IsTrue result ↔ IsWord (codes "x-Booked") body.now }
@@ -67,19 +82,4 @@ fn is_offer(body: &[u8]) -> bool
     body == b"x-Offer".as_slice()
         || body == b"x-Offer\n".as_slice()
         || body == b"x-Offer\r\n".as_slice()
-}
-
-/// What the body of a GET_PARAMETER asks for.
-pub(crate) fn read_topic(body: &[u8]) -> Topic
-    ensures { IsTopic body.now result }
-{
-    if body.is_empty() {
-        Topic::Nothing
-    } else if is_booked(body) {
-        Topic::Booked
-    } else if is_offer(body) {
-        Topic::Offer
-    } else {
-        Topic::Unknown
-    }
 }

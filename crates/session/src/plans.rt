@@ -43,6 +43,36 @@ pub(crate) fn playback_of(film: &Film, settings: &Settings, setup: &Setup) -> Pl
     }
 }
 
+impl<'a> Session<'a> {
+    /// The plan that a PLAY asks with: of the run that its Range asks for, or a PLAY without one.
+    pub(crate) fn plan_play(
+        &self,
+        setup: &Setup,
+        paused: Option<Run>,
+        range: Option<&[u8]>,
+    ) -> Result<Planned, Refusal>
+        requires setup { IsSetup (length self.now.films) setup.now }
+        requires paused { IsPausedIn
+            self.now.films self.now.source self.now.counts setup.now paused }
+        ensures exact { IsPlanned self.now setup.now paused (option_map (λ value.
+            value.now) range.entry) result }
+        ensures playable { IfOk result (λ planned. OfFilm self.now.films setup.now.film (λ stored.
+            IsPlayable stored self.now.source self.now.settings setup.now
+            planned.counts planned.run planned.plan)) }
+    {
+        let stored = stored_at(self.films, setup.film);
+        let Some(wanted) = wanted_run(&stored.film, paused, range) else {
+            return Err(Refusal::Range);
+        };
+        let (run, counts) = run_and_counts(stored, self.source, setup, self.counts, paused, wanted);
+        let playback = playback_of(&stored.film, &self.settings, setup);
+        match plan_of(self.alloc, stored, &playback, &run) {
+            Ok(plan) => Ok(Planned { run, counts, plan }),
+            Err(refused) => Err(refusal_of(refused)),
+        }
+    }
+}
+
 /// The refusal of a play whose units have no curves.
 fn refusal_of(refused: CurveRefused) -> Refusal
     ensures { result ≡ curve_refusal refused }
@@ -96,35 +126,5 @@ fn run_and_counts(
     match wanted {
         Wanted::Resumed(run) => (run, counts),
         Wanted::New(run) => (run, counts_before(stored, source, setup, counts, paused)),
-    }
-}
-
-impl<'a> Session<'a> {
-    /// The plan that a PLAY asks with: of the run that its Range asks for, or a PLAY without one.
-    pub(crate) fn plan_play(
-        &self,
-        setup: &Setup,
-        paused: Option<Run>,
-        range: Option<&[u8]>,
-    ) -> Result<Planned, Refusal>
-        requires setup { IsSetup (length self.now.films) setup.now }
-        requires paused { IsPausedIn
-            self.now.films self.now.source self.now.counts setup.now paused }
-        ensures exact { IsPlanned self.now setup.now paused (option_map (λ value.
-            value.now) range.entry) result }
-        ensures playable { IfOk result (λ planned. OfFilm self.now.films setup.now.film (λ stored.
-            IsPlayable stored self.now.source self.now.settings setup.now
-            planned.counts planned.run planned.plan)) }
-    {
-        let stored = stored_at(self.films, setup.film);
-        let Some(wanted) = wanted_run(&stored.film, paused, range) else {
-            return Err(Refusal::Range);
-        };
-        let (run, counts) = run_and_counts(stored, self.source, setup, self.counts, paused, wanted);
-        let playback = playback_of(&stored.film, &self.settings, setup);
-        match plan_of(self.alloc, stored, &playback, &run) {
-            Ok(plan) => Ok(Planned { run, counts, plan }),
-            Err(refused) => Err(refusal_of(refused)),
-        }
     }
 }

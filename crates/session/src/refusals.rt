@@ -85,18 +85,6 @@ pub(crate) fn refusal_of(fault: RequestFault) -> Refusal
     }
 }
 
-/// The options that a request requires.
-fn required_options<'m>(request: &Request<'m>) -> Option<&'m [u8]>
-    ensures value { option_map (λ option. option.now) result ≡ required_of request.now.head.now }
-    ensures short { IfSome result (λ option. length option.now ≤ length request.now.head.now) }
-    ensures line { IfSome result (λ option. is_one_line option.now ≡ true) }
-{
-    match header(request, b"Require") {
-        Some(option) => Some(option),
-        None => header(request, b"Proxy-Require"),
-    }
-}
-
 /// What a reply says of the options that a request requires.
 pub(crate) fn option_of<'m>(request: &Request<'m>) -> &'m [u8]
     ensures option { result.now ≡ option_of request.now.head.now }
@@ -106,6 +94,60 @@ pub(crate) fn option_of<'m>(request: &Request<'m>) -> &'m [u8]
     match required_options(request) {
         Some(option) => option,
         None => b"",
+    }
+}
+
+/// Judges a well formed request by the refusals that all methods share, in their order: the method
+/// isn't spoken, an option is required, the session, the film, the state.
+pub(crate) fn judge<'m>(
+    films: &[Stored],
+    id: &[u8; 16],
+    place: Place,
+    request: &Request<'m>,
+) -> Result<Task<'m>, Refusal>
+    requires films { AreFilms films.now }
+    requires url { length request.now.url.now ≤ 16384 }
+    ensures task { IfOk result (IsTask (length films.now) place) }
+    ensures judged { IsJudged films.now id.now place request.now result }
+{
+    let Some(method) = read_method(request.method) else {
+        return Err(Refusal::Method);
+    };
+    if required_options(request).is_some() {
+        return Err(Refusal::Option);
+    }
+    if !has_session(
+        method,
+        place.film.is_some(),
+        id,
+        header(request, b"Session"),
+    ) {
+        return Err(Refusal::Session);
+    }
+    if let Method::Options = method {
+        return Ok(Task::Options);
+    }
+    let Some(asked) = asked_film(films, request.url) else {
+        return Err(Refusal::Film);
+    };
+    if !is_own(method, place, asked.film) {
+        return Err(Refusal::Film);
+    }
+    if !is_valid(method, place, header(request, b"Range").is_some()) {
+        return Err(Refusal::State);
+    }
+    Ok(task_of(films.len(), place, method, asked))
+}
+
+/// The options that a request requires.
+fn required_options<'m>(request: &Request<'m>) -> Option<&'m [u8]>
+    ensures value { option_map (λ option. option.now) result ≡ required_of request.now.head.now }
+    ensures short { IfSome result (λ option. length option.now ≤ length request.now.head.now) }
+    ensures line { IfSome result (λ option. is_one_line option.now ≡ true) }
+{
+    match header(request, b"Require") {
+        Some(option) => Some(option),
+        None => header(request, b"Proxy-Require"),
     }
 }
 
@@ -203,46 +245,4 @@ fn task_of(films: usize, place: Place, method: Method, asked: Asked<'_>) -> Task
         Method::Teardown => Task::Teardown,
         Method::GetParameter => Task::GetParameter,
     }
-}
-
-/// Judges a well formed request by the refusals that all methods share, in their order: the method
-/// isn't spoken, an option is required, the session, the film, the state.
-pub(crate) fn judge<'m>(
-    films: &[Stored],
-    id: &[u8; 16],
-    place: Place,
-    request: &Request<'m>,
-) -> Result<Task<'m>, Refusal>
-    requires films { AreFilms films.now }
-    requires url { length request.now.url.now ≤ 16384 }
-    ensures task { IfOk result (IsTask (length films.now) place) }
-    ensures judged { IsJudged films.now id.now place request.now result }
-{
-    let Some(method) = read_method(request.method) else {
-        return Err(Refusal::Method);
-    };
-    if required_options(request).is_some() {
-        return Err(Refusal::Option);
-    }
-    if !has_session(
-        method,
-        place.film.is_some(),
-        id,
-        header(request, b"Session"),
-    ) {
-        return Err(Refusal::Session);
-    }
-    if let Method::Options = method {
-        return Ok(Task::Options);
-    }
-    let Some(asked) = asked_film(films, request.url) else {
-        return Err(Refusal::Film);
-    };
-    if !is_own(method, place, asked.film) {
-        return Err(Refusal::Film);
-    }
-    if !is_valid(method, place, header(request, b"Range").is_some()) {
-        return Err(Refusal::State);
-    }
-    Ok(task_of(films.len(), place, method, asked))
 }

@@ -22,51 +22,6 @@ use itoa::Buffer;
 use rtsp_fields::{description, seconds_text};
 use rtsp_text::Reply;
 
-/// The code of a refusal.
-fn code_of(refusal: Refusal) -> u16
-    ensures code { result ≡ code_of refusal }
-    ensures known { IsTrue (is_code result) }
-{
-    match refusal {
-        Refusal::BadRequest => 400,
-        Refusal::Version => 505,
-        Refusal::Method => 501,
-        Refusal::Option => 551,
-        Refusal::Session => 454,
-        Refusal::Film => 404,
-        Refusal::State => 455,
-        Refusal::Transport => 461,
-        Refusal::Parameter | Refusal::Buffer(_) => 451,
-        Refusal::Range => 457,
-        Refusal::Memory => 500,
-    }
-}
-
-/// What a refusal says besides.
-fn put_refusal_field(reply: &mut Reply, refusal: Refusal, option: &[u8])
-    requires fits { length reply.old ≤ 75 }
-    requires short { length option.now ≤ 16384 }
-    requires line { is_one_line option.now ≡ true }
-    ensures short { length reply.new ≤ 16500 }
-    ensures front { (code : ℕ) (sequence : Option ℕ) → reply.old ≡ reply_front code sequence []
-        → reply.new ≡ reply_front code sequence (refusal_fields refusal option.now) }
-{
-    match refusal {
-        Refusal::Option => reply.field(b"Unsupported", option),
-        Refusal::Buffer(least) => reply.number_field(b"x-Least-Buffer", least),
-        Refusal::BadRequest => {}
-        Refusal::Version => {}
-        Refusal::Method => {}
-        Refusal::Session => {}
-        Refusal::Film => {}
-        Refusal::State => {}
-        Refusal::Transport => {}
-        Refusal::Parameter => {}
-        Refusal::Range => {}
-        Refusal::Memory => {}
-    }
-}
-
 /// A refusal, of a request that requires this option.
 pub(crate) fn put_refusal(reply: &mut Reply, sequence: Option<u64>, refusal: Refusal, option: &[u8])
     requires short { length option.now ≤ 16384 }
@@ -122,27 +77,6 @@ pub(crate) fn put_description(
     reply.field(b"Content-Type", b"application/sdp");
     reply.number_field(b"Content-Length", length as u64);
     reply.finish(&text[..length]);
-}
-
-/// The decimal digits of a number.
-fn digits<'b>(number: u64, buffer: &'b mut Buffer) -> &'b [u8]
-    ensures text { result.now ≡ decimal number }
-    ensures line { is_one_line result.now ≡ true }
-    ensures short { length result.now ≤ 40 }
-{
-    buffer.format(number).as_bytes()
-}
-
-/// An SSRC in eight hexadecimal digits.
-fn ssrc_text(ssrc: u32) -> [u8; 8]
-    ensures text { result ≡ encode_lower (to_be_bytes w32 ssrc) }
-    ensures line { is_one_line result ≡ true }
-{
-    let mut text = [0u8; 8];
-    match hex::encode_to_slice(ssrc.to_be_bytes(), &mut text) {
-        Ok(()) => text,
-        Err(_) => unreachable!(),
-    }
 }
 
 /// The 200 of a SETUP: the channels, the SSRC in eight hexadecimal digits, and the session's id.
@@ -321,4 +255,70 @@ pub(crate) fn put_parameters(reply: &mut Reply, sequence: u64, body: &[u8])
     reply.field(b"Content-Type", b"text/parameters");
     reply.number_field(b"Content-Length", body.len() as u64);
     reply.finish(body);
+}
+
+/// The code of a refusal.
+fn code_of(refusal: Refusal) -> u16
+    ensures code { result ≡ code_of refusal }
+    ensures known { IsTrue (is_code result) }
+{
+    match refusal {
+        Refusal::BadRequest => 400,
+        Refusal::Version => 505,
+        Refusal::Method => 501,
+        Refusal::Option => 551,
+        Refusal::Session => 454,
+        Refusal::Film => 404,
+        Refusal::State => 455,
+        Refusal::Transport => 461,
+        Refusal::Parameter | Refusal::Buffer(_) => 451,
+        Refusal::Range => 457,
+        Refusal::Memory => 500,
+    }
+}
+
+/// What a refusal says besides.
+fn put_refusal_field(reply: &mut Reply, refusal: Refusal, option: &[u8])
+    requires fits { length reply.old ≤ 75 }
+    requires short { length option.now ≤ 16384 }
+    requires line { is_one_line option.now ≡ true }
+    ensures short { length reply.new ≤ 16500 }
+    ensures front { (code : ℕ) (sequence : Option ℕ) → reply.old ≡ reply_front code sequence []
+        → reply.new ≡ reply_front code sequence (refusal_fields refusal option.now) }
+{
+    match refusal {
+        Refusal::Option => reply.field(b"Unsupported", option),
+        Refusal::Buffer(least) => reply.number_field(b"x-Least-Buffer", least),
+        Refusal::BadRequest => {}
+        Refusal::Version => {}
+        Refusal::Method => {}
+        Refusal::Session => {}
+        Refusal::Film => {}
+        Refusal::State => {}
+        Refusal::Transport => {}
+        Refusal::Parameter => {}
+        Refusal::Range => {}
+        Refusal::Memory => {}
+    }
+}
+
+/// The decimal digits of a number.
+fn digits<'b>(number: u64, buffer: &'b mut Buffer) -> &'b [u8]
+    ensures text { result.now ≡ decimal number }
+    ensures line { is_one_line result.now ≡ true }
+    ensures short { length result.now ≤ 40 }
+{
+    buffer.format(number).as_bytes()
+}
+
+/// An SSRC in eight hexadecimal digits.
+fn ssrc_text(ssrc: u32) -> [u8; 8]
+    ensures text { result ≡ encode_lower (to_be_bytes w32 ssrc) }
+    ensures line { is_one_line result ≡ true }
+{
+    let mut text = [0u8; 8];
+    match hex::encode_to_slice(ssrc.to_be_bytes(), &mut text) {
+        Ok(()) => text,
+        Err(_) => unreachable!(),
+    }
 }

@@ -10,33 +10,6 @@ use crate::states::Setup;
 use rtsp_fields::{read_buffer, read_startup, read_transport};
 use rtsp_text::{Request, header};
 
-/// The client's buffer.
-fn buffer_of(request: &Request<'_>, settings: &Settings) -> Option<u64>
-    requires { AreSettings settings.now }
-    ensures read { MatchOption result ((n : ℕ) → ¬ IsBuffer settings.now request.now.head.now n)
-        (IsBuffer settings.now request.now.head.now) }
-    ensures some { IfSome result (λ buffer. 1 ≤ buffer) }
-    ensures most { IfSome result (λ buffer. buffer ≤ 2 ^ 42) }
-{
-    match header(request, b"x-Buffer") {
-        Some(value) => read_buffer(value),
-        None => Some(settings.buffer),
-    }
-}
-
-/// The slots before the first picture is used.
-fn delay_of(request: &Request<'_>, settings: &Settings) -> Option<u64>
-    requires { AreSettings settings.now }
-    ensures read { MatchOption result ((n : ℕ) → ¬ IsDelay settings.now request.now.head.now n)
-        (IsDelay settings.now request.now.head.now) }
-    ensures most { IfSome result (λ delay. delay ≤ 10000) }
-{
-    match header(request, b"x-Startup") {
-        Some(value) => read_startup(value),
-        None => Some(settings.startup),
-    }
-}
-
 /// What a SETUP asks for: the transport first, then the client's buffer and the start delay.
 pub(crate) fn read_setup(
     request: &Request<'_>,
@@ -64,4 +37,31 @@ pub(crate) fn read_setup(
         buffer,
         delay,
     })
+}
+
+/// The client's buffer.
+fn buffer_of(request: &Request<'_>, settings: &Settings) -> Option<u64>
+    requires { AreSettings settings.now }
+    ensures read { MatchOption result ((n : ℕ) → ¬ IsBuffer settings.now request.now.head.now n)
+        (IsBuffer settings.now request.now.head.now) }
+    ensures some { IfSome result (λ buffer. 1 ≤ buffer) }
+    ensures most { IfSome result (λ buffer. buffer ≤ 2 ^ 42) }
+{
+    match header(request, b"x-Buffer") {
+        Some(value) => read_buffer(value),
+        None => Some(settings.buffer),
+    }
+}
+
+/// The slots before the first picture is used.
+fn delay_of(request: &Request<'_>, settings: &Settings) -> Option<u64>
+    requires { AreSettings settings.now }
+    ensures read { MatchOption result ((n : ℕ) → ¬ IsDelay settings.now request.now.head.now n)
+        (IsDelay settings.now request.now.head.now) }
+    ensures most { IfSome result (λ delay. delay ≤ 10000) }
+{
+    match header(request, b"x-Startup") {
+        Some(value) => read_startup(value),
+        None => Some(settings.startup),
+    }
 }

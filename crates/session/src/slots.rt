@@ -23,6 +23,92 @@ use vod_base::{Link, LinkFault};
 /// The latest slot that is taken up.
 const LATEST_SLOT: u64 = 1 << 62;
 
+impl<'a> Session<'a> {
+    /// Takes up a slot, if it is a later one than the last and none above 2^62, and sends what is
+    /// due in it. A waiting reply goes out at the first boundary that is reached.
+    ///
+    /// # Errors
+    ///
+    /// [`LinkFault`] only where the link's count rose.
+    pub fn slot<K: Link>(&mut self, t: u64, link: &mut K) -> Result<Slotted, LinkFault>
+        requires rest { IsAtRest self.old }
+        ensures exact { OnOk result (self.new ≡ after_slot self.old t) }
+        ensures told { OnOk result (IsTold (is_taken self.old t
+            && is_sending self.old.state) (K.told link.old)
+            (due_bytes self.old.waits self.old.state self.old.text t) (K.told link.new)) }
+        ensures heard { self.new.heard ≡ taken_up self.old.heard t }
+        ensures brings { IfOk result (λ step. Brings step self.new) }
+        ensures kept { OnOk result (self.new.lost ≡ self.old.lost) }
+        ensures lost { OnErr result (IsAtRest self.new) }
+        ensures open { IsSameBooking (open_of self.old) (open_of self.new) }
+        ensures receipts { self.new.receipts ≡ self.old.receipts }
+        ensures plays { self.new.plays ≡ self.old.plays }
+        ensures offers { self.new.offers ≡ self.old.offers }
+        ensures count { K.faults link.old ≤ K.faults link.new }
+        ensures failed { OnErr result
+            (HasFailed self.old t (K.told link.old) (K.told link.new) self.new) }
+        ensures fault { OnErr result (HasRisen (K.faults link.old) (K.faults link.new)) }
+    {
+        if t <= self.heard || t > LATEST_SLOT {
+            return Ok(Slotted::Going);
+        }
+        let before = mem::replace(&mut self.heard, t);
+        let Some(start) = start_of(&self.state) else {
+            return Ok(Slotted::Going);
+        };
+        self.late += missed_slots(before, start, t);
+        let Ok(replied) = send_due(&mut self.state, &self.reply, self.waits, t, link) else {
+            self.lost = true;
+            return Err(LinkFault);
+        };
+        if replied {
+            self.waits = false;
+            self.torn = self.tearing;
+            settle(&mut self.state);
+            return Ok(finish(&self.state, &mut self.awaited));
+        }
+        Ok(finish(&self.state, &mut self.awaited))
+    }
+
+    /// Sends the waiting reply in one send where no frame and no report is cut; else it does
+    /// nothing.
+    ///
+    /// # Errors
+    ///
+    /// [`LinkFault`] only where the link's count rose.
+    pub fn reply<K: Link>(&mut self, link: &mut K) -> Result<(), LinkFault>
+        requires rest { IsAtRest self.old }
+        ensures exact { OnOk result (self.new ≡
+            (if can_reply self.old then sent_reply self.old else self.old)) }
+        ensures told { OnOk result
+            (IsTold (can_reply self.old) (K.told link.old) self.old.text (K.told link.new)) }
+        ensures failed { OnErr result (self.new ≡ record self.old { lost = true }) }
+        ensures can { OnErr result (can_reply self.old ≡ true) }
+        ensures front { OnErr result
+            (IsFrontTold (K.told link.old) (K.told link.new) self.old.text) }
+        ensures rest { IsAtRest self.new }
+        ensures kept { OnOk result (self.new.lost ≡ self.old.lost) }
+        ensures heard { self.new.heard ≡ self.old.heard }
+        ensures open { open_of self.new ≡ open_of self.old }
+        ensures receipts { self.new.receipts ≡ self.old.receipts }
+        ensures notes { AreNotesKept self.old self.new }
+        ensures count { K.faults link.old ≤ K.faults link.new }
+        ensures fault { OnErr result (HasRisen (K.faults link.old) (K.faults link.new)) }
+    {
+        if !self.waits || !is_between(&self.state) {
+            return Ok(());
+        }
+        let Ok(()) = link.send(self.reply.bytes()) else {
+            self.lost = true;
+            return Err(LinkFault);
+        };
+        self.waits = false;
+        self.torn = self.tearing;
+        settle(&mut self.state);
+        Ok(())
+    }
+}
+
 /// The slots from a play's start on that were not heard between two heard ones.
 fn missed_slots(before: u64, start: u64, slot: u64) -> u64
     requires { before ≤ slot }
@@ -197,91 +283,5 @@ fn finish<'a>(state: &State<'a>, awaited: &mut Awaited<'a>) -> Slotted
             Slotted::Finished(bytes)
         }
         None => Slotted::Going,
-    }
-}
-
-impl<'a> Session<'a> {
-    /// Takes up a slot, if it is a later one than the last and none above 2^62, and sends what is
-    /// due in it. A waiting reply goes out at the first boundary that is reached.
-    ///
-    /// # Errors
-    ///
-    /// [`LinkFault`] only where the link's count rose.
-    pub fn slot<K: Link>(&mut self, t: u64, link: &mut K) -> Result<Slotted, LinkFault>
-        requires rest { IsAtRest self.old }
-        ensures exact { OnOk result (self.new ≡ after_slot self.old t) }
-        ensures told { OnOk result (IsTold (is_taken self.old t
-            && is_sending self.old.state) (K.told link.old)
-            (due_bytes self.old.waits self.old.state self.old.text t) (K.told link.new)) }
-        ensures heard { self.new.heard ≡ taken_up self.old.heard t }
-        ensures brings { IfOk result (λ step. Brings step self.new) }
-        ensures kept { OnOk result (self.new.lost ≡ self.old.lost) }
-        ensures lost { OnErr result (IsAtRest self.new) }
-        ensures open { IsSameBooking (open_of self.old) (open_of self.new) }
-        ensures receipts { self.new.receipts ≡ self.old.receipts }
-        ensures plays { self.new.plays ≡ self.old.plays }
-        ensures offers { self.new.offers ≡ self.old.offers }
-        ensures count { K.faults link.old ≤ K.faults link.new }
-        ensures failed { OnErr result
-            (HasFailed self.old t (K.told link.old) (K.told link.new) self.new) }
-        ensures fault { OnErr result (HasRisen (K.faults link.old) (K.faults link.new)) }
-    {
-        if t <= self.heard || t > LATEST_SLOT {
-            return Ok(Slotted::Going);
-        }
-        let before = mem::replace(&mut self.heard, t);
-        let Some(start) = start_of(&self.state) else {
-            return Ok(Slotted::Going);
-        };
-        self.late += missed_slots(before, start, t);
-        let Ok(replied) = send_due(&mut self.state, &self.reply, self.waits, t, link) else {
-            self.lost = true;
-            return Err(LinkFault);
-        };
-        if replied {
-            self.waits = false;
-            self.torn = self.tearing;
-            settle(&mut self.state);
-            return Ok(finish(&self.state, &mut self.awaited));
-        }
-        Ok(finish(&self.state, &mut self.awaited))
-    }
-
-    /// Sends the waiting reply in one send where no frame and no report is cut; else it does
-    /// nothing.
-    ///
-    /// # Errors
-    ///
-    /// [`LinkFault`] only where the link's count rose.
-    pub fn reply<K: Link>(&mut self, link: &mut K) -> Result<(), LinkFault>
-        requires rest { IsAtRest self.old }
-        ensures exact { OnOk result (self.new ≡
-            (if can_reply self.old then sent_reply self.old else self.old)) }
-        ensures told { OnOk result
-            (IsTold (can_reply self.old) (K.told link.old) self.old.text (K.told link.new)) }
-        ensures failed { OnErr result (self.new ≡ record self.old { lost = true }) }
-        ensures can { OnErr result (can_reply self.old ≡ true) }
-        ensures front { OnErr result
-            (IsFrontTold (K.told link.old) (K.told link.new) self.old.text) }
-        ensures rest { IsAtRest self.new }
-        ensures kept { OnOk result (self.new.lost ≡ self.old.lost) }
-        ensures heard { self.new.heard ≡ self.old.heard }
-        ensures open { open_of self.new ≡ open_of self.old }
-        ensures receipts { self.new.receipts ≡ self.old.receipts }
-        ensures notes { AreNotesKept self.old self.new }
-        ensures count { K.faults link.old ≤ K.faults link.new }
-        ensures fault { OnErr result (HasRisen (K.faults link.old) (K.faults link.new)) }
-    {
-        if !self.waits || !is_between(&self.state) {
-            return Ok(());
-        }
-        let Ok(()) = link.send(self.reply.bytes()) else {
-            self.lost = true;
-            return Err(LinkFault);
-        };
-        self.waits = false;
-        self.torn = self.tearing;
-        settle(&mut self.state);
-        Ok(())
     }
 }

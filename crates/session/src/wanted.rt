@@ -19,6 +19,17 @@ pub(crate) enum Wanted {
     New(Run),
 }
 
+/// The run that a Range asks for, or a PLAY without one. None where the Range has no meaning for
+/// the film.
+pub(crate) fn wanted_run(film: &Film, paused: Option<Run>, range: Option<&[u8]>) -> Option<Wanted>
+    ensures { MatchOption result
+        (IsNoRange film.now paused (option_map (λ value. value.now) range.entry))
+        (IsAskedRun film.now paused (option_map (λ value. value.now) range.entry)) }
+{
+    let span = span_of(range)?;
+    run_in(film, paused, span)
+}
+
 /// The span of play that a Range gives; from now on, where there is none.
 fn span_of(range: Option<&[u8]>) -> Option<Span>
     ensures { MatchOption result
@@ -57,15 +68,4 @@ fn run_in(film: &Film, paused: Option<Run>, span: Span) -> Option<Wanted>
             None => new_run(film, 0, span.to),
         },
     }
-}
-
-/// The run that a Range asks for, or a PLAY without one. None where the Range has no meaning for
-/// the film.
-pub(crate) fn wanted_run(film: &Film, paused: Option<Run>, range: Option<&[u8]>) -> Option<Wanted>
-    ensures { MatchOption result
-        (IsNoRange film.now paused (option_map (λ value. value.now) range.entry))
-        (IsAskedRun film.now paused (option_map (λ value. value.now) range.entry)) }
-{
-    let span = span_of(range)?;
-    run_in(film, paused, span)
 }

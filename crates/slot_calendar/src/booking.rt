@@ -14,6 +14,83 @@ use crate::profiles::Profile;
 use crate::ring::{BLOCK, Ring};
 use plan_cert::Segment;
 
+/// Adds segments, one after the other, from slot `start` on.
+pub(crate) fn book_segments(ring: &mut Ring, start: u64, segments: &[Segment])
+    requires plan { IsPlan segments.now }
+    requires small { start ≤ 2 ^ 62 + 2 ^ 20 }
+    requires from_now { ring.old.first ≤ start }
+    requires within { start + total_slots segments.now ≤ ring.old.first + 1048576 }
+    requires fits { (t : ℕ) → ring.old.first ≤ t →
+        total_of ring.old t + asked_at segments.now start t ≤ 2 ^ 42 }
+    ensures now { ring.new.first ≡ ring.old.first }
+    ensures stale { ring.new.stale ≡ ring.old.stale }
+    ensures totals { (t : ℕ) → ring.old.first ≤ t →
+        total_of ring.new t ≡ total_of ring.old t + asked_at segments.now start t }
+{
+    let mut from = start;
+    for segment in segments {
+        book_segment(ring, from, *segment);
+        from += segment.slots;
+    }
+}
+
+/// Takes away what segments, one after the other from slot `start` on, have after their first
+/// `keep` bytes, in the slots of the ring.
+pub(crate) fn release_segments(ring: &mut Ring, start: u64, segments: &[Segment], keep: u64)
+    requires plan { IsPlan segments.now }
+    requires small { start ≤ 2 ^ 62 + 2 ^ 20 }
+    requires booked { (t : ℕ) → ring.old.first ≤ t →
+        cut_at segments.now start keep t ≤ total_of ring.old t }
+    ensures now { ring.new.first ≡ ring.old.first }
+    ensures totals { (t : ℕ) → ring.old.first ≤ t →
+        total_of ring.new t + cut_at segments.now start keep t ≡ total_of ring.old t }
+{
+    let mut from = start;
+    let mut left = keep;
+    for segment in segments {
+        release_segment(ring, from, *segment, left);
+        from += segment.slots;
+        left = left.saturating_sub(segment.bytes);
+    }
+}
+
+/// The first overflow of a segment that begins at slot `from`: stretch by stretch, each within one
+/// block and one step of the profile.
+pub(crate) fn overflow_in(
+    ring: &Ring,
+    profile: &Profile,
+    from: u64,
+    segment: Segment,
+) -> Option<Overflow>
+    requires plan { IsPlan (segment ∷ []) }
+    requires small { from ≤ 2 ^ 63 }
+    requires from_now { ring.now.first ≤ from }
+    ensures { MatchOption result
+        (FitsIn from (from + segment.slots) (total_of ring.now) (capacity_at profile.now)
+        from (segment ∷ []))
+        (IsOverflowIn from (from + segment.slots) (total_of ring.now) (capacity_at profile.now)
+        from (segment ∷ [])) }
+{
+    let most = segment.bytes.div_ceil(segment.slots);
+    let mut passed = 0;
+    while passed < segment.slots {
+        let slot = from + passed;
+        let span = profile.span(slot);
+        let end = segment
+            .slots
+            .min(passed + (BLOCK - slot % BLOCK))
+            .min(span.until - from);
+        if most > span.bytes || ring.top(slot) > span.bytes - most {
+            let found = overflow_among(ring, from, segment, passed, end, span.bytes);
+            if found.is_some() {
+                return found;
+            }
+        }
+        passed = end;
+    }
+    None
+}
+
 /// The bytes of the segment's first `count` slots, in the calendar's words.
 fn sent_through(segment: Segment, count: u64) -> u64
     requires plan { IsPlan (segment ∷ []) }
@@ -42,26 +119,6 @@ fn book_segment(ring: &mut Ring, from: u64, segment: Segment)
         let sent = sent_through(segment, passed + 1);
         ring.raise(from + passed, sent - before);
         before = sent;
-    }
-}
-
-/// Adds segments, one after the other, from slot `start` on.
-pub(crate) fn book_segments(ring: &mut Ring, start: u64, segments: &[Segment])
-    requires plan { IsPlan segments.now }
-    requires small { start ≤ 2 ^ 62 + 2 ^ 20 }
-    requires from_now { ring.old.first ≤ start }
-    requires within { start + total_slots segments.now ≤ ring.old.first + 1048576 }
-    requires fits { (t : ℕ) → ring.old.first ≤ t →
-        total_of ring.old t + asked_at segments.now start t ≤ 2 ^ 42 }
-    ensures now { ring.new.first ≡ ring.old.first }
-    ensures stale { ring.new.stale ≡ ring.old.stale }
-    ensures totals { (t : ℕ) → ring.old.first ≤ t →
-        total_of ring.new t ≡ total_of ring.old t + asked_at segments.now start t }
-{
-    let mut from = start;
-    for segment in segments {
-        book_segment(ring, from, *segment);
-        from += segment.slots;
     }
 }
 
@@ -94,26 +151,6 @@ fn release_segment(ring: &mut Ring, from: u64, segment: Segment, keep: u64)
         let over = sent_through(segment, passed + 1).saturating_sub(keep);
         give_back(ring, from + passed, over - before);
         before = over;
-    }
-}
-
-/// Takes away what segments, one after the other from slot `start` on, have after their first
-/// `keep` bytes, in the slots of the ring.
-pub(crate) fn release_segments(ring: &mut Ring, start: u64, segments: &[Segment], keep: u64)
-    requires plan { IsPlan segments.now }
-    requires small { start ≤ 2 ^ 62 + 2 ^ 20 }
-    requires booked { (t : ℕ) → ring.old.first ≤ t →
-        cut_at segments.now start keep t ≤ total_of ring.old t }
-    ensures now { ring.new.first ≡ ring.old.first }
-    ensures totals { (t : ℕ) → ring.old.first ≤ t →
-        total_of ring.new t + cut_at segments.now start keep t ≡ total_of ring.old t }
-{
-    let mut from = start;
-    let mut left = keep;
-    for segment in segments {
-        release_segment(ring, from, *segment, left);
-        from += segment.slots;
-        left = left.saturating_sub(segment.bytes);
     }
 }
 
@@ -152,43 +189,6 @@ fn overflow_among(
             });
         }
         before = sent;
-    }
-    None
-}
-
-/// The first overflow of a segment that begins at slot `from`: stretch by stretch, each within one
-/// block and one step of the profile.
-pub(crate) fn overflow_in(
-    ring: &Ring,
-    profile: &Profile,
-    from: u64,
-    segment: Segment,
-) -> Option<Overflow>
-    requires plan { IsPlan (segment ∷ []) }
-    requires small { from ≤ 2 ^ 63 }
-    requires from_now { ring.now.first ≤ from }
-    ensures { MatchOption result
-        (FitsIn from (from + segment.slots) (total_of ring.now) (capacity_at profile.now)
-        from (segment ∷ []))
-        (IsOverflowIn from (from + segment.slots) (total_of ring.now) (capacity_at profile.now)
-        from (segment ∷ [])) }
-{
-    let most = segment.bytes.div_ceil(segment.slots);
-    let mut passed = 0;
-    while passed < segment.slots {
-        let slot = from + passed;
-        let span = profile.span(slot);
-        let end = segment
-            .slots
-            .min(passed + (BLOCK - slot % BLOCK))
-            .min(span.until - from);
-        if most > span.bytes || ring.top(slot) > span.bytes - most {
-            let found = overflow_among(ring, from, segment, passed, end, span.bytes);
-            if found.is_some() {
-                return found;
-            }
-        }
-        passed = end;
     }
     None
 }

@@ -42,61 +42,6 @@ impl Model for Ring {
     ghost invariant = { IsRing };
 }
 
-/// The greatest of some numbers.
-fn greatest(numbers: &[u64]) -> u64
-    requires { 0 < length numbers.now }
-    ensures { IsGreatest numbers.now result }
-{
-    let mut top = numbers[0];
-    for number in numbers {
-        if top < *number {
-            top = *number;
-        }
-    }
-    top
-}
-
-/// Reads the stale block again, if there is one.
-fn settle_block(places: &[u64], tops: &mut Vec<u64>, stale: Option<usize>)
-    requires { IsTopped places.now tops.old.items stale }
-    ensures { IsTopped places.now tops.new.items None }
-{
-    if let Some(block) = stale {
-        let from = block * BLOCK as usize;
-        tops[block] = greatest(&places[from..from + BLOCK as usize]);
-    }
-}
-
-/// Reads the stale block again, unless it is this one, which becomes the stale one.
-fn settle_other(places: &[u64], tops: &mut Vec<u64>, stale: Option<usize>, block: usize)
-    requires topped { IsTopped places.now tops.old.items stale }
-    requires within { block < 1024 }
-    ensures { IsTopped places.now tops.new.items (Some block) }
-{
-    if let Some(other) = stale
-        && other != block
-    {
-        settle_block(places, tops, stale);
-    }
-}
-
-/// So many zeros.
-fn zeros(alloc: Global, count: usize) -> Result<Vec<u64>, NoMemory>
-    ensures { IfOk result (λ numbers. AreZeros numbers.items count) }
-{
-    match vec![in alloc; 0; count] {
-        Ok(numbers) => Ok(numbers),
-        Err(_) => Err(NoMemory),
-    }
-}
-
-/// Makes all numbers 0.
-fn empty(numbers: &mut Vec<u64>)
-    ensures { AreZeros numbers.new.items (length numbers.old.items) }
-{
-    numbers.fill(0);
-}
-
 impl Ring {
     /// A ring without bookings, from slot 0 on.
     pub(crate) fn new(alloc: Global) -> Result<Ring, NoMemory>
@@ -241,4 +186,59 @@ impl Ring {
         }
         self.settle();
     }
+}
+
+/// The greatest of some numbers.
+fn greatest(numbers: &[u64]) -> u64
+    requires { 0 < length numbers.now }
+    ensures { IsGreatest numbers.now result }
+{
+    let mut top = numbers[0];
+    for number in numbers {
+        if top < *number {
+            top = *number;
+        }
+    }
+    top
+}
+
+/// Reads the stale block again, if there is one.
+fn settle_block(places: &[u64], tops: &mut Vec<u64>, stale: Option<usize>)
+    requires { IsTopped places.now tops.old.items stale }
+    ensures { IsTopped places.now tops.new.items None }
+{
+    if let Some(block) = stale {
+        let from = block * BLOCK as usize;
+        tops[block] = greatest(&places[from..from + BLOCK as usize]);
+    }
+}
+
+/// Reads the stale block again, unless it is this one, which becomes the stale one.
+fn settle_other(places: &[u64], tops: &mut Vec<u64>, stale: Option<usize>, block: usize)
+    requires topped { IsTopped places.now tops.old.items stale }
+    requires within { block < 1024 }
+    ensures { IsTopped places.now tops.new.items (Some block) }
+{
+    if let Some(other) = stale
+        && other != block
+    {
+        settle_block(places, tops, stale);
+    }
+}
+
+/// So many zeros.
+fn zeros(alloc: Global, count: usize) -> Result<Vec<u64>, NoMemory>
+    ensures { IfOk result (λ numbers. AreZeros numbers.items count) }
+{
+    match vec![in alloc; 0; count] {
+        Ok(numbers) => Ok(numbers),
+        Err(_) => Err(NoMemory),
+    }
+}
+
+/// Makes all numbers 0.
+fn empty(numbers: &mut Vec<u64>)
+    ensures { AreZeros numbers.new.items (length numbers.old.items) }
+{
+    numbers.fill(0);
 }

@@ -21,17 +21,6 @@ pub struct Fed<'p> {
     pub video: &'p [u8],
 }
 
-/// The chosen kind once a packet of this kind stands.
-fn choose(chosen: Option<u8>, kind: u8) -> Option<u8>
-    ensures { result ≡ choose chosen kind }
-{
-    match chosen {
-        Some(first) => Some(first),
-        None if 0xe0 <= kind && kind <= 0xef => Some(kind),
-        None => None,
-    }
-}
-
 impl Unwrapper {
     /// Before the first byte of a stream.
     pub fn new() -> Unwrapper
@@ -169,5 +158,16 @@ impl Unwrapper {
             None => Ok(()),
             Some(fault) => Err(fault),
         }
+    }
+}
+
+/// The chosen kind once a packet of this kind stands.
+fn choose(chosen: Option<u8>, kind: u8) -> Option<u8>
+    ensures { result ≡ choose chosen kind }
+{
+    match chosen {
+        Some(first) => Some(first),
+        None if 0xe0 <= kind && kind <= 0xef => Some(kind),
+        None => None,
     }
 }

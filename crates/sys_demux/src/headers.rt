@@ -17,6 +17,25 @@ pub(crate) enum Header {
     Rest(u8),
 }
 
+/// Where the header goes on after a byte, with `left` bytes of the content after it; None where no
+/// content of this length that begins so has a header.
+pub(crate) fn header_next(header: Header, byte: u8, left: u16) -> Option<Header>
+    requires some { 0 < least_rest header }
+    requires enough { least_rest header ≤ left + 1 }
+    ensures { MatchOption result ((rest : List ℕ) → length rest ≡ left →
+        video_from header (byte ∷ rest) ≡ None)
+        (λ next. (least_rest next ≤ left)
+        × ((rest : List ℕ) → length rest ≡ left →
+        video_from header (byte ∷ rest) ≡ video_from next rest)) }
+{
+    match header {
+        Header::Stuffing(count) => after_stuffing(count, byte, left),
+        Header::Second => Some(Header::Stamp),
+        Header::Stamp => after_stamp(byte, left),
+        Header::Rest(count) => Some(Header::Rest(count - 1)),
+    }
+}
+
 /// How many bytes of the time stamp stand after its first one.
 fn stamp_rest(byte: u8) -> Option<u8>
     ensures { MatchOption result ((rest : List ℕ) → from_stamp (byte ∷ rest) ≡ None)
@@ -81,23 +100,4 @@ fn after_stuffing(count: u8, byte: u8, left: u16) -> Option<Header>
         return None;
     }
     Some(Header::Stuffing(count + 1))
-}
-
-/// Where the header goes on after a byte, with `left` bytes of the content after it; None where no
-/// content of this length that begins so has a header.
-pub(crate) fn header_next(header: Header, byte: u8, left: u16) -> Option<Header>
-    requires some { 0 < least_rest header }
-    requires enough { least_rest header ≤ left + 1 }
-    ensures { MatchOption result ((rest : List ℕ) → length rest ≡ left →
-        video_from header (byte ∷ rest) ≡ None)
-        (λ next. (least_rest next ≤ left)
-        × ((rest : List ℕ) → length rest ≡ left →
-        video_from header (byte ∷ rest) ≡ video_from next rest)) }
-{
-    match header {
-        Header::Stuffing(count) => after_stuffing(count, byte, left),
-        Header::Second => Some(Header::Stamp),
-        Header::Stamp => after_stamp(byte, left),
-        Header::Rest(count) => Some(Header::Rest(count - 1)),
-    }
 }

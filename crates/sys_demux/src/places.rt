@@ -102,16 +102,6 @@ pub(crate) fn video(left: u16) -> Place
     }
 }
 
-/// Whether a packet of this kind is one of the chosen kind.
-fn is_chosen(chosen: Option<u8>, kind: u8) -> bool
-    ensures { result ≡ is_chosen chosen kind }
-{
-    match chosen {
-        Some(first) => first == kind,
-        None => false,
-    }
-}
-
 /// The place after the length of the packet of this kind at `item`.
 pub(crate) fn length_next(chosen: Option<u8>, kind: u8, high: u8, low: u8, item: u64) -> Place
     ensures sound { IsTrue (is_sound result) }
@@ -127,18 +117,6 @@ pub(crate) fn length_next(chosen: Option<u8>, kind: u8, high: u8, low: u8, item:
         Place::Failed(SystemFault::BadPacket(item))
     } else {
         Place::InHeader(Header::Stuffing(0), length)
-    }
-}
-
-/// The place where the header of a packet goes on so, with `left` bytes of the packet to come.
-fn header_goes_on(next: Header, left: u16) -> Place
-    requires { least_rest next ≤ left }
-    ensures sound { IsTrue (is_sound result) }
-    ensures place { result ≡ place_in next left }
-{
-    match next {
-        Header::Rest(0) => video(left),
-        _ => Place::InHeader(next, left),
     }
 }
 
@@ -166,5 +144,27 @@ pub(crate) fn end_fault(place: Place, item: u64) -> Option<SystemFault>
         Place::Zeros(_) | Place::End => None,
         Place::Failed(fault) => Some(fault),
         _ => Some(SystemFault::Truncated(item)),
+    }
+}
+
+/// Whether a packet of this kind is one of the chosen kind.
+fn is_chosen(chosen: Option<u8>, kind: u8) -> bool
+    ensures { result ≡ is_chosen chosen kind }
+{
+    match chosen {
+        Some(first) => first == kind,
+        None => false,
+    }
+}
+
+/// The place where the header of a packet goes on so, with `left` bytes of the packet to come.
+fn header_goes_on(next: Header, left: u16) -> Place
+    requires { least_rest next ≤ left }
+    ensures sound { IsTrue (is_sound result) }
+    ensures place { result ≡ place_in next left }
+{
+    match next {
+        Header::Rest(0) => video(left),
+        _ => Place::InHeader(next, left),
     }
 }

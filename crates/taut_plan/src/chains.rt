@@ -13,21 +13,6 @@ use crate::queues::Queue;
 use std::alloc::AllocError;
 use wire_curve::Curves;
 
-/// Whether the chain's last point no longer stands out, where `point` is to come beyond it.
-#[inline(always)]
-fn is_passed(side: Side, apex: Point, chain: &Queue, point: Point) -> bool
-    requires ascend { EdgesAscend apex chain.now point }
-    requires fit { EdgesFit apex chain.now point }
-    ensures { MatchBool result
-        (IsPassed side apex chain.now point)
-        (IsReady side apex chain.now point) }
-{
-    match chain.last_edge(apex) {
-        Some((first, second)) => !is_inside(side.other(), first, second, point),
-        None => false,
-    }
-}
-
 /// Lets the chain of one side take in the end of the next slot, and answers the point that joined.
 #[inline(always)]
 pub(crate) fn join(
@@ -52,4 +37,19 @@ pub(crate) fn join(
     }
     chain.join(point)?;
     Ok(point)
+}
+
+/// Whether the chain's last point no longer stands out, where `point` is to come beyond it.
+#[inline(always)]
+fn is_passed(side: Side, apex: Point, chain: &Queue, point: Point) -> bool
+    requires ascend { EdgesAscend apex chain.now point }
+    requires fit { EdgesFit apex chain.now point }
+    ensures { MatchBool result
+        (IsPassed side apex chain.now point)
+        (IsReady side apex chain.now point) }
+{
+    match chain.last_edge(apex) {
+        Some((first, second)) => !is_inside(side.other(), first, second, point),
+        None => false,
+    }
 }

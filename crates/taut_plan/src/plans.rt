@@ -20,6 +20,28 @@ use std::alloc::{AllocError, Global};
 use vod_base::NoMemory;
 use wire_curve::Curves;
 
+/// The plan between sound curves: the one list of segments that `check` finds no fault in. Memory
+/// may be wanting.
+///
+/// It reads the curves once. Each slot joins and leaves each of the two chains at most once, so the
+/// work is linear in the slots, whatever the curves; the memory is that of the two chains and the
+/// segments.
+pub fn plan(alloc: Global, curves: &Curves) -> Result<Plan, NoMemory>
+    requires { IsSound curves.now.from curves.now.low.items curves.now.up.items }
+    ensures taut { IfOk result (λ plan.
+        IsTaut curves.now.from curves.now.low.items curves.now.up.items plan) }
+
+    // It is feasible, no feasible plan sends less above any rate, and no other list of segments is
+    // taut.
+    ensures best { IfOk result (λ plan.
+        IsBestPlan curves.now.from curves.now.low.items curves.now.up.items plan) }
+{
+    match taut_segments(alloc, curves) {
+        Ok(segments) => Ok(Plan::new(segments)),
+        Err(_) => Err(NoMemory),
+    }
+}
+
 /// The front of the other chain, where `point` stands outside of it.
 #[inline(always)]
 fn crossing(side: Side, apex: Point, others: &Queue, point: Point) -> Option<Point>
@@ -92,26 +114,4 @@ fn taut_segments(alloc: Global, curves: &Curves) -> Result<Vec<Segment>, AllocEr
     }
     path.bend_at(point_at(curves, Side::Upper, slots - 1))?;
     Ok(path.segments)
-}
-
-/// The plan between sound curves: the one list of segments that `check` finds no fault in. Memory
-/// may be wanting.
-///
-/// It reads the curves once. Each slot joins and leaves each of the two chains at most once, so the
-/// work is linear in the slots, whatever the curves; the memory is that of the two chains and the
-/// segments.
-pub fn plan(alloc: Global, curves: &Curves) -> Result<Plan, NoMemory>
-    requires { IsSound curves.now.from curves.now.low.items curves.now.up.items }
-    ensures taut { IfOk result (λ plan.
-        IsTaut curves.now.from curves.now.low.items curves.now.up.items plan) }
-
-    // It is feasible, no feasible plan sends less above any rate, and no other list of segments is
-    // taut.
-    ensures best { IfOk result (λ plan.
-        IsBestPlan curves.now.from curves.now.low.items curves.now.up.items plan) }
-{
-    match taut_segments(alloc, curves) {
-        Ok(segments) => Ok(Plan::new(segments)),
-        Err(_) => Err(NoMemory),
-    }
 }

@@ -6,7 +6,8 @@ use Rattle.admission.specs.declared.entries.Entry.{Entry}
 use Rattle.admission.specs.Histories.{IsLegal}
 use Rattle.session.specs.declared.settings.Settings.{Settings}
 use Rattle.session.specs.Standings.{Standing, open_of}
-use Rattle.conn.specs.Rounds.{Ending, Ends, Round, RunsAll, ending_doings, ending_events, ending_outcomes, rounds_doings, rounds_outcomes}
+use Rattle.conn.specs.Rounds.{Ending, Ends, Round, RunsAll, ending_doings, ending_events}
+use Rattle.conn.specs.Rounds.{ending_outcomes, rounds_doings, rounds_outcomes}
 use Rattle.conn.specs.Journals.{AgreeWith, Terms}
 use Rattle.conn.specs.Served.{IsToldOf}
 use Rattle.conn.specs.Turns.{IsClosed, Outcome, Stage}

@@ -7,7 +7,8 @@ use Rattle.session.specs.declared.settings.Settings.{Settings}
 use Rattle.session.specs.Laws.{IsWanting}
 use Rattle.session.specs.Standings.{Standing}
 use Rattle.conn.specs.Rounds.{IsIdle, IsStopped, Round, Runs, rounds_outcomes}
-use Rattle.conn.specs.Turns.{Answered, Entered, Offered, Outcome, Passed, Stage, Taking, TakesAll, Unasked, WasFull}
+use Rattle.conn.specs.Turns.{Answered, Entered, Offered, Outcome, Passed, Stage, Taking, TakesAll}
+use Rattle.conn.specs.Turns.{Unasked, WasFull}
 use Rattle.conn.specs.declared.reports.ConnEnd.{ConnEnd}
 use Rattle.transcript.specs.Courses.{first_stage, rounds_bytes}
 

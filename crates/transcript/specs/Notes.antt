@@ -1,5 +1,6 @@
 -- What a connection's report notes: its plays, and the slots that were missed.
-use Rattle.std.specs.Prelude.{ℕ, ◌+◌, ◌&&◌, if◌then◌else◌, List, [], ◌∷◌, ◌++◌, length, Option, Some, None}
+use Rattle.std.specs.Prelude.{ℕ, ◌+◌, ◌&&◌, if◌then◌else◌, List, [], ◌∷◌, ◌++◌, length, Option}
+use Rattle.std.specs.Prelude.{Some, None}
 use Rattle.vod_base.specs.Links.{Doing, HeardBytes, HeardEnd, HeardSlot, Sent}
 use Rattle.slot_calendar.specs.Plays.{Play as Booked}
 use Rattle.film_run.specs.declared.runs.Run.{Run}
@@ -14,8 +15,10 @@ use Rattle.session.specs.declared.states.State.TheVariants.{Init, Ready, Playing
 use Rattle.session.specs.PlayLaws.{slots_missed}
 use Rattle.session.specs.Sendings.{is_sending, is_taken, after_slot, start_in}
 use Rattle.session.specs.Standings.{Standing}
-use Rattle.conn.specs.Rounds.{Ending, Unheard, PeerEnded, Overfull, AtPiece, InSlot, InReply, Ends, Round, Runs, RunsAll}
-use Rattle.conn.specs.Turns.{Outcome, Unasked, Entered, WasFull, Offered, Stage, Taking, Passed, Answered, TakesAll, stage}
+use Rattle.conn.specs.Rounds.{Ending, Unheard, PeerEnded, Overfull, AtPiece, InSlot, InReply, Ends}
+use Rattle.conn.specs.Rounds.{Round, Runs, RunsAll}
+use Rattle.conn.specs.Turns.{Outcome, Unasked, Entered, WasFull, Offered, Stage, Taking, Passed}
+use Rattle.conn.specs.Turns.{Answered, TakesAll, stage}
 use Rattle.transcript.specs.Agreement.{Doings, HasDone}
 use Rattle.transcript.specs.Courses.{first_stage}
 use Rattle.transcript.specs.Plays.{kept_with}

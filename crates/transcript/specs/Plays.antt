@@ -1,5 +1,6 @@
 -- What is sent of films on one connection: its plays, what is due of each, and their bytes joined.
-use Rattle.std.specs.Prelude.{ℕ, ◌≡◌, ⊤, ◌+◌, min, List, [], ◌∷◌, ◌++◌, drop, take, sum_by, Option, Some, None}
+use Rattle.std.specs.Prelude.{ℕ, ◌≡◌, ⊤, ◌+◌, min, List, [], ◌∷◌, ◌++◌, drop, take, sum_by, Option}
+use Rattle.std.specs.Prelude.{Some, None}
 use Rattle.plan_cert.specs.declared.Segment.{Segment}
 use Rattle.plan_cert.specs.Slots.{total_bytes}
 use Rattle.slot_calendar.specs.Plays.{Play as Booked, cut_play, sent_before}
@@ -10,7 +11,9 @@ use Rattle.admission.specs.Makers.{Placed}
 use Rattle.admission.specs.declared.entries.Answer.{Answer}
 use Rattle.admission.specs.declared.entries.Answer.TheVariants.{Admitted}
 use Rattle.admission.specs.declared.entries.Command.{Command}
-use Rattle.admission.specs.declared.entries.Command.TheVariants.{Play as PlayCommand, Halt as HaltCommand, Look as LookCommand}
+use Rattle.admission.specs.declared.entries.Command.TheVariants.{Play as PlayCommand}
+use Rattle.admission.specs.declared.entries.Command.TheVariants.{Halt as HaltCommand}
+use Rattle.admission.specs.declared.entries.Command.TheVariants.{Look as LookCommand}
 use Rattle.session.specs.declared.states.Awaited.{Awaited}
 use Rattle.session.specs.declared.states.Awaited.TheVariants.{Play}
 use Rattle.conn.specs.Turns.{Outcome, Unasked, Entered, WasFull, Offered}

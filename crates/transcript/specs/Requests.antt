@@ -1,5 +1,6 @@
 -- The requests in a connection's input, and those of them that were taken up.
-use Rattle.std.specs.Prelude.{ℕ, ◌≡◌, ◌⊎◌, ◌++◌, ◌==◌, ◌||◌, if◌then◌else◌, Bool, true, List, [], ◌∷◌, map, slice_index, Ok}
+use Rattle.std.specs.Prelude.{ℕ, ◌≡◌, ◌⊎◌, ◌++◌, ◌==◌, ◌||◌, if◌then◌else◌, Bool, true, List, []}
+use Rattle.std.specs.Prelude.{◌∷◌, map, slice_index, Ok}
 use Rattle.vod_base.specs.Links.{Doing, HeardBytes, HeardEnd, HeardSlot, Sent}
 use Rattle.interleave.specs.Heads.{is_line_end}
 use Rattle.interleave.specs.Pieces.{IsFirst}

@@ -11,7 +11,8 @@ ghost use Rattle.session.specs.declared.settings.Settings.{Settings};
 ghost use Rattle.conn.specs.Films.{rounds_film};
 ghost use Rattle.conn.specs.Journals.{Terms, terms_of};
 ghost use Rattle.conn.specs.Parts.{HasServedOne};
-ghost use Rattle.conn.specs.Rounds.{EndsInReply, HasFailedInSlot, IsStopped, Round, Runs, RunsAll, entries_in, round_bytes, rounds_outcomes};
+ghost use Rattle.conn.specs.Rounds.{EndsInReply, HasFailedInSlot, IsStopped, Round, Runs, RunsAll};
+ghost use Rattle.conn.specs.Rounds.{entries_in, round_bytes, rounds_outcomes};
 ghost use Rattle.conn.specs.Turns.{Answered, Outcome, Stage, reply_parts};
 ghost use Rattle.conn.specs.declared.reports.ConnEnd.{ConnEnd};
 ghost use Rattle.conn.specs.declared.reports.ConnEnd.TheVariants.{NoMemory};
@@ -19,14 +20,17 @@ ghost use Rattle.conn.specs.declared.reports.ConnReport.{ConnReport};
 ghost use Rattle.transcript.specs.Agreement.{Agrees, Doings, HasDone, Visit, doings_outcomes};
 ghost use Rattle.transcript.specs.Courses.{Course, Follows, IsParted, course_film, course_plays};
 ghost use Rattle.transcript.specs.Courses.{first_stage, greatest_slot, rounds_bytes};
-ghost use Rattle.transcript.specs.Cuttings.{AllLackAlike, AreFronts, AreSameAnswers, Beginning, Cutting, HearAlike, Hearing, SendAlike, TakesUp};
+ghost use Rattle.transcript.specs.Cuttings.{AllLackAlike, AreFronts, AreSameAnswers, Beginning};
+ghost use Rattle.transcript.specs.Cuttings.{Cutting, HearAlike, Hearing, SendAlike, TakesUp};
 ghost use Rattle.transcript.specs.Failures.{IsCutShort};
-ghost use Rattle.transcript.specs.Notes.{ending_missed, notes_of, outcome_of, rounds_missed, turns_of};
+ghost use Rattle.transcript.specs.Notes.{ending_missed, notes_of, outcome_of, rounds_missed};
+ghost use Rattle.transcript.specs.Notes.{turns_of};
 ghost use Rattle.transcript.specs.Receipts.{offers_in, receipts_in};
 ghost use Rattle.transcript.specs.Places.{AreSentAt, slots_from};
 ghost use Rattle.transcript.specs.Plays.{AreOver, booked_plays, booking_of};
 ghost use Rattle.transcript.specs.Requests.{AreTaken};
-ghost use Rattle.transcript.specs.Replies.{course_replies, course_texts, text_of, waiting_reply, with_texts};
+ghost use Rattle.transcript.specs.Replies.{course_replies, course_texts, text_of, waiting_reply};
+ghost use Rattle.transcript.specs.Replies.{with_texts};
 
 /// The events of a connection's course follow one another, with the last one where a piece ended
 /// it, and so do those of each front of it.

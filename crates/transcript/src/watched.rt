@@ -1,7 +1,8 @@
 //! What a client makes of what a connection sends: the promise to its meter, and what it reads in
 //! replies.
 
-ghost use Rattle.std.specs.Prelude.{◌≡◌, ◌≤◌, ◌<◌, ◌-◌, ◌+◌, ◌^◌, ◌++◌, ◌∷◌, All, List, Some, [], ℕ, codes, decimal, length, take, drop};
+ghost use Rattle.std.specs.Prelude.{◌≡◌, ◌≤◌, ◌<◌, ◌-◌, ◌+◌, ◌^◌, ◌++◌, ◌∷◌, All, List, Some, []};
+ghost use Rattle.std.specs.Prelude.{ℕ, codes, decimal, length, take, drop};
 ghost use Rattle.film_frames.specs.declared.stores.Stored.{Stored};
 ghost use Rattle.interleave.specs.Pieces.{IsRequestLength};
 ghost use Rattle.mpeg_scan.specs.Rates.{picture_time};

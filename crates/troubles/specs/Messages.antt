@@ -4,7 +4,9 @@ use Rattle.vod_base.specs.Names.{is_good_name}
 use Rattle.troubles.specs.Lines.{fault_words}
 use Rattle.troubles.specs.declared.faults.Fault.{Fault}
 use Rattle.troubles.specs.declared.faults.Trouble.{Trouble}
-use Rattle.troubles.specs.declared.faults.Trouble.TheVariants.{Usage, Refused, StoreFault, SinkFault, NoMemory, GateFault, LinkFault}
+use Rattle.troubles.specs.declared.faults.Trouble.TheVariants.{Usage, Refused, StoreFault}
+use Rattle.troubles.specs.declared.faults.Trouble.TheVariants.{SinkFault, NoMemory, GateFault}
+use Rattle.troubles.specs.declared.faults.Trouble.TheVariants.{LinkFault}
 
 -- a cause; with it the name of the input that is refused, or at which the library failed, and why
 -- it is refused

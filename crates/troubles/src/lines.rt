@@ -26,30 +26,6 @@ pub fn add<S: Sink>(sink: &mut S, going: bool, piece: &[u8]) -> bool
     }
 }
 
-/// Writes a blank and a number.
-fn add_number<S: Sink>(sink: &mut S, going: bool, number: u64) -> bool
-    ensures { GoesOn (S.faults sink.old) (S.faults sink.new) (S.written sink.old)
-        (S.written sink.new)
-        going result (number_text number) }
-{
-    let mut buffer = itoa::Buffer::new();
-    let blank = add(sink, going, b" ");
-    add(sink, blank, buffer.format(number).as_bytes())
-}
-
-/// Writes a refusal's name and its numbers.
-fn add_fault<S: Sink>(sink: &mut S, going: bool, fault: Fault) -> bool
-    ensures { GoesOn (S.faults sink.old) (S.faults sink.new) (S.written sink.old)
-        (S.written sink.new) going result (fault_text fault) }
-{
-    let words = fault_words(fault);
-    let mut goes = add(sink, going, words.name.as_bytes());
-    for number in &words.numbers[..words.count] {
-        goes = add_number(sink, goes, *number);
-    }
-    goes
-}
-
 /// Says one line of trouble, and tells whether all of it was written. It takes no memory.
 pub fn say<S: Sink>(sink: &mut S, trouble: Trouble<'_>) -> bool
     ensures { IsSaid (S.faults sink.old) (S.faults sink.new) (S.written sink.old)
@@ -97,3 +73,28 @@ pub fn law_line_tells_trouble()
     ensures tells { (trouble trouble' : Cause) → MayBeSaid trouble → MayBeSaid trouble' →
         trouble_text trouble ≡ trouble_text trouble' → message_of trouble ≡ message_of trouble' }
 {}
+
+
+/// Writes a blank and a number.
+fn add_number<S: Sink>(sink: &mut S, going: bool, number: u64) -> bool
+    ensures { GoesOn (S.faults sink.old) (S.faults sink.new) (S.written sink.old)
+        (S.written sink.new)
+        going result (number_text number) }
+{
+    let mut buffer = itoa::Buffer::new();
+    let blank = add(sink, going, b" ");
+    add(sink, blank, buffer.format(number).as_bytes())
+}
+
+/// Writes a refusal's name and its numbers.
+fn add_fault<S: Sink>(sink: &mut S, going: bool, fault: Fault) -> bool
+    ensures { GoesOn (S.faults sink.old) (S.faults sink.new) (S.written sink.old)
+        (S.written sink.new) going result (fault_text fault) }
+{
+    let words = fault_words(fault);
+    let mut goes = add(sink, going, words.name.as_bytes());
+    for number in &words.numbers[..words.count] {
+        goes = add_number(sink, goes, *number);
+    }
+    goes
+}

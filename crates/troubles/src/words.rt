@@ -1,7 +1,8 @@
 //! The names of refusals, and the numbers that go with them.
 
 ghost use Rattle.std.specs.Prelude.{◌∷◌, []};
-ghost use Rattle.troubles.specs.Lines.{curve_fault_words, fault_words, film_fault_words, system_fault_words, words};
+ghost use Rattle.troubles.specs.Lines.{curve_fault_words, fault_words, film_fault_words};
+ghost use Rattle.troubles.specs.Lines.{system_fault_words, words};
 ghost use Rattle.troubles.specs.Spelling.{Spells};
 
 use crate::faults::Fault;
@@ -15,6 +16,29 @@ pub(crate) struct Words {
     pub(crate) name: &'static str,
     pub(crate) numbers: [u64; 3],
     pub(crate) count: usize,
+}
+
+/// The words of a refusal.
+pub(crate) fn fault_words(fault: Fault) -> Words
+    ensures { Spells result (fault_words fault) }
+{
+    match fault {
+        Fault::NotFound => name("NotFound"),
+        Fault::BadTrace(place) => name_at("BadTrace", place),
+        Fault::Curves(fault) => curve_fault_words(fault),
+        Fault::BadCert(line) => name_at("BadCert", line),
+        Fault::BadScript(line) => name_at("BadScript", line),
+        Fault::Film(fault) => film_fault_words(fault),
+        Fault::System(fault) => system_fault_words(fault),
+        Fault::FilmTooLarge => name("FilmTooLarge"),
+        Fault::NoConnection => name("NoConnection"),
+        Fault::RefusedWith(code) => name_at("Refused", u64::from(code)),
+        Fault::BadReply(number) => name_at("BadReply", number),
+        Fault::BadFrame(number) => name_at("BadFrame", number),
+        Fault::Framing => name("Framing"),
+        Fault::EndedEarly(pictures) => name_at("EndedEarly", pictures),
+        Fault::TurnsSpent => name("TurnsSpent"),
+    }
 }
 
 /// A name alone.
@@ -84,28 +108,5 @@ fn system_fault_words(fault: SystemFault) -> Words
         SystemFault::BadCode(place) => name_at("BadCode", place),
         SystemFault::BadPacket(place) => name_at("BadPacket", place),
         SystemFault::Truncated(place) => name_at("Truncated", place),
-    }
-}
-
-/// The words of a refusal.
-pub(crate) fn fault_words(fault: Fault) -> Words
-    ensures { Spells result (fault_words fault) }
-{
-    match fault {
-        Fault::NotFound => name("NotFound"),
-        Fault::BadTrace(place) => name_at("BadTrace", place),
-        Fault::Curves(fault) => curve_fault_words(fault),
-        Fault::BadCert(line) => name_at("BadCert", line),
-        Fault::BadScript(line) => name_at("BadScript", line),
-        Fault::Film(fault) => film_fault_words(fault),
-        Fault::System(fault) => system_fault_words(fault),
-        Fault::FilmTooLarge => name("FilmTooLarge"),
-        Fault::NoConnection => name("NoConnection"),
-        Fault::RefusedWith(code) => name_at("Refused", u64::from(code)),
-        Fault::BadReply(number) => name_at("BadReply", number),
-        Fault::BadFrame(number) => name_at("BadFrame", number),
-        Fault::Framing => name("Framing"),
-        Fault::EndedEarly(pictures) => name_at("EndedEarly", pictures),
-        Fault::TurnsSpent => name("TurnsSpent"),
     }
 }

@@ -18,6 +18,29 @@ use std::sync::Wait;
 /// How often the pass that is next looks before it sleeps.
 const SPINS: u32 = 64;
 
+/// Draws a ticket, waits for its turn and takes the value.
+pub(crate) fn take<B: Kept, R: Wait>(
+    rt: &R,
+    top: &Top<B>,
+    bells: &Bells,
+    mut place: Place<B>,
+) -> Turn<B>
+    requires seat { IsSeated top.now.table_id place }
+    requires free { IsFree place.me }
+    requires own { place.me.0.mine ≡ made_by place.me.0.number place.me.0.seen }
+    ensures pass { result.pass
+        ≡ record (stands_as place.table_id place.me.0) { seen = B.entries result.value } }
+    ensures longer { IsPrefix place.me.0.seen (B.entries result.value) }
+    ensures own { place.me.0.mine ≡ made_by place.me.0.number (B.entries result.value) }
+    ensures terms { B.terms result.value ≡ place.me.0.terms }
+{
+    let ticket = draw(top, &mut place);
+    wait(rt, top, bells.of(ticket), &mut place, ticket);
+    let slot = top.exchange(&mut place, VALUE, None);
+    let Some(value) = slot else { unreachable!() };
+    Turn::begin(place, value)
+}
+
 /// Waits until it is the turn of the ticket, asleep at its bell. The pass that is next stays awake
 /// for a short time; one that has others before it sleeps at once, since one of them may need the
 /// processor that it runs on.
@@ -59,27 +82,4 @@ fn wait<B: Kept, R: Wait>(
         };
     }
     unreachable!()
-}
-
-/// Draws a ticket, waits for its turn and takes the value.
-pub(crate) fn take<B: Kept, R: Wait>(
-    rt: &R,
-    top: &Top<B>,
-    bells: &Bells,
-    mut place: Place<B>,
-) -> Turn<B>
-    requires seat { IsSeated top.now.table_id place }
-    requires free { IsFree place.me }
-    requires own { place.me.0.mine ≡ made_by place.me.0.number place.me.0.seen }
-    ensures pass { result.pass
-        ≡ record (stands_as place.table_id place.me.0) { seen = B.entries result.value } }
-    ensures longer { IsPrefix place.me.0.seen (B.entries result.value) }
-    ensures own { place.me.0.mine ≡ made_by place.me.0.number (B.entries result.value) }
-    ensures terms { B.terms result.value ≡ place.me.0.terms }
-{
-    let ticket = draw(top, &mut place);
-    wait(rt, top, bells.of(ticket), &mut place, ticket);
-    let slot = top.exchange(&mut place, VALUE, None);
-    let Some(value) = slot else { unreachable!() };
-    Turn::begin(place, value)
 }

@@ -10,6 +10,13 @@ pub fn is_blank(byte: u8) -> bool
     byte == b' ' || byte == b'\t'
 }
 
+/// The text without the blanks (spaces and tabs) around it.
+pub fn trim(text: &[u8]) -> &[u8]
+    ensures { result.now ≡ without_blanks text.now }
+{
+    trim_end(trim_start(text))
+}
+
 /// The text without the blanks in front.
 fn trim_start(text: &[u8]) -> &[u8]
     ensures { result.now ≡ without_front_blanks text.now }
@@ -30,11 +37,4 @@ fn trim_end(text: &[u8]) -> &[u8]
         rest = before;
     }
     rest
-}
-
-/// The text without the blanks (spaces and tabs) around it.
-pub fn trim(text: &[u8]) -> &[u8]
-    ensures { result.now ≡ without_blanks text.now }
-{
-    trim_end(trim_start(text))
 }

@@ -3,8 +3,10 @@
 ghost use Rattle.std.specs.Prelude.{◌≡◌, ◌<◌, ◌≤◌, ℕ, Option, Some, None, [], option_map, IfSome};
 ghost use Rattle.std.specs.Prelude.{IfOk, OnOk, OnErr};
 ghost use Rattle.vod_base.specs.Outside.{HasRisen};
-ghost use Rattle.vod_base.specs.Gates.{Content, NoMore, Failed, MaySplit, IsOut, HasOut, after_open};
-ghost use Rattle.vod_base.specs.Gates.{split_off, new_part, after_take, after_empty_take, after_return};
+ghost use Rattle.vod_base.specs.Gates.{Content, NoMore, Failed, MaySplit, IsOut, HasOut};
+ghost use Rattle.vod_base.specs.Gates.{after_open};
+ghost use Rattle.vod_base.specs.Gates.{split_off, new_part, after_take, after_empty_take};
+ghost use Rattle.vod_base.specs.Gates.{after_return};
 ghost use Rattle.vod_base.specs.Gates.{told_rejoined};
 
 use crate::links::Link;

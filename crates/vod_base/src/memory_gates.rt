@@ -4,9 +4,12 @@ ghost use Rattle.std.specs.Prelude.{◌≡◌, ◌-◌, ◌↔◌, ◌||◌, fal
 ghost use Rattle.std.specs.Prelude.{nat_lt, map, IfSome, IfOk, IsNone, OnOk, OnErr, is_err};
 ghost use Rattle.std.specs.Prelude.{vec_len};
 ghost use Rattle.vod_base.specs.Memory.{one_more};
-ghost use Rattle.vod_base.specs.Gates.{NoMore, Failed, MaySplit, IsOut, HasOut, after_open, split_off};
-ghost use Rattle.vod_base.specs.Gates.{new_part, after_take, after_empty_take, after_return, after_rejoin, fresh_part};
-ghost use Rattle.vod_base.specs.MemoryGates.{returned_of, part_of, back_of, gate_fails, gate_called};
+ghost use Rattle.vod_base.specs.Gates.{NoMore, Failed, MaySplit, IsOut, HasOut, after_open};
+ghost use Rattle.vod_base.specs.Gates.{split_off};
+ghost use Rattle.vod_base.specs.Gates.{new_part, after_take, after_empty_take, after_return};
+ghost use Rattle.vod_base.specs.Gates.{after_rejoin, fresh_part};
+ghost use Rattle.vod_base.specs.MemoryGates.{returned_of, part_of, back_of, gate_fails};
+ghost use Rattle.vod_base.specs.MemoryGates.{gate_called};
 ghost use Rattle.vod_base.specs.MemoryGates.{gate_failed};
 
 use crate::gates::{Gate, Opening};
@@ -130,33 +133,6 @@ impl MemoryGate {
             self.faults = self.faults.saturating_add(1);
         }
         failed
-    }
-}
-
-/// A share of these links, of which none was given.
-fn share_of(number: usize, links: Vec<MemoryLink>) -> Share
-    ensures part { part_of result ≡ fresh_part number }
-    ensures links { result.links ≡ links }
-    ensures waiting { result.waiting ≡ vec_len links }
-    ensures given { result.given ≡ 0 }
-{
-    Share {
-        number,
-        waiting: links.len(),
-        links,
-        given: 0,
-        last: Last::Nothing,
-    }
-}
-
-/// A count of faults, which rises where a part's count had risen.
-fn count_with(count: u64, part: u64) -> u64
-    ensures { result ≡ (if nat_lt 0 part then one_more count else count) }
-{
-    if part > 0 {
-        count.saturating_add(1)
-    } else {
-        count
     }
 }
 
@@ -286,5 +262,32 @@ impl Gate for MemoryGate {
         self.faults = count_with(self.faults, faults);
         let number = own.number;
         self.parts[number] = Some(own);
+    }
+}
+
+/// A share of these links, of which none was given.
+fn share_of(number: usize, links: Vec<MemoryLink>) -> Share
+    ensures part { part_of result ≡ fresh_part number }
+    ensures links { result.links ≡ links }
+    ensures waiting { result.waiting ≡ vec_len links }
+    ensures given { result.given ≡ 0 }
+{
+    Share {
+        number,
+        waiting: links.len(),
+        links,
+        given: 0,
+        last: Last::Nothing,
+    }
+}
+
+/// A count of faults, which rises where a part's count had risen.
+fn count_with(count: u64, part: u64) -> u64
+    ensures { result ≡ (if nat_lt 0 part then one_more count else count) }
+{
+    if part > 0 {
+        count.saturating_add(1)
+    } else {
+        count
     }
 }

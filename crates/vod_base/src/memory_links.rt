@@ -54,13 +54,6 @@ pub struct MemoryLink {
     faults: u64,
 }
 
-/// The next event's place, and how many of its bytes were handed out.
-#[derive(Clone, Copy, Debug)]
-struct Front {
-    event: usize,
-    offset: usize,
-}
-
 impl Model for MemoryLink {
     ghost use Rattle.std.specs.Prelude.{◌≡◌, ◌+◌, ◌≤◌, map, vec_len, vec_capacity};
     ghost use Rattle.vod_base.specs.MemoryLinks.{LinkState, sent_of, doing_noted};
@@ -224,6 +217,13 @@ impl Link for MemoryLink {
             Err(_) => unreachable!(),
         }
     }
+}
+
+/// The next event's place, and how many of its bytes were handed out.
+#[derive(Clone, Copy, Debug)]
+struct Front {
+    event: usize,
+    offset: usize,
 }
 
 /// Notes each byte as sent.

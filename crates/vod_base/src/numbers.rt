@@ -34,6 +34,23 @@ impl fmt::Display for NumberFault {
 
 impl Error for NumberFault {}
 
+/// Reads a decimal number: one or more digits `0` to `9`, leading zeros allowed, up to 2^64 - 1.
+pub fn read_number(text: &[u8]) -> Result<u64, NumberFault>
+    ensures number { result_ok result ≡ number_of text.now }
+    ensures fault { IfErr result (IsNumberFault text.now) }
+{
+    if text.is_empty() {
+        return Err(NumberFault::Empty);
+    }
+    if let Some(place) = first_other(text) {
+        return Err(NumberFault::NotDigit(place));
+    }
+    match value_of(text) {
+        Some(value) => Ok(value),
+        None => Err(NumberFault::TooLarge),
+    }
+}
+
 /// The place of the first byte that is no digit.
 fn first_other(text: &[u8]) -> Option<usize>
     ensures within { IfSome result (λ place. place < length text.now) }
@@ -67,21 +84,4 @@ fn value_of(text: &[u8]) -> Option<u64>
         value = more;
     }
     Some(value)
-}
-
-/// Reads a decimal number: one or more digits `0` to `9`, leading zeros allowed, up to 2^64 - 1.
-pub fn read_number(text: &[u8]) -> Result<u64, NumberFault>
-    ensures number { result_ok result ≡ number_of text.now }
-    ensures fault { IfErr result (IsNumberFault text.now) }
-{
-    if text.is_empty() {
-        return Err(NumberFault::Empty);
-    }
-    if let Some(place) = first_other(text) {
-        return Err(NumberFault::NotDigit(place));
-    }
-    match value_of(text) {
-        Some(value) => Ok(value),
-        None => Err(NumberFault::TooLarge),
-    }
 }

@@ -10,7 +10,8 @@ use Rattle.film_make.specs.Trace.{trace_of}
 use Rattle.film_make.specs.Film.{film_of}
 use Rattle.film_make.specs.System.{system_of}
 use Rattle.command_words.specs.Keys.{Made, made_film, made_trace, made_system}
-use Rattle.command_words.specs.Words.{Order, help, version, plan_of, check_of, scan_of, make_of, day_of, fair_of, serve_of, watch_of}
+use Rattle.command_words.specs.Words.{Order, help, version, plan_of, check_of, scan_of, make_of}
+use Rattle.command_words.specs.Words.{day_of, fair_of, serve_of, watch_of}
 use Rattle.command_words.specs.Orders.{source_name}
 use Rattle.inputs.specs.Films.{IsHeldRefused}
 use Rattle.inputs.specs.Scans.{HoldsFilm, IsFilmRefused}

@@ -1,5 +1,6 @@
 -- What `day` reads, and why it is refused.
-use Rattle.std.specs.Prelude.{◌≡◌, ◌⊎◌, ℕ, ◌<◌, Bool, true, false, List, ◌∷◌, ◌++◌, All, length, map, slice_index_or, Option, Some, string_bytes}
+use Rattle.std.specs.Prelude.{◌≡◌, ◌⊎◌, ℕ, ◌<◌, Bool, true, false, List, ◌∷◌, ◌++◌, All, length}
+use Rattle.std.specs.Prelude.{map, slice_index_or, Option, Some, string_bytes}
 use Rattle.std.specs.List.{Contains}
 use Rattle.vod_base.specs.Outside.{File, file_named}
 use Rattle.troubles.specs.declared.faults.Fault.{Fault}

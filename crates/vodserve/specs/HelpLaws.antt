@@ -1,5 +1,6 @@
 -- What `--help` tells, as its reader looks for it.
-use Rattle.std.specs.Prelude.{ℕ, Bool, true, false, ◌==◌, ◌&&◌, ◌||◌, nat_le, List, [], ◌∷◌, ◌++◌, length, reverse, codes}
+use Rattle.std.specs.Prelude.{ℕ, Bool, true, false, ◌==◌, ◌&&◌, ◌||◌, nat_le, List, [], ◌∷◌, ◌++◌}
+use Rattle.std.specs.Prelude.{length, reverse, codes}
 use Rattle.std.specs.List.{list_all, list_any, slice_split}
 use Rattle.command_words.specs.Spelling.{Setting}
 

@@ -1,5 +1,6 @@
 -- What a server's run means to who stands outside: laws over its definition.
-use Rattle.std.specs.Prelude.{◌≡◌, ◌≢◌, ◌⊎◌, ℕ, ◌+◌, ◌<◌, ⊤, List, All, length, map, slice_index_or, Option, Some, None}
+use Rattle.std.specs.Prelude.{◌≡◌, ◌≢◌, ◌⊎◌, ℕ, ◌+◌, ◌<◌, ⊤, List, All, length, map, slice_index_or}
+use Rattle.std.specs.Prelude.{Option, Some, None}
 use Rattle.std.specs.List.{Contains}
 use Rattle.vod_base.specs.Outside.{File, HasRisen}
 use mathlib.Core.List.{IsPrefix}
@@ -8,7 +9,8 @@ use Rattle.film_frames.specs.declared.stores.Stored.{Stored}
 use Rattle.admission.specs.declared.entries.Entry.{Entry}
 use Rattle.admission.specs.Makers.{made_by}
 use Rattle.session.specs.declared.notes.Receipt.{Receipt}
-use Rattle.session.specs.declared.notes.Receipt.TheVariants.{Entry as EntryReceipt, Full as FullReceipt}
+use Rattle.session.specs.declared.notes.Receipt.TheVariants.{Entry as EntryReceipt}
+use Rattle.session.specs.declared.notes.Receipt.TheVariants.{Full as FullReceipt}
 use Rattle.station.specs.Seats.{Sitting}
 use Rattle.conn.specs.Journals.{terms_of}
 use Rattle.conn.specs.Keeping.{receipt_for}

@@ -1,6 +1,7 @@
 -- What a run of the program did: it carried out what the words ask for, or it said what kept it
 -- from that.
-use Rattle.std.specs.Prelude.{◌≡◌, ℕ, ◌≤◌, Bool, List, [], length, Option, Some, None, Result, Ok, Err, ◌⊎◌, ⊤}
+use Rattle.std.specs.Prelude.{◌≡◌, ℕ, ◌≤◌, Bool, List, [], length, Option, Some, None, Result, Ok}
+use Rattle.std.specs.Prelude.{Err, ◌⊎◌, ⊤}
 use Rattle.vod_base.specs.Outside.{File, HasRisen, more, IsFrontMore}
 use Rattle.plan_cert.specs.declared.Segment.{Segment}
 use Rattle.slot_calendar.specs.declared.profiles.CapStep.{CapStep}
@@ -14,17 +15,26 @@ use Rattle.vodserve.specs.Days.{AreHeldAs, HoldsScript, IsDayInput, IsDayRefused
 use Rattle.rtsp_client.specs.declared.wishes.Wish.{Wish}
 use Rattle.rtsp_client.specs.declared.wishes.Watched.{Watched}
 use Rattle.rtsp_client.specs.declared.wishes.WatchEnd.{WatchEnd}
-use Rattle.rtsp_client.specs.declared.wishes.WatchEnd.TheVariants.{Done as WatchDone, Fault as WatchFailed, LinkFault as WatchLinkFault, SinkFault as WatchSinkFault, NoMemory as WatchNoMemory}
+use Rattle.rtsp_client.specs.declared.wishes.WatchEnd.TheVariants.{Done as WatchDone}
+use Rattle.rtsp_client.specs.declared.wishes.WatchEnd.TheVariants.{Fault as WatchFailed}
+use Rattle.rtsp_client.specs.declared.wishes.WatchEnd.TheVariants.{LinkFault as WatchLinkFault}
+use Rattle.rtsp_client.specs.declared.wishes.WatchEnd.TheVariants.{SinkFault as WatchSinkFault}
+use Rattle.rtsp_client.specs.declared.wishes.WatchEnd.TheVariants.{NoMemory as WatchNoMemory}
 use Rattle.rtsp_client.specs.declared.wishes.WatchFault.{WatchFault}
-use Rattle.command_words.specs.Words.{FairRun, ScriptRun, Serving, Watching, Order, help, version, plan_of, check_of, scan_of, make_of, day_of, fair_of, serve_of, watch_of}
+use Rattle.command_words.specs.Words.{FairRun, ScriptRun, Serving, Watching, Order, help, version}
+use Rattle.command_words.specs.Words.{plan_of, check_of, scan_of, make_of, day_of, fair_of}
+use Rattle.command_words.specs.Words.{serve_of, watch_of}
 use Rattle.troubles.specs.Said.{IsSaid}
 use Rattle.troubles.specs.Lines.{trouble_text}
 use Rattle.troubles.specs.Statuses.{status_of}
 use Rattle.troubles.specs.Causes.{IsReadOnly, IsReadTrouble}
 use Rattle.troubles.specs.declared.faults.Trouble.{Trouble}
-use Rattle.troubles.specs.declared.faults.Trouble.TheVariants.{Usage, Refused, StoreFault, SinkFault, NoMemory, GateFault, LinkFault}
+use Rattle.troubles.specs.declared.faults.Trouble.TheVariants.{Usage, Refused, StoreFault}
+use Rattle.troubles.specs.declared.faults.Trouble.TheVariants.{SinkFault, NoMemory, GateFault}
+use Rattle.troubles.specs.declared.faults.Trouble.TheVariants.{LinkFault}
 use Rattle.troubles.specs.declared.faults.Fault.TheVariants.{NoConnection}
-use Rattle.vodserve.specs.Watches.{HasHeardFilm, HasPart, IsWishOf, idle_part, opening_at, refusal_of, watched_text}
+use Rattle.vodserve.specs.Watches.{HasHeardFilm, HasPart, IsWishOf, idle_part, opening_at}
+use Rattle.vodserve.specs.Watches.{refusal_of, watched_text}
 use Rattle.vod_base.specs.Gates.{Content}
 use Rattle.film_frames.specs.declared.stores.Stored.{Stored}
 use Rattle.conn.specs.Parts.{Outlet, outlet}

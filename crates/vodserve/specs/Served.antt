@@ -1,5 +1,6 @@
 -- What a server prints and leaves.
-use Rattle.std.specs.Prelude.{◌≡◌, ◌≢◌, ℕ, ◌+◌, ◌<◌, List, [], ◌∷◌, ◌++◌, length, codes, decimal, All, Option, Some, None, IfSome}
+use Rattle.std.specs.Prelude.{◌≡◌, ◌≢◌, ℕ, ◌+◌, ◌<◌, List, [], ◌∷◌, ◌++◌, length, codes, decimal}
+use Rattle.std.specs.Prelude.{All, Option, Some, None, IfSome}
 use Rattle.std.specs.List.{Contains}
 use Rattle.vod_base.specs.Outside.{File, HasRisen, IsFrontMore, more}
 use Rattle.vod_base.specs.Gates.{Content}
@@ -10,14 +11,16 @@ use Rattle.admission.specs.Histories.{IsLegal, state_after}
 use Rattle.admission.specs.Makers.{AreHaltsOwn, made_by}
 use Rattle.conn.specs.Parts.{Outlet}
 use Rattle.conn.specs.declared.reports.PartEnd.{PartEnd}
-use Rattle.conn.specs.declared.reports.PartEnd.TheVariants.{AllTaken, GateFault as PartFault, NoMemory as PartNoMemory}
+use Rattle.conn.specs.declared.reports.PartEnd.TheVariants.{AllTaken, GateFault as PartFault}
+use Rattle.conn.specs.declared.reports.PartEnd.TheVariants.{NoMemory as PartNoMemory}
 use Rattle.report.specs.EntryLines.{entry_line}
 use Rattle.report.specs.CalendarTexts.{calendar_text}
 use Rattle.inputs.specs.Films.{IsHeldRefused}
 use Rattle.troubles.specs.Causes.{IsReadTrouble}
 use Rattle.troubles.specs.declared.faults.Fault.{Fault}
 use Rattle.troubles.specs.declared.faults.Trouble.{Trouble}
-use Rattle.troubles.specs.declared.faults.Trouble.TheVariants.{Refused, StoreFault, SinkFault, NoMemory, GateFault}
+use Rattle.troubles.specs.declared.faults.Trouble.TheVariants.{Refused, StoreFault, SinkFault}
+use Rattle.troubles.specs.declared.faults.Trouble.TheVariants.{NoMemory, GateFault}
 use Rattle.command_words.specs.Settings.{setting_value}
 use Rattle.command_words.specs.Words.{Serving}
 use Rattle.vodserve.specs.Worked.{MayBeServed}

@@ -1,20 +1,28 @@
 -- What a client that watches a film comes to.
-use Rattle.std.specs.Prelude.{◌≡◌, ℕ, false, List, [], ◌∷◌, ◌++◌, codes, option_map, slice_index_or, string_bytes, Option, Some, None, IfSome}
+use Rattle.std.specs.Prelude.{◌≡◌, ℕ, false, List, [], ◌∷◌, ◌++◌, codes, option_map, slice_index_or}
+use Rattle.std.specs.Prelude.{string_bytes, Option, Some, None, IfSome}
 use Rattle.vod_base.specs.Outside.{HasRisen}
 use Rattle.vod_base.specs.Links.{Doing}
 use Rattle.vod_base.specs.declared.gates.Opening.{Opening}
-use Rattle.vod_base.specs.Gates.{Content, Gave, NoMore, Part, Returned, after_take, after_empty_take, after_return}
+use Rattle.vod_base.specs.Gates.{Content, Gave, NoMore, Part, Returned, after_take}
+use Rattle.vod_base.specs.Gates.{after_empty_take, after_return}
 use Rattle.rtsp_client.specs.Courses.{HasWatched}
 use Rattle.rtsp_client.specs.declared.wishes.Wish.{Wish}
 use Rattle.rtsp_client.specs.declared.wishes.Watched.{Watched}
 use Rattle.rtsp_client.specs.declared.wishes.WatchEnd.{WatchEnd}
 use Rattle.rtsp_client.specs.declared.wishes.WatchEnd.TheVariants.{LinkFault, SinkFault}
 use Rattle.rtsp_client.specs.declared.wishes.WatchFault.{WatchFault}
-use Rattle.rtsp_client.specs.declared.wishes.WatchFault.TheVariants.{Refused as RefusedBy, BadReply as BadReplyOf, BadFrame as BadFrameOf, Framing as FramingOf, EndedEarly as EndedEarlyOf, TurnsSpent as TurnsSpentOf}
+use Rattle.rtsp_client.specs.declared.wishes.WatchFault.TheVariants.{Refused as RefusedBy}
+use Rattle.rtsp_client.specs.declared.wishes.WatchFault.TheVariants.{BadReply as BadReplyOf}
+use Rattle.rtsp_client.specs.declared.wishes.WatchFault.TheVariants.{BadFrame as BadFrameOf}
+use Rattle.rtsp_client.specs.declared.wishes.WatchFault.TheVariants.{Framing as FramingOf}
+use Rattle.rtsp_client.specs.declared.wishes.WatchFault.TheVariants.{EndedEarly as EndedEarlyOf}
+use Rattle.rtsp_client.specs.declared.wishes.WatchFault.TheVariants.{TurnsSpent as TurnsSpentOf}
 use Rattle.command_words.specs.Words.{Watching}
 use Rattle.troubles.specs.Said.{with_label}
 use Rattle.troubles.specs.declared.faults.Fault.{Fault}
-use Rattle.troubles.specs.declared.faults.Fault.TheVariants.{RefusedWith, BadReply, BadFrame, Framing, EndedEarly, TurnsSpent}
+use Rattle.troubles.specs.declared.faults.Fault.TheVariants.{RefusedWith, BadReply, BadFrame}
+use Rattle.troubles.specs.declared.faults.Fault.TheVariants.{Framing, EndedEarly, TurnsSpent}
 
 -- the refusal that a server's fault is
 abbrev pub refusal_of : WatchFault → Fault

@@ -1,5 +1,6 @@
 -- What a server serves with, and what its workers did.
-use Rattle.std.specs.Prelude.{◌≡◌, ◌≢◌, ◌⊎◌, ℕ, ◌+◌, ◌<◌, ⊤, List, [], ◌∷◌, ◌++◌, All, length, slice_index_or, string_bytes, Option, Some, None, IfSome}
+use Rattle.std.specs.Prelude.{◌≡◌, ◌≢◌, ◌⊎◌, ℕ, ◌+◌, ◌<◌, ⊤, List, [], ◌∷◌, ◌++◌, All, length}
+use Rattle.std.specs.Prelude.{slice_index_or, string_bytes, Option, Some, None, IfSome}
 use mathlib.Core.List.{IsPrefix}
 use Rattle.vod_base.specs.Outside.{File, HasRisen}
 use Rattle.vod_base.specs.Gates.{Content}

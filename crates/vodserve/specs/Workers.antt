@@ -1,5 +1,6 @@
 -- The workers of a server.
-use Rattle.std.specs.Prelude.{◌≡◌, ℕ, ◌+◌, ◌<◌, ◌≤◌, ⊤, List, [], ◌∷◌, All, length, map, slice_index_or, Option, None, IfSome}
+use Rattle.std.specs.Prelude.{◌≡◌, ℕ, ◌+◌, ◌<◌, ◌≤◌, ⊤, List, [], ◌∷◌, All, length, map}
+use Rattle.std.specs.Prelude.{slice_index_or, Option, None, IfSome}
 use mathlib.Core.List.{IsPrefix}
 use Rattle.vod_base.specs.Outside.{HasRisen}
 use Rattle.vod_base.specs.Gates.{Content}

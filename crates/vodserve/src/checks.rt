@@ -16,39 +16,6 @@ use std::alloc::{AllocError, Global};
 use troubles::{Fault, Trouble};
 use vod_base::Library;
 
-/// The name of a fault and the number that goes with it.
-fn fault_words(fault: &CertFault) -> (&'static str, Option<u64>)
-    ensures { AreFaultWords fault.now result.0.now result.1 }
-{
-    match fault {
-        CertFault::EmptySegment(segment) => ("EmptySegment", Some(*segment)),
-        CertFault::WrongLength => ("WrongLength", None),
-        CertFault::WrongTotal => ("WrongTotal", None),
-        CertFault::BelowLow(slot) => ("BelowLow", Some(*slot)),
-        CertFault::AboveUp(slot) => ("AboveUp", Some(*slot)),
-        CertFault::EqualSlopes(segment) => ("EqualSlopes", Some(*segment)),
-        CertFault::RiseOffUpper(segment) => ("RiseOffUpper", Some(*segment)),
-        CertFault::FallOffLower(segment) => ("FallOffLower", Some(*segment)),
-    }
-}
-
-/// The line that names the fault of a certificate.
-fn refusal_text(alloc: Global, fault: &CertFault) -> Result<Vec<u8>, AllocError>
-    ensures { IfOk result (λ text. text.items ≡
-        codes "refused " ++ cert_fault_text fault.now ++ codes "\n") }
-{
-    let mut text = Vec::from_slice(alloc, b"refused ")?;
-    let (name, number) = fault_words(fault);
-    text.extend_from_slice(name.as_bytes())?;
-    if let Some(number) = number {
-        let mut buffer = itoa::Buffer::new();
-        text.extend_from_slice(b" ")?;
-        text.extend_from_slice(buffer.format(number).as_bytes())?;
-    }
-    text.extend_from_slice(b"\n")?;
-    Ok(text)
-}
-
 /// The verdict on a certificate of a trace or film.
 pub(crate) fn check_viewer<'a, L: Library>(
     alloc: Global,
@@ -86,4 +53,37 @@ pub(crate) fn check_viewer<'a, L: Library>(
         Ok(()) => finish(0, Vec::from_slice(alloc, b"least\n")),
         Err(fault) => finish(1, refusal_text(alloc, &fault)),
     }
+}
+
+/// The name of a fault and the number that goes with it.
+fn fault_words(fault: &CertFault) -> (&'static str, Option<u64>)
+    ensures { AreFaultWords fault.now result.0.now result.1 }
+{
+    match fault {
+        CertFault::EmptySegment(segment) => ("EmptySegment", Some(*segment)),
+        CertFault::WrongLength => ("WrongLength", None),
+        CertFault::WrongTotal => ("WrongTotal", None),
+        CertFault::BelowLow(slot) => ("BelowLow", Some(*slot)),
+        CertFault::AboveUp(slot) => ("AboveUp", Some(*slot)),
+        CertFault::EqualSlopes(segment) => ("EqualSlopes", Some(*segment)),
+        CertFault::RiseOffUpper(segment) => ("RiseOffUpper", Some(*segment)),
+        CertFault::FallOffLower(segment) => ("FallOffLower", Some(*segment)),
+    }
+}
+
+/// The line that names the fault of a certificate.
+fn refusal_text(alloc: Global, fault: &CertFault) -> Result<Vec<u8>, AllocError>
+    ensures { IfOk result (λ text. text.items ≡
+        codes "refused " ++ cert_fault_text fault.now ++ codes "\n") }
+{
+    let mut text = Vec::from_slice(alloc, b"refused ")?;
+    let (name, number) = fault_words(fault);
+    text.extend_from_slice(name.as_bytes())?;
+    if let Some(number) = number {
+        let mut buffer = itoa::Buffer::new();
+        text.extend_from_slice(b" ")?;
+        text.extend_from_slice(buffer.format(number).as_bytes())?;
+    }
+    text.extend_from_slice(b"\n")?;
+    Ok(text)
 }

@@ -6,7 +6,8 @@ ghost use Rattle.command_words.specs.Ranges.{IsSourceInRange, IsViewerInRange};
 ghost use Rattle.troubles.specs.Causes.{IsReadOnly, IsReadTrouble};
 ghost use Rattle.inputs.specs.Files.{IsNamed};
 ghost use Rattle.inputs.specs.Scans.{IsFilmRefused};
-ghost use Rattle.vodserve.specs.Plans.{AreOfFilm, AreOfTrace, ArePictures, HasCurves, IsSourceTrouble, IsTraceRefused, IsViewerTrouble};
+ghost use Rattle.vodserve.specs.Plans.{AreOfFilm, AreOfTrace, ArePictures, HasCurves};
+ghost use Rattle.vodserve.specs.Plans.{IsSourceTrouble, IsTraceRefused, IsViewerTrouble};
 ghost use Rattle.vodserve.specs.Pictures.{AreWithinLimits, pictures_of};
 
 use crate::traces::load_trace;
@@ -17,6 +18,45 @@ use std::alloc::Global;
 use troubles::{Fault, Trouble};
 use vod_base::Library;
 use wire_curve::{CurveRefused, Curves, Timing, film_curves};
+
+/// Reads a trace or film and makes the curves of its viewer.
+pub(crate) fn viewer_curves<'a, L: Library>(
+    alloc: Global,
+    library: &mut L,
+    viewer: Viewer<'a>,
+) -> Result<Curves, Trouble<'a>>
+    requires { IsViewerInRange viewer }
+    ensures library { IsReadOnly (L.files library.old) (L.files library.new) (L.faults library.old)
+        (L.faults library.new) }
+    ensures sound { IfOk result (λ curves. IsSound curves.from curves.low.items curves.up.items) }
+    ensures curves { (held : List File) → L.files library.old ≡ Some held →
+        IfOk result (HasCurves held (viewer_of viewer.entry)) }
+    ensures trouble { IfErr result
+        (IsReadTrouble (IsNamed (source_name (viewer_of viewer.entry).source))
+        (IsViewerTrouble (viewer_of viewer.entry))
+        (L.files library.old) (L.faults library.old) (L.faults library.new)) }
+{
+    let pictures = match source_pictures(alloc, library, viewer.source) {
+        Ok(pictures) => pictures,
+        Err(trouble) => return Err(trouble),
+    };
+    let timing = Timing {
+        picture_units: pictures.picture,
+        slot_units: pictures.slot,
+        buffer: viewer.buffer,
+        delay: viewer.startup,
+        played: 0,
+        sent: 0,
+    };
+    match film_curves(alloc, &pictures.sizes, &timing) {
+        Ok(curves) => Ok(curves),
+        Err(CurveRefused::Fault(fault)) => Err(Trouble::Refused(
+            viewer.source.name(),
+            Fault::Curves(fault),
+        )),
+        Err(CurveRefused::NoMemory) => Err(Trouble::NoMemory),
+    }
+}
 
 /// The pictures of a trace or film.
 #[derive(Drop)]
@@ -100,44 +140,5 @@ fn source_pictures<'a, L: Library>(
     match source {
         Source::Trace(name) => trace_pictures(alloc, library, name),
         Source::Film(name, slot) => film_pictures(alloc, library, name, slot),
-    }
-}
-
-/// Reads a trace or film and makes the curves of its viewer.
-pub(crate) fn viewer_curves<'a, L: Library>(
-    alloc: Global,
-    library: &mut L,
-    viewer: Viewer<'a>,
-) -> Result<Curves, Trouble<'a>>
-    requires { IsViewerInRange viewer }
-    ensures library { IsReadOnly (L.files library.old) (L.files library.new) (L.faults library.old)
-        (L.faults library.new) }
-    ensures sound { IfOk result (λ curves. IsSound curves.from curves.low.items curves.up.items) }
-    ensures curves { (held : List File) → L.files library.old ≡ Some held →
-        IfOk result (HasCurves held (viewer_of viewer.entry)) }
-    ensures trouble { IfErr result
-        (IsReadTrouble (IsNamed (source_name (viewer_of viewer.entry).source))
-        (IsViewerTrouble (viewer_of viewer.entry))
-        (L.files library.old) (L.faults library.old) (L.faults library.new)) }
-{
-    let pictures = match source_pictures(alloc, library, viewer.source) {
-        Ok(pictures) => pictures,
-        Err(trouble) => return Err(trouble),
-    };
-    let timing = Timing {
-        picture_units: pictures.picture,
-        slot_units: pictures.slot,
-        buffer: viewer.buffer,
-        delay: viewer.startup,
-        played: 0,
-        sent: 0,
-    };
-    match film_curves(alloc, &pictures.sizes, &timing) {
-        Ok(curves) => Ok(curves),
-        Err(CurveRefused::Fault(fault)) => Err(Trouble::Refused(
-            viewer.source.name(),
-            Fault::Curves(fault),
-        )),
-        Err(CurveRefused::NoMemory) => Err(Trouble::NoMemory),
     }
 }

@@ -14,36 +14,6 @@ use std::alloc::Global;
 use troubles::Trouble;
 use vod_base::{Library, NoMemory, Sink};
 
-/// Prints what a day printed, and hands its journal out.
-fn end_day<O: Sink, E: Sink>(alloc: Global, out: &mut O, err: &mut E, day: Day) -> Ended
-    ensures journal { result.journal ≡ day.journal }
-    ensures reports { result.reports.items ≡ [] }
-    ensures count { O.faults out.old ≤ O.faults out.new }
-    ensures written { IsTextWritten (sight_of O.faults O.written out.old)
-        (sight_of O.faults O.written out.new)
-        (sight_of E.faults E.written err.old) (sight_of E.faults E.written err.new)
-        day.text.items result }
-{
-    let Day { text, journal } = day;
-    match out.write_all(&text) {
-        Ok(()) => Ended {
-            status: 0,
-            plan: None,
-            journal,
-            reports: Vec::new(alloc),
-        },
-        Err(_) => {
-            let ended = end_with(alloc, err, Trouble::SinkFault);
-            Ended {
-                status: ended.status,
-                plan: None,
-                journal,
-                reports: Vec::new(alloc),
-            }
-        }
-    }
-}
-
 /// Runs a script: reads it and what it names, runs it and prints what it printed.
 pub(crate) fn day<L: Library, O: Sink, E: Sink>(
     alloc: Global,
@@ -93,5 +63,35 @@ pub(crate) fn fair<O: Sink, E: Sink>(
     match run_fair(alloc, run) {
         Ok(day) => end_day(alloc, out, err, day),
         Err(NoMemory) => end_with(alloc, err, Trouble::NoMemory),
+    }
+}
+
+/// Prints what a day printed, and hands its journal out.
+fn end_day<O: Sink, E: Sink>(alloc: Global, out: &mut O, err: &mut E, day: Day) -> Ended
+    ensures journal { result.journal ≡ day.journal }
+    ensures reports { result.reports.items ≡ [] }
+    ensures count { O.faults out.old ≤ O.faults out.new }
+    ensures written { IsTextWritten (sight_of O.faults O.written out.old)
+        (sight_of O.faults O.written out.new)
+        (sight_of E.faults E.written err.old) (sight_of E.faults E.written err.new)
+        day.text.items result }
+{
+    let Day { text, journal } = day;
+    match out.write_all(&text) {
+        Ok(()) => Ended {
+            status: 0,
+            plan: None,
+            journal,
+            reports: Vec::new(alloc),
+        },
+        Err(_) => {
+            let ended = end_with(alloc, err, Trouble::SinkFault);
+            Ended {
+                status: ended.status,
+                plan: None,
+                journal,
+                reports: Vec::new(alloc),
+            }
+        }
     }
 }

@@ -14,7 +14,8 @@ ghost use Rattle.day_run.specs.declared.reels.Source.{Source};
 ghost use Rattle.day_run.specs.declared.scripts.Script.{Script};
 ghost use Rattle.troubles.specs.declared.faults.Fault.{Fault};
 ghost use Rattle.inputs.specs.Files.{IsNamed};
-ghost use Rattle.vodserve.specs.Days.{AreHeldAs, HoldsScript, IsDayRefused, IsFirstNamedRefused, IsHeldAs, IsNameOf};
+ghost use Rattle.vodserve.specs.Days.{AreHeldAs, HoldsScript, IsDayRefused, IsFirstNamedRefused};
+ghost use Rattle.vodserve.specs.Days.{IsHeldAs, IsNameOf};
 ghost use Rattle.vodserve.specs.Days.{IsNamedRefused, IsScriptRefused, names_in};
 
 use crate::serving::profile_of;
@@ -52,35 +53,6 @@ pub(crate) fn load_script<'a, L: Library>(
             Fault::BadScript(line),
         )),
         Err(ScriptRefused::NoMemory) => Err(Trouble::NoMemory),
-    }
-}
-
-/// A film or trace that a script names.
-fn load_source<'a, L: Library>(
-    alloc: Global,
-    library: &mut L,
-    named: &'a Named,
-) -> Result<Source, Trouble<'a>>
-    ensures library { IsReadOnly (L.files library.old) (L.files library.new)
-        (L.faults library.old) (L.faults library.new) }
-    ensures source { IfOk result IsSource }
-    ensures held { (held : List File) → L.files library.old ≡ Some held →
-        IfOk result (IsHeldAs held named.entry.now) }
-    ensures trouble { IfErr result (IsReadTrouble (IsNameOf named.entry.now)
-        (IsNamedRefused named.entry.now)
-        (L.files library.old) (L.faults library.old) (L.faults library.new)) }
-{
-    let name = named.name.as_str();
-    if named.film {
-        match load_script_film(alloc, library, name) {
-            Ok(film) => Ok(Source::Film(film)),
-            Err(trouble) => Err(trouble),
-        }
-    } else {
-        match load_trace(alloc, library, name) {
-            Ok(sizes) => Ok(Source::Trace(sizes)),
-            Err(trouble) => Err(trouble),
-        }
     }
 }
 
@@ -151,3 +123,33 @@ pub fn law_day_not_refused()
         (input : List ℕ) (fault : Fault) → HoldsScript held name script →
         AreHeldAs held script.named.items sources → IsDayRefused name held input fault → ⊥ }
 {}
+
+
+/// A film or trace that a script names.
+fn load_source<'a, L: Library>(
+    alloc: Global,
+    library: &mut L,
+    named: &'a Named,
+) -> Result<Source, Trouble<'a>>
+    ensures library { IsReadOnly (L.files library.old) (L.files library.new)
+        (L.faults library.old) (L.faults library.new) }
+    ensures source { IfOk result IsSource }
+    ensures held { (held : List File) → L.files library.old ≡ Some held →
+        IfOk result (IsHeldAs held named.entry.now) }
+    ensures trouble { IfErr result (IsReadTrouble (IsNameOf named.entry.now)
+        (IsNamedRefused named.entry.now)
+        (L.files library.old) (L.faults library.old) (L.faults library.new)) }
+{
+    let name = named.name.as_str();
+    if named.film {
+        match load_script_film(alloc, library, name) {
+            Ok(film) => Ok(Source::Film(film)),
+            Err(trouble) => Err(trouble),
+        }
+    } else {
+        match load_trace(alloc, library, name) {
+            Ok(sizes) => Ok(Source::Trace(sizes)),
+            Err(trouble) => Err(trouble),
+        }
+    }
+}

@@ -1,4 +1,5 @@
-ghost use Rattle.std.specs.Prelude.{◌≡◌, ◌≤◌, ◌⊎◌, None, Bool, length, ℕ, List, Option, Result, IfOk, IfErr};
+ghost use Rattle.std.specs.Prelude.{◌≡◌, ◌≤◌, ◌⊎◌, None, Bool, length, ℕ, List, Option, Result};
+ghost use Rattle.std.specs.Prelude.{IfOk, IfErr};
 ghost use Rattle.command_words.specs.Words.{Order, check_of, meaning};
 ghost use Rattle.command_words.specs.Settings.{texts};
 ghost use Rattle.plan_cert.specs.declared.Segment.{Segment};
@@ -6,12 +7,15 @@ ghost use Rattle.troubles.specs.Causes.{IsReadOnly, IsReadTrouble};
 ghost use Rattle.troubles.specs.declared.faults.Fault.{Fault};
 ghost use Rattle.vod_base.specs.Outside.{File};
 ghost use Rattle.command_words.specs.Words.{Viewer};
-ghost use Rattle.vodserve.specs.Carrying.{IsChecked, IsDone, IsInputRefused, IsPlanned, IsRead, IsViewerRefused};
+ghost use Rattle.vodserve.specs.Carrying.{IsChecked, IsDone, IsInputRefused, IsPlanned, IsRead};
+ghost use Rattle.vodserve.specs.Carrying.{IsViewerRefused};
 ghost use Rattle.command_words.specs.Orders.{serving_of};
 ghost use Rattle.command_words.specs.Ranges.{IsServingInRange};
 ghost use Rattle.vodserve.specs.Served.{served_text};
-ghost use Rattle.vodserve.specs.Laws.{GivesEachBack, LeavesNoneOut, ServesEach, ServesNoRefused, ServesWhatItMay, TellsItsJournal};
-ghost use Rattle.vodserve.specs.Run.{Ends, Fails, HasServedNothing, Printed, Ran, Serves, gate_seen, sight_of, world};
+ghost use Rattle.vodserve.specs.Laws.{GivesEachBack, LeavesNoneOut, ServesEach, ServesNoRefused};
+ghost use Rattle.vodserve.specs.Laws.{ServesWhatItMay, TellsItsJournal};
+ghost use Rattle.vodserve.specs.Run.{Ends, Fails, HasServedNothing, Printed, Ran, Serves};
+ghost use Rattle.vodserve.specs.Run.{gate_seen, sight_of, world};
 
 use crate::checks::check_viewer;
 use crate::day_ends::{day, fair};

@@ -1,5 +1,6 @@
 ghost use Rattle.std.specs.Prelude.{◌≡◌, ◌++◌, List, ℕ, codes, decimal, IfOk, OnOk};
-ghost use Rattle.vodserve.specs.ScanText.{kind_text, mark, unit_name, unit_places, unit_marks, unit_line, unit_lines, film_line, scan_text};
+ghost use Rattle.vodserve.specs.ScanText.{kind_text, mark, unit_name, unit_places, unit_marks};
+ghost use Rattle.vodserve.specs.ScanText.{unit_line, unit_lines, film_line, scan_text};
 
 use itoa::Buffer;
 use mpeg_scan::{Kind, Unit};

@@ -15,6 +15,22 @@ use vod_base::{
     Event, MemoryGate, MemoryLibrary, MemoryLink, MemoryPart, MemorySink, NoMemory, read_number,
 };
 
+/// The most bytes that an object in memory keeps.
+const ROOM: usize = 1 << 25;
+
+/// Plays a script. Where memory is refused, that is said by its name, and the script is played once
+/// more.
+pub(crate) fn passes<R: Threads + Wait + Sync + Abort>(
+    rt: &R,
+    alloc: Global,
+    script: &str,
+) -> Result<(), Fail> {
+    if play_out(rt, alloc, script).is_err() {
+        play_out(rt, alloc, script)?;
+    }
+    Ok(())
+}
+
 /// The objects of the next run, and what the last run left that no line has read yet.
 #[derive(Drop)]
 struct Stage {
@@ -45,9 +61,6 @@ struct Left {
     sent: Vec<Vec<u8>>,
     read: usize,
 }
-
-/// The most bytes that an object in memory keeps.
-const ROOM: usize = 1 << 25;
 
 fn no_failing(alloc: Global) -> Failing {
     Failing {
@@ -478,19 +491,6 @@ fn play_out<R: Threads + Wait + Sync + Abort>(
         } else if !line.is_empty() && word != "#" && !stage.set(alloc, word, rest)? {
             stage.check(rt, alloc, word, rest)?;
         }
-    }
-    Ok(())
-}
-
-/// Plays a script. Where memory is refused, that is said by its name, and the script is played once
-/// more.
-pub(crate) fn passes<R: Threads + Wait + Sync + Abort>(
-    rt: &R,
-    alloc: Global,
-    script: &str,
-) -> Result<(), Fail> {
-    if play_out(rt, alloc, script).is_err() {
-        play_out(rt, alloc, script)?;
     }
     Ok(())
 }

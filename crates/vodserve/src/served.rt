@@ -16,6 +16,38 @@ use std::alloc::Global;
 use troubles::Trouble;
 use vod_base::{NoMemory, Sink};
 
+/// Writes the text of a closed server, and answers what went wrong: want of memory before the
+/// output before the gate.
+pub(crate) fn print_served<O: Sink>(
+    alloc: Global,
+    out: &mut O,
+    closed: &Closed,
+) -> Option<Trouble<'static>>
+    ensures count { O.faults out.old ≤ O.faults out.new }
+    ensures printed { IsPrinted (O.faults out.old) (O.faults out.new) (O.written out.old)
+        (O.written out.new)
+        (served_text closed.now.book.entries (length closed.now.reports.items))
+        closed.now.end result }
+{
+    let Ok(text) = served_text(alloc, &closed.book, closed.reports.len() as u64) else {
+        return Some(Trouble::NoMemory);
+    };
+    match closed.end {
+        PartEnd::NoMemory => {
+            let _ = out.write_all(&text);
+            Some(Trouble::NoMemory)
+        }
+        PartEnd::GateFault => match out.write_all(&text) {
+            Ok(()) => Some(Trouble::GateFault),
+            Err(_) => Some(Trouble::SinkFault),
+        },
+        PartEnd::AllTaken => match out.write_all(&text) {
+            Ok(()) => None,
+            Err(_) => Some(Trouble::SinkFault),
+        },
+    }
+}
+
 /// Appends a piece of text.
 fn push(text: &mut Vec<u8>, piece: &[u8]) -> Result<(), NoMemory>
     ensures { OnOk result (text.new.items ≡ text.old.items ++ piece.now) }
@@ -67,36 +99,4 @@ fn served_text(alloc: Global, book: &Book, connections: u64) -> Result<Vec<u8>, 
     calendar_text(calendar, &mut text)?;
     push_last(&mut text, connections, entries.len() as u64)?;
     Ok(text)
-}
-
-/// Writes the text of a closed server, and answers what went wrong: want of memory before the
-/// output before the gate.
-pub(crate) fn print_served<O: Sink>(
-    alloc: Global,
-    out: &mut O,
-    closed: &Closed,
-) -> Option<Trouble<'static>>
-    ensures count { O.faults out.old ≤ O.faults out.new }
-    ensures printed { IsPrinted (O.faults out.old) (O.faults out.new) (O.written out.old)
-        (O.written out.new)
-        (served_text closed.now.book.entries (length closed.now.reports.items))
-        closed.now.end result }
-{
-    let Ok(text) = served_text(alloc, &closed.book, closed.reports.len() as u64) else {
-        return Some(Trouble::NoMemory);
-    };
-    match closed.end {
-        PartEnd::NoMemory => {
-            let _ = out.write_all(&text);
-            Some(Trouble::NoMemory)
-        }
-        PartEnd::GateFault => match out.write_all(&text) {
-            Ok(()) => Some(Trouble::GateFault),
-            Err(_) => Some(Trouble::SinkFault),
-        },
-        PartEnd::AllTaken => match out.write_all(&text) {
-            Ok(()) => None,
-            Err(_) => Some(Trouble::SinkFault),
-        },
-    }
 }

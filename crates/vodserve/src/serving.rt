@@ -1,4 +1,5 @@
-ghost use Rattle.std.specs.Prelude.{◌≡◌, ◌≤◌, ◌++◌, Some, true, codes, All, IfSome, IfOk, IfErr, OnOk};
+ghost use Rattle.std.specs.Prelude.{◌≡◌, ◌≤◌, ◌++◌, Some, true, codes, All, IfSome, IfOk, IfErr};
+ghost use Rattle.std.specs.Prelude.{OnOk};
 ghost use Rattle.std.specs.List.{Contains};
 ghost use Rattle.std.specs.Option.{option_to_list};
 ghost use Rattle.vod_base.specs.Outside.{HasRisen};
@@ -12,7 +13,8 @@ ghost use Rattle.command_words.specs.Orders.{serving_of};
 ghost use Rattle.command_words.specs.Ranges.{IsServingInRange};
 ghost use Rattle.troubles.specs.Causes.{IsReadOnly, IsReadTrouble};
 ghost use Rattle.inputs.specs.Films.{IsHeldRefused};
-ghost use Rattle.vodserve.specs.Served.{HasFewer, IsFirstRefused, IsJournal, IsNewlyOpen, IsServeTrouble, IsWordNamed};
+ghost use Rattle.vodserve.specs.Served.{HasFewer, IsFirstRefused, IsJournal, IsNewlyOpen};
+ghost use Rattle.vodserve.specs.Served.{IsServeTrouble, IsWordNamed};
 ghost use Rattle.vodserve.specs.Worked.{AreLoaded, HaveWorked, IsHeld, opening_of};
 ghost use Rattle.vodserve.specs.Workers.{IsMakeTrouble};
 
@@ -48,63 +50,6 @@ pub(crate) struct Closed {
     pub(crate) end: PartEnd,
 }
 
-/// Loads the film that a word names, if it names one.
-fn add_film<'a, L: Library>(
-    alloc: Global,
-    library: &mut L,
-    films: &mut Vec<Stored>,
-    word: &'a str,
-) -> Result<(), Trouble<'a>>
-    ensures library { IsReadOnly (L.files library.old) (L.files library.new)
-        (L.faults library.old) (L.faults library.new) }
-    ensures added { OnOk result (names_of films.new.items
-        ≡ names_of films.old.items
-        ++ option_to_list (setting_value (codes "film") word.entry.now)) }
-    ensures held { All (IsHeld (L.files library.old)) films.old.items →
-        OnOk result (All (IsHeld (L.files library.old)) films.new.items) }
-    ensures trouble { IfErr result (IsReadTrouble (IsWordNamed word.entry.now) IsHeldRefused
-        (L.files library.old) (L.faults library.old) (L.faults library.new)) }
-{
-    let Some(name) = film_named(word) else {
-        return Ok(());
-    };
-    let film = match load_film(alloc, library, name) {
-        Ok(film) => film,
-        Err(trouble) => return Err(trouble),
-    };
-    match films.push(film) {
-        Ok(()) => Ok(()),
-        Err(_) => Err(Trouble::NoMemory),
-    }
-}
-
-/// Loads the films that the words name, one by one: the first that is refused is named.
-fn load_films<'a, L: Library>(
-    alloc: Global,
-    library: &mut L,
-    words: &'a [String],
-) -> Result<Vec<Stored>, Trouble<'a>>
-    requires { are_films (values_of (codes "film") (texts words.now)) ≡ true }
-    ensures library { IsReadOnly (L.files library.old) (L.files library.new)
-        (L.faults library.old) (L.faults library.new) }
-    ensures films { IfOk result (λ films. AreFilms films.items) }
-    ensures loaded { IfOk result (λ films. AreLoaded (L.files library.old)
-        (values_of (codes "film") (texts words.entry.now)) films.items) }
-    ensures trouble { IfErr result (IsReadTrouble
-        (Contains (values_of (codes "film") (texts words.entry.now)))
-        (IsFirstRefused (values_of (codes "film") (texts words.entry.now)))
-        (L.files library.old) (L.faults library.old) (L.faults library.new)) }
-{
-    let mut films = Vec::new(alloc);
-    for word in words {
-        match add_film(alloc, library, &mut films, word.as_str()) {
-            Ok(()) => {}
-            Err(trouble) => return Err(trouble),
-        }
-    }
-    Ok(films)
-}
-
 /// The capacity of these steps.
 pub(crate) fn profile_of(alloc: Global, steps: &[CapStep]) -> Result<Profile, NoMemory>
     requires { IsProfile steps.now }
@@ -114,22 +59,6 @@ pub(crate) fn profile_of(alloc: Global, steps: &[CapStep]) -> Result<Profile, No
         Ok(steps) => Ok(Profile::new(steps)),
         Err(_) => Err(NoMemory),
     }
-}
-
-/// A station of that capacity, and its first seat.
-fn make_station(alloc: Global, steps: &[CapStep], limit: u64) -> Result<(Station, Seat), NoMemory>
-    requires profile { IsProfile steps.now }
-    requires some { 2 ≤ limit }
-    requires few { limit ≤ 1048576 }
-    ensures steps { IfOk result (λ made. made.0.steps ≡ steps.now) }
-    ensures limit { IfOk result (λ made. made.0.limit ≡ limit) }
-    ensures seat { IfOk result (λ made. made.1 ≡ first_seat made.0) }
-{
-    let profile = match profile_of(alloc, steps) {
-        Ok(profile) => profile,
-        Err(NoMemory) => return Err(NoMemory),
-    };
-    Station::new(alloc, profile, limit)
 }
 
 /// Loads the films, opens the gate and makes the station, in this order.
@@ -244,4 +173,77 @@ where
     let end = join_workers(&station, &mut seat, gate, workers, &mut reports);
     let book = station.close(seat);
     Ok(Closed { book, reports, end })
+}
+
+/// Loads the film that a word names, if it names one.
+fn add_film<'a, L: Library>(
+    alloc: Global,
+    library: &mut L,
+    films: &mut Vec<Stored>,
+    word: &'a str,
+) -> Result<(), Trouble<'a>>
+    ensures library { IsReadOnly (L.files library.old) (L.files library.new)
+        (L.faults library.old) (L.faults library.new) }
+    ensures added { OnOk result (names_of films.new.items
+        ≡ names_of films.old.items
+        ++ option_to_list (setting_value (codes "film") word.entry.now)) }
+    ensures held { All (IsHeld (L.files library.old)) films.old.items →
+        OnOk result (All (IsHeld (L.files library.old)) films.new.items) }
+    ensures trouble { IfErr result (IsReadTrouble (IsWordNamed word.entry.now) IsHeldRefused
+        (L.files library.old) (L.faults library.old) (L.faults library.new)) }
+{
+    let Some(name) = film_named(word) else {
+        return Ok(());
+    };
+    let film = match load_film(alloc, library, name) {
+        Ok(film) => film,
+        Err(trouble) => return Err(trouble),
+    };
+    match films.push(film) {
+        Ok(()) => Ok(()),
+        Err(_) => Err(Trouble::NoMemory),
+    }
+}
+
+/// Loads the films that the words name, one by one: the first that is refused is named.
+fn load_films<'a, L: Library>(
+    alloc: Global,
+    library: &mut L,
+    words: &'a [String],
+) -> Result<Vec<Stored>, Trouble<'a>>
+    requires { are_films (values_of (codes "film") (texts words.now)) ≡ true }
+    ensures library { IsReadOnly (L.files library.old) (L.files library.new)
+        (L.faults library.old) (L.faults library.new) }
+    ensures films { IfOk result (λ films. AreFilms films.items) }
+    ensures loaded { IfOk result (λ films. AreLoaded (L.files library.old)
+        (values_of (codes "film") (texts words.entry.now)) films.items) }
+    ensures trouble { IfErr result (IsReadTrouble
+        (Contains (values_of (codes "film") (texts words.entry.now)))
+        (IsFirstRefused (values_of (codes "film") (texts words.entry.now)))
+        (L.files library.old) (L.faults library.old) (L.faults library.new)) }
+{
+    let mut films = Vec::new(alloc);
+    for word in words {
+        match add_film(alloc, library, &mut films, word.as_str()) {
+            Ok(()) => {}
+            Err(trouble) => return Err(trouble),
+        }
+    }
+    Ok(films)
+}
+
+/// A station of that capacity, and its first seat.
+fn make_station(alloc: Global, steps: &[CapStep], limit: u64) -> Result<(Station, Seat), NoMemory>
+    requires profile { IsProfile steps.now }
+    requires some { 2 ≤ limit }
+    requires few { limit ≤ 1048576 }
+    ensures steps { IfOk result (λ made. made.0.steps ≡ steps.now) }
+    ensures limit { IfOk result (λ made. made.0.limit ≡ limit) }
+    ensures seat { IfOk result (λ made. made.1 ≡ first_seat made.0) }
+{
+    let profile = match profile_of(alloc, steps) {
+        Ok(profile) => profile,
+        Err(NoMemory) => return Err(NoMemory),
+    };
+    Station::new(alloc, profile, limit)
 }

@@ -8,8 +8,10 @@ ghost use Rattle.command_words.specs.Orders.{watching_of};
 ghost use Rattle.command_words.specs.Ranges.{IsWatchingInRange};
 ghost use Rattle.conn.specs.Parts.{IsUntouched};
 ghost use Rattle.troubles.specs.Said.{IsSaid};
-ghost use Rattle.vodserve.specs.Run.{EndsWatch, HasServedNothing, SaysWatched, Watches, gate_seen, sight_of};
-ghost use Rattle.vodserve.specs.Watches.{Hears, HearsPart, IsSameOutput, IsWishOf, opening_at, refusal_of, watched_text};
+ghost use Rattle.vodserve.specs.Run.{EndsWatch, HasServedNothing, SaysWatched, Watches, gate_seen};
+ghost use Rattle.vodserve.specs.Run.{sight_of};
+ghost use Rattle.vodserve.specs.Watches.{Hears, HearsPart, IsSameOutput, IsWishOf, opening_at};
+ghost use Rattle.vodserve.specs.Watches.{refusal_of, watched_text};
 ghost use Rattle.vodserve.specs.Worked.{IsOpenAs};
 
 use crate::run::{Ended, end_with};
@@ -18,6 +20,38 @@ use rtsp_client::{WatchEnd, WatchFault, Watched, Wish, watch};
 use std::alloc::Global;
 use troubles::{Fault, Trouble, add, add_count};
 use vod_base::{Gate, GateFault, NoMemory, Opening, Sink};
+
+/// Watches a film that a server plays: writes the film's bytes as they come, and says at the end
+/// what the meter of the client's buffer read.
+pub(crate) fn watch_film<O: Sink, E: Sink, G: Gate + Drop>(
+    alloc: Global,
+    out: &mut O,
+    err: &mut E,
+    gate: &mut G,
+    watching: &Watching<'_>,
+) -> Ended
+    requires { IsWatchingInRange watching.now }
+    ensures output { O.faults out.old ≤ O.faults out.new }
+    ensures gate { G.faults gate.old ≤ G.faults gate.new }
+    ensures watches { Watches
+        (sight_of O.faults O.written out.old) (sight_of O.faults O.written out.new)
+        (sight_of E.faults E.written err.old) (sight_of E.faults E.written err.new)
+        (gate_seen G.faults G.told gate.old) (gate_seen G.faults G.told gate.new)
+        (watching_of watching.entry.now) result }
+{
+    let Ok(wish) = wish_of(alloc, watching) else {
+        return end_with(alloc, err, Trouble::NoMemory);
+    };
+    match watch_gate(alloc, out, gate, &wish) {
+        Ok(Some(end)) => end_watch(alloc, err, watching.film, end),
+        Ok(None) => end_with(
+            alloc,
+            err,
+            Trouble::Refused(watching.film, Fault::NoConnection),
+        ),
+        Err(_) => end_with(alloc, err, Trouble::GateFault),
+    }
+}
 
 /// The refusal that comes of a server's fault.
 fn refusal_of(fault: WatchFault) -> Fault
@@ -166,37 +200,5 @@ fn end_watch<E: Sink>(alloc: Global, err: &mut E, film: &str, end: WatchEnd) -> 
         WatchEnd::LinkFault => end_with(alloc, err, Trouble::LinkFault),
         WatchEnd::SinkFault => end_with(alloc, err, Trouble::SinkFault),
         WatchEnd::NoMemory => end_with(alloc, err, Trouble::NoMemory),
-    }
-}
-
-/// Watches a film that a server plays: writes the film's bytes as they come, and says at the end
-/// what the meter of the client's buffer read.
-pub(crate) fn watch_film<O: Sink, E: Sink, G: Gate + Drop>(
-    alloc: Global,
-    out: &mut O,
-    err: &mut E,
-    gate: &mut G,
-    watching: &Watching<'_>,
-) -> Ended
-    requires { IsWatchingInRange watching.now }
-    ensures output { O.faults out.old ≤ O.faults out.new }
-    ensures gate { G.faults gate.old ≤ G.faults gate.new }
-    ensures watches { Watches
-        (sight_of O.faults O.written out.old) (sight_of O.faults O.written out.new)
-        (sight_of E.faults E.written err.old) (sight_of E.faults E.written err.new)
-        (gate_seen G.faults G.told gate.old) (gate_seen G.faults G.told gate.new)
-        (watching_of watching.entry.now) result }
-{
-    let Ok(wish) = wish_of(alloc, watching) else {
-        return end_with(alloc, err, Trouble::NoMemory);
-    };
-    match watch_gate(alloc, out, gate, &wish) {
-        Ok(Some(end)) => end_watch(alloc, err, watching.film, end),
-        Ok(None) => end_with(
-            alloc,
-            err,
-            Trouble::Refused(watching.film, Fault::NoConnection),
-        ),
-        Err(_) => end_with(alloc, err, Trouble::GateFault),
     }
 }

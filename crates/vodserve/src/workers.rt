@@ -1,4 +1,5 @@
-ghost use Rattle.std.specs.Prelude.{◌≡◌, ◌<◌, ◌≤◌, ◌⊎◌, ◌++◌, ◌∷◌, [], List, length, map, All, IfSome, IfErr, OnOk};
+ghost use Rattle.std.specs.Prelude.{◌≡◌, ◌<◌, ◌≤◌, ◌⊎◌, ◌++◌, ◌∷◌, [], List, length, map, All};
+ghost use Rattle.std.specs.Prelude.{IfSome, IfErr, OnOk};
 ghost use Rattle.vod_base.specs.Outside.{HasRisen};
 ghost use Rattle.vod_base.specs.declared.gates.Opening.{Opening};
 ghost use Rattle.session.specs.Standings.{AreFilms, AreSettings};
@@ -6,7 +7,8 @@ ghost use Rattle.station.specs.Seats.{first_seat};
 ghost use Rattle.conn.specs.declared.reports.PartReport.{PartReport};
 ghost use Rattle.vodserve.specs.Served.{HasFewer, IsNewlyOpen};
 ghost use Rattle.vodserve.specs.Worked.{AreLeft, IsOpenAs, IsWorse};
-ghost use Rattle.vodserve.specs.Workers.{AreJoined, AreOut, AreWorkers, HasFinished, IsFresh, IsMakeTrouble, IsWorker, report_of, split_seat};
+ghost use Rattle.vodserve.specs.Workers.{AreJoined, AreOut, AreWorkers, HasFinished, IsFresh};
+ghost use Rattle.vodserve.specs.Workers.{IsMakeTrouble, IsWorker, report_of, split_seat};
 
 use conn::{ConnReport, PartEnd, PartReport, serve_part};
 use film_frames::Stored;
@@ -83,30 +85,6 @@ pub(crate) fn make_workers<G: Gate + Drop>(
     Ok(())
 }
 
-/// Serves the connections of the worker's part.
-fn work<R: Wait, G: Gate>(rt: &R, alloc: Global, service: Service<'_>, worker: &mut Worker<G>)
-    requires worker { IsWorker G.told G.faults service.station.now worker.old }
-    requires fresh { IsFresh G.told G.faults worker.old }
-    requires settings { AreSettings service.settings.now }
-    requires films { AreFilms service.films.now }
-    ensures number { worker.new.number ≡ worker.old.number }
-    ensures worker { IsWorker G.told G.faults service.entry.station.now worker.new }
-    ensures finished { HasFinished G.told G.faults service.entry.films.now
-        service.entry.settings.now service.entry.seed worker.new }
-{
-    worker.report = serve_part(
-        rt,
-        alloc,
-        service.station,
-        &mut worker.seat,
-        service.films,
-        service.settings,
-        service.seed,
-        worker.number,
-        &mut worker.part,
-    );
-}
-
 /// Runs the workers side by side, or one after another where no thread can be made.
 pub(crate) fn run_workers<R: Threads + Wait + Sync, G: Gate + Send + Drop>(
     rt: &R,
@@ -141,33 +119,6 @@ where
                 service.entry.settings.now service.entry.seed worker.exit.now }
         { work(rt, alloc, service, worker) },
     );
-}
-
-/// The worse of two ends: want of memory before a fault of the gate.
-fn worse(one: PartEnd, other: PartEnd) -> PartEnd
-    ensures { IsWorse one other result }
-{
-    match (one, other) {
-        (PartEnd::NoMemory, _) | (_, PartEnd::NoMemory) => PartEnd::NoMemory,
-        (PartEnd::GateFault, _) => PartEnd::GateFault,
-        (PartEnd::AllTaken, other) => other,
-    }
-}
-
-/// Appends a worker's reports, and answers the worse of its end and of another, or want of memory
-/// where there was none for the reports.
-fn add_reports(end: PartEnd, report: PartReport, reports: &mut Vec<ConnReport>) -> PartEnd
-    ensures left { (parts : List PartReport) → AreLeft parts end reports.old.items →
-        AreLeft (parts ++ report ∷ []) result reports.new.items }
-{
-    let PartReport {
-        end: other,
-        reports: mut more,
-    } = report;
-    match reports.append(&mut more) {
-        Ok(()) => worse(end, other),
-        Err(_) => PartEnd::NoMemory,
-    }
 }
 
 /// Joins the workers' seats and parts, collects their reports in the order of the workers, and
@@ -205,4 +156,55 @@ pub(crate) fn join_workers<G: Gate + Drop>(
         end = add_reports(end, report, reports);
     }
     end
+}
+
+/// Serves the connections of the worker's part.
+fn work<R: Wait, G: Gate>(rt: &R, alloc: Global, service: Service<'_>, worker: &mut Worker<G>)
+    requires worker { IsWorker G.told G.faults service.station.now worker.old }
+    requires fresh { IsFresh G.told G.faults worker.old }
+    requires settings { AreSettings service.settings.now }
+    requires films { AreFilms service.films.now }
+    ensures number { worker.new.number ≡ worker.old.number }
+    ensures worker { IsWorker G.told G.faults service.entry.station.now worker.new }
+    ensures finished { HasFinished G.told G.faults service.entry.films.now
+        service.entry.settings.now service.entry.seed worker.new }
+{
+    worker.report = serve_part(
+        rt,
+        alloc,
+        service.station,
+        &mut worker.seat,
+        service.films,
+        service.settings,
+        service.seed,
+        worker.number,
+        &mut worker.part,
+    );
+}
+
+/// The worse of two ends: want of memory before a fault of the gate.
+fn worse(one: PartEnd, other: PartEnd) -> PartEnd
+    ensures { IsWorse one other result }
+{
+    match (one, other) {
+        (PartEnd::NoMemory, _) | (_, PartEnd::NoMemory) => PartEnd::NoMemory,
+        (PartEnd::GateFault, _) => PartEnd::GateFault,
+        (PartEnd::AllTaken, other) => other,
+    }
+}
+
+/// Appends a worker's reports, and answers the worse of its end and of another, or want of memory
+/// where there was none for the reports.
+fn add_reports(end: PartEnd, report: PartReport, reports: &mut Vec<ConnReport>) -> PartEnd
+    ensures left { (parts : List PartReport) → AreLeft parts end reports.old.items →
+        AreLeft (parts ++ report ∷ []) result reports.new.items }
+{
+    let PartReport {
+        end: other,
+        reports: mut more,
+    } = report;
+    match reports.append(&mut more) {
+        Ok(()) => worse(end, other),
+        Err(_) => PartEnd::NoMemory,
+    }
 }

@@ -3,7 +3,8 @@
 ghost use Rattle.std.specs.Prelude.{◌≡◌, IfOk, length, true};
 ghost use Rattle.interleave.specs.Pieces.{IsRequestLength};
 ghost use Rattle.session.specs.Ranges.{AreFilms};
-ghost use Rattle.session.specs.Standings.{AsksFor, IsAtRest, IsHalt, IsLook, IsOffer, IsPlay, awaits, open_of};
+ghost use Rattle.session.specs.Standings.{AsksFor, IsAtRest, IsHalt, IsLook, IsOffer, IsPlay};
+ghost use Rattle.session.specs.Standings.{awaits, open_of};
 
 use crate::films::server_films;
 use crate::scripts::{bytes_of, message_of, numbers_of, word_and_rest};

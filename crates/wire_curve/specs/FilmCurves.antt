@@ -1,7 +1,8 @@
 -- What a client's player has used by the end of each slot, and the two curves that follow (Salehi,
 -- Zhang, Kurose and Towsley 1998): the bytes sent must have reached what is used, and the rest must
 -- fit in the client's buffer.
-use Rattle.std.specs.Prelude.{◌≡◌, ℕ, ◌+◌, ◌-◌, ◌*◌, ◌/◌, ◌^◌, ◌<◌, ◌≤◌, List, length, sum, sum_by, slice_index, nat_lt, ◌==◌, if◌then◌else◌, max, min}
+use Rattle.std.specs.Prelude.{◌≡◌, ℕ, ◌+◌, ◌-◌, ◌*◌, ◌/◌, ◌^◌, ◌<◌, ◌≤◌, List, length, sum, sum_by}
+use Rattle.std.specs.Prelude.{slice_index, nat_lt, ◌==◌, if◌then◌else◌, max, min}
 use Rattle.std.specs.List.{range_with_len}
 use Rattle.wire_curve.specs.declared.film.Timing.{Timing}
 use Rattle.wire_curve.specs.declared.curves.Curves.{Curves}

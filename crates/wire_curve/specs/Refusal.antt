@@ -2,7 +2,8 @@
 use Rattle.std.specs.Prelude.{◌≡◌, ℕ, ◌<◌, ◌≤◌, List, length}
 use Rattle.wire_curve.specs.declared.film.Timing.{Timing}
 use Rattle.wire_curve.specs.declared.film.CurveFault.{CurveFault}
-use Rattle.wire_curve.specs.declared.film.CurveFault.TheVariants.{NoPictures, TooManySlots, BufferTooSmall}
+use Rattle.wire_curve.specs.declared.film.CurveFault.TheVariants.{NoPictures, TooManySlots}
+use Rattle.wire_curve.specs.declared.film.CurveFault.TheVariants.{BufferTooSmall}
 use Rattle.wire_curve.specs.declared.film.CurveRefused.{CurveRefused}
 use Rattle.wire_curve.specs.declared.film.CurveRefused.TheVariants.{Fault, NoMemory}
 use Rattle.wire_curve.specs.FilmCurves.{slot_count, bytes_used_in}

@@ -3,7 +3,8 @@
 ghost use Rattle.std.specs.Prelude.{◌≡◌, ℕ, ◌+◌, ◌-◌, ◌<◌, ◌≤◌, ◌^◌, length, sum, slice_index};
 ghost use Rattle.std.specs.Prelude.{vec_len, IfOk, IfErr, IfSome, IfNone, OnOk, All, max, min};
 ghost use Rattle.wire_curve.specs.Sound.{IsSound};
-ghost use Rattle.wire_curve.specs.FilmCurves.{due_slot, bytes_used_in, total_of, slot_count, IsWithinLimits};
+ghost use Rattle.wire_curve.specs.FilmCurves.{due_slot, bytes_used_in, total_of, slot_count};
+ghost use Rattle.wire_curve.specs.FilmCurves.{IsWithinLimits};
 ghost use Rattle.wire_curve.specs.FilmCurves.{AreFilmCurves};
 ghost use Rattle.wire_curve.specs.Uses.{AreUses, IsFaultOfUses, AreCurvesOfUses, IsLowerOfUses};
 ghost use Rattle.wire_curve.specs.Uses.{IsUpperOfUses};
