@@ -3,6 +3,7 @@
 use mpeg_scan::FilmFault;
 use sys_demux::SystemFault;
 use thiserror::Error;
+use vod_base::NoMemory;
 use wire_curve::CurveFault;
 
 /// Why an input is refused.
@@ -79,4 +80,15 @@ pub enum Trouble<'a> {
     /// The link to a server failed.
     #[error("the connection failed")]
     LinkFault,
+}
+
+impl From<NoMemory> for Trouble<'_> {
+    ghost use Rattle.std.specs.Prelude.{◌≡◌};
+    ghost use Rattle.troubles.specs.declared.faults.Trouble.TheVariants.{NoMemory as TroubleNoMemory};
+
+    ghost from_gives = { λ _ trouble. trouble ≡ TroubleNoMemory };
+
+    fn from(_fault: NoMemory) -> Self {
+        Trouble::NoMemory
+    }
 }

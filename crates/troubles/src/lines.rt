@@ -74,7 +74,6 @@ pub fn law_line_tells_trouble()
         trouble_text trouble ≡ trouble_text trouble' → message_of trouble ≡ message_of trouble' }
 {}
 
-
 /// Writes a blank and a number.
 fn add_number<S: Sink>(sink: &mut S, going: bool, number: u64) -> bool
     ensures { GoesOn (S.faults sink.old) (S.faults sink.new) (S.written sink.old)

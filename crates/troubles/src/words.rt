@@ -13,8 +13,11 @@ use wire_curve::CurveFault;
 /// A refusal's name, and the numbers that go with it: the first `count` of three.
 #[derive(Clone, Copy)]
 pub(crate) struct Words {
+    /// The refusal's name, as it is printed.
     pub(crate) name: &'static str,
+    /// The numbers in their order, and 0 after them.
     pub(crate) numbers: [u64; 3],
+    /// How many of the numbers are printed.
     pub(crate) count: usize,
 }
 
@@ -63,6 +66,7 @@ fn name_at(name: &'static str, place: u64) -> Words
     }
 }
 
+/// The words of a refusal of a film's curves.
 fn curve_fault_words(fault: CurveFault) -> Words
     ensures { Spells result (curve_fault_words fault) }
 {
@@ -77,6 +81,7 @@ fn curve_fault_words(fault: CurveFault) -> Words
     }
 }
 
+/// The words of a refusal of a film; places are in bytes from its first one.
 fn film_fault_words(fault: FilmFault) -> Words
     ensures { Spells result (film_fault_words fault) }
 {
@@ -100,6 +105,7 @@ fn film_fault_words(fault: FilmFault) -> Words
     }
 }
 
+/// The words of a refusal of a system stream; places are in bytes from its first one.
 fn system_fault_words(fault: SystemFault) -> Words
     ensures { Spells result (system_fault_words fault) }
 {
