@@ -9,7 +9,7 @@ use Rattle.sys_demux.specs.Contents.{video_in}
 use Rattle.sys_demux.specs.Items.{Item, with_prefix, item_bytes, zeros_of, choose, is_chosen}
 use Rattle.sys_demux.specs.Items.{chosen_next, chosen_after, IsItem, AreItems, video_of, bytes_of}
 use Rattle.sys_demux.specs.Items.Item.{Pack, Packet}
-use Rattle.sys_demux.specs.Streams.{IsEnd, IsCut, IsFault, IsSystem, IsRefused}
+use Rattle.sys_demux.specs.Streams.{IsEnd, LacksEnd, IsFault, IsSystem, IsRefused}
 use Rattle.sys_demux.specs.States.{IsShown}
 use Rattle.sys_demux.specs.declared.faults.SystemFault.{SystemFault}
 use Rattle.sys_demux.specs.declared.faults.SystemFault.TheVariants.{NotPack, BadCode, BadPacket}
@@ -228,11 +228,11 @@ front_prefixed t l r z e long =
     (sym (append_assoc (take (z + 3) t) (drop (z + 3) t) l) ∙ ap (λ (x : List ℕ). x ++ l) (take-append-drop (z + 3) t) ∙ e ∙ sym (prefixed_more z [] r)) size in
     sym (take-append-drop (z + 3) t) ∙ ap (λ (x : List ℕ). x ++ drop (z + 3) t) fronts.0 ∙ prefixed_more z [] (drop (z + 3) t)
 
-cut_prefixed : (chosen : Option ℕ) (start : ℕ) (t : List ℕ) (place : ℕ) (f : IsCut chosen start t place) → t ≡ with_prefix (zeros_of f.item) (drop (zeros_of f.item + 3) t)
+cut_prefixed : (chosen : Option ℕ) (start : ℕ) (t : List ℕ) (place : ℕ) (f : LacksEnd chosen start t place) → t ≡ with_prefix (zeros_of f.item) (drop (zeros_of f.item + 3) t)
 cut_prefixed chosen start t place f = front_prefixed t f.lacking (rest_of f.item) (zeros_of f.item) (sym f.is ∙ item_prefixed f.item) f.begun
 
 -- a fault that bytes show stands in no front of an item
-cut_shows_none : (chosen : Option ℕ) (start : ℕ) (t : List ℕ) (place : ℕ) (fault : SystemFault) → IsCut chosen start t place → IsShown fault → IsFault chosen start t fault → ⊥
+cut_shows_none : (chosen : Option ℕ) (start : ℕ) (t : List ℕ) (place : ℕ) (fault : SystemFault) → LacksEnd chosen start t place → IsShown fault → IsFault chosen start t fault → ⊥
 cut_shows_none chosen start t place fault cut shown f =
     fault_no_item chosen start cut.item [] (t ++ cut.lacking) fault cut.is_item (append-nil (item_bytes cut.item) ∙ cut.is) (fault_stays chosen start t cut.lacking fault shown f)
 

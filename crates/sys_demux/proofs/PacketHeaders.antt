@@ -1,13 +1,13 @@
 -- The header of a packet's content, field by field.
-use Rattle.std.proofs.Common.{◌≡◌, ℕ, ◌+◌, ◌-◌, ◌*◌, ◌/◌, ◌<◌, ◌≤◌, ◌==◌, ◌↔◌, true, cond, nat_le}
-use Rattle.std.proofs.Common.{zero, suc, List, [], ◌∷◌, ◌++◌, length, take, drop, Option, Some}
+use Rattle.std.proofs.Common.{◌≡◌, ℕ, ◌+◌, ◌/◌, ◌<◌, ◌≤◌, ◌==◌, ◌↔◌, cond, nat_le}
+use Rattle.std.proofs.Common.{zero, suc, List, [], ◌∷◌, ◌++◌, length, take, drop, Some}
 use Rattle.std.proofs.Common.{None}
-use Rattle.std.proofs.Common.{refl, sym, ap, subst, ◌∙◌, arith, inl, inr, eq-eqb, ne_eqb}
-use Rattle.std.specs.Prelude.{is_some, replicate, unwrap_or}
+use Rattle.std.proofs.Common.{refl, sym, ap, ◌∙◌, arith, inl, inr, eq-eqb, ne_eqb}
+use Rattle.std.specs.Prelude.{replicate}
 use Rattle.std.proofs.lemmas.Bool.{cases_Bool, cases_eq, cond-true, cond-false, leb-true, le-leb}
-use Rattle.std.proofs.lemmas.Bool.{true≢false}
 use Rattle.std.proofs.lemmas.List.{append_assoc, drop_at, length-append, length-take-le}
 use Rattle.std.proofs.lemmas.List.{take-append-drop}
+use Rattle.std.proofs.lemmas.Option.{none-some, same_Some}
 use Rattle.sys_demux.specs.Contents.{video_in, from_stuffing, from_size, from_stamp, after_bytes}
 use Rattle.sys_demux.specs.Standard.{HasHeader, IsSizeField, IsStampField}
 use Rattle.sys_demux.proofs.ContentSteps.{stuffing_other}
@@ -84,12 +84,6 @@ header_read content video h =
 
 -- ---- a header that is read stands there
 
-none_some : (video : List ℕ) → None ≡ Some video → ⊥
-none_some video e = true≢false (sym (ap is_some e))
-
-same_some : (a b : List ℕ) → Some a ≡ Some b → a ≡ b
-same_some a b e = ap (λ o. unwrap_or o []) e
-
 record StandAfter (count : ℕ) (bytes video : List ℕ) : Type 0 where
   enough : count ≤ length bytes
   rest : drop count bytes ≡ video
@@ -99,9 +93,9 @@ after_stands count bytes video e =
     elim (cases_Bool (nat_le count (length bytes))) [
       | inl there ↦ record {
         enough = leb-true count (length bytes) there;
-        rest = same_some (drop count bytes) video (sym (cond-true (nat_le count (length bytes)) (Some (drop count bytes)) None there) ∙ e);
+        rest = same_Some (drop count bytes) video (sym (cond-true (nat_le count (length bytes)) (Some (drop count bytes)) None there) ∙ e);
       }
-      | inr lacking ↦ absurd (none_some video (sym (cond-false (nat_le count (length bytes)) (Some (drop count bytes)) None lacking) ∙ e))
+      | inr lacking ↦ absurd (none-some video (sym (cond-false (nat_le count (length bytes)) (Some (drop count bytes)) None lacking) ∙ e))
     ]
 
 -- the field of a time stamp, and the video after it
@@ -120,7 +114,7 @@ stamp_of b count bytes video e field =
     }
 
 stamp_stands : (bytes video : List ℕ) → from_stamp bytes ≡ Some video → HasStamp bytes video
-stamp_stands [] video e = absurd (none_some video e)
+stamp_stands [] video e = absurd (none-some video e)
 stamp_stands (b ∷ bytes) video e =
     elim (cases_eq (b / 16) 2) [
       | inl two ↦
@@ -140,9 +134,9 @@ stamp_stands (b ∷ bytes) video e =
                   | inl is ↦ record {
                     stamp = 15 ∷ [];
                     stamp_is = inr (inr refl);
-                    is = ap (λ k. k ∷ bytes) is ∙ ap (λ (v : List ℕ). 15 ∷ v) (same_some bytes video (sym (cond-true (b == 15) (Some bytes) None (eq-eqb b 15 is)) ∙ e2));
+                    is = ap (λ k. k ∷ bytes) is ∙ ap (λ (v : List ℕ). 15 ∷ v) (same_Some bytes video (sym (cond-true (b == 15) (Some bytes) None (eq-eqb b 15 is)) ∙ e2));
                   }
-                  | inr other15 ↦ absurd (none_some video (sym (cond-false (b == 15) (Some bytes) None (ne_eqb b 15 other15)) ∙ e2))
+                  | inr other15 ↦ absurd (none-some video (sym (cond-false (b == 15) (Some bytes) None (ne_eqb b 15 other15)) ∙ e2))
                 ])
           ])
     ]
@@ -155,7 +149,7 @@ record HasSize (bytes video : List ℕ) : Type 0 where
   is : bytes ≡ size ++ drop (length size) bytes
 
 size_stands : (bytes video : List ℕ) → from_size bytes ≡ Some video → HasSize bytes video
-size_stands [] video e = absurd (none_some video e)
+size_stands [] video e = absurd (none-some video e)
 size_stands (b ∷ bytes) video e =
     elim (cases_eq (b / 64) 1) [
       | inl one ↦ with_size b bytes video one (sym (cond-true (b / 64 == 1) (from_stamp (drop 1 bytes)) (from_stamp (b ∷ bytes)) (eq-eqb (b / 64) 1 one)) ∙ e)
@@ -168,7 +162,7 @@ size_stands (b ∷ bytes) video e =
     ]
   where
     with_size : (b : ℕ) (bytes video : List ℕ) → b / 64 ≡ 1 → from_stamp (drop 1 bytes) ≡ Some video → HasSize (b ∷ bytes) video
-    with_size b [] video one e = absurd (none_some video e)
+    with_size b [] video one e = absurd (none-some video e)
     with_size b (c ∷ bytes) video one e = record {
       size = b ∷ c ∷ [];
       size_is = inr (refl, one);
@@ -188,7 +182,7 @@ unstuffed : (most : ℕ) (content video : List ℕ) → from_size content ≡ So
 unstuffed most content video e = record { stuffing = 0; few = omega arith; rest = content; size = size_stands content video e; is = refl }
 
 stuffing_stands : (most : ℕ) (content video : List ℕ) → from_stuffing most content ≡ Some video → HasHeaderWithin most content video
-stuffing_stands most [] video e = absurd (none_some video e)
+stuffing_stands most [] video e = absurd (none-some video e)
 stuffing_stands zero (b ∷ bytes) video e = unstuffed zero (b ∷ bytes) video e
 stuffing_stands (suc most) (b ∷ bytes) video e =
     elim (cases_eq b 255) [

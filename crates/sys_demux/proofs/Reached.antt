@@ -6,12 +6,13 @@ use Rattle.std.specs.Prelude.{IsSome, replicate}
 use Rattle.std.proofs.lemmas.Bool.{and_parts, ltb-true, leb-true, le-leb, cond-true}
 use Rattle.std.proofs.lemmas.List.{append_assoc, append-nil, length-append, length-replicate}
 use Rattle.std.proofs.lemmas.List.Concat.{flat_map-append}
+use Rattle.std.proofs.lemmas.Option.{none-some, same_Some}
 use Rattle.sys_demux.specs.Contents.{video_in}
 use Rattle.sys_demux.specs.Items.{Item, with_prefix, item_bytes, zeros_of, choose, chosen_next}
 use Rattle.sys_demux.specs.Items.{chosen_after, IsPack, IsPacket, IsItem, AreItems, item_video}
 use Rattle.sys_demux.specs.Items.{video_of, bytes_of}
 use Rattle.sys_demux.specs.Items.Item.{Pack, Packet}
-use Rattle.sys_demux.specs.Streams.{IsCut, IsEnd, IsFault, IsSystem, IsRefused}
+use Rattle.sys_demux.specs.Streams.{LacksEnd, IsEnd, IsFault, IsSystem, IsRefused}
 use Rattle.sys_demux.specs.Sound.{least_rest, is_sound}
 use Rattle.sys_demux.specs.States.{video_from, IsAtPrefix, IsAtHeader, IsAtZeros, IsAtRest, IsShown}
 use Rattle.sys_demux.specs.States.{IsPart, LeadsTo, IsReached, end_fault, fault_at}
@@ -25,12 +26,6 @@ use Rattle.sys_demux.specs.declared.places.Place.TheVariants.{Zeros, Kind, Mark,
 use Rattle.sys_demux.specs.declared.places.Place.TheVariants.{InHeader, Pass, Video, End, Failed}
 use Rattle.sys_demux.proofs.ContentSteps.{stuffing_ends}
 use Rattle.sys_demux.proofs.Parts.{prefixed_more, length-prefixed}
-
-none_some : (fault : SystemFault) → None ≡ Some fault → ⊥
-none_some fault e = cc
-
-same_some : (a b : SystemFault) → Some a ≡ Some b → a ≡ b
-same_some a b e = cc
 
 -- items and one more
 are_more : (chosen : Option ℕ) (items : List Item) (item : Item) → AreItems chosen items → IsItem (chosen_after chosen items) item → AreItems chosen (items ++ item ∷ [])
@@ -203,7 +198,7 @@ can_end (Rest count) left enough = record {
 }
 
 header_cut : (chosen : Option ℕ) (start place : ℕ) (now : Option ℕ) (part kept : List ℕ) (header : Header) (left : ℕ) → IsAtHeader chosen start place now part kept header left →
-    0 < least_rest header → least_rest header ≤ left → IsCut chosen start part place
+    0 < least_rest header → least_rest header ≤ left → LacksEnd chosen start part place
 header_cut chosen start place now part kept header left h some enough =
     let end = can_end header left enough in
     let found : video_in (h.front ++ end.rest) ≡ Some end.video = h.video_is end.rest end.long ∙ end.is in
@@ -221,7 +216,7 @@ header_cut chosen start place now part kept header left h some enough =
       place_is = h.place_is;
     }
 
-rest_cut : (chosen : Option ℕ) (start place : ℕ) (now : Option ℕ) (part kept : List ℕ) (left : ℕ) (video : List ℕ → List ℕ) → IsAtRest chosen start place now part kept left video → IsCut chosen start part place
+rest_cut : (chosen : Option ℕ) (start place : ℕ) (now : Option ℕ) (part kept : List ℕ) (left : ℕ) (video : List ℕ → List ℕ) → IsAtRest chosen start place now part kept left video → LacksEnd chosen start part place
 rest_cut chosen start place now part kept left video h =
     let size = length-replicate {A = ℕ} left 0 in
     let d = h.ends (replicate left 0) size in
@@ -239,7 +234,7 @@ pack_whole : IsPack (32 ∷ replicate 7 0)
 pack_whole = record { eight = refl; mark = refl }
 
 prefix_cut : (chosen : Option ℕ) (start place : ℕ) (now wanted : Option ℕ) (rest lacking part kept : List ℕ) (item : ℕ → Item) → IsAtPrefix start place rest now wanted part kept →
-    ((zeros : ℕ) → IsItem chosen (item zeros)) → ((zeros : ℕ) → zeros_of (item zeros) ≡ zeros) → ((zeros : ℕ) → item_bytes (item zeros) ≡ with_prefix zeros (rest ++ lacking)) → 0 < length lacking → IsCut chosen start part place
+    ((zeros : ℕ) → IsItem chosen (item zeros)) → ((zeros : ℕ) → zeros_of (item zeros) ≡ zeros) → ((zeros : ℕ) → item_bytes (item zeros) ≡ with_prefix zeros (rest ++ lacking)) → 0 < length lacking → LacksEnd chosen start part place
 prefix_cut chosen start place now wanted rest lacking part kept item h is zeros_are bytes some = record {
   item = item h.zeros;
   lacking = lacking;
@@ -261,30 +256,30 @@ packet_whole chosen kind high kind_is = record {
 -- the stream ends inside an item
 inside_cut : (chosen : Option ℕ) (start place : ℕ) (now : Option ℕ) (part kept : List ℕ) (state : Place) (fault : SystemFault) → is_sound state ≡ true → IsPart chosen start place now part kept state →
     end_fault state place ≡ Some fault → IsFault chosen start part fault
-inside_cut chosen start place now part kept (Zeros zeros) fault sound is ends = absurd (none_some fault ends)
+inside_cut chosen start place now part kept (Zeros zeros) fault sound is ends = absurd (none-some fault ends)
 inside_cut chosen start place now part kept Kind fault sound is ends =
-    subst (λ f. IsFault chosen start part f) (same_some (Truncated place) fault ends)
+    subst (λ f. IsFault chosen start part f) (same_Some (Truncated place) fault ends)
     (prefix_cut chosen start place now chosen [] (186 ∷ 32 ∷ replicate 7 0) part kept (λ zeros. Pack zeros (32 ∷ replicate 7 0)) is (λ zeros. pack_whole) (λ zeros. refl) (λ zeros. refl) (omega arith))
 inside_cut chosen start place now part kept Mark fault sound is ends =
-    subst (λ f. IsFault chosen start part f) (same_some (Truncated place) fault ends)
+    subst (λ f. IsFault chosen start part f) (same_Some (Truncated place) fault ends)
     (prefix_cut chosen start place now chosen (186 ∷ []) (32 ∷ replicate 7 0) part kept (λ zeros. Pack zeros (32 ∷ replicate 7 0)) is (λ zeros. pack_whole) (λ zeros. refl) (λ zeros. refl) (omega arith))
 inside_cut chosen start place now part kept (High kind) fault sound is ends =
-    subst (λ f. IsFault chosen start part f) (same_some (Truncated place) fault ends)
+    subst (λ f. IsFault chosen start part f) (same_Some (Truncated place) fault ends)
     (prefix_cut chosen start place now (choose chosen kind) (kind ∷ []) (0 ∷ 1 ∷ 15 ∷ replicate (0 * 256) 0) part kept (λ zeros. Packet zeros kind 0 1 (15 ∷ replicate (0 * 256) 0)) is.0 (λ zeros. packet_whole chosen kind 0 is.1)
     (λ zeros. refl) (λ zeros. refl) (omega arith))
 inside_cut chosen start place now part kept (Low kind high) fault sound is ends =
-    subst (λ f. IsFault chosen start part f) (same_some (Truncated place) fault ends)
+    subst (λ f. IsFault chosen start part f) (same_Some (Truncated place) fault ends)
     (prefix_cut chosen start place now (choose chosen kind) (kind ∷ high ∷ []) (1 ∷ 15 ∷ replicate (high * 256) 0) part kept (λ zeros. Packet zeros kind high 1 (15 ∷ replicate (high * 256) 0)) is.0 (λ zeros. packet_whole chosen kind high is.1)
     (λ zeros. refl) (λ zeros. refl) (omega arith))
 inside_cut chosen start place now part kept (InHeader header left) fault sound is ends =
     let enough = sound_header header left sound in
-    subst (λ f. IsFault chosen start part f) (same_some (Truncated place) fault ends) (header_cut chosen start place now part kept header left is enough.0 enough.1)
+    subst (λ f. IsFault chosen start part f) (same_Some (Truncated place) fault ends) (header_cut chosen start place now part kept header left is enough.0 enough.1)
 inside_cut chosen start place now part kept (Pass left) fault sound is ends =
-    subst (λ f. IsFault chosen start part f) (same_some (Truncated place) fault ends) (rest_cut chosen start place now part kept left (λ rest. []) is)
+    subst (λ f. IsFault chosen start part f) (same_Some (Truncated place) fault ends) (rest_cut chosen start place now part kept left (λ rest. []) is)
 inside_cut chosen start place now part kept (Video left) fault sound is ends =
-    subst (λ f. IsFault chosen start part f) (same_some (Truncated place) fault ends) (rest_cut chosen start place now part kept left (λ rest. rest) is)
-inside_cut chosen start place now part kept End fault sound is ends = absurd (none_some fault ends)
-inside_cut chosen start place now part kept (Failed other) fault sound is ends = subst (λ f. IsFault chosen start part f) (same_some other fault ends) is.0
+    subst (λ f. IsFault chosen start part f) (same_Some (Truncated place) fault ends) (rest_cut chosen start place now part kept left (λ rest. rest) is)
+inside_cut chosen start place now part kept End fault sound is ends = absurd (none-some fault ends)
+inside_cut chosen start place now part kept (Failed other) fault sound is ends = subst (λ f. IsFault chosen start part f) (same_Some other fault ends) is.0
 
 pub ended_refused : (state : Place) (place : ℕ) (now : Option ℕ) (seen video : List ℕ) (fault : SystemFault) → is_sound state ≡ true → IsReached state place now seen video → end_fault state place ≡ Some fault → IsRefused seen fault
 ended_refused state place now seen video fault sound r ends = record {
@@ -298,15 +293,15 @@ ended_refused state place now seen video fault sound r ends = record {
 -- the stream ends where it may
 at_end : (chosen : Option ℕ) (start place : ℕ) (now : Option ℕ) (part kept : List ℕ) (state : Place) → IsPart chosen start place now part kept state → end_fault state place ≡ None → IsEnd part × (kept ≡ [])
 at_end chosen start place now part kept (Zeros zeros) is ends = (inl (record { count = is.count; are = is.are }), is.none)
-at_end chosen start place now part kept Kind is ends = absurd (none_some (Truncated place) (sym ends))
-at_end chosen start place now part kept Mark is ends = absurd (none_some (Truncated place) (sym ends))
-at_end chosen start place now part kept (High kind) is ends = absurd (none_some (Truncated place) (sym ends))
-at_end chosen start place now part kept (Low kind high) is ends = absurd (none_some (Truncated place) (sym ends))
-at_end chosen start place now part kept (InHeader header left) is ends = absurd (none_some (Truncated place) (sym ends))
-at_end chosen start place now part kept (Pass left) is ends = absurd (none_some (Truncated place) (sym ends))
-at_end chosen start place now part kept (Video left) is ends = absurd (none_some (Truncated place) (sym ends))
+at_end chosen start place now part kept Kind is ends = absurd (none-some (Truncated place) (sym ends))
+at_end chosen start place now part kept Mark is ends = absurd (none-some (Truncated place) (sym ends))
+at_end chosen start place now part kept (High kind) is ends = absurd (none-some (Truncated place) (sym ends))
+at_end chosen start place now part kept (Low kind high) is ends = absurd (none-some (Truncated place) (sym ends))
+at_end chosen start place now part kept (InHeader header left) is ends = absurd (none-some (Truncated place) (sym ends))
+at_end chosen start place now part kept (Pass left) is ends = absurd (none-some (Truncated place) (sym ends))
+at_end chosen start place now part kept (Video left) is ends = absurd (none-some (Truncated place) (sym ends))
 at_end chosen start place now part kept End is ends = (inr (record { zeros = is.zeros; rest = is.rest; is = is.are }), is.none)
-at_end chosen start place now part kept (Failed fault) is ends = absurd (none_some fault (sym ends))
+at_end chosen start place now part kept (Failed fault) is ends = absurd (none-some fault (sym ends))
 
 pub ended_system : (state : Place) (place : ℕ) (now : Option ℕ) (seen video : List ℕ) → IsReached state place now seen video → end_fault state place ≡ None → IsSystem seen video
 ended_system state place now seen video r ends =
@@ -322,16 +317,16 @@ ended_system state place now seen video r ends =
 
 -- a fault that was answered
 pub failed_at : (state : Place) (fault : SystemFault) → fault_at state ≡ Some fault → state ≡ Failed fault
-failed_at (Zeros zeros) fault e = absurd (none_some fault e)
-failed_at Kind fault e = absurd (none_some fault e)
-failed_at Mark fault e = absurd (none_some fault e)
-failed_at (High kind) fault e = absurd (none_some fault e)
-failed_at (Low kind high) fault e = absurd (none_some fault e)
-failed_at (InHeader header left) fault e = absurd (none_some fault e)
-failed_at (Pass left) fault e = absurd (none_some fault e)
-failed_at (Video left) fault e = absurd (none_some fault e)
-failed_at End fault e = absurd (none_some fault e)
-failed_at (Failed other) fault e = ap Failed (same_some other fault e)
+failed_at (Zeros zeros) fault e = absurd (none-some fault e)
+failed_at Kind fault e = absurd (none-some fault e)
+failed_at Mark fault e = absurd (none-some fault e)
+failed_at (High kind) fault e = absurd (none-some fault e)
+failed_at (Low kind high) fault e = absurd (none-some fault e)
+failed_at (InHeader header left) fault e = absurd (none-some fault e)
+failed_at (Pass left) fault e = absurd (none-some fault e)
+failed_at (Video left) fault e = absurd (none-some fault e)
+failed_at End fault e = absurd (none-some fault e)
+failed_at (Failed other) fault e = ap Failed (same_Some other fault e)
 
 -- the first byte of a piece was taken, and the rest follows
 pub first_taken : (seen piece more : List ℕ) → 0 < length piece → (seen ++ get_or piece 0 0 ∷ []) ++ (drop 1 piece ++ more) ≡ (seen ++ piece) ++ more
@@ -341,13 +336,13 @@ first_taken seen (b ∷ piece) more some =
 
 -- at the end a fault that bytes show was answered before
 pub end_shown : (state : Place) (item : ℕ) (fault : SystemFault) → end_fault state item ≡ Some fault → IsShown fault → fault_at state ≡ Some fault
-end_shown (Zeros zeros) item fault e shown = absurd (none_some fault e)
-end_shown Kind item fault e shown = absurd (subst IsShown (sym (same_some (Truncated item) fault e)) shown)
-end_shown Mark item fault e shown = absurd (subst IsShown (sym (same_some (Truncated item) fault e)) shown)
-end_shown (High kind) item fault e shown = absurd (subst IsShown (sym (same_some (Truncated item) fault e)) shown)
-end_shown (Low kind high) item fault e shown = absurd (subst IsShown (sym (same_some (Truncated item) fault e)) shown)
-end_shown (InHeader header left) item fault e shown = absurd (subst IsShown (sym (same_some (Truncated item) fault e)) shown)
-end_shown (Pass left) item fault e shown = absurd (subst IsShown (sym (same_some (Truncated item) fault e)) shown)
-end_shown (Video left) item fault e shown = absurd (subst IsShown (sym (same_some (Truncated item) fault e)) shown)
-end_shown End item fault e shown = absurd (none_some fault e)
+end_shown (Zeros zeros) item fault e shown = absurd (none-some fault e)
+end_shown Kind item fault e shown = absurd (subst IsShown (sym (same_Some (Truncated item) fault e)) shown)
+end_shown Mark item fault e shown = absurd (subst IsShown (sym (same_Some (Truncated item) fault e)) shown)
+end_shown (High kind) item fault e shown = absurd (subst IsShown (sym (same_Some (Truncated item) fault e)) shown)
+end_shown (Low kind high) item fault e shown = absurd (subst IsShown (sym (same_Some (Truncated item) fault e)) shown)
+end_shown (InHeader header left) item fault e shown = absurd (subst IsShown (sym (same_Some (Truncated item) fault e)) shown)
+end_shown (Pass left) item fault e shown = absurd (subst IsShown (sym (same_Some (Truncated item) fault e)) shown)
+end_shown (Video left) item fault e shown = absurd (subst IsShown (sym (same_Some (Truncated item) fault e)) shown)
+end_shown End item fault e shown = absurd (none-some fault e)
 end_shown (Failed other) item fault e shown = e

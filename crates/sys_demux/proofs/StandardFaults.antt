@@ -1,14 +1,13 @@
 -- What is refused after a stream in the fields of the standard.
-use Rattle.std.proofs.Common.{◌≡◌, ◌≢◌, ℕ, ◌+◌, ◌*◌, ◌/◌, ◌%◌, ◌^◌, ◌<◌, ◌≤◌, ◌==◌, ◌⊎◌, true, zero}
-use Rattle.std.proofs.Common.{suc}
+use Rattle.std.proofs.Common.{◌≡◌, ◌≢◌, ℕ, ◌+◌, ◌/◌, ◌%◌, ◌<◌, ◌⊎◌, true}
 use Rattle.std.proofs.Common.{List, [], ◌∷◌, ◌++◌, length, Option, Some, None, refl, sym, ap, subst}
 use Rattle.std.proofs.Common.{◌∙◌}
 use Rattle.std.proofs.Common.{arith, inl, inr, eq-eqb}
 use Rattle.std.proofs.lemmas.List.{append-nil, nil_from_length}
 use Rattle.sys_demux.specs.Contents.{video_in}
-use Rattle.sys_demux.specs.Items.{Item, chosen_after, choose, is_chosen, with_prefix, bytes_of}
+use Rattle.sys_demux.specs.Items.{chosen_after, choose, is_chosen, with_prefix}
 use Rattle.sys_demux.specs.Standard.{Element, HasHeader, AreElements, first_stream, packet_bytes}
-use Rattle.sys_demux.specs.Standard.{stream_bytes, two_bytes, video_kind, with_code}
+use Rattle.sys_demux.specs.Standard.{stream_bytes, video_kind, with_code}
 use Rattle.sys_demux.specs.Standard.Element.{PackHeader, VideoPacket, OtherPacket}
 use Rattle.sys_demux.specs.Streams.{IsFault, IsRefused}
 use Rattle.sys_demux.specs.declared.faults.SystemFault.{SystemFault}

@@ -1,5 +1,5 @@
 -- A stream in the fields of the standard is read as these fields say.
-use Rattle.std.proofs.Common.{◌≡◌, ℕ, ◌+◌, ◌*◌, ◌/◌, ◌%◌, ◌^◌, ◌<◌, ◌≤◌, ◌==◌, ◌⊎◌, true, false}
+use Rattle.std.proofs.Common.{◌≡◌, ℕ, ◌/◌, ◌%◌, ◌^◌, ◌<◌, ◌≤◌, ◌==◌, false}
 use Rattle.std.proofs.Common.{cond}
 use Rattle.std.proofs.Common.{List, [], ◌∷◌, ◌++◌, length, Option, Some, None, refl, sym, ap, subst}
 use Rattle.std.proofs.Common.{◌∙◌}
@@ -19,7 +19,6 @@ use Rattle.sys_demux.specs.Standard.{FitsBuffer}
 use Rattle.sys_demux.specs.Standard.{FitStamps, IsOtherKind, IsVideoPacket, IsElement, AreElements}
 use Rattle.sys_demux.specs.Standard.{IsStreamEnd}
 use Rattle.sys_demux.specs.Standard.{first_stream, video_of_stream, video_by, first_video}
-use Rattle.sys_demux.specs.Standard.{HasHeader}
 use Rattle.sys_demux.specs.Standard.{IsSizeField, IsStampField}
 use Rattle.sys_demux.specs.Standard.Element.{PackHeader, VideoPacket, OtherPacket}
 use Rattle.sys_demux.specs.Standard.Stamps.{NoStamp, Shown, ShownAndDecoded}

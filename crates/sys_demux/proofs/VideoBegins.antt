@@ -7,7 +7,7 @@ use Rattle.std.proofs.lemmas.List.{append_assoc, append-nil, length-append, leng
 use Rattle.std.proofs.lemmas.List.{take-append-drop, length-take-le}
 use Rattle.sys_demux.specs.Items.{Item, item_bytes, chosen_next, chosen_after, AreItems, item_video}
 use Rattle.sys_demux.specs.Items.{video_of, bytes_of}
-use Rattle.sys_demux.specs.Streams.{IsEnd, IsCut, IsSystem}
+use Rattle.sys_demux.specs.Streams.{IsEnd, LacksEnd, IsSystem}
 use Rattle.sys_demux.specs.States.{IsAtRest, IsPart, IsReached}
 use Rattle.sys_demux.specs.declared.faults.SystemFault.TheVariants.{Truncated}
 use Rattle.sys_demux.specs.declared.places.Place.{Place}
@@ -53,7 +53,7 @@ short_rest chosen start place now part kept more t left video [] h less are e en
     let pad : List ℕ = replicate (left - length more) 0 in
     let size : length pad ≡ left - length more = length-replicate {A = ℕ} (left - length more) 0 in
     let d = h.ends (more ++ pad) (omega (arith, length-append more pad, size, less)) in
-    let cut : IsCut chosen start (part ++ more) place = record {
+    let cut : LacksEnd chosen start (part ++ more) place = record {
       item = d.item;
       lacking = pad;
       is_item = d.is_item;
@@ -62,7 +62,7 @@ short_rest chosen start place now part kept more t left video [] h less are e en
       some = omega (arith, size, less);
       place_is = h.place_is ∙ ap (λ n. start + n) (sym d.zeros_are);
     } in
-    absurd (end_no_fault chosen start t (Truncated place) end (subst (λ (l : List ℕ). IsCut chosen start l place) e cut))
+    absurd (end_no_fault chosen start t (Truncated place) end (subst (λ (l : List ℕ). LacksEnd chosen start l place) e cut))
 short_rest chosen start place now part kept more t left video (y ∷ ys) h less are e end =
     let pad : List ℕ = replicate (left - length more) 0 in
     let size : length pad ≡ left - length more = length-replicate {A = ℕ} (left - length more) 0 in

@@ -9,7 +9,7 @@ use Rattle.sys_demux.specs.declared.faults.SystemFault.TheVariants.{NotPack, Bad
 use Rattle.sys_demux.specs.declared.faults.SystemFault.TheVariants.{Truncated}
 
 -- bytes 00 alone
-pub record AreZeros (tail : List ℕ) : Type 0 where
+pub record AreZeroBytes (tail : List ℕ) : Type 0 where
   pub count : ℕ
   pub are : tail ≡ replicate count 0
 
@@ -21,7 +21,7 @@ pub record IsEndCode (tail : List ℕ) : Type 0 where
 
 -- what may stand after the last item
 abbrev pub IsEnd : List ℕ → Type 0
-IsEnd tail = AreZeros tail ⊎ IsEndCode tail
+IsEnd tail = AreZeroBytes tail ⊎ IsEndCode tail
 
 -- a pack header whose fifth byte has other high bits; the place is that of its prefix
 pub record IsNotPack (start : ℕ) (tail : List ℕ) (place : ℕ) : Type 0 where
@@ -70,7 +70,7 @@ pub record IsBadPacket (chosen : Option ℕ) (start : ℕ) (tail : List ℕ) (pl
 
 -- a front of an item, from its prefix on, that lacks a byte or more; the place is that of the
 -- prefix
-pub record IsCut (chosen : Option ℕ) (start : ℕ) (tail : List ℕ) (place : ℕ) : Type 0 where
+pub record LacksEnd (chosen : Option ℕ) (start : ℕ) (tail : List ℕ) (place : ℕ) : Type 0 where
   pub item : Item
   pub lacking : List ℕ
   pub is_item : IsItem chosen item
@@ -84,7 +84,7 @@ abbrev pub IsFault : Option ℕ → ℕ → List ℕ → SystemFault → Type 0
 IsFault chosen start tail (NotPack place) = IsNotPack start tail place
 IsFault chosen start tail (BadCode place) = IsBadByte start tail place ⊎ IsBadKind start tail place
 IsFault chosen start tail (BadPacket place) = IsBadPacket chosen start tail place
-IsFault chosen start tail (Truncated place) = IsCut chosen start tail place
+IsFault chosen start tail (Truncated place) = LacksEnd chosen start tail place
 
 -- the bytes are a system stream with this video: items, and an end
 pub record IsSystem (bytes video : List ℕ) : Type 0 where

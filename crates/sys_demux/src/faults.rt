@@ -1,3 +1,4 @@
+//! Why bytes are no MPEG-1 system stream.
 use std::error::Error;
 use std::fmt;
 

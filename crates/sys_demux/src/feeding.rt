@@ -1,3 +1,4 @@
+//! Takes the bytes of a system stream, and says at its end whether it was one.
 ghost use Rattle.std.specs.Prelude.{◌≡◌, ℕ, ◌+◌, ◌^◌, ◌<◌, ◌≤◌, ◌⊎◌, IsTrue, List, [], ◌∷◌, ◌++◌};
 ghost use Rattle.std.specs.Prelude.{length, take, Option, Some, Err, IfOk, IfErr, MatchResult};
 ghost use Rattle.sys_demux.specs.Items.{choose};

@@ -1,3 +1,4 @@
+//! Where in a system stream the next byte stands, and where a byte leads.
 ghost use Rattle.std.specs.Prelude.{◌≡◌, ℕ, ◌+◌, ◌-◌, ◌≤◌, ◌<◌, ◌==◌, if◌then◌else◌, IsTrue, List};
 ghost use Rattle.std.specs.Prelude.{[], ◌∷◌, ◌++◌, length, Option};
 ghost use Rattle.sys_demux.specs.Items.{choose, is_chosen};
