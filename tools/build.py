@@ -82,13 +82,17 @@ class Build:
         return self.lines[name] + max(above, default=0)
 
     def is_longest(self, name):
-        """Whether no crate that isn't proved yet has a longer chain above it: the whole waits for this one."""
-        return self.rest_of(name) == max(self.rest_of(it) for it in self.below if it not in self.done)
+        """Whether hardly a crate that isn't proved yet has a longer chain above it: the whole waits for this one."""
+        longest = max(self.rest_of(it) for it in self.below if it not in self.done)
+        return self.rest_of(name) * 10 >= longest * 9
 
-    def prove(self, lane, name, jobs):
-        """Returns whether a lane's rt proved a crate and built its library; what it said stands in the room."""
+    def prove(self, lane, name, jobs, first):
+        """Returns whether a lane's rt proved a crate and built its library; what it said stands in the room.
+
+        The crates that come first have the processors before the others.
+        """
         with open(f"{self.room}/{name}.log", "w", encoding="utf-8") as log:
-            words = ["rt", "lib", "--jobs", str(jobs)]
+            words = [*([] if first else ["nice"]), "rt", "lib", "--jobs", str(jobs)]
             return subprocess.call(words, cwd=f"{lane}/crates/{name}", stdout=log, stderr=log, stdin=subprocess.DEVNULL) == 0
 
     def hand_out(self, lane, name):
@@ -111,18 +115,18 @@ class Build:
     def run(self):
         """Returns the name of a crate that was not proved, or None."""
         left = sorted(self.below, key=self.rest_of, reverse=True)
-        free, running, lanes = self.jobs, {}, [*self.lanes]
+        # a check doesn't keep its processors busy all the time, so there are half as many more jobs
+        free, running, lanes = self.jobs * 3 // 2, {}, [*self.lanes]
         with concurrent.futures.ThreadPoolExecutor(self.jobs) as pool:
             while left or running:
-                ready = [it for it in left if self.below[it] <= {*self.done}]
+                ready = [it for it in left if self.below[it] <= {*self.done}][:len(lanes)]
                 for place, name in enumerate(ready):
-                    if free == 0:
-                        break
-                    jobs = max(free // (len(ready) - place), min(2, free) if self.is_longest(name) else 1)
+                    first = self.is_longest(name)
+                    jobs = min(self.jobs, max(free // (len(ready) - place), 2 if first else 1))
                     lane = lanes.pop()
                     left.remove(name)
                     free -= jobs
-                    running[pool.submit(self.prove, lane, name, jobs)] = name, lane, jobs
+                    running[pool.submit(self.prove, lane, name, jobs, first)] = name, lane, jobs
                 ended, _ = concurrent.futures.wait(running, timeout=60, return_when=concurrent.futures.FIRST_COMPLETED)
                 for it in ended:
                     name, lane, jobs = running.pop(it)
@@ -154,7 +158,7 @@ def main():
         if failed is None:
             failed, log = PROGRAM, f"{room}/{PROGRAM}.log"
             with open(log, "w", encoding="utf-8") as file:
-                words = ["rt", "run", "--", "--version"]
+                words = ["rt", "run", "--jobs", str(jobs), "--", "--version"]
                 status = subprocess.call(words, cwd=f"{TOP}/crates/{PROGRAM}", stdout=file, stderr=file, stdin=subprocess.DEVNULL)
             if status == 0:
                 say(f"{in_words(time.monotonic() - build.begin)}: all proved, and the program is built")
