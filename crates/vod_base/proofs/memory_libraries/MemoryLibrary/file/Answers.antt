@@ -10,7 +10,7 @@ returns-then-eq c =
     ap (λ (s : LibraryState). s.files) (sym c.self.view_is) ∙ ap (map file_of) (sym c.deref-file_name-items.ensures.value) in
     let same : bytes_eq (string_bytes c.loop-file_name-item.result.0) c.args.name.now ≡ true =
     rw (← c.as_str.ensures.value) (sym (c.if-eq.ensures {u = tt})) in
-    let here = stored_here c.args.self.now.files c.deref-file_name-items.result.now c.args.name.now c.loop-file_name.file_name-index
+    let here = stored_here c.deref-file_name-items.result.now c.args.name.now c.loop-file_name.file_name-index
     c.loop-file_name-item.result are c.loop-file_name-test.true c.loop-file_name-item.is same in
     rw c.as_slice.ensures.value (sym (c.loop-file_name.invariant ∙ here))
 
@@ -21,7 +21,7 @@ loop-file_name-preserved c =
     let other : bytes_eq (string_bytes c.loop-file_name-item.result.0) c.args.name.now ≡ false =
     rw (← c.as_str.ensures.value) (sym (c.if-eq.ensures {u = tt})) in
     c.loop-file_name.invariant
-    ∙ stored_after c.args.self.now.files c.deref-file_name-items.result.now c.args.name.now c.loop-file_name.file_name-index
+    ∙ stored_after c.deref-file_name-items.result.now c.args.name.now c.loop-file_name.file_name-index
     c.loop-file_name-item.result are c.loop-file_name-test.true c.loop-file_name-item.is other
 
 pub returns : goal.returns
