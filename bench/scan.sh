@@ -62,7 +62,7 @@ if command -v ffmpeg >/dev/null; then
         -f mpeg1video part.mpg
     times=$((200000000 / $(wc -c <part.mpg) + 1))
     yes part.mpg | head -n "$times" | xargs cat >encoded.mpg
-    measure "film of ffmpeg, $times times behind each other" encoded.mpg
+    measure "film of ffmpeg, $times times one after another" encoded.mpg
     rm encoded.mpg
 else
     echo "scan.sh: ffmpeg is missing; no film of a real encoder is scanned"

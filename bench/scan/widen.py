@@ -1,7 +1,7 @@
 #!/usr/bin/env python3
 """Writes a film with the pictures of another one and longer slices: widen.py FILM BYTES NEW
 
-Behind each slice stand BYTES more bytes FF. A start code has no such byte but as its kind, so the new film has the same
+After each slice stand BYTES more bytes FF. A start code has no such byte but as its kind, so the new film has the same
 pictures and slices.
 """
 
