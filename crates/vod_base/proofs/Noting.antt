@@ -9,14 +9,14 @@ use Rattle.vod_base.specs.declared.memory_links.Noted.TheVariants.{Gone}
 use Rattle.vod_base.specs.Links.{Doing, HeardBytes, HeardSlot, HeardEnd, Sent, doing_of, sends}
 use Rattle.vod_base.specs.MemoryLinks.{sent_of, doing_noted}
 
-sent_of-append : (xs ys : List Doing) → sent_of (xs ++ ys) ≡ sent_of xs ++ sent_of ys
+pub sent_of-append : (xs ys : List Doing) → sent_of (xs ++ ys) ≡ sent_of xs ++ sent_of ys
 sent_of-append [] ys = refl
 sent_of-append (Sent byte ∷ xs) ys = ap (λ bytes. byte ∷ bytes) (sent_of-append xs ys)
 sent_of-append (HeardBytes bytes ∷ xs) ys = sent_of-append xs ys
 sent_of-append (HeardSlot slot ∷ xs) ys = sent_of-append xs ys
 sent_of-append (HeardEnd ∷ xs) ys = sent_of-append xs ys
 
-sent_of-sends : (bytes : List ℕ) → sent_of (sends bytes) ≡ bytes
+pub sent_of-sends : (bytes : List ℕ) → sent_of (sends bytes) ≡ bytes
 sent_of-sends [] = refl
 sent_of-sends (byte ∷ bytes) = ap (λ bs. byte ∷ bs) (sent_of-sends bytes)
 

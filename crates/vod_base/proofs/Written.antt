@@ -6,33 +6,27 @@ use Rattle.std.specs.List.{list_all}
 use Rattle.std.specs.Char.{is_ascii_digit}
 use Rattle.std.specs.Str.Parse.{digits_value}
 use Rattle.std.proofs.lemmas.Bool.{cases_Bool, cases_eq, cond-true, cond-false, and_from, and_parts}
+use Rattle.std.proofs.lemmas.Option.{none-some, same_Some}
 use Rattle.std.proofs.lemmas.List.{append_assoc, reverse-append, reverse-reverse, length-reverse, get_or-reverse, get_or_append_left, length-append}
 use Rattle.std.proofs.lemmas.List.Folds.{list_all-append, list_all_at}
 use Rattle.std.proofs.lemmas.Fmt.{digits_decimal, digits_value-decimal, decimal_nonempty, decimal-digits_value}
 use Rattle.std.proofs.lemmas.Str.Parse.{IsNumeralModel, numerals_by_value}
 use Rattle.std.proofs.lemmas.Grind.{common_steps}
 use Rattle.vod_base.specs.Blanks.{is_blank, without_front_blanks, without_blanks, IsTrimmed}
-use Rattle.vod_base.specs.Links.{Doing, HeardBytes, HeardSlot, HeardEnd, Sent, sends}
-use Rattle.vod_base.specs.MemoryLinks.{sent_of}
 use Rattle.vod_base.specs.Names.{is_name_byte, is_good_name, IsPlainFileName}
 use Rattle.vod_base.specs.Numbers.{is_decimal, number_of}
 
 -- ---- numbers
 
-own : IsNumeralModel (λ ds. list_all is_ascii_digit ds ≡ true) (digits_value 10)
+-- digits are numerals by their value
+pub own : IsNumeralModel (λ ds. list_all is_ascii_digit ds ≡ true) (digits_value 10)
 own = numerals_by_value (λ ds. list_all is_ascii_digit ds ≡ true) (search rules)
 
 abbrev fits : List ℕ → Bool
 fits text = is_decimal text && nat_lt (digits_value 10 text) (2 ^ 64)
 
-some_same : (a b : ℕ) → Some a ≡ Some b → a ≡ b
-some_same a b e = cc
-
-none_isn't_some : (b : ℕ) → None ≡ Some b → ⊥
-none_isn't_some b e = cc
-
 -- the decimal text of a number is read as it
-decimal_read : (n : ℕ) → n < 2 ^ 64 → number_of (decimal n) ≡ Some n
+pub decimal_read : (n : ℕ) → n < 2 ^ 64 → number_of (decimal n) ≡ Some n
 decimal_read n small =
     let all : list_all is_ascii_digit (decimal n) ≡ true = digits_decimal own n small in
     let value : digits_value 10 (decimal n) ≡ n = digits_value-decimal own n small in
@@ -43,12 +37,12 @@ decimal_read n small =
     cond-true (fits (decimal n)) (Some (digits_value 10 (decimal n))) None test ∙ ap (λ v. Some v) value
 
 -- digits without a zero in front are the decimal text of the number that is read
-read_decimal : (ds : List ℕ) (n : ℕ) → number_of ds ≡ Some n → (slice_index ds 0 ≡ 48 → length ds ≡ 1) → ds ≡ decimal n
+pub read_decimal : (ds : List ℕ) (n : ℕ) → number_of ds ≡ Some n → (slice_index ds 0 ≡ 48 → length ds ≡ 1) → ds ≡ decimal n
 read_decimal ds n read lead =
     elim (cases_Bool (fits ds)) [
       | inl good ↦ (
           let found : number_of ds ≡ Some (digits_value 10 ds) = cond-true (fits ds) (Some (digits_value 10 ds)) None good in
-          let same : digits_value 10 ds ≡ n = some_same (digits_value 10 ds) n (sym found ∙ read) in
+          let same : digits_value 10 ds ≡ n = same_Some (digits_value 10 ds) n (sym found ∙ read) in
           let parts = and_parts (is_decimal ds) (nat_lt (digits_value 10 ds) (2 ^ 64)) good in
           let digits = and_parts (nat_lt 0 (length ds)) (list_all is_ascii_digit ds) parts.0 in
           let whole : decimal (digits_value 10 ds) ≡ ds = decimal-digits_value own ds digits.1 (ltb-true 0 (length ds) digits.0) lead (ltb-true (digits_value 10 ds) (2 ^ 64) parts.1) in
@@ -56,7 +50,7 @@ read_decimal ds n read lead =
           )
       | inr wrong ↦ (
           let none : number_of ds ≡ None = cond-false (fits ds) (Some (digits_value 10 ds)) None wrong in
-          absurd (none_isn't_some n (sym none ∙ read))
+          absurd (none-some n (sym none ∙ read))
           )
     ]
 
@@ -83,7 +77,7 @@ written_read zeros n small =
     ∙ ap number_of (sym cut.1.1) ∙ decimal_read n small
 
 pub read_written : (text : List ℕ) (n : ℕ) → number_of text ≡ Some n → (zeros : ℕ) × (text ≡ replicate zeros 48 ++ decimal n)
-read_written [] n read = absurd (none_isn't_some n read)
+read_written [] n read = absurd (none-some n read)
 read_written (x ∷ []) n read = (0, read_decimal (x ∷ []) n read (λ _. refl))
 read_written (x ∷ (y ∷ rest)) n read =
     elim (cases_eq x 48) [
@@ -151,7 +145,8 @@ front_cut (c ∷ text) =
           (record { front = []; parts = refl; blank = refl; begins = λ some. other })
     ]
 
-all-reverse : (p : ℕ → Bool) (text : List ℕ) → list_all p text ≡ true → list_all p (reverse text) ≡ true
+-- all of a text are all of it reversed
+pub all-reverse : (p : ℕ → Bool) (text : List ℕ) → list_all p text ≡ true → list_all p (reverse text) ≡ true
 all-reverse p [] all = refl
 all-reverse p (x ∷ text) all =
     let parts = and_parts (p x) (list_all p text) all in
@@ -187,16 +182,3 @@ pub trimmed_is : (text : List ℕ) → IsTrimmed text (without_blanks text)
 trimmed_is text =
     both_cut text (without_front_blanks text) (without_front_blanks (reverse (without_front_blanks text)))
     (front_cut text) (front_cut (reverse (without_front_blanks text)))
-
--- ---- what was sent
-
-pub sent-sends : (bytes : List ℕ) → sent_of (sends bytes) ≡ bytes
-sent-sends [] = refl
-sent-sends (byte ∷ bytes) = ap (λ l. byte ∷ l) (sent-sends bytes)
-
-pub sent-append : (one other : List Doing) → sent_of (one ++ other) ≡ sent_of one ++ sent_of other
-sent-append [] other = refl
-sent-append (Sent byte ∷ one) other = ap (λ l. byte ∷ l) (sent-append one other)
-sent-append (HeardBytes bytes ∷ one) other = sent-append one other
-sent-append (HeardSlot slot ∷ one) other = sent-append one other
-sent-append (HeardEnd ∷ one) other = sent-append one other

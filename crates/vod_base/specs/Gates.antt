@@ -2,6 +2,7 @@
 -- and that came back.
 use Rattle.std.specs.Prelude.{◌≡◌, ℕ, ◌+◌, ◌<◌, List, [], ◌∷◌, ◌++◌, length, slice_index_or}
 use Rattle.std.specs.Prelude.{slice_set, Option, Some, None, IsSome}
+use Rattle.vod_base.specs.Outside.{one_more}
 use Rattle.vod_base.specs.Links.{Doing}
 use Rattle.vod_base.specs.declared.gates.Opening.{Opening}
 
@@ -26,9 +27,11 @@ pub record Part : Type 0 where
   pub back : List Returned
   pub last : LastTake
 
--- a gate: how it was opened, if it is open; for each split since then the part, once it came back;
--- and itself as a part
+-- a gate: how often `open` was called, whether it opened the gate or failed, where the count stays
+-- at the end of 64 bits; how it was opened, if it is open; for each split since then the part, once
+-- it came back; and itself as a part
 pub record Content : Type 0 where
+  pub openings : ℕ
   pub opening : Option Opening
   pub parts : List (Option Part)
   pub own : Part
@@ -52,16 +55,22 @@ HasOut c = length c.own.back < c.own.given
 abbrev pub fresh_part : ℕ → Part
 fresh_part number = record { number = number; given = 0; back = []; last = NoneYet }
 
--- after an `open`: as it was opened, without parts; after one that failed it isn't open
+-- after an `open`, which is counted: as it was opened, without parts; after one that failed it isn't
+-- open
 abbrev pub after_open : Option Opening → Content → Content
-after_open how c = record c { opening = how; parts = [] }
+after_open how c = record c { openings = one_more c.openings; opening = how; parts = [] }
 
 -- after a `split`, and the part that it made
 abbrev pub split_off : Content → Content
 split_off c = record c { parts = c.parts ++ (None ∷ []) }
 
 abbrev pub new_part : Content → Content
-new_part c = record { opening = None; parts = []; own = fresh_part (length c.parts) }
+new_part c = record {
+  openings = 0;
+  opening = None;
+  parts = [];
+  own = fresh_part (length c.parts);
+}
 
 -- after a `take` that gave a connection, and after one that gave none
 abbrev pub after_take : Content → Content

@@ -8,3 +8,4 @@ pub mod MemoryLinks
 pub mod Names
 pub mod Numbers
 pub mod Outside
+pub mod Splits

@@ -1,12 +1,8 @@
 -- The objects in memory as contracts see them. A call that is to fail is named by its number, from
 -- 1, over all calls of the object.
-use Rattle.std.specs.Prelude.{ℕ, ◌+◌, ◌-◌, ◌^◌, Bool, ◌==◌, if◌then◌else◌, List, nat_lt}
+use Rattle.std.specs.Prelude.{ℕ, Bool, ◌==◌, if◌then◌else◌, List}
 use Rattle.std.specs.List.{list_any}
-use Rattle.vod_base.specs.Outside.{File}
-
--- one more, where the count stays at the end of 64 bits
-abbrev pub one_more : ℕ → ℕ
-one_more count = if nat_lt count (2 ^ 64 - 1) then count + 1 else count
+use Rattle.vod_base.specs.Outside.{File, one_more}
 
 -- whether the call of that number is to fail
 abbrev pub fails : List ℕ → ℕ → Bool

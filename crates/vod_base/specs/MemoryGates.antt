@@ -1,6 +1,7 @@
 -- A gate in memory as contracts see it.
 use Rattle.std.specs.Prelude.{ℕ, Bool, List, [], map, drop, slice_index_or, Option, Some, None}
-use Rattle.vod_base.specs.Memory.{one_more, fails}
+use Rattle.vod_base.specs.Memory.{fails}
+use Rattle.vod_base.specs.Outside.{one_more}
 use Rattle.vod_base.specs.MemoryLinks.{LinkState}
 use Rattle.vod_base.specs.Gates.{LastTake, NoneYet, Gave, NoMore, Failed, Returned, Part, Content}
 use Rattle.vod_base.specs.declared.shares.Last.{Last}

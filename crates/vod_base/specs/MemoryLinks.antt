@@ -1,6 +1,7 @@
 -- A link in memory as contracts see it.
 use Rattle.std.specs.Prelude.{ℕ, Bool, ◌||◌, List, [], ◌∷◌, nat_le, slice_index_or, slice_range}
-use Rattle.vod_base.specs.Memory.{one_more, fails}
+use Rattle.vod_base.specs.Memory.{fails}
+use Rattle.vod_base.specs.Outside.{one_more}
 use Rattle.vod_base.specs.Links.{Doing, HeardBytes, HeardSlot, HeardEnd, Sent}
 use Rattle.vod_base.specs.declared.memory_links.Event.{Event}
 use Rattle.vod_base.specs.declared.memory_links.Event.TheVariants.{Bytes, Slot, End}

@@ -1,12 +1,16 @@
 -- What the outside holds and counts, as contracts see it.
-use Rattle.std.specs.Prelude.{◌≡◌, ℕ, ◌-◌, ◌<◌, ◌≤◌, ◌^◌, if◌then◌else◌, List, [], ◌∷◌, ◌++◌}
-use Rattle.std.specs.Prelude.{length, take, drop, Option, Some, None, unwrap_or}
+use Rattle.std.specs.Prelude.{◌≡◌, ℕ, ◌+◌, ◌-◌, ◌<◌, ◌≤◌, ◌^◌, if◌then◌else◌, List, [], ◌∷◌, ◌++◌}
+use Rattle.std.specs.Prelude.{nat_lt, length, take, drop, Option, Some, None, unwrap_or}
 use Rattle.std.specs.Str.{bytes_eq}
 
 -- A fault count rose. A count that stands at the end of 64 bits, where a counter stays, counts as
 -- risen.
 abbrev pub HasRisen : ℕ → ℕ → Type 0
 HasRisen old new = new < 2 ^ 64 - 1 → old < new
+
+-- one more, where the count stays at the end of 64 bits
+abbrev pub one_more : ℕ → ℕ
+one_more count = if nat_lt count (2 ^ 64 - 1) then count + 1 else count
 
 -- a file of a library: its name, and its bytes
 pub record File : Type 0 where

@@ -36,7 +36,7 @@ pub trait Gate: Sized {
 
     ghost told: { Self → Option Content };
 
-    /// Opens the gate, and forgets the parts from before.
+    /// Opens the gate, and forgets the parts from before. Each call is counted.
     ///
     /// # Errors
     ///
@@ -46,7 +46,8 @@ pub trait Gate: Sized {
         ensures fault { OnErr result (HasRisen (faults self.old) (faults self.new)) }
         ensures open { OnOk result (told self.new ≡
             option_map (after_open (Some how.now)) (told self.old)) }
-        ensures lost { OnErr result (told self.new ≡ option_map (after_open None) (told self.old)) };
+        ensures lost { OnErr result (told self.new ≡
+            option_map (after_open None) (told self.old)) };
 
     /// Makes a part, which gives connections of its own.
     ///

@@ -17,6 +17,7 @@ mod numbers;
 mod output;
 mod outside;
 mod shares;
+mod splits;
 
 pub use blanks::{is_blank, trim};
 pub use files::Library;
@@ -25,7 +26,7 @@ pub use laws::{
     law_blanks, law_file_name, law_first_file, law_line_text, law_number_read, law_sent, law_trim,
 };
 pub use lines::{Line, line_end};
-pub use links::{Heard, Link};
+pub use links::{Heard, LATEST_SLOT, Link};
 pub use memory_gates::{MemoryGate, MemoryPart};
 pub use memory_libraries::MemoryLibrary;
 pub use memory_links::{Event, MemoryLink};
@@ -34,6 +35,7 @@ pub use names::good_name;
 pub use numbers::{NumberFault, read_number};
 pub use output::Sink;
 pub use outside::{GateFault, LinkFault, NoMemory, SinkFault, StoreFault};
+pub use splits::split_at_first;
 
 #[cfg(test)]
 mod tests;

@@ -7,6 +7,9 @@ ghost use Rattle.vod_base.specs.Links.{Doing, doing_of, IsWithin, sends, told_mo
 
 use crate::outside::LinkFault;
 
+/// The last slot that a connection may begin.
+pub const LATEST_SLOT: u64 = 1 << 62;
+
 /// What a connection waited for and heard.
 #[derive(Clone, Copy, Debug, PartialEq, Eq)]
 pub enum Heard {

@@ -3,7 +3,7 @@
 ghost use Rattle.std.specs.Prelude.{◌≡◌, ◌-◌, ◌↔◌, ◌||◌, false, Some, None, [], if◌then◌else◌};
 ghost use Rattle.std.specs.Prelude.{nat_lt, map, IfSome, IfOk, IsNone, OnOk, OnErr, is_err};
 ghost use Rattle.std.specs.Prelude.{vec_len};
-ghost use Rattle.vod_base.specs.Memory.{one_more};
+ghost use Rattle.vod_base.specs.Outside.{one_more};
 ghost use Rattle.vod_base.specs.Gates.{NoMore, Failed, MaySplit, IsOut, HasOut, after_open};
 ghost use Rattle.vod_base.specs.Gates.{split_off};
 ghost use Rattle.vod_base.specs.Gates.{new_part, after_take, after_empty_take, after_return};
@@ -40,6 +40,8 @@ const MAX_PARTS: usize = 256;
 #[derive(Debug, Drop)]
 pub struct MemoryGate {
     alloc: Global,
+    /// How often `open` was called.
+    openings: u64,
     opening: Option<Opening>,
     is_part: bool,
     parts: Vec<Option<Share>>,
@@ -60,6 +62,7 @@ impl Model for MemoryGate {
     ghost view = { λ g.
         record {
           content = record {
+            openings = g.openings;
             opening = g.opening;
             parts = map (option_map part_of) g.parts.items;
             own = part_of g.own;
@@ -88,7 +91,7 @@ impl MemoryGate {
     ) -> Result<MemoryGate, NoMemory>
         ensures { IfOk result (λ gate. gate ≡
             record {
-              content = record { opening = None; parts = []; own = fresh_part 0 };
+              content = record { openings = 0; opening = None; parts = []; own = fresh_part 0 };
               waiting = 0;
               is_part = false;
               failing = failing.items;
@@ -99,6 +102,7 @@ impl MemoryGate {
         let room = Vec::with_capacity(alloc, MAX_PARTS)?;
         Ok(MemoryGate {
             alloc,
+            openings: 0,
             opening: None,
             is_part: false,
             parts: room,
@@ -152,6 +156,7 @@ impl Gate for MemoryGate {
         ensures lost { OnErr result (self.new ≡
             record (gate_failed self.old) { content = after_open None self.old.content }) }
     {
+        self.openings = self.openings.saturating_add(1);
         self.opening = None;
         self.parts.clear();
         if self.is_part {
@@ -193,6 +198,7 @@ impl Gate for MemoryGate {
         };
         Ok(MemoryGate {
             alloc: self.alloc,
+            openings: 0,
             opening: None,
             is_part: true,
             parts: Vec::new(self.alloc),

@@ -3,7 +3,7 @@
 ghost use Rattle.std.specs.Prelude.{◌≡◌, ◌≤◌, ℕ, List, Option, Some, length, map, option_map};
 ghost use Rattle.std.specs.Prelude.{string_bytes, if◌then◌else◌, IfOk, OnOk, OnErr, is_err};
 ghost use Rattle.vod_base.specs.Outside.{File, HasRisen, file_named, bytes_named, IsRead};
-ghost use Rattle.vod_base.specs.Memory.{LibraryState, library_fails, library_called, one_more};
+ghost use Rattle.vod_base.specs.Memory.{LibraryState, library_fails, library_called};
 ghost use Rattle.vod_base.specs.Memory.{fails};
 
 use crate::files::Library;

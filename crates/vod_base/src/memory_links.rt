@@ -3,7 +3,8 @@
 ghost use Rattle.std.specs.Prelude.{◌≡◌, ◌+◌, ◌<◌, ◌≤◌, ◌++◌, ◌∷◌, [], ◌||◌, length, map, nat_lt};
 ghost use Rattle.std.specs.Prelude.{vec_len, vec_capacity, IfOk, OnOk, OnErr, is_err};
 ghost use Rattle.vod_base.specs.Links.{Sent, doing_of, IsWithin, sends};
-ghost use Rattle.vod_base.specs.Memory.{one_more, fails};
+ghost use Rattle.vod_base.specs.Memory.{fails};
+ghost use Rattle.vod_base.specs.Outside.{one_more};
 ghost use Rattle.vod_base.specs.declared.memory_links.Noted.TheVariants.{Gone};
 ghost use Rattle.vod_base.specs.MemoryLinks.{sent_of, doing_noted, next_fails};
 

@@ -2,7 +2,8 @@
 
 ghost use Rattle.std.specs.Prelude.{◌≡◌, ◌+◌, ◌<◌, ◌++◌, ◌||◌, [], length, nat_lt, if◌then◌else◌};
 ghost use Rattle.std.specs.Prelude.{IfOk, is_err};
-ghost use Rattle.vod_base.specs.Memory.{SinkState, one_more, fails};
+ghost use Rattle.vod_base.specs.Memory.{SinkState, fails};
+ghost use Rattle.vod_base.specs.Outside.{one_more};
 
 use crate::memory_libraries::is_listed;
 use crate::output::Sink;
@@ -45,16 +46,14 @@ impl MemorySink {
         ensures { IfOk result (λ sink. sink ≡
             record { bytes = []; room = room; failing = failing.items; calls = 0; faults = 0 }) }
     {
-        match Vec::with_capacity(alloc, room) {
-            Ok(kept) => Ok(MemorySink {
-                kept,
-                room,
-                failing,
-                calls: 0,
-                faults: 0,
-            }),
-            Err(_) => Err(NoMemory),
-        }
+        let kept = Vec::with_capacity(alloc, room)?;
+        Ok(MemorySink {
+            kept,
+            room,
+            failing,
+            calls: 0,
+            faults: 0,
+        })
     }
 
     /// The bytes that were written.
