@@ -7,12 +7,13 @@
 The words are those of `vodserve plan` and `vodserve day`, which is run in the current folder. A plan: the upper picture
 has the bytes that must have been sent and may have been sent by the end of each slot, and the plan between them; the
 lower one has the bytes of each slot, as the pictures come and as the plan sends them. A day: the bytes that each
-admitted play books in each slot, one on another, below the capacity; a script with `resume` isn't drawn.
+admitted play books in each slot, one on another, below the capacity.
 Each drawn line carries its numbers in `data-values`, so that a script can compare them (tools/draw_test.sh).
 """
 import os
 import subprocess
 import sys
+import tempfile
 
 WIDTH, HEIGHT, LEFT, GAP = 900, 260, 80, 46
 FACE = 'font-family="sans-serif" font-size="12"'
@@ -29,10 +30,10 @@ def words_of(arguments):
     return words
 
 
-def output_of(program, command, words):
-    """What the program prints, line by line."""
+def output_of(program, command, words, folder=None):
+    """What the program prints in a folder, line by line."""
     call = [program, command] + [f"{key}={value}" for key, value in words.items()]
-    done = subprocess.run(call, capture_output=True, text=True)
+    done = subprocess.run(call, capture_output=True, text=True, cwd=folder)
     if done.returncode != 0:
         fail(done.stderr.strip() or f"{program} ended with status {done.returncode}")
     return [line.split() for line in done.stdout.splitlines()]
@@ -175,12 +176,13 @@ class Day:
     """The plays of a script, as the lines that `day` printed tell them."""
 
     def __init__(self, program, words):
-        self.program, self.slot_units = program, words.get("slot")
+        self.program, self.words = program, words
         self.printed = output_of(program, "day", words)
         self.at, self.heard, self.plays, self.open = 0, 0, [], {}
         with open(words["script"]) as script:
-            for line in script.read().splitlines():
-                self.follow(line.split())
+            self.lines = script.read().splitlines()
+        for number, line in enumerate(self.lines, 1):
+            self.follow(line.split(), number)
         while "halt" in self.front():
             self.halt(self.next())
 
@@ -191,8 +193,8 @@ class Day:
         self.at += 1
         return self.printed[self.at - 1]
 
-    def follow(self, line):
-        """Takes what was printed for a line of the script."""
+    def follow(self, line, number):
+        """Takes what was printed for the line of that number in the script."""
         if not line:
             return
         if line[0] == "offer":
@@ -204,25 +206,50 @@ class Day:
             for _ in [play for play in self.open.values() if play.is_done(self.heard)]:
                 self.halt(self.next())
         elif line[0] == "play" and "admitted" in printed:
-            self.admit(line, printed)
+            self.admit(int(line[1]), printed, self.asked(line))
         elif line[0] == "pause" and "halt" in printed:
             self.halt(printed)
         elif line[0] == "resume" and "admitted" in printed:
-            fail("a script with a resume isn't drawn")
+            self.admit(int(line[1]), printed, self.resumed(number, printed))
 
-    def admit(self, line, printed):
+    def asked(self, line):
+        """The bytes of each slot of the plan that a line `play` asks with."""
         words = {line[2]: line[3], "buffer": line[4], "startup": line[5]}
-        if line[2] == "film" and self.slot_units:
-            words["slot"] = self.slot_units
+        if line[2] == "film" and "slot" in self.words:
+            words["slot"] = self.words["slot"]
         plan = output_of(self.program, "plan", words)
-        slots = slots_of([(int(part[1]), int(part[2])) for part in plan if part[0] == "segment"])
-        play = Play(int(printed[0]), int(line[1]), int(printed[-1].split("=")[1]), slots)
+        return slots_of([(int(part[1]), int(part[2])) for part in plan if part[0] == "segment"])
+
+    def resumed(self, number, printed):
+        """The bytes of each slot of the plan of what was left, with which the `resume` of that line asked: what the calendar of
+        the script up to this line has beside the open plays, each of which is sent to its end."""
+        start, count = start_of(printed), int(printed[4].split("=")[1])
+        end = max([start + count] + [play.start + len(play.slots) for play in self.open.values()])
+        names = {words[3] for words in map(str.split, self.lines[:number]) if words[0] in ("play", "offer")}
+        script = next(name for name in map(str, range(len(names) + 1)) if name not in names)
+        with tempfile.TemporaryDirectory() as folder:
+            for name in names:
+                os.symlink(os.path.abspath(name), os.path.join(folder, name))
+            with open(os.path.join(folder, script), "w") as front:
+                front.write("\n".join(self.lines[:number] + [f"slot {end}"]) + "\n")
+            calendar = output_of(self.program, "day", dict(self.words, script=script), folder)
+        booked = {int(line[1]): int(line[2].split("=")[1]) for line in calendar if line[0] == "at"}
+        others = [sum(values) for values in zip(*[play.booked(end) for play in self.plays])]
+        return [booked.get(slot, 0) - others[slot] for slot in range(start, start + count)]
+
+    def admit(self, client, printed, slots):
+        play = Play(int(printed[0]), client, start_of(printed), slots)
         self.plays.append(play)
         self.open[play.number] = play
 
     def halt(self, printed):
         values = dict(word.split("=") for word in printed if "=" in word)
         self.open.pop(int(values["number"])).keep = int(values["keep"])
+
+
+def start_of(printed):
+    """The start in the line of an admission."""
+    return int(printed[-1].split("=")[1])
 
 
 def capacities_of(word, end):

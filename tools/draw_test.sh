@@ -53,6 +53,17 @@ slot 4
 pause 2
 slot 5
 look 9
+resume 2
+slot 60
+play 3 trace trace.txt 20000 3
+slot 90
+pause 2
+slot 95
+resume 2
+slot 200
+pause 2
+slot 230
+resume 2
 slot 700
 SCRIPT
 for words in "capacity=5" "capacity=20000" "capacity=0:9000,4:7000"; do
