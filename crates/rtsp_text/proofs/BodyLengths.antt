@@ -4,7 +4,7 @@ use Rattle.std.specs.List.{list_all}
 use Rattle.std.specs.Char.{to_ascii_lowercase}
 use Rattle.std.specs.Str.{str_eq_ignore_ascii_case}
 use Rattle.std.specs.Cmp.Lexicographic.{same_text, other_text}
-use Rattle.std.proofs.lemmas.Bool.{cases_Bool, cases_lt, cases_eq, cond-true, cond-false}
+use Rattle.std.proofs.lemmas.Bool.{cases_Bool, cases_lt, cases_eq, cond-true, cond-false, and_from, and_parts}
 use Rattle.std.proofs.lemmas.List.{append_assoc, length-append, length-map, map-append, take_at, drop_at, take-append-drop, get_or_append_left, get_or-append_right}
 use Rattle.std.proofs.lemmas.List.Elements.{All-head, All-tail}
 use Rattle.vod_base.specs.Blanks.{without_blanks}
@@ -14,8 +14,9 @@ use Rattle.interleave.proofs.Found.{name_within}
 use Rattle.rtsp_text.specs.Lines.{is_one_line}
 use Rattle.rtsp_text.specs.Grammar.{IsCut}
 use Rattle.rtsp_text.specs.Replies.{Field, IsPlain, value_named}
-use Rattle.rtsp_text.proofs.Cuts.{and_left, and_right, and_both, is_other, other_is, cut_once}
-use Rattle.rtsp_text.proofs.ReadBack.{IsLineText, flat, text_of, text_line, line_here, token_other}
+use Rattle.rtsp_text.proofs.Cuts.{is_other, other_is, cut_once}
+use Rattle.rtsp_text.proofs.ReadBack.{IsLineText, flat, text_of, text_line, line_here}
+use Rattle.rtsp_text.proofs.Words.{token_without}
 
 -- the bytes of a field's line, between others
 abbrev pub line_bytes : List ℕ → List ℕ → List ℕ → List ℕ → List ℕ
@@ -28,10 +29,10 @@ lower_colon c e = grind arith
 lower_other : (name : List ℕ) → list_all (λ b. not (b == 58)) name ≡ true → list_all (λ b. not (b == 58)) (map to_ascii_lowercase name) ≡ true
 lower_other [] all = refl
 lower_other (c ∷ name) all =
-    let here = is_other c 58 (and_left (not (c == 58)) (list_all (λ b. not (b == 58)) name) all) in
-    and_both (not (to_ascii_lowercase c == 58)) (list_all (λ b. not (b == 58)) (map to_ascii_lowercase name))
+    let here = is_other c 58 (and_parts (not (c == 58)) (list_all (λ b. not (b == 58)) name) all).0 in
+    and_from (not (to_ascii_lowercase c == 58)) (list_all (λ b. not (b == 58)) (map to_ascii_lowercase name))
     (other_is (to_ascii_lowercase c) 58 (λ e. here (lower_colon c e)))
-    (lower_other name (and_right (not (c == 58)) (list_all (λ b. not (b == 58)) name) all))
+    (lower_other name (and_parts (not (c == 58)) (list_all (λ b. not (b == 58)) name) all).1)
 
 name_same : (name rest : List ℕ) → map to_ascii_lowercase name ≡ map to_ascii_lowercase (codes "Content-Length") →
     map to_ascii_lowercase (take 15 (name ++ 58 ∷ rest)) ≡ map to_ascii_lowercase (codes "Content-Length:")
@@ -143,7 +144,7 @@ scan a (f ∷ fs) all some feed none =
             | inl before ↦ none k before line_w
             | inr from ↦ elim (cases_eq k (length a)) [
               | inl here ↦ other_text (map to_ascii_lowercase f.name) (map to_ascii_lowercase (codes "Content-Length")) (sym other)
-                  (other_line a f.name f.value rest (token_other 58 refl f.name plain.name_is)
+                  (other_line a f.name f.value rest (token_without 58 refl f.name plain.name_is)
                   (subst (λ n. IsLengthLine (line_bytes a f.name f.value rest) n) here (subst (λ (v : List ℕ). IsLengthLine v k) (sym spelled) line_w)))
               | inr past ↦ inner_line a (text_of f) rest k (text_line f plain).one_line (omega (arith, from, past)) (omega (arith, below, size))
                   (subst (λ (v : List ℕ). IsLengthLine v k) (sym shape) line_w)

@@ -1,21 +1,10 @@
 -- A text is cut at its first byte of a kind in one way.
 use Rattle.std.proofs.Common.{◌≡◌, ◌≢◌, ℕ, ◌+◌, ◌<◌, ◌&&◌, ◌==◌, Bool, true, false, not, List, [], ◌∷◌, ◌++◌, length, get_or, take, drop, refl, sym, ap, ◌∙◌, ne_eqb, eq-eqb}
 use Rattle.std.specs.List.{list_all}
-use Rattle.std.proofs.lemmas.Bool.{both_ways}
+use Rattle.std.proofs.lemmas.Bool.{and_from, and_parts, both_ways}
 use Rattle.std.proofs.lemmas.List.{take-append-drop, drop_more}
 use Rattle.std.proofs.lemmas.List.Folds.{list_all-append}
 use Rattle.rtsp_text.specs.Grammar.{IsCut}
-
-pub and_left : (a b : Bool) → (a && b) ≡ true → a ≡ true
-and_left true b h = refl
-and_left false b h = h
-
-pub and_right : (a b : Bool) → (a && b) ≡ true → b ≡ true
-and_right true b h = h
-and_right false b h = let bad : false ≡ true = h in cc
-
-pub and_both : (a b : Bool) → a ≡ true → b ≡ true → (a && b) ≡ true
-and_both a b x y = rw (x, y) refl
 
 pub is_other : (x c : ℕ) → not (x == c) ≡ true → x ≢ c
 is_other x c h e = both_ways (not (x == c)) (ap not (eq-eqb x c e)) h
@@ -33,7 +22,7 @@ pub cut_none : (c : ℕ) (text front after : List ℕ) → list_all (λ b. not (
 cut_none c text front after none e =
     let all : (list_all (λ b. not (b == c)) front && (not (c == c) && list_all (λ b. not (b == c)) after)) ≡ true =
     sym (list_all-append (λ b. not (b == c)) front (c ∷ after)) ∙ ap (list_all (λ b. not (b == c))) (sym e) ∙ none in
-    is_other c c (and_left (not (c == c)) (list_all (λ b. not (b == c)) after) (and_right (list_all (λ b. not (b == c)) front) (not (c == c) && list_all (λ b. not (b == c)) after) all)) refl
+    is_other c c (and_parts (not (c == c)) (list_all (λ b. not (b == c)) after) (and_parts (list_all (λ b. not (b == c)) front) (not (c == c) && list_all (λ b. not (b == c)) after) all).1).0 refl
 
 pub record AreSame (a b c d : List ℕ) : Type 0 where
   pub front : a ≡ b
@@ -41,11 +30,11 @@ pub record AreSame (a b c d : List ℕ) : Type 0 where
 
 parts_once : (c : ℕ) (a b a' b' : List ℕ) → list_all (λ b. not (b == c)) a ≡ true → list_all (λ b. not (b == c)) a' ≡ true → a ++ c ∷ b ≡ a' ++ c ∷ b' → AreSame a a' b b'
 parts_once c [] b [] b' h h' e = record { front = refl; after = let s : c ∷ b ≡ c ∷ b' = e in cc }
-parts_once c [] b (x ∷ a') b' h h' e = absurd (is_other x c (and_left (not (x == c)) (list_all (λ b. not (b == c)) a') h') (let s : c ∷ b ≡ x ∷ (a' ++ c ∷ b') = e in cc))
-parts_once c (x ∷ a) b [] b' h h' e = absurd (is_other x c (and_left (not (x == c)) (list_all (λ b. not (b == c)) a) h) (let s : x ∷ (a ++ c ∷ b) ≡ c ∷ b' = e in cc))
+parts_once c [] b (x ∷ a') b' h h' e = absurd (is_other x c (and_parts (not (x == c)) (list_all (λ b. not (b == c)) a') h').0 (let s : c ∷ b ≡ x ∷ (a' ++ c ∷ b') = e in cc))
+parts_once c (x ∷ a) b [] b' h h' e = absurd (is_other x c (and_parts (not (x == c)) (list_all (λ b. not (b == c)) a) h).0 (let s : x ∷ (a ++ c ∷ b) ≡ c ∷ b' = e in cc))
 parts_once c (x ∷ a) b (y ∷ a') b' h h' e =
     let s : x ∷ (a ++ c ∷ b) ≡ y ∷ (a' ++ c ∷ b') = e in
-    let rest = parts_once c a b a' b' (and_right (not (x == c)) (list_all (λ b. not (b == c)) a) h) (and_right (not (y == c)) (list_all (λ b. not (b == c)) a') h') (let t : a ++ c ∷ b ≡ a' ++ c ∷ b' = cc in t) in
+    let rest = parts_once c a b a' b' (and_parts (not (x == c)) (list_all (λ b. not (b == c)) a) h).1 (and_parts (not (y == c)) (list_all (λ b. not (b == c)) a') h').1 (let t : a ++ c ∷ b ≡ a' ++ c ∷ b' = cc in t) in
     record { front = (let f = rest.front in cc); after = rest.after }
 
 -- a text is cut in one way
@@ -56,6 +45,6 @@ cut_once c text front after a b cut e none = parts_once c front after a b cut.fi
 pub all_other : (q : ℕ → Bool) (c : ℕ) → q c ≡ false → (text : List ℕ) → list_all q text ≡ true → list_all (λ b. not (b == c)) text ≡ true
 all_other q c fails [] all = refl
 all_other q c fails (x ∷ text) all =
-    and_both (not (x == c)) (list_all (λ b. not (b == c)) text)
-    (other_is x c (λ e. both_ways (q x) (ap q e ∙ fails) (and_left (q x) (list_all q text) all)))
-    (all_other q c fails text (and_right (q x) (list_all q text) all))
+    and_from (not (x == c)) (list_all (λ b. not (b == c)) text)
+    (other_is x c (λ e. both_ways (q x) (ap q e ∙ fails) (and_parts (q x) (list_all q text) all).0))
+    (all_other q c fails text (and_parts (q x) (list_all q text) all).1)

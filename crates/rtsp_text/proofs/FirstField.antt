@@ -5,12 +5,13 @@ use Rattle.std.specs.List.{list_all}
 use Rattle.std.specs.Str.{str_eq_ignore_ascii_case}
 use Rattle.std.specs.Char.{to_ascii_lowercase}
 use Rattle.std.specs.Cmp.Lexicographic.{bytes_decides}
-use Rattle.std.proofs.lemmas.Bool.{cases_Bool, cases_eq}
+use Rattle.std.proofs.lemmas.Bool.{cases_Bool, cases_eq, and_from}
+use Rattle.std.proofs.lemmas.Option.{same_Some}
 use Rattle.vod_base.specs.Numbers.{number_of}
 use Rattle.vod_base.specs.Blanks.{without_blanks}
 use Rattle.rtsp_text.specs.Grammar.{IsCut}
 use Rattle.rtsp_text.specs.Fields.{value_in, first_value, IsField, first_number, IsFirstField, HasNoField, IsFirstNumber, HasNoNumber}
-use Rattle.rtsp_text.proofs.Cuts.{and_both, other_is}
+use Rattle.rtsp_text.proofs.Cuts.{other_is}
 use Rattle.rtsp_text.proofs.Values.{value_some, value_other, value_none, first_value-nil, first_value_some, first_value_more, first_number-nil, first_number_some, first_number_more}
 
 -- a line that is a field of that name gives its value
@@ -28,10 +29,10 @@ data Colon (line : List ℕ) : Type 0 where
   Cut : (front after : List ℕ) → IsCut 58 line front after → Colon line
 
 colon_more : (x : ℕ) (line : List ℕ) → x ≢ 58 → Colon line → Colon (x ∷ line)
-colon_more x line other (NoColon none) = NoColon (and_both (not (x == 58)) (list_all (λ byte. not (byte == 58)) line) (other_is x 58 other) none)
+colon_more x line other (NoColon none) = NoColon (and_from (not (x == 58)) (list_all (λ byte. not (byte == 58)) line) (other_is x 58 other) none)
 colon_more x line other (Cut front after cut) = Cut (x ∷ front) after (record {
   parts = ap (λ l. x ∷ l) cut.parts;
-  first = and_both (not (x == 58)) (list_all (λ byte. not (byte == 58)) front) (other_is x 58 other) cut.first;
+  first = and_from (not (x == 58)) (list_all (λ byte. not (byte == 58)) front) (other_is x 58 other) cut.first;
 })
 
 colon_of : (line : List ℕ) → Colon line
@@ -41,9 +42,6 @@ colon_of (x ∷ line) =
       | inl colon ↦ Cut [] line (record { parts = ap (λ b. b ∷ line) colon; first = refl })
       | inr other ↦ colon_more x line other (colon_of line)
     ]
-
-same_value : (a b : List ℕ) → Some a ≡ Some b → a ≡ b
-same_value a b e = cc
 
 -- a line that gives a value is a field of that name
 value_field : (name line value : List ℕ) → value_in name line ≡ Some value → IsField name line value
@@ -58,7 +56,7 @@ value_field name line value is = go (colon_of line)
             after = after;
             cut = cut;
             name_is = (bytes_decides (map to_ascii_lowercase front) (map to_ascii_lowercase name)).0 same;
-            value_is = same_value value (without_blanks after) (sym is ∙ value_some name line front after cut same);
+            value_is = same_Some value (without_blanks after) (sym is ∙ value_some name line front after cut same);
           }
           | inr other ↦ absurd (let bad : None ≡ Some value = sym (value_other name line front after cut other) ∙ is in cc)
         ]

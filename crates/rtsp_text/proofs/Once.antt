@@ -1,9 +1,10 @@
 -- A message has one answer.
-use Rattle.std.proofs.Common.{◌≡◌, ℕ, ◌+◌, ◌<◌, List, [], ◌∷◌, ◌++◌, All, codes, Some, None, Result, Ok, Err, length, get_or, take, drop, refl, sym, ap, subst, ◌∙◌, arith, inl, inr}
+use Rattle.std.proofs.Common.{◌≡◌, ℕ, ◌+◌, ◌<◌, List, [], ◌∷◌, ◌++◌, All, codes, Result, Ok, Err, length, get_or, take, drop, refl, sym, ap, subst, ◌∙◌, arith, inl, inr}
 use Rattle.std.specs.Prelude.{IfOk, IfErr, IsOkAnd}
 use Rattle.std.proofs.lemmas.Bool.{cases_order}
 use Rattle.std.proofs.lemmas.List.{take_at, drop_at, length-drop, get_or-drop, drop-drop}
 use Rattle.std.proofs.lemmas.List.Elements.{All-from_get_or}
+use Rattle.std.proofs.lemmas.Option.{none-some, same_Some}
 use Rattle.interleave.proofs.Unique.{head_once}
 use Rattle.rtsp_text.specs.Lines.{first_line, header_lines}
 use Rattle.rtsp_text.specs.Grammar.{IsRequestLine, IsHeaderLine}
@@ -18,9 +19,6 @@ line_once text m u v m' u' v' a b = line_parts text m (u ++ 32 ∷ v) u v m' u' 
 
 version_once : (message v w : List ℕ) → HasVersion message v → HasVersion message w → v ≡ w
 version_once message v w a b = (line_once (first_line message) a.0 a.1.0 v b.0 b.1.0 w a.1.1 b.1.1).version_is
-
-none_some : {X : Type 0} (x : X) → None ≡ Some x → ⊥
-none_some x e = cc
 
 -- the first bad line
 pub bad_once : (lines : List (List ℕ)) (n m : ℕ) → IsFirstBad lines n → IsFirstBad lines m → n ≡ m
@@ -54,11 +52,11 @@ fault_once message NoSequenceNumber BadLine a b = absurd (b (codes "RTSP/1.0") a
 fault_once message NoSequenceNumber BadVersion a b = absurd (b.1.1 (version_once message b.0 (codes "RTSP/1.0") b.1.0 a.0))
 fault_once message NoSequenceNumber (BadHeader m) a b = absurd (no_bad (header_lines message) m a.1 b.1)
 fault_once message NoSequenceNumber NoSequenceNumber a b = refl
-fault_once message NoSequenceNumber BadLength a b = absurd (none_some b.2.0 (sym a.2 ∙ b.2.1))
+fault_once message NoSequenceNumber BadLength a b = absurd (none-some b.2.0 (sym a.2 ∙ b.2.1))
 fault_once message BadLength BadLine a b = absurd (b (codes "RTSP/1.0") a.0)
 fault_once message BadLength BadVersion a b = absurd (b.1.1 (version_once message b.0 (codes "RTSP/1.0") b.1.0 a.0))
 fault_once message BadLength (BadHeader m) a b = absurd (no_bad (header_lines message) m a.1 b.1)
-fault_once message BadLength NoSequenceNumber a b = absurd (none_some a.2.0 (sym b.2 ∙ a.2.1))
+fault_once message BadLength NoSequenceNumber a b = absurd (none-some a.2.0 (sym b.2 ∙ a.2.1))
 fault_once message BadLength BadLength a b = refl
 
 -- a request has no fault
@@ -66,7 +64,7 @@ pub no_fault : (message method url : List ℕ) (sequence : ℕ) (head body : Lis
 no_fault message method url sequence head body BadLine r f = f (codes "RTSP/1.0") (method, (url, r.line))
 no_fault message method url sequence head body BadVersion r f = f.1.1 (version_once message f.0 (codes "RTSP/1.0") f.1.0 (method, (url, r.line)))
 no_fault message method url sequence head body (BadHeader n) r f = no_bad (header_lines message) n r.headers f.1
-no_fault message method url sequence head body NoSequenceNumber r f = none_some sequence (sym f.2 ∙ r.sequence_is)
+no_fault message method url sequence head body NoSequenceNumber r f = none-some sequence (sym f.2 ∙ r.sequence_is)
 no_fault message method url sequence head body BadLength r f = f.3 r.length_is
 
 -- a request has one list of parts
@@ -76,9 +74,6 @@ pub record AreSameParts (m u : List ℕ) (s : ℕ) (h b m' u' : List ℕ) (s' : 
   pub sequence_is : s ≡ s'
   pub head_is : h ≡ h'
   pub body_is : b ≡ b'
-
-same_some : (a b : ℕ) → Some a ≡ Some b → a ≡ b
-same_some a b e = cc
 
 pub request_once : (message m u : List ℕ) (s : ℕ) (h b m' u' : List ℕ) (s' : ℕ) (h' b' : List ℕ) → IsRequest message m u s h b → IsRequest message m' u' s' h' b' → AreSameParts m u s h b m' u' s' h' b'
 request_once message m u s h b m' u' s' h' b' x y =
@@ -91,7 +86,7 @@ request_once message m u s h b m' u' s' h' b' x y =
     record {
       method_is = line.method_is;
       url_is = line.url_is;
-      sequence_is = same_some s s' (sym x.sequence_is ∙ y.sequence_is);
+      sequence_is = same_Some s s' (sym x.sequence_is ∙ y.sequence_is);
       head_is = front;
       body_is = after;
     }

@@ -26,8 +26,9 @@ pub one_line-name : (name : List ℕ) → is_good_name name ≡ true → is_one_
 one_line-name name good =
     one_line_from is_name_byte refl name (and_parts (nat_lt 0 (length name) && nat_le (length name) 64 && not (get_or name 0 0 == 46)) (list_all is_name_byte name) good).1
 
-own : IsNumeralModel (λ ds. list_all is_ascii_digit ds ≡ true) (digits_value 10)
-own = numerals_by_value (λ ds. list_all is_ascii_digit ds ≡ true) (search rules)
+-- digits are numerals in base 10
+pub decimal_numerals : IsNumeralModel (λ ds. list_all is_ascii_digit ds ≡ true) (digits_value 10)
+decimal_numerals = numerals_by_value (λ ds. list_all is_ascii_digit ds ≡ true) (search rules)
 
 pub one_line-decimal : (n : ℕ) → n < 2 ^ 64 → is_one_line (decimal n) ≡ true
-one_line-decimal n small = one_line_from is_ascii_digit refl (decimal n) (digits_decimal own n small)
+one_line-decimal n small = one_line_from is_ascii_digit refl (decimal n) (digits_decimal decimal_numerals n small)

@@ -1,29 +1,27 @@
 -- A reply that was written is read back.
-use Rattle.std.proofs.Common.{◌≡◌, ◌≢◌, ℕ, ◌+◌, ◌-◌, ◌/◌, ◌%◌, ◌^◌, ◌<◌, ◌≤◌, ◌&&◌, ◌||◌, ◌==◌, true, false, not, nat_lt, List, [], ◌∷◌, ◌++◌, All, codes, decimal, map, flat_map, length, get_or, take, drop, Option, Some, None, refl, sym, ap, subst, ◌∙◌, arith, inl, inr, ne_eqb, eq-eqb, rules}
+use Rattle.std.proofs.Common.{◌≡◌, ◌≢◌, ℕ, ◌+◌, ◌-◌, ◌/◌, ◌%◌, ◌^◌, ◌<◌, ◌≤◌, ◌&&◌, ◌||◌, ◌==◌, true, false, not, nat_lt, List, [], ◌∷◌, ◌++◌, All, codes, decimal, map, flat_map, length, get_or, take, drop, Option, Some, None, refl, sym, ap, subst, ◌∙◌, arith, inl, inr, ne_eqb, eq-eqb}
 use Rattle.std.specs.List.{list_all}
 use Rattle.std.specs.Char.{is_ascii_digit}
 use Rattle.std.specs.Str.{str_eq_ignore_ascii_case}
-use Rattle.std.specs.Str.Parse.{digits_value}
 use Rattle.std.specs.Str.Lines.{lines, strip_carriage_return}
-use Rattle.std.proofs.lemmas.Bool.{cases_Bool, cases_lt, and_parts, and_from, or_cases, both_ways, cond-true, cond-false, eqb-true, lt-ltb}
+use Rattle.std.proofs.lemmas.Bool.{cases_Bool, cases_lt, and_from, or_cases, both_ways, cond-true, cond-false, eqb-true, lt-ltb}
 use Rattle.std.proofs.lemmas.Bool.Decides.{nat_tests}
 use Rattle.std.proofs.lemmas.List.{append_assoc, length-append, take_at, drop_at, get_or_append_left, get_or-append_right}
 use Rattle.std.proofs.lemmas.List.Elements.{All-nil, All-cons, All-head, All-tail, All-from_get_or}
 use Rattle.std.proofs.lemmas.List.Folds.{list_all_at}
 use Rattle.std.proofs.lemmas.Fmt.{decimal_digit, decimal_step, decimal_nonempty, digits_decimal, digits_value-decimal}
-use Rattle.std.proofs.lemmas.Str.Parse.{IsNumeralModel, numerals_by_value}
 use Rattle.vod_base.specs.Lines.{IsLine}
 use Rattle.interleave.specs.Pieces.{IsRequestLength}
 use Rattle.rtsp_text.specs.Lines.{is_one_line, before_empty, first_line, header_lines, IsSplit}
-use Rattle.rtsp_text.specs.Grammar.{is_token, is_token_byte, IsCut}
+use Rattle.rtsp_text.specs.Grammar.{IsCut}
 use Rattle.rtsp_text.specs.Fields.{first_value}
 use Rattle.rtsp_text.specs.Replies.{is_code, reason, Field, field_line, sequence_line, status_line, reply_front, reply_text, all_fields, IsPlain, value_named, IsReadBack}
 use Rattle.rtsp_text.specs.StatusLines.{IsCode, IsStatusLine}
 use Rattle.rtsp_text.proofs.Bounds.{lengths_of}
-use Rattle.rtsp_text.proofs.Cuts.{all_other}
 use Rattle.rtsp_text.proofs.Heads.{HasWalked, walk_first, walk_more, walk_end}
-use Rattle.rtsp_text.proofs.OneLines.{one_line-append, one_line-decimal}
+use Rattle.rtsp_text.proofs.OneLines.{decimal_numerals, one_line-append, one_line-decimal}
 use Rattle.rtsp_text.proofs.Values.{value_some, value_other, first_value-nil, first_value_some, first_value_more}
+use Rattle.rtsp_text.proofs.Words.{token_without}
 use Rattle.rtsp_text.proofs.Walks.{lines-at, while_yes, while_no}
 
 -- a text that is a line by itself
@@ -124,13 +122,10 @@ before_empty-all (t ∷ ts) rest all =
 abbrev pub text_of : Field → List ℕ
 text_of field = field.name ++ codes ": " ++ field.value
 
-pub token_other : (c : ℕ) → is_token_byte c ≡ false → (name : List ℕ) → is_token name ≡ true → list_all (λ b. not (b == c)) name ≡ true
-token_other c fails name token = all_other is_token_byte c fails name (and_parts (nat_lt 0 (length name)) (list_all is_token_byte name) token).1
-
 pub text_line : (field : Field) → IsPlain field → IsLineText (text_of field)
 text_line field plain = record {
   some = omega (arith, length-append (field.name ++ codes ": ") field.value, length-append field.name (codes ": "));
-  one_line = one_line-append (field.name ++ codes ": ") field.value (one_line-append field.name (codes ": ") (token_other 10 refl field.name plain.name_is) refl) plain.one_line;
+  one_line = one_line-append (field.name ++ codes ": ") field.value (one_line-append field.name (codes ": ") (token_without 10 refl field.name plain.name_is) refl) plain.one_line;
 }
 
 pub texts_lines : (fields : List Field) → All IsPlain fields → All IsLineText (map text_of fields)
@@ -143,7 +138,7 @@ flat-fields (f ∷ fs) = ap (λ l. field_line f ++ l) (flat-fields fs)
 
 -- the value of a field's line
 field_cut : (field : Field) → IsPlain field → IsCut 58 (text_of field) field.name (32 ∷ field.value)
-field_cut field plain = record { parts = append_assoc field.name (codes ": ") field.value; first = token_other 58 refl field.name plain.name_is }
+field_cut field plain = record { parts = append_assoc field.name (codes ": ") field.value; first = token_without 58 refl field.name plain.name_is }
 
 pub values_named : (name : List ℕ) (fields : List Field) → All IsPlain fields → first_value name (map text_of fields) ≡ value_named name fields
 unfolding value_named
@@ -169,9 +164,6 @@ pub record IsStatus (code : ℕ) : Type 0 where
   pub no_space : get_or (reason code) 0 0 ≢ 32
   pub one_line : is_one_line (reason code) ≡ true
 
-own : IsNumeralModel (λ ds. list_all is_ascii_digit ds ≡ true) (digits_value 10)
-own = numerals_by_value (λ ds. list_all is_ascii_digit ds ≡ true) (search rules)
-
 -- such a code has three digits
 code_digits : (code : ℕ) → 100 ≤ code → code < 1000 → IsCode (decimal code) code
 code_digits code three small =
@@ -183,8 +175,8 @@ code_digits code three small =
     let last : length (decimal (code / 10 / 10)) ≡ 1 = ap length (decimal_digit (code / 10 / 10) (omega arith)) in
     record {
       three = omega (arith, one, two, last);
-      decimal = and_from (nat_lt 0 (length (decimal code))) (list_all is_ascii_digit (decimal code)) (lt-ltb 0 (length (decimal code)) (decimal_nonempty code fits)) (digits_decimal own code fits);
-      code_is = sym (digits_value-decimal own code fits);
+      decimal = and_from (nat_lt 0 (length (decimal code))) (list_all is_ascii_digit (decimal code)) (lt-ltb 0 (length (decimal code)) (decimal_nonempty code fits)) (digits_decimal decimal_numerals code fits);
+      code_is = sym (digits_value-decimal decimal_numerals code fits);
     }
 
 status_200 : IsStatus 200

@@ -20,7 +20,8 @@ use Rattle.rtsp_text.specs.Requests.{IsRequest}
 use Rattle.rtsp_text.specs.Replies.{Field, field_line, IsPlain, value_named, is_code, reply_front, reply_text, all_fields}
 use Rattle.rtsp_text.specs.Spelled.{Parts, request_line, request_front, request_head, request_text, IsHeaderField, HasGivenLength, GivesLongBody, HasForm, AreFront, AreRequest, AreShort}
 use Rattle.rtsp_text.proofs.OneLines.{one_line_from, one_line-append, one_line-url}
-use Rattle.rtsp_text.proofs.ReadBack.{IsLineText, core, flat, flat-fields, text_of, texts_lines, token_other, values_named, status_text, status_of, status_text-line, front_lines}
+use Rattle.rtsp_text.proofs.ReadBack.{IsLineText, core, flat, flat-fields, text_of, texts_lines, values_named, status_text, status_of, status_text-line, front_lines}
+use Rattle.rtsp_text.proofs.Words.{token_without}
 use Rattle.rtsp_text.proofs.WordTexts.{word_is, word_of, value_is, named_texts, visible_of}
 use Rattle.rtsp_text.proofs.BodyLengths.{length_given, body_length_of}
 
@@ -95,7 +96,7 @@ line_text : (parts : Parts) → AreFront parts → IsLineText (request_line part
 line_text parts front = record {
   some = omega (arith, length-append (parts.method ++ codes " " ++ parts.url) (codes " RTSP/1.0"));
   one_line = one_line-append (parts.method ++ codes " " ++ parts.url) (codes " RTSP/1.0")
-      (one_line-append (parts.method ++ codes " ") parts.url (one_line-append parts.method (codes " ") (token_other 10 refl parts.method (word_is parts.method front.method_is)) refl) (one_line-url parts.url front.url_is.bytes)) refl;
+      (one_line-append (parts.method ++ codes " ") parts.url (one_line-append parts.method (codes " ") (token_without 10 refl parts.method (word_is parts.method front.method_is)) refl) (one_line-url parts.url front.url_is.bytes)) refl;
 }
 
 version_1_0 : IsVersion (codes "RTSP/1.0")

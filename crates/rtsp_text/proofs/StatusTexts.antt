@@ -1,24 +1,23 @@
 -- A status line, from where it is cut.
-use Rattle.std.proofs.Common.{◌≡◌, ◌≢◌, ℕ, ◌^◌, ◌<◌, ◌&&◌, ◌==◌, true, not, nat_lt, List, ◌∷◌, ◌++◌, codes, length, get_or, take, drop, Some, None, rules, refl, sym, ap, ◌∙◌, arith, inl, inr, lt-ltb}
+use Rattle.std.proofs.Common.{◌≡◌, ◌≢◌, ℕ, ◌^◌, ◌<◌, ◌&&◌, ◌==◌, true, not, nat_lt, List, ◌∷◌, ◌++◌, codes, length, get_or, take, drop, Some, None, refl, sym, ap, ◌∙◌, arith, inl, inr, lt-ltb}
 use Rattle.std.specs.List.{list_all}
 use Rattle.std.specs.Char.{is_ascii_digit}
 use Rattle.std.specs.Str.Parse.{digits_value}
 use Rattle.std.proofs.lemmas.Bool.{cases_Bool, and_parts, and_from, cond-true, cond-false}
 use Rattle.std.proofs.lemmas.List.{take_at, drop_at}
-use Rattle.std.proofs.lemmas.Str.Parse.{IsNumeralModel, numerals_by_value, digits_value_short}
+use Rattle.std.proofs.lemmas.Str.Parse.{digits_value_short}
+use Rattle.std.proofs.lemmas.Option.{none-some, same_Some}
 use Rattle.vod_base.specs.Numbers.{is_decimal, number_of}
 use Rattle.interleave.proofs.Unique.{head_once}
 use Rattle.rtsp_text.specs.Grammar.{IsCut}
 use Rattle.rtsp_text.specs.Lines.{first_line}
 use Rattle.rtsp_text.specs.StatusLines.{IsCode, IsStatusLine, IsReply}
 use Rattle.rtsp_text.proofs.Cuts.{cut_once, cut_none, all_other}
-
-own : IsNumeralModel (λ ds. list_all is_ascii_digit ds ≡ true) (digits_value 10)
-own = numerals_by_value (λ ds. list_all is_ascii_digit ds ≡ true) (search rules)
+use Rattle.rtsp_text.proofs.OneLines.{decimal_numerals}
 
 code_small : (text : List ℕ) → length text ≡ 3 → is_decimal text ≡ true → digits_value 10 text < 10 ^ 3
 code_small text three decimal =
-    digits_value_short own text 3 (and_parts (nat_lt 0 (length text)) (list_all is_ascii_digit text) decimal).1 (omega (arith, three))
+    digits_value_short decimal_numerals text 3 (and_parts (nat_lt 0 (length text)) (list_all is_ascii_digit text) decimal).1 (omega (arith, three))
 
 -- three digits are read as a number
 digits_number : (text : List ℕ) → length text ≡ 3 → is_decimal text ≡ true → number_of text ≡ Some (digits_value 10 text)
@@ -26,25 +25,19 @@ digits_number text three decimal =
     cond-true (is_decimal text && nat_lt (digits_value 10 text) (2 ^ 64)) (Some (digits_value 10 text)) None
     (and_from (is_decimal text) (nat_lt (digits_value 10 text) (2 ^ 64)) decimal (lt-ltb (digits_value 10 text) (2 ^ 64) (omega (arith, code_small text three decimal))))
 
-same_some : (a b : ℕ) → Some a ≡ Some b → a ≡ b
-same_some a b e = cc
-
-no_some : (b : ℕ) → None ≡ Some b → ⊥
-no_some b e = cc
-
 pub code_read : (text : List ℕ) (n : ℕ) → length text ≡ 3 → number_of text ≡ Some n → IsCode text n × (n < 1000)
 code_read text n three read =
     elim (cases_Bool (is_decimal text && nat_lt (digits_value 10 text) (2 ^ 64))) [
       | inl good ↦ (
           let decimal = (and_parts (is_decimal text) (nat_lt (digits_value 10 text) (2 ^ 64)) good).0 in
-          let same : n ≡ digits_value 10 text = same_some n (digits_value 10 text) (sym read ∙ digits_number text three decimal) in
+          let same : n ≡ digits_value 10 text = same_Some n (digits_value 10 text) (sym read ∙ digits_number text three decimal) in
           (record { three = three; decimal = decimal; code_is = same }, omega (arith, same, code_small text three decimal))
           )
-      | inr wrong ↦ absurd (no_some n (sym (cond-false (is_decimal text && nat_lt (digits_value 10 text) (2 ^ 64)) (Some (digits_value 10 text)) None wrong) ∙ read))
+      | inr wrong ↦ absurd (none-some n (sym (cond-false (is_decimal text && nat_lt (digits_value 10 text) (2 ^ 64)) (Some (digits_value 10 text)) None wrong) ∙ read))
     ]
 
 pub code_none : (text : List ℕ) (n : ℕ) → number_of text ≡ None → IsCode text n → ⊥
-code_none text n none code = no_some (digits_value 10 text) (sym none ∙ digits_number text code.three code.decimal)
+code_none text n none code = none-some (digits_value 10 text) (sym none ∙ digits_number text code.three code.decimal)
 
 -- digits have no space
 digits_cut : (digits reason : List ℕ) (code : ℕ) → IsCode digits code → IsCut 32 (digits ++ 32 ∷ reason) digits reason

@@ -5,14 +5,13 @@ use Rattle.std.specs.List.{list_all, list_any, filter_map, cons_option, prefix_l
 use Rattle.std.specs.Str.{str_eq_ignore_ascii_case}
 use Rattle.std.specs.Char.{to_ascii_lowercase}
 use Rattle.std.specs.Cmp.Lexicographic.{bytes_decides}
-use Rattle.std.proofs.lemmas.Bool.{cond-true, cond-false}
+use Rattle.std.proofs.lemmas.Bool.{cond-true, cond-false, and_parts}
 use Rattle.std.proofs.lemmas.Bool.Decides.{same_from_decides}
 use Rattle.std.proofs.lemmas.List.{take_at, drop_at, drop-drop}
 use Rattle.vod_base.specs.Numbers.{number_of}
 use Rattle.vod_base.specs.Blanks.{without_blanks}
 use Rattle.rtsp_text.specs.Grammar.{IsCut}
 use Rattle.rtsp_text.specs.Fields.{has_name, value_in, first_value, first_number}
-use Rattle.rtsp_text.proofs.Cuts.{and_left, and_right}
 
 pub same_name : (r : Bool) (a b : List ℕ) → (IsTrue r ↔ (map to_ascii_lowercase a ≡ map to_ascii_lowercase b)) → r ≡ str_eq_ignore_ascii_case a b
 same_name r a b h = same_from_decides r (str_eq_ignore_ascii_case a b) h (bytes_decides (map to_ascii_lowercase a) (map to_ascii_lowercase b))
@@ -30,8 +29,8 @@ no_colon : (line : List ℕ) → list_all (λ byte. not (byte == 58)) line ≡ t
 no_colon [] none = refl
 no_colon (x ∷ line) none =
     rw (
-      not_so (x == 58) (and_left (not (x == 58)) (list_all (λ byte. not (byte == 58)) line) none),
-      no_colon line (and_right (not (x == 58)) (list_all (λ byte. not (byte == 58)) line) none),
+      not_so (x == 58) (and_parts (not (x == 58)) (list_all (λ byte. not (byte == 58)) line) none).0,
+      no_colon line (and_parts (not (x == 58)) (list_all (λ byte. not (byte == 58)) line) none).1,
     ) refl
   where
     not_so : (b : Bool) → not b ≡ true → b ≡ false
@@ -42,8 +41,8 @@ colon_place : (front after : List ℕ) → list_all (λ byte. not (byte == 58)) 
 colon_place [] after none = refl
 colon_place (x ∷ front) after none =
     rw (
-      and_left (not (x == 58)) (list_all (λ byte. not (byte == 58)) front) none,
-      colon_place front after (and_right (not (x == 58)) (list_all (λ byte. not (byte == 58)) front) none),
+      (and_parts (not (x == 58)) (list_all (λ byte. not (byte == 58)) front) none).0,
+      colon_place front after (and_parts (not (x == 58)) (list_all (λ byte. not (byte == 58)) front) none).1,
     ) (omega arith)
 
 before_colon : (line front after : List ℕ) → IsCut 58 line front after → before_first (λ byte. byte == 58) line ≡ front

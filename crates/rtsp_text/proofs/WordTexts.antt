@@ -8,15 +8,15 @@ use Rattle.std.proofs.lemmas.List.{append_assoc}
 use Rattle.std.proofs.lemmas.List.Elements.{All-nil, All-cons, All-head, All-tail}
 use Rattle.rtsp_text.specs.Grammar.{is_token, is_token_byte, is_url_byte, is_value_byte, IsHeaderLine}
 use Rattle.rtsp_text.specs.Spelled.{IsWordByte, IsWord, IsTextByte, IsNamedText, IsVisibleByte}
-use Rattle.rtsp_text.proofs.Cuts.{and_left, and_right, and_both, is_other}
+use Rattle.rtsp_text.proofs.Cuts.{is_other}
 
 all_from : (P : ℕ → Type 0) (q : ℕ → Bool) → ((c : ℕ) → P c → q c ≡ true) → (text : List ℕ) → All P text → list_all q text ≡ true
 all_from P q is [] all = refl
-all_from P q is (c ∷ text) all = and_both (q c) (list_all q text) (is c (All-head P c text all)) (all_from P q is text (All-tail P c text all))
+all_from P q is (c ∷ text) all = and_from (q c) (list_all q text) (is c (All-head P c text all)) (all_from P q is text (All-tail P c text all))
 
 all_to : (P : ℕ → Type 0) (q : ℕ → Bool) → ((c : ℕ) → q c ≡ true → P c) → (text : List ℕ) → list_all q text ≡ true → All P text
 all_to P q is [] all = All-nil P
-all_to P q is (c ∷ text) all = All-cons P c text (is c (and_left (q c) (list_all q text) all)) (all_to P q is text (and_right (q c) (list_all q text) all))
+all_to P q is (c ∷ text) all = All-cons P c text (is c (and_parts (q c) (list_all q text) all).0) (all_to P q is text (and_parts (q c) (list_all q text) all).1)
 
 word_byte : (c : ℕ) → IsWordByte c → is_token_byte c ≡ true
 word_byte c (inl letter) = rw letter refl

@@ -1,16 +1,16 @@
 -- The words of a request line and of a header line, from where the line is cut.
-use Rattle.std.proofs.Common.{◌≡◌, ◌≢◌, ℕ, ◌+◌, ◌<◌, ◌==◌, true, false, not, nat_lt, List, [], ◌∷◌, ◌++◌, codes, map, length, get_or, take, drop, nat_eq, MatchOption, Option, Some, None, refl, sym, ap, subst, ◌∙◌, arith, inl, inr}
+use Rattle.std.proofs.Common.{◌≡◌, ◌≢◌, ℕ, ◌<◌, ◌==◌, true, false, not, nat_lt, List, [], ◌∷◌, ◌++◌, codes, map, length, get_or, take, drop, refl, sym, ap, subst, ◌∙◌, arith, inl, inr}
 use Rattle.std.specs.List.{list_all}
 use Rattle.std.specs.Char.{is_ascii_digit, to_ascii_lowercase}
-use Rattle.std.specs.Cmp.Lexicographic.{pointwise, same_text, other_text}
-use Rattle.std.proofs.lemmas.Bool.{cases_eq}
-use Rattle.std.proofs.lemmas.List.{take-append-drop, take_at, drop_at, length-map, length-append}
+use Rattle.std.proofs.lemmas.Bool.{cases_eq, and_from, and_parts}
+use Rattle.std.proofs.lemmas.List.{take_at, drop_at, length-map, length-append}
 use Rattle.vod_base.specs.Numbers.{is_decimal}
 use Rattle.rtsp_text.specs.Grammar.{is_token_byte, is_token, is_url_byte, is_value_byte, IsRtspUrl, IsUrl, IsVersion, AreVersionNumbers, IsRequestLine, IsHeaderLine, IsCut}
-use Rattle.rtsp_text.proofs.Cuts.{and_left, and_right, and_both, is_other, other_is, cut_once, all_other}
+use Rattle.rtsp_text.proofs.Cuts.{is_other, other_is, cut_once, all_other}
 
-token_without : (c : ℕ) → is_token_byte c ≡ false → (text : List ℕ) → is_token text ≡ true → list_all (λ b. not (b == c)) text ≡ true
-token_without c fails text token = all_other is_token_byte c fails text (and_right (nat_lt 0 (length text)) (list_all is_token_byte text) token)
+-- a token has no byte that isn't a token's
+pub token_without : (c : ℕ) → is_token_byte c ≡ false → (text : List ℕ) → is_token text ≡ true → list_all (λ b. not (b == c)) text ≡ true
+token_without c fails text token = all_other is_token_byte c fails text (and_parts (nat_lt 0 (length text)) (list_all is_token_byte text) token).1
 
 pub record AreHeaderParts (name value : List ℕ) : Type 0 where
   pub name_is : is_token name ≡ true
@@ -30,7 +30,7 @@ pub record AreNumberParts (major minor : List ℕ) : Type 0 where
 
 pub number_parts : (text major minor : List ℕ) → IsCut 46 text major minor → AreVersionNumbers text → AreNumberParts major minor
 number_parts text major minor cut numbers =
-    let none = all_other is_ascii_digit 46 refl numbers.major (and_right (nat_lt 0 (length numbers.major)) (list_all is_ascii_digit numbers.major) numbers.major_is) in
+    let none = all_other is_ascii_digit 46 refl numbers.major (and_parts (nat_lt 0 (length numbers.major)) (list_all is_ascii_digit numbers.major) numbers.major_is).1 in
     let same = cut_once 46 text major minor numbers.major numbers.minor cut numbers.parts none in
     record { major_is = ap is_decimal same.front ∙ numbers.major_is; minor_is = ap is_decimal same.after ∙ numbers.minor_is }
 
@@ -75,7 +75,7 @@ slash_split (x ∷ rest) =
               more.1.0,
               record {
                 parts = ap (λ l. x ∷ l) more.1.1.parts;
-                no_slash = and_both (not (x == 47)) (list_all (λ byte. not (byte == 47)) more.0) (other_is x 47 other) more.1.1.no_slash;
+                no_slash = and_from (not (x == 47)) (list_all (λ byte. not (byte == 47)) more.0) (other_is x 47 other) more.1.1.no_slash;
                 path_begins = more.1.1.path_begins;
               },
             ),
@@ -109,7 +109,7 @@ pub record AreUrlParts (scheme rest : List ℕ) : Type 0 where
 
 first_other : (authority path : List ℕ) → 0 < length authority → list_all (λ byte. not (byte == 47)) authority ≡ true → get_or (authority ++ path) 0 0 ≢ 47
 first_other [] path some none = absurd (omega (arith, some))
-first_other (x ∷ authority) path some none = is_other x 47 (and_left (not (x == 47)) (list_all (λ byte. not (byte == 47)) authority) none)
+first_other (x ∷ authority) path some none = is_other x 47 (and_parts (not (x == 47)) (list_all (λ byte. not (byte == 47)) authority) none).0
 
 -- a URL's scheme has seven bytes
 pub url_parts : (url : List ℕ) → IsRtspUrl url → AreUrlParts (take 7 url) (drop 7 url)
@@ -131,19 +131,6 @@ url_long url u =
 
 pub numbers : (text major minor : List ℕ) → IsCut 46 text major minor → is_decimal major ≡ true → is_decimal minor ≡ true → AreVersionNumbers text
 numbers text major minor cut major_is minor_is = record { major = major; minor = minor; parts = cut.parts; major_is = major_is; minor_is = minor_is }
-
--- what stands after a word
-pub after_from : {X : Type 0} (now : X → List ℕ) (r : Option X) (line word : List ℕ) →
-    MatchOption r (pointwise nat_eq (take (length word) line) word ≡ false)
-    (λ x. (pointwise nat_eq (take (length word) line) word ≡ true) × (now x ≡ drop (length word) line) × (length (now x) + length word ≡ length line)) →
-    MatchOption r ((ds : List ℕ) → line ≢ word ++ ds) (λ x. line ≡ word ++ now x)
-after_from now None line word none = λ ds e.
-    let front : take (length word) line ≡ word = ap (take (length word)) e ∙ take_at word ds (length word) refl in
-    other_text (take (length word) line) word (sym none) front
-after_from now (Some x) line word found =
-    let front : take (length word) line ≡ word = same_text (take (length word) line) word (sym found.0) in
-    let rest : drop (length word) line ≡ now x = sym found.1 in
-    sym (take-append-drop (length word) line) ∙ ap (λ a. a ++ drop (length word) line) front ∙ ap (λ b. word ++ b) rest
 
 -- a request line's cuts
 pub method_cut : (text m u v : List ℕ) → IsRequestLine text m u v → IsCut 32 text m (u ++ 32 ∷ v)

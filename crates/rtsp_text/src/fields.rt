@@ -69,8 +69,5 @@ fn value_in<'a>(name: &[u8], line: &'a [u8]) -> Option<&'a [u8]>
 fn number_in(value: Option<&[u8]>) -> Option<u64>
     ensures { result ≡ option_and_then number_of (option_map (λ text. text.now) value.entry) }
 {
-    match value {
-        Some(text) => read_number(text).ok(),
-        None => None,
-    }
+    read_number(value?).ok()
 }

@@ -1,6 +1,6 @@
 //! The grammar of a head's lines.
 
-ghost use Rattle.std.specs.Prelude.{◌≡◌, ◌≢◌, ◌++◌, ◌==◌, ◌↔◌, ℕ, List, IsTrue, true, codes, map};
+ghost use Rattle.std.specs.Prelude.{◌≡◌, ◌==◌, ◌↔◌, ℕ, List, IsTrue, true, codes, map};
 ghost use Rattle.std.specs.Prelude.{not, MatchOption};
 ghost use Rattle.std.specs.List.{list_all};
 ghost use Rattle.std.specs.Char.{is_ascii_digit, to_ascii_lowercase};
@@ -42,8 +42,11 @@ const SCHEME: &[u8; 7] = b"rtsp://";
 /// The three words of a request line.
 #[derive(Clone, Copy)]
 pub(crate) struct RequestLine<'a> {
+    /// The method: letters, digits, `_` and `-`.
     pub(crate) method: &'a [u8],
+    /// What it asks for: `*` or an absolute URL.
     pub(crate) url: &'a [u8],
+    /// The version: `RTSP/`, digits, `.` and digits.
     pub(crate) version: &'a [u8],
 }
 
@@ -53,12 +56,8 @@ pub(crate) fn request_line(text: &[u8]) -> Option<RequestLine<'_>>
         ¬ IsRequestLine text.now method url version)
         (λ line. IsRequestLine text.now line.method.now line.url.now line.version.now) }
 {
-    let Some((method, rest)) = cut(text, b' ') else {
-        return None;
-    };
-    let Some((url, version)) = cut(rest, b' ') else {
-        return None;
-    };
+    let (method, rest) = cut(text, b' ')?;
+    let (url, version) = cut(rest, b' ')?;
     if is_token(method) && is_url(url) && is_version(version) {
         Some(RequestLine {
             method,
@@ -87,12 +86,14 @@ pub(crate) fn is_rtsp_1_0(version: &[u8]) -> bool
     version == b"RTSP/1.0".as_slice()
 }
 
+/// Whether the byte is a letter, a digit, `_` or `-`.
 fn is_token_byte(byte: u8) -> bool
     ensures { result ≡ is_token_byte byte }
 {
     byte.is_ascii_alphanumeric() || byte == b'_' || byte == b'-'
 }
 
+/// Whether all bytes are letters, digits, `_` and `-`.
 fn has_token_bytes(text: &[u8]) -> bool
     ensures { result ≡ list_all is_token_byte text.now }
 {
@@ -106,24 +107,29 @@ fn is_token(text: &[u8]) -> bool
     !text.is_empty() && has_token_bytes(text)
 }
 
+/// Whether all bytes are digits.
 fn has_digits(text: &[u8]) -> bool
     ensures { result ≡ list_all is_ascii_digit text.now }
 {
     text.iter().all(|byte| byte.is_ascii_digit())
 }
 
+/// Whether the byte is printable and not the space.
 fn is_url_byte(byte: u8) -> bool
     ensures { result ≡ is_url_byte byte }
 {
     33 <= byte && byte <= 126
 }
 
+/// Whether the byte may stand in a value: the tab, or any but control characters (RFC 2326 section
+/// 15.1).
 fn is_value_byte(byte: u8) -> bool
     ensures { result ≡ is_value_byte byte }
 {
     (32 <= byte || byte == b'\t') && byte != 127
 }
 
+/// Whether all bytes may stand in a value.
 fn has_value_bytes(text: &[u8]) -> bool
     ensures { result ≡ list_all is_value_byte text.now }
 {
@@ -150,6 +156,7 @@ fn is_rtsp_url(url: &[u8]) -> bool
     is_scheme(scheme) && rest[0] != b'/'
 }
 
+/// Whether the text is `*`.
 fn is_star(url: &[u8]) -> bool
     ensures { IsTrue result ↔ (url.now ≡ codes "*") }
 {
@@ -161,14 +168,6 @@ fn is_url(url: &[u8]) -> bool
     ensures { IsTrue result ↔ IsUrl url.now }
 {
     has_url_bytes(url) && (is_star(url) || is_rtsp_url(url))
-}
-
-/// What stands after a word.
-fn after<'a>(text: &'a [u8], word: &[u8]) -> Option<&'a [u8]>
-    ensures { MatchOption result ((rest : List ℕ) →
-        text.now ≢ word.now ++ rest) (λ rest. text.now ≡ word.now ++ rest.now) }
-{
-    text.strip_prefix(word)
 }
 
 /// Whether the text is digits, `.` and digits.
@@ -185,7 +184,7 @@ fn are_version_numbers(text: &[u8]) -> bool
 fn is_version(text: &[u8]) -> bool
     ensures { IsTrue result ↔ IsVersion text.now }
 {
-    match after(text, b"RTSP/") {
+    match text.strip_prefix(b"RTSP/".as_slice()) {
         Some(numbers) => are_version_numbers(numbers),
         None => false,
     }

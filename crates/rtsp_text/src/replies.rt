@@ -38,10 +38,8 @@ impl Reply {
     pub fn new(alloc: Global) -> Result<Reply, NoMemory>
         ensures { IfOk result (λ reply. reply ≡ []) }
     {
-        match Vec::with_capacity(alloc, ROOM) {
-            Ok(text) => Ok(Reply { text }),
-            Err(_) => Err(NoMemory),
-        }
+        let text = Vec::with_capacity(alloc, ROOM)?;
+        Ok(Reply { text })
     }
 
     /// Forgets the text.

@@ -38,9 +38,7 @@ pub fn read_reply(message: &[u8]) -> Option<ReplyParts<'_>>
     ensures head { IfSome result (λ r. length r.head.now ≤ 16384) }
     ensures body { IfSome result (λ r. length r.body.now ≤ 65536) }
 {
-    let Some((code, reason)) = status_line(first_line(message)) else {
-        return None;
-    };
+    let (code, reason) = status_line(first_line(message))?;
     let (head, body) = split(message);
     Some(ReplyParts {
         code,
@@ -69,17 +67,11 @@ fn status_line(text: &[u8]) -> Option<(u16, &[u8])>
         ¬ IsStatusLine text.now code reason)
         (λ line. IsStatusLine text.now line.0 line.1.now) }
 {
-    let Some((version, rest)) = cut(text, b' ') else {
-        return None;
-    };
-    let Some((digits, reason)) = cut(rest, b' ') else {
-        return None;
-    };
+    let (version, rest) = cut(text, b' ')?;
+    let (digits, reason) = cut(rest, b' ')?;
     if !is_rtsp_1_0(version) || reason.is_empty() || reason[0] == b' ' {
         return None;
     }
-    match read_code(digits) {
-        Some(code) => Some((code, reason)),
-        None => None,
-    }
+    let code = read_code(digits)?;
+    Some((code, reason))
 }

@@ -219,7 +219,8 @@ const REQUESTS: [RequestRow; 9] = [
         value: Some("7"),
     },
     RequestRow {
-        text: "OPTIONS rtsp://127.0.0.1:8554/news.mpg RTSP/1.0\r\nCSeq: 1\r\nUser-Agent: Lavf60.16.100\r\n\r\n",
+        text: "OPTIONS rtsp://127.0.0.1:8554/news.mpg RTSP/1.0\r\nCSeq: 1\r\n\
+            User-Agent: Lavf60.16.100\r\n\r\n",
         method: "OPTIONS",
         url: "rtsp://127.0.0.1:8554/news.mpg",
         sequence: 1,
@@ -228,7 +229,8 @@ const REQUESTS: [RequestRow; 9] = [
         value: Some("Lavf60.16.100"),
     },
     RequestRow {
-        text: "OPTIONS RTSP://h RTSP/1.0\r\nCSeq: 1\r\nUser-Agent: GStreamer/1.22.0\r\nUser-Agent: x\r\n\r\n",
+        text: "OPTIONS RTSP://h RTSP/1.0\r\nCSeq: 1\r\nUser-Agent: GStreamer/1.22.0\r\n\
+            User-Agent: x\r\n\r\n",
         method: "OPTIONS",
         url: "RTSP://h",
         sequence: 1,
@@ -237,7 +239,8 @@ const REQUESTS: [RequestRow; 9] = [
         value: Some("GStreamer/1.22.0"),
     },
     RequestRow {
-        text: "DESCRIBE rtsp://127.0.0.1:8554/news.mpg RTSP/1.0\r\nAccept: application/sdp\r\nCSeq: 2\r\n\r\nPLAY",
+        text: "DESCRIBE rtsp://127.0.0.1:8554/news.mpg RTSP/1.0\r\nAccept: application/sdp\r\n\
+            CSeq: 2\r\n\r\nPLAY",
         method: "DESCRIBE",
         url: "rtsp://127.0.0.1:8554/news.mpg",
         sequence: 2,
@@ -246,7 +249,9 @@ const REQUESTS: [RequestRow; 9] = [
         value: Some("application/sdp"),
     },
     RequestRow {
-        text: "SETUP rtsp://h/news.mpg/video RTSP/1.0\r\nTransport: RTP/AVP/UDP;unicast;client_port=5000-5001, RTP/AVP/TCP;unicast;interleaved=0-1\r\nCSeq: 3\r\n\r\n",
+        text: "SETUP rtsp://h/news.mpg/video RTSP/1.0\r\n\
+            Transport: RTP/AVP/UDP;unicast;client_port=5000-5001, RTP/AVP/TCP;unicast;interleaved=0-1\r\n\
+            CSeq: 3\r\n\r\n",
         method: "SETUP",
         url: "rtsp://h/news.mpg/video",
         sequence: 3,
@@ -257,7 +262,8 @@ const REQUESTS: [RequestRow; 9] = [
         ),
     },
     RequestRow {
-        text: "PLAY rtsp://h/news.mpg/ RTSP/1.0\r\nRange: npt=0.000-\r\nCSeq: 4\r\nSession: 0123456789abcdef\r\n\r\n",
+        text: "PLAY rtsp://h/news.mpg/ RTSP/1.0\r\nRange: npt=0.000-\r\nCSeq: 4\r\n\
+            Session: 0123456789abcdef\r\n\r\n",
         method: "PLAY",
         url: "rtsp://h/news.mpg/",
         sequence: 4,
@@ -266,7 +272,8 @@ const REQUESTS: [RequestRow; 9] = [
         value: Some("npt=0.000-"),
     },
     RequestRow {
-        text: "GET_PARAMETER rtsp://h/news.mpg RTSP/1.0\r\nCSeq: 5\r\nSession:\t0123456789abcdef \t\r\n\r\n",
+        text: "GET_PARAMETER rtsp://h/news.mpg RTSP/1.0\r\nCSeq: 5\r\n\
+            Session:\t0123456789abcdef \t\r\n\r\n",
         method: "GET_PARAMETER",
         url: "rtsp://h/news.mpg",
         sequence: 5,
@@ -275,7 +282,8 @@ const REQUESTS: [RequestRow; 9] = [
         value: Some("0123456789abcdef"),
     },
     RequestRow {
-        text: "GET_PARAMETER rtsp://h/n RTSP/1.0\r\nCSeq: 0006\r\nContent-Length: 8\r\n\r\nx-Bookedrest",
+        text: "GET_PARAMETER rtsp://h/n RTSP/1.0\r\nCSeq: 0006\r\nContent-Length: 8\r\n\r\n\
+            x-Bookedrest",
         method: "GET_PARAMETER",
         url: "rtsp://h/n",
         sequence: 6,

@@ -14,7 +14,8 @@ use std::test::Fail;
 #[test]
 fn writes_the_answer_to_describe(rt: HostRuntime) -> Result<(), Fail> {
     let description =
-        b"v=0\r\no=- 0 0 IN IP4 127.0.0.1\r\ns=news.mpg\r\nc=IN IP4 0.0.0.0\r\nt=0 0\r\na=control:*\r\na=range:npt=0-10.000\r\nm=video 0 RTP/AVP 32\r\na=control:video\r\n";
+        b"v=0\r\no=- 0 0 IN IP4 127.0.0.1\r\ns=news.mpg\r\nc=IN IP4 0.0.0.0\r\nt=0 0\r\n\
+        a=control:*\r\na=range:npt=0-10.000\r\nm=video 0 RTP/AVP 32\r\na=control:video\r\n";
     assert_eq!(rt; description.len(), 142);
     let mut reply = Reply::new(rt.alloc())?;
     reply.start(200, Some(2));
@@ -22,8 +23,10 @@ fn writes_the_answer_to_describe(rt: HostRuntime) -> Result<(), Fail> {
     reply.field(b"Content-Type", b"application/sdp");
     reply.number_field(b"Content-Length", 142);
     reply.finish(description);
-    let text =
-        b"RTSP/1.0 200 OK\r\nCSeq: 2\r\nContent-Base: rtsp://127.0.0.1:8554/news.mpg/\r\nContent-Type: application/sdp\r\nContent-Length: 142\r\n\r\nv=0\r\no=- 0 0 IN IP4 127.0.0.1\r\ns=news.mpg\r\nc=IN IP4 0.0.0.0\r\nt=0 0\r\na=control:*\r\na=range:npt=0-10.000\r\nm=video 0 RTP/AVP 32\r\na=control:video\r\n";
+    let text = b"RTSP/1.0 200 OK\r\nCSeq: 2\r\nContent-Base: rtsp://127.0.0.1:8554/news.mpg/\r\n\
+        Content-Type: application/sdp\r\nContent-Length: 142\r\n\r\nv=0\r\n\
+        o=- 0 0 IN IP4 127.0.0.1\r\ns=news.mpg\r\nc=IN IP4 0.0.0.0\r\nt=0 0\r\na=control:*\r\n\
+        a=range:npt=0-10.000\r\nm=video 0 RTP/AVP 32\r\na=control:video\r\n";
     assert_eq!(rt; reply.bytes(), text.as_slice());
     Ok(())
 }
@@ -55,8 +58,9 @@ fn writes_the_answers_to_setup_and_play(rt: HostRuntime) -> Result<(), Fail> {
     );
     reply.field(b"Session", b"0123456789abcdef");
     reply.finish(b"");
-    let text =
-        b"RTSP/1.0 200 OK\r\nCSeq: 4\r\nTransport: RTP/AVP/TCP;unicast;interleaved=0-1;ssrc=01020304\r\nSession: 0123456789abcdef\r\n\r\n";
+    let text = b"RTSP/1.0 200 OK\r\nCSeq: 4\r\n\
+        Transport: RTP/AVP/TCP;unicast;interleaved=0-1;ssrc=01020304\r\n\
+        Session: 0123456789abcdef\r\n\r\n";
     assert_eq!(rt; reply.bytes(), text.as_slice());
     reply.clear();
     reply.start(200, Some(5));
@@ -66,7 +70,8 @@ fn writes_the_answers_to_setup_and_play(rt: HostRuntime) -> Result<(), Fail> {
     reply.number_field(b"x-Start", 1);
     reply.finish(b"");
     let text =
-        b"RTSP/1.0 200 OK\r\nCSeq: 5\r\nSession: 0123456789abcdef\r\nRange: npt=0.000-10.000\r\nRTP-Info: url=rtsp://127.0.0.1:8554/news.mpg/video;seq=1;rtptime=0\r\nx-Start: 1\r\n\r\n";
+        b"RTSP/1.0 200 OK\r\nCSeq: 5\r\nSession: 0123456789abcdef\r\nRange: npt=0.000-10.000\r\n\
+        RTP-Info: url=rtsp://127.0.0.1:8554/news.mpg/video;seq=1;rtptime=0\r\nx-Start: 1\r\n\r\n";
     assert_eq!(rt; reply.bytes(), text.as_slice());
     Ok(())
 }

@@ -6,13 +6,15 @@ use Rattle.rtsp_text.proofs.Words.{line_rest, line_parts}
 use Rattle.rtsp_text.proofs.grammar.request_line.Goals as goal
 use Rattle.rtsp_text.proofs.grammar.request_line.Goals.{else-is_token-via-then-is_token+then-is_url+else-is_version, else-is_token-via-then-is_token+else-is_url, else-is_token-via-else-is_token}
 
-pub returns-in_default-cut : goal.returns-in_default-cut
-returns-in_default-cut c = λ m u v line.
-    cut_none 32 c.in-Some.rest.now u v c.in_default-cut.ensures (line_rest c.args.text.now c.in-Some.method.now c.in-Some.rest.now m u v c.in-Some.ensures line)
+pub returns-in_err-url : goal.returns-in_err-url
+returns-in_err-url c =
+    rw c.from_residual-in_err-url.ensures
+    (λ m u v line. cut_none 32 c.in_ok-method.rest.now u v c.in_err-url.ensures
+    (line_rest c.args.text.now c.in_ok-method.method.now c.in_ok-method.rest.now m u v c.in_ok-method.ensures line))
 
 pub returns-else-is_token : goal.returns-else-is_token
 returns-else-is_token c = λ m u v line.
-    let same = line_parts c.args.text.now c.in-Some.method.now c.in-Some.rest.now c.in-Some-cut.url.now c.in-Some-cut.version.now m u v c.in-Some.ensures c.in-Some-cut.ensures line in
+    let same = line_parts c.args.text.now c.in_ok-method.method.now c.in_ok-method.rest.now c.in_ok-url.url.now c.in_ok-url.version.now m u v c.in_ok-method.ensures c.in_ok-url.ensures line in
     elim c.else-is_token.branch [
       | else-is_token-via-then-is_token+then-is_url+else-is_version w ↦ both_ways w.is_version.result w.if-is_version.false (w.is_version.ensures.1 (subst IsVersion (sym same.version_is) line.version_is))
       | else-is_token-via-then-is_token+else-is_url w ↦ both_ways w.is_url.result w.if-is_url.false (w.is_url.ensures.1 (subst IsUrl (sym same.url_is) line.url_is))

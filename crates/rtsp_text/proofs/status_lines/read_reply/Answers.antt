@@ -4,23 +4,26 @@ use Rattle.rtsp_text.proofs.Bounds.{lengths_of}
 use Rattle.rtsp_text.proofs.StatusTexts.{reply_once}
 use Rattle.rtsp_text.proofs.status_lines.read_reply.Goals as goal
 
-pub returns-in_default-clause-read : goal.returns-in_default-clause-read
-returns-in_default-clause-read c = λ code reason line.
-    c.in_default.ensures code reason (subst (λ (t : List ℕ). IsStatusLine t code reason) (sym c.first_line.ensures) line)
+pub returns-in_err-code-clause-read : goal.returns-in_err-code-clause-read
+returns-in_err-code-clause-read c =
+    rw c.from_residual.ensures
+    (λ code reason line. c.in_err-code.ensures code reason (subst (λ (t : List ℕ). IsStatusLine t code reason) (sym c.first_line.ensures) line))
 
-pub returns-in_default-clause-replies : goal.returns-in_default-clause-replies
-returns-in_default-clause-replies c = λ code reason head body is. returns-in_default-clause-read c code reason is.line
+pub returns-in_err-code-clause-replies : goal.returns-in_err-code-clause-replies
+returns-in_err-code-clause-replies c =
+    rw c.from_residual.ensures
+    (λ code reason head body is. c.in_err-code.ensures code reason (subst (λ (t : List ℕ). IsStatusLine t code reason) (sym c.first_line.ensures) is.line))
 
 pub returns-clause-read : goal.returns-clause-read
 returns-clause-read c = record {
   split = c.split.ensures;
-  line = subst (λ (t : List ℕ). IsStatusLine t c.in-Some.code c.in-Some.reason.now) c.first_line.ensures c.in-Some.ensures;
+  line = subst (λ (t : List ℕ). IsStatusLine t c.in_ok-code.code c.in_ok-code.reason.now) c.first_line.ensures c.in_ok-code.ensures;
   body_is = (lengths_of c.args.message.now c.split.result.0.now c.split.result.1.now c.requires c.split.ensures).body_is;
 }
 
 pub returns-clause-replies : goal.returns-clause-replies
 returns-clause-replies c = λ code reason head body is.
-    let same = reply_once c.args.message.now c.in-Some.code c.in-Some.reason.now c.split.result.0.now c.split.result.1.now code reason head body (returns-clause-read c) is in
+    let same = reply_once c.args.message.now c.in_ok-code.code c.in_ok-code.reason.now c.split.result.0.now c.split.result.1.now code reason head body (returns-clause-read c) is in
     (same.code_is, same.reason_is, same.head_is, same.body_is)
 
 pub returns-clause-head : goal.returns-clause-head

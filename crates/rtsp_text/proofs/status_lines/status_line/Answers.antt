@@ -6,28 +6,31 @@ use Rattle.rtsp_text.proofs.StatusTexts.{status_none, status_parts, whole_status
 use Rattle.rtsp_text.proofs.status_lines.status_line.Goals as goal
 use Rattle.rtsp_text.proofs.status_lines.status_line.Goals.{then-not-is_rtsp_1_0-via-then-not-is_rtsp_1_0, then-not-is_rtsp_1_0-via-else-not-is_rtsp_1_0+then-is_empty, then-not-is_rtsp_1_0-via-else-not-is_rtsp_1_0+else-is_empty+then-reason-eq32}
 
-pub returns-in_default-cut : goal.returns-in_default-cut
-returns-in_default-cut c = λ code reason line.
-    status_none c.args.text.now c.in-Some.version.now c.in-Some.rest.now code reason c.in-Some.ensures c.in_default-cut.ensures line
+pub returns-in_err-digits : goal.returns-in_err-digits
+returns-in_err-digits c =
+    rw c.from_residual-in_err-digits.ensures
+    (λ code reason line. status_none c.args.text.now c.in_ok-version.version.now c.in_ok-version.rest.now code reason c.in_ok-version.ensures c.in_err-digits.ensures line)
 
 pub returns-then-not-is_rtsp_1_0 : goal.returns-then-not-is_rtsp_1_0
 returns-then-not-is_rtsp_1_0 c = λ code reason line.
-    let same = status_parts c.args.text.now c.in-Some.version.now c.in-Some.rest.now c.in-Some-cut.digits.now c.in-Some-cut.reason.now code reason c.in-Some.ensures c.in-Some-cut.ensures line in
+    let same = status_parts c.args.text.now c.in_ok-version.version.now c.in_ok-version.rest.now c.in_ok-digits.digits.now c.in_ok-digits.reason.now code reason c.in_ok-version.ensures c.in_ok-digits.ensures line in
     elim c.then-not-is_rtsp_1_0.branch [
       | then-not-is_rtsp_1_0-via-then-not-is_rtsp_1_0 w ↦ both_ways c.is_rtsp_1_0.result w.if-not-is_rtsp_1_0.true (c.is_rtsp_1_0.ensures.1 same.version_is)
       | then-not-is_rtsp_1_0-via-else-not-is_rtsp_1_0+then-is_empty w ↦
-          let none : length c.in-Some-cut.reason.now ≡ 0 = no_bytes c.in-Some-cut.reason.now (sym w.is_empty.ensures ∙ w.if-is_empty.true) in
+          let none : length c.in_ok-digits.reason.now ≡ 0 = no_bytes c.in_ok-digits.reason.now (sym w.is_empty.ensures ∙ w.if-is_empty.true) in
           omega (arith, none, ap length same.reason_is, line.some)
       | then-not-is_rtsp_1_0-via-else-not-is_rtsp_1_0+else-is_empty+then-reason-eq32 w ↦
           line.no_space (ap (λ (r : List ℕ). get_or r 0 0) (sym same.reason_is) ∙ w.if-reason-eq32.true)
     ]
 
-pub returns-in-Some-read_code : goal.returns-in-Some-read_code
-returns-in-Some-read_code c =
-    whole_status c.args.text.now c.in-Some.version.now c.in-Some.rest.now c.in-Some-cut.digits.now c.in-Some-cut.reason.now c.in-Some-read_code.code c.in-Some.ensures c.in-Some-cut.ensures
-    (c.is_rtsp_1_0.ensures.0 c.if-not-is_rtsp_1_0.false) c.in-Some-read_code.ensures (some_bytes c.in-Some-cut.reason.now (sym c.is_empty.ensures ∙ c.if-is_empty.false)) c.if-reason-eq32.false
+pub returns : goal.returns
+returns c =
+    whole_status c.args.text.now c.in_ok-version.version.now c.in_ok-version.rest.now c.in_ok-digits.digits.now c.in_ok-digits.reason.now c.in_ok-code.code c.in_ok-version.ensures c.in_ok-digits.ensures
+    (c.is_rtsp_1_0.ensures.0 c.if-not-is_rtsp_1_0.false) c.in_ok-code.ensures (some_bytes c.in_ok-digits.reason.now (sym c.is_empty.ensures ∙ c.if-is_empty.false)) c.if-reason-eq32.false
 
-pub returns-in-None : goal.returns-in-None
-returns-in-None c = λ code reason line.
-    let same = status_parts c.args.text.now c.in-Some.version.now c.in-Some.rest.now c.in-Some-cut.digits.now c.in-Some-cut.reason.now code reason c.in-Some.ensures c.in-Some-cut.ensures line in
-    c.in-None.ensures code (subst (λ (d : List ℕ). IsCode d code) (sym same.digits_are) line.is_code)
+pub returns-in_err-code : goal.returns-in_err-code
+returns-in_err-code c =
+    rw c.from_residual-in_err-code.ensures
+    (λ code reason line.
+    let same = status_parts c.args.text.now c.in_ok-version.version.now c.in_ok-version.rest.now c.in_ok-digits.digits.now c.in_ok-digits.reason.now code reason c.in_ok-version.ensures c.in_ok-digits.ensures line in
+    c.in_err-code.ensures code (subst (λ (d : List ℕ). IsCode d code) (sym same.digits_are) line.is_code))
