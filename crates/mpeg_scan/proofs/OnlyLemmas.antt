@@ -34,11 +34,11 @@ make from head_end to first_slice slices temporal presentation kind vectors has_
       starts_group = starts_group;
     }
 
-same-unit : (u v : PictureUnit) → u.from ≡ v.from → u.head_end ≡ v.head_end → u.to ≡ v.to →
+same-unit : {u v : PictureUnit} → u.from ≡ v.from → u.head_end ≡ v.head_end → u.to ≡ v.to →
     u.first_slice ≡ v.first_slice → u.slices ≡ v.slices → u.temporal ≡ v.temporal →
     u.presentation ≡ v.presentation → u.kind ≡ v.kind → u.vectors ≡ v.vectors →
     u.has_sequence ≡ v.has_sequence → u.starts_group ≡ v.starts_group → u ≡ v
-same-unit u v a b c d e f g h i j k =
+same-unit {u} {v} a b c d e f g h i j k =
     ap (λ (x : ℕ). make x u.head_end u.to u.first_slice u.slices u.temporal u.presentation
     u.kind u.vectors u.has_sequence u.starts_group) a
     ∙ ap (λ (x : ℕ). make v.from x u.to u.first_slice u.slices u.temporal u.presentation u.kind
@@ -76,9 +76,9 @@ kind-back D = refl
 kind-same : (k l : Kind) → type_number k ≡ type_number l → k ≡ l
 kind-same k l e = sym (kind-back k) ∙ ap kind_of e ∙ kind-back l
 
-count-same : (Has : ℕ → ℕ → Type 0) (OfKind : ℕ → Type 0) (from to m n : ℕ) →
+count-same : {OfKind : ℕ → Type 0} {to n : ℕ} (Has : ℕ → ℕ → Type 0) (from m : ℕ) →
     Counts Has OfKind from to m → Counts Has OfKind from to n → m ≡ n
-count-same Has OfKind from to m n c d =
+count-same Has from m c d =
     omega (arith, d.most c.places c.are, c.long, c.most d.places d.are, d.long)
 
 order-of : (bytes : List ℕ) (u : PictureUnit) → IsUnitOf bytes u → u.from < u.head_end
@@ -104,50 +104,50 @@ head-same bytes u v one other from = elim (cases_lt u.head_end v.head_end) [
 abbrev Ends : List ℕ → ℕ → Type 0
 Ends bytes to = (to ≡ length bytes) ⊎ StandsThere (StandsAt bytes) to IsHeadKind
 
-end-not-less : (bytes : List ℕ) (u v : PictureUnit) → IsUnitOf bytes u → IsUnitOf bytes v →
+end-not-less : {bytes : List ℕ} (u v : PictureUnit) → IsUnitOf bytes u → IsUnitOf bytes v →
     u.head_end ≡ v.head_end → Ends bytes u.to → v.to ≤ length bytes → u.to < v.to → ⊥
-end-not-less bytes u v one other head (inl end) low less = omega (arith, end, low, less)
-end-not-less bytes u v one other head (inr code) low less =
+end-not-less u v one other head (inl end) low less = omega (arith, end, low, less)
+end-not-less u v one other head (inr code) low less =
     other.slices u.to code.0 code.1.0 (omega (arith, head, one.rest)) less code.1.1
 
-end-same : (bytes : List ℕ) (u v : PictureUnit) → IsUnitOf bytes u → IsUnitOf bytes v →
+end-same : {bytes : List ℕ} (u v : PictureUnit) → IsUnitOf bytes u → IsUnitOf bytes v →
     u.head_end ≡ v.head_end → Ends bytes u.to → Ends bytes v.to → u.to ≤ length bytes →
     v.to ≤ length bytes → u.to ≡ v.to
-end-same bytes u v one other head ends also low under = elim (cases_lt u.to v.to) [
-  | inl less ↦ absurd (end-not-less bytes u v one other head ends under less)
+end-same u v one other head ends also low under = elim (cases_lt u.to v.to) [
+  | inl less ↦ absurd (end-not-less u v one other head ends under less)
   | inr more ↦ elim (cases_lt v.to u.to) [
-    | inl less ↦ absurd (end-not-less bytes v u other one (sym head) also low less)
+    | inl less ↦ absurd (end-not-less v u other one (sym head) also low less)
     | inr same ↦ omega (arith, more, same)
   ]
 ]
 
-stands-same : (bytes : List ℕ) (from to at end kind : ℕ) → from ≡ at → to ≡ end →
+stands-same : {bytes : List ℕ} {to kind : ℕ} (from at end : ℕ) → from ≡ at → to ≡ end →
     StandsIn (StandsAt bytes) from to kind → StandsIn (StandsAt bytes) at end kind
-stands-same bytes from to at end kind from_is to_is it = record {
+stands-same from at end from_is to_is it = record {
   place = it.place;
   code = it.code;
   after = omega (arith, from_is, it.after);
   before = omega (arith, to_is, it.before);
 }
 
-group-same : (bytes : List ℕ) (from to at end : ℕ) → from ≡ at → to ≡ end →
+group-same : {bytes : List ℕ} {to : ℕ} (from at end : ℕ) → from ≡ at → to ≡ end →
     IsFirstCode (StandsAt bytes) from
     ⊎ StandsIn (StandsAt bytes) from to 0xb8 → IsFirstCode (StandsAt bytes) at
     ⊎ StandsIn (StandsAt bytes) at end 0xb8
-group-same bytes from to at end from_is to_is (inl first) =
+group-same {bytes} from at end from_is to_is (inl first) =
     inl (subst (λ p. IsFirstCode (StandsAt bytes) p) from_is first)
-group-same bytes from to at end from_is to_is (inr it) =
-    inr (stands-same bytes from to at end 0xb8 from_is to_is it)
+group-same from at end from_is to_is (inr it) =
+    inr (stands-same from at end from_is to_is it)
 
-units-same : (bytes : List ℕ) (u v : PictureUnit) (number group : ℕ) → IsUnitOf bytes u →
+units-same : {bytes : List ℕ} {u v : PictureUnit} (number group : ℕ) → IsUnitOf bytes u →
     IsUnitOf bytes v → u.from ≡ v.from → Ends bytes u.to → Ends bytes v.to → u.to ≤ length bytes →
     v.to ≤ length bytes
     → u.presentation ≡ cond u.starts_group number group + u.temporal →
     v.presentation ≡ cond v.starts_group number group + v.temporal → u ≡ v
-units-same bytes u v number group one other from ends also low under shown known =
+units-same {bytes} {u} {v} number group one other from ends also low under shown known =
     let Has = StandsAt bytes in
     let head = head-same bytes u v one other from in
-    let to = end-same bytes u v one other head ends also low under in
+    let to = end-same u v one other head ends also low under in
     let place : other.picture.place ≡
     one.picture.place =
     one.picture.only other.picture.place other.picture.code
@@ -161,28 +161,27 @@ units-same bytes u v number group one other from ends also low under shown known
     (λ (k : Kind). vector_fields bytes one.picture.place k) kind ∙ sym its.vectors in
     let sequence : u.has_sequence ≡ v.has_sequence = bool-same u.has_sequence v.has_sequence
     (λ e. other.sequence.1
-    (stands-same bytes u.from u.head_end v.from v.head_end 0xb3 from head (one.sequence.0 e)))
+    (stands-same u.from v.from v.head_end from head (one.sequence.0 e)))
     (λ e. one.sequence.1
-    (stands-same bytes v.from v.head_end u.from u.head_end 0xb3 (sym from) (sym head)
+    (stands-same v.from u.from u.head_end (sym from) (sym head)
     (other.sequence.0 e))) in
     let starts : u.starts_group ≡ v.starts_group = bool-same u.starts_group v.starts_group
     (λ e. other.group.1
-    (group-same bytes u.from u.head_end v.from v.head_end from head (one.group.0 e)))
-    (λ e. one.group.1 (group-same bytes v.from v.head_end u.from u.head_end (sym from) (sym head)
+    (group-same u.from v.from v.head_end from head (one.group.0 e)))
+    (λ e. one.group.1 (group-same v.from u.from u.head_end (sym from) (sym head)
     (other.group.0 e))) in
     let slices : u.slices ≡
-    v.slices = count-same Has IsSliceKind v.head_end v.to u.slices v.slices (subst (λ p.
+    v.slices = count-same Has v.head_end u.slices (subst (λ p.
     Counts Has IsSliceKind v.head_end p u.slices) to (subst (λ p.
     Counts Has IsSliceKind p u.to u.slices) head one.own)) other.own in
-    let all = count-same Has IsSliceKind 0 v.to (u.first_slice + u.slices) (v.first_slice
-    + v.slices) (subst (λ p.
+    let all = count-same Has 0 (u.first_slice + u.slices) (subst (λ p.
     Counts Has IsSliceKind 0 p (u.first_slice + u.slices)) to one.all) other.all in
     let first : u.first_slice ≡ v.first_slice = omega (arith, all, slices) in
     let presentation : u.presentation ≡
     v.presentation =
     shown ∙ ap (λ b. cond b number group + u.temporal) starts ∙ ap (λ n.
     cond v.starts_group number group + n) temporal ∙ sym known in
-    same-unit u v from head to first slices temporal presentation kind vectors sequence starts
+    same-unit from head to first slices temporal presentation kind vectors sequence starts
 
 -- ---- a list of units
 
@@ -221,7 +220,7 @@ lists-same bytes from number group [] (v ∷ vs) one other chained also shown kn
 lists-same bytes from number group (u ∷ us) [] one other chained also shown known =
     absurd (not-at-end bytes from u one.0 chained.0 also)
 lists-same bytes from number group (u ∷ us) (v ∷ vs) one other chained also shown known =
-    let e : u ≡ v = units-same bytes u v number group one.0 other.0 (chained.0 ∙ sym also.0)
+    let e : u ≡ v = units-same number group one.0 other.0 (chained.0 ∙ sym also.0)
     (chain-ends bytes u.to us one.1 chained.1) (chain-ends bytes v.to vs other.1 also.1)
     (chain-low bytes u.to us one.1 chained.1)
     (chain-low bytes v.to vs other.1 also.1) shown.0 known.0 in
@@ -232,16 +231,16 @@ lists-same bytes from number group (u ∷ us) (v ∷ vs) one other chained also 
     + 1) (cond w.starts_group number group) us) e shown.1) known.1 in
     ap (λ (w : PictureUnit). w ∷ us) e ∙ ap (λ (l : List PictureUnit). v ∷ l) rest
 
-one-first : (bytes : List ℕ) (p q : ℕ) → StandsThere (StandsAt bytes) p AnyKind →
+one-first : {q : ℕ} (bytes : List ℕ) (p : ℕ) → StandsThere (StandsAt bytes) p AnyKind →
     IsFirstCode (StandsAt bytes) p → StandsThere (StandsAt bytes) q AnyKind →
     IsFirstCode (StandsAt bytes) q → p ≡ q
-one-first bytes p q here first there also =
+one-first {q} bytes p here first there also =
     omega (arith, first q there.0 there.1.0, also p here.0 here.1.0)
 
 pub one-list : (bytes : List ℕ) (units others : List PictureUnit) → AreUnitsOf bytes units →
     AreUnitsOf bytes others → units ≡ others
 one-list bytes units others one other =
-    let from = one-first bytes other.from one.from other.code other.first one.code one.first in
+    let from = one-first bytes other.from other.code other.first one.code one.first in
     lists-same bytes one.from 0 0 units others (all-of bytes units one.each)
     (all-of bytes others other.each)
     one.chained (subst (λ p.
@@ -255,6 +254,6 @@ film-units_of bytes rate units starts film =
       code = first.0;
       first = first.1;
       chained = film-chained bytes rate units starts film;
-      each = film-standard bytes rate units starts film;
+      each = film-standard starts film;
       presented = film-presented bytes rate units starts film;
     }

@@ -74,8 +74,8 @@ whole-length Zeros e = absurd (false≢true e)
 whole-length Whole e = refl
 
 -- before a code there is room
-pub room-before : (s n : Progress) (x place : ℕ) → is_whole s.prefix ≡ true → n ≡ scan_with_byte s x → place ≡ s.fed - 3 → IsAhead s → HasRoom (tally_now n) place
-room-before s n x place whole is at room =
+pub room-before : {n : Progress} (s : Progress) (x place : ℕ) → is_whole s.prefix ≡ true → n ≡ scan_with_byte s x → place ≡ s.fed - 3 → IsAhead s → HasRoom (tally_now n) place
+room-before s x place whole is at room =
     let same = same-noted s.latest s.tally x in
     let three = whole-length s.prefix whole in
     subst (λ (v : Progress). HasRoom (tally_now v) place) (sym is) (record {
@@ -108,13 +108,13 @@ code-begun t place kind e slice =
     (otherwise-first (kind_fault t place kind) (first_refusal (second_fault t kind) (first_refusal (first_slice_fault t place kind) (count_fault t place kind))) e)
 
 -- a unit's first slice: the head before it has 1 to 1,380 bytes
-pub head-some : (latest : Option Code) (tally t : Tally) (place kind : ℕ) → code_judgement latest tally place kind ≡ None → t ≡ tally_with latest tally → HasRoom (tally_with latest tally) place → is_slice kind ≡ true → t.unit < place
-head-some latest tally t place kind e is room slice =
+pub head-some : {t : Tally} (latest : Option Code) (tally : Tally) (place kind : ℕ) → code_judgement latest tally place kind ≡ None → t ≡ tally_with latest tally → HasRoom (tally_with latest tally) place → is_slice kind ≡ true → t.unit < place
+head-some {t} latest tally place kind e is room slice =
     let unit : t.unit ≡ (tally_with latest tally).unit = ap (λ (v : Tally). v.unit) is in
     omega (arith, unit, room.unit (code-begun (tally_with latest tally) place kind (code_judgement-code latest tally place kind e) slice))
 
-pub head-short : (latest : Option Code) (tally t : Tally) (place kind : ℕ) → code_judgement latest tally place kind ≡ None → t ≡ tally_with latest tally → is_slice kind ≡ true → t.slices ≡ 0 → place ≤ t.unit + 1380
-head-short latest tally t place kind e is slice none =
+pub head-short : {t : Tally} (latest : Option Code) (tally : Tally) (place kind : ℕ) → code_judgement latest tally place kind ≡ None → t ≡ tally_with latest tally → is_slice kind ≡ true → t.slices ≡ 0 → place ≤ t.unit + 1380
+head-short {t} latest tally place kind e is slice none =
     let now = tally_with latest tally in
     let unit : t.unit ≡ now.unit = ap (λ (v : Tally). v.unit) is in
     let slices : t.slices ≡ now.slices = ap (λ (v : Tally). v.slices) is in
@@ -164,9 +164,9 @@ whole-is Zero e = absurd (false≢true e)
 whole-is Zeros e = absurd (false≢true e)
 whole-is Whole e = refl
 
-pub coded-ahead : (s n m : Progress) (x place : ℕ) → is_whole s.prefix ≡ true → n ≡ scan_with_byte s x → place ≡ s.fed - 3 → m ≡ scan_with_code n place x → IsAhead s → IsAhead m
-coded-ahead s n m x place whole noted at is room =
-    let before = room-before s n x place whole noted at room in
+pub coded-ahead : {n : Progress} (s m : Progress) (x place : ℕ) → is_whole s.prefix ≡ true → n ≡ scan_with_byte s x → place ≡ s.fed - 3 → m ≡ scan_with_code n place x → IsAhead s → IsAhead m
+coded-ahead {n} s m x place whole noted at is room =
+    let before = room-before s x place whole noted at room in
     let three = whole-length s.prefix whole in
     let fed : n.fed ≡ s.fed + 1 = ap (λ (v : Progress). v.fed) noted in
     let prefix : n.prefix ≡ next_prefix Whole x = ap (λ (v : Progress). v.prefix) noted ∙ ap (λ p. next_prefix p x) (whole-is s.prefix whole) in

@@ -40,11 +40,11 @@ codes-later Has OfKind from at to [] far are = tt
 codes-later Has OfKind from at to (p ∷ places) far are =
     ((are.0.0, (are.0.1.0, omega (arith, are.0.1.1, far))), are.1)
 
-since-by : (z b : Bool) (n : ℕ) (Has : ℕ → ℕ → Type 0) (OfKind : ℕ → Type 0) (counts ends : ℕ →
-    Bool) (c : Code) (past : List Code) (at : ℕ) → Tests OfKind counts ends → counts c.kind ≡ z →
+since-by : {n : ℕ} {OfKind : ℕ → Type 0} {counts : ℕ → Bool} {past : List Code} (z b : Bool) (Has : ℕ → ℕ → Type 0)
+    (ends : ℕ → Bool) (c : Code) (at : ℕ) → Tests OfKind counts ends → counts c.kind ≡ z →
     ends c.kind ≡ b → Knows Has (c ∷ past) at → Spaced (c ∷ past)
     → Since Has OfKind ends c.place n → Since Has OfKind ends at (cond z (n + 1) (cond b 0 n))
-since-by true b n Has OfKind counts ends c past at tests is end k spaced it = record {
+since-by {past} true b Has ends c at tests is end k spaced it = record {
   from = it.from;
   low = omega (arith, it.low, new-below Has c past at k);
   places = c.place ∷ it.places;
@@ -56,32 +56,32 @@ since-by true b n Has OfKind counts ends c past at tests is end k spaced it = re
     it.are,
   );
   long = omega (arith, it.long);
-  none = none-with Has c past at it.from (Ends ends) k spaced (λ e.
+  none = none-with Has c at it.from (Ends ends) k spaced (λ e.
       true≢false (sym e ∙ tests.apart c.kind is)) it.none;
 }
-since-by false true n Has OfKind counts ends c past at tests is end k spaced it = record {
+since-by {past} false true Has ends c at tests is end k spaced it = record {
   from = c.place + 1;
   low = omega (arith, new-below Has c past at k);
   places = [];
   are = tt;
   long = refl;
-  none = none-after Has c past at (Ends ends) k spaced;
+  none = none-after Has c at (Ends ends) k spaced;
 }
-since-by false false n Has OfKind counts ends c past at tests is end k spaced it = record {
+since-by {OfKind} {past} false false Has ends c at tests is end k spaced it = record {
   from = it.from;
   low = omega (arith, it.low, new-below Has c past at k);
   places = it.places;
   are = codes-later Has OfKind it.from c.place at it.places
       (omega (arith, new-below Has c past at k)) it.are;
   long = it.long;
-  none = none-with Has c past at it.from (Ends ends) k spaced (λ e.
+  none = none-with Has c at it.from (Ends ends) k spaced (λ e.
       true≢false (sym e ∙ end)) it.none;
 }
 
-pub codes-since : (Has : ℕ → ℕ → Type 0) (OfKind : ℕ → Type 0) (counts ends : ℕ →
-    Bool) (past : List Code) (at : ℕ) → Tests OfKind counts ends → Knows Has past at → Spaced past →
+pub codes-since : {OfKind : ℕ → Type 0} {counts : ℕ → Bool} (Has : ℕ → ℕ → Type 0) (ends : ℕ → Bool)
+    (past : List Code) (at : ℕ) → Tests OfKind counts ends → Knows Has past at → Spaced past →
     Since Has OfKind ends at (since counts ends past)
-codes-since Has OfKind counts ends [] at tests k spaced = record {
+codes-since Has ends [] at tests k spaced = record {
   from = 0;
   low = omega arith;
   places = [];
@@ -89,10 +89,10 @@ codes-since Has OfKind counts ends [] at tests k spaced = record {
   long = refl;
   none = λ place kind has after before is. absurd (k.back place kind has before);
 }
-codes-since Has OfKind counts ends (c ∷ past) at tests k spaced =
+codes-since {counts} Has ends (c ∷ past) at tests k spaced =
     since-by (counts c.kind) (ends c.kind)
-    (since counts ends past) Has OfKind counts ends c past at tests refl refl k spaced
-    (codes-since Has OfKind counts ends past c.place tests (older Has c past at k spaced) spaced.1)
+    Has ends c at tests refl refl k spaced
+    (codes-since Has ends past c.place tests (older Has c past at k spaced) spaced.1)
 
 -- and there are no more of them
 most-old : (z b : Bool) (n m : ℕ) → (b ≡ true → ⊥) → m ≤ n → m ≤ cond z (n + 1) (cond b 0 n)
@@ -109,27 +109,27 @@ none-until : (Has : ℕ → ℕ → Type 0) (from to at : ℕ) (OfKind : ℕ →
 none-until Has from to at OfKind far none place kind has after before is =
     none place kind has after (omega (arith, before, far)) is
 
-pub most-since : (Has : ℕ → ℕ → Type 0) (OfKind : ℕ → Type 0) (counts ends : ℕ →
-    Bool) (past : List Code) (from at : ℕ) (places : List ℕ) → Tests OfKind counts ends →
+pub most-since : {OfKind : ℕ → Type 0} {counts : ℕ → Bool} (Has : ℕ → ℕ → Type 0) (ends : ℕ → Bool)
+    (past : List Code) (from at : ℕ) (places : List ℕ) → Tests OfKind counts ends →
     Knows Has past at → Spaced past → AreCodes Has OfKind from at places →
     NoneIn Has from at (Ends ends) → length places ≤ since counts ends past
-most-since Has OfKind counts ends past from at [] tests k spaced are none = omega arith
-most-since Has OfKind counts ends [] from at (p ∷ places) tests k spaced are none =
+most-since Has ends past from at [] tests k spaced are none = omega arith
+most-since Has ends [] from at (p ∷ places) tests k spaced are none =
     absurd (k.back p are.0.0.0 are.0.0.1.0 are.0.1.1)
-most-since Has OfKind counts ends (c ∷ past) from at (p ∷ places) tests k spaced are none =
+most-since {OfKind} {counts} Has ends (c ∷ past) from at (p ∷ places) tests k spaced are none =
     let k' = older Has c past at k spaced in
     let below = new-below Has c past at k in
-    elim (where-is Has c past at k spaced p are.0.0.0 are.0.0.1.0 are.0.1.1) [
+    elim (where-is Has c at k spaced p are.0.0.1.0 are.0.1.1) [
       | here e m ↦ most-new (counts c.kind) (ends c.kind) (since counts ends past) (length places)
           (tests.is c.kind (subst OfKind (sym m) are.0.0.1.1))
-          (most-since Has OfKind counts ends past from c.place places tests k' spaced.1 (subst (λ v.
+          (most-since Has ends past from c.place places tests k' spaced.1 (subst (λ v.
           AreCodes Has OfKind from v places) (sym e) are.1)
           (none-until Has from c.place at (Ends ends) (omega (arith, below)) none))
       | earlier far ↦ most-old (counts c.kind) (ends c.kind) (since counts ends past)
           (length (p ∷ places))
           (λ e. none c.place c.kind (has-new Has c past at k)
           (omega (arith, are.0.1.0, far)) below e)
-          (most-since Has OfKind counts ends past from c.place (p ∷ places) tests k' spaced.1
+          (most-since Has ends past from c.place (p ∷ places) tests k' spaced.1
           ((are.0.0, (are.0.1.0, far)), are.1)
           (none-until Has from c.place at (Ends ends) (omega (arith, below)) none))
     ]
@@ -228,13 +228,13 @@ codes-from Has OfKind from low to (p ∷ places) after are = (
 )
 
 -- the slices of the latest unit, whose first one stands at a place
-pub own-slices : (Has : ℕ → ℕ → Type 0) (past : List Code) (head_end at : ℕ) → Knows Has past at →
+pub own-slices : {past : List Code} {head_end : ℕ} (Has : ℕ → ℕ → Type 0) (at : ℕ) → Knows Has past at →
     Spaced past → NoneIn Has head_end at IsHeadKind
     → ((from : ℕ) → NoneIn Has from at IsHeadKind → (place : ℕ) →
     StandsThere Has place IsSliceKind → from ≤ place → place < at → head_end ≤ place)
     → Counts Has IsSliceKind head_end at (slices_of past)
-own-slices Has past head_end at k spaced none first =
-    let it = codes-since Has IsSliceKind is_slice is_head past at unit-tests k spaced in record {
+own-slices {past} {head_end} Has at k spaced none first =
+    let it = codes-since Has is_head past at unit-tests k spaced in record {
       places = it.places;
       are = codes-from Has IsSliceKind it.from head_end at it.places
           (first it.from (λ place kind has after before is.
@@ -243,7 +243,7 @@ own-slices Has past head_end at k spaced none first =
       most = λ others are. omega (
         arith,
         since-slices past,
-        most-since Has IsSliceKind is_slice is_head past head_end at others unit-tests k spaced are
+        most-since Has is_head past head_end at others unit-tests k spaced are
             (λ place kind has after before is.
             none place kind has after before (head-kind kind is)),
       );
@@ -252,7 +252,7 @@ own-slices Has past head_end at k spaced none first =
 pub all-slices : (Has : ℕ → ℕ → Type 0) (past : List Code) (at : ℕ) → Knows Has past at →
     Spaced past → Counts Has IsSliceKind 0 at (all_slices_of past)
 all-slices Has past at k spaced =
-    let it = codes-since Has IsSliceKind is_slice is_nothing past at slice-tests k spaced in
+    let it = codes-since Has is_nothing past at slice-tests k spaced in
     record {
       places = it.places;
       are = codes-from Has IsSliceKind it.from 0 at it.places (λ place has far before.
@@ -261,7 +261,7 @@ all-slices Has past at k spaced =
       most = λ others are. omega (
         arith,
         since-every past,
-        most-since Has IsSliceKind is_slice is_nothing past 0 at others slice-tests k spaced are
+        most-since Has is_nothing past 0 at others slice-tests k spaced are
             (λ place kind has after before is. false≢true is),
       );
     }
@@ -277,11 +277,11 @@ codes-same A B OfKind from to (p ∷ places) same are = (
       same place kind (omega (arith, before, are.0.1.1)) has) are.1,
 )
 
-pub counts-same : (A B : ℕ → ℕ → Type 0) (OfKind : ℕ → Type 0) (from to count : ℕ) →
+pub counts-same : {A : ℕ → ℕ → Type 0} {OfKind : ℕ → Type 0} {to count : ℕ} (B : ℕ → ℕ → Type 0) (from : ℕ) →
     ((place kind : ℕ) → place < to → A place kind → B place kind) →
     ((place kind : ℕ) → place < to → B place kind → A place kind)
     → Counts A OfKind from to count → Counts B OfKind from to count
-counts-same A B OfKind from to count same back c = record {
+counts-same {A} {OfKind} {to} B from same back c = record {
   places = c.places;
   are = codes-same A B OfKind from to c.places same c.are;
   long = c.long;

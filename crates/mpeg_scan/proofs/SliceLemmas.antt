@@ -36,20 +36,20 @@ some-count n e = elim (cases_Bool (ltb 0 n)) [
 ]
 
 -- one code more, over plain values: s, h: it is a slice, a head code; e, q: the unit has no slice, or some, so far
-raw-slices : (s h e q : Bool) (n slice at a b : ℕ) (unit : PictureUnit) (before places : List ℕ) → (s ≡ true → h ≡ false) → eqb n 0 ≡ e → (e ≡ true → q ≡ false) → (e ≡ false → q ≡ true)
+raw-slices : {places : List ℕ} (s h e q : Bool) (n slice at a b : ℕ) (unit : PictureUnit) (before : List ℕ) → (s ≡ true → h ≡ false) → eqb n 0 ≡ e → (e ≡ true → q ≡ false) → (e ≡ false → q ≡ true)
     → before ++ cond e [] (slice ∷ []) ≡ places
     → (before ++ slices_in (cond s (cond e (head_call a b ∷ []) (slice_call slice at ∷ [])) (cond (h && q) (slice_call slice at ∷ unit_call unit ∷ []) [])))
     ++ pending (cond h 0 (cond s (n + 1) n)) (cond s at slice) ≡ cond s (places ++ at ∷ []) places
-raw-slices true true e q n slice at a b unit before places apart en none some is = absurd (true≢false (apart refl))
-raw-slices true false true q n slice at a b unit before places apart en none some is =
+raw-slices true true e q n slice at a b unit before apart en none some is = absurd (true≢false (apart refl))
+raw-slices true false true q n slice at a b unit before apart en none some is =
     ap (λ l. (before ++ []) ++ l) (pending-some (n + 1) at (omega arith)) ∙ ap (λ l. l ++ at ∷ []) is
-raw-slices true false false q n slice at a b unit before places apart en none some is =
+raw-slices true false false q n slice at a b unit before apart en none some is =
     ap (λ l. (before ++ slice ∷ []) ++ l) (pending-some (n + 1) at (omega arith)) ∙ ap (λ l. l ++ at ∷ []) is
-raw-slices false true true true n slice at a b unit before places apart en none some is = absurd (true≢false (none refl))
-raw-slices false true true false n slice at a b unit before places apart en none some is = append-nil (before ++ []) ∙ is
-raw-slices false true false true n slice at a b unit before places apart en none some is = append-nil (before ++ slice ∷ []) ∙ is
-raw-slices false true false false n slice at a b unit before places apart en none some is = absurd (false≢true (some refl))
-raw-slices false false e q n slice at a b unit before places apart en none some is =
+raw-slices false true true true n slice at a b unit before apart en none some is = absurd (true≢false (none refl))
+raw-slices false true true false n slice at a b unit before apart en none some is = append-nil (before ++ []) ∙ is
+raw-slices false true false true n slice at a b unit before apart en none some is = append-nil (before ++ slice ∷ []) ∙ is
+raw-slices false true false false n slice at a b unit before apart en none some is = absurd (false≢true (some refl))
+raw-slices false false e q n slice at a b unit before apart en none some is =
     ap (λ v. (before ++ []) ++ cond v [] (slice ∷ [])) en ∙ ap (λ l. l ++ cond e [] (slice ∷ [])) (append-nil before) ∙ is
 
 step-slices : (c : Code) (past : List Code) → slices_in (calls_of past) ++ pending (slices_of past) (slice_of past) ≡ slice_places past
@@ -57,7 +57,7 @@ step-slices : (c : Code) (past : List Code) → slices_in (calls_of past) ++ pen
 unfolding calls_at
 step-slices c past is =
     let n = slices_of past in
-    raw-slices (is_slice c.kind) (is_head c.kind) (eqb n 0) (ltb 0 n) n (slice_of past) c.place (tally_of past).unit c.place (unit_at (tally_of past) c.place) (slices_in (calls_of past)) (slice_places past)
+    raw-slices (is_slice c.kind) (is_head c.kind) (eqb n 0) (ltb 0 n) n (slice_of past) c.place (tally_of past).unit c.place (unit_at (tally_of past) c.place) (slices_in (calls_of past))
     (slice-apart c.kind) refl (none-count n) (some-count n) is
 
 told-slices : (past : List Code) → slices_in (calls_of past) ++ pending (slices_of past) (slice_of past) ≡ slice_places past

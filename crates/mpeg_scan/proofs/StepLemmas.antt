@@ -191,8 +191,8 @@ first_fault-at s r x kept short whole =
     ap first_fault (codes-code x r whole) ∙ first_fault-code past (length r - 3) x (note-accepted r x kept.accepted)
     ∙ ap (λ n. fault_at past (n - 3) x) (sym kept.fed) ∙ sym (code_judgement-next s r x (s.fed - 3) x kept short)
 
-pub fed-code : (s : Progress) (r : List ℕ) (x : ℕ) → HasRead s r → length r < 2 ^ 42 → is_whole (latest_prefix r) ≡ true → code_judgement (scan_with_byte s x).latest s.tally (s.fed - 3) x ≡ None → HasRead (scan_with_code (scan_with_byte s x) (s.fed - 3) x) (x ∷ r)
-fed-code s r x kept short whole none =
+pub fed-code : {x : ℕ} (s : Progress) (r : List ℕ) → HasRead s r → length r < 2 ^ 42 → is_whole (latest_prefix r) ≡ true → code_judgement (scan_with_byte s x).latest s.tally (s.fed - 3) x ≡ None → HasRead (scan_with_code (scan_with_byte s x) (s.fed - 3) x) (x ∷ r)
+fed-code {x} s r kept short whole none =
     let codes = codes-code x r whole in
     let past = note_latest (codes_of r) x in record {
       fed = omega (arith, kept.fed);
@@ -220,39 +220,39 @@ told-at s r x kept short whole =
 
 -- ---- as the code takes a byte
 
-whole-read : (s : Progress) (r : List ℕ) (b w : Bool) → HasRead s r → w ≡ b → w ≡ is_whole s.prefix → is_whole (latest_prefix r) ≡ b
-whole-read s r b w kept test is = sym (is ∙ ap is_whole kept.prefix) ∙ test
+whole-read : {b : Bool} (s : Progress) (r : List ℕ) (w : Bool) → HasRead s r → w ≡ b → w ≡ is_whole s.prefix → is_whole (latest_prefix r) ≡ b
+whole-read s r w kept test is = sym (is ∙ ap is_whole kept.prefix) ∙ test
 
 short-read : (s : Progress) (r : List ℕ) → HasRead s r → s.fed < 2 ^ 41 → length r < 2 ^ 42
 short-read s r kept short = omega (arith, kept.fed)
 
-pub taken-plain : (s n : Progress) (r : List ℕ) (x : ℕ) (w : Bool) → w ≡ false → w ≡ is_whole s.prefix → n ≡ scan_with_byte s x → HasRead s r → HasRead n (x ∷ r)
-taken-plain s n r x w test is noted kept =
-    subst (λ (v : Progress). HasRead v (x ∷ r)) (sym noted) (fed-plain s r x kept (whole-read s r false w kept test is))
+pub taken-plain : {n : Progress} {x : ℕ} (s : Progress) (r : List ℕ) (w : Bool) → w ≡ false → w ≡ is_whole s.prefix → n ≡ scan_with_byte s x → HasRead s r → HasRead n (x ∷ r)
+taken-plain {x} s r w test is noted kept =
+    subst (λ (v : Progress). HasRead v (x ∷ r)) (sym noted) (fed-plain s r x kept (whole-read s r w kept test is))
 
-pub taken-code : (s n m : Progress) (r : List ℕ) (x place : ℕ) (w : Bool) → s.fed < 2 ^ 41 → w ≡ true → w ≡ is_whole s.prefix → n ≡ scan_with_byte s x → place ≡ s.fed - 3 → (code_judgement n.latest n.tally place x ≡ None) × (m ≡ scan_with_code n place x) → HasRead s r → HasRead m (x ∷ r)
-taken-code s n m r x place w short test is noted at h kept =
+pub taken-code : {n : Progress} {x : ℕ} (s m : Progress) (r : List ℕ) (place : ℕ) (w : Bool) → s.fed < 2 ^ 41 → w ≡ true → w ≡ is_whole s.prefix → n ≡ scan_with_byte s x → place ≡ s.fed - 3 → (code_judgement n.latest n.tally place x ≡ None) × (m ≡ scan_with_code n place x) → HasRead s r → HasRead m (x ∷ r)
+taken-code {x} s m r place w short test is noted at h kept =
     let none : code_judgement (scan_with_byte s x).latest s.tally (s.fed - 3) x ≡ None =
     sym (ap (λ (v : Progress). code_judgement v.latest v.tally place x) noted ∙ ap (λ p. code_judgement (scan_with_byte s x).latest s.tally p x) at) ∙ h.0 in
     let became : m ≡ scan_with_code (scan_with_byte s x) (s.fed - 3) x =
     h.1 ∙ ap (λ (v : Progress). scan_with_code v place x) noted ∙ ap (λ p. scan_with_code (scan_with_byte s x) p x) at in
-    subst (λ (v : Progress). HasRead v (x ∷ r)) (sym became) (fed-code s r x kept (short-read s r kept short) (whole-read s r true w kept test is) none)
+    subst (λ (v : Progress). HasRead v (x ∷ r)) (sym became) (fed-code s r kept (short-read s r kept short) (whole-read s r w kept test is) none)
 
-pub taken-fault : (s n : Progress) (r : List ℕ) (x place : ℕ) (w : Bool) (f : FilmFault) → s.fed < 2 ^ 41 → w ≡ true → w ≡ is_whole s.prefix → n ≡ scan_with_byte s x → place ≡ s.fed - 3 → code_judgement n.latest n.tally place x ≡ Some f → HasRead s r → first_fault (codes_of (x ∷ r)) ≡ Some f
-taken-fault s n r x place w f short test is noted at h kept =
-    first_fault-at s r x kept (short-read s r kept short) (whole-read s r true w kept test is)
+pub taken-fault : {n : Progress} {f : FilmFault} (s : Progress) (r : List ℕ) (x place : ℕ) (w : Bool) → s.fed < 2 ^ 41 → w ≡ true → w ≡ is_whole s.prefix → n ≡ scan_with_byte s x → place ≡ s.fed - 3 → code_judgement n.latest n.tally place x ≡ Some f → HasRead s r → first_fault (codes_of (x ∷ r)) ≡ Some f
+taken-fault s r x place w short test is noted at h kept =
+    first_fault-at s r x kept (short-read s r kept short) (whole-read s r w kept test is)
     ∙ sym (ap (λ (v : Progress). code_judgement v.latest v.tally place x) noted ∙ ap (λ p. code_judgement (scan_with_byte s x).latest s.tally p x) at) ∙ h
 
-pub taken-calls : (s n : Progress) (r : List ℕ) (x place : ℕ) (w : Bool) → s.fed < 2 ^ 41 → w ≡ true → w ≡ is_whole s.prefix → n ≡ scan_with_byte s x → place ≡ s.fed - 3 → HasRead s r → (calls : List Call) → (calls ++ calls_of (codes_of r)) ++ calls_at (tally_with n.latest n.tally) place x ≡ calls ++ calls_of (codes_of (x ∷ r))
-taken-calls s n r x place w short test is noted at kept calls =
+pub taken-calls : {n : Progress} (s : Progress) (r : List ℕ) (x place : ℕ) (w : Bool) → s.fed < 2 ^ 41 → w ≡ true → w ≡ is_whole s.prefix → n ≡ scan_with_byte s x → place ≡ s.fed - 3 → HasRead s r → (calls : List Call) → (calls ++ calls_of (codes_of r)) ++ calls_at (tally_with n.latest n.tally) place x ≡ calls ++ calls_of (codes_of (x ∷ r))
+taken-calls {n} s r x place w short test is noted at kept calls =
     append_assoc calls (calls_of (codes_of r)) (calls_at (tally_with n.latest n.tally) place x)
     ∙ ap (λ (v : Progress). calls ++ (calls_of (codes_of r) ++ calls_at (tally_with v.latest v.tally) place x)) noted
     ∙ ap (λ p. calls ++ (calls_of (codes_of r) ++ calls_at (tally_with (scan_with_byte s x).latest s.tally) p x)) at
-    ∙ ap (λ (l : List Call). calls ++ l) (sym (told-at s r x kept (short-read s r kept short) (whole-read s r true w kept test is)))
+    ∙ ap (λ (l : List Call). calls ++ l) (sym (told-at s r x kept (short-read s r kept short) (whole-read s r w kept test is)))
 
 pub taken-none : (s : Progress) (r : List ℕ) (x : ℕ) (w : Bool) → w ≡ false → w ≡ is_whole s.prefix → HasRead s r → (calls : List Call) → calls ++ calls_of (codes_of r) ≡ calls ++ calls_of (codes_of (x ∷ r))
 taken-none s r x w test is kept calls =
-    ap (λ (l : List Call). calls ++ l) (sym (told-plain x r (whole-read s r false w kept test is)))
+    ap (λ (l : List Call). calls ++ l) (sym (told-plain x r (whole-read s r w kept test is)))
 
 -- ---- the film's end
 

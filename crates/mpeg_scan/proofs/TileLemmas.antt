@@ -92,8 +92,8 @@ takes-slice : (unit head_end slice m place : ℕ) (calls : List Call) → slice 
 takes-slice unit head_end slice m place calls apart =
     ap (λ b. parts_after (cond b (Some (within unit head_end place (m + 1))) None) calls) (and_from (eqb slice slice) (leb (slice + 4) place) (eq-eqb slice slice refl) (le-leb (slice + 4) place apart))
 
-takes-unit : (unit head_end m place n : ℕ) (u : PictureUnit) → u.from ≡ unit → u.head_end ≡ head_end → u.to ≡ place → u.slices ≡ n → n ≡ m + 1 → parts_after (Some (within unit head_end place (m + 1))) (unit_call u ∷ []) ≡ Some (between place)
-takes-unit unit head_end m place n u from head to slices some =
+takes-unit : {unit head_end n : ℕ} (m place : ℕ) (u : PictureUnit) → u.from ≡ unit → u.head_end ≡ head_end → u.to ≡ place → u.slices ≡ n → n ≡ m + 1 → parts_after (Some (within unit head_end place (m + 1))) (unit_call u ∷ []) ≡ Some (between place)
+takes-unit {unit} {head_end} m place u from head to slices some =
     ap (λ b. parts_after (cond b (Some (between place)) None) []) (and_from ((eqb u.from unit && (eqb u.head_end head_end && eqb u.to place))) (eqb u.slices (m + 1) && ltb 0 (m + 1))
     (and_from (eqb u.from unit) (eqb u.head_end head_end && eqb u.to place) (eq-eqb u.from unit from) (and_from (eqb u.head_end head_end) (eqb u.to place) (eq-eqb u.head_end head_end head) (eq-eqb u.to place to)))
     (and_from (eqb u.slices (m + 1)) (ltb 0 (m + 1)) (eq-eqb u.slices (m + 1) (slices ∙ some)) (lt-ltb 0 (m + 1) (omega arith))))
@@ -127,7 +127,7 @@ raw-step false true n unit head_end slice place u apart head spaced from head_at
     ap (λ (p : Part). parts_after (Some p) (cond (ltb 0 n) (slice_call slice place ∷ unit_call u ∷ []) [])) (part_by-some n some.0 unit head_end slice some.1)
     ∙ ap (λ b. parts_after (Some (within unit head_end slice some.0)) (cond b (slice_call slice place ∷ unit_call u ∷ []) [])) (lt-ltb 0 n (omega (arith, some.1)))
     ∙ takes-slice unit head_end slice some.0 place (unit_call u ∷ []) (spaced (omega (arith, some.1)))
-    ∙ takes-unit unit head_end some.0 place n u from head_at to slices some.1
+    ∙ takes-unit some.0 place u from head_at to slices some.1
     ∙ sym (ap (λ b. Some (part_by 0 (cond b place unit) head_end slice)) (lt-ltb 0 n (omega (arith, some.1))) ∙ ap (λ (p : Part). Some p) (part_by-none 0 place head_end slice refl))
 raw-step false false n unit head_end slice place u apart head spaced from head_at to slices count = refl
 
@@ -359,7 +359,7 @@ end-step past n some apart = elim (count-cases (slices_of past)) [
   | inl none ↦ absurd (omega arith)
   | inr more ↦ ap (λ (p : Part). parts_after (Some p) (unit_end (tally_of past) n)) (part_by-some (slices_of past) more.0 (unit_of past) (head_end_of past) (slice_of past) more.1)
       ∙ takes-slice (unit_of past) (head_end_of past) (slice_of past) more.0 n (unit_call (unit_at (tally_of past) n) ∷ []) apart
-      ∙ takes-unit (unit_of past) (head_end_of past) more.0 n (slices_of past) (unit_at (tally_of past) n) refl refl refl refl more.1
+      ∙ takes-unit more.0 n (unit_at (tally_of past) n) refl refl refl refl more.1
 ]
 
 whole-tiles : (past : List Code) (n : ℕ) → first_fault past ≡ None → end_fault past n ≡ None → Spaced past → After n past → parts_after (Some (between (first_of past))) (calls_of past ++ unit_end (tally_of past) n) ≡ Some (between n)
