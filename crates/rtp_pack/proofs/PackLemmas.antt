@@ -40,9 +40,9 @@ at-slice to starts i at less order =
     }
 
 -- the packets of one more slice
-put-next : (unit : PictureUnit) (f : Filling) (n : ℕ) (rest lengths : List ℕ) (out : List Packet) → lengths ≡ n ∷ rest
+put-next : {n : ℕ} {rest lengths : List ℕ} (unit : PictureUnit) (f : Filling) (out : List Packet) → lengths ≡ n ∷ rest
     → (out ++ slice_packets unit f n) ++ packets_from unit (next_filling f n) rest ≡ out ++ packets_from unit f lengths
-put-next unit f n rest lengths out is =
+put-next {n} {rest} unit f out is =
     append_assoc out (slice_packets unit f n) (packets_from unit (next_filling f n) rest) ∙ sym (ap (λ (l : List ℕ). out ++ packets_from unit f l) is)
 
 -- once they are out, the slices after it follow
@@ -50,10 +50,11 @@ pub record Put (unit : PictureUnit) (starts : List ℕ) (i : ℕ) (next : Fillin
   pub in_order : AreInOrder next.at (drop (i + 1) starts) unit.to
   pub packets : out ++ packets_from unit next (lengths_to unit.to (drop (i + 1) starts)) ≡ whole
 
-pub put-slice : (unit : PictureUnit) (starts : List ℕ) (i : ℕ) (f next : Filling) (end : ℕ) (before out whole : List Packet) → i < length starts → AreInOrder f.at (drop i starts) unit.to
+pub put-slice : {unit : PictureUnit} {i : ℕ} (starts : List ℕ) (f next : Filling) (end : ℕ)
+    (before out whole : List Packet) → i < length starts → AreInOrder f.at (drop i starts) unit.to
     → end ≡ next_place unit.to (drop (i + 1) starts) → next ≡ next_filling f (end - f.at) → out ≡ before ++ slice_packets unit f (end - f.at)
     → before ++ packets_from unit f (lengths_to unit.to (drop i starts)) ≡ whole → Put unit starts i next out whole
-put-slice unit starts i f next end before out whole less order at_end at_next more is =
+put-slice {unit} {i} starts f next end before out whole less order at_end at_next more is =
     let here = at-slice unit.to starts i f.at less order in
     let ends : next.at ≡ f.at + (end - f.at) = ap (λ (g : Filling). g.at) at_next in
     let there : next_place unit.to (drop (i + 1) starts) ≡ next.at = omega (arith, here.least, at_end, ends) in
@@ -63,7 +64,7 @@ put-slice unit starts i f next end before out whole less order at_end at_next mo
       in_order = subst (λ at. AreInOrder at (drop (i + 1) starts) unit.to) there here.after;
       packets = ap (λ (o : List Packet). o ++ packets_from unit next rest) more
           ∙ ap (λ (g : Filling). (before ++ slice_packets unit f (end - f.at)) ++ packets_from unit g rest) at_next
-          ∙ put-next unit f (end - f.at) rest (lengths_to unit.to (drop i starts)) before lengths
+          ∙ put-next unit f before lengths
           ∙ is;
     }
 

@@ -52,8 +52,8 @@ ends-next : (May : ℕ → ℕ → Type 0) (start cut : ℕ) (cuts : List ℕ) �
 ends-next May start cut [] ends_ = tt
 ends-next May start cut (next ∷ cuts) ends_ = ends_.1
 
-rest-next : (Must : ℕ → Type 0) (Fits May : ℕ → ℕ → Type 0) (start end cut : ℕ) (cuts : List ℕ) → Rest Must Fits May start end (cut ∷ cuts) → Rest Must Fits May cut end cuts
-rest-next Must Fits May start end cut cuts rest = record {
+rest-next : {Must : ℕ → Type 0} {cuts : List ℕ} (Fits May : ℕ → ℕ → Type 0) (start end cut : ℕ) → Rest Must Fits May start end (cut ∷ cuts) → Rest Must Fits May cut end cuts
+rest-next {cuts} Fits May start end cut rest = record {
   pieces = rest.pieces.1.1;
   short = λ place length fits. (rest.short place length fits).1;
   must = λ place after is. among-rest place cut cuts after (rest.must place (omega (arith, after, rest.pieces.0)) is);
@@ -65,30 +65,30 @@ cut-inside c d length (inl low) less inside = omega (arith, low, less)
 cut-inside c d length (inr high) less inside = omega (arith, high, inside)
 
 -- a cut of one list is no place that the other passes over
-passed-by : (Must : ℕ → Type 0) (Fits May : ℕ → ℕ → Type 0) (start end c d : ℕ) (bs : List ℕ) → Rest Must Fits May start end (d ∷ bs) → start < c → c < d → (c ≡ start + 1380) ⊎ (Must c ⊎ ((length : ℕ) × (Fits c length × (start + 1380 < c + length)))) → ⊥
-passed-by Must Fits May start end c d bs b some less (inl full) = omega (arith, full, less, b.pieces.1.0)
-passed-by Must Fits May start end c d bs b some less (inr (inl must)) =
+passed-by : {Must : ℕ → Type 0} {d : ℕ} {bs : List ℕ} (Fits May : ℕ → ℕ → Type 0) (start end c : ℕ) → Rest Must Fits May start end (d ∷ bs) → start < c → c < d → (c ≡ start + 1380) ⊎ (Must c ⊎ ((length : ℕ) × (Fits c length × (start + 1380 < c + length)))) → ⊥
+passed-by Fits May start end c b some less (inl full) = omega (arith, full, less, b.pieces.1.0)
+passed-by {d} {bs} Fits May start end c b some less (inr (inl must)) =
     let there = b.must c some must in
     let other : eqb c d ≡ false = ne_eqb c d (λ is. absurd (omega (arith, is, less))) in
     pieces-rise d end c bs b.pieces.1.1 less (sym (ap (λ e. e || is_among c bs) other) ∙ there)
-passed-by Must Fits May start end c d bs b some less (inr (inr fit)) =
+passed-by {d} Fits May start end c b some less (inr (inr fit)) =
     cut-inside c d fit.0 (b.short c fit.0 fit.1.0).0 less (omega (arith, fit.1.1, b.pieces.1.0))
 
-passed : (Must : ℕ → Type 0) (Fits May : ℕ → ℕ → Type 0) (start end c d : ℕ) (cs bs : List ℕ) → Reasons Must Fits May → Rest Must Fits May start end (c ∷ cs) → Rest Must Fits May start end (d ∷ bs) → c < d → ⊥
-passed Must Fits May start end c d [] bs reasons a b less = omega (arith, a.pieces.1.1, less, pieces-end d end bs b.pieces.1.1)
-passed Must Fits May start end c d (next ∷ cs) bs reasons a b less =
-    passed-by Must Fits May start end c d bs b (omega (arith, a.pieces.0)) less (reasons start c a.ends.0)
+passed : {Must : ℕ → Type 0} {d : ℕ} {bs : List ℕ} (Fits May : ℕ → ℕ → Type 0) (start end c : ℕ) (cs : List ℕ) → Reasons Must Fits May → Rest Must Fits May start end (c ∷ cs) → Rest Must Fits May start end (d ∷ bs) → c < d → ⊥
+passed {d} {bs} Fits May start end c [] reasons a b less = omega (arith, a.pieces.1.1, less, pieces-end d end bs b.pieces.1.1)
+passed Fits May start end c (next ∷ cs) reasons a b less =
+    passed-by Fits May start end c b (omega (arith, a.pieces.0)) less (reasons start c a.ends.0)
 
-one-rest : (Must : ℕ → Type 0) (Fits May : ℕ → ℕ → Type 0) (start end : ℕ) (cs bs : List ℕ) → Reasons Must Fits May → Rest Must Fits May start end cs → Rest Must Fits May start end bs → cs ≡ bs
-one-rest Must Fits May start end [] [] reasons a b = refl
-one-rest Must Fits May start end [] (d ∷ bs) reasons a b = absurd (omega (arith, a.pieces, b.pieces.0, pieces-end d end bs b.pieces.1.1))
-one-rest Must Fits May start end (c ∷ cs) [] reasons a b = absurd (omega (arith, b.pieces, a.pieces.0, pieces-end c end cs a.pieces.1.1))
-one-rest Must Fits May start end (c ∷ cs) (d ∷ bs) reasons a b = elim (cases_order c d) [
+one-rest : {Must : ℕ → Type 0} (Fits May : ℕ → ℕ → Type 0) (start end : ℕ) (cs bs : List ℕ) → Reasons Must Fits May → Rest Must Fits May start end cs → Rest Must Fits May start end bs → cs ≡ bs
+one-rest Fits May start end [] [] reasons a b = refl
+one-rest Fits May start end [] (d ∷ bs) reasons a b = absurd (omega (arith, a.pieces, b.pieces.0, pieces-end d end bs b.pieces.1.1))
+one-rest Fits May start end (c ∷ cs) [] reasons a b = absurd (omega (arith, b.pieces, a.pieces.0, pieces-end c end cs a.pieces.1.1))
+one-rest {Must} Fits May start end (c ∷ cs) (d ∷ bs) reasons a b = elim (cases_order c d) [
   | inl same ↦ (let P : ℕ → Type 0 = λ s. Rest Must Fits May s end bs in
-      let rest = one-rest Must Fits May c end cs bs reasons (rest-next Must Fits May start end c cs a) (subst P (sym same) (rest-next Must Fits May start end d bs b)) in
+      let rest = one-rest Fits May c end cs bs reasons (rest-next Fits May start end c a) (subst P (sym same) (rest-next Fits May start end d b)) in
       ap (λ n. n ∷ cs) same ∙ ap (λ (l : List ℕ). d ∷ l) rest)
-  | inr (inl less) ↦ absurd (passed Must Fits May start end c d cs bs reasons a b less)
-  | inr (inr more) ↦ absurd (passed Must Fits May start end d c bs cs reasons b a more)
+  | inr (inl less) ↦ absurd (passed Fits May start end c cs reasons a b less)
+  | inr (inr more) ↦ absurd (passed Fits May start end d bs reasons b a more)
 ]
 
 -- a slice that is short
@@ -110,7 +110,7 @@ the-rest from head_end slices cuts meets = record {
 
 pub one-meets : (from head_end : ℕ) (slices one other : List ℕ) → MeetsRules from head_end slices one → MeetsRules from head_end slices other → one ≡ other
 one-meets from head_end slices one other a b =
-    one-rest (IsCutPlace from head_end slices) (Short head_end slices) (MayEnd from head_end slices) from (head_end + sum slices) one other (the-reasons from head_end slices) (the-rest from head_end slices one a) (the-rest from head_end slices other b)
+    one-rest (Short head_end slices) (MayEnd from head_end slices) from (head_end + sum slices) one other (the-reasons from head_end slices) (the-rest from head_end slices one a) (the-rest from head_end slices other b)
 
 -- ---- the packer's list meets them
 
@@ -194,15 +194,15 @@ full-may Must Begins start (suc count) rest may =
     may-cons (MayBy Must Begins) start (start + 1380) (full_ends (start + 1380) count ++ rest) (inl refl) (full-may Must Begins (start + 1380) count rest (subst (λ s. MayAllEnd (MayBy Must Begins) s rest) (omega arith) may))
 
 -- why a slice doesn't go in
-why-short : (Must : ℕ → Type 0) (Begins : ℕ → ℕ → Type 0) (from at n : ℕ) (holds : Holds) → n ≤ 1380 → Begins at n → (holds ≡ LastFragment → Must at) → goes_in_whole from at holds n ≡ false → MayBy Must Begins from at
-why-short Must Begins from at n HeadAlone short begins last goes = inr (inr (n, (begins, (short, leb-false (at + n) (from + 1380) goes))))
-why-short Must Begins from at n Slices short begins last goes = inr (inr (n, (begins, (short, leb-false (at + n) (from + 1380) goes))))
-why-short Must Begins from at n LastFragment short begins last goes = inr (inl (last refl))
+why-short : {n : ℕ} (Must : ℕ → Type 0) (Begins : ℕ → ℕ → Type 0) (from at : ℕ) (holds : Holds) → n ≤ 1380 → Begins at n → (holds ≡ LastFragment → Must at) → goes_in_whole from at holds n ≡ false → MayBy Must Begins from at
+why-short {n} Must Begins from at HeadAlone short begins last goes = inr (inr (n, (begins, (short, leb-false (at + n) (from + 1380) goes))))
+why-short {n} Must Begins from at Slices short begins last goes = inr (inr (n, (begins, (short, leb-false (at + n) (from + 1380) goes))))
+why-short Must Begins from at LastFragment short begins last goes = inr (inl (last refl))
 
-why : (Must : ℕ → Type 0) (Begins : ℕ → ℕ → Type 0) (f : Filling) (n : ℕ) (slices : List ℕ) → Reads Must Begins f (n ∷ slices) → goes_in f n ≡ false → MayBy Must Begins f.from f.at
-why Must Begins f n slices reads goes = elim (cases_lt 1380 n) [
+why : {Must : ℕ → Type 0} {f : Filling} {n : ℕ} {slices : List ℕ} (Begins : ℕ → ℕ → Type 0) → Reads Must Begins f (n ∷ slices) → goes_in f n ≡ false → MayBy Must Begins f.from f.at
+why {Must} {f} {n} Begins reads goes = elim (cases_lt 1380 n) [
   | inl long ↦ inr (inl (reads.long f.at n (inl (refl, refl)) long (λ _. goes)))
-  | inr short ↦ why-short Must Begins f.from f.at n f.holds short (reads.begins f.at n (inl (refl, refl))) reads.last
+  | inr short ↦ why-short Must Begins f.from f.at f.holds short (reads.begins f.at n (inl (refl, refl))) reads.last
       (sym (ap (λ b. cond b (goes_in_whole f.from f.at f.holds n) (goes_in_cut f.from f.at f.holds)) (le-leb n 1380 short)) ∙ goes)
 ]
 
@@ -213,26 +213,26 @@ last-by false n e is = leb-false n 1380 e
 last-long : (n : ℕ) → holds_after n ≡ LastFragment → 1380 < n
 last-long n is = last-by (leb n 1380) n refl is
 
-reads-next : (Must : ℕ → Type 0) (Begins : ℕ → ℕ → Type 0) (f : Filling) (n last : ℕ) (slices : List ℕ) → 0 < n → Reads Must Begins f (n ∷ slices) → Reads Must Begins (filling_after f n last) slices
-reads-next Must Begins f n last slices some reads = record {
+reads-next : {Must : ℕ → Type 0} {f : Filling} {n : ℕ} {slices : List ℕ} (Begins : ℕ → ℕ → Type 0) (last : ℕ) → 0 < n → Reads Must Begins f (n ∷ slices) → Reads Must Begins (filling_after f n last) slices
+reads-next {f} {n} {slices} Begins last some reads = record {
   begins = λ place length is. reads.begins place length (inr is);
   long = λ place length is long goes. reads.long place length (inr is) long (λ here. absurd (omega (arith, here, some, slice-after slices (f.at + n) place length is)));
   long_end = λ start length is long. reads.long_end start length (inr is) long;
   last = λ is. reads.long_end f.at n (inl (refl, refl)) (last-long n is);
 }
 
-may-end : (Must : ℕ → Type 0) (Begins : ℕ → ℕ → Type 0) (slices : List ℕ) (f : Filling) (cuts : List ℕ) → AreSome slices → Reads Must Begins f slices → Cuts f slices cuts → MayAllEnd (MayBy Must Begins) f.from cuts
-may-end Must Begins [] f cuts some reads e = subst (λ (l : List ℕ). MayAllEnd (MayBy Must Begins) f.from l) (sym e) tt
-may-end Must Begins (n ∷ slices) f cuts some reads (inl x) =
+may-end : {Must : ℕ → Type 0} {f : Filling} (Begins : ℕ → ℕ → Type 0) (slices cuts : List ℕ) → AreSome slices → Reads Must Begins f slices → Cuts f slices cuts → MayAllEnd (MayBy Must Begins) f.from cuts
+may-end {Must} {f} Begins [] cuts some reads e = subst (λ (l : List ℕ). MayAllEnd (MayBy Must Begins) f.from l) (sym e) tt
+may-end {Must} {f} Begins (n ∷ slices) cuts some reads (inl x) =
     let last = f.from + 1380 * x.1.full in
-    let rest = may-end Must Begins slices (filling_after f n last) x.1.rest some.1 (reads-next Must Begins f n last slices some.0 reads) x.1.goes_on in
+    let rest = may-end {Must = Must} {f = filling_after f n last} Begins slices x.1.rest some.1 (reads-next {Must = Must} {f = f} {n = n} {slices = slices} Begins last some.0 reads) x.1.goes_on in
     subst (λ (l : List ℕ). MayAllEnd (MayBy Must Begins) f.from l) (sym x.1.filled) (full-may Must Begins f.from x.1.full x.1.rest rest)
-may-end Must Begins (n ∷ slices) f cuts some reads (inr x) =
+may-end {Must} {f} Begins (n ∷ slices) cuts some reads (inr x) =
     let fills = x.1.1.1 in
     let last = f.at + 1380 * fills.full in
-    let rest = may-end Must Begins slices (filling_after f n last) fills.rest some.1 (reads-next Must Begins f n last slices some.0 reads) fills.goes_on in
+    let rest = may-end Begins slices fills.rest some.1 (reads-next Begins last some.0 reads) fills.goes_on in
     let tail : MayAllEnd (MayBy Must Begins) f.at x.1.0 = subst (λ (l : List ℕ). MayAllEnd (MayBy Must Begins) f.at l) (sym fills.filled) (full-may Must Begins f.at fills.full fills.rest rest) in
-    subst (λ (l : List ℕ). MayAllEnd (MayBy Must Begins) f.from l) (sym x.1.1.0) (may-cons (MayBy Must Begins) f.from f.at x.1.0 (why Must Begins f n slices reads x.0) tail)
+    subst (λ (l : List ℕ). MayAllEnd (MayBy Must Begins) f.from l) (sym x.1.1.0) (may-cons (MayBy Must Begins) f.from f.at x.1.0 (why Begins reads x.0) tail)
 
 may-cs : (from head_end : ℕ) (slices : List ℕ) (start cut : ℕ) → MayBy (IsCutPlace from head_end slices) (SliceAt head_end slices) start cut → MayEnd from head_end slices start cut
 may-cs from head_end slices start cut (inl full) = inl full
@@ -261,10 +261,10 @@ first-reads from head_end slices = record {
   last = λ is. cc;
 }
 
-long-cut : (from head_end : ℕ) (slices cuts : List ℕ) → IsCutting from head_end slices cuts → (place : ℕ) → IsCutPlace from head_end slices place → is_among place cuts ≡ true
-long-cut from head_end slices cuts cutting place (inl b) =
+long-cut : {head_end : ℕ} {slices : List ℕ} (from : ℕ) (cuts : List ℕ) → IsCutting from head_end slices cuts → (place : ℕ) → IsCutPlace from head_end slices place → is_among place cuts ≡ true
+long-cut {head_end} {slices} from cuts cutting place (inl b) =
     begin-cut slices (first_piece from head_end) cuts cutting place b.length b.slice b.long (λ here. goes-head from head_end b.length b.long (b.apart here))
-long-cut from head_end slices cuts cutting place (inr e) =
+long-cut {head_end} {slices} from cuts cutting place (inr e) =
     ap (λ p. is_among p cuts) e.place_is ∙ end-cut slices (first_piece from head_end) cuts cutting e.start e.length e.slice e.long
 
 pub cutting-meets : (from head_end : ℕ) (slices cuts : List ℕ) → from < head_end → head_end ≤ from + 1380 → HaveBytes slices → IsCutting from head_end slices cuts → MeetsRules from head_end slices cuts
@@ -274,9 +274,9 @@ cutting-meets from head_end slices cuts some short have cutting =
       pieces = pieces-cover slices f cuts (some, short) cutting;
       head = head-uncut from head_end cuts (cuts-from slices f cuts order cutting);
       short = short-at slices head_end cuts (short-uncut slices f cuts order cutting);
-      long = long-cut from head_end slices cuts cutting;
+      long = long-cut from cuts cutting;
       ends = may-map (MayBy (IsCutPlace from head_end slices) (SliceAt head_end slices)) (MayEnd from head_end slices) from cuts (may-cs from head_end slices)
-          (may-end (IsCutPlace from head_end slices) (SliceAt head_end slices) slices f cuts (some-bytes slices have) (first-reads from head_end slices) cutting);
+          (may-end (SliceAt head_end slices) slices cuts (some-bytes slices have) (first-reads from head_end slices) cutting);
     }
 
 no_unit : PictureUnit

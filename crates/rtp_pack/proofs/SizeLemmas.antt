@@ -23,24 +23,24 @@ pub record Kept (count from at : ℕ) (holds : Holds) : Type 0 where
   pub last : holds ≡ LastFragment → 20 * count ≤ at
 
 -- a short slice in the piece, or in the next
-short-here : (pieces from at n full : ℕ) (holds : Holds) → Kept pieces from at holds → at + n ≤ from + 1380 → from + 1380 * full < at + n → Kept (pieces + (0 + full)) (from + 1380 * full) (at + n) Slices
-short-here pieces from at n full holds kept fits before =
+short-here : {pieces : ℕ} {holds : Holds} (from at n full : ℕ) → Kept pieces from at holds → at + n ≤ from + 1380 → from + 1380 * full < at + n → Kept (pieces + (0 + full)) (from + 1380 * full) (at + n) Slices
+short-here {pieces} from at n full kept fits before =
     let none : full ≡ 0 = omega arith in
     record { some = before; pieces = omega (arith, none, kept.pieces); whole = omega (arith, none, kept.whole); ended = omega (arith, none, kept.ended); last = λ e. cc }
 
-short-next : (pieces from at n full : ℕ) (holds : Holds) → Kept pieces from at holds → n ≤ 1380 → 20 * pieces ≤ at + n → at + 1380 * full < at + n → Kept (pieces + (1 + full)) (at + 1380 * full) (at + n) Slices
-short-next pieces from at n full holds kept short room before =
+short-next : {pieces : ℕ} {holds : Holds} (from at n full : ℕ) → Kept pieces from at holds → n ≤ 1380 → 20 * pieces ≤ at + n → at + 1380 * full < at + n → Kept (pieces + (1 + full)) (at + 1380 * full) (at + n) Slices
+short-next {pieces} from at n full kept short room before =
     let none : full ≡ 0 = omega arith in
     record { some = before; pieces = omega (arith, none, kept.pieces, kept.some); whole = omega (arith, none, room); ended = omega (arith, none, kept.whole); last = λ e. cc }
 
 -- a longer slice in the piece, or in the next
-long-here : (pieces from at n full : ℕ) (holds : Holds) → Kept pieces from at holds → 1380 < n → from + 1380 * full < at + n → at + n ≤ from + 1380 * full + 1380 → Kept (pieces + (0 + full)) (from + 1380 * full) (at + n) LastFragment
-long-here pieces from at n full holds kept long before within =
+long-here : {pieces : ℕ} {holds : Holds} (from at n full : ℕ) → Kept pieces from at holds → 1380 < n → from + 1380 * full < at + n → at + n ≤ from + 1380 * full + 1380 → Kept (pieces + (0 + full)) (from + 1380 * full) (at + n) LastFragment
+long-here {pieces} from at n full kept long before within =
     let some : 0 < full = omega (arith, kept.some) in
     record { some = before; pieces = omega (arith, kept.pieces); whole = omega (arith, some, kept.ended); ended = omega (arith, kept.ended); last = λ e. omega (arith, some, kept.ended) }
 
-long-next : (pieces from at n full : ℕ) (holds : Holds) → Kept pieces from at holds → 1380 < n → at + 1380 * full < at + n → at + n ≤ at + 1380 * full + 1380 → Kept (pieces + (1 + full)) (at + 1380 * full) (at + n) LastFragment
-long-next pieces from at n full holds kept long before within =
+long-next : {pieces : ℕ} {holds : Holds} (from at n full : ℕ) → Kept pieces from at holds → 1380 < n → at + 1380 * full < at + n → at + n ≤ at + 1380 * full + 1380 → Kept (pieces + (1 + full)) (at + 1380 * full) (at + n) LastFragment
+long-next {pieces} from at n full kept long before within =
     let some : 0 < full = omega arith in
     record { some = before; pieces = omega (arith, kept.pieces, kept.some); whole = omega (arith, some, kept.whole); ended = omega (arith, kept.whole); last = λ e. omega (arith, some, kept.whole) }
 
@@ -50,18 +50,18 @@ whole-fits from at n Slices e = leb-true (at + n) (from + 1380) e
 whole-fits from at n LastFragment e = absurd (true≢false (sym e))
 
 -- where a short slice begins the next piece there is room for one more head
-whole-room : (pieces from at n : ℕ) (holds : Holds) → Kept pieces from at holds → 4 ≤ n → goes_in_whole from at holds n ≡ false → 20 * pieces ≤ at + n
-whole-room pieces from at n HeadAlone kept least e = omega (arith, leb-false (at + n) (from + 1380) e, kept.ended)
-whole-room pieces from at n Slices kept least e = omega (arith, leb-false (at + n) (from + 1380) e, kept.ended)
-whole-room pieces from at n LastFragment kept least e = omega (arith, kept.last refl)
+whole-room : {pieces : ℕ} (from at n : ℕ) (holds : Holds) → Kept pieces from at holds → 4 ≤ n → goes_in_whole from at holds n ≡ false → 20 * pieces ≤ at + n
+whole-room from at n HeadAlone kept least e = omega (arith, leb-false (at + n) (from + 1380) e, kept.ended)
+whole-room from at n Slices kept least e = omega (arith, leb-false (at + n) (from + 1380) e, kept.ended)
+whole-room from at n LastFragment kept least e = omega (arith, kept.last refl)
 
-kept-slice : (pieces from at n full : ℕ) (holds : Holds) (short goes : Bool) → Kept pieces from at holds → 4 ≤ n → leb n 1380 ≡ short → cond short (goes_in_whole from at holds n) (goes_in_cut from at holds) ≡ goes
+kept-slice : {pieces : ℕ} {holds : Holds} (from at n full : ℕ) (short goes : Bool) → Kept pieces from at holds → 4 ≤ n → leb n 1380 ≡ short → cond short (goes_in_whole from at holds n) (goes_in_cut from at holds) ≡ goes
     → cond goes from at + 1380 * full < at + n → at + n ≤ cond goes from at + 1380 * full + 1380
     → Kept (pieces + (cond goes 0 1 + full)) (cond goes from at + 1380 * full) (at + n) (cond short Slices LastFragment)
-kept-slice pieces from at n full holds true true kept least e g before within = short-here pieces from at n full holds kept (whole-fits from at n holds g) before
-kept-slice pieces from at n full holds true false kept least e g before within = short-next pieces from at n full holds kept (leb-true n 1380 e) (whole-room pieces from at n holds kept least g) before
-kept-slice pieces from at n full holds false true kept least e g before within = long-here pieces from at n full holds kept (leb-false n 1380 e) before within
-kept-slice pieces from at n full holds false false kept least e g before within = long-next pieces from at n full holds kept (leb-false n 1380 e) before within
+kept-slice {holds} from at n full true true kept least e g before within = short-here from at n full kept (whole-fits from at n holds g) before
+kept-slice {holds} from at n full true false kept least e g before within = short-next from at n full kept (leb-true n 1380 e) (whole-room from at n holds kept least g) before
+kept-slice from at n full false true kept least e g before within = long-here from at n full kept (leb-false n 1380 e) before within
+kept-slice from at n full false false kept least e g before within = long-next from at n full kept (leb-false n 1380 e) before within
 
 abbrev pub IsKept : Measure → Type 0
 IsKept m = Kept m.pieces m.filling.from m.filling.at m.filling.holds
@@ -70,7 +70,7 @@ pub keeps-slice : (m : Measure) (n : ℕ) → IsKept m → 4 ≤ n → IsKept (w
 keeps-slice m n kept least =
     let f = m.filling in
     let less = start-less f n (goes_in f n) (omega (arith, kept.some)) (omega arith) in
-    kept-slice m.pieces f.from f.at n (full_before (start_of (goes_in f n) f) (f.at + n)) f.holds (leb n 1380) (goes_in f n) kept least refl refl
+    kept-slice f.from f.at n (full_before (start_of (goes_in f n) f) (f.at + n)) (leb n 1380) (goes_in f n) kept least refl refl
     (full_before-less (start_of (goes_in f n) f) (f.at + n) less) (full_before-within (start_of (goes_in f n) f) (f.at + n) less)
 
 pub keeps-measure : (m : Measure) (n : ℕ) → IsMeasure m → 4 ≤ n → m.filling.at + n ≤ 2 ^ 40 → IsMeasure (with_slice m n)
@@ -96,8 +96,8 @@ slices-append (k ∷ slices) m n = slices-append slices (with_slice m k) n
 
 -- ---- the sum of the frames
 
-leb-moved : (base x y x' y' : ℕ) → x' ≡ base + x → y' ≡ base + y → leb x' y' ≡ leb x y
-leb-moved base x y x' y' ex ey = elim (cases_Bool (leb x y)) [
+leb-moved : {x' y' : ℕ} (base x y : ℕ) → x' ≡ base + x → y' ≡ base + y → leb x' y' ≡ leb x y
+leb-moved {x'} {y'} base x y ex ey = elim (cases_Bool (leb x y)) [
   | inl e ↦ elim (cases_Bool (leb x' y')) [
     | inl e' ↦ e' ∙ sym e
     | inr e' ↦ absurd (omega (arith, ex, ey, leb-true x y e, leb-false x' y' e'))
@@ -108,8 +108,8 @@ leb-moved base x y x' y' ex ey = elim (cases_Bool (leb x y)) [
   ]
 ]
 
-ltb-moved : (base x y x' y' : ℕ) → x' ≡ base + x → y' ≡ base + y → ltb x' y' ≡ ltb x y
-ltb-moved base x y x' y' ex ey = elim (cases_Bool (ltb x y)) [
+ltb-moved : {x' y' : ℕ} (base x y : ℕ) → x' ≡ base + x → y' ≡ base + y → ltb x' y' ≡ ltb x y
+ltb-moved {x'} {y'} base x y ex ey = elim (cases_Bool (ltb x y)) [
   | inl e ↦ elim (cases_Bool (ltb x' y')) [
     | inl e' ↦ e' ∙ sym e
     | inr e' ↦ absurd (omega (arith, ex, ey, ltb-true x y e, ltb-false x' y' e'))
@@ -120,15 +120,15 @@ ltb-moved base x y x' y' ex ey = elim (cases_Bool (ltb x y)) [
   ]
 ]
 
-whole-moved : (base from at from' at' n : ℕ) (holds : Holds) → from' ≡ base + from → at' ≡ base + at → goes_in_whole from' at' holds n ≡ goes_in_whole from at holds n
-whole-moved base from at from' at' n HeadAlone ef ea = leb-moved base (at + n) (from + 1380) (at' + n) (from' + 1380) (omega (arith, ea)) (omega (arith, ef))
-whole-moved base from at from' at' n Slices ef ea = leb-moved base (at + n) (from + 1380) (at' + n) (from' + 1380) (omega (arith, ea)) (omega (arith, ef))
-whole-moved base from at from' at' n LastFragment ef ea = refl
+whole-moved : {from' at' : ℕ} (base from at n : ℕ) (holds : Holds) → from' ≡ base + from → at' ≡ base + at → goes_in_whole from' at' holds n ≡ goes_in_whole from at holds n
+whole-moved base from at n HeadAlone ef ea = leb-moved base (at + n) (from + 1380) (omega (arith, ea)) (omega (arith, ef))
+whole-moved base from at n Slices ef ea = leb-moved base (at + n) (from + 1380) (omega (arith, ea)) (omega (arith, ef))
+whole-moved base from at n LastFragment ef ea = refl
 
-cut-moved : (base from at from' at' : ℕ) (holds : Holds) → from' ≡ base + from → at' ≡ base + at → goes_in_cut from' at' holds ≡ goes_in_cut from at holds
-cut-moved base from at from' at' HeadAlone ef ea = ltb-moved base at (from + 1380) at' (from' + 1380) ea (omega (arith, ef))
-cut-moved base from at from' at' Slices ef ea = refl
-cut-moved base from at from' at' LastFragment ef ea = refl
+cut-moved : {from' at' : ℕ} (base from at : ℕ) (holds : Holds) → from' ≡ base + from → at' ≡ base + at → goes_in_cut from' at' holds ≡ goes_in_cut from at holds
+cut-moved base from at HeadAlone ef ea = ltb-moved base at (from + 1380) ea (omega (arith, ef))
+cut-moved base from at Slices ef ea = refl
+cut-moved base from at LastFragment ef ea = refl
 
 -- the same piece at another place
 pub record IsMoved (base : ℕ) (f g : Filling) : Type 0 where
@@ -139,8 +139,8 @@ pub record IsMoved (base : ℕ) (f g : Filling) : Type 0 where
 goes-moved : (base n : ℕ) (f g : Filling) → IsMoved base f g → goes_in g n ≡ goes_in f n
 goes-moved base n f g is =
     ap (λ (h : Holds). cond (leb n 1380) (goes_in_whole g.from g.at h n) (goes_in_cut g.from g.at h)) is.holds
-    ∙ ap (λ b. cond (leb n 1380) b (goes_in_cut g.from g.at f.holds)) (whole-moved base f.from f.at g.from g.at n f.holds is.from is.at)
-    ∙ ap (λ b. cond (leb n 1380) (goes_in_whole f.from f.at f.holds n) b) (cut-moved base f.from f.at g.from g.at f.holds is.from is.at)
+    ∙ ap (λ b. cond (leb n 1380) b (goes_in_cut g.from g.at f.holds)) (whole-moved base f.from f.at n f.holds is.from is.at)
+    ∙ ap (λ b. cond (leb n 1380) (goes_in_whole f.from f.at f.holds n) b) (cut-moved base f.from f.at f.holds is.from is.at)
 
 size-full : (start full : ℕ) (rest : List ℕ) → cuts_size start (full_ends start full ++ rest) ≡ 1400 * full + cuts_size (start + 1380 * full) rest
 size-full start zero rest = let place : cuts_size (start + 1380 * 0) rest ≡ cuts_size start rest = ap (λ s. cuts_size s rest) (omega arith) in omega (arith, place)
@@ -155,48 +155,48 @@ abbrev pub Rest : Measure → Filling → List ℕ → List ℕ → Type 0
 Rest m g slices cuts = cuts_size g.from cuts + 20 * m.pieces + m.filling.from ≡ frames_of (with_slices m slices)
 
 -- a slice that begins at `start`: the frames of the full pieces, then the rest
-size-slice : (start full pieces begins from : ℕ) (cuts rest : List ℕ) (whole : ℕ) → cuts ≡ full_ends start full ++ rest
+size-slice : {cuts : List ℕ} (start full pieces begins from : ℕ) (rest : List ℕ) (whole : ℕ) → cuts ≡ full_ends start full ++ rest
     → cuts_size (start + 1380 * full) rest + 20 * (pieces + (begins + full)) + (from + 1380 * full) ≡ whole
     → cuts_size start cuts + 20 * (pieces + begins) + from ≡ whole
-size-slice start full pieces begins from cuts rest whole is e =
+size-slice {cuts} start full pieces begins from rest whole is e =
     let first : cuts_size start cuts ≡ 1400 * full + cuts_size (start + 1380 * full) rest = ap (λ (l : List ℕ). cuts_size start l) is ∙ size-full start full rest in
     omega (arith, first, e)
 
 -- the measure and the cuts of a slice that begins at `start`
-next-size : (m : Measure) (g : Filling) (n base start place : ℕ) (goes : Bool) (slices cuts : List ℕ) → IsMoved base m.filling g → start_of goes m.filling ≡ start → place ≡ base + start
+next-size : {g : Filling} {goes : Bool} {cuts : List ℕ} (m : Measure) (n base start place : ℕ) (slices : List ℕ) → IsMoved base m.filling g → start_of goes m.filling ≡ start → place ≡ base + start
     → goes_in m.filling n ≡ goes
     → ((m' : Measure) (g' : Filling) (rest : List ℕ) → IsMoved base m'.filling g' → m'.filling.from ≤ m'.filling.at → Cuts g' slices rest → Rest m' g' slices rest)
     → Fills (λ last rest. Cuts (filling_after g n last) slices rest) place (g.at + n) cuts
     → cuts_size place cuts + 20 * (m.pieces + cond goes 0 1) + start ≡ frames_of (with_slices (with_slice m n) slices)
-next-size m g n base start place goes slices cuts is at_start at_place at_goes more fills =
+next-size {g} {goes} m n base start place slices is at_start at_place at_goes more fills =
     let f = m.filling in
     let all : start_of (goes_in f n) f ≡ start = ap (λ b. start_of b f) at_goes ∙ at_start in
     let less : start < f.at + n = omega (arith, is.at, at_place, fills.before) in
     let full : fills.full ≡ full_before start (f.at + n) =
-    full-once start (f.at + n) fills.full (full_before start (f.at + n)) (omega (arith, is.at, at_place, fills.before)) (omega (arith, is.at, at_place, fills.within))
+    full-once start (f.at + n) fills.full (omega (arith, is.at, at_place, fills.before)) (omega (arith, is.at, at_place, fills.within))
     (full_before-less start (f.at + n) less) (full_before-within start (f.at + n) less) in
     let last : last_start (start_of (goes_in f n) f) (f.at + n) ≡ start + 1380 * fills.full = ap (λ s. last_start s (f.at + n)) all ∙ ap (λ k. start + 1380 * k) (sym full) in
     let pieces : slice_pieces f n ≡ cond goes 0 1 + fills.full =
     ap (λ b. cond b 0 1 + full_before (start_of (goes_in f n) f) (f.at + n)) at_goes ∙ ap (λ s. cond goes 0 1 + full_before s (f.at + n)) all ∙ ap (λ k. cond goes 0 1 + k) (sym full) in
     let rest = more (with_slice m n) (filling_after g n (place + 1380 * fills.full)) fills.rest
     (record { from = omega (arith, at_place, last); at = omega (arith, is.at); holds = refl }) (omega (arith, last, fills.before, is.at, at_place)) fills.goes_on in
-    size-slice place fills.full m.pieces (cond goes 0 1) start cuts fills.rest (frames_of (with_slices (with_slice m n) slices)) fills.filled
+    size-slice place fills.full m.pieces (cond goes 0 1) start fills.rest (frames_of (with_slices (with_slice m n) slices)) fills.filled
     (omega (arith, rest, last, pieces))
 
-pub size-from : (slices : List ℕ) (base : ℕ) (m : Measure) (g : Filling) (cuts : List ℕ) → IsMoved base m.filling g → m.filling.from ≤ m.filling.at → Cuts g slices cuts → Rest m g slices cuts
-size-from [] base m g cuts is order e =
+pub size-from : {g : Filling} (slices : List ℕ) (base : ℕ) (m : Measure) (cuts : List ℕ) → IsMoved base m.filling g → m.filling.from ≤ m.filling.at → Cuts g slices cuts → Rest m g slices cuts
+size-from {g} [] base m cuts is order e =
     let size : cuts_size g.from cuts ≡ 20 + (g.at - g.from) = ap (λ (l : List ℕ). cuts_size g.from l) e ∙ omega arith in
     omega (arith, size, is.from, is.at, order)
-size-from (n ∷ slices) base m g cuts is order (inl x) =
-    let rest = next-size m g n base m.filling.from g.from true slices cuts is refl is.from (sym (goes-moved base n m.filling g is) ∙ x.0) (λ m' g' rest moved less cut. size-from slices base m' g' rest moved less cut) x.1 in
+size-from {g} (n ∷ slices) base m cuts is order (inl x) =
+    let rest = next-size {g = g} {goes = true} {cuts = cuts} m n base m.filling.from g.from slices is refl is.from (sym (goes-moved base n m.filling g is) ∙ x.0) (λ m' g' rest moved less cut. size-from {g = g'} slices base m' rest moved less cut) x.1 in
     omega (arith, rest)
-size-from (n ∷ slices) base m g cuts is order (inr x) =
-    let rest = next-size m g n base m.filling.at g.at false slices x.1.0 is refl is.at (sym (goes-moved base n m.filling g is) ∙ x.0) (λ m' g' rest moved less cut. size-from slices base m' g' rest moved less cut) x.1.1.1 in
+size-from {g} (n ∷ slices) base m cuts is order (inr x) =
+    let rest = next-size m n base m.filling.at g.at slices is refl is.at (sym (goes-moved base n m.filling g is) ∙ x.0) (λ m' g' rest moved less cut. size-from slices base m' rest moved less cut) x.1.1.1 in
     let first : cuts_size g.from cuts ≡ 20 + (g.at - g.from) + cuts_size g.at x.1.0 = ap (λ (l : List ℕ). cuts_size g.from l) x.1.1.0 in
     omega (arith, rest, first, is.from, is.at, order)
 
 -- the frames of a unit
 pub size-unit : (head : ℕ) (slices : List ℕ) (from : ℕ) (cuts : List ℕ) → IsCutting from (from + head) slices cuts → frames_of (measure_of head slices) ≡ cuts_size from cuts
 size-unit head slices from cuts cutting =
-    let all = size-from slices from (measure_from_head head) (record { from = from; at = from + head; holds = HeadAlone }) cuts (record { from = omega arith; at = refl; holds = refl }) (omega arith) cutting in
+    let all = size-from slices from (measure_from_head head) cuts (record { from = omega arith; at = refl; holds = refl }) (omega arith) cutting in
     omega (arith, all)

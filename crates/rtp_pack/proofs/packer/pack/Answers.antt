@@ -16,7 +16,7 @@ pub loop-index-preserved : goal.loop-index-preserved
 loop-index-preserved c =
     let unit = c.args.unit.now in
     let starts = take (unit.first_slice + unit.slices - unit.first_slice) (drop unit.first_slice c.args.slice_starts.now) in
-    let put = put-slice unit starts c.loop-index.index c.loop-index.filling c.in_ok-filling.filling c.slice_end-end.result c.loop-index.packets.items c.put_slice.new.packets.items _
+    let put = put-slice {unit = unit} {i = c.loop-index.index} starts c.loop-index.filling c.in_ok-filling.filling c.slice_end-end.result c.loop-index.packets.items c.put_slice.new.packets.items _
     c.loop-index-test.true c.loop-index.invariant.in_order c.slice_end-end.ensures c.in_ok-filling.ensures.filling c.in_ok-filling.ensures.packets c.loop-index.invariant.packets in
     record { order = c.in_ok-filling.ensures.order; in_order = put.in_order; packets = put.packets }
 
