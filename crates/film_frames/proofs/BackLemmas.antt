@@ -80,10 +80,10 @@ unit-carries film starts unit laid =
     ∙ ap (λ (l : List ℕ). l ++ carried film (map (λ p. Frame unit p) (unit_packets starts unit))) (reports-carry film unit unit.starts_group)
     ∙ packets-carry film unit (unit_packets starts unit) unit.from unit.to (packets-cover starts unit laid)
 
-chained-le : (end : ℕ) (starts : List ℕ) (units : List PictureUnit) (from to : ℕ) → AreLaid end starts units → AreChained from units to → from ≤ to
-chained-le end starts [] from to laid chained = omega (arith, chained)
-chained-le end starts (unit ∷ units) from to laid chained =
-    omega (arith, chained.0, unit-le starts unit laid.0.1, chained-le end starts units unit.to to laid.1 chained.1)
+chained-le : {to : ℕ} (end : ℕ) (starts : List ℕ) (units : List PictureUnit) (from : ℕ) → AreLaid end starts units → AreChained from units to → from ≤ to
+chained-le end starts [] from laid chained = omega (arith, chained)
+chained-le end starts (unit ∷ units) from laid chained =
+    omega (arith, chained.0, unit-le starts unit laid.0.1, chained-le end starts units unit.to laid.1 chained.1)
 
 units-carry : (film starts : List ℕ) (end : ℕ) (units : List PictureUnit) (from to : ℕ) → AreLaid end starts units → AreChained from units to
     → carried film (pieces_of starts units) ≡ take (to - from) (drop from film)
@@ -95,7 +95,7 @@ units-carry film starts end (unit ∷ units) from to laid chained =
     ∙ ap (λ (l : List ℕ). l ++ carried film (pieces_of starts units)) (unit-carries film starts unit laid.0.1)
     ∙ ap (λ (l : List ℕ). take (unit.to - unit.from) (drop unit.from film) ++ l) (units-carry film starts end units unit.to to laid.1 chained.1)
     ∙ ap (λ n. take (unit.to - n) (drop n film) ++ take (to - unit.to) (drop unit.to film)) chained.0
-    ∙ ranges-join film from unit.to to (omega (arith, chained.0, unit-le starts unit laid.0.1)) (chained-le end starts units unit.to to laid.1 chained.1)
+    ∙ ranges-join film from unit.to to (omega (arith, chained.0, unit-le starts unit laid.0.1)) (chained-le end starts units unit.to laid.1 chained.1)
 
 -- ---- units among those of a film
 

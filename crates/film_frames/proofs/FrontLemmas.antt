@@ -67,28 +67,28 @@ packets-more film number unit packets i some h =
     append_assoc (front_pieces film number ++ unit_reports unit) (map (λ p. Frame unit p) (take i packets)) (Frame unit (get_or packets i some) ∷ [])
     ∙ ap (λ l. (front_pieces film number ++ unit_reports unit) ++ l) (sym (map_more (λ p. Frame unit p) packets i some h))
 
-pub packets-all : (film : Film) (number : ℕ) (unit : PictureUnit) (packets : List Packet) (i : ℕ) → slice_get film.units.items number ≡ Some unit → packets ≡ unit_packets film.slice_starts.items unit
+pub packets-all : {unit : PictureUnit} {packets : List Packet} (film : Film) (number i : ℕ) → slice_get film.units.items number ≡ Some unit → packets ≡ unit_packets film.slice_starts.items unit
     → length packets ≤ i → before_packet film number unit packets i ≡ front_pieces film (number + 1)
-packets-all film number unit packets i at is h =
+packets-all {unit} {packets} film number i at is h =
     ap (λ (l : List Packet). (front_pieces film number ++ unit_reports unit) ++ map (λ p. Frame unit p) l) (take_all i packets h ∙ is)
     ∙ append_assoc (front_pieces film number) (unit_reports unit) (map (λ p. Frame unit p) (unit_packets film.slice_starts.items unit))
     ∙ sym (front-more film number unit at)
 
-pub packets-bound : (film : Film) (number : ℕ) (unit : PictureUnit) (packets : List Packet) (i : ℕ) → slice_get film.units.items number ≡ Some unit → packets ≡ unit_packets film.slice_starts.items unit
+pub packets-bound : {unit : PictureUnit} {packets : List Packet} (film : Film) (number i : ℕ) → slice_get film.units.items number ≡ Some unit → packets ≡ unit_packets film.slice_starts.items unit
     → wire_in (before_packet film number unit packets i) ≤ 2 ^ 42
-packets-bound film number unit packets i at is =
+packets-bound {unit} {packets} film number i at is =
     let rest = map (λ p. Frame unit p) (drop i packets) in
     let all : before_packet film number unit packets i ++ rest ≡ before_packet film number unit packets (length packets) =
     append_assoc (front_pieces film number ++ unit_reports unit) (map (λ p. Frame unit p) (take i packets)) rest
     ∙ ap (λ l. (front_pieces film number ++ unit_reports unit) ++ l)
     (sym (map-append (λ p. Frame unit p) (take i packets) (drop i packets)) ∙ ap (λ (l : List Packet). map (λ p. Frame unit p) l) (take-append-drop i packets ∙ sym (take_all (length packets) packets (omega arith)))) in
     let wire : wire_in (before_packet film number unit packets i ++ rest) ≡ wire_in (front_pieces film (number + 1)) =
-    ap (λ l. wire_in l) (all ∙ packets-all film number unit packets (length packets) at is (omega arith)) in
+    ap (λ l. wire_in l) (all ∙ packets-all film number (length packets) at is (omega arith)) in
     omega (arith, wire, wire-append (before_packet film number unit packets i) rest, front-bound film (number + 1))
 
-pub packet-sound : (film : Film) (number : ℕ) (unit : PictureUnit) (packets : List Packet) (i : ℕ) (some : Packet) → slice_get film.units.items number ≡ Some unit
+pub packet-sound : {unit : PictureUnit} {packets : List Packet} (film : Film) (number i : ℕ) (some : Packet) → slice_get film.units.items number ≡ Some unit
     → packets ≡ unit_packets film.slice_starts.items unit → i < length packets → IsSound film.bytes.items (Frame unit (get_or packets i some))
-packet-sound film number unit packets i some at is h =
+packet-sound {unit} {packets} film number i some at is h =
     let laid = laid-at (length film.bytes.items) film.slice_starts.items film.units.items number unit at (laid-film film) in
     let sound = sound-right film.bytes.items (unit_reports unit) (map (λ p. Frame unit p) (unit_packets film.slice_starts.items unit)) (unit-sound film.bytes.items film.slice_starts.items unit laid.1 laid.0) in
     let P : List Packet → Type 0 = λ l. AreSound film.bytes.items (map (λ p. Frame unit p) l) in

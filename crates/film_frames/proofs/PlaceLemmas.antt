@@ -107,10 +107,10 @@ heads-le (Frame unit p ∷ pieces) (suc k) reports h count =
     let wire = sum_by-cons wire_of (Frame unit p) (take k pieces) in
     omega (arith, heads-le pieces k reports (omega (arith, h)) (omega (arith, count, frames)), frames, wire)
 
-chained-le : (end : ℕ) (starts : List ℕ) (units : List PictureUnit) (from to : ℕ) → AreLaid end starts units → AreChained from units to → from ≤ to
-chained-le end starts [] from to laid chained = omega (arith, chained)
-chained-le end starts (unit ∷ units) from to laid chained =
-    omega (arith, chained.0, unit-le starts unit laid.0.1, chained-le end starts units unit.to to laid.1 chained.1)
+chained-le : {to : ℕ} (end : ℕ) (starts : List ℕ) (units : List PictureUnit) (from : ℕ) → AreLaid end starts units → AreChained from units to → from ≤ to
+chained-le end starts [] from laid chained = omega (arith, chained)
+chained-le end starts (unit ∷ units) from laid chained =
+    omega (arith, chained.0, unit-le starts unit laid.0.1, chained-le end starts units unit.to laid.1 chained.1)
 
 -- what is known of the place of a piece of a film, by its number, the frames before it and the place of the film's first unit
 pub record HasPlace (number frames place first : ℕ) : Type 0 where
@@ -119,14 +119,14 @@ pub record HasPlace (number frames place first : ℕ) : Type 0 where
   pub most : place ≤ 2 ^ 42
   pub low : first ≤ 2 ^ 40
 
-pub film-place : (film : Film) (number frames place : ℕ) (first : PictureUnit) → number < length (film_pieces film) → first ≡ get_or film.units.items 0 first
+pub film-place : {frames : ℕ} (film : Film) (number place : ℕ) (first : PictureUnit) → number < length (film_pieces film) → first ≡ get_or film.units.items 0 first
     → frames ≡ frames_in (take number (film_pieces film)) → place ≡ wire_in (take number (film_pieces film)) → HasPlace number frames place first.from
-film-place film number frames place first h is frames_is place_is =
+film-place {frames} film number place first h is frames_is place_is =
     let pieces = film_pieces film in
     let chained = film-in_order film in
     let few : frames ≤ number = omega (arith, frames_is, frames-few pieces number) in
     let from = first-from film.units.items (film-from film) (length film.bytes.items) first chained (film-some film number h) is in
-    let low = chained-le (length film.bytes.items) film.slice_starts.items film.units.items (film-from film) (length film.bytes.items) (laid-film film) chained in
+    let low = chained-le (length film.bytes.items) film.slice_starts.items film.units.items (film-from film) (laid-film film) chained in
     record {
       few = few;
       heads = omega (arith, frames_is, place_is, heads-le pieces number (number - frames) (omega (arith, h)) (omega (arith, frames_is, few)));

@@ -67,9 +67,9 @@ frames-below number (Frame unit p ∷ pieces) (suc k) count h are =
     } in
     omega (arith, frames-below (number + 1) pieces k count (omega (arith, h)) rest, sum_by-cons count_of (Frame unit p) (take k pieces))
 
-pub reports-count : (pieces : List Piece) (numbers : List ℕ) (k count : ℕ) → numbers ≡ report_numbers 0 pieces → k ≤ length pieces → AreBelow numbers k count
+pub reports-count : {numbers : List ℕ} {k count : ℕ} (pieces : List Piece) → numbers ≡ report_numbers 0 pieces → k ≤ length pieces → AreBelow numbers k count
     → frames_in (take k pieces) + count ≡ k
-reports-count pieces numbers k count same h are =
+reports-count {k} {count} pieces same h are =
     let place : k ≡ 0 + k = omega arith in
     frames-below 0 pieces k count h (subst (λ n. AreBelow (report_numbers 0 pieces) n count) place (subst (λ l. AreBelow l k count) same are))
 

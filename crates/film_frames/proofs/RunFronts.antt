@@ -69,9 +69,9 @@ sum-next f (u ∷ units) (suc k) unit is =
     ap (λ n. sum (map f (take n (u ∷ units)))) next
     ∙ omega (arith, sum-next f units k unit is, sum_by-cons (λ n. n) (f u) (map f (take (k + 1) units)), sum_by-cons (λ n. n) (f u) (map f (take k units)))
 
-pub unit-blocks : (film : Film) (first_unit number : ℕ) (identity : Identity) (unit : PictureUnit) → first_unit ≤ number → number < length film.units.items → slice_get film.units.items number ≡ Some unit
+pub unit-blocks : {unit : PictureUnit} (film : Film) (first_unit number : ℕ) (identity : Identity) → first_unit ≤ number → number < length film.units.items → slice_get film.units.items number ≡ Some unit
     → length (framed_bytes (run_pieces (run_of film first_unit (number + 1) identity))) ≡ length (framed_bytes (run_pieces (run_of film first_unit number identity))) + wire_size film.slice_starts.items unit
-unit-blocks film first_unit number identity unit order within is =
+unit-blocks {unit} film first_unit number identity order within is =
     let units = drop first_unit film.units.items in
     let k = number - first_unit in
     let size : PictureUnit → ℕ = λ u. wire_size film.slice_starts.items u in

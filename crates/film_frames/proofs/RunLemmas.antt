@@ -78,9 +78,9 @@ frames-le (Frame unit p ∷ pieces) = omega (arith, frames-le pieces, sum_by-con
 
 -- ---- the pieces that have ended
 
-pub have-count_ended : (base : ℕ) (pieces : List (List ℕ)) (ends : List ℕ) (at upto k : ℕ) → AreEnds base pieces ends → k ≤ length ends → upto ≤ at → (upto < at → upto ≡ length (framed_bytes pieces))
+pub have-count_ended : {pieces : List (List ℕ)} {upto k : ℕ} (base : ℕ) (ends : List ℕ) (at : ℕ) → AreEnds base pieces ends → k ≤ length ends → upto ≤ at → (upto < at → upto ≡ length (framed_bytes pieces))
     → ((j : ℕ) → j < k → get_or ends j 0 < base + upto + 1) → (k < length ends → base + upto + 1 ≤ get_or ends k 0) → HaveEnded pieces at k
-have-count_ended base pieces ends at upto k are among least cut below from = record {
+have-count_ended {pieces} {upto} {k} base ends at are among least cut below from = record {
   among = omega (arith, among, are.count);
   last = elim (cases_lt 0 k) [
     | inl l ↦

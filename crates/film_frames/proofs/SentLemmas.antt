@@ -57,9 +57,9 @@ between film first_unit end_unit identity run is =
     subst P is.view (between-of film first_unit end_unit identity is.order)
 
 -- sums over the first pieces of the run and all before them
-sum-between : (f : Piece → ℕ) (before middle rest all : List Piece) (k n : ℕ) → all ≡ before ++ (middle ++ rest) → k ≤ length middle → n ≡ length before + k
+sum-between : {n : ℕ} (f : Piece → ℕ) (before middle rest all : List Piece) (k : ℕ) → all ≡ before ++ (middle ++ rest) → k ≤ length middle → n ≡ length before + k
     → sum_by f (take n all) ≡ sum_by f (take (length before) all) + sum_by f (take k middle)
-sum-between f before middle rest all k n split short is =
+sum-between f before middle rest all k split short is =
     let front_is : take (length before) all ≡ before = ap (λ (l : List Piece). take (length before) l) split ∙ take_at before (middle ++ rest) (length before) refl in
     let first : take (length before + k) (before ++ (middle ++ rest)) ≡ before ++ take k middle =
     take-append-add before (middle ++ rest) k ∙ ap (λ (l : List Piece). before ++ l) (take-append-le k middle rest short) in
@@ -93,24 +93,24 @@ run-count film first_unit end_unit identity run is =
     (units, omega (arith, units, all))
 
 -- where a piece of the run begins
-pub run-wire : (film : Film) (first_unit end_unit : ℕ) (identity : Identity) (run : Run) (k n : ℕ) → IsRun film first_unit end_unit identity run → k ≤ length (pieces_in run) → n ≡ length (front_pieces film first_unit) + k
+pub run-wire : {film : Film} {first_unit end_unit : ℕ} {identity : Identity} {run : Run} {n : ℕ} (k : ℕ) → IsRun film first_unit end_unit identity run → k ≤ length (pieces_in run) → n ≡ length (front_pieces film first_unit) + k
     → wire_in (take n (film_pieces film)) ≡ wire_in (take (length (front_pieces film first_unit)) (film_pieces film)) + wire_in (take k (pieces_in run))
-run-wire film first_unit end_unit identity run k n is short at =
+run-wire {film} {first_unit} {end_unit} {identity} {run} k is short at =
     let lies = between film first_unit end_unit identity run is in
-    sum-between wire_of (front_pieces film first_unit) (pieces_in run) lies.rest (film_pieces film) k n lies.all short at
+    sum-between wire_of (front_pieces film first_unit) (pieces_in run) lies.rest (film_pieces film) k lies.all short at
 
-pub run-frames : (film : Film) (first_unit end_unit : ℕ) (identity : Identity) (run : Run) (k n : ℕ) → IsRun film first_unit end_unit identity run → k ≤ length (pieces_in run) → n ≡ length (front_pieces film first_unit) + k
+pub run-frames : {film : Film} {first_unit end_unit : ℕ} {identity : Identity} {run : Run} {n : ℕ} (k : ℕ) → IsRun film first_unit end_unit identity run → k ≤ length (pieces_in run) → n ≡ length (front_pieces film first_unit) + k
     → frames_in (take n (film_pieces film)) ≡ frames_in (take (length (front_pieces film first_unit)) (film_pieces film)) + frames_in (take k (pieces_in run))
-run-frames film first_unit end_unit identity run k n is short at =
+run-frames {film} {first_unit} {end_unit} {identity} {run} k is short at =
     let lies = between film first_unit end_unit identity run is in
-    sum-between count_of (front_pieces film first_unit) (pieces_in run) lies.rest (film_pieces film) k n lies.all short at
+    sum-between count_of (front_pieces film first_unit) (pieces_in run) lies.rest (film_pieces film) k lies.all short at
 
 pub run-begin : (film : Film) (first_unit end_unit : ℕ) (identity : Identity) (run : Run) (k : ℕ) → IsRun film first_unit end_unit identity run → begin_of (run_pieces run) k ≡ wire_in (take k (pieces_in run))
 run-begin film first_unit end_unit identity run k is = blocks_from-begin run 0 0 (pieces_in run) k (between film first_unit end_unit identity run is).sound
 
-pub run-piece : (film : Film) (first_unit end_unit : ℕ) (identity : Identity) (run : Run) (k n : ℕ) → IsRun film first_unit end_unit identity run → k < length (pieces_in run) → n ≡ length (front_pieces film first_unit) + k
+pub run-piece : {film : Film} {first_unit end_unit : ℕ} {identity : Identity} {run : Run} {n : ℕ} (k : ℕ) → IsRun film first_unit end_unit identity run → k < length (pieces_in run) → n ≡ length (front_pieces film first_unit) + k
     → slice_get (film_pieces film) n ≡ slice_get (pieces_in run) k
-run-piece film first_unit end_unit identity run k n is within at =
+run-piece {film} {first_unit} {end_unit} {identity} {run} k is within at =
     let lies = between film first_unit end_unit identity run is in
     ap (λ m. slice_get (film_pieces film) m) at
     ∙ ap (λ (l : List Piece). slice_get l (length (front_pieces film first_unit) + k)) lies.all
@@ -118,17 +118,18 @@ run-piece film first_unit end_unit identity run k n is within at =
     ∙ get-front (pieces_in run) lies.rest k within
 
 -- the ends of the run's pieces
-pub run-ends : (film : Film) (first_unit end_unit : ℕ) (identity : Identity) (run : Run) (first end base : ℕ) (ends : List ℕ) → IsRun film first_unit end_unit identity run
+pub run-ends : {film : Film} {first_unit end_unit : ℕ} {identity : Identity} {run : Run} (first end base : ℕ)
+    (ends : List ℕ) → IsRun film first_unit end_unit identity run
     → first ≡ length (front_pieces film first_unit) → end ≡ length (front_pieces film end_unit) → base ≡ wire_in (take first (film_pieces film))
     → length ends ≡ end - first → ((k : ℕ) → k < end - first → get_or ends k 0 ≡ wire_in (take (first + k + 1) (film_pieces film))) → AreEnds base (run_pieces run) ends
-run-ends film first_unit end_unit identity run first end base ends is first_is end_is base_is count each =
+run-ends {film} {first_unit} {end_unit} {identity} {run} first end base ends is first_is end_is base_is count each =
     let counts = run-count film first_unit end_unit identity run is in
     let pieces = blocks_from-count run 0 0 (pieces_in run) in
     record {
       count = omega (arith, count, counts.0, first_is, end_is, pieces);
       each = λ k h.
           let short : k + 1 ≤ length (pieces_in run) = omega (arith, h, count, counts.0, first_is, end_is) in
-          let sum = run-wire film first_unit end_unit identity run (k + 1) (first + k + 1) is short (omega (arith, first_is)) in
+          let sum = run-wire {film = film} {first_unit = first_unit} {end_unit = end_unit} {identity = identity} {run = run} {n = first + k + 1} (k + 1) is short (omega (arith, first_is)) in
           let from : base ≡ wire_in (take (length (front_pieces film first_unit)) (film_pieces film)) = base_is ∙ ap (λ n. wire_in (take n (film_pieces film))) first_is in
           omega (arith, each k (omega (arith, h, count)), sum, from, run-begin film first_unit end_unit identity run (k + 1) is);
     }
@@ -138,7 +139,7 @@ pub run-total : (film : Film) (first_unit end_unit : ℕ) (identity : Identity) 
     → wire_in (take (length (front_pieces film first_unit)) (film_pieces film)) + length (framed_bytes (run_pieces run)) ≤ 2 ^ 42
 run-total film first_unit end_unit identity run is =
     let n = length (pieces_in run) in
-    let sum = run-wire film first_unit end_unit identity run n (length (front_pieces film first_unit) + n) is (omega arith) refl in
+    let sum = run-wire n is (omega arith) refl in
     let some = sum_by-take-le wire_of (film_pieces film) (length (front_pieces film first_unit) + n) in
     let last : begin_of (run_pieces run) (length (run_pieces run)) ≡ begin_of (run_pieces run) n = ap (λ m. begin_of (run_pieces run) m) (blocks_from-count run 0 0 (pieces_in run)) in
     omega (arith, sum, some, film-wire film, film-bound film, run-begin film first_unit end_unit identity run n is, last, begin-all (run_pieces run))

@@ -16,11 +16,11 @@ overflow_sub-result c =
     let pieces = film_pieces c.args.self.now.film in
     let same : c.reports.result.now ≡ report_numbers 0 pieces = c.reports.ensures ∙ c.args.self.now.table_is.pieces.reports in
     let below = c.ends_below-reports.ensures in
-    omega (arith, reports-count pieces c.reports.result.now c.args.piece c.ends_below-reports.result same c.requires (record { few = below.count; below = below.below; from = below.from }))
+    omega (arith, reports-count pieces same c.requires (record { few = below.count; below = below.below; from = below.from }))
 
 pub returns : goal.returns
 returns c =
     let pieces = film_pieces c.args.self.now.film in
     let same : c.reports.result.now ≡ report_numbers 0 pieces = c.reports.ensures ∙ c.args.self.now.table_is.pieces.reports in
     let below = c.ends_below-reports.ensures in
-    omega (arith, reports-count pieces c.reports.result.now c.args.piece c.ends_below-reports.result same c.requires (record { few = below.count; below = below.below; from = below.from }))
+    omega (arith, reports-count pieces same c.requires (record { few = below.count; below = below.below; from = below.from }))

@@ -27,7 +27,7 @@ put-requires-clause-room c =
     let film = c.args.film.now in
     let unit = c.index-unit.result.now in
     let at = slice_get_read film.units.items (length film.units.items) c.args.number unit refl c.requires.within c.index-unit.ensures in
-    room film.units.items _ c.loop-packet.self c.loop-packet.invariant.table (packets-bound film c.args.number unit c.args.packets.now c.loop-packet.packet-index at (c.requires.packets unit at))
+    room film.units.items _ c.loop-packet.self c.loop-packet.invariant.table (packets-bound film c.args.number c.loop-packet.packet-index at (c.requires.packets unit at))
 
 pub put-requires-clause-sound : goal.put-requires-clause-sound
 unfolding none
@@ -35,7 +35,7 @@ put-requires-clause-sound c =
     let film = c.args.film.now in
     let unit = c.index-unit.result.now in
     let at = slice_get_read film.units.items (length film.units.items) c.args.number unit refl c.requires.within c.index-unit.ensures in
-    (film.bytes.items, packet-sound film c.args.number unit c.args.packets.now c.loop-packet.packet-index none at (c.requires.packets unit at) c.loop-packet-test.true)
+    (film.bytes.items, packet-sound film c.args.number c.loop-packet.packet-index none at (c.requires.packets unit at) c.loop-packet-test.true)
 
 pub loop-packet-preserved : goal.loop-packet-preserved
 unfolding none
@@ -45,7 +45,7 @@ loop-packet-preserved c =
     let packets = c.args.packets.now in
     let i = c.loop-packet.packet-index in
     let at = slice_get_read film.units.items (length film.units.items) c.args.number unit refl c.requires.within c.index-unit.ensures in
-    let sound = packet-sound film c.args.number unit packets i none at (c.requires.packets unit at) c.loop-packet-test.true in
+    let sound = packet-sound film c.args.number i none at (c.requires.packets unit at) c.loop-packet-test.true in
     let P : List Piece → Type 0 = λ l. IsTable film.units.items l c.put.new.self in
     let table = c.in_ok-put.ensures.table film.bytes.items film.units.items (before_packet film c.args.number unit packets i) sound at c.loop-packet.invariant.table in
     record {
@@ -59,4 +59,4 @@ returns-clause-table c =
     let unit = c.index-unit.result.now in
     let at = slice_get_read film.units.items (length film.units.items) c.args.number unit refl c.requires.within c.index-unit.ensures in
     let P : List Piece → Type 0 = λ l. IsTable film.units.items l c.loop-packet.self in
-    subst P (packets-all film c.args.number unit c.args.packets.now c.loop-packet.packet-index at (c.requires.packets unit at) c.loop-packet-test.false) c.loop-packet.invariant.table
+    subst P (packets-all film c.args.number c.loop-packet.packet-index at (c.requires.packets unit at) c.loop-packet-test.false) c.loop-packet.invariant.table
