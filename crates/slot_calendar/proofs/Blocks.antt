@@ -9,9 +9,9 @@ pub block_in : (p : ℕ) → p < 1048576 → p / 1024 < 1024
 block_in p inside = omega (arith, inside)
 
 -- a place whose number rises
-pub topped-raise : (places tops : List ℕ) (stale : Option ℕ) (p v : ℕ) → IsTopped places tops stale → p < 1048576 → get_or places p 0 ≤ v →
+pub topped-raise : {places tops : List ℕ} {stale : Option ℕ} (p v : ℕ) → IsTopped places tops stale → p < 1048576 → get_or places p 0 ≤ v →
     IsTopped (set places p v) (set tops (p / 1024) (max (get_or tops (p / 1024) 0) v)) stale
-topped-raise places tops stale p v topped inside rises = record {
+topped-raise {places} {tops} p v topped inside rises = record {
   places_are = length-set places p v ∙ topped.places_are;
   tops_are = length-set tops block top ∙ topped.tops_are;
   bounded = λ i less. elim (cases_eq i p) [
@@ -89,9 +89,9 @@ topped-raise places tops stale p v topped inside rises = record {
     new_top = get_or-set_same tops (p / 1024) (max (get_or tops (p / 1024) 0) v) 0 (omega (arith, topped.tops_are, block_in p inside))
 
 -- a place of the stale block whose number falls
-pub topped-lower : (places tops : List ℕ) (p v : ℕ) → IsTopped places tops (Some (p / 1024)) → p < 1048576 → v ≤ get_or places p 0 →
+pub topped-lower : {places tops : List ℕ} (p v : ℕ) → IsTopped places tops (Some (p / 1024)) → p < 1048576 → v ≤ get_or places p 0 →
     IsTopped (set places p v) tops (Some (p / 1024))
-topped-lower places tops p v topped inside falls = record {
+topped-lower {places} {tops} p v topped inside falls = record {
   places_are = length-set places p v ∙ topped.places_are;
   tops_are = topped.tops_are;
   bounded = λ i less. (
@@ -132,9 +132,9 @@ topped-loose places tops b inside topped = record {
     some_in x y less is = let same : x ≡ y = cc in omega (arith, same, less)
 
 -- the stale block is read again
-pub topped-settle : (places tops : List ℕ) (stale : Option ℕ) (b top : ℕ) → IsTopped places tops stale → stale ≡ Some b →
+pub topped-settle : {places tops : List ℕ} {stale : Option ℕ} {b top : ℕ} → IsTopped places tops stale → stale ≡ Some b →
     IsGreatest (take 1024 (drop (b * 1024) places)) top → IsTopped places (set tops b top) None
-topped-settle places tops stale b top topped is greatest = record {
+topped-settle {places} {tops} {stale} {b} {top} topped is greatest = record {
   places_are = topped.places_are;
   tops_are = length-set tops b top ∙ topped.tops_are;
   bounded = λ i less. elim (cases_eq (i / 1024) b) [

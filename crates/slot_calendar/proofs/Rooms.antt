@@ -11,10 +11,10 @@ use Rattle.slot_calendar.proofs.Capacities.{capacity-most}
 use Rattle.slot_calendar.proofs.Sending.{asked-in, asked-after, cut-before}
 
 -- a plan that fits leaves totals that can be counted
-pub room-small : (calendar : Entries) (segments : List Segment) (start t : ℕ) → IsCalendar calendar →
+pub room-small : {calendar : Entries} {segments : List Segment} (start t : ℕ) → IsCalendar calendar →
     HasRoom calendar.first (booked_at calendar) (capacity_at calendar.steps) start segments → calendar.first ≤ t →
     booked_at calendar t + asked_at segments start t ≤ 2 ^ 42
-room-small calendar segments start t is room from =
+room-small {calendar} start t is room from =
     omega (arith, room.each t from, capacity-most calendar.steps t is.profile)
 
 -- it fits into the slots of one segment more
@@ -31,10 +31,11 @@ fits-next first booked capacity segments i s start from inside is at before here
     ]
 
 -- its first overflow is that of the first segment that has one
-pub first-overflow : (first : ℕ) (booked capacity : ℕ → ℕ) (segments : List Segment) (i : ℕ) (s : Segment) (start from : ℕ) (over : Overflow) → i < length segments → s ≡ get_or segments i s →
+pub first-overflow : {booked : ℕ → ℕ} {segments : List Segment} (first : ℕ) (capacity : ℕ → ℕ) (i : ℕ) (s : Segment)
+    (start from : ℕ) (over : Overflow) → i < length segments → s ≡ get_or segments i s →
     from ≡ start + total_slots (take i segments) → first ≤ from → FitsIn first from booked capacity start segments → IsOverflowIn from (from + s.slots) booked capacity from (s ∷ []) over →
     IsFirstOverflow first booked capacity start segments over
-first-overflow first booked capacity segments i s start from over inside is at later before here =
+first-overflow {segments} first capacity i s start from over inside is at later before here =
     let asked = asked-in segments i s start from over.slot inside is at here.first.begun here.inside in
     record {
       begun = omega (arith, later, here.first.begun);
@@ -51,10 +52,10 @@ first-overflow first booked capacity segments i s start from over inside is at l
     }
 
 -- it fits into the slots after it
-pub room-all : (calendar : Entries) (segments : List Segment) (start until : ℕ) → IsCalendar calendar → start + total_slots segments ≤ until →
+pub room-all : {calendar : Entries} {segments : List Segment} (start until : ℕ) → IsCalendar calendar → start + total_slots segments ≤ until →
     FitsIn calendar.first until (booked_at calendar) (capacity_at calendar.steps) start segments →
     HasRoom calendar.first (booked_at calendar) (capacity_at calendar.steps) start segments
-room-all calendar segments start until is past fits = record {
+room-all {segments} start until is past fits = record {
   each = λ u from. elim (cases_lt u until) [
     | inl before ↦ fits u from before
     | inr after ↦ (

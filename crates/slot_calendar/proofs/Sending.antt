@@ -231,23 +231,23 @@ asked-most s from c t pos most =
 pub one-some : (s : Segment) → IsPlan (s ∷ []) → 0 < s.slots
 one-some s plan = All-head (λ x. 1 ≤ x.slots) s [] plan.no_empty
 
-pub asked-here : (segments : List Segment) (from j before sent : ℕ) → before ≡ sent_before segments from (from + j) → sent_before segments from (from + (j + 1)) ≡ sent →
+pub asked-here : {before sent : ℕ} (segments : List Segment) (from j : ℕ) → before ≡ sent_before segments from (from + j) → sent_before segments from (from + (j + 1)) ≡ sent →
     asked_at segments from (from + j) ≡ sent - before
-asked-here segments from j before sent was is =
+asked-here {sent} segments from j was is =
     let next : sent_before segments from (from + j + 1) ≡ sent = ap (sent_before segments from) (let e : from + j + 1 ≡ from + (j + 1) = omega arith in e) ∙ is in
     omega (arith, was, next)
 
-pub cut-here : (segments : List Segment) (from keep j before over sent : ℕ) → before ≡ sent_before segments from (from + j) - keep →
+pub cut-here : {before sent : ℕ} (segments : List Segment) (from keep j over : ℕ) → before ≡ sent_before segments from (from + j) - keep →
     sent_before segments from (from + (j + 1)) ≡ sent → over ≡ sent - keep → cut_at segments from keep (from + j) ≡ over - before
-cut-here segments from keep j before over sent was is over_is =
+cut-here {sent} segments from keep j over was is over_is =
     let next : sent_before segments from (from + j + 1) ≡ sent = ap (sent_before segments from) (let e : from + j + 1 ≡ from + (j + 1) = omega arith in e) ∙ is in
     omega (arith, was, next, over_is)
 
 -- a sum of totals and bytes asked, one slot further
-pub raised-next : (first place by : ℕ) (old mid new asked : ℕ → ℕ) → asked place ≡ by → new place ≡ mid place + by →
+pub raised-next : {by : ℕ} (first place : ℕ) (old mid new asked : ℕ → ℕ) → asked place ≡ by → new place ≡ mid place + by →
     ((t : ℕ) → first ≤ t → t ≢ place → new t ≡ mid t) → ((t : ℕ) → first ≤ t → t < place → mid t ≡ old t + asked t) → ((t : ℕ) → first ≤ t → place ≤ t → mid t ≡ old t) →
-    (t : ℕ) → first ≤ t → t < place + 1 → new t ≡ old t + asked t
-raised-next first place by old mid new asked by_is here others done rest t since less =
+    {t : ℕ} → first ≤ t → t < place + 1 → new t ≡ old t + asked t
+raised-next first place old mid new asked by_is here others done rest {t} since less =
     elim (cases_eq t place) [
       | inl is ↦ (
           let at : new t ≡ new place = ap new is in
@@ -262,10 +262,10 @@ raised-next first place by old mid new asked by_is here others done rest t since
     before : (x y : ℕ) → x < y + 1 → x ≢ y → x < y
     before x y most apart = omega arith
 
-pub lowered-next : (first place by : ℕ) (old mid new cut : ℕ → ℕ) → cut place ≡ by → (first ≤ place → new place + by ≡ mid place) →
+pub lowered-next : {by : ℕ} (first place : ℕ) (old mid new cut : ℕ → ℕ) → cut place ≡ by → (first ≤ place → new place + by ≡ mid place) →
     ((t : ℕ) → first ≤ t → t ≢ place → new t ≡ mid t) → ((t : ℕ) → first ≤ t → t < place → mid t + cut t ≡ old t) → ((t : ℕ) → first ≤ t → place ≤ t → mid t ≡ old t) →
-    (t : ℕ) → first ≤ t → t < place + 1 → new t + cut t ≡ old t
-lowered-next first place by old mid new cut by_is here others done rest t since less =
+    {t : ℕ} → first ≤ t → t < place + 1 → new t + cut t ≡ old t
+lowered-next first place old mid new cut by_is here others done rest {t} since less =
     elim (cases_eq t place) [
       | inl is ↦ (
           let from : first ≤ place = omega (arith, is, since) in
@@ -282,12 +282,12 @@ lowered-next first place by old mid new cut by_is here others done rest t since 
     before x y most apart = omega arith
 
 pub unchanged-next : (first place : ℕ) (old mid new : ℕ → ℕ) → ((t : ℕ) → first ≤ t → t ≢ place → new t ≡ mid t) → ((t : ℕ) → first ≤ t → place ≤ t → mid t ≡ old t) →
-    (t : ℕ) → first ≤ t → place + 1 ≤ t → new t ≡ old t
-unchanged-next first place old mid new others rest t since more =
+    {t : ℕ} → first ≤ t → place + 1 ≤ t → new t ≡ old t
+unchanged-next first place old mid new others rest {t} since more =
     others t since (λ e. omega (arith, e, more)) ∙ rest t since (omega arith)
 
-pub sent-step : (segments : List Segment) (from j before sent : ℕ) → before ≡ sent_before segments from (from + j) → sent_before segments from (from + (j + 1)) ≡ sent → before ≤ sent
-sent-step segments from j before sent was is = omega (arith, was, is, sent-rises segments from (from + j) (from + (j + 1)) (omega arith))
+pub sent-step : {before sent : ℕ} (segments : List Segment) (from j : ℕ) → before ≡ sent_before segments from (from + j) → sent_before segments from (from + (j + 1)) ≡ sent → before ≤ sent
+sent-step segments from j was is = omega (arith, was, is, sent-rises segments from (from + j) (from + (j + 1)) (omega arith))
 
 -- no slot of a segment has more than its bytes over its slots, rounded up
 pub ceil_most : (b n c : ℕ) → 0 < n → c ≡ b / n + min 1 (b % n) → b ≤ c * n

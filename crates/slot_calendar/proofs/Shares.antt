@@ -65,20 +65,21 @@ booked-cut before after segments start keep t plan =
     omega (arith, booked-around before after (cut_play start segments keep) t, booked-around before after (whole_play start segments) t, share-whole segments start t plan, share-cut segments start keep t)
 
 -- ---- calendars and the lists that they stand for
-pub stands-push : (old new : Entries) (plays : List Play) (segments : List Segment) (start : ℕ) → IsPlan segments → new.first ≡ old.first →
+pub stands-push : {old : Entries} {plays : List Play} {segments : List Segment} (new : Entries) (start : ℕ) → IsPlan segments → new.first ≡ old.first →
     ((t : ℕ) → old.first ≤ t → booked_at new t ≡ booked_at old t + asked_at segments start t) → StandsFor old plays →
     StandsFor new (plays ++ whole_play start segments ∷ [])
-stands-push old new plays segments start plan first totals stands = record {
+stands-push {old} {plays} {segments} new start plan first totals stands = record {
   each = λ t from. (
       let since : old.first ≤ t = omega (arith, first, from) in
       totals t since ∙ ap (λ n. n + asked_at segments start t) (stands.each t since) ∙ sym (booked-push plays segments start t plan)
       );
 }
 
-pub stands-cut : (old new : Entries) (before after : List Play) (segments : List Segment) (start keep : ℕ) → IsPlan segments → new.first ≡ old.first →
+pub stands-cut : {old : Entries} {segments : List Segment} (new : Entries) (before after : List Play)
+    (start keep : ℕ) → IsPlan segments → new.first ≡ old.first →
     ((t : ℕ) → old.first ≤ t → booked_at new t + cut_at segments start keep t ≡ booked_at old t) → StandsFor old (before ++ whole_play start segments ∷ after) →
     StandsFor new (before ++ cut_play start segments keep ∷ after)
-stands-cut old new before after segments start keep plan first totals stands = record {
+stands-cut {old} {segments} new before after start keep plan first totals stands = record {
   each = λ t from. (
       let since : old.first ≤ t = omega (arith, first, from) in
       omega (arith, totals t since, stands.each t since, booked-cut before after segments start keep t plan)
@@ -90,7 +91,7 @@ pub stands-later : (old new : Entries) (plays : List Play) → old.first ≤ new
 stands-later old new plays later totals stands = record { each = λ t from. totals t from ∙ stands.each t (omega (arith, later, from)) }
 
 -- what a play that stands whole may give back
-pub cut-booked : (calendar : Entries) (before after : List Play) (segments : List Segment) (start keep t : ℕ) → IsPlan segments →
+pub cut-booked : {calendar : Entries} {segments : List Segment} (before after : List Play) (start keep t : ℕ) → IsPlan segments →
     StandsFor calendar (before ++ whole_play start segments ∷ after) → calendar.first ≤ t → cut_at segments start keep t ≤ booked_at calendar t
-cut-booked calendar before after segments start keep t plan stands from =
+cut-booked {segments} before after start keep t plan stands from =
     omega (arith, stands.each t from, booked-cut before after segments start keep t plan)

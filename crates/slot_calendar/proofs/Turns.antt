@@ -19,8 +19,8 @@ length-rotation xs h within =
     omega (arith, length-append (drop h xs) (take h xs), length-drop h xs, length-take-le h xs within)
 
 -- the element of slot t
-rotation-at : (xs : List ℕ) (n first k : ℕ) → 0 < n → length xs ≡ n → k < n → get_or (rotation (first % n) xs) k 0 ≡ get_or xs ((first + k) % n) 0
-rotation-at xs n first k pos len inside =
+rotation-at : {n : ℕ} (xs : List ℕ) (first k : ℕ) → 0 < n → length xs ≡ n → k < n → get_or (rotation (first % n) xs) k 0 ≡ get_or xs ((first + k) % n) 0
+rotation-at {n} xs first k pos len inside =
     let h = first % n in
     let below : h < n = mod_below first n pos in
     let whole : first / n * n + h ≡ first = div-add-mod' first n in
@@ -36,19 +36,19 @@ rotation-at xs n first k pos len inside =
           )
     ]
 
-pub total-in : (xs : List ℕ) (n first t : ℕ) → 0 < n → length xs ≡ n → first ≤ t → t < first + n → total_at first (rotation (first % n) xs) t ≡ get_or xs (t % n) 0
-total-in xs n first t pos len from inside =
+pub total-in : {n : ℕ} (xs : List ℕ) (first t : ℕ) → 0 < n → length xs ≡ n → first ≤ t → t < first + n → total_at first (rotation (first % n) xs) t ≡ get_or xs (t % n) 0
+total-in {n} xs first t pos len from inside =
     let at : first + (t - first) ≡ t = omega arith in
-    rotation-at xs n first (t - first) pos len (omega arith) ∙ ap (λ u. get_or xs (u % n) 0) at
+    rotation-at xs first (t - first) pos len (omega arith) ∙ ap (λ u. get_or xs (u % n) 0) at
 
-pub total-past : (xs : List ℕ) (n first t : ℕ) → 0 < n → length xs ≡ n → first + n ≤ t → total_at first (rotation (first % n) xs) t ≡ 0
-total-past xs n first t pos len past =
+pub total-past : {n : ℕ} (xs : List ℕ) (first t : ℕ) → 0 < n → length xs ≡ n → first + n ≤ t → total_at first (rotation (first % n) xs) t ≡ 0
+total-past {n} xs first t pos len past =
     let below : first % n < n = mod_below first n pos in
     get_or_past (rotation (first % n) xs) (t - first) 0 (omega (arith, length-rotation xs (first % n) (omega (arith, len, below)), len, past))
 
 -- two slots of one turn have two places
-pub places_apart : (n first s t : ℕ) → 0 < n → first ≤ s → s < first + n → first ≤ t → t < first + n → s % n ≡ t % n → s ≡ t
-places_apart n first s t pos s_from s_in t_from t_in same =
+pub places_apart : {t : ℕ} (n first s : ℕ) → 0 < n → first ≤ s → s < first + n → first ≤ t → t < first + n → s % n ≡ t % n → s ≡ t
+places_apart {t} n first s pos s_from s_in t_from t_in same =
     let whole_s : s / n * n + s % n ≡ s = div-add-mod' s n in
     let whole_t : t / n * n + t % n ≡ t = div-add-mod' t n in
     let less_s : s / n * n < (t / n + 1) * n = omega (arith, whole_s, whole_t, same) in
@@ -67,40 +67,40 @@ pub same_block : (slot t : ℕ) → slot ≤ t → t < slot + (1024 - slot % 102
 same_block slot t from inside = omega (arith, from, inside)
 
 -- ---- a place that is written
-pub set-here : (xs : List ℕ) (n first slot v : ℕ) → 0 < n → length xs ≡ n → first ≤ slot → slot < first + n →
+pub set-here : {n v : ℕ} (xs : List ℕ) (first slot : ℕ) → 0 < n → length xs ≡ n → first ≤ slot → slot < first + n →
     total_at first (rotation (first % n) (set xs (slot % n) v)) slot ≡ v
-set-here xs n first slot v pos len from inside =
+set-here {n} {v} xs first slot pos len from inside =
     let below : slot % n < n = mod_below slot n pos in
-    total-in (set xs (slot % n) v) n first slot pos (length-set xs (slot % n) v ∙ len) from inside
+    total-in (set xs (slot % n) v) first slot pos (length-set xs (slot % n) v ∙ len) from inside
     ∙ get_or-set_same xs (slot % n) v 0 (omega (arith, below, len))
 
-pub set-there : (xs : List ℕ) (n first slot t v : ℕ) → 0 < n → length xs ≡ n → first ≤ slot → slot < first + n → first ≤ t → t ≢ slot →
+pub set-there : {n : ℕ} (xs : List ℕ) (first slot t v : ℕ) → 0 < n → length xs ≡ n → first ≤ slot → slot < first + n → first ≤ t → t ≢ slot →
     total_at first (rotation (first % n) (set xs (slot % n) v)) t ≡ total_at first (rotation (first % n) xs) t
-set-there xs n first slot t v pos len from inside since other =
+set-there {n} xs first slot t v pos len from inside since other =
     let len' : length (set xs (slot % n) v) ≡ n = length-set xs (slot % n) v ∙ len in
     elim (cases_lt t (first + n)) [
       | inl in_ring ↦ (
-          let apart : t % n ≢ slot % n = λ e. other (places_apart n first t slot pos since in_ring from inside e) in
-          total-in (set xs (slot % n) v) n first t pos len' since in_ring ∙ get_or-set_other xs (slot % n) (t % n) v 0 apart
-          ∙ sym (total-in xs n first t pos len since in_ring)
+          let apart : t % n ≢ slot % n = λ e. other (places_apart n first t pos since in_ring from inside e) in
+          total-in (set xs (slot % n) v) first t pos len' since in_ring ∙ get_or-set_other xs (slot % n) (t % n) v 0 apart
+          ∙ sym (total-in xs first t pos len since in_ring)
           )
-      | inr past ↦ total-past (set xs (slot % n) v) n first t pos len' past ∙ sym (total-past xs n first t pos len past)
+      | inr past ↦ total-past (set xs (slot % n) v) first t pos len' past ∙ sym (total-past xs first t pos len past)
     ]
 
 -- the first slot is forgotten where it holds nothing
-pub total-next : (xs : List ℕ) (n first t : ℕ) → 0 < n → length xs ≡ n → total_at first (rotation (first % n) xs) first ≡ 0 → first + 1 ≤ t →
+pub total-next : {n : ℕ} (xs : List ℕ) (first t : ℕ) → 0 < n → length xs ≡ n → total_at first (rotation (first % n) xs) first ≡ 0 → first + 1 ≤ t →
     total_at (first + 1) (rotation ((first + 1) % n) xs) t ≡ total_at first (rotation (first % n) xs) t
-total-next xs n first t pos len none since =
+total-next {n} xs first t pos len none since =
     elim (cases_lt t (first + n)) [
-      | inl inside ↦ total-in xs n (first + 1) t pos len since (omega arith) ∙ sym (total-in xs n first t pos len (omega arith) inside)
+      | inl inside ↦ total-in xs (first + 1) t pos len since (omega arith) ∙ sym (total-in xs first t pos len (omega arith) inside)
       | inr past ↦ elim (cases_eq t (first + n)) [
         | inl is ↦ (
             let same : t % n ≡ first % n = ap (λ u. u % n) is ∙ mod_is (first + n) n (first / n + 1) (first % n) (omega (arith, div-add-mod' first n)) (mod_below first n pos) in
-            total-in xs n (first + 1) t pos len since (omega (arith, is)) ∙ ap (λ i. get_or xs i 0) same
-            ∙ sym (total-in xs n first first pos len (omega arith) (omega arith)) ∙ none
-            ∙ sym (total-past xs n first t pos len past)
+            total-in xs (first + 1) t pos len since (omega (arith, is)) ∙ ap (λ i. get_or xs i 0) same
+            ∙ sym (total-in xs first first pos len (omega arith) (omega arith)) ∙ none
+            ∙ sym (total-past xs first t pos len past)
             )
-        | inr other ↦ total-past xs n (first + 1) t pos len (more first n t past other) ∙ sym (total-past xs n first t pos len past)
+        | inr other ↦ total-past xs (first + 1) t pos len (more first n t past other) ∙ sym (total-past xs first t pos len past)
       ]
     ]
   where
@@ -108,11 +108,11 @@ total-next xs n first t pos len none since =
     more a b u least other = omega arith
 
 -- nothing is booked where all places are 0
-pub total-zero : (xs : List ℕ) (n first t : ℕ) → 0 < n → length xs ≡ n → ((i : ℕ) → get_or xs i 0 ≡ 0) → first ≤ t → total_at first (rotation (first % n) xs) t ≡ 0
-total-zero xs n first t pos len zeros from =
+pub total-zero : {n : ℕ} (xs : List ℕ) (first t : ℕ) → 0 < n → length xs ≡ n → ((i : ℕ) → get_or xs i 0 ≡ 0) → first ≤ t → total_at first (rotation (first % n) xs) t ≡ 0
+total-zero {n} xs first t pos len zeros from =
     elim (cases_lt t (first + n)) [
-      | inl inside ↦ total-in xs n first t pos len from inside ∙ zeros (t % n)
-      | inr past ↦ total-past xs n first t pos len past
+      | inl inside ↦ total-in xs first t pos len from inside ∙ zeros (t % n)
+      | inr past ↦ total-past xs first t pos len past
     ]
 
 -- no total of the slots of a block is above the bound of its places
@@ -122,21 +122,21 @@ pub total-bounded : (xs tops : List ℕ) (first slot t : ℕ) → length xs ≡ 
 total-bounded xs tops first slot t len bounded from since same =
     elim (cases_lt t (first + 1048576)) [
       | inl inside ↦ (
-          let here = total-in xs 1048576 first t (omega arith) len (omega arith) inside in
+          let here = total-in xs first t (omega arith) len (omega arith) inside in
           let bound = bounded (t % 1048576) (mod_below t 1048576 (omega arith)) in
           let block : t % 1048576 / 1024 ≡ slot % 1048576 / 1024 = block_of t ∙ ap (λ b. b % 1024) same ∙ sym (block_of slot) in
           let top : get_or tops (t % 1048576 / 1024) 0 ≡ get_or tops (slot % 1048576 / 1024) 0 = ap (λ b. get_or tops b 0) block in
           omega (arith, here, bound, top)
           )
-      | inr past ↦ (let none = total-past xs 1048576 first t (omega arith) len past in omega (arith, none))
+      | inr past ↦ (let none = total-past xs first t (omega arith) len past in omega (arith, none))
     ]
 
-pub total-zeros : (xs : List ℕ) (n first t : ℕ) → 0 < n → length xs ≡ n → ((i : ℕ) → get_or xs i 0 ≡ 0) → total_at first (rotation (first % n) xs) t ≡ 0
-total-zeros xs n first t pos len zeros =
+pub total-zeros : {n : ℕ} (xs : List ℕ) (first t : ℕ) → 0 < n → length xs ≡ n → ((i : ℕ) → get_or xs i 0 ≡ 0) → total_at first (rotation (first % n) xs) t ≡ 0
+total-zeros {n} xs first t pos len zeros =
     elim (cases_lt t first) [
       | inl before ↦ (
           let same : t - first ≡ first - first = omega arith in
-          ap (λ k. get_or (rotation (first % n) xs) k 0) same ∙ total-zero xs n first first pos len zeros (omega arith)
+          ap (λ k. get_or (rotation (first % n) xs) k 0) same ∙ total-zero xs first first pos len zeros (omega arith)
           )
-      | inr from ↦ total-zero xs n first t pos len zeros from
+      | inr from ↦ total-zero xs first t pos len zeros from
     ]

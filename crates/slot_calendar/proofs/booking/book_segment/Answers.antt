@@ -8,7 +8,7 @@ use Rattle.slot_calendar.proofs.booking.book_segment.Goals as goal
 pub overflow_sub-sent : goal.overflow_sub-sent
 overflow_sub-sent c =
     let i = c.loop-passed in
-    sent-step (c.args.segment ∷ []) c.args.from i.passed i.before c.sent_through-sent.result i.invariant.before_is (c.sent_through-sent.ensures.sent c.args.from)
+    sent-step (c.args.segment ∷ []) c.args.from i.passed i.invariant.before_is (c.sent_through-sent.ensures.sent c.args.from)
 
 pub loop-passed-preserved : goal.loop-passed-preserved
 loop-passed-preserved c =
@@ -21,15 +21,15 @@ loop-passed-preserved c =
     let mid = total_at i.ring.first i.ring.totals in
     let new = total_at c.raise.new.self.first c.raise.new.self.totals in
     let asked : asked_at segments c.args.from place ≡ by =
-    asked-here segments c.args.from i.passed i.before c.sent_through-sent.result i.invariant.before_is (c.sent_through-sent.ensures.sent c.args.from) in
+    asked-here segments c.args.from i.passed i.invariant.before_is (c.sent_through-sent.ensures.sent c.args.from) in
     let others : (t : ℕ) → first ≤ t → (t ≡ place → ⊥) → new t ≡ mid t = λ t since other. c.raise.ensures.others t (omega (arith, since, i.invariant.first_is)) other in
     let at : c.args.from + (i.passed + 1) ≡ place + 1 = omega arith in
     record {
       before_is = sym (c.sent_through-sent.ensures.sent c.args.from);
       first_is = c.raise.ensures.now ∙ i.invariant.first_is;
       stale_is = c.raise.ensures.stale ∙ i.invariant.stale_is;
-      done = λ t since less. raised-next first place by old mid new (asked_at segments c.args.from) asked c.raise.ensures.at others i.invariant.done i.invariant.rest t since (omega (arith, less, at));
-      rest = λ t since more. unchanged-next first place old mid new others i.invariant.rest t since (omega (arith, more, at));
+      done = λ t since less. raised-next first place old mid new (asked_at segments c.args.from) asked c.raise.ensures.at others i.invariant.done i.invariant.rest since (omega (arith, less, at));
+      rest = λ t since more. unchanged-next first place old mid new others i.invariant.rest since (omega (arith, more, at));
     }
 
 pub returns-clause-totals : goal.returns-clause-totals

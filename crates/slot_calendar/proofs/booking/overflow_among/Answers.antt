@@ -9,7 +9,7 @@ use Rattle.slot_calendar.proofs.booking.overflow_among.Goals.{then-booked-capaci
 pub overflow_sub-asked : goal.overflow_sub-asked
 overflow_sub-asked c =
     let i = c.loop-passed in
-    sent-step (c.args.segment ∷ []) c.args.from i.passed i.before c.sent_through-sent.result i.invariant.before_is (c.sent_through-sent.ensures.sent c.args.from)
+    sent-step (c.args.segment ∷ []) c.args.from i.passed i.invariant.before_is (c.sent_through-sent.ensures.sent c.args.from)
 
 pub returns-then-booked-capacity : goal.returns-then-booked-capacity
 returns-then-booked-capacity c =
@@ -17,7 +17,7 @@ returns-then-booked-capacity c =
     let segments = c.args.segment ∷ [] in
     let place = c.args.from + i.passed in
     let asked : asked_at segments c.args.from place ≡ c.sent_through-sent.result - i.before =
-    asked-here segments c.args.from i.passed i.before c.sent_through-sent.result i.invariant.before_is (c.sent_through-sent.ensures.sent c.args.from) in
+    asked-here segments c.args.from i.passed i.invariant.before_is (c.sent_through-sent.ensures.sent c.args.from) in
     let over : c.args.capacity < c.total-booked.result + (c.sent_through-sent.result - i.before) = elim c.then-booked-capacity.branch [
       | then-booked-capacity-via-then-booked-capacity w ↦ omega arith
       | then-booked-capacity-via-else-booked-capacity+then-asked-capacity w ↦ omega arith
@@ -39,7 +39,7 @@ loop-passed-preserved c =
     let segments = c.args.segment ∷ [] in
     let place = c.args.from + i.passed in
     let asked : asked_at segments c.args.from place ≡ c.sent_through-sent.result - i.before =
-    asked-here segments c.args.from i.passed i.before c.sent_through-sent.result i.invariant.before_is (c.sent_through-sent.ensures.sent c.args.from) in
+    asked-here segments c.args.from i.passed i.invariant.before_is (c.sent_through-sent.ensures.sent c.args.from) in
     record {
       before_is = sym (c.sent_through-sent.ensures.sent c.args.from);
       fits = λ u from less. elim (cases_lt u place) [

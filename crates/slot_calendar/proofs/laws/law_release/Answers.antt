@@ -3,4 +3,4 @@ use Rattle.slot_calendar.proofs.laws.law_release.Goals as goal
 
 pub returns : goal.returns
 returns c = λ calendar before after segments start keep plan stands t from.
-    cut-booked calendar before after segments start keep t plan stands from
+    cut-booked before after start keep t plan stands from

@@ -8,4 +8,4 @@ returns-in-Some c =
     let b = c.in-Some.block in
     let width : b * 1024 + 1024 - b * 1024 ≡ 1024 = omega arith in
     let P : ℕ → Type 0 = λ n. IsGreatest (take n (drop (b * 1024) c.args.places.now)) c.greatest.result in
-    topped-settle c.args.places.now c.args.tops.now.items c.args.stale b c.greatest.result c.requires c.in-Some.is (subst P width c.greatest.ensures)
+    topped-settle c.requires c.in-Some.is (subst P width c.greatest.ensures)

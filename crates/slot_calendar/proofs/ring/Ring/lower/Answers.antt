@@ -12,7 +12,7 @@ in_ring : (places : List ℕ) (first slot by : ℕ) → length places ≡ 104857
 in_ring places first slot by len some booked =
     elim (cases_lt slot (first + 1048576)) [
       | inl inside ↦ inside
-      | inr past ↦ (let none = total-past places 1048576 first slot (omega arith) len past in absurd (omega (arith, none, some, booked)))
+      | inr past ↦ (let none = total-past places first slot (omega arith) len past in absurd (omega (arith, none, some, booked)))
     ]
 
 pub invariant_of-self : goal.invariant_of-self
@@ -22,7 +22,7 @@ invariant_of-self c =
     let inside : p < 1048576 = mod_below c.args.slot 1048576 (omega arith) in
     let value : c.index_mut.result.now ≡ get_or d.places.items p 0 = get_or_read d.places.items p c.index_mut.result.now (omega (arith, inside, c.self.invariant.places_are)) c.index_mut.ensures.value 0 in
     let P : List ℕ → Type 0 = λ xs. IsTopped xs c.settle_other.new.tops.items (Some (p / 1024)) in
-    topped-lower d.places.items c.settle_other.new.tops.items p (c.index_mut.result.now - c.args.by) (subst P c.as_slice.ensures.value c.settle_other.ensures) inside (omega (arith, value))
+    topped-lower p (c.index_mut.result.now - c.args.by) (subst P c.as_slice.ensures.value c.settle_other.ensures) inside (omega (arith, value))
 
 pub returns-clause-at : goal.returns-clause-at
 returns-clause-at c =
@@ -34,8 +34,8 @@ returns-clause-at c =
     let inside : p < 1048576 = mod_below c.args.slot 1048576 (omega arith) in
     let value : c.index_mut.result.now ≡ get_or d.places.items p 0 = get_or_read d.places.items p c.index_mut.result.now (omega (arith, inside, c.self.invariant.places_are)) c.index_mut.ensures.value 0 in
     let from : d.first ≤ c.args.slot = omega (arith, first, c.requires.from_now) in
-    let now = set-here d.places.items 1048576 d.first c.args.slot (c.index_mut.result.now - c.args.by) (omega arith) c.self.invariant.places_are from in_turn in
-    let was = total-in d.places.items 1048576 d.first c.args.slot (omega arith) c.self.invariant.places_are from in_turn in
+    let now = set-here {n = 1048576} {v = c.index_mut.result.now - c.args.by} d.places.items d.first c.args.slot (omega arith) c.self.invariant.places_are from in_turn in
+    let was = total-in {n = 1048576} d.places.items d.first c.args.slot (omega arith) c.self.invariant.places_are from in_turn in
     omega (arith, now, was, value, old, c.requires.booked)
 
 pub returns-clause-others : goal.returns-clause-others
@@ -44,6 +44,6 @@ returns-clause-others c = λ t since other. (
     let first : d.first ≡ c.args.self.now.first = ap (λ s. s.first) c.self.view_is in
     let old = ap (λ s. total_at s.first s.totals c.args.slot) c.self.view_is in
     let in_turn = in_ring d.places.items d.first c.args.slot c.args.by c.self.invariant.places_are c.requires.some (omega (arith, old, c.requires.booked)) in
-    set-there d.places.items 1048576 d.first c.args.slot t (c.index_mut.result.now - c.args.by) (omega arith) c.self.invariant.places_are (omega (arith, first, c.requires.from_now)) in_turn (omega (arith, first, since)) other
+    set-there d.places.items d.first c.args.slot t (c.index_mut.result.now - c.args.by) (omega arith) c.self.invariant.places_are (omega (arith, first, c.requires.from_now)) in_turn (omega (arith, first, since)) other
     ∙ ap (λ s. total_at s.first s.totals t) c.self.view_is
     )

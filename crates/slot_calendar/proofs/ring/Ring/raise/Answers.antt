@@ -16,7 +16,7 @@ invariant_of-self c =
     let old : c.index-2.result.now ≡ get_or d.tops.items (p / 1024) 0 = get_or_read d.tops.items (p / 1024) c.index-2.result.now (omega (arith, block_in p inside, c.self.invariant.tops_are)) c.index-2.ensures 0 in
     let top : c.max.result ≡ max (get_or d.tops.items (p / 1024) 0) v = c.max.ensures ∙ ap (λ x. max x v) old in
     let P : ℕ → Type 0 = λ x. IsTopped (set d.places.items p v) (set d.tops.items (p / 1024) x) d.stale in
-    subst P (sym top) (topped-raise d.places.items d.tops.items d.stale p v c.self.invariant inside (omega (arith, value)))
+    subst P (sym top) (topped-raise p v c.self.invariant inside (omega (arith, value)))
 
 pub returns-clause-at : goal.returns-clause-at
 returns-clause-at c =
@@ -25,14 +25,14 @@ returns-clause-at c =
     let first : d.first ≡ c.args.self.now.first = ap (λ s. s.first) c.self.view_is in
     let inside : p < 1048576 = mod_below c.args.slot 1048576 (omega arith) in
     let value : c.index.result.now ≡ get_or d.places.items p 0 = get_or_read d.places.items p c.index.result.now (omega (arith, inside, c.self.invariant.places_are)) c.index.ensures 0 in
-    let now = set-here d.places.items 1048576 d.first c.args.slot (c.index.result.now + c.args.by) (omega arith) c.self.invariant.places_are (omega (arith, first, c.requires.from_now)) (omega (arith, first, c.requires.within)) in
-    let was = total-in d.places.items 1048576 d.first c.args.slot (omega arith) c.self.invariant.places_are (omega (arith, first, c.requires.from_now)) (omega (arith, first, c.requires.within)) in
+    let now = set-here d.places.items d.first c.args.slot (omega arith) c.self.invariant.places_are (omega (arith, first, c.requires.from_now)) (omega (arith, first, c.requires.within)) in
+    let was = total-in d.places.items d.first c.args.slot (omega arith) c.self.invariant.places_are (omega (arith, first, c.requires.from_now)) (omega (arith, first, c.requires.within)) in
     now ∙ ap (λ x. x + c.args.by) (value ∙ sym was) ∙ ap (λ s. total_at s.first s.totals c.args.slot + c.args.by) c.self.view_is
 
 pub returns-clause-others : goal.returns-clause-others
 returns-clause-others c = λ t from other. (
     let d = c.self.inside in
     let first : d.first ≡ c.args.self.now.first = ap (λ s. s.first) c.self.view_is in
-    set-there d.places.items 1048576 d.first c.args.slot t (c.index.result.now + c.args.by) (omega arith) c.self.invariant.places_are (omega (arith, first, c.requires.from_now)) (omega (arith, first, c.requires.within)) (omega (arith, first, from)) other
+    set-there d.places.items d.first c.args.slot t (c.index.result.now + c.args.by) (omega arith) c.self.invariant.places_are (omega (arith, first, c.requires.from_now)) (omega (arith, first, c.requires.within)) (omega (arith, first, from)) other
     ∙ ap (λ s. total_at s.first s.totals t) c.self.view_is
     )
