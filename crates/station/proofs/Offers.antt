@@ -13,9 +13,10 @@ some-tried from booked capacity segments first wait zero (Some s) is other = let
 some-tried from booked capacity segments first wait (suc n) (Some s) is other = omega arith
 
 -- then the first of them is the offer's first start, and its slot the first without room
-pub first-refusal : (from : ℕ) (booked capacity : ℕ → ℕ) (segments : List Segment) (first : ℕ) (found : Found) (none : Tried)
+pub first-refusal : {booked : ℕ → ℕ} {segments : List Segment} {found : Found} (from : ℕ) (capacity : ℕ → ℕ)
+    (first : ℕ) (none : Tried)
     → IsOffer from booked capacity segments first found → (found.start ≡ Some first → ⊥) → IsFirstOverflow from booked capacity first segments (get_or found.tried 0 none).over
-first-refusal from booked capacity segments first found none is other =
+first-refusal {booked} {segments} {found} from capacity first none is other =
     let some = some-tried from booked capacity segments first found.wait (length found.tried) found.start is.start other in
     let at : (get_or found.tried 0 none).start ≡ first = is.refusals.starts 0 none some ∙ omega arith in
     subst (λ (b : ℕ). IsFirstOverflow from booked capacity b segments (get_or found.tried 0 none).over) at (is.refusals.refused 0 none some)

@@ -5,13 +5,13 @@ use Rattle.station.proofs.station.Station.halt.Goals as goal
 
 pub returns-clause-same : goal.returns-clause-same
 returns-clause-same g c =
-    let is = visit c.seat.inside.pass c.enter-turn.result.pass c.leave.new.pass c.args.seat.now c.value.result.now c.enter-turn.result.value _ c.halt-place.new.self c.number-maker.result _ c.seat.view_is c.enter-turn.ensures.pass
+    let is = visit c.seat.inside.pass c.enter-turn.result.pass c.leave.new.pass c.value.result.now _ c.halt-place.new.self c.seat.view_is c.enter-turn.ensures.pass
     c.leave.ensures c.value-2.ensures.value c.value.ensures.value c.enter-turn.ensures.longer c.enter-turn.ensures.own c.enter-turn.ensures.terms c.number-maker.ensures c.enter-turn.ensures.number in
-    visit_same c.args.seat.now c.leave.new.pass c.value.result.now c.halt-place.new.self c.number-maker.result is
-    (entered_longer c.value.result.now c.halt-place.new.self c.number-maker.result 0 (Halt c.args.booking.number c.args.keep) c.halt-place.result Halted c.halt-place.ensures)
+    visit_same c.leave.new.pass c.value.result.now c.halt-place.new.self is
+    (entered_longer c.halt-place.new.self 0 c.halt-place.result c.halt-place.ensures)
 
 pub returns-clause-made : goal.returns-clause-made
 returns-clause-made g c =
-    let is = visit c.seat.inside.pass c.enter-turn.result.pass c.leave.new.pass c.args.seat.now c.value.result.now c.enter-turn.result.value _ c.halt-place.new.self c.number-maker.result _ c.seat.view_is c.enter-turn.ensures.pass
+    let is = visit c.seat.inside.pass c.enter-turn.result.pass c.leave.new.pass c.value.result.now _ c.halt-place.new.self c.seat.view_is c.enter-turn.ensures.pass
     c.leave.ensures c.value-2.ensures.value c.value.ensures.value c.enter-turn.ensures.longer c.enter-turn.ensures.own c.enter-turn.ensures.terms c.number-maker.ensures c.enter-turn.ensures.number in
-    visit_made c.args.seat.now c.leave.new.pass c.value.result.now c.halt-place.new.self c.number-maker.result 0 (Halt c.args.booking.number c.args.keep) c.halt-place.result Halted is c.halt-place.ensures
+    visit_made c.leave.new.pass c.value.result.now c.halt-place.new.self 0 c.halt-place.result is c.halt-place.ensures
