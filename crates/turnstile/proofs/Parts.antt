@@ -209,8 +209,8 @@ module _ {B : Type 0} (entries : B → List Entry) (terms_of : B → Terms) (ter
     free = live_join (λ _ u. Free u.stage) s.views id other b x gone (idle_free b.stage bidle) (λ j u _ _ l. h.free j u l);
   }
   place_join s log id other v w b x apart live wlive idle widle bidle gone (inr a) =
-      let one : a.place ≢ id = λ e. idle_free v.stage idle a.ticket (ap (λ (u : View). u.stage) (one_at s.views id a.place v a.holder live.0 a.live.0 e) ∙ a.holds) in
-      let two : a.place ≢ other = λ e. idle_free w.stage widle a.ticket (ap (λ (u : View). u.stage) (one_at s.views other a.place w a.holder wlive.0 a.live.0 e) ∙ a.holds) in
+      let one : a.place ≢ id = λ e. idle_free v.stage idle a.ticket (ap (λ (u : View). u.stage) (one_at s.views v live.0 a.live.0 e) ∙ a.holds) in
+      let two : a.place ≢ other = λ e. idle_free w.stage widle a.ticket (ap (λ (u : View). u.stage) (one_at s.views w wlive.0 a.live.0 e) ∙ a.holds) in
       inr record {
         home = a.home;
         place = a.place;
