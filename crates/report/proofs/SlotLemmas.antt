@@ -56,17 +56,17 @@ lines-split bytes a k m t is =
     ∙ ap (λ (l : List ℕ). lines bytes (range_with_len a k) ++ l) (lines-cons bytes t (range_with_len (t + 1) m))
 
 -- one slot more
-pub lines-more : (bytes : ℕ → ℕ) (a k n t : ℕ) → t ≡ a + k → n ≡ k + 1 →
+pub lines-more : {n t : ℕ} (bytes : ℕ → ℕ) (a k : ℕ) → t ≡ a + k → n ≡ k + 1 →
     lines bytes (range_with_len a n) ≡ lines bytes (range_with_len a k) ++ line_at bytes t
-lines-more bytes a k n t is count =
+lines-more {n} {t} bytes a k is count =
     let one : n ≡ k + suc 0 = omega arith in
     ap (λ m. lines bytes (range_with_len a m)) one ∙ lines-split bytes a k 0 t is
     ∙ ap (λ (l : List ℕ). lines bytes (range_with_len a k) ++ l) (append-nil (line_at bytes t))
 
 -- all slots, of which t is one in which bytes are booked
-pub lines-around : (bytes : ℕ → ℕ) (a k n t : ℕ) → t ≡ a + k → k < n → 0 < bytes t →
+pub lines-around : {t : ℕ} (bytes : ℕ → ℕ) (a k n : ℕ) → t ≡ a + k → k < n → 0 < bytes t →
     lines bytes (range_with_len a k) ++ (slot_line bytes t ++ lines bytes (range_with_len (t + 1) (n - (k + 1)))) ≡ lines bytes (range_with_len a n)
-lines-around bytes a k n t is inside some =
+lines-around {t} bytes a k n is inside some =
     let m = n - (k + 1) in
     let count : n ≡ k + suc m = omega arith in
     sym (ap (λ i. lines bytes (range_with_len a i)) count ∙ lines-split bytes a k m t is

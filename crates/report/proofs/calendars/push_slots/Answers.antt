@@ -19,7 +19,7 @@ returns-in_err-push_slot c =
     let inside : k < ring_slots = omega (arith, ring-is, c.loop-slot-test.true, c.now-now.ensures.value, c.loop-slot.auto.slot) in
     let place : slot ≡ first + k = omega (arith, c.now-now.ensures.value, c.loop-slot.auto.slot) in
     let some : 0 < booked_at calendar slot = omega (arith, c.booked_bytes-booked.ensures.value, c.if-is_booked.true) in
-    let words = ap (λ n. before ++ ((slot_words slot n ++ codes "\n") ++ after)) c.booked_bytes-booked.ensures.value ∙ lines-around (booked_at calendar) first k ring_slots slot place inside some in
+    let words = ap (λ n. before ++ ((slot_words slot n ++ codes "\n") ++ after)) c.booked_bytes-booked.ensures.value ∙ lines-around (booked_at calendar) first k ring_slots place inside some in
     handed_on c.from_residual.result c.from_residual.ensures.0 (appended_as words (then_appended before c.loop-slot.invariant (cut_before after c.in_err-push_slot.ensures)))
 
 pub loop-slot-preserved : goal.loop-slot-preserved
@@ -31,7 +31,7 @@ loop-slot-preserved c =
     let before = lines (booked_at calendar) (range_with_len first k) in
     let place : slot ≡ first + k = omega (arith, c.now-now.ensures.value, c.loop-slot.auto.slot) in
     let count : slot + 1 - first ≡ k + 1 = omega (arith, c.now-now.ensures.value, c.loop-slot.auto.slot) in
-    let more = lines-more (booked_at calendar) first k (slot + 1 - first) slot place count in
+    let more = lines-more (booked_at calendar) first k place count in
     let out = c.args.out.now.items in
     elim c.if-is_booked.branch [
       | then-is_booked+in_ok-push_slot w ↦ (
