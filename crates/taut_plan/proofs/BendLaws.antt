@@ -49,11 +49,12 @@ pub record IsCorner (side : Side) (curve other : ℕ → ℕ) (t s : ℕ) (o b :
   pub others_after : (j : ℕ) → b.place < j → j ≤ s → IsInside side o b (on_curve other j)
   pub crossed : IsInside side o b (on_curve curve t)
 
-pub corner_of : (side : Side) (curve other : ℕ → ℕ) (t s : ℕ) (o : Point) (own : List Point) (b : Point) (rest : List Point)
+pub corner_of : {side : Side} {curve : ℕ → ℕ} {t : ℕ} {o : Point} {own : List Point} {b : Point} {rest : List Point}
+    (other : ℕ → ℕ) (s : ℕ)
     → IsCrossing side curve other t s o own (b ∷ rest) → IsOrdered side (curve t) (other t)
     → IsInside side o b (on_curve curve t)
     → IsCorner side curve other t s o b
-corner_of side curve other t s o own b rest state ordered crossed =
+corner_of {side} {curve} {t} {o} {b} other s state ordered crossed =
     let edge = state.others.0 in
     let later = edge.later in
     let near = edge.near in
@@ -78,10 +79,10 @@ corner_of side curve other t s o own b rest state ordered crossed =
     }
 
 -- the chain with the new point is that point alone, and stays so
-own_moves : (side : Side) (curve other : ℕ → ℕ) (t s : ℕ) (o : Point) (own : List Point) (b : Point)
+own_moves : {side : Side} {curve : ℕ → ℕ} {t : ℕ} {o b : Point} (other : ℕ → ℕ) (s : ℕ) (own : List Point)
     → IsChain side curve t o own → IsCorner side curve other t s o b → IsChain side curve t b own
-own_moves side curve other t s o [] b at_end corner = let one = corner.later in let two = corner.before_new in absurd (omega (arith, at_end, one, two))
-own_moves side curve other t s o (p ∷ rest) b chain corner =
+own_moves other s [] at_end corner = let one = corner.later in let two = corner.before_new in absurd (omega (arith, at_end, one, two))
+own_moves {side} {curve} {t} {o} {b} other s (p ∷ rest) chain corner =
     let edge = chain.0 in
     let later = edge.later in
     let near = edge.near in
@@ -112,16 +113,17 @@ own_moves side curve other t s o (p ∷ rest) b chain corner =
     ]
 
 -- the corner becomes the point that the chains begin at
-pub crossing_moves : (side : Side) (curve other : ℕ → ℕ) (t s : ℕ) (o : Point) (own : List Point) (b : Point) (rest : List Point)
+pub crossing_moves : {side : Side} {curve : ℕ → ℕ} {t : ℕ} {o : Point} {own : List Point} {b : Point}
+    {rest : List Point} (other : ℕ → ℕ) (s : ℕ)
     → IsCrossing side curve other t s o own (b ∷ rest) → IsCorner side curve other t s o b
     → IsCrossing side curve other t s b own rest
-crossing_moves side curve other t s o own b rest state corner =
+crossing_moves {side} {curve} {o} {own} {b} other s state corner =
     let first = corner.later in
     record {
       newest = state.newest;
       beyond = corner.before_new;
       not_past = state.not_past;
-      own = own_moves side curve other t s o own b state.own corner;
+      own = own_moves other s own state.own corner;
       others = state.others.1;
       apart = record {
         apart = λ i j i_past i_before j_past j_upto.
@@ -146,10 +148,10 @@ uncrossed_within side curve other t s o (b ∷ rest) chain un j after upto =
       | inr before ↦ other_within side o (on_curve other j) b (edge.before j after before)
     ])
 
-pub apart_again : (side : Side) (curve other : ℕ → ℕ) (t s : ℕ) (o : Point) (own others : List Point)
+pub apart_again : {side : Side} {curve : ℕ → ℕ} {t : ℕ} {o : Point} {own others : List Point} (other : ℕ → ℕ) (s : ℕ)
     → IsCrossing side curve other t s o own others
     → IsUncrossed side o others (on_curve curve t) → KeepsApart side curve other (t + 1) s o
-apart_again side curve other t s o own others state un = record {
+apart_again {side} {curve} {t} {o} {others} other s state un = record {
   apart = λ i j i_after i_before j_after j_upto.
       elim (cases_lt i t) [
         | inl old ↦ state.apart.apart i j i_after old j_after j_upto
