@@ -62,7 +62,7 @@ lines-certificate slots bytes segments small_slots small_bytes small =
     let third = (codes "bytes " ++ decimal bytes) ++ 10 ∷ body in
     let second = (codes "slots " ++ decimal slots) ++ 10 ∷ third in
     let shape : codes "smooth 1" ++ 10 ∷ second ≡ cert_head slots bytes ++ body =
-    head_text (codes "smooth 1" ++ 10 ∷ second) (codes "smooth 1") second (codes "slots " ++ decimal slots) third (codes "bytes " ++ decimal bytes) body slots bytes refl refl refl refl refl refl in
+    head_text (codes "smooth 1" ++ 10 ∷ second) body slots bytes refl refl refl refl refl refl in
     let whole : cert_head slots bytes ++ flat_map segment_line segments ++ codes "end\n" ≡ codes "smooth 1" ++ 10 ∷ second =
     append_assoc (cert_head slots bytes) (flat_map segment_line segments) (codes "end\n") ∙ sym shape in
     let clean_slots = All-append (λ b. b ≢ 10) (codes "slots ") (decimal slots) (no_lf_by (codes "slots ") refl) (number_clean slots small_slots) in
@@ -135,12 +135,12 @@ end_is_no_piece i line after words (Piece s from few piece) =
 length-body : (segments : List Segment) → length (body_of segments) ≡ length segments + 1
 length-body segments = length-append (map segment_words segments) (codes "end" ∷ []) ∙ ap (λ n. n + 1) (length-map segments segment_words)
 
-stands : (slots bytes : ℕ) (segments : List Segment) → slots ≤ 2 ^ 42 → bytes ≤ 2 ^ 42 → AreSmall segments →
+stands : {segments : List Segment} (slots bytes : ℕ) → slots ≤ 2 ^ 42 → bytes ≤ 2 ^ 42 → AreSmall segments →
     (i : ℕ) → i < 3 + length segments → MayStand i (line_at (lines_are slots bytes segments) i)
-stands slots bytes segments small_slots small_bytes small zero few = Title refl refl
-stands slots bytes segments small_slots small_bytes small (suc zero) few = Slots slots refl (record { small = small_slots; words = refl })
-stands slots bytes segments small_slots small_bytes small (suc (suc zero)) few = Bytes bytes refl (record { small = small_bytes; words = refl })
-stands slots bytes segments small_slots small_bytes small (suc (suc (suc j))) few =
+stands slots bytes small_slots small_bytes small zero few = Title refl refl
+stands slots bytes small_slots small_bytes small (suc zero) few = Slots slots refl (record { small = small_slots; words = refl })
+stands slots bytes small_slots small_bytes small (suc (suc zero)) few = Bytes bytes refl (record { small = small_bytes; words = refl })
+stands {segments} slots bytes small_slots small_bytes small (suc (suc (suc j))) few =
     let s : Segment = get_or segments j (pair 0 0) in
     let inside : j < length segments = omega (arith, few) in
     let inside' : j < length (map segment_words segments) = omega (arith, inside, length-map segments segment_words) in
@@ -155,14 +155,14 @@ ends slots bytes segments i is =
     let count : length front ≡ i = omega (arith, is, length-map segments segment_words) in
     get_or_at front (codes "end") [] [] i count
 
-no_break : (slots bytes : ℕ) (segments : List Segment) → slots ≤ 2 ^ 42 → bytes ≤ 2 ^ 42 → AreSmall segments → (i : ℕ) → BreaksAt (lines_are slots bytes segments) i → ⊥
-no_break slots bytes segments small_slots small_bytes small i breaks =
+no_break : {segments : List Segment} (slots bytes : ℕ) → slots ≤ 2 ^ 42 → bytes ≤ 2 ^ 42 → AreSmall segments → {i : ℕ} → BreaksAt (lines_are slots bytes segments) i → ⊥
+no_break {segments} slots bytes small_slots small_bytes small {i} breaks =
     let last = 3 + length segments in
     let at_last : line_at (lines_are slots bytes segments) last ≡ codes "end" = ends slots bytes segments last refl in
     elim breaks.here [
       | inl over ↦ end_is_no_piece last (line_at (lines_are slots bytes segments) last) (omega arith) at_last (breaks.before last (omega (arith, over, length-body segments)))
       | inr bad ↦ elim (cases_lt i (3 + length segments)) [
-        | inl inside ↦ bad.1 (stands slots bytes segments small_slots small_bytes small i inside)
+        | inl inside ↦ bad.1 (stands slots bytes small_slots small_bytes small i inside)
         | inr after ↦ (
             let is : i ≡ 3 + length segments = omega (arith, after, bad.0, length-body segments) in
             bad.2 (record { after_head = omega (arith, is); words = ends slots bytes segments i is })
@@ -170,11 +170,11 @@ no_break slots bytes segments small_slots small_bytes small i breaks =
       ]
     ]
 
-nothing_after : (slots bytes : ℕ) (segments : List Segment) → slots ≤ 2 ^ 42 → bytes ≤ 2 ^ 42 → AreSmall segments → (i : ℕ) → IsAfterEnd (lines_are slots bytes segments) i → ⊥
-nothing_after slots bytes segments small_slots small_bytes small i after =
+nothing_after : {segments : List Segment} (slots bytes : ℕ) → slots ≤ 2 ^ 42 → bytes ≤ 2 ^ 42 → AreSmall segments → {i : ℕ} → IsAfterEnd (lines_are slots bytes segments) i → ⊥
+nothing_after {segments} slots bytes small_slots small_bytes small after =
     elim (cases_lt after.last (3 + length segments)) [
       | inl inside ↦ end_is_no_piece after.last (line_at (lines_are slots bytes segments) after.last) after.ends.after_head after.ends.words
-          (stands slots bytes segments small_slots small_bytes small after.last inside)
+          (stands slots bytes small_slots small_bytes small after.last inside)
       | inr over ↦ elim after.more [
         | inl more ↦ omega (arith, more, over, after.last_is, length-body segments)
         | inr some ↦ some refl
@@ -189,9 +189,9 @@ certificate_has_no_bad_line text slots bytes segments line cert bad =
     let small_bytes : b ≤ 2 ^ 42 = omega (arith, cert.bytes_are, cert.small_bytes) in
     let lines : lines_of text ≡ lines_are s b segments = ap lines_of cert.text_is ∙ lines-certificate s b segments small_slots small_bytes cert.small.small in
     elim bad.2 [
-      | inl breaks ↦ no_break s b segments small_slots small_bytes cert.small bad.0 (subst (λ ls. BreaksAt ls bad.0) lines breaks)
+      | inl breaks ↦ no_break s b small_slots small_bytes cert.small (subst (λ ls. BreaksAt ls bad.0) lines breaks)
       | inr other ↦ elim other [
-        | inl after ↦ nothing_after s b segments small_slots small_bytes cert.small bad.0 (subst (λ ls. IsAfterEnd ls bad.0) lines after)
+        | inl after ↦ nothing_after s b small_slots small_bytes cert.small (subst (λ ls. IsAfterEnd ls bad.0) lines after)
         | inr wrong ↦ (
             let same : IsSame wrong.slots wrong.bytes wrong.segments s b segments =
             one_text wrong.slots wrong.bytes wrong.segments s b segments wrong.small_slots wrong.small_bytes wrong.small.small small_slots small_bytes cert.small.small

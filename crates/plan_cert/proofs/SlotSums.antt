@@ -87,9 +87,9 @@ sum-take-at (x ∷ rest) (suc i) j s some inside is few =
     ap (λ n. sum (take n (plan_slots (x ∷ rest)))) place ∙ sum-take-past x rest (total_slots (take i rest) + j) pos ∙ omega (arith, after, bytes)
 
 -- the running sum through a slot that has a place
-pub sum_through-at : (segments : List Segment) (slot : ℕ) (s : Segment) (passed before : ℕ) → IsPlan segments → IsPlace segments slot s passed before →
+pub sum_through-at : {segments : List Segment} {before : ℕ} (slot : ℕ) (s : Segment) (passed : ℕ) → IsPlan segments → IsPlace segments slot s passed before →
     before + (passed + 1) * s.bytes / s.slots ≡ sum_through segments slot
-sum_through-at segments slot s passed before plan place =
+sum_through-at {segments} slot s passed plan place =
     let h = sum-take-at segments place.index (passed + 1) s plan.no_empty place.inside place.segment_is (omega (arith, place.within)) in
     let at : total_slots (take place.index segments) + (passed + 1) ≡ slot + 1 = omega (arith, place.slot_is) in
     let whole : sum (take (slot + 1) (plan_slots segments)) ≡ total_bytes (take place.index segments) + (passed + 1) * s.bytes / s.slots =
@@ -103,10 +103,10 @@ sum_through-past segments slot plan past =
     sym (ap sum (take_all (slot + 1) (plan_slots segments) short) ∙ sum-plan_slots segments plan.no_empty)
 
 -- a slot that has a place
-pub slot-at : (segments : List Segment) (slot : ℕ) (s : Segment) (passed before : ℕ) → IsPlan segments → IsPlace segments slot s passed before →
+pub slot-at : {segments : List Segment} {before : ℕ} (slot : ℕ) (s : Segment) (passed : ℕ) → IsPlan segments → IsPlace segments slot s passed before →
     (passed + 1) * s.bytes / s.slots - passed * s.bytes / s.slots ≡ slice_index (plan_slots segments) slot
-slot-at segments slot s passed before plan place =
-    let through = sum_through-at segments slot s passed before plan place in
+slot-at {segments} slot s passed plan place =
+    let through = sum_through-at slot s passed plan place in
     let h = sum-take-at segments place.index passed s plan.no_empty place.inside place.segment_is (omega (arith, place.within)) in
     let up_to : sum (take slot (plan_slots segments)) ≡ total_bytes (take place.index segments) + passed * s.bytes / s.slots =
     ap (λ n. sum (take n (plan_slots segments))) place.slot_is ∙ h in
