@@ -26,27 +26,28 @@ pub record IsKnown (entries : List Entry) (count : ℕ) (h : Held) : Type 0 wher
 known_more : (entries : List Entry) (n : ℕ) (held : List Held) → All (IsKnown entries n) held → All (IsKnown entries (n + 1)) held
 known_more entries n held all = All-weaker (IsKnown entries n) (IsKnown entries (n + 1)) (λ h known. record { inside = omega (arith, known.inside); admitted = known.admitted }) held all
 
-known-next : (steps : List CapStep) (entries : List Entry) (n : ℕ) (state : State) (command : Command) (answer : Answer) → IsAnswer steps state command answer →
+known-next : {entries : List Entry} {n : ℕ} (steps : List CapStep) (state : State) (command : Command)
+    (answer : Answer) → IsAnswer steps state command answer →
     ((none : Entry) → play_admitted (get_or entries n none).command (get_or entries n none).answer ≡ play_admitted command answer) →
     All (IsKnown entries n) state.held → All (IsKnown entries (n + 1)) (next_state state n command answer).held
-known-next steps entries n state (Play slot segments) (Admitted start) is here all =
+known-next {entries} {n} steps state (Play slot segments) (Admitted start) is here all =
     All-push (IsKnown entries (n + 1)) state.held (admitted_play n start segments) (known_more entries n state.held all) (record { inside = omega arith; admitted = here })
-known-next steps entries n state (Play slot segments) (Overflow over booked asked) is here all = known_more entries n state.held all
-known-next steps entries n state (Play slot segments) Halted is here all = absurd is
-known-next steps entries n state (Play slot segments) (Looked now at booked) is here all = absurd is
-known-next steps entries n state (Halt number keep) Halted is here all = (
+known-next {entries} {n} steps state (Play slot segments) (Overflow over booked asked) is here all = known_more entries n state.held all
+known-next steps state (Play slot segments) Halted is here all = absurd is
+known-next steps state (Play slot segments) (Looked now at booked) is here all = absurd is
+known-next {entries} {n} steps state (Halt number keep) Halted is here all = (
     let h = halting state number keep is in
     let known = known_more entries n state.held all in
     let that = holds-of (IsKnown entries (n + 1)) number state.held h.held known h.is in
     all-halted (IsKnown entries (n + 1)) number keep state.held h.held h.is (record { inside = that.inside; admitted = that.admitted }) known
     )
-known-next steps entries n state (Halt number keep) (Admitted start) is here all = absurd is
-known-next steps entries n state (Halt number keep) (Overflow over booked asked) is here all = absurd is
-known-next steps entries n state (Halt number keep) (Looked now at booked) is here all = absurd is
-known-next steps entries n state (Look slot) (Looked now at booked) is here all = known_more entries n state.held all
-known-next steps entries n state (Look slot) (Admitted start) is here all = absurd is
-known-next steps entries n state (Look slot) (Overflow over booked asked) is here all = absurd is
-known-next steps entries n state (Look slot) Halted is here all = absurd is
+known-next steps state (Halt number keep) (Admitted start) is here all = absurd is
+known-next steps state (Halt number keep) (Overflow over booked asked) is here all = absurd is
+known-next steps state (Halt number keep) (Looked now at booked) is here all = absurd is
+known-next {entries} {n} steps state (Look slot) (Looked now at booked) is here all = known_more entries n state.held all
+known-next steps state (Look slot) (Admitted start) is here all = absurd is
+known-next steps state (Look slot) (Overflow over booked asked) is here all = absurd is
+known-next steps state (Look slot) Halted is here all = absurd is
 
 pub known-at : (steps : List CapStep) (xs : List Entry) (n : ℕ) → IsLegal steps xs → n ≤ length xs → All (IsKnown xs n) (state_after (take n xs)).held
 known-at steps xs zero legal few = All-nil (IsKnown xs 0)
@@ -59,7 +60,7 @@ known-at steps xs (suc n) legal few =
     let at : n + 1 ≡ suc n = omega arith in
     let S : State → Type 0 = λ s. All (IsKnown xs (suc n)) s.held in
     let K : ℕ → Type 0 = λ k. All (IsKnown xs k) (next_of (state_after (take n xs)) n e).held in
-    subst S (sym (state-next xs n inside)) (subst K at (known-next steps xs n (state_after (take n xs)) e.command e.answer (legal-at steps xs n legal inside) here before))
+    subst S (sym (state-next xs n inside)) (subst K at (known-next steps (state_after (take n xs)) e.command e.answer (legal-at steps xs n legal inside) here before))
 
 pub known-after : (steps : List CapStep) (xs : List Entry) → IsLegal steps xs → All (IsKnown xs (length xs)) (state_after xs).held
 known-after steps xs legal =
@@ -96,9 +97,9 @@ open-inside steps entries number keep legal can =
     let known = holds-of (IsKnown entries (length entries)) number state.held h.held (known-after steps entries legal) h.is in
     omega (arith, known.inside, (split number state.held h.held h.is).number_is)
 
-pub open-entry : (steps : List CapStep) (entries : List Entry) (number keep : ℕ) → IsLegal steps entries → CanHalt (state_after entries) number keep →
-    (e : Entry) → e ≡ get_or entries number e → IsOpenEntry entries number keep e
-open-entry steps entries number keep legal can e at =
+pub open-entry : {entries : List Entry} {keep : ℕ} (steps : List CapStep) (number : ℕ) → IsLegal steps entries → CanHalt (state_after entries) number keep →
+    {e : Entry} → e ≡ get_or entries number e → IsOpenEntry entries number keep e
+open-entry {entries} {keep} steps number legal can {e} at =
     let state = state_after entries in
     let h = halting state number keep can in
     let play = h.held.play in

@@ -36,9 +36,9 @@ booked_admitted xs maker slot start t segments plan =
     ∙ ap (λ (l : List Booked). booked_by l t) (map-append play_of state.held (admitted_play (length xs) start segments ∷ []))
     ∙ booked-push (plays_of state) segments start t plan
 
-halted_state : (state : State) (number keep start t : ℕ) (segments : List Segment) → IsPlan segments → held_as number state.held ≡ Some (admitted_play number start segments) →
+halted_state : {segments : List Segment} (state : State) (number keep start t : ℕ) → IsPlan segments → held_as number state.held ≡ Some (admitted_play number start segments) →
     booked_by (map play_of (with_halted number keep state.held)) t + cut_at segments start keep t ≡ booked_in state t
-halted_state state number keep start t segments plan is =
+halted_state {segments} state number keep start t plan is =
     let h = admitted_play number start segments in
     let parts = split number state.held h is in
     let front = map play_of parts.before in
@@ -54,7 +54,7 @@ booked_halted steps xs maker number keep start t segments legal plan admission c
     let still = can-still steps xs number keep legal can in
     let is = whole-after steps xs number start segments legal admission still.unhalted in
     ap (λ n. n + cut_at segments start keep t) (after_entry xs (entry_of maker (Halt number keep) Halted) t)
-    ∙ halted_state (state_after xs) number keep start t segments plan is
+    ∙ halted_state (state_after xs) number keep start t plan is
 
 other_state : (state : State) (place : ℕ) (command : Command) (answer : Answer) (t : ℕ) → is_admission answer ≡ false → is_halt command ≡ false →
     booked_in (next_state state place command answer) t ≡ booked_in state t
@@ -85,9 +85,9 @@ start_is steps xs number start segments legal admission =
     omega (arith, answered.0, now_is, slot_is, latest)
 
 -- ---- what a look tells
-pub look_is : (steps : List CapStep) (xs : List Entry) (place slot now at booked : ℕ) (none : Entry) → IsLegal steps xs → place < length xs → (get_or xs place none).command ≡ Look slot →
+pub look_is : {xs : List Entry} {now booked : ℕ} (steps : List CapStep) (place slot at : ℕ) (none : Entry) → IsLegal steps xs → place < length xs → (get_or xs place none).command ≡ Look slot →
     (get_or xs place none).answer ≡ Looked now at booked → (now ≡ latest_asked (take place xs)) × (at ≡ max now slot) × (booked ≡ booked_after (take place xs) at)
-look_is steps xs place slot now at booked none legal inside command_is answer_is =
+look_is {xs} steps place slot at none legal inside command_is answer_is =
     let state = state_after (take place xs) in
     let C : Command → Type 0 = λ c. IsAnswer steps state c (get_or xs place none).answer in
     let A : Answer → Type 0 = λ a. IsAnswer steps state (Look slot) a in

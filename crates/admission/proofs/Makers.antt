@@ -69,16 +69,16 @@ made_places maker xs =
     )) (made_by maker xs) (all-made 0 maker xs)
 
 -- ---- each entry of a maker is among them
-one-made : (P : Placed → Type 0) (place maker : ℕ) (xs : List Entry) (i : ℕ) → All P (made_from place maker xs) → i < length xs →
+one-made : {maker : ℕ} (P : Placed → Type 0) (place : ℕ) (xs : List Entry) (i : ℕ) → All P (made_from place maker xs) → i < length xs →
     (get_or xs i no_entry).maker ≡ maker → P (record { place = place + i; entry = get_or xs i no_entry })
-one-made P place maker [] i all inside own = absurd (omega (arith, inside))
-one-made P place maker (e ∷ rest) zero all inside own =
+one-made P place [] i all inside own = absurd (omega (arith, inside))
+one-made {maker} P place (e ∷ rest) zero all inside own =
     let here : Placed = record { place = place; entry = e } in
     let at : place ≡ place + 0 = omega arith in
     let Q : ℕ → Type 0 = λ n. P (record { place = n; entry = e }) in
     let all' = subst (All P) (cond-true (eqb e.maker maker) (here ∷ made_from (place + 1) maker rest) (made_from (place + 1) maker rest) (eq-eqb e.maker maker own)) all in
     subst Q at (All-head P here (made_from (place + 1) maker rest) all')
-one-made P place maker (e ∷ rest) (suc i) all inside own =
+one-made {maker} P place (e ∷ rest) (suc i) all inside own =
     let here : Placed = record { place = place; entry = e } in
     let later : All P (made_from (place + 1) maker rest) = elim (cases_Bool (eqb e.maker maker)) [
       | inl his ↦ All-tail P here (made_from (place + 1) maker rest) (subst (All P) (cond-true (eqb e.maker maker) (here ∷ made_from (place + 1) maker rest) (made_from (place + 1) maker rest) his) all)
@@ -86,7 +86,7 @@ one-made P place maker (e ∷ rest) (suc i) all inside own =
     ] in
     let at : place + 1 + i ≡ place + suc i = omega arith in
     let Q : ℕ → Type 0 = λ n. P (record { place = n; entry = get_or rest i no_entry }) in
-    subst Q at (one-made P (place + 1) maker rest i later (omega (arith, inside)) own)
+    subst Q at (one-made P (place + 1) rest i later (omega (arith, inside)) own)
 
 -- ---- a command that halts a play
 halt_is : (number : ℕ) (command : Command) → Halts number command → (keep : ℕ) × (command ≡ Halt number keep)
@@ -95,8 +95,8 @@ halt_is number (Play slot segments) same = absurd same
 halt_is number (Look slot) same = absurd same
 
 -- a play that is open among its maker's entries is open in the history
-pub open-own : (steps : List CapStep) (xs : List Entry) (maker number keep : ℕ) → AreHaltsOwn xs → IsOpenAmong (made_by maker xs) number keep → IsStillOpen xs number keep
-open-own steps xs maker number keep own open_ =
+pub open-own : {xs : List Entry} {keep : ℕ} (steps : List CapStep) (maker number : ℕ) → AreHaltsOwn xs → IsOpenAmong (made_by maker xs) number keep → IsStillOpen xs number keep
+open-own {xs} steps maker number own open_ =
     let none : Placed = record { place = 0; entry = no_entry } in
     let made = all-made 0 maker xs open_.index none open_.inside in
     let admits = open_.admission none in
@@ -119,7 +119,7 @@ open-own steps xs maker number keep own open_ =
             let is = halt_is number (get_or xs i no_entry).command halts' in
             let C : Entry → Type 0 = λ e. e.command ≡ Halt number is.0 in
             let halt : IsHalt xs i number is.0 = record { inside = within; command_is = λ f. subst C (get_or_default xs i no_entry f within) is.1 } in
-            one-made (λ p. ¬ Halts number p.entry.command) 0 maker xs i open_.unhalted within (own.each i number is.0 no_entry halt ∙ maker_is) halts'
+            one-made (λ p. ¬ Halts number p.entry.command) 0 xs i open_.unhalted within (own.each i number is.0 no_entry halt ∙ maker_is) halts'
             );
       };
       small = open_.small;
@@ -127,4 +127,4 @@ open-own steps xs maker number keep own open_ =
 
 pub can-own : (steps : List CapStep) (xs : List Entry) (maker number keep : ℕ) → IsLegal steps xs → AreHaltsOwn xs → IsOpenAmong (made_by maker xs) number keep →
     CanHalt (state_after xs) number keep
-can-own steps xs maker number keep legal own open_ = still-open steps xs number keep legal (open-own steps xs maker number keep own open_)
+can-own steps xs maker number keep legal own open_ = still-open steps xs number keep legal (open-own steps maker number own open_)

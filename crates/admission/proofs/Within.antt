@@ -72,27 +72,27 @@ booked-opened state number start t segments =
     ap (λ l. booked_by l t) (map-append play_of state.held (admitted_play number start segments ∷ [])) ∙ sum_by_push (share_at t) (plays_of state) (whole_play start segments) in
     omega (arith, new, share-cut segments start (total_bytes segments) t)
 
-pub within-next : (steps : List CapStep) (state : State) (place : ℕ) (command : Command) (answer : Answer) → IsAnswer steps state command answer → All IsWhole state.held →
+pub within-next : {state : State} (steps : List CapStep) (place : ℕ) (command : Command) (answer : Answer) → IsAnswer steps state command answer → All IsWhole state.held →
     IsWithin steps state → IsWithin steps (next_state state place command answer)
-within-next steps state place (Play slot segments) (Admitted start) is all within = record {
+within-next {state} steps place (Play slot segments) (Admitted start) is all within = record {
   each = λ t. omega (arith, booked-opened state place start t segments, is.1.each t (omega arith));
 }
-within-next steps state place (Play slot segments) (Overflow over booked asked) is all within = record { each = within.each }
-within-next steps state place (Play slot segments) Halted is all within = absurd is
-within-next steps state place (Play slot segments) (Looked now at booked) is all within = absurd is
-within-next steps state place (Halt number keep) Halted is all within = (
+within-next steps place (Play slot segments) (Overflow over booked asked) is all within = record { each = within.each }
+within-next steps place (Play slot segments) Halted is all within = absurd is
+within-next steps place (Play slot segments) (Looked now at booked) is all within = absurd is
+within-next {state} steps place (Halt number keep) Halted is all within = (
     let h = halting state number keep is in
     let whole = holds-of IsWhole number state.held h.held all h.is in
     let less : keep ≤ h.held.play.keep = omega (arith, whole.whole h.is_open, h.small) in
     record { each = λ t. omega (arith, booked-halted state number keep t h.held h.is less, within.each t) }
     )
-within-next steps state place (Halt number keep) (Admitted start) is all within = absurd is
-within-next steps state place (Halt number keep) (Overflow over booked asked) is all within = absurd is
-within-next steps state place (Halt number keep) (Looked now at booked) is all within = absurd is
-within-next steps state place (Look slot) (Looked now at booked) is all within = within
-within-next steps state place (Look slot) (Admitted start) is all within = absurd is
-within-next steps state place (Look slot) (Overflow over booked asked) is all within = absurd is
-within-next steps state place (Look slot) Halted is all within = absurd is
+within-next steps place (Halt number keep) (Admitted start) is all within = absurd is
+within-next steps place (Halt number keep) (Overflow over booked asked) is all within = absurd is
+within-next steps place (Halt number keep) (Looked now at booked) is all within = absurd is
+within-next steps place (Look slot) (Looked now at booked) is all within = within
+within-next steps place (Look slot) (Admitted start) is all within = absurd is
+within-next steps place (Look slot) (Overflow over booked asked) is all within = absurd is
+within-next steps place (Look slot) Halted is all within = absurd is
 
 -- ---- after a legal history
 pub record IsSound (steps : List CapStep) (state : State) : Type 0 where
@@ -109,7 +109,7 @@ sound-at steps xs (suc n) legal few =
     let S : State → Type 0 = λ s. IsSound steps s in
     subst S (sym (state-next xs n inside)) (record {
       whole = whole-next steps (state_after (take n xs)) n e.command e.answer answered before.whole;
-      within = within-next steps (state_after (take n xs)) n e.command e.answer answered before.whole before.within;
+      within = within-next steps n e.command e.answer answered before.whole before.within;
     })
 
 pub sound-after : (steps : List CapStep) (xs : List Entry) → IsLegal steps xs → IsSound steps (state_after xs)
