@@ -18,9 +18,9 @@ sum_of_uses sizes timing uses limits some are =
     let all = used_before-all sizes timing limits.some_slot_units some in
     omega (arith, at_end, whole, all)
 
-pub AreFilmCurves-of_uses : (sizes : List ℕ) (timing : Timing) (uses : List ℕ) (total : ℕ) (curves : Curves)
+pub AreFilmCurves-of_uses : {sizes : List ℕ} {timing : Timing} {uses : List ℕ} {total : ℕ} {curves : Curves}
     → AreUses sizes timing uses → total ≡ total_of sizes timing → AreCurvesOfUses timing uses total curves → AreFilmCurves sizes timing curves
-AreFilmCurves-of_uses sizes timing uses total curves are is of = record {
+AreFilmCurves-of_uses {sizes} {timing} {uses} {total} are is of = record {
   from_is = of.from_is;
   low_slots = of.low_slots ∙ are.slots;
   up_slots = of.up_slots ∙ are.slots;
