@@ -26,9 +26,9 @@ total-of-rest sizes playback run is =
     omega (arith, is.played_is, bytes-join sizes run.first_unit run.from_unit run.end_unit is.order (omega (arith, is.rest)))
 
 -- a run has what its curves ask
-pub limits : (sizes : List ℕ) (playback : Playback) (run : Run) → IsPlayback playback → IsRun sizes run → Fits playback.buffer run
+pub limits : {sizes : List ℕ} {playback : Playback} {run : Run} → IsPlayback playback → IsRun sizes run → Fits playback.buffer run
     → length sizes ≤ 4194304 → sum sizes ≤ 2 ^ 42 → IsWithinLimits (rest_sizes sizes run) (timing_of playback run)
-limits sizes playback run plays is fits few small =
+limits {sizes} {playback} {run} plays is fits few small =
     let count = length-between sizes run.from_unit run.end_unit is.within in
     let all = total-of-rest sizes playback run is in
     let most = bytes-most sizes run.first_unit run.end_unit (omega (arith, is.order, is.rest)) in
@@ -54,9 +54,9 @@ low-is sizes timing curves are = fill_by_all (low_at sizes timing) curves.low.it
 pub up-is : (sizes : List ℕ) (timing : Timing) (curves : Curves) → AreFilmCurves sizes timing curves → curves.up.items ≡ up_curve sizes timing
 up-is sizes timing curves are = fill_by_all (up_at sizes timing) curves.up.items (slot_count sizes timing) 0 are.up_slots are.up_is
 
-pub taut-for : (sizes : List ℕ) (timing : Timing) (curves : Curves) (plan : List Segment) → IsAccepted sizes timing → AreFilmCurves sizes timing curves
+pub taut-for : {sizes : List ℕ} {timing : Timing} {curves : Curves} {plan : List Segment} → IsAccepted sizes timing → AreFilmCurves sizes timing curves
     → IsTaut curves.from curves.low.items curves.up.items plan → IsTautFor sizes timing plan
-taut-for sizes timing curves plan ok are taut = record {
+taut-for {sizes} {timing} {curves} {plan} ok are taut = record {
   accepted = ok;
   taut =
       subst (λ up. IsTaut timing.sent (low_curve sizes timing) up plan) (up-is sizes timing curves are)
@@ -65,14 +65,14 @@ taut-for sizes timing curves plan ok are taut = record {
 }
 
 -- the same of equal pictures and times
-pub taut-for-both : (sizes rest : List ℕ) (timing its : Timing) (curves : Curves) (plan : List Segment) → sizes ≡ rest → timing ≡ its
+pub taut-for-both : {sizes rest : List ℕ} {timing its : Timing} {curves : Curves} {plan : List Segment} → sizes ≡ rest → timing ≡ its
     → IsAccepted sizes timing → AreFilmCurves sizes timing curves → IsTaut curves.from curves.low.items curves.up.items plan → IsTautFor rest its plan
-taut-for-both sizes rest timing its curves plan same_sizes same_timing ok are taut =
+taut-for-both {rest} {timing} {plan} same_sizes same_timing ok are taut =
     subst (λ t. IsTautFor rest t plan) same_timing
-    (subst (λ l. IsTautFor l timing plan) same_sizes (taut-for sizes timing curves plan ok are taut))
+    (subst (λ l. IsTautFor l timing plan) same_sizes (taut-for ok are taut))
 
-pub limits-both : (sizes rest : List ℕ) (timing its : Timing) → sizes ≡ rest → timing ≡ its → IsWithinLimits rest its → IsWithinLimits sizes timing
-limits-both sizes rest timing its same_sizes same_timing within =
+pub limits-both : {sizes rest : List ℕ} {timing its : Timing} → sizes ≡ rest → timing ≡ its → IsWithinLimits rest its → IsWithinLimits sizes timing
+limits-both {rest} {timing} same_sizes same_timing within =
     subst (λ l. IsWithinLimits l timing) (sym same_sizes) (subst (λ t. IsWithinLimits rest t) (sym same_timing) within)
 
 -- the curves' numbers

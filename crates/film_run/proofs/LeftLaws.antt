@@ -31,9 +31,10 @@ stop-one plan (Some last) keep one other is its =
     let above = reaches-once plan keep its.0 is.0 its.1.0 is.1.0 in
     omega (arith, below, above, is.1.1, its.1.1)
 
-from-once : (sizes : List ℕ) (playback : Playback) (run left other : Run) (plan : List Segment) (last : Option ℕ) (keep : ℕ)
+from-once : {sizes : List ℕ} {playback : Playback} {run : Run} {plan : List Segment} {keep : ℕ} (left other : Run)
+    (last : Option ℕ)
     → IsLeft sizes playback run plan last keep left → IsLeft sizes playback run plan last keep other → left.from_unit ≤ other.from_unit
-from-once sizes playback run left other plan last keep is its =
+from-once {plan} {keep} left other last is its =
     let stops = stop-one plan last keep is.stop its.stop is.stop_is its.stop_is in
     elim (cases_lt other.from_unit left.from_unit) [
       | inl less ↦ let used = is.used other.from_unit its.not_back less in absurd (omega (arith, used, its.unused, stops))
@@ -57,8 +58,8 @@ pub left-one : (sizes : List ℕ) (playback : Playback) (run left other : Run) (
     → IsLeft sizes playback run plan last keep left → IsLeft sizes playback run plan last keep other → other ≡ left
 left-one sizes playback run left other plan last keep is its =
     let stops = stop-one plan last keep its.stop is.stop its.stop_is is.stop_is in
-    let below = from-once sizes playback run left other plan last keep is its in
-    let above = from-once sizes playback run other left plan last keep its is in
+    let below = from-once left other last is its in
+    let above = from-once other left last its is in
     run-same other left (its.first_is ∙ sym is.first_is) (its.end_is ∙ sym is.end_is) (omega arith) (its.sent_is ∙ sym is.sent_is)
     (its.played_is ∙ ap (used_before (rest_sizes sizes run) (timing_of playback run)) stops ∙ sym is.played_is)
 
@@ -99,7 +100,7 @@ halted-plays sizes playback run plan is = λ last keep left halt its.
           let same = ap (due_slot timing) last_picture in
           absurd (omega (arith, used, same, keeps.slots, inside))
     ] in
-    let played = played-by sizes playback run left.from_unit its.stop can.playback_is can.run_is its.not_back within its.used its.unused in
+    let played = played-by left.from_unit its.stop can.playback_is can.run_is its.not_back within its.used its.unused in
     let h : IsHalting sizes playback run plan last keep = record {
       plays = can.playback_is;
       is = can.run_is;
@@ -109,7 +110,7 @@ halted-plays sizes playback run plan is = λ last keep left halt its.
       planned = is.plan_is;
       halt = halt;
     } in
-    let whole = left-run sizes playback run left plan last keep its.stop h its.stop_is inside its.first_is its.end_is its.sent_is its.not_back within (its.played_is ∙ sym played) played in
+    let whole = left-run left last its.stop h its.stop_is inside its.first_is its.end_is its.sent_is its.not_back within (its.played_is ∙ sym played) played in
     record { sizes_are = can.sizes_are; playback_is = can.playback_is; run_is = whole.0; fits = whole.1 }
 
 pub goes-on-after : (sizes : List ℕ) (playback : Playback) (run : Run) (plan : List Segment) → IsSending sizes playback run plan

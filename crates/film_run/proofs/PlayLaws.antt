@@ -19,7 +19,7 @@ pub sending-limits : (sizes : List ℕ) (playback : Playback) (run : Run) (plan 
     → IsWithinLimits (rest_sizes sizes run) (timing_of playback run)
 sending-limits sizes playback run plan is =
     let can = is.can_play in
-    limits sizes playback run can.playback_is can.run_is can.fits can.sizes_are.few can.sizes_are.small
+    limits can.playback_is can.run_is can.fits can.sizes_are.few can.sizes_are.small
 
 pub sending-keeps : (sizes : List ℕ) (playback : Playback) (run : Run) (plan : List Segment) → IsSending sizes playback run plan
     → KeepsTo (rest_sizes sizes run) (timing_of playback run) plan
@@ -71,10 +71,10 @@ used-most sizes timing t n some fits unused =
     omega (arith, rest, all, below, sum_by-range-take sizes n fits)
 
 -- the bytes of a run up to an unplayed unit
-front-bytes : (sizes : List ℕ) (playback : Playback) (run : Run) (plan : List Segment) (end : ℕ) → IsSending sizes playback run plan
+front-bytes : {sizes : List ℕ} {playback : Playback} {run : Run} {plan : List Segment} (end : ℕ) → IsSending sizes playback run plan
     → run.from_unit ≤ end → end ≤ run.end_unit
     → bytes_between sizes run.first_unit end ≡ run.played + sum (take (end - run.from_unit) (rest_sizes sizes run))
-front-bytes sizes playback run plan end is order within =
+front-bytes {sizes} {run} end is order within =
     let its = is.can_play.run_is in
     let first = bytes-first sizes run.from_unit run.end_unit (end - run.from_unit) (omega arith) in
     let same : run.from_unit + (end - run.from_unit) ≡ end = omega arith in
@@ -93,7 +93,7 @@ sending-in-time sizes playback run plan is = λ unit at.
     let above = (sending-keeps sizes playback run plan is).above (due_slot timing k) range in
     let its = λ (j : ℕ) (lt : j < k + 1). let rises = due_rises timing j k some (omega arith) in let h : due_slot timing j < due_slot timing k + 1 = omega (arith, rises) in h in
     let least = used-least rest timing (due_slot timing k + 1) (k + 1) (omega (arith, count, at.from, at.before_end)) its in
-    let front = front-bytes sizes playback run plan (unit + 1) is (omega (arith, at.from)) (omega (arith, at.before_end)) in
+    let front = front-bytes (unit + 1) is (omega (arith, at.from)) (omega (arith, at.before_end)) in
     let same : (unit + 1) - run.from_unit ≡ k + 1 = omega (arith, at.from) in
     let place = ap (λ n. sum (take n rest)) same in
     omega (arith, above, least, front, place)
@@ -109,5 +109,5 @@ sending-fits sizes playback run plan is = λ slot unit inside at before.
     let keeps = sending-keeps sizes playback run plan is in
     let below = keeps.below slot (omega (arith, keeps.slots)) in
     let most = used-most rest timing slot k some (omega (arith, count, at.from, at.before_end)) before in
-    let front = front-bytes sizes playback run plan unit is at.from (omega (arith, at.before_end)) in
+    let front = front-bytes unit is at.from (omega (arith, at.before_end)) in
     omega (arith, below, most, front)

@@ -10,10 +10,10 @@ use Rattle.film_run.specs.Seeks.{IsAfter, IsBefore, IsGroupBy, IsGroupFrom, IsPl
 pub begins-small : (unit unit_time : ℕ) → unit ≤ 4194304 → unit_time ≤ 360000 → unit * unit_time ≤ 2 ^ 42
 begins-small unit unit_time few fits = let most = mul-le unit unit_time 4194304 360000 few fits in omega (arith, most)
 
-pub group-by : (units : List PictureUnit) (unit_time time begin k : ℕ) → length units ≤ 4194304 → 1 ≤ unit_time → unit_time ≤ 360000
+pub group-by : {units : List PictureUnit} {unit_time time begin k : ℕ} → length units ≤ 4194304 → 1 ≤ unit_time → unit_time ≤ 360000
     → IsBefore time begin → StartsGroup units k → k ≤ begin / unit_time
     → ((other : ℕ) → StartsGroup units other → other ≤ begin / unit_time → other ≤ k) → IsGroupBy units unit_time time k
-group-by units unit_time time begin k few some fits before starts le greatest =
+group-by {unit_time} {begin} {k} few some fits before starts le greatest =
     let product = mul-le-mul_right {m = k} {n = begin / unit_time} unit_time le in
     let floor = div-mul-le_self begin unit_time in
     record {
@@ -24,10 +24,10 @@ group-by units unit_time time begin k few some fits before starts le greatest =
           (before.all (other * unit_time) (begins-small other unit_time (omega (arith, its.within)) fits) by_then));
     }
 
-pub group-from : (units : List PictureUnit) (unit_time time end after place k : ℕ) → length units ≤ 4194304 → unit_time ≤ 360000
+pub group-from : {units : List PictureUnit} {unit_time time after k : ℕ} (end place : ℕ) → length units ≤ 4194304 → unit_time ≤ 360000
     → IsAfter time end → IsPlaceAfter (length units) after end unit_time place → place ≤ k → (StartsGroup units k ⊎ (k ≡ length units))
     → ((other : ℕ) → StartsGroup units other → place ≤ other → k ≤ other) → IsGroupFrom units unit_time time after k
-group-from units unit_time time end after place k few fits later its le group least = record {
+group-from {unit_time} {time} {k} end place few fits later its le group least = record {
   later = omega (arith, its.later);
   group = group;
   from_then = λ inside early.

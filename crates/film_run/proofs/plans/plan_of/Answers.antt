@@ -8,15 +8,15 @@ film_curves-requires g c =
     let sizes = g.U.Units.sizes c.args.units.now in
     let playback = c.args.playback.now in
     let run = c.args.run.now in
-    limits-both c.deref.result.now (rest_sizes sizes run) c.timing_of.result (timing_of playback run) (c.deref.ensures.value ∙ c.in_ok-sizes.ensures) c.timing_of.ensures
-    (limits sizes playback run c.requires.playback c.requires.run c.requires.fits c.count-count.ensures.few c.count-count.ensures.small)
+    limits-both (c.deref.ensures.value ∙ c.in_ok-sizes.ensures) c.timing_of.ensures
+    (limits c.requires.playback c.requires.run c.requires.fits c.count-count.ensures.few c.count-count.ensures.small)
 
 pub returns-in-Ok-clause-plan : goal.returns-in-Ok-clause-plan
 returns-in-Ok-clause-plan g c =
     let sizes = g.U.Units.sizes c.args.units.now in
     let playback = c.args.playback.now in
     let run = c.args.run.now in
-    taut-for-both c.deref.result.now (rest_sizes sizes run) c.timing_of.result (timing_of playback run) c.in_ok-curves.curves c.in-Ok.plan
+    taut-for-both
     (c.deref.ensures.value ∙ c.in_ok-sizes.ensures) c.timing_of.ensures
     c.in_ok-curves.ensures.accepted c.in_ok-curves.ensures.curves c.in-Ok.ensures.taut
 
@@ -25,7 +25,7 @@ returns-in-Ok-clause-bytes g c =
     let sizes = g.U.Units.sizes c.args.units.now in
     let playback = c.args.playback.now in
     let run = c.args.run.now in
-    let within = limits sizes playback run c.requires.playback c.requires.run c.requires.fits c.count-count.ensures.few c.count-count.ensures.small in
+    let within = limits c.requires.playback c.requires.run c.requires.fits c.count-count.ensures.few c.count-count.ensures.small in
     let is : IsPlanOf sizes playback run c.in-Ok.plan = returns-in-Ok-clause-plan g c in
     (keeps-to (rest_sizes sizes run) (timing_of playback run) c.in-Ok.plan within is).bytes ∙ total-of-rest sizes playback run c.requires.run
 
@@ -34,6 +34,6 @@ returns-in-Ok-clause-best g c =
     let sizes = g.U.Units.sizes c.args.units.now in
     let playback = c.args.playback.now in
     let run = c.args.run.now in
-    let within = limits sizes playback run c.requires.playback c.requires.run c.requires.fits c.count-count.ensures.few c.count-count.ensures.small in
+    let within = limits c.requires.playback c.requires.run c.requires.fits c.count-count.ensures.few c.count-count.ensures.small in
     let is : IsPlanOf sizes playback run c.in-Ok.plan = returns-in-Ok-clause-plan g c in
     best-of (rest_sizes sizes run) (timing_of playback run) c.in-Ok.plan within is

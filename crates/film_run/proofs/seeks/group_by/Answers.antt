@@ -9,7 +9,7 @@ returns-then-units-unit_time-clause-found c =
 
 pub returns-clause-found : goal.returns-clause-found
 returns-clause-found c =
-    group-by c.args.units.now c.args.unit_time c.args.time c.units_before-begin.result c.group_before.result c.requires.few c.requires.some c.requires.fits
+    group-by c.requires.few c.requires.some c.requires.fits
     c.units_before-begin.ensures.whole
     c.group_before.ensures.group c.group_before.ensures.before c.group_before.ensures.last
 
