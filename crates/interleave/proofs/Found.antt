@@ -17,13 +17,13 @@ found_head w k h e none = record {
 }
 
 -- a length that was read from the text at `at`
-pub read_value : (o : Option ℕ) (head text : List ℕ) (at text_end next : ℕ) → IsLine head at text_end next →
+pub read_value : {text_end : ℕ} (o : Option ℕ) (head text : List ℕ) (at next : ℕ) → IsLine head at text_end next →
     text ≡ without_blanks (slice_range head at text_end) →
     MatchOption o (65536 < written_length text) (λ n. (n ≤ 65536) × (n ≡ written_length text)) →
     MatchOption o (IsLongAt head at) (λ n. (n ≤ 65536) × IsWrittenAt head at n)
-read_value None head text at text_end next line same h =
+read_value {text_end} None head text at next line same h =
     (written_length text, (h, inl (record { text_end = text_end; next = next; line = line; written = ap written_length same })))
-read_value (Some n) head text at text_end next line same h =
+read_value {text_end} (Some n) head text at next line same h =
     (h.0, inl (record { text_end = text_end; next = next; line = line; written = rw (← same) (h.1) }))
 
 -- a line of that name has all its bytes of the name
