@@ -80,9 +80,9 @@ picture-length words k =
     let parts = picture-headers words k in
     ap (λ (l : List ℕ). length l) parts.1.0 ∙ length-append parts.0 (slices_of words (coding_type (k % 12)) 4) ∙ ap (λ n. n + length (slices_of words (coding_type (k % 12)) 4)) parts.1.1
 
-sized : (words : ℕ → ℕ) (k least most front : ℕ) (kind : CodingType) → coding_type (k % 12) ≡ kind → length (cond (eqb (k % 12) 0) sequence_and_group []) ≡ front → ((w : ℕ → ℕ) → HasBounds least most (body_length w kind)) →
+sized : {least most front : ℕ} {kind : CodingType} (words : ℕ → ℕ) (k : ℕ) → coding_type (k % 12) ≡ kind → length (cond (eqb (k % 12) 0) sequence_and_group []) ≡ front → ((w : ℕ → ℕ) → HasBounds least most (body_length w kind)) →
     (front + header-length kind k + 4 * (4 + least) ≤ length (picture_of words k)) × (length (picture_of words k) ≤ front + header-length kind k + 4 * (4 + most))
-sized words k least most front kind is headers body =
+sized {least} {most} {front} {kind} words k is headers body =
     let slices = slices-length words kind least most body in
     let whole : length (picture_of words k) ≡ front + header-length kind k + length (slices_of words kind 4) =
     picture-length words k ∙ ap (λ n. n + header-length (coding_type (k % 12)) k + length (slices_of words (coding_type (k % 12)) 4)) headers
@@ -112,10 +112,10 @@ pub front-other : (j : ℕ) → 0 < j → length (cond (eqb j 0) sequence_and_gr
 front-other j some = ap (λ b. length (cond b sequence_and_group [])) (ne_eqb j 0 (λ e. omega (arith, e, some)))
 
 pub intra-size : (words : ℕ → ℕ) (k : ℕ) → k % 12 ≡ 0 → (28 + 4 * (4 + 300) ≤ length (picture_of words k)) × (length (picture_of words k) ≤ 28 + 4 * (4 + 1499))
-intra-size words k first = sized words k 300 1499 20 Intra (kind-first (k % 12) first) (front-first (k % 12) first) intra-body
+intra-size words k first = sized words k (kind-first (k % 12) first) (front-first (k % 12) first) intra-body
 
 pub predicted-size : (words : ℕ → ℕ) (k : ℕ) → k % 12 % 2 ≡ 1 → (9 + 4 * (4 + 60) ≤ length (picture_of words k)) × (length (picture_of words k) ≤ 9 + 4 * (4 + 459))
-predicted-size words k odd = sized words k 60 459 0 Predicted (kind-odd (k % 12) odd) (front-other (k % 12) (omega (arith, odd))) predicted-body
+predicted-size words k odd = sized words k (kind-odd (k % 12) odd) (front-other (k % 12) (omega (arith, odd))) predicted-body
 
 pub bidirectional-size : (words : ℕ → ℕ) (k : ℕ) → 0 < k % 12 → k % 12 % 2 ≡ 0 → (9 + 4 * (4 + 30) ≤ length (picture_of words k)) × (length (picture_of words k) ≤ 9 + 4 * (4 + 229))
-bidirectional-size words k some even = sized words k 30 229 0 Bidirectional (kind-even (k % 12) some even) (front-other (k % 12) some) bidirectional-body
+bidirectional-size words k some even = sized words k (kind-even (k % 12) some even) (front-other (k % 12) some) bidirectional-body
