@@ -21,6 +21,7 @@ import serving
 
 WORKERS = 8
 EACH = 120
+OFFERS = 1000
 # The server lets a peer take nothing for a minute while bytes wait for it. It sees only what the socket takes, whose buffer
 # may grow meanwhile and take some more, and then its minute begins anew.
 PATIENCE = 150
@@ -200,6 +201,17 @@ def vanish(port, name):
     return True, "6 clients that were gone in the middle of a play, half of them reset"
 
 
+def offers(port, name):
+    """Offers without end, each of which the server keeps for the report of its connection."""
+    with rtsp.Client(port, name) as client:
+        client.set_up()
+        for _ in range(OFFERS):
+            reply = client.must("GET_PARAMETER", [("Content-Type", "text/parameters"), ("x-Wait", "255")], b"x-Offer")
+            if b"x-Start: " not in reply.body:
+                return False, f"an offer is answered {reply.body!r}"
+    return True, f"{OFFERS:,} offers asked for by one client"
+
+
 class StopsReading:
     """A client that plays and takes nothing until the server has given it up; then it reads what there is, up to the end."""
 
@@ -239,7 +251,7 @@ def main():
         print(f"memory {before:,} KiB while the good client plays", flush=True)
         plain = [random_bytes, half_requests, byte_by_byte, long_heads, long_bodies, line_ends, large_blocks, flood, knocks]
         attacks = [lambda attack=attack: attack(port) for attack in plain]
-        for attack in [*attacks, lambda: vanish(port, name), stopped.end]:
+        for attack in [*attacks, lambda: vanish(port, name), lambda: offers(port, name), stopped.end]:
             try:
                 as_it_should, told = attack()
             except (OSError, rtsp.Wrong, rtsp.TooLate, rtsp.Ended) as error:
