@@ -9,10 +9,10 @@ use Rattle.std.proofs.lemmas.List.{append_assoc, length-append, length-map, map-
 use Rattle.std.proofs.lemmas.List.Elements.{All-head, All-tail}
 use Rattle.vod_base.specs.Blanks.{without_blanks}
 use Rattle.vod_base.specs.Lines.{IsLine}
+use Rattle.vod_base.specs.Splits.{IsSplitAtFirst}
 use Rattle.interleave.specs.Lengths.{IsLengthLine, IsValueAt, IsLengthGiven, IsBodyLength, written_length}
 use Rattle.interleave.proofs.Found.{name_within}
 use Rattle.rtsp_text.specs.Lines.{is_one_line}
-use Rattle.rtsp_text.specs.Grammar.{IsCut}
 use Rattle.rtsp_text.specs.Replies.{Field, IsPlain, value_named}
 use Rattle.rtsp_text.proofs.Cuts.{is_other, other_is, cut_once}
 use Rattle.rtsp_text.proofs.ReadBack.{IsLineText, flat, text_of, text_line, line_here}
@@ -50,7 +50,7 @@ name_is name rest none same =
     let more = map to_ascii_lowercase (drop 15 t) in
     let parts : map to_ascii_lowercase t ≡ map to_ascii_lowercase (codes "Content-Length") ++ 58 ∷ more =
     ap (map to_ascii_lowercase) (sym (take-append-drop 15 t)) ∙ map-append to_ascii_lowercase (take 15 t) (drop 15 t) ∙ ap (λ l. l ++ more) same in
-    let cut : IsCut 58 (map to_ascii_lowercase t) (map to_ascii_lowercase (codes "Content-Length")) more = record { parts = parts; first = refl } in
+    let cut : IsSplitAtFirst 58 (map to_ascii_lowercase t) (map to_ascii_lowercase (codes "Content-Length")) more = record { parts = parts; first = refl } in
     sym (cut_once 58 (map to_ascii_lowercase t) (map to_ascii_lowercase (codes "Content-Length")) more (map to_ascii_lowercase name) (map to_ascii_lowercase rest) cut
     (map-append to_ascii_lowercase name (58 ∷ rest)) (lower_other name none)).front
 

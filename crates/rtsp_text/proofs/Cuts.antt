@@ -1,22 +1,15 @@
 -- A text is cut at its first byte of a kind in one way.
-use Rattle.std.proofs.Common.{◌≡◌, ◌≢◌, ℕ, ◌+◌, ◌<◌, ◌&&◌, ◌==◌, Bool, true, false, not, List, [], ◌∷◌, ◌++◌, length, get_or, take, drop, refl, sym, ap, ◌∙◌, ne_eqb, eq-eqb}
+use Rattle.std.proofs.Common.{◌≡◌, ◌≢◌, ℕ, ◌&&◌, ◌==◌, Bool, true, false, not, List, [], ◌∷◌, ◌++◌, refl, sym, ap, ◌∙◌, ne_eqb, eq-eqb}
 use Rattle.std.specs.List.{list_all}
 use Rattle.std.proofs.lemmas.Bool.{and_from, and_parts, both_ways}
-use Rattle.std.proofs.lemmas.List.{take-append-drop, drop_more}
 use Rattle.std.proofs.lemmas.List.Folds.{list_all-append}
-use Rattle.rtsp_text.specs.Grammar.{IsCut}
+use Rattle.vod_base.specs.Splits.{IsSplitAtFirst}
 
 pub is_other : (x c : ℕ) → not (x == c) ≡ true → x ≢ c
 is_other x c h e = both_ways (not (x == c)) (ap not (eq-eqb x c e)) h
 
 pub other_is : (x c : ℕ) → x ≢ c → not (x == c) ≡ true
 other_is x c other = ap not (ne_eqb x c other)
-
-pub cut_found : (c : ℕ) (text : List ℕ) (at : ℕ) → at < length text → get_or text at 0 ≡ c → list_all (λ b. not (b == c)) (take at text) ≡ true → IsCut c text (take at text) (drop (at + 1) text)
-cut_found c text at within is none = record {
-  parts = sym (take-append-drop at text) ∙ ap (λ l. take at text ++ l) (drop_more text at 0 within ∙ ap (λ b. b ∷ drop (at + 1) text) is);
-  first = none;
-}
 
 pub cut_none : (c : ℕ) (text front after : List ℕ) → list_all (λ b. not (b == c)) text ≡ true → text ≡ front ++ c ∷ after → ⊥
 cut_none c text front after none e =
@@ -38,7 +31,7 @@ parts_once c (x ∷ a) b (y ∷ a') b' h h' e =
     record { front = (let f = rest.front in cc); after = rest.after }
 
 -- a text is cut in one way
-pub cut_once : (c : ℕ) (text front after a b : List ℕ) → IsCut c text front after → text ≡ a ++ c ∷ b → list_all (λ b. not (b == c)) a ≡ true → AreSame front a after b
+pub cut_once : (c : ℕ) (text front after a b : List ℕ) → IsSplitAtFirst c text front after → text ≡ a ++ c ∷ b → list_all (λ b. not (b == c)) a ≡ true → AreSame front a after b
 cut_once c text front after a b cut e none = parts_once c front after a b cut.first none (sym cut.parts ∙ e)
 
 -- bytes of another kind

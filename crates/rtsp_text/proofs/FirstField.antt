@@ -9,7 +9,7 @@ use Rattle.std.proofs.lemmas.Bool.{cases_Bool, cases_eq, and_from}
 use Rattle.std.proofs.lemmas.Option.{same_Some}
 use Rattle.vod_base.specs.Numbers.{number_of}
 use Rattle.vod_base.specs.Blanks.{without_blanks}
-use Rattle.rtsp_text.specs.Grammar.{IsCut}
+use Rattle.vod_base.specs.Splits.{IsSplitAtFirst}
 use Rattle.rtsp_text.specs.Fields.{value_in, first_value, IsField, first_number, IsFirstField, HasNoField, IsFirstNumber, HasNoNumber}
 use Rattle.rtsp_text.proofs.Cuts.{other_is}
 use Rattle.rtsp_text.proofs.Values.{value_some, value_other, value_none, first_value-nil, first_value_some, first_value_more, first_number-nil, first_number_some, first_number_more}
@@ -26,7 +26,7 @@ no_value name line other none f = let bad : None ≡ Some other = sym none ∙ f
 -- a line has a first colon or none
 data Colon (line : List ℕ) : Type 0 where
   NoColon : list_all (λ byte. not (byte == 58)) line ≡ true → Colon line
-  Cut : (front after : List ℕ) → IsCut 58 line front after → Colon line
+  Cut : (front after : List ℕ) → IsSplitAtFirst 58 line front after → Colon line
 
 colon_more : (x : ℕ) (line : List ℕ) → x ≢ 58 → Colon line → Colon (x ∷ line)
 colon_more x line other (NoColon none) = NoColon (and_from (not (x == 58)) (list_all (λ byte. not (byte == 58)) line) (other_is x 58 other) none)

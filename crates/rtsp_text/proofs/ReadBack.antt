@@ -11,9 +11,9 @@ use Rattle.std.proofs.lemmas.List.Elements.{All-nil, All-cons, All-head, All-tai
 use Rattle.std.proofs.lemmas.List.Folds.{list_all_at}
 use Rattle.std.proofs.lemmas.Fmt.{decimal_digit, decimal_step, decimal_nonempty, digits_decimal, digits_value-decimal}
 use Rattle.vod_base.specs.Lines.{IsLine}
+use Rattle.vod_base.specs.Splits.{IsSplitAtFirst}
 use Rattle.interleave.specs.Pieces.{IsRequestLength}
 use Rattle.rtsp_text.specs.Lines.{is_one_line, before_empty, first_line, header_lines, IsSplit}
-use Rattle.rtsp_text.specs.Grammar.{IsCut}
 use Rattle.rtsp_text.specs.Fields.{first_value}
 use Rattle.rtsp_text.specs.Replies.{is_code, reason, Field, field_line, sequence_line, status_line, reply_front, reply_text, all_fields, IsPlain, value_named, IsReadBack}
 use Rattle.rtsp_text.specs.StatusLines.{IsCode, IsStatusLine}
@@ -137,7 +137,7 @@ flat-fields [] = refl
 flat-fields (f ∷ fs) = ap (λ l. field_line f ++ l) (flat-fields fs)
 
 -- the value of a field's line
-field_cut : (field : Field) → IsPlain field → IsCut 58 (text_of field) field.name (32 ∷ field.value)
+field_cut : (field : Field) → IsPlain field → IsSplitAtFirst 58 (text_of field) field.name (32 ∷ field.value)
 field_cut field plain = record { parts = append_assoc field.name (codes ": ") field.value; first = token_without 58 refl field.name plain.name_is }
 
 pub values_named : (name : List ℕ) (fields : List Field) → All IsPlain fields → first_value name (map text_of fields) ≡ value_named name fields

@@ -8,8 +8,8 @@ use Rattle.std.proofs.lemmas.List.{take_at, drop_at}
 use Rattle.std.proofs.lemmas.Str.Parse.{digits_value_short}
 use Rattle.std.proofs.lemmas.Option.{none-some, same_Some}
 use Rattle.vod_base.specs.Numbers.{is_decimal, number_of}
+use Rattle.vod_base.specs.Splits.{IsSplitAtFirst}
 use Rattle.interleave.proofs.Unique.{head_once}
-use Rattle.rtsp_text.specs.Grammar.{IsCut}
 use Rattle.rtsp_text.specs.Lines.{first_line}
 use Rattle.rtsp_text.specs.StatusLines.{IsCode, IsStatusLine, IsReply}
 use Rattle.rtsp_text.proofs.Cuts.{cut_once, cut_none, all_other}
@@ -40,13 +40,13 @@ pub code_none : (text : List ℕ) (n : ℕ) → number_of text ≡ None → IsCo
 code_none text n none code = none-some (digits_value 10 text) (sym none ∙ digits_number text code.three code.decimal)
 
 -- digits have no space
-digits_cut : (digits reason : List ℕ) (code : ℕ) → IsCode digits code → IsCut 32 (digits ++ 32 ∷ reason) digits reason
+digits_cut : (digits reason : List ℕ) (code : ℕ) → IsCode digits code → IsSplitAtFirst 32 (digits ++ 32 ∷ reason) digits reason
 digits_cut digits reason code is = record {
   parts = refl;
   first = all_other is_ascii_digit 32 refl digits (and_parts (nat_lt 0 (length digits)) (list_all is_ascii_digit digits) is.decimal).1;
 }
 
-version_cut : (rest : List ℕ) → IsCut 32 (codes "RTSP/1.0" ++ 32 ∷ rest) (codes "RTSP/1.0") rest
+version_cut : (rest : List ℕ) → IsSplitAtFirst 32 (codes "RTSP/1.0" ++ 32 ∷ rest) (codes "RTSP/1.0") rest
 version_cut rest = record { parts = refl; first = refl }
 
 -- the words of a status line are the parts at its first two spaces
@@ -55,21 +55,21 @@ pub record AreStatusParts (version digits reason d r : List ℕ) : Type 0 where
   pub digits_are : digits ≡ d
   pub reason_is : reason ≡ r
 
-pub status_rest : (text version rest : List ℕ) (code : ℕ) (r : List ℕ) → IsCut 32 text version rest → (line : IsStatusLine text code r) → (version ≡ codes "RTSP/1.0") × (rest ≡ line.digits ++ 32 ∷ r)
+pub status_rest : (text version rest : List ℕ) (code : ℕ) (r : List ℕ) → IsSplitAtFirst 32 text version rest → (line : IsStatusLine text code r) → (version ≡ codes "RTSP/1.0") × (rest ≡ line.digits ++ 32 ∷ r)
 status_rest text version rest code r first line =
     let one = cut_once 32 text version rest (codes "RTSP/1.0") (line.digits ++ 32 ∷ r) first line.parts refl in
     (one.front, one.after)
 
-pub status_none : (text version rest : List ℕ) (code : ℕ) (r : List ℕ) → IsCut 32 text version rest → list_all (λ byte. not (byte == 32)) rest ≡ true → IsStatusLine text code r → ⊥
+pub status_none : (text version rest : List ℕ) (code : ℕ) (r : List ℕ) → IsSplitAtFirst 32 text version rest → list_all (λ byte. not (byte == 32)) rest ≡ true → IsStatusLine text code r → ⊥
 status_none text version rest code r first none line = cut_none 32 rest line.digits r none (status_rest text version rest code r first line).1
 
-pub status_parts : (text version rest digits reason : List ℕ) (code : ℕ) (r : List ℕ) → IsCut 32 text version rest → IsCut 32 rest digits reason → (line : IsStatusLine text code r) → AreStatusParts version digits reason line.digits r
+pub status_parts : (text version rest digits reason : List ℕ) (code : ℕ) (r : List ℕ) → IsSplitAtFirst 32 text version rest → IsSplitAtFirst 32 rest digits reason → (line : IsStatusLine text code r) → AreStatusParts version digits reason line.digits r
 status_parts text version rest digits reason code r first second line =
     let one = status_rest text version rest code r first line in
     let two = cut_once 32 rest digits reason line.digits r second one.1 (digits_cut line.digits r code line.is_code).first in
     record { version_is = one.0; digits_are = two.front; reason_is = two.after }
 
-pub whole_status : (text version rest digits reason : List ℕ) (code : ℕ) → IsCut 32 text version rest → IsCut 32 rest digits reason → version ≡ codes "RTSP/1.0" → IsCode digits code →
+pub whole_status : (text version rest digits reason : List ℕ) (code : ℕ) → IsSplitAtFirst 32 text version rest → IsSplitAtFirst 32 rest digits reason → version ≡ codes "RTSP/1.0" → IsCode digits code →
     0 < length reason → get_or reason 0 0 ≢ 32 → IsStatusLine text code reason
 whole_status text version rest digits reason code first second version_is is some no_space = record {
   digits = digits;
@@ -82,7 +82,7 @@ whole_status text version rest digits reason code first second version_is is som
 -- a status line has one code and one reason
 line_once : (text : List ℕ) (c : ℕ) (r : List ℕ) (d : ℕ) (s : List ℕ) → IsStatusLine text c r → IsStatusLine text d s → (c ≡ d) × (r ≡ s)
 line_once text c r d s a b =
-    let first : IsCut 32 text (codes "RTSP/1.0") (a.digits ++ 32 ∷ r) = record { parts = a.parts; first = refl } in
+    let first : IsSplitAtFirst 32 text (codes "RTSP/1.0") (a.digits ++ 32 ∷ r) = record { parts = a.parts; first = refl } in
     let same = status_parts text (codes "RTSP/1.0") (a.digits ++ 32 ∷ r) a.digits r d s first (digits_cut a.digits r c a.is_code) b in
     (a.is_code.code_is ∙ ap (digits_value 10) same.digits_are ∙ sym b.is_code.code_is, same.reason_is)
 

@@ -10,7 +10,7 @@ use Rattle.std.proofs.lemmas.Bool.Decides.{same_from_decides}
 use Rattle.std.proofs.lemmas.List.{take_at, drop_at, drop-drop}
 use Rattle.vod_base.specs.Numbers.{number_of}
 use Rattle.vod_base.specs.Blanks.{without_blanks}
-use Rattle.rtsp_text.specs.Grammar.{IsCut}
+use Rattle.vod_base.specs.Splits.{IsSplitAtFirst}
 use Rattle.rtsp_text.specs.Fields.{has_name, value_in, first_value, first_number}
 
 pub same_name : (r : Bool) (a b : List ℕ) → (IsTrue r ↔ (map to_ascii_lowercase a ≡ map to_ascii_lowercase b)) → r ≡ str_eq_ignore_ascii_case a b
@@ -45,31 +45,31 @@ colon_place (x ∷ front) after none =
       colon_place front after (and_parts (not (x == 58)) (list_all (λ byte. not (byte == 58)) front) none).1,
     ) (omega arith)
 
-before_colon : (line front after : List ℕ) → IsCut 58 line front after → before_first (λ byte. byte == 58) line ≡ front
+before_colon : (line front after : List ℕ) → IsSplitAtFirst 58 line front after → before_first (λ byte. byte == 58) line ≡ front
 before_colon line front after cut =
     ap (before_first (λ byte. byte == 58)) cut.parts
     ∙ ap (λ n. take n (front ++ 58 ∷ after)) (colon_place front after cut.first)
     ∙ take_at front (58 ∷ after) (length front) refl
 
-after_colon : (line front after : List ℕ) → IsCut 58 line front after → after_first (λ byte. byte == 58) line ≡ after
+after_colon : (line front after : List ℕ) → IsSplitAtFirst 58 line front after → after_first (λ byte. byte == 58) line ≡ after
 after_colon line front after cut =
     ap (after_first (λ byte. byte == 58)) cut.parts
     ∙ ap (λ n. drop (n + 1) (front ++ 58 ∷ after)) (colon_place front after cut.first)
     ∙ sym (drop-drop 1 (length front) (front ++ 58 ∷ after))
     ∙ ap (drop 1) (drop_at front (58 ∷ after) (length front) refl)
 
-cut_named : (name line front after : List ℕ) → IsCut 58 line front after → has_name name line ≡ str_eq_ignore_ascii_case front name
+cut_named : (name line front after : List ℕ) → IsSplitAtFirst 58 line front after → has_name name line ≡ str_eq_ignore_ascii_case front name
 cut_named name line front after cut =
     ap (λ b. b && str_eq_ignore_ascii_case (before_first (λ byte. byte == 58) line) name) (ap (list_any (λ byte. byte == 58)) cut.parts ∙ any_colon front after)
     ∙ ap (λ t. str_eq_ignore_ascii_case t name) (before_colon line front after cut)
 
-pub value_some : (name line front after : List ℕ) → IsCut 58 line front after → str_eq_ignore_ascii_case front name ≡ true → value_in name line ≡ Some (without_blanks after)
+pub value_some : (name line front after : List ℕ) → IsSplitAtFirst 58 line front after → str_eq_ignore_ascii_case front name ≡ true → value_in name line ≡ Some (without_blanks after)
 unfolding value_in
 value_some name line front after cut same =
     cond-true (has_name name line) (Some (without_blanks (after_first (λ byte. byte == 58) line))) None (cut_named name line front after cut ∙ same)
     ∙ ap (λ t. Some (without_blanks t)) (after_colon line front after cut)
 
-pub value_other : (name line front after : List ℕ) → IsCut 58 line front after → str_eq_ignore_ascii_case front name ≡ false → value_in name line ≡ None
+pub value_other : (name line front after : List ℕ) → IsSplitAtFirst 58 line front after → str_eq_ignore_ascii_case front name ≡ false → value_in name line ≡ None
 unfolding value_in
 value_other name line front after cut other =
     cond-false (has_name name line) (Some (without_blanks (after_first (λ byte. byte == 58) line))) None (cut_named name line front after cut ∙ other)

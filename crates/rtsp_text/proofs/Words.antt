@@ -5,7 +5,8 @@ use Rattle.std.specs.Char.{is_ascii_digit, to_ascii_lowercase}
 use Rattle.std.proofs.lemmas.Bool.{cases_eq, and_from, and_parts}
 use Rattle.std.proofs.lemmas.List.{take_at, drop_at, length-map, length-append}
 use Rattle.vod_base.specs.Numbers.{is_decimal}
-use Rattle.rtsp_text.specs.Grammar.{is_token_byte, is_token, is_url_byte, is_value_byte, IsRtspUrl, IsUrl, IsVersion, AreVersionNumbers, IsRequestLine, IsHeaderLine, IsCut}
+use Rattle.vod_base.specs.Splits.{IsSplitAtFirst}
+use Rattle.rtsp_text.specs.Grammar.{is_token_byte, is_token, is_url_byte, is_value_byte, IsRtspUrl, IsUrl, IsVersion, AreVersionNumbers, IsRequestLine, IsHeaderLine}
 use Rattle.rtsp_text.proofs.Cuts.{is_other, other_is, cut_once, all_other}
 
 -- a token has no byte that isn't a token's
@@ -16,19 +17,19 @@ pub record AreHeaderParts (name value : List ℕ) : Type 0 where
   pub name_is : is_token name ≡ true
   pub value_is : list_all is_value_byte value ≡ true
 
-pub header_parts : (text name value : List ℕ) → IsCut 58 text name value → IsHeaderLine text → AreHeaderParts name value
+pub header_parts : (text name value : List ℕ) → IsSplitAtFirst 58 text name value → IsHeaderLine text → AreHeaderParts name value
 header_parts text name value cut line =
     let same = cut_once 58 text name value line.name line.value cut line.parts (token_without 58 refl line.name line.name_is) in
     record { name_is = ap is_token same.front ∙ line.name_is; value_is = ap (list_all is_value_byte) same.after ∙ line.value_is }
 
-pub header_line : (text name value : List ℕ) → IsCut 58 text name value → is_token name ≡ true → list_all is_value_byte value ≡ true → IsHeaderLine text
+pub header_line : (text name value : List ℕ) → IsSplitAtFirst 58 text name value → is_token name ≡ true → list_all is_value_byte value ≡ true → IsHeaderLine text
 header_line text name value cut name_is value_is = record { name = name; value = value; parts = cut.parts; name_is = name_is; value_is = value_is }
 
 pub record AreNumberParts (major minor : List ℕ) : Type 0 where
   pub major_is : is_decimal major ≡ true
   pub minor_is : is_decimal minor ≡ true
 
-pub number_parts : (text major minor : List ℕ) → IsCut 46 text major minor → AreVersionNumbers text → AreNumberParts major minor
+pub number_parts : (text major minor : List ℕ) → IsSplitAtFirst 46 text major minor → AreVersionNumbers text → AreNumberParts major minor
 number_parts text major minor cut numbers =
     let none = all_other is_ascii_digit 46 refl numbers.major (and_parts (nat_lt 0 (length numbers.major)) (list_all is_ascii_digit numbers.major) numbers.major_is).1 in
     let same = cut_once 46 text major minor numbers.major numbers.minor cut numbers.parts none in
@@ -40,16 +41,16 @@ pub record AreLineParts (method url version m u v : List ℕ) : Type 0 where
   pub url_is : url ≡ u
   pub version_is : version ≡ v
 
-pub line_parts : (text method rest url version m u v : List ℕ) → IsCut 32 text method rest → IsCut 32 rest url version → IsRequestLine text m u v → AreLineParts method url version m u v
+pub line_parts : (text method rest url version m u v : List ℕ) → IsSplitAtFirst 32 text method rest → IsSplitAtFirst 32 rest url version → IsRequestLine text m u v → AreLineParts method url version m u v
 line_parts text method rest url version m u v first second line =
     let one = cut_once 32 text method rest m (u ++ 32 ∷ v) first line.parts (token_without 32 refl m line.method_is) in
     let two = cut_once 32 rest url version u v second one.after (all_other is_url_byte 32 refl u line.url_is.bytes) in
     record { method_is = one.front; url_is = two.front; version_is = two.after }
 
-pub line_rest : (text method rest m u v : List ℕ) → IsCut 32 text method rest → IsRequestLine text m u v → rest ≡ u ++ 32 ∷ v
+pub line_rest : (text method rest m u v : List ℕ) → IsSplitAtFirst 32 text method rest → IsRequestLine text m u v → rest ≡ u ++ 32 ∷ v
 line_rest text method rest m u v first line = (cut_once 32 text method rest m (u ++ 32 ∷ v) first line.parts (token_without 32 refl m line.method_is)).after
 
-pub whole_line : (text method rest url version : List ℕ) → IsCut 32 text method rest → IsCut 32 rest url version → is_token method ≡ true → IsUrl url → IsVersion version → IsRequestLine text method url version
+pub whole_line : (text method rest url version : List ℕ) → IsSplitAtFirst 32 text method rest → IsSplitAtFirst 32 rest url version → is_token method ≡ true → IsUrl url → IsVersion version → IsRequestLine text method url version
 whole_line text method rest url version first second method_is url_is version_is = record {
   parts = first.parts ∙ ap (λ r. method ++ 32 ∷ r) second.parts;
   method_is = method_is;
@@ -129,12 +130,12 @@ url_long url u =
     let seven : length u.scheme ≡ 7 = sym (length-map u.scheme to_ascii_lowercase) ∙ ap length u.scheme_is in
     omega (arith, ap length u.parts, length-append u.scheme (u.authority ++ u.path), length-append u.authority u.path, u.some)
 
-pub numbers : (text major minor : List ℕ) → IsCut 46 text major minor → is_decimal major ≡ true → is_decimal minor ≡ true → AreVersionNumbers text
+pub numbers : (text major minor : List ℕ) → IsSplitAtFirst 46 text major minor → is_decimal major ≡ true → is_decimal minor ≡ true → AreVersionNumbers text
 numbers text major minor cut major_is minor_is = record { major = major; minor = minor; parts = cut.parts; major_is = major_is; minor_is = minor_is }
 
 -- a request line's cuts
-pub method_cut : (text m u v : List ℕ) → IsRequestLine text m u v → IsCut 32 text m (u ++ 32 ∷ v)
+pub method_cut : (text m u v : List ℕ) → IsRequestLine text m u v → IsSplitAtFirst 32 text m (u ++ 32 ∷ v)
 method_cut text m u v line = record { parts = line.parts; first = token_without 32 refl m line.method_is }
 
-pub url_cut : (text m u v : List ℕ) → IsRequestLine text m u v → IsCut 32 (u ++ 32 ∷ v) u v
+pub url_cut : (text m u v : List ℕ) → IsRequestLine text m u v → IsSplitAtFirst 32 (u ++ 32 ∷ v) u v
 url_cut text m u v line = record { parts = refl; first = all_other is_url_byte 32 refl u line.url_is.bytes }

@@ -7,7 +7,7 @@ use Rattle.std.specs.Char.{to_ascii_lowercase}
 use Rattle.std.specs.Str.{str_eq_ignore_ascii_case}
 use Rattle.vod_base.specs.Numbers.{number_of}
 use Rattle.vod_base.specs.Blanks.{without_blanks}
-use Rattle.rtsp_text.specs.Grammar.{IsCut}
+use Rattle.vod_base.specs.Splits.{IsSplitAtFirst}
 use Rattle.rtsp_text.specs.Lines.{header_lines}
 
 -- whether a line has a colon, and before its first one this name, in any case
@@ -47,7 +47,7 @@ first_sequence head = first_number (codes "CSeq") (header_lines head)
 pub record IsField (name line value : List ℕ) : Type 0 where
   pub front : List ℕ
   pub after : List ℕ
-  pub cut : IsCut 58 line front after
+  pub cut : IsSplitAtFirst 58 line front after
   pub name_is : map to_ascii_lowercase front ≡ map to_ascii_lowercase name
   pub value_is : value ≡ without_blanks after
 

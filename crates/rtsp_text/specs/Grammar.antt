@@ -65,8 +65,3 @@ pub record IsHeaderLine (text : List ℕ) : Type 0 where
   pub parts : text ≡ name ++ 58 ∷ value
   pub name_is : is_token name ≡ true
   pub value_is : list_all is_value_byte value ≡ true
-
--- the text's part before its first byte `c`, and the part after that byte
-pub record IsCut (c : ℕ) (text front after : List ℕ) : Type 0 where
-  pub parts : text ≡ front ++ c ∷ after
-  pub first : list_all (λ byte. not (byte == c)) front ≡ true

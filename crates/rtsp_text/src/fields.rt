@@ -6,9 +6,8 @@ ghost use Rattle.vod_base.specs.Numbers.{number_of};
 ghost use Rattle.rtsp_text.specs.Lines.{header_lines};
 ghost use Rattle.rtsp_text.specs.Fields.{value_in, header_value, sequence_number, first_sequence};
 
-use crate::grammar::cut;
 use crate::lines::{after_first_line, next_header_line};
-use vod_base::{read_number, trim};
+use vod_base::{read_number, split_at_first, trim};
 
 /// The name of the field that has the sequence number.
 const SEQUENCE: &[u8; 4] = b"CSeq";
@@ -59,7 +58,7 @@ fn is_same_name(one: &[u8], other: &[u8]) -> bool
 fn value_in<'a>(name: &[u8], line: &'a [u8]) -> Option<&'a [u8]>
     ensures { option_map (λ value. value.now) result ≡ value_in name.now line.now }
 {
-    match cut(line, b':') {
+    match split_at_first(line, b':') {
         Some((front, value)) if is_same_name(front, name) => Some(trim(value)),
         _ => None,
     }

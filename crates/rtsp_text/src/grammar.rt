@@ -7,20 +7,9 @@ ghost use Rattle.std.specs.Char.{is_ascii_digit, to_ascii_lowercase};
 ghost use Rattle.vod_base.specs.Numbers.{is_decimal};
 ghost use Rattle.rtsp_text.specs.Grammar.{is_token_byte, is_token, is_url_byte, is_value_byte};
 ghost use Rattle.rtsp_text.specs.Grammar.{IsRtspUrl, IsUrl, IsVersion, AreVersionNumbers};
-ghost use Rattle.rtsp_text.specs.Grammar.{IsRequestLine, IsHeaderLine, IsCut};
+ghost use Rattle.rtsp_text.specs.Grammar.{IsRequestLine, IsHeaderLine};
 
-/// The part before the first byte `c`, and the part after that byte.
-pub(crate) fn cut(text: &[u8], c: u8) -> Option<(&[u8], &[u8])>
-    ensures { MatchOption result (list_all (λ byte. not (byte == c)) text.now ≡
-        true) (λ parts. IsCut c text.now parts.0.now parts.1.now) }
-{
-    for at in 0..text.len() {
-        if text[at] == c {
-            return Some((&text[..at], &text[at + 1..]));
-        }
-    }
-    None
-}
+use vod_base::split_at_first;
 
 /// Whether the text is one or more digits.
 pub(crate) fn is_decimal(text: &[u8]) -> bool
@@ -56,8 +45,8 @@ pub(crate) fn request_line(text: &[u8]) -> Option<RequestLine<'_>>
         ¬ IsRequestLine text.now method url version)
         (λ line. IsRequestLine text.now line.method.now line.url.now line.version.now) }
 {
-    let (method, rest) = cut(text, b' ')?;
-    let (url, version) = cut(rest, b' ')?;
+    let (method, rest) = split_at_first(text, b' ')?;
+    let (url, version) = split_at_first(rest, b' ')?;
     if is_token(method) && is_url(url) && is_version(version) {
         Some(RequestLine {
             method,
@@ -73,7 +62,7 @@ pub(crate) fn request_line(text: &[u8]) -> Option<RequestLine<'_>>
 pub(crate) fn is_header_line(text: &[u8]) -> bool
     ensures { IsTrue result ↔ IsHeaderLine text.now }
 {
-    match cut(text, b':') {
+    match split_at_first(text, b':') {
         Some((name, value)) => is_token(name) && has_value_bytes(value),
         None => false,
     }
@@ -174,7 +163,7 @@ fn is_url(url: &[u8]) -> bool
 fn are_version_numbers(text: &[u8]) -> bool
     ensures { IsTrue result ↔ AreVersionNumbers text.now }
 {
-    match cut(text, b'.') {
+    match split_at_first(text, b'.') {
         Some((major, minor)) => is_decimal(major) && is_decimal(minor),
         None => false,
     }

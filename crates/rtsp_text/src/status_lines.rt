@@ -5,9 +5,9 @@ ghost use Rattle.interleave.specs.Pieces.{IsRequestLength};
 ghost use Rattle.rtsp_text.specs.Lines.{first_line};
 ghost use Rattle.rtsp_text.specs.StatusLines.{IsCode, IsStatusLine, IsReply};
 
-use crate::grammar::{cut, is_rtsp_1_0};
+use crate::grammar::is_rtsp_1_0;
 use crate::lines::{first_line, split};
-use vod_base::read_number;
+use vod_base::{read_number, split_at_first};
 
 /// A reply of RTSP 1.0 (RFC 2326 section 7), as a client hears it.
 #[derive(Clone, Copy, Debug)]
@@ -67,8 +67,8 @@ fn status_line(text: &[u8]) -> Option<(u16, &[u8])>
         ¬ IsStatusLine text.now code reason)
         (λ line. IsStatusLine text.now line.0 line.1.now) }
 {
-    let (version, rest) = cut(text, b' ')?;
-    let (digits, reason) = cut(rest, b' ')?;
+    let (version, rest) = split_at_first(text, b' ')?;
+    let (digits, reason) = split_at_first(rest, b' ')?;
     if !is_rtsp_1_0(version) || reason.is_empty() || reason[0] == b' ' {
         return None;
     }
