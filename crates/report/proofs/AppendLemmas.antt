@@ -2,13 +2,13 @@
 use Rattle.std.proofs.Common.{ℕ, ◌≡◌, List, ◌++◌, Result, Ok, Err, IsErr, append_assoc, sym, ap, subst, ◌∙◌}
 use Rattle.std.proofs.lemmas.Bool.{false≢true}
 use Rattle.vod_base.specs.declared.outside.NoMemory.{NoMemory}
-use Rattle.report.specs.Appends.{IsCut, IsAppended}
+use Rattle.report.specs.Appends.{HasFrontOf, IsAppended}
 
 abbrev Answer : Type 0
 Answer = Result (Unit {0}) NoMemory
 
 -- a front of the first text is a front of both
-front_of_first : (before text next after : List ℕ) → IsCut before text after → IsCut before (text ++ next) after
+front_of_first : (before text next after : List ℕ) → HasFrontOf before text after → HasFrontOf before (text ++ next) after
 front_of_first before text next after cut = record {
   front = cut.front;
   rest = cut.rest ++ next;
@@ -17,7 +17,7 @@ front_of_first before text next after cut = record {
 }
 
 -- after the whole first text, a front of the second one
-front_of_second : {before mid after : List ℕ} (text next : List ℕ) → mid ≡ before ++ text → IsCut mid next after → IsCut before (text ++ next) after
+front_of_second : {before mid after : List ℕ} (text next : List ℕ) → mid ≡ before ++ text → HasFrontOf mid next after → HasFrontOf before (text ++ next) after
 front_of_second {before} text next whole cut = record {
   front = text ++ cut.front;
   rest = cut.rest;

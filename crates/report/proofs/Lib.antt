@@ -4,4 +4,5 @@ pub mod LineLemmas
 pub mod KindLemmas
 pub mod FormLemmas
 pub mod StateLemmas
+pub mod JournalLemmas
 mod FormedLemmas

@@ -1,3 +1,5 @@
+//! The text of a calendar: from which slot on it tells, and each slot in which bytes are booked.
+
 ghost use Rattle.std.specs.Prelude.{◌++◌, codes, flat_map};
 ghost use Rattle.slot_calendar.specs.Calendars.{booked_at};
 ghost use Rattle.report.specs.Appends.{IsAppended};

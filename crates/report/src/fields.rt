@@ -8,24 +8,22 @@ use itoa::Buffer;
 use vod_base::NoMemory;
 
 /// Appends a text.
-pub(crate) fn push(out: &mut Vec<u8>, text: &[u8]) -> Result<(), NoMemory>
+pub fn push(out: &mut Vec<u8>, text: &[u8]) -> Result<(), NoMemory>
     ensures { IsAppended out.old.items text.now out.new.items result }
 {
-    match out.extend_from_slice(text) {
-        Ok(()) => Ok(()),
-        Err(_) => Err(NoMemory),
-    }
+    out.extend_from_slice(text)?;
+    Ok(())
 }
 
 /// Appends a number in decimal, without leading zeros.
-pub(crate) fn push_number(out: &mut Vec<u8>, number: u64) -> Result<(), NoMemory>
+pub fn push_number(out: &mut Vec<u8>, number: u64) -> Result<(), NoMemory>
     ensures { IsAppended out.old.items (decimal number) out.new.items result }
 {
     push(out, Buffer::new().format(number).as_bytes())
 }
 
 /// Appends a label and a number.
-pub(crate) fn push_field(out: &mut Vec<u8>, label: &[u8], number: u64) -> Result<(), NoMemory>
+pub fn push_field(out: &mut Vec<u8>, label: &[u8], number: u64) -> Result<(), NoMemory>
     ensures { IsAppended out.old.items (field label.now number) out.new.items result }
 {
     push(out, label)?;

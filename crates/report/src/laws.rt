@@ -13,6 +13,7 @@ ghost use Rattle.report.specs.CalendarTexts.{AreBookings, calendar_lines, calend
 ghost use Rattle.report.specs.CalendarTexts.{slot_words};
 ghost use Rattle.report.specs.EntryForms.{HasForm};
 ghost use Rattle.report.specs.EntryLines.{entry_line};
+ghost use Rattle.report.specs.JournalTexts.{IsJournalTold, journal_text};
 ghost use Rattle.report.specs.Kinds.{AreOfKind, IsOfKind};
 
 use admission::Entry;
@@ -39,6 +40,14 @@ pub fn law_kinds(profile: &Profile, entries: &[Entry])
 pub fn law_entry_line()
     ensures { (place : ℕ) (entry : Entry) → IsOfKind entry.command entry.answer →
         HasForm place entry.maker (entry_line place entry) entry.command entry.answer }
+{}
+
+/// The text of entries, the first of them at a place, is made of their lines in a row: line i is
+/// that of entry i with its place, for every entry, in the order of entries, and nothing else stands
+/// in it.
+pub fn law_journal_text()
+    ensures { (place : ℕ) (entries : List Entry) →
+        IsJournalTold place entries (journal_text place entries) }
 {}
 
 /// A line that tells the booked bytes of a slot stands in the text of what is booked from a slot on

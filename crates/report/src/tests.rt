@@ -4,10 +4,10 @@ ghost use Rattle.std.specs.Prelude.{IsTrue};
 ghost use Rattle.report.specs.Kinds.{IsOfKind};
 
 use crate::{
-    calendar_text, entry_line, law_answer_kinds, law_calendar_lines, law_entry_line, law_kinds,
-    law_slot_lines, law_state_text,
+    calendar_text, entry_line, journal_text, law_answer_kinds, law_calendar_lines, law_entry_line,
+    law_journal_text, law_kinds, law_slot_lines, law_state_text,
 };
-use admission::{Answer, Command, Entry};
+use admission::{Answer, Book, Command, Entry};
 use plan_cert::{Plan, Segment};
 use slot_calendar::{Calendar, Profile};
 use std::alloc::{AllocError, Global};
@@ -21,7 +21,7 @@ fn plan_of(rt: &impl Abort, alloc: Global, slots: u64, bytes: u64) -> Result<Pla
     Ok(Plan::new(segments))
 }
 
-// Whether the answer is of its command's kind.
+/// Whether the answer is of its command's kind.
 fn is_of_kind(entry: &Entry) -> bool
     ensures { IsTrue result → IsOfKind entry.now.command entry.now.answer }
 {
@@ -41,105 +41,136 @@ fn is_of_kind(entry: &Entry) -> bool
     }
 }
 
-// The line of an entry at a place, after what stood before.
-fn tells(
-    rt: &impl Abort,
-    alloc: Global,
-    place: u64,
-    entry: &Entry,
-    want: &[u8],
-) -> Result<(), AllocError> {
-    assert!(rt; is_of_kind(entry));
-    let mut out = Vec::from_slice(alloc, b"front ")?;
-    assert_eq!(rt; entry_line(place, entry, &mut out), Ok(()));
-    assert_eq!(rt; out.strip_prefix(b"front "), Some(want));
-    Ok(())
+/// What is asked in a row; a play asks for the plan of all rows.
+#[derive(Drop)]
+enum Asked {
+    Play { slot: u64 },
+    Halt { number: u64, keep: u64 },
+    Look { slot: u64 },
 }
 
+/// An entry's place and maker, what was asked and answered, and its line.
+#[derive(Drop)]
+struct Row {
+    place: u64,
+    maker: u32,
+    asked: Asked,
+    answer: Answer,
+    line: &'static [u8],
+}
+
+const ROWS: [Row; 5] = [
+    Row {
+        place: 0,
+        maker: 0,
+        asked: Asked::Play { slot: 0 },
+        answer: Answer::Admitted { start: 1 },
+        line: b"0 seat=0 play slot=0 slots=3 bytes=7 admitted start=1\n",
+    },
+    Row {
+        place: 1,
+        maker: 1,
+        asked: Asked::Play { slot: 0 },
+        answer: Answer::Overflow {
+            slot: 3,
+            booked: 3,
+            asked: 3,
+        },
+        line: b"1 seat=1 play slot=0 slots=3 bytes=7 overflow slot=3 booked=3 asked=3\n",
+    },
+    Row {
+        place: 3,
+        maker: 0,
+        asked: Asked::Halt { number: 0, keep: 7 },
+        answer: Answer::Halted,
+        line: b"3 seat=0 halt number=0 keep=7 halted\n",
+    },
+    Row {
+        place: 1,
+        maker: 0,
+        asked: Asked::Look { slot: 3 },
+        answer: Answer::Looked {
+            now: 0,
+            at: 3,
+            booked: 3,
+        },
+        line: b"1 seat=0 look slot=3 looked now=0 at=3 booked=3\n",
+    },
+    Row {
+        place: 18_446_744_073_709_551_615,
+        maker: 4_294_967_295,
+        asked: Asked::Halt {
+            number: 10,
+            keep: 0,
+        },
+        answer: Answer::Halted,
+        line: b"18446744073709551615 seat=4294967295 halt number=10 keep=0 halted\n",
+    },
+];
+
+/// The lines of entries, each after what stood before.
 #[test]
 fn lines_of_entries(rt: HostRuntime) -> Result<(), Fail> {
     let alloc = rt.alloc();
-    let overflow = Answer::Overflow {
-        slot: 3,
-        booked: 3,
-        asked: 3,
-    };
-    let looked = Answer::Looked {
-        now: 0,
-        at: 3,
-        booked: 3,
-    };
-    let plan = plan_of(&rt, alloc, 3, 7)?;
-    let other = plan_of(&rt, alloc, 3, 7)?;
-    let rows: [(u64, u32, Command, Answer, &[u8]); 5] = [
-        (
-            0,
-            0,
-            Command::Play { slot: 0, plan },
-            Answer::Admitted { start: 1 },
-            b"0 seat=0 play slot=0 slots=3 bytes=7 admitted start=1\n",
-        ),
-        (
-            1,
-            1,
-            Command::Play {
-                slot: 0,
-                plan: other,
+    for row in ROWS {
+        let command = match row.asked {
+            Asked::Play { slot } => Command::Play {
+                slot,
+                plan: plan_of(&rt, alloc, 3, 7)?,
             },
-            overflow,
-            b"1 seat=1 play slot=0 slots=3 bytes=7 overflow slot=3 booked=3 asked=3\n",
-        ),
-        (
-            3,
-            0,
-            Command::Halt { number: 0, keep: 7 },
-            Answer::Halted,
-            b"3 seat=0 halt number=0 keep=7 halted\n",
-        ),
-        (
-            1,
-            0,
-            Command::Look { slot: 3 },
-            looked,
-            b"1 seat=0 look slot=3 looked now=0 at=3 booked=3\n",
-        ),
-        (
-            18_446_744_073_709_551_615,
-            4_294_967_295,
-            Command::Halt {
-                number: 10,
-                keep: 0,
-            },
-            Answer::Halted,
-            b"18446744073709551615 seat=4294967295 halt number=10 keep=0 halted\n",
-        ),
-    ];
-    for (place, maker, command, answer, want) in rows {
-        let entry = Entry {
-            maker,
-            command,
-            answer,
+            Asked::Halt { number, keep } => Command::Halt { number, keep },
+            Asked::Look { slot } => Command::Look { slot },
         };
-        tells(&rt, alloc, place, &entry, want)?;
+        let entry = Entry {
+            maker: row.maker,
+            command,
+            answer: row.answer,
+        };
+        assert!(rt; is_of_kind(&entry));
+        let mut out = Vec::from_slice(alloc, b"front ")?;
+        assert_eq!(rt; entry_line(row.place, &entry, &mut out), Ok(()));
+        assert_eq!(rt; out.strip_prefix(b"front "), Some(row.line));
     }
     Ok(())
 }
 
-// The laws are calls.
+/// The lines of a book's journal, from its beginning and from a place on.
+#[test]
+fn texts_of_journals(rt: HostRuntime) -> Result<(), Fail> {
+    let alloc = rt.alloc();
+    let mut book = Book::new(alloc, Profile::flat(alloc, 5)?, 4)?;
+    assert!(rt; book.look(2, 3).is_ok());
+    assert!(rt; book.look(1, 4).is_ok());
+    let entries = book.entries();
+    law_answer_kinds();
+    let mut out = Vec::new(alloc);
+    assert_eq!(rt; journal_text(0, entries, &mut out), Ok(()));
+    let both: &[u8] = b"0 seat=2 look slot=3 looked now=0 at=3 booked=0\n\
+        1 seat=1 look slot=4 looked now=0 at=4 booked=0\n";
+    assert_eq!(rt; out.as_slice(), both);
+    out.clear();
+    assert_eq!(rt; journal_text(1, entries, &mut out), Ok(()));
+    let last: &[u8] = b"1 seat=1 look slot=4 looked now=0 at=4 booked=0\n";
+    assert_eq!(rt; out.as_slice(), last);
+    Ok(())
+}
+
+/// The laws are calls.
 #[test]
 fn states_laws(rt: HostRuntime) -> Result<(), Fail> {
     let profile = Profile::flat(rt.alloc(), 5)?;
     law_kinds(&profile, &[]);
     law_answer_kinds();
     law_entry_line();
+    law_journal_text();
     law_calendar_lines();
     law_slot_lines();
     law_state_text();
     Ok(())
 }
 
-// The plan booked whole at slot 1, and at slot 3 with its first 2 bytes; then slots 0 and 1 are
-// forgotten.
+/// The plan booked whole at slot 1, and at slot 3 with its first 2 bytes; then slots 0 and 1 are
+/// forgotten.
 fn calendar_of(rt: &impl Abort, alloc: Global, plan: &Plan) -> Result<Calendar, NoMemory> {
     let mut calendar = Calendar::new(alloc, Profile::flat(alloc, 5)?)?;
     assert!(rt; plan.slots() < 1000 && plan.bytes() >= 2);
