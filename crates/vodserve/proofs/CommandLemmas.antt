@@ -34,9 +34,9 @@ pub record HasCertificate (held : List File) (viewer : Viewer) (cert : List ℕ)
   pub certificate : IsCertificate written slots bytes segments
 
 -- with the verdict on that
-checked : (held : List File) (viewer : Viewer) (cert : List ℕ) (curves : Curves) (segments : List Segment) → HasCertificate held viewer cert curves segments →
-    (status : ℕ) (text : List ℕ) → IsVerdict curves.from curves.low.items curves.up.items segments status text → IsChecked held viewer cert status text
-checked held viewer cert curves segments read status text verdict = record {
+checked : {held : List File} {viewer : Viewer} {cert : List ℕ} {curves : Curves} {segments : List Segment} → HasCertificate held viewer cert curves segments →
+    {status : ℕ} {text : List ℕ} → IsVerdict curves.from curves.low.items curves.up.items segments status text → IsChecked held viewer cert status text
+checked {curves} {segments} read {text} verdict = record {
   curves = curves;
   has = read.has;
   written = read.written;
@@ -48,25 +48,27 @@ checked held viewer cert curves segments read status text verdict = record {
   verdict = verdict;
 }
 
-pub least_checked : {E : Type 0} (held : List File) (viewer : Viewer) (cert : List ℕ) (curves : Curves) (segments : List Segment) → HasCertificate held viewer cert curves segments →
+pub least_checked : {E : Type 0} {held : List File} {viewer : Viewer} {cert : List ℕ} {curves : Curves}
+    {segments : List Segment} → HasCertificate held viewer cert curves segments →
     IsBestPlan curves.from curves.low.items curves.up.items segments →
-    (r : Result (Vec ℕ Global) E) → IfOk r (λ v. v.items ≡ codes "least\n") →
+    {r : Result (Vec ℕ Global) E} → IfOk r (λ v. v.items ≡ codes "least\n") →
     (done : Done) → (done.status ≡ 0) × (r ≡ Ok done.text) × (done.plan ≡ None) →
     IsChecked held viewer cert done.status done.text.items
-least_checked held viewer cert curves segments read best r text done is =
-    checked held viewer cert curves segments read done.status done.text.items (inl (is.0, best, text_of (codes "least\n") r done.text text is.1))
+least_checked read best {r} text done is =
+    checked read (inl (is.0, best, text_of (codes "least\n") r done.text text is.1))
 
-pub fault_checked : {E : Type 0} (held : List File) (viewer : Viewer) (cert : List ℕ) (curves : Curves) (segments : List Segment) → HasCertificate held viewer cert curves segments →
-    (fault : CertFault) → IsFirstFault curves.from curves.low.items curves.up.items segments fault →
-    (r : Result (Vec ℕ Global) E) → IfOk r (λ v. v.items ≡ codes "refused " ++ cert_fault_text fault ++ codes "\n") →
+pub fault_checked : {E : Type 0} {held : List File} {viewer : Viewer} {cert : List ℕ} {curves : Curves}
+    {segments : List Segment} → HasCertificate held viewer cert curves segments →
+    {fault : CertFault} → IsFirstFault curves.from curves.low.items curves.up.items segments fault →
+    {r : Result (Vec ℕ Global) E} → IfOk r (λ v. v.items ≡ codes "refused " ++ cert_fault_text fault ++ codes "\n") →
     (done : Done) → (done.status ≡ 1) × (r ≡ Ok done.text) × (done.plan ≡ None) →
     IsChecked held viewer cert done.status done.text.items
-fault_checked held viewer cert curves segments read fault first r text done is =
-    checked held viewer cert curves segments read done.status done.text.items
+fault_checked read {fault} first {r} text done is =
+    checked read
     (inr (fault, (is.0, first, text_of (codes "refused " ++ cert_fault_text fault ++ codes "\n") r done.text text is.1)))
 
-pub film_done : {E : Type 0} (held : List File) (film : List ℕ) (size rate : ℕ) (units : List PictureUnit) → HoldsFilm held film size rate units →
-    (r : Result (Vec ℕ Global) E) → IfOk r (λ v. v.items ≡ scan_text size rate units) →
+pub film_done : {E : Type 0} {held : List File} {film : List ℕ} {size rate : ℕ} {units : List PictureUnit} → HoldsFilm held film size rate units →
+    {r : Result (Vec ℕ Global) E} → IfOk r (λ v. v.items ≡ scan_text size rate units) →
     (done : Done) → r ≡ Ok done.text → IsScanned held film done.text.items
-film_done held film size rate units holds r text done is =
+film_done {size} {rate} {units} holds {r} text done is =
     record { size = size; rate = rate; units = units; holds = holds; printed = text_of (scan_text size rate units) r done.text text is }

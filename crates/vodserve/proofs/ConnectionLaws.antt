@@ -74,17 +74,18 @@ told_receipts journal seat (report ∷ reports) all =
     (told_receipts journal seat reports (all_right (IsReceiptIn journal seat) own (entries_told reports) all))
 
 -- all that a worker's seat made was made by its connections
-made_all : (serving : Serving) (by : Duty) (journal : List Entry) (gate gate' : Outlet) (report : PartReport) (worked : HasWorked serving by journal gate gate' report) →
+made_all : {serving : Serving} {by : Duty} {journal : List Entry} {gate gate' : Outlet} {report : PartReport}
+    (worked : HasWorked serving by journal gate gate' report) →
     worked.served.entries.made ≡ made_by (by.worker + 1) journal
-made_all serving by journal gate gate' report worked =
+made_all worked =
     ap (λ (m : List Placed). m ++ worked.served.entries.made) (sym worked.mine) ∙ sym worked.served.entries.mine_is ∙ worked.made
 
 -- the reports of a worker
-part_told : (serving : Serving) (by : Duty) (journal : List Entry) (gate gate' : Outlet) (report : PartReport) → HasWorked serving by journal gate gate' report →
+part_told : {serving : Serving} {by : Duty} {journal : List Entry} {gate gate' : Outlet} {report : PartReport} → HasWorked serving by journal gate gate' report →
     All (IsReportIn journal) report.reports.items
-part_told serving by journal gate gate' report worked =
+part_told {by} {journal} {report} worked =
     let entries : HasServed worked.seat.mine report.reports.items worked.left.mine = worked.served.entries in
-    let made : entries.made ≡ made_by (by.worker + 1) journal = made_all serving by journal gate gate' report worked in
+    let made : entries.made ≡ made_by (by.worker + 1) journal = made_all worked in
     let receipts : All (IsReceiptIn journal (by.worker + 1)) (entries_told report.reports.items) =
     subst (All (IsReceiptIn journal (by.worker + 1))) (ap (map receipt_for) (sym made) ∙ sym entries.receipts_are) (made_receipts journal (by.worker + 1)) in
     let all = told_receipts journal (by.worker + 1) report.reports.items receipts in
@@ -96,7 +97,7 @@ parts_told : (films : List Stored) (serving : Serving) (seed : List ℕ) (journa
     AllWorked films serving seed journal gate gate' from parts → All (IsReportIn journal) (all_reports parts)
 parts_told films serving seed journal gate gate' from [] all = All-nil (IsReportIn journal)
 parts_told films serving seed journal gate gate' from (part ∷ parts) all =
-    All-append (IsReportIn journal) part.reports.items (all_reports parts) (part_told serving (duty films (settings_of serving) seed from) journal gate gate' part all.0)
+    All-append (IsReportIn journal) part.reports.items (all_reports parts) (part_told all.0)
     (parts_told films serving seed journal gate gate' (from + 1) parts all.1)
 
 -- the reports are those of the workers
@@ -111,7 +112,7 @@ pub tells_its_journal : TellsItsJournal
 tells_its_journal before after seed serving ended (inl kept) status =
     subst (All (IsReportIn ended.journal.items)) (sym kept.1.2.1) (All-nil (IsReportIn ended.journal.items))
 tells_its_journal before after seed serving ended (inr served) status =
-    subst (All (IsReportIn ended.journal.items)) (sym (reports_whole before after seed serving ended served (ended_whole before after _ served.end ended served.ends status)))
+    subst (All (IsReportIn ended.journal.items)) (sym (reports_whole before after seed serving ended served (ended_whole before after _ served.ends status)))
     (parts_told served.films serving seed ended.journal.items before.gate after.gate 0 served.worked.parts served.worked.each)
 
 -- ---- connections
@@ -125,9 +126,9 @@ pub record GoesOn (old new : Sitting) : Type 0 where
 same_on : (old new : Sitting) → new ≡ old → GoesOn old new
 same_on old new same = subst (GoesOn old) (sym same) (record { terms = refl; mine = prefix_self old.mine; seen = prefix_self old.seen })
 
-one_on : (films : List Stored) (settings : Settings) (returned : Returned) (report : ConnReport) (old new : Sitting) → HasServedOne films settings returned report old new →
+one_on : {films : List Stored} {settings : Settings} {returned : Returned} {report : ConnReport} {old new : Sitting} → HasServedOne films settings returned report old new →
     GoesOn old new
-one_on films settings returned report old new one = elim one.served [
+one_on {returned} {old} {new} one = elim one.served [
   | inl from ↦ record {
     terms = terms_same from.ended.seat new from.closes.noted.seat ∙ terms_same old from.ended.seat from.course.noted.seat;
     mine = prefix_trans old.mine from.ended.seat.mine new.mine (_, sym from.course.noted.mine) (_, sym from.closes.noted.mine);
@@ -136,14 +137,15 @@ one_on films settings returned report old new one = elim one.served [
   | inr nothing ↦ same_on old new nothing.seat
 ]
 
-all_on : (films : List Stored) (settings : Settings) (old : Sitting) (back : List Returned) (reports : List ConnReport) (new : Sitting) →
+all_on : {old new : Sitting} (films : List Stored) (settings : Settings) (back : List Returned)
+    (reports : List ConnReport) →
     AreServed films settings old back reports new → GoesOn old new
-all_on films settings old [] [] new served = same_on old new served
-all_on films settings old [] (report ∷ reports) new served = absurd served
-all_on films settings old (returned ∷ back) [] new served = absurd served
-all_on films settings old (returned ∷ back) (report ∷ reports) new served =
-    let one = one_on films settings returned report old served.0 served.1.0 in
-    let rest = all_on films settings served.0 back reports new served.1.1 in
+all_on {old} {new} films settings [] [] served = same_on old new served
+all_on {new} films settings [] (report ∷ reports) served = absurd served
+all_on {new} films settings (returned ∷ back) [] served = absurd served
+all_on {old} {new} films settings (returned ∷ back) (report ∷ reports) served =
+    let one = one_on served.1.0 in
+    let rest = all_on films settings back reports served.1.1 in
     record {
       terms = rest.terms ∙ one.terms;
       mine = prefix_trans old.mine served.0.mine new.mine one.mine rest.mine;
@@ -158,32 +160,34 @@ record IsOne (films : List Stored) (settings : Settings) (returned : Returned) (
   served : HasServedOne films settings returned report old new
   on : GoesOn new left
 
-one_at : (films : List Stored) (settings : Settings) (old : Sitting) (back : List Returned) (reports : List ConnReport) (new : Sitting) →
+one_at : {films : List Stored} {settings : Settings} {old new : Sitting} (back : List Returned)
+    (reports : List ConnReport) →
     AreServed films settings old back reports new → (k : ℕ) (none : Returned) (no_report : ConnReport) → k < length back →
     IsOne films settings (slice_index_or back k none) (slice_index_or reports k no_report) old new
-one_at films settings old [] reports new served k none no_report inside = absurd (omega (arith, inside))
-one_at films settings old (returned ∷ back) [] new served k none no_report inside = absurd served
-one_at films settings old (returned ∷ back) (report ∷ reports) new served zero none no_report inside = record {
+one_at {new} [] reports served k none no_report inside = absurd (omega (arith, inside))
+one_at {new} (returned ∷ back) [] served k none no_report inside = absurd served
+one_at {films} {settings} {old} {new} (returned ∷ back) (report ∷ reports) served zero none no_report inside = record {
   old = old;
   new = served.0;
-  terms = (one_on films settings returned report old served.0 served.1.0).terms;
+  terms = (one_on served.1.0).terms;
   served = served.1.0;
-  on = all_on films settings served.0 back reports new served.1.1;
+  on = all_on films settings back reports served.1.1;
 }
-one_at films settings old (returned ∷ back) (report ∷ reports) new served (suc k) none no_report inside =
-    let rest = one_at films settings served.0 back reports new served.1.1 k none no_report (omega (arith, inside)) in
+one_at {old} {new} (returned ∷ back) (report ∷ reports) served (suc k) none no_report inside =
+    let rest = one_at back reports served.1.1 k none no_report (omega (arith, inside)) in
     record {
       old = rest.old;
       new = rest.new;
-      terms = rest.terms ∙ (one_on films settings returned report old served.0 served.1.0).terms;
+      terms = rest.terms ∙ (one_on served.1.0).terms;
       served = rest.served;
       on = rest.on;
     }
 
-part_served : (films : List Stored) (serving : Serving) (seed : List ℕ) (journal : List Entry) (gate gate' : Outlet) (content : Content) (worker : ℕ) (report : PartReport) →
+part_served : {films : List Stored} {serving : Serving} {seed : List ℕ} {journal : List Entry} {gate gate' : Outlet}
+    {content : Content} {worker : ℕ} {report : PartReport} →
     HasWorked serving (duty films (settings_of serving) seed worker) journal gate gate' report → gate'.told ≡ Some content →
     (part : Part) × ((slice_index_or content.parts worker None ≡ Some part) × IsServedPart films seed serving journal worker part report.reports.items)
-part_served films serving seed journal gate gate' content worker report worked told =
+part_served {films} {serving} {seed} {journal} {content} {worker} {report} worked told =
     let settings = settings_of serving in
     let reports = report.reports.items in
     let back : HasBack worker worked.after.told content = subst (λ (t : Option Content). IfSome t (HasBack worker worked.after.told)) told worked.back in
@@ -197,7 +201,7 @@ part_served films serving seed journal gate gate' content worker report worked t
           count = sym long;
           each = λ k none no_report inside.
               let one : IsOne films settings (slice_index_or back.0.own.back k none) (slice_index_or reports k no_report) worked.seat worked.left =
-              one_at films settings worked.seat back.0.own.back reports worked.left served k none no_report inside in
+              one_at back.0.own.back reports served k none no_report inside in
               record {
                 worker_is = worked.served.reports.worker_is k no_report (omega (arith, inside, long));
                 words_are = worked.served.reports.words_are k no_report (omega (arith, inside, long));
@@ -208,14 +212,14 @@ part_served films serving seed journal gate gate' content worker report worked t
                 entries = subst (λ (m : List Placed). IsPrefix one.new.mine m) worked.made one.on.mine;
                 seen = prefix_trans one.new.seen worked.left.seen journal one.on.seen worked.seen;
               };
-          entries = worked.served.entries.receipts_are ∙ ap (map receipt_for) (made_all serving (duty films settings seed worker) journal gate gate' report worked);
+          entries = worked.served.entries.receipts_are ∙ ap (map receipt_for) (made_all worked);
         },
       ),
     )
 
 pub serves_each : ServesEach
 serves_each before after seed serving ended gate serves told have_run =
-    let run : HasRunAll before after seed serving ended = run_all before after seed serving ended gate serves told have_run in
+    let run : HasRunAll before after seed serving ended = run_all serves told have_run in
     let worked = run.served.worked in
     record {
       films = run.served.films;
@@ -225,6 +229,6 @@ serves_each before after seed serving ended gate serves told have_run =
       count = worked.count;
       reports = reports_whole before after seed serving ended run.served run.found;
       each = λ worker none inside.
-          part_served run.served.films serving seed ended.journal.items before.gate after.gate gate worker (slice_index_or worked.parts worker none)
-          (worker_of run.served.films seed serving ended.journal.items before.gate after.gate worked.parts worked.each worker none (omega (arith, inside, worked.count))) told;
+          part_served
+          (worker_of run.served.films seed worked.parts worked.each worker none (omega (arith, inside, worked.count))) told;
     }

@@ -25,9 +25,9 @@ abbrev bytes_of : Named → List ℕ
 bytes_of n = string_bytes n.name
 
 -- a name of the script
-pub named_contains : (named : List Named) (k : ℕ) (one : Named) (name : List ℕ) → k < length named → one ≡ get_or named k one → name ≡ string_bytes one.name →
+pub named_contains : {one : Named} {name : List ℕ} (named : List Named) (k : ℕ) → k < length named → one ≡ get_or named k one → name ≡ string_bytes one.name →
     Contains (names_in named) name
-named_contains named k one name inside at is =
+named_contains {one} {name} named k inside at is =
     subst (λ (y : List ℕ). Contains (names_in named) y) (sym is)
     (k, omega (arith, inside, length-map named bytes_of), get_or-map bytes_of named k one ∙ ap bytes_of (sym at))
 
@@ -47,9 +47,10 @@ sources_push sources after source e own are =
 pub record AreHeldFront (held : List File) (named : List Named) (sources : List Source) : Type 0 where
   pub each : (k : ℕ) (name : Named) (none : Source) → k < length sources → IsHeldAs held (get_or named k name) (get_or sources k none)
 
-pub held_push : (held : List File) (named : List Named) (sources after : List Source) (source : Source) (one : Named) (i : ℕ) → after ≡ sources ++ source ∷ [] →
+pub held_push : {held : List File} {named : List Named} {sources after : List Source} {one : Named} {i : ℕ}
+    (source : Source) → after ≡ sources ++ source ∷ [] →
     length sources ≡ i → i < length named → one ≡ get_or named i one → AreHeldFront held named sources → IsHeldAs held one source → AreHeldFront held named after
-held_push held named sources after source one i e long inside at are own =
+held_push {held} {named} {sources} {one} {i} source e long inside at are own =
     subst (λ (l : List Source). AreHeldFront held named l) (sym e) (record {
       each = λ k name none short. elim (cases_lt k (length sources)) [
         | inl before ↦ subst (λ (s : Source). IsHeldAs held (get_or named k name) s) (sym (get_or_append_left sources (source ∷ []) none k before)) (are.each k name none before)
@@ -80,9 +81,9 @@ held_as_not_refused held false name (Film stored) fault is refused = true≢fals
 held_as_not_refused held false name (Trace sizes) fault is refused = trace_not_refused held name sizes.items fault is.1 refused
 
 -- those that were loaded so far aren't refused
-front_accepted : (held : List File) (named : List Named) (sources : List Source) (i : ℕ) → i ≤ length named → length sources ≡ i → AreHeldFront held named sources →
+front_accepted : {held : List File} {named : List Named} {sources : List Source} {i : ℕ} → i ≤ length named → length sources ≡ i → AreHeldFront held named sources →
     All (IsNotRefusedAs held) (take i named)
-front_accepted held named sources i few long are = λ k d inside fault refused.
+front_accepted {held} {named} {sources} {i} few long are = λ k d inside fault refused.
     let short : k < i = omega (arith, inside, length-take i named, few) in
     let same : get_or (take i named) k d ≡ get_or named k d = get_or-take i named k d short in
     let other : Named = get_or (take i named) k d in
@@ -91,16 +92,17 @@ front_accepted held named sources i few long are = λ k d inside fault refused.
     (are.each k d (first_of sources k (omega (arith, short, long))) (omega (arith, short, long)))) refused
 
 -- a film or trace that is refused after those before it were loaded is the first
-pub first_named_refused : (held : List File) (named : List Named) (sources : List Source) (i : ℕ) (one : Named) (name : List ℕ) (fault : Fault) → i < length named →
+pub first_named_refused : {held : List File} {named : List Named} {sources : List Source} {i : ℕ} {one : Named}
+    {name : List ℕ} {fault : Fault} → i < length named →
     one ≡ get_or named i one → length sources ≡ i → AreHeldFront held named sources → IsNameOf one name → IsNamedRefused one held name fault →
     IsFirstNamedRefused named held name fault
-first_named_refused held named sources i one name fault inside at long are is refused = record {
+first_named_refused {named} {i} {one} {name} inside at long are is refused = record {
   before = take i named;
   one = one;
   rest = drop (i + 1) named;
   named_are = sym (take-append-drop i named) ∙ ap (λ (l : List Named). take i named ++ l) (drop-cons named i one inside
       ∙ ap (λ (n : Named). n ∷ drop (suc i) named) (sym at) ∙ ap (λ (j : ℕ). one ∷ drop j named) (sym (add-one i)));
-  accepted = front_accepted held named sources i (omega (arith, inside)) long are;
+  accepted = front_accepted (omega (arith, inside)) long are;
   name_is = is;
   refused = refused;
 }
@@ -108,33 +110,34 @@ first_named_refused held named sources i one name fault inside at long are is re
 -- ---- what is read once
 
 -- a line is taken in, where it and lines after it are read
-line_fails_after : (r : Reading) (line : List ℕ) (lines : List (List ℕ)) (k : ℕ) (mid whole : Reading) (o : Option Reading) → line_read r line ≡ o →
+line_fails_after : {mid whole : Reading} {o : Option Reading} (r : Reading) (line : List ℕ) (lines : List (List ℕ))
+    (k : ℕ) → line_read r line ≡ o →
     ((next : Reading) → lines_read next (take k lines) ≡ Some mid → lines_read next lines ≡ Some whole → ⊥) →
     lines_read r (line ∷ take k lines) ≡ Some mid → lines_read r (line ∷ lines) ≡ Some whole → ⊥
-line_fails_after r line lines k mid whole None is fails before all =
+line_fails_after {whole} {o = None} r line lines k is fails before all =
     let bad : None ≡ Some whole = sym (ap (option_and_then (λ (next : Reading). lines_read next lines)) is) ∙ all in
     cc
-line_fails_after r line lines k mid whole (Some next) is fails before all =
+line_fails_after {whole} {o = Some next} r line lines k is fails before all =
     fails next (sym (ap (option_and_then (λ (n : Reading). lines_read n (take k lines))) is) ∙ before)
     (sym (ap (option_and_then (λ (n : Reading). lines_read n lines)) is) ∙ all)
 
 -- one of the lines of a text that is read may not stand there
-line_fails : (r : Reading) (lines : List (List ℕ)) (k : ℕ) (mid whole : Reading) → k < length lines → lines_read r (take k lines) ≡ Some mid →
+line_fails : {mid whole : Reading} (r : Reading) (lines : List (List ℕ)) (k : ℕ) → k < length lines → lines_read r (take k lines) ≡ Some mid →
     line_read mid (slice_index_or lines k []) ≡ None → lines_read r lines ≡ Some whole → ⊥
-line_fails r [] k mid whole inside before here all = omega (arith, inside)
-line_fails r (line ∷ lines) zero mid whole inside before here all =
+line_fails {whole} r [] k inside before here all = omega (arith, inside)
+line_fails {mid} {whole} r (line ∷ lines) zero inside before here all =
     let same : r ≡ mid = cc in
     let none : line_read r line ≡ None = ap (λ (s : Reading). line_read s line) same ∙ here in
     let bad : None ≡ Some whole = sym (ap (option_and_then (λ (next : Reading). lines_read next lines)) none) ∙ all in
     cc
-line_fails r (line ∷ lines) (suc k) mid whole inside before here all =
-    line_fails_after r line lines k mid whole (line_read r line) refl (λ next front rest. line_fails next lines k mid whole (omega (arith, inside)) front here rest) before all
+line_fails {whole} r (line ∷ lines) (suc k) inside before here all =
+    line_fails_after r line lines k refl (λ next front rest. line_fails next lines k (omega (arith, inside)) front here rest) before all
 
 -- a script's text has no bad line
 script_not_bad : (text : List ℕ) (script : Script) (line : ℕ) → IsScript text script → IsBadLine text line → ⊥
 script_not_bad text script line is bad = elim bad.here [
   | inl many ↦ omega (arith, many, bad.inside, is.few)
-  | inr here ↦ line_fails nothing_read (lines_of_script text) (line - 1) bad.reading _ (omega (arith, bad.some, bad.inside)) bad.before here is.read
+  | inr here ↦ line_fails nothing_read (lines_of_script text) (line - 1) (omega (arith, bad.some, bad.inside)) bad.before here is.read
 ]
 
 script_not_refused : (held : List File) (name : List ℕ) (script : Script) (fault : Fault) → HoldsScript held name script → IsScriptRefused held name fault → ⊥
@@ -158,11 +161,12 @@ same_name : (a b : Named) → name_of a ≡ name_of b → (held : List File) (so
 same_name a b same held source is =
     subst (λ (n : Name). IsHeldUnder n.film held n.name source) same is
 
-pub day_not_refused : (held : List File) (script : List ℕ) (read : Script) (sources : List Source) (name : List ℕ) (fault : Fault) → HoldsScript held script read →
+pub day_not_refused : {held : List File} {script : List ℕ} {read : Script} {sources : List Source} (name : List ℕ)
+    (fault : Fault) → HoldsScript held script read →
     AreHeldAs held read.named.items sources → IsDayRefused script held name fault → ⊥
-day_not_refused held script read sources name fault holds are (inl refused) =
+day_not_refused {held} {script} {read} name fault holds are (inl refused) =
     script_not_refused held script read fault holds (subst (λ (n : List ℕ). IsScriptRefused held n fault) refused.0 refused.1)
-day_not_refused held script read sources name fault holds are (inr named) =
+day_not_refused {held} {script} {read} {sources} name fault holds are (inr named) =
     let other : Script = named.0 in
     let first : IsFirstNamedRefused other.named.items held name fault = named.1.1 in
     let names : names_of other.named.items ≡ names_of read.named.items = names_once held script other read named.1.0 holds in

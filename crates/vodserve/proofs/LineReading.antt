@@ -91,10 +91,10 @@ line-words first (s ∷ settings) end back ends word words =
     (line-words (word_of s) settings end back ends (All-head (λ x. IsWord (word_of x)) s settings words) (All-tail (λ x. IsWord (word_of x)) s settings words))
 
 -- what a line gives to a key that neither its first word has nor what stands after its last one
-line-values : (key first : List ℕ) (settings : List Setting) (end : List ℕ) (back : List (List ℕ)) → IsEnd end back → IsWord first →
+line-values : {end : List ℕ} {back : List (List ℕ)} (key first : List ℕ) (settings : List Setting) → IsEnd end back → IsWord first →
     All (λ s. IsWord (word_of s)) settings → setting_value key first ≡ None → values_of key back ≡ [] → are_plain settings ≡ true →
     values_of key (words_in (first ++ line_rest end settings)) ≡ picked key settings
-line-values key first settings end back ends word words none empty plain =
+line-values {end} {back} key first settings ends word words none empty plain =
     ap (values_of key) (line-words first settings end back ends word words)
     ∙ ap (λ (o : Option (List ℕ)). option_to_list o ++ values_of key (map word_of settings ++ back)) none
     ∙ values_of-append key (map word_of settings) back ∙ ap (λ (vs : List (List ℕ)). values_of key (map word_of settings) ++ vs) empty
@@ -153,11 +153,11 @@ watched-words w short =
     )
 
 -- a key of the line has its number
-told : (w : Watched) (key : List ℕ) (number : ℕ) → IsShortWatched w → setting_value key (codes "watched") ≡ None →
+told : {w : Watched} (key : List ℕ) (number : ℕ) → IsShortWatched w → setting_value key (codes "watched") ≡ None →
     picked key (settings_of w) ≡ decimal number ∷ [] → are_plain (settings_of w) ≡ true → GivesOnce (watched_text w) key number
-told w key number short none given plain =
+told {w} key number short none given plain =
     ap (λ (line : List ℕ). values_of key (words_in line)) (watched-line w)
-    ∙ line-values key (codes "watched") (settings_of w) (10 ∷ []) ([] ∷ []) ended (is-word (codes "watched") (none_by 32 (codes "watched") refl) (none_by 10 (codes "watched") refl))
+    ∙ line-values key (codes "watched") (settings_of w) ended (is-word (codes "watched") (none_by 32 (codes "watched") refl) (none_by 10 (codes "watched") refl))
     (watched-words w short) none refl plain ∙ given
 
 pub play-told : (wish : Wish) (history : History) → IsShortWatched (watched_in wish history) → TellsPlay wish history (watched_text (watched_in wish history))
@@ -165,13 +165,13 @@ unfolding settings_of
 play-told wish history short =
     let w = watched_in wish history in
     record {
-      pictures_told = told w (codes "units") _ short refl refl refl;
-      bytes_told = told w (codes "bytes") _ short refl refl refl;
-      frames_told = told w (codes "frames") _ short refl refl refl;
-      reports_told = told w (codes "reports") _ short refl refl refl;
-      most_told = told w (codes "most") _ short refl refl refl;
-      over_told = told w (codes "over") _ short refl refl refl;
-      under_told = told w (codes "under") _ short refl refl refl;
+      pictures_told = told (codes "units") _ short refl refl refl;
+      bytes_told = told (codes "bytes") _ short refl refl refl;
+      frames_told = told (codes "frames") _ short refl refl refl;
+      reports_told = told (codes "reports") _ short refl refl refl;
+      most_told = told (codes "most") _ short refl refl refl;
+      over_told = told (codes "over") _ short refl refl refl;
+      under_told = told (codes "under") _ short refl refl refl;
     }
 
 -- ---- the last line of a server
@@ -192,7 +192,7 @@ counted : (connections entries : ℕ) (key : List ℕ) (number : ℕ) → connec
 unfolding line_rest counts_of
 counted connections entries key number small small' none given plain =
     ap (λ (l : List ℕ). values_of key (words_in (codes "served connections=" ++ (decimal connections ++ 32 ∷ l)))) (sym (append-nil (codes "entries=" ++ decimal entries)))
-    ∙ line-values key (codes "served") (counts_of connections entries) [] [] unended
+    ∙ line-values key (codes "served") (counts_of connections entries) unended
     (is-word (codes "served") (none_by 32 (codes "served") refl) (none_by 10 (codes "served") refl)) (counts-words connections entries small small') none refl plain
     ∙ given
 
@@ -253,7 +253,7 @@ film-value : (bytes rate pictures : ℕ) (key : List ℕ) (number : ℕ) → byt
     GivesOnce (film_line bytes rate pictures) key number
 film-value bytes rate pictures key number few short little none given plain =
     ap (λ (line : List ℕ). values_of key (words_in line)) (film-line bytes rate pictures)
-    ∙ line-values key (codes "film") (film_settings bytes rate pictures) (10 ∷ []) ([] ∷ []) ended (is-word (codes "film") (none_by 32 (codes "film") refl) (none_by 10 (codes "film") refl))
+    ∙ line-values key (codes "film") (film_settings bytes rate pictures) ended (is-word (codes "film") (none_by 32 (codes "film") refl) (none_by 10 (codes "film") refl))
     (film-words bytes rate pictures few short little) none refl plain ∙ given
 
 pub film-told : (bytes rate pictures : ℕ) → bytes < 2 ^ 64 → rate < 2 ^ 64 → pictures < 2 ^ 64 → TellsFilm bytes rate pictures (film_line bytes rate pictures)
@@ -369,9 +369,9 @@ marks-plain false true =
     All-cons (HasNo 61) (codes "group") ([] ∷ []) (none_by 61 (codes "group") refl) (All-cons (HasNo 61) [] [] (none_by 61 [] refl) (All-nil (HasNo 61)))
 marks-plain false false = All-cons (HasNo 61) [] [] (none_by 61 [] refl) (All-nil (HasNo 61))
 
-unit-value : (number : ℕ) (u : PictureUnit) (key : List ℕ) (value : ℕ) → number < 2 ^ 64 → IsShortUnit u → picked key (unit_settings u) ≡ decimal value ∷ [] →
+unit-value : {u : PictureUnit} (number : ℕ) (key : List ℕ) (value : ℕ) → number < 2 ^ 64 → IsShortUnit u → picked key (unit_settings u) ≡ decimal value ∷ [] →
     are_plain (unit_settings u) ≡ true → GivesOnce (unit_line number u) key value
-unit-value number u key value few short given plain =
+unit-value {u} number key value few short given plain =
     let back = mark_words u.has_sequence u.starts_group in
     let rest = map word_of (unit_settings u) in
     ap (values_of key) (unit-line-words number u few short)
@@ -449,11 +449,11 @@ unit-told number u few short =
     record {
       number_told = ap (λ (ws : List (List ℕ)). slice_index_or ws 0 []) words;
       kind_told = ap (λ (ws : List (List ℕ)). slice_index_or ws 1 []) words;
-      show_told = unit-value number u (codes "show") u.presentation few short refl refl;
-      from_told = unit-value number u (codes "from") u.from few short refl refl;
-      head_told = unit-value number u (codes "head") u.head_end few short refl refl;
-      to_told = unit-value number u (codes "to") u.to few short refl refl;
-      slices_told = unit-value number u (codes "slices") u.slices few short refl refl;
+      show_told = unit-value number (codes "show") u.presentation few short refl refl;
+      from_told = unit-value number (codes "from") u.from few short refl refl;
+      head_told = unit-value number (codes "head") u.head_end few short refl refl;
+      to_told = unit-value number (codes "to") u.to few short refl refl;
+      slices_told = unit-value number (codes "slices") u.slices few short refl refl;
       sequence_told = ap (list_any (bytes_eq (codes "sequence"))) words ∙ sequence-shown number u few;
       group_told = ap (list_any (bytes_eq (codes "group"))) words ∙ group-shown number u few;
     }

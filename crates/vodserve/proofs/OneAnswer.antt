@@ -50,8 +50,8 @@ record IsSameFilm (rate rate' : ℕ) (sizes sizes' : List ℕ) : Type 0 where
   rates : rate ≡ rate'
   same : sizes ≡ sizes'
 
-film_once : (held : List File) (name : List ℕ) (rate rate' : ℕ) (sizes sizes' : List ℕ) → HoldsSizes held name rate sizes → HoldsSizes held name rate' sizes' → IsSameFilm rate rate' sizes sizes'
-film_once held name rate rate' sizes sizes' p q =
+film_once : {held : List File} {name : List ℕ} {rate rate' : ℕ} {sizes sizes' : List ℕ} → HoldsSizes held name rate sizes → HoldsSizes held name rate' sizes' → IsSameFilm rate rate' sizes sizes'
+film_once {held} {name} p q =
     let same : p.video ≡ q.video = held_once held name p.video q.video p.holds q.holds in
     record {
       rates = p.rate_is ∙ ap (λ (v : List ℕ). rate_of (codes_of (read [] v))) same ∙ sym q.rate_is;
@@ -69,7 +69,7 @@ pictures_once : (held : List File) (source : Source) (a b : Pictures) → ArePic
 pictures_once held (trace_source name) a b p q =
     pictures_are a b (trace_once held name a.sizes b.sizes p.holds q.holds) (p.picture_is ∙ sym q.picture_is) (p.slot_is ∙ sym q.slot_is)
 pictures_once held (film_source name slot) a b p q =
-    let same : IsSameFilm p.rate q.rate a.sizes b.sizes = film_once held name p.rate q.rate a.sizes b.sizes p.holds q.holds in
+    let same : IsSameFilm p.rate q.rate a.sizes b.sizes = film_once p.holds q.holds in
     pictures_are a b same.same (p.picture_is ∙ ap picture_time same.rates ∙ sym q.picture_is) (p.slot_is ∙ sym q.slot_is)
 
 -- the numbers of a film's curves

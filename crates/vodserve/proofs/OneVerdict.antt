@@ -20,23 +20,23 @@ use Rattle.vodserve.specs.Verdict.{cert_fault_text}
 use Rattle.vodserve.proofs.OneAnswer.{AreSame, curves_not_refused, curves_once, no_file}
 
 -- a text is the certificate of one list of segments
-segments_once : (text : List ℕ) (slots bytes slots' bytes' : ℕ) (xs ys : List Segment) → IsCertificate text slots bytes xs → IsCertificate text slots' bytes' ys → xs ≡ ys
-segments_once text slots bytes slots' bytes' xs ys p q =
+segments_once : {text : List ℕ} {slots bytes slots' bytes' : ℕ} {xs ys : List Segment} → IsCertificate text slots bytes xs → IsCertificate text slots' bytes' ys → xs ≡ ys
+segments_once {text} {xs} {ys} p q =
     (one_text (total_slots xs) (total_bytes xs) xs (total_slots ys) (total_bytes ys) ys
     (omega (arith, p.slots_are, p.small_slots)) (omega (arith, p.bytes_are, p.small_bytes)) p.small.small
     (omega (arith, q.slots_are, q.small_slots)) (omega (arith, q.bytes_are, q.small_bytes)) q.small.small
     (sym p.text_is ∙ q.text_is)).segments_are
 
 -- what is taut has no fault
-no_fault : (from : ℕ) (low up : List ℕ) (segments : List Segment) (fault : CertFault) → IsTaut from low up segments → IsThere from low up segments fault → ⊥
-no_fault from low up segments (EmptySegment i) taut there = taut.no_empty i there
-no_fault from low up segments WrongLength taut there = taut.right_length there
-no_fault from low up segments WrongTotal taut there = taut.right_total there
-no_fault from low up segments (BelowLow t) taut there = taut.above t there
-no_fault from low up segments (AboveUp t) taut there = taut.below t there
-no_fault from low up segments (EqualSlopes i) taut there = taut.no_equal i there
-no_fault from low up segments (RiseOffUpper i) taut there = taut.no_rise_off i there
-no_fault from low up segments (FallOffLower i) taut there = taut.no_fall_off i there
+no_fault : {from : ℕ} {low up : List ℕ} {segments : List Segment} (fault : CertFault) → IsTaut from low up segments → IsThere from low up segments fault → ⊥
+no_fault {from} {low} (EmptySegment i) taut there = taut.no_empty i there
+no_fault {from} {low} WrongLength taut there = taut.right_length there
+no_fault {from} {low} WrongTotal taut there = taut.right_total there
+no_fault {from} {low} (BelowLow t) taut there = taut.above t there
+no_fault {from} {low} (AboveUp t) taut there = taut.below t there
+no_fault {from} {low} (EqualSlopes i) taut there = taut.no_equal i there
+no_fault {from} {low} (RiseOffUpper i) taut there = taut.no_rise_off i there
+no_fault {from} {low} (FallOffLower i) taut there = taut.no_fall_off i there
 
 -- the fault of a kind and a number
 abbrev fault_at : ℕ → ℕ → CertFault
@@ -53,18 +53,18 @@ fault_is (EqualSlopes i) = refl
 fault_is (RiseOffUpper i) = refl
 fault_is (FallOffLower i) = refl
 
-same_kind : (from : ℕ) (low up : List ℕ) (segments : List Segment) (f g : CertFault) → IsFirstFault from low up segments f → IsFirstFault from low up segments g →
+same_kind : {from : ℕ} {low up : List ℕ} {segments : List Segment} {f g : CertFault} → IsFirstFault from low up segments f → IsFirstFault from low up segments g →
     kind_of f ≡ kind_of g
-same_kind from low up segments f g p q = elim (cases_order (kind_of f) (kind_of g)) [
+same_kind {from} {low} {f} {g} p q = elim (cases_order (kind_of f) (kind_of g)) [
   | inl h ↦ h
   | inr (inl h) ↦ absurd (q.no_earlier_kind f h p.there)
   | inr (inr h) ↦ absurd (p.no_earlier_kind g h q.there)
 ]
 
 -- there is one first fault
-first_once : (from : ℕ) (low up : List ℕ) (segments : List Segment) (f g : CertFault) → IsFirstFault from low up segments f → IsFirstFault from low up segments g → f ≡ g
-first_once from low up segments f g p q =
-    let kinds : kind_of f ≡ kind_of g = same_kind from low up segments f g p q in
+first_once : {from : ℕ} {low up : List ℕ} {segments : List Segment} {f g : CertFault} → IsFirstFault from low up segments f → IsFirstFault from low up segments g → f ≡ g
+first_once {from} {low} {f} {g} p q =
+    let kinds : kind_of f ≡ kind_of g = same_kind p q in
     let numbers : number_of f ≡ number_of g = elim (cases_order (number_of f) (number_of g)) [
       | inl h ↦ h
       | inr (inl h) ↦ absurd (q.no_lesser_number f kinds h p.there)
@@ -72,13 +72,13 @@ first_once from low up segments f g p q =
     ] in
     sym (fault_is f) ∙ ap (λ (k : ℕ). fault_at k (number_of f)) kinds ∙ ap (λ (n : ℕ). fault_at (kind_of g) n) numbers ∙ fault_is g
 
-verdict_once : (from : ℕ) (low up : List ℕ) (segments : List Segment) (status status' : ℕ) (text text' : List ℕ) → IsVerdict from low up segments status text →
+verdict_once : {status status' : ℕ} {text text' : List ℕ} (from : ℕ) (low up : List ℕ) (segments : List Segment) → IsVerdict from low up segments status text →
     IsVerdict from low up segments status' text' → (status ≡ status') × (text ≡ text')
-verdict_once from low up segments status status' text text' (inl p) (inl q) = (p.0 ∙ sym q.0, p.2 ∙ sym q.2)
-verdict_once from low up segments status status' text text' (inl p) (inr q) = absurd (no_fault from low up segments q.0 p.1.taut q.1.1.there)
-verdict_once from low up segments status status' text text' (inr p) (inl q) = absurd (no_fault from low up segments p.0 q.1.taut p.1.1.there)
-verdict_once from low up segments status status' text text' (inr p) (inr q) =
-    let same : p.0 ≡ q.0 = first_once from low up segments p.0 q.0 p.1.1 q.1.1 in
+verdict_once {text} from low up segments (inl p) (inl q) = (p.0 ∙ sym q.0, p.2 ∙ sym q.2)
+verdict_once {text} from low up segments (inl p) (inr q) = absurd (no_fault q.0 p.1.taut q.1.1.there)
+verdict_once {text} from low up segments (inr p) (inl q) = absurd (no_fault p.0 q.1.taut p.1.1.there)
+verdict_once {text} from low up segments (inr p) (inr q) =
+    let same : p.0 ≡ q.0 = first_once p.1.1 q.1.1 in
     (p.1.0 ∙ sym q.1.0, p.1.2 ∙ ap (λ (f : CertFault). codes "refused " ++ cert_fault_text f ++ codes "\n") same ∙ sym q.1.2)
 
 pub checked_once : (held : List File) (viewer : Viewer) (cert : List ℕ) (status status' : ℕ) (text text' : List ℕ) → IsChecked held viewer cert status text →
@@ -86,26 +86,27 @@ pub checked_once : (held : List File) (viewer : Viewer) (cert : List ℕ) (statu
 checked_once held viewer cert status status' text text' p q =
     let same : AreSame q.curves p.curves = curves_once held viewer q.curves p.curves q.has p.has in
     let one : q.written ≡ p.written = one_file held cert q.written p.written q.found p.found in
-    let segments : q.segments ≡ p.segments = segments_once p.written q.slots q.bytes p.slots p.bytes q.segments p.segments
+    let segments : q.segments ≡ p.segments = segments_once
     (subst (λ (t : List ℕ). IsCertificate t q.slots q.bytes q.segments) one q.certificate) p.certificate in
-    verdict_once p.curves.from p.curves.low.items p.curves.up.items p.segments status status' text text' p.verdict
+    verdict_once p.curves.from p.curves.low.items p.curves.up.items p.segments p.verdict
     (subst (λ (s : List Segment). IsVerdict p.curves.from p.curves.low.items p.curves.up.items s status' text') segments
     (subst (λ (from : ℕ). IsVerdict from p.curves.low.items p.curves.up.items q.segments status' text') same.from
     (subst (λ (low : List ℕ). IsVerdict q.curves.from low p.curves.up.items q.segments status' text') same.low
     (subst (λ (up : List ℕ). IsVerdict q.curves.from q.curves.low.items up q.segments status' text') same.up q.verdict))))
 
 -- a certificate that is there is no other text
-cert_not_refused : (held : List File) (cert written : List ℕ) (slots bytes : ℕ) (segments : List Segment) (fault : Fault) → file_named held cert ≡ Some written →
+cert_not_refused : {written : List ℕ} {slots bytes : ℕ} {segments : List Segment} (held : List File) (cert : List ℕ)
+    (fault : Fault) → file_named held cert ≡ Some written →
     IsCertificate written slots bytes segments → IsNoCert held cert fault → ⊥
-cert_not_refused held cert written slots bytes segments (BadCert line) found certificate refused =
+cert_not_refused {written} {slots} {bytes} {segments} held cert (BadCert line) found certificate refused =
     certificate_has_no_bad_line written slots bytes segments line certificate
     (subst (λ (t : List ℕ). IsBadLine t line) (one_file held cert refused.0 written refused.1.0 found) refused.1.1)
-cert_not_refused held cert written slots bytes segments other found certificate refused = refused
+cert_not_refused {written} held cert other found certificate refused = refused
 
 pub checked_not_refused : (held : List File) (viewer : Viewer) (cert : List ℕ) (status : ℕ) (text name : List ℕ) (fault : Fault) → IsChecked held viewer cert status text →
     IsInputRefused (check_of viewer cert) held name fault → ⊥
 checked_not_refused held viewer cert status text name fault p (inl refused) = curves_not_refused held viewer p.curves fault p.has refused.1
 checked_not_refused held viewer cert status text name fault p (inr refused) = elim refused.1.1 [
   | inl missing ↦ no_file p.written (sym p.found ∙ missing.1)
-  | inr bad ↦ cert_not_refused held cert p.written p.slots p.bytes p.segments fault p.found p.certificate bad
+  | inr bad ↦ cert_not_refused held cert fault p.found p.certificate bad
 ]

@@ -17,16 +17,16 @@ use Rattle.vodserve.specs.Run.{World, Does, HasServedNothing, IsCarriedOut, IsCa
 use Rattle.vodserve.specs.declared.done.Done.{Done}
 use Rattle.vodserve.specs.declared.run.Ended.{Ended}
 
-written : (before after : World) (order : Order) (done : Done) (ended : Ended) → IsDone before.store.told order done.status done.text.items done.plan →
+written : {order : Order} {ended : Ended} (before after : World) (done : Done) → IsDone before.store.told order done.status done.text.items done.plan →
     IsWritten before.out after.out before.err after.err done ended → IsCarriedOut before after order ended
-written before after order done ended is (inl whole) = inl (record {
+written {order} {ended} before after done is (inl whole) = inl (record {
   text = done.text.items;
   done = subst (λ (status : ℕ). IsDone before.store.told order status done.text.items ended.plan) (sym whole.0)
       (subst (λ (plan : Option (List Segment)). IsDone before.store.told order done.status done.text.items plan) (sym whole.1) is);
   wrote = whole.2;
   quiet = whole.3;
 })
-written before after order done ended is (inr cut) = inr (
+written {ended} before after done is (inr cut) = inr (
   SinkFault,
   (
     record { status = done.status; text = done.text.items; plan = done.plan; done = is; risen = cut.0; front = cut.1 },
@@ -48,15 +48,15 @@ carried_out : (before after : World) (order : Order) (result : Result Done Troub
     IfOk result (λ done. IsDone before.store.told order done.status done.text.items done.plan) →
     IfErr result (IsReadTrouble (IsRead order) (IsInputRefused order) before.store.told before.store.faults after.store.faults) →
     Printed before.out after.out before.err after.err result ended → IsCarriedOut before after order ended
-carried_out before after order (Ok done) ended ok err is = written before after order done ended ok is
+carried_out before after order (Ok done) ended ok err is = written before after done ok is
 carried_out before after order (Err trouble) ended ok err is = inr (trouble, (caused before after order trouble is.0 err, is.1))
 
 -- a command was carried out, and its text printed
-pub printed : (before after : World) (order : Order) (result : Result Done Trouble) (ended : Ended) → after.gate ≡ before.gate → HasServedNothing ended →
+pub printed : {before after : World} {order : Order} {ended : Ended} (result : Result Done Trouble) → after.gate ≡ before.gate → HasServedNothing ended →
     IfOk result (λ done. IsDone before.store.told order done.status done.text.items done.plan) →
     IfErr result (IsReadTrouble (IsRead order) (IsInputRefused order) before.store.told before.store.faults after.store.faults) →
     Printed before.out after.out before.err after.err result ended → Prints before after order ended
-printed before after order result ended gate nothing ok err is =
+printed {before} {after} {order} {ended} result gate nothing ok err is =
     record { gate = gate; nothing = nothing; out = carried_out before after order result ended ok err is }
 
 -- what the words ask for was done

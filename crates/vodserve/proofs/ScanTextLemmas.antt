@@ -20,9 +20,9 @@ unit_lines-take units i unit within =
     ∙ unit_lines-more 0 (take i units) (get_or units i unit)
     ∙ ap (λ (n : ℕ). unit_lines 0 (take i units) ++ unit_line n (get_or units i unit)) (zero-add (length (take i units)) ∙ length-take-le i units (omega (arith, within)))
 
-pub text-more : (head text text' : List ℕ) (units : List PictureUnit) (i : ℕ) (unit : PictureUnit) → i < length units →
+pub text-more : {text text' : List ℕ} (head : List ℕ) (units : List PictureUnit) (i : ℕ) (unit : PictureUnit) → i < length units →
     text ≡ head ++ unit_lines 0 (take i units) → text' ≡ text ++ unit_line i (get_or units i unit) → text' ≡ head ++ unit_lines 0 (take (i + 1) units)
-text-more head text text' units i unit within before pushed =
+text-more {text} head units i unit within before pushed =
     pushed
     ∙ ap (λ (t : List ℕ). t ++ unit_line i (get_or units i unit)) before
     ∙ append_assoc head (unit_lines 0 (take i units)) (unit_line i (get_or units i unit))

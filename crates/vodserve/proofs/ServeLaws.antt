@@ -23,34 +23,34 @@ use Rattle.vodserve.proofs.WorkerLemmas.{risen_some}
 use Rattle.vodserve.proofs.ServeLemmas.{all_accepted, worker_worked}
 
 -- what keeps from serving, where nothing is refused and nothing failed, is want of memory
-kept_by_memory : (before after : World) (serving : Serving) (trouble : Trouble) → IsServable serving before.store.told → HasNoFault before after →
+kept_by_memory : {before after : World} {serving : Serving} (trouble : Trouble) → IsServable serving before.store.told → HasNoFault before after →
     IsServeTrouble serving before.store.told before.store.faults after.store.faults before.gate after.gate trouble → status_of trouble ≡ 6
-kept_by_memory before after serving Usage may none is = absurd is
-kept_by_memory before after serving (Refused name fault) may none is = absurd (may.accepted name.now fault is.0 (is.1 may.held may.told_is).refused)
-kept_by_memory before after serving (StoreFault name) may none is = absurd (none.store is.1)
-kept_by_memory before after serving SinkFault may none is = absurd is
-kept_by_memory before after serving NoMemory may none is = refl
-kept_by_memory before after serving GateFault may none is = absurd (none.gate is.0)
-kept_by_memory before after serving LinkFault may none is = absurd is
+kept_by_memory Usage may none is = absurd is
+kept_by_memory (Refused name fault) may none is = absurd (may.accepted name.now fault is.0 (is.1 may.held may.told_is).refused)
+kept_by_memory (StoreFault name) may none is = absurd (none.store is.1)
+kept_by_memory SinkFault may none is = absurd is
+kept_by_memory NoMemory may none is = refl
+kept_by_memory GateFault may none is = absurd (none.gate is.0)
+kept_by_memory LinkFault may none is = absurd is
 
 -- and so is what goes wrong at the end
-ended_by_memory : (before after : World) (text : List ℕ) (end : PartEnd) (trouble : Trouble) → HasNoFault before after →
+ended_by_memory : {before after : World} {end : PartEnd} (text : List ℕ) (trouble : Trouble) → HasNoFault before after →
     (end ≡ PartFault → HasRisen before.gate.faults after.gate.faults) →
     IsPrinted before.out.faults after.out.faults before.out.told after.out.told text end (Some trouble) → status_of trouble ≡ 6
-ended_by_memory before after text end Usage none fault is = absurd is
-ended_by_memory before after text end (Refused name cause) none fault is = absurd is
-ended_by_memory before after text end (StoreFault name) none fault is = absurd is
-ended_by_memory before after text end SinkFault none fault is = absurd (none.out is.0)
-ended_by_memory before after text end NoMemory none fault is = refl
-ended_by_memory before after text end GateFault none fault is = absurd (none.gate (fault is.1))
-ended_by_memory before after text end LinkFault none fault is = absurd is
+ended_by_memory {end} text Usage none fault is = absurd is
+ended_by_memory {end} text (Refused name cause) none fault is = absurd is
+ended_by_memory {end} text (StoreFault name) none fault is = absurd is
+ended_by_memory {end} text SinkFault none fault is = absurd (none.out is.0)
+ended_by_memory {end} text NoMemory none fault is = refl
+ended_by_memory {end} text GateFault none fault is = absurd (none.gate (fault is.1))
+ended_by_memory {end} text LinkFault none fault is = absurd is
 
 pub serves_what_it_may : ServesWhatItMay
 serves_what_it_may before after seed serving ended (inl kept) may none =
-    inr (kept.1.3.status ∙ kept_by_memory before after serving kept.0 may none kept.1.0)
+    inr (kept.1.3.status ∙ kept_by_memory kept.0 may none kept.1.0)
 serves_what_it_may before after seed serving ended (inr served) may none = elim served.ends [
   | inl whole ↦ inl whole.1
-  | inr wrong ↦ inr (wrong.1.1.status ∙ ended_by_memory before after _ served.end wrong.0 none served.fault wrong.1.0)
+  | inr wrong ↦ inr (wrong.1.1.status ∙ ended_by_memory _ wrong.0 none served.fault wrong.1.0)
 ]
 
 pub not_none : (trouble : Trouble) → status_of trouble ≡ 0 → ⊥
@@ -87,13 +87,13 @@ not_memory faults faults' told told' text GateFault printed status = apart print
     apart e = cc
 not_memory faults faults' told told' text LinkFault printed status = printed
 
-pub ended_whole : (before after : World) (text : List ℕ) (end : PartEnd) (ended : Ended) → Ends before.out after.out before.err after.err text end ended →
+pub ended_whole : {end : PartEnd} {ended : Ended} (before after : World) (text : List ℕ) → Ends before.out after.out before.err after.err text end ended →
     ended.status ≢ 6 → end ≢ PartNoMemory
-ended_whole before after text end ended (inl whole) status memory = apart (sym memory ∙ whole.0.1)
+ended_whole {end} {ended} before after text (inl whole) status memory = apart (sym memory ∙ whole.0.1)
   where
     apart : PartNoMemory ≡ AllTaken → ⊥
     apart e = cc
-ended_whole before after text end ended (inr wrong) status memory =
+ended_whole {end} {ended} before after text (inr wrong) status memory =
     not_memory before.out.faults after.out.faults before.out.told after.out.told text wrong.0
     (subst (λ (e : PartEnd). IsPrinted before.out.faults after.out.faults before.out.told after.out.told text e (Some wrong.0)) memory wrong.1.0)
     (λ six. status (wrong.1.1.status ∙ six))
@@ -112,18 +112,19 @@ other_status status AllParts no_zero no_five no_seven of_run = elim of_run [
 ]
 
 -- what kept a server from its work is told by other statuses, or parts are wanting
-not_kept : (serving : Serving) (told : Option (List File)) (faults faults' : ℕ) (gate gate' : Outlet) (content : Content) (trouble : Trouble) →
+not_kept : {content : Content} (serving : Serving) (told : Option (List File)) (faults faults' : ℕ)
+    (gate gate' : Outlet) (trouble : Trouble) →
     IsServeTrouble serving told faults faults' gate gate' trouble → gate'.told ≡ Some content →
     IsOfRun (status_of trouble) (length content.parts ≡ serving.listening.workers) → ⊥
-not_kept serving told faults faults' gate gate' content Usage is tells of_run = is
-not_kept serving told faults faults' gate gate' content (Refused name fault) is tells of_run =
+not_kept serving told faults faults' gate gate' Usage is tells of_run = is
+not_kept {content} serving told faults faults' gate gate' (Refused name fault) is tells of_run =
     other_status 3 (length content.parts ≡ serving.listening.workers) (λ e. omega (arith, e)) (λ e. omega (arith, e)) (λ e. omega (arith, e)) of_run
-not_kept serving told faults faults' gate gate' content (StoreFault name) is tells of_run =
+not_kept {content} serving told faults faults' gate gate' (StoreFault name) is tells of_run =
     other_status 4 (length content.parts ≡ serving.listening.workers) (λ e. omega (arith, e)) (λ e. omega (arith, e)) (λ e. omega (arith, e)) of_run
-not_kept serving told faults faults' gate gate' content SinkFault is tells of_run = is
-not_kept serving told faults faults' gate gate' content NoMemory is tells of_run =
+not_kept serving told faults faults' gate gate' SinkFault is tells of_run = is
+not_kept {content} serving told faults faults' gate gate' NoMemory is tells of_run =
     other_status 6 (length content.parts ≡ serving.listening.workers) (λ e. omega (arith, e)) (λ e. omega (arith, e)) (λ e. omega (arith, e)) of_run
-not_kept serving told faults faults' gate gate' content GateFault is tells of_run =
+not_kept {content} serving told faults faults' gate gate' GateFault is tells of_run =
     let fewer : length content.parts < serving.listening.workers = subst (HasFewer serving.listening.workers) tells is.1 in
     elim of_run [
       | inl zero ↦ omega (arith, zero)
@@ -132,24 +133,24 @@ not_kept serving told faults faults' gate gate' content GateFault is tells of_ru
         | inr seven ↦ omega (arith, seven.1, fewer)
       ]
     ]
-not_kept serving told faults faults' gate gate' content LinkFault is tells of_run = is
+not_kept serving told faults faults' gate gate' LinkFault is tells of_run = is
 
 -- a server whose workers ran, and none of them lacked memory
 pub record HasRunAll (before after : World) (seed : List ℕ) (serving : Serving) (ended : Ended) : Type 0 where
   pub served : HasServed before after seed serving ended
   pub found : served.end ≢ PartNoMemory
 
-pub run_all : (before after : World) (seed : List ℕ) (serving : Serving) (ended : Ended) (gate : Content) → Serves before after seed serving ended → after.gate.told ≡ Some gate →
+pub run_all : {before after : World} {seed : List ℕ} {serving : Serving} {ended : Ended} {gate : Content} → Serves before after seed serving ended → after.gate.told ≡ Some gate →
     HaveRun serving ended gate → HasRunAll before after seed serving ended
-run_all before after seed serving ended gate (inl kept) told have_run =
+run_all {before} {after} {seed} {serving} {ended} {gate} (inl kept) told have_run =
     let AllParts = length gate.parts ≡ serving.listening.workers in
-    absurd (not_kept serving before.store.told before.store.faults after.store.faults before.gate after.gate gate kept.0 kept.1.0 told
+    absurd (not_kept serving before.store.told before.store.faults after.store.faults before.gate after.gate kept.0 kept.1.0 told
     (subst (λ (n : ℕ). IsOfRun n AllParts) kept.1.3.status have_run))
-run_all before after seed serving ended gate (inr served) told have_run =
+run_all {before} {after} {seed} {serving} {ended} {gate} (inr served) told have_run =
     let AllParts = length gate.parts ≡ serving.listening.workers in
     record {
       served = served;
-      found = ended_whole before after _ served.end ended served.ends
+      found = ended_whole before after _ served.ends
           (λ six. other_status 6 AllParts (λ e. omega (arith, e)) (λ e. omega (arith, e)) (λ e. omega (arith, e)) (subst (λ (n : ℕ). IsOfRun n AllParts) six have_run));
     }
 
@@ -169,39 +170,42 @@ given_back (Some old) new (Some c) count served is =
 abbrev LastOf : World → World → Part → Type 0
 LastOf before after part = (part.last ≡ NoMore) ⊎ ((part.last ≡ Failed) × HasRisen before.gate.faults after.gate.faults)
 
-last_of : (before after : World) (serving : Serving) (by : Duty) (journal : List Entry) (report : PartReport) (end : PartEnd) (new : Content) →
+last_of : {serving : Serving} {by : Duty} {journal : List Entry} {report : PartReport} {end : PartEnd}
+    {new : Content} (before after : World) →
     (worked : HasWorked serving by journal before.gate after.gate report) → report.end ≡ end → end ≢ PartNoMemory → worked.after.told ≡ Some new → LastOf before after new.own
-last_of before after serving by journal report AllTaken new worked is found told =
+last_of {end = AllTaken} {new} before after worked is found told =
     inl (subst (λ (t : Option Content). IfSome t (λ c. c.own.last ≡ NoMore)) told (worked.served.all is))
-last_of before after serving by journal report PartFault new worked is found told =
+last_of {end = PartFault} {new} before after worked is found told =
     inr (
       subst (λ (t : Option Content). IfSome t (λ c. c.own.last ≡ Failed)) told (worked.served.failed is),
       worked.counted (risen_some 0 worked.after.faults (worked.served.fault is)),
     )
-last_of before after serving by journal report PartNoMemory new worked is found told = absurd (found refl)
+last_of {end = PartNoMemory} {new} before after worked is found told = absurd (found refl)
 
 -- the part of a worker is back in the gate
-pub part_back : (before after : World) (serving : Serving) (by : Duty) (journal : List Entry) (content : Content) (report : PartReport) → HasWorked serving by journal before.gate after.gate report →
+pub part_back : {before after : World} {serving : Serving} {by : Duty} {journal : List Entry} {content : Content}
+    {report : PartReport} → HasWorked serving by journal before.gate after.gate report →
     report.end ≢ PartNoMemory → after.gate.told ≡ Some content → (part : Part) × ((slice_index_or content.parts by.worker None ≡ Some part) × HasGivenBack before after part)
-part_back before after serving by journal content report worked found told =
+part_back {before} {after} {by} {content} {report} worked found told =
     let back : HasBack by.worker worked.after.told content = subst (λ (t : Option Content). IfSome t (HasBack by.worker worked.after.told)) told worked.back in (
       back.0.own,
       (
         back.1.1,
         record {
           back = (given_back worked.part back.0 worked.after.told (length report.reports.items) worked.served.served back.1.0).0;
-          last = last_of before after serving by journal report report.end back.0 worked refl found back.1.0;
+          last = last_of before after worked refl found back.1.0;
         },
       ),
     )
 
 -- the worker of a number, from 0 on
-pub worker_of : (films : List Stored) (seed : List ℕ) (serving : Serving) (journal : List Entry) (gate gate' : Outlet) (parts : List PartReport) →
+pub worker_of : {serving : Serving} {journal : List Entry} {gate gate' : Outlet} (films : List Stored)
+    (seed : List ℕ) (parts : List PartReport) →
     AllWorked films serving seed journal gate gate' 0 parts → (worker : ℕ) (none : PartReport) → worker < length parts →
     HasWorked serving (duty films (settings_of serving) seed worker) journal gate gate' (slice_index_or parts worker none)
-worker_of films seed serving journal gate gate' parts all worker none inside =
+worker_of {serving} {journal} {gate} {gate'} films seed parts all worker none inside =
     subst (λ (n : ℕ). HasWorked serving (duty films (settings_of serving) seed n) journal gate gate' (slice_index_or parts worker none)) (zero-add worker)
-    (worker_worked films serving seed journal gate gate' 0 parts all worker none inside)
+    (worker_worked films seed 0 parts all worker none inside)
 
 -- each worker found memory
 pub each_found : (parts : List PartReport) (end : PartEnd) (reports : List ConnReport) → AreLeft parts end reports → end ≢ PartNoMemory →
@@ -213,7 +217,7 @@ each_found parts end reports left found = elim left.memory [
 
 pub gives_each_back : GivesEachBack
 gives_each_back before after seed serving ended gate serves told have_run =
-    let run : HasRunAll before after seed serving ended = run_all before after seed serving ended gate serves told have_run in
+    let run : HasRunAll before after seed serving ended = run_all serves told have_run in
     let worked = run.served.worked in
     let none : PartReport = record { end = AllTaken; reports = ended.reports } in
     record {
@@ -221,20 +225,21 @@ gives_each_back before after seed serving ended gate serves told have_run =
       count = subst (HasParts serving.listening.workers) told worked.split;
       each = λ worker inside.
           let within : worker < length worked.parts = omega (arith, inside, worked.count) in
-          part_back before after serving (duty run.served.films (settings_of serving) seed worker) ended.journal.items gate (slice_index_or worked.parts worker none)
-          (worker_of run.served.films seed serving ended.journal.items before.gate after.gate worked.parts worked.each worker none within)
+          part_back
+          (worker_of run.served.films seed worked.parts worked.each worker none within)
           (each_found worked.parts run.served.end ended.reports.items worked.left run.found worker none within) told;
     }
 
 -- with status 0 each worker's part had no more connections
-all_taken : (before after : World) (text : List ℕ) (end : PartEnd) (ended : Ended) → Ends before.out after.out before.err after.err text end ended → ended.status ≡ 0 →
+all_taken : {end : PartEnd} {ended : Ended} (before after : World) (text : List ℕ) → Ends before.out after.out before.err after.err text end ended → ended.status ≡ 0 →
     end ≡ AllTaken
-all_taken before after text end ended (inl whole) status = whole.0.1
-all_taken before after text end ended (inr wrong) status = absurd (not_none wrong.0 (sym wrong.1.1.status ∙ status))
+all_taken {end} {ended} before after text (inl whole) status = whole.0.1
+all_taken {end} {ended} before after text (inr wrong) status = absurd (not_none wrong.0 (sym wrong.1.1.status ∙ status))
 
-part_taken : (serving : Serving) (by : Duty) (journal : List Entry) (gate gate' : Outlet) (content : Content) (report : PartReport) → HasWorked serving by journal gate gate' report →
+part_taken : {serving : Serving} {by : Duty} {journal : List Entry} {gate gate' : Outlet} {content : Content}
+    {report : PartReport} → HasWorked serving by journal gate gate' report →
     report.end ≡ AllTaken → gate'.told ≡ Some content → (part : Part) × ((slice_index_or content.parts by.worker None ≡ Some part) × (part.last ≡ NoMore))
-part_taken serving by journal gate gate' content report worked taken told =
+part_taken {by} {content} worked taken told =
     let back : HasBack by.worker worked.after.told content = subst (λ (t : Option Content). IfSome t (HasBack by.worker worked.after.told)) told worked.back in
     (back.0.own, (back.1.1, subst (λ (t : Option Content). IfSome t (λ c. c.own.last ≡ NoMore)) back.1.0 (worked.served.all taken)))
 
@@ -248,7 +253,7 @@ leaves_none_out before after seed serving ended gate (inr served) status told =
       count = subst (HasParts serving.listening.workers) told worked.split;
       each = λ worker inside.
           let within : worker < length worked.parts = omega (arith, inside, worked.count) in
-          part_taken serving (duty served.films (settings_of serving) seed worker) ended.journal.items before.gate after.gate gate (slice_index_or worked.parts worker none)
-          (worker_of served.films seed serving ended.journal.items before.gate after.gate worked.parts worked.each worker none within)
-          (worked.left.taken (all_taken before after _ served.end ended served.ends status) worker none within) told;
+          part_taken
+          (worker_of served.films seed worked.parts worked.each worker none within)
+          (worked.left.taken (all_taken before after _ served.ends status) worker none within) told;
     }

@@ -54,20 +54,21 @@ values_rest key words i word h at =
     ∙ ap (λ (j : ℕ). option_to_list (setting_value key (string_bytes word)) ++ values_of key (texts (drop j words))) (sym (add-one i))
 
 -- the films of the words, at the film of a word
-word_split : (words : List (String Global)) (i : ℕ) (word : String Global) (so_far : List (List ℕ)) (name : List ℕ) → i < length words → word ≡ get_or words i word →
+word_split : {word : String Global} (words : List (String Global)) (i : ℕ) (so_far : List (List ℕ)) (name : List ℕ) → i < length words → word ≡ get_or words i word →
     values_of (codes "film") (texts words) ≡ so_far ++ values_of (codes "film") (texts (drop i words)) → IsWordNamed (string_bytes word) name →
     values_of (codes "film") (texts words) ≡ so_far ++ name ∷ values_of (codes "film") (texts (drop (i + 1) words))
-word_split words i word so_far name h at whole named =
+word_split {word} words i so_far name h at whole named =
     whole ∙ ap (λ (vs : List (List ℕ)). so_far ++ vs) (values_rest (codes "film") words i word h at
     ∙ ap (λ (o : Option (List ℕ)). option_to_list o ++ values_of (codes "film") (texts (drop (i + 1) words))) named)
 
 -- the film of a word is one of the films
-pub word_film : (words : List (String Global)) (i : ℕ) (word : String Global) (so_far : List (List ℕ)) (name : List ℕ) → i < length words → word ≡ get_or words i word →
+pub word_film : {word : String Global} (words : List (String Global)) (i : ℕ) (so_far : List (List ℕ))
+    (name : List ℕ) → i < length words → word ≡ get_or words i word →
     values_of (codes "film") (texts words) ≡ so_far ++ values_of (codes "film") (texts (drop i words)) → IsWordNamed (string_bytes word) name →
     Contains (values_of (codes "film") (texts words)) name
-word_film words i word so_far name h at whole named =
+word_film words i so_far name h at whole named =
     contains_seam so_far (values_of (codes "film") (texts (drop (i + 1) words))) (values_of (codes "film") (texts words)) name
-    (word_split words i word so_far name h at whole named)
+    (word_split words i so_far name h at whole named)
 
 -- films that are held may be served
 pub all_accepted : (told : Option (List File)) (held : List File) (films : List Stored) → told ≡ Some held → All (IsHeld told) films → All (MayBeServed held) (names_of films)
@@ -75,14 +76,15 @@ all_accepted told held films told_is all =
     All-map (MayBeServed held) (λ (film : Stored). string_bytes film.name) films (λ i d inside. (all i d inside held told_is).1)
 
 -- where a film of a word is refused, it is the first one
-pub first_refused : (told : Option (List File)) (held : List File) (words : List (String Global)) (i : ℕ) (word : String Global) (films : List Stored) (name : List ℕ) (fault : Fault) →
+pub first_refused : {told : Option (List File)} {held : List File} {word : String Global} {name : List ℕ}
+    {fault : Fault} (words : List (String Global)) (i : ℕ) (films : List Stored) →
     i < length words → word ≡ get_or words i word →
     values_of (codes "film") (texts words) ≡ names_of films ++ values_of (codes "film") (texts (drop i words)) → IsWordNamed (string_bytes word) name →
     told ≡ Some held → All (IsHeld told) films → IsHeldRefused held name fault → IsFirstRefused (values_of (codes "film") (texts words)) held name fault
-first_refused told held words i word films name fault h at whole named told_is all refused = record {
+first_refused {told} {held} {name} words i films h at whole named told_is all refused = record {
   before = names_of films;
   rest = values_of (codes "film") (texts (drop (i + 1) words));
-  names_are = word_split words i word (names_of films) name h at whole named;
+  names_are = word_split words i (names_of films) name h at whole named;
   accepted = all_accepted told held films told_is all;
   refused = refused;
 }
@@ -168,10 +170,10 @@ lost_fewer workers None gate' is some = subst (HasFewer workers) (sym is) tt
 lost_fewer workers (Some c) gate' is some = subst (HasFewer workers) (sym is) (omega (arith, some))
 
 -- the journal of a station that was closed
-pub closed_journal : {G : Type 0} (told : G → Option Content) (serving : Serving) (hall : Hall) (workers : List (Worker G)) (seat : Sitting) (gate : Option Content)
-    (entries : List Entry) → AreJoined told hall (length workers) workers seat gate → IsWhole seat entries → hall.steps ≡ serving.capacity →
+pub closed_journal : {G : Type 0} {told : G → Option Content} {serving : Serving} {hall : Hall}
+    {workers : List (Worker G)} {seat : Sitting} {gate : Option Content} {entries : List Entry} → AreJoined told hall (length workers) workers seat gate → IsWhole seat entries → hall.steps ≡ serving.capacity →
     length workers ≡ serving.listening.workers → IsJournal serving entries
-closed_journal told serving hall workers seat gate entries back whole steps count = record {
+closed_journal {entries} back whole steps count = record {
   legal = subst (λ (s : List CapStep). IsLegal s entries) (back.steps ∙ steps) whole.legal;
   halts = whole.halts;
   first = ap (λ (n : ℕ). made_by n entries) (sym back.number) ∙ sym whole.mine ∙ back.mine;
@@ -179,16 +181,17 @@ closed_journal told serving hall workers seat gate entries back whole steps coun
 }
 
 -- what the workers of a closed station did
-pub have_worked : {G : Type 0} (told : G → Option Content) (faults : G → ℕ) (films : List Stored) (seed : List ℕ) (serving : Serving) (hall : Hall)
-    (workers : List (Worker G)) (seat : Sitting) (entries : List Entry) (gate gate' : Outlet) (end : PartEnd) (reports : List ConnReport) →
+pub have_worked : {G : Type 0} {told : G → Option Content} {faults : G → ℕ} {films : List Stored} {seed : List ℕ}
+    {serving : Serving} {hall : Hall} {workers : List (Worker G)} {seat : Sitting} {entries : List Entry}
+    {gate gate' : Outlet} {end : PartEnd} {reports : List ConnReport} →
     AreWorkers told faults hall 0 workers → All (HasFinished told faults films (settings_of serving) seed) workers →
     AreJoined told hall (length workers) workers seat gate'.told → All (λ worker. 0 < faults worker.part → HasRisen gate.faults gate'.faults) workers →
     IsWhole seat entries → IsStationOf serving hall → length workers ≡ serving.listening.workers → IsOpenAs (opening_of serving) gate'.told → AreLeft (map report_of workers) end reports →
     HaveWorked films seed serving entries gate gate' end reports
-have_worked told faults films seed serving hall workers seat entries gate gate' end reports all finished back counted whole of_words count open_as left = record {
+have_worked {seed} {serving} {workers} {seat} {entries} {gate} {gate'} {end} all finished back counted whole of_words count open_as left = record {
   parts = map report_of workers;
   count = length-map workers report_of ∙ count;
-  each = all_worked told faults films serving seed entries seat.seen gate gate' hall 0 workers of_words all finished back.seen whole.seen back.back counted
+  each = all_worked entries seat.seen gate gate' 0 workers of_words all finished back.seen whole.seen back.back counted
       (subst (All (λ (joined : Joined). joined.mine ≡ made_by joined.number entries)) back.joined whole.joined);
   open_as = open_as;
   split = counted_parts (length workers) (length workers) serving.listening.workers gate'.told back.out count;
@@ -217,9 +220,10 @@ worked_since films serving seed entries before gate gate' from (part ∷ parts) 
   worked_since films serving seed entries before gate gate' (from + 1) parts all.1 low,
 )
 
-pub have_worked_since : (films : List Stored) (seed : List ℕ) (serving : Serving) (entries : List Entry) (before gate gate' : Outlet) (end : PartEnd) (reports : List ConnReport) →
+pub have_worked_since : {films : List Stored} {seed : List ℕ} {serving : Serving} {entries : List Entry}
+    {before gate gate' : Outlet} {end : PartEnd} {reports : List ConnReport} →
     HaveWorked films seed serving entries gate gate' end reports → before.faults ≤ gate.faults → HaveWorked films seed serving entries before gate' end reports
-have_worked_since films seed serving entries before gate gate' end reports worked low =
+have_worked_since {films} {seed} {serving} {entries} {before} {gate} {gate'} {end} worked low =
     record {
       parts = worked.parts;
       count = worked.count;
@@ -230,26 +234,29 @@ have_worked_since films seed serving entries before gate gate' end reports worke
     }
 
 -- the worker of a number
-pub worker_worked : (films : List Stored) (serving : Serving) (seed : List ℕ) (entries : List Entry) (gate gate' : Outlet) (from : ℕ) (parts : List PartReport) →
+pub worker_worked : {serving : Serving} {entries : List Entry} {gate gate' : Outlet} (films : List Stored)
+    (seed : List ℕ) (from : ℕ) (parts : List PartReport) →
     AllWorked films serving seed entries gate gate' from parts → (k : ℕ) (none : PartReport) → k < length parts →
     HasWorked serving (duty films (settings_of serving) seed (from + k)) entries gate gate' (slice_index_or parts k none)
-worker_worked films serving seed entries gate gate' from [] all k none inside = absurd (omega (arith, inside))
-worker_worked films serving seed entries gate gate' from (part ∷ parts) all zero none inside =
+worker_worked films seed from [] all k none inside = absurd (omega (arith, inside))
+worker_worked {serving} {entries} {gate} {gate'} films seed from (part ∷ parts) all zero none inside =
     subst (λ (n : ℕ). HasWorked serving (duty films (settings_of serving) seed n) entries gate gate' part) (sym (add-zero from)) all.0
-worker_worked films serving seed entries gate gate' from (part ∷ parts) all (suc k) none inside =
+worker_worked {serving} {entries} {gate} {gate'} films seed from (part ∷ parts) all (suc k) none inside =
     let on : from + 1 + k ≡ from + suc k = omega arith in
     subst (λ (n : ℕ). HasWorked serving (duty films (settings_of serving) seed n) entries gate gate' (slice_index_or parts k none)) on
-    (worker_worked films serving seed entries gate gate' (from + 1) parts all.1 k none (omega (arith, inside)))
+    (worker_worked films seed (from + 1) parts all.1 k none (omega (arith, inside)))
 
 -- a part that failed was counted
-fault_counted : (films : List Stored) (serving : Serving) (seed : List ℕ) (entries : List Entry) (gate gate' : Outlet) (parts : List PartReport) →
+fault_counted : {parts : List PartReport} (films : List Stored) (serving : Serving) (seed : List ℕ)
+    (entries : List Entry) (gate gate' : Outlet) →
     AllWorked films serving seed entries gate gate' 0 parts → HasOne PartFault parts → HasRisen gate.faults gate'.faults
-fault_counted films serving seed entries gate gate' [] all one = absurd (omega (arith, one.inside))
-fault_counted films serving seed entries gate gate' (part ∷ parts) all one =
-    let worked = worker_worked films serving seed entries gate gate' 0 (part ∷ parts) all one.worker part one.inside in
+fault_counted {parts = []} films serving seed entries gate gate' all one = absurd (omega (arith, one.inside))
+fault_counted {parts = part ∷ parts} films serving seed entries gate gate' all one =
+    let worked = worker_worked films seed 0 (part ∷ parts) all one.worker part one.inside in
     worked.counted (risen_some 0 worked.after.faults (worked.served.fault (one.ended part)))
 
-pub fault_risen : (films : List Stored) (seed : List ℕ) (serving : Serving) (entries : List Entry) (gate gate' : Outlet) (end : PartEnd) (reports : List ConnReport) →
+pub fault_risen : {films : List Stored} {seed : List ℕ} {serving : Serving} {entries : List Entry}
+    {gate gate' : Outlet} {end : PartEnd} {reports : List ConnReport} →
     HaveWorked films seed serving entries gate gate' end reports → end ≡ PartFault → HasRisen gate.faults gate'.faults
-fault_risen films seed serving entries gate gate' end reports worked is =
-    fault_counted films serving seed entries gate gate' worked.parts worked.each (worked.left.failed is)
+fault_risen {films} {seed} {serving} {entries} {gate} {gate'} {end} worked is =
+    fault_counted films serving seed entries gate gate' worked.each (worked.left.failed is)

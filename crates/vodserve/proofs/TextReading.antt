@@ -106,8 +106,8 @@ record AreMarked (sequence sequence' group group' : Bool) (xs ys : List ℕ) : T
   group_is : group ≡ group'
   rest : xs ≡ ys
 
-marks_told : (sequence sequence' group group' : Bool) (xs ys : List ℕ) → marks sequence group ++ xs ≡ marks sequence' group' ++ ys → AreMarked sequence sequence' group group' xs ys
-marks_told sequence sequence' group group' xs ys e =
+marks_told : {sequence sequence' group group' : Bool} {xs ys : List ℕ} → marks sequence group ++ xs ≡ marks sequence' group' ++ ys → AreMarked sequence sequence' group group' xs ys
+marks_told {sequence} {sequence'} {group} {group'} {xs} {ys} e =
     let s : sequence ≡ sequence' = sym (sequence_back sequence group xs) ∙ ap sequence_of e ∙ sequence_back sequence' group' ys in
     let g : group ≡ group' = sym (group_back sequence group xs) ∙ ap group_of e ∙ group_back sequence' group' ys in
     let same : marks sequence' group' ≡ marks sequence group = ap (λ (b : Bool). marks b group') (sym s) ∙ ap (marks sequence) (sym g) in
@@ -122,15 +122,15 @@ record AreEnded (n m : ℕ) (sequence sequence' group group' : Bool) (xs ys : Li
   number : n ≡ m
   marked : AreMarked sequence sequence' group group' xs ys
 
-ends_told : (n m : ℕ) (sequence sequence' group group' : Bool) (xs ys : List ℕ) → n < 2 ^ 64 → m < 2 ^ 64 →
+ends_told : {n m : ℕ} {sequence sequence' group group' : Bool} {xs ys : List ℕ} → n < 2 ^ 64 → m < 2 ^ 64 →
     decimal n ++ (marks sequence group ++ xs) ≡ decimal m ++ (marks sequence' group' ++ ys) → AreEnded n m sequence sequence' group group' xs ys
-ends_told n m sequence sequence' group group' xs ys small small' e =
-    let cut = two_cut (mark_first sequence group) (mark_first sequence' group') (decimal n) (decimal m) (mark_rest sequence group xs) (mark_rest sequence' group' ys)
+ends_told {n} {m} {sequence} {sequence'} {group} {group'} {xs} {ys} small small' e =
+    let cut = two_cut
     (ap (λ (l : List ℕ). decimal n ++ l) (sym (mark_shape sequence group xs)) ∙ e ∙ ap (λ (l : List ℕ). decimal m ++ l) (mark_shape sequence' group' ys))
     (no_digit sequence' group' n small) (no_digit sequence group m small') in
     record {
       number = decimal_injective n m small small' cut.front;
-      marked = marks_told sequence sequence' group group' xs ys (mark_shape sequence group xs ∙ cut.rest ∙ sym (mark_shape sequence' group' ys));
+      marked = marks_told (mark_shape sequence group xs ∙ cut.rest ∙ sym (mark_shape sequence' group' ys));
     }
 
 -- a unit's line, from its kind on, with what follows
@@ -158,12 +158,12 @@ unit_told : (unit other : PictureUnit) (xs ys : List ℕ) → IsShortUnit unit �
 unfolding after_number tail_of
 unit_told unit other xs ys short short' e =
     let kind : unit.kind ≡ other.kind = sym (kind_back unit.kind) ∙ ap (λ (l : List ℕ). kind_from (get_or l 0 0)) e ∙ kind_back other.kind in
-    let show = field_cut (codes "from=") unit.presentation other.presentation _ _ short.presentation short'.presentation
+    let show = field_cut (codes "from=") short.presentation short'.presentation
     (append_cancel_left (codes " show=") _ _ (ap tail_of e)) in
-    let from = field_cut (codes "head=") unit.from other.from _ _ short.from short'.from show.rest in
-    let head = field_cut (codes "to=") unit.head_end other.head_end _ _ short.head_end short'.head_end from.rest in
-    let to = field_cut (codes "slices=") unit.to other.to _ _ short.to short'.to head.rest in
-    let end = ends_told unit.slices other.slices unit.has_sequence other.has_sequence unit.starts_group other.starts_group xs ys short.slices short'.slices to.rest in
+    let from = field_cut (codes "head=") short.from short'.from show.rest in
+    let head = field_cut (codes "to=") short.head_end short'.head_end from.rest in
+    let to = field_cut (codes "slices=") short.to short'.to head.rest in
+    let end = ends_told short.slices short'.slices to.rest in
     record {
       alike = record {
         kind = kind;
@@ -208,9 +208,9 @@ scan_told bytes bytes' rate rate' units units' b b' r r' n n' short short' e =
     let more' = unit_lines 0 units' ++ codes "end\n" in
     let shape = append_assoc (film_line bytes rate (length units)) (unit_lines 0 units) (codes "end\n") ∙ film_shape bytes rate (length units) more in
     let shape' = append_assoc (film_line bytes' rate' (length units')) (unit_lines 0 units') (codes "end\n") ∙ film_shape bytes' rate' (length units') more' in
-    let first = field_cut (codes "rate=") bytes bytes' _ _ b b' (append_cancel_left (codes "film bytes=") _ _ (sym shape ∙ e ∙ shape')) in
-    let second = field_cut (codes "pictures=") rate rate' _ _ r r' first.rest in
-    let third = line_cut (length units) (length units') more more' n n' second.rest in
+    let first = field_cut (codes "rate=") b b' (append_cancel_left (codes "film bytes=") _ _ (sym shape ∙ e ∙ shape')) in
+    let second = field_cut (codes "pictures=") r r' first.rest in
+    let third = line_cut n n' second.rest in
     record {
       bytes_are = first.number;
       rate_is = second.number;
@@ -312,14 +312,14 @@ last_clean connections entries small small' =
     (All-append (λ b. b ≢ 10) (decimal connections) (32 ∷ (codes "entries=" ++ decimal entries)) (digits connections small)
     (All-append (λ b. b ≢ 10) (codes " entries=") (decimal entries) (none_by 10 (codes " entries=") refl) (digits entries small')))
 
-pub counts_told : (entries entries' : List Entry) (connections connections' : ℕ) → connections < 2 ^ 64 → connections' < 2 ^ 64 → length entries < 2 ^ 64 → length entries' < 2 ^ 64 →
+pub counts_told : {connections connections' : ℕ} (entries entries' : List Entry) → connections < 2 ^ 64 → connections' < 2 ^ 64 → length entries < 2 ^ 64 → length entries' < 2 ^ 64 →
     served_text entries connections ≡ served_text entries' connections' → (connections ≡ connections') × (length entries ≡ length entries')
-counts_told entries entries' connections connections' c c' n n' e =
+counts_told {connections} {connections'} entries entries' c c' n n' e =
     let one = last_line_of entries connections in
     let other = last_line_of entries' connections' in
     let line = codes "served connections=" ++ (decimal connections ++ 32 ∷ (codes "entries=" ++ decimal (length entries))) in
     let line' = codes "served connections=" ++ (decimal connections' ++ 32 ∷ (codes "entries=" ++ decimal (length entries'))) in
     let whole = append_cancel_right (one.front ++ 10 ∷ line) (other.front ++ 10 ∷ line') (codes "\n") (sym one.shape ∙ e ∙ other.shape) in
-    let last = last_cut 10 one.front other.front line line' whole (last_clean connections (length entries) c n) (last_clean connections' (length entries') c' n') in
-    let first = field_cut (codes "entries=") connections connections' (decimal (length entries)) (decimal (length entries')) c c' (append_cancel_left (codes "served connections=") _ _ last) in
+    let last = last_cut 10 one.front other.front whole (last_clean connections (length entries) c n) (last_clean connections' (length entries') c' n') in
+    let first = field_cut (codes "entries=") c c' (append_cancel_left (codes "served connections=") _ _ last) in
     (first.number, decimal_injective (length entries) (length entries') n n' first.rest)

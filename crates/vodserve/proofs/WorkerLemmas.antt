@@ -32,19 +32,21 @@ use Rattle.vodserve.specs.Workers.{AreBack, AreJoined, AreOut, AreWorkers, HasFi
 use Rattle.vodserve.specs.declared.workers.Worker.{Worker}
 
 -- a worker more
-pub workers_push : {G : Type 0} (told : G → Option Content) (faults : G → ℕ) (hall : Hall) (from : ℕ) (workers : List (Worker G)) (worker : Worker G) →
+pub workers_push : {G : Type 0} {told : G → Option Content} {faults : G → ℕ} {hall : Hall} {worker : Worker G}
+    (from : ℕ) (workers : List (Worker G)) →
     AreWorkers told faults hall from workers → worker.number ≡ from + length workers → IsWorker told faults hall worker →
     AreWorkers told faults hall from (workers ++ worker ∷ [])
-workers_push told faults hall from [] worker all number is = (number ∙ add-zero from, is, tt)
-workers_push told faults hall from (first ∷ workers) worker all number is =
-    (all.0, all.1, workers_push told faults hall (from + 1) workers worker all.2 (omega (arith, number)) is)
+workers_push from [] all number is = (number ∙ add-zero from, is, tt)
+workers_push from (first ∷ workers) all number is =
+    (all.0, all.1, workers_push (from + 1) workers all.2 (omega (arith, number)) is)
 
 -- the first worker, and the rest
-pub first_worker : {G : Type 0} (told : G → Option Content) (faults : G → ℕ) (hall : Hall) (from : ℕ) (workers : List (Worker G)) (worker : Worker G) →
+pub first_worker : {G : Type 0} {told : G → Option Content} {faults : G → ℕ} {hall : Hall} {from : ℕ}
+    {worker : Worker G} (workers : List (Worker G)) →
     AreWorkers told faults hall from workers → 0 < length workers → worker ≡ slice_index_or workers 0 worker →
     (worker.number ≡ from) × IsWorker told faults hall worker
-first_worker told faults hall from [] worker all some is = absurd (omega (arith, some))
-first_worker told faults hall from (first ∷ workers) worker all some is =
+first_worker {from} [] all some is = absurd (omega (arith, some))
+first_worker {told} {faults} {hall} {from} {worker} (first ∷ workers) all some is =
     let same : worker ≡ first = is in
     (ap (λ (w : Worker _). w.number) same ∙ all.0, subst (IsWorker told faults hall) (sym same) all.1)
 
@@ -53,29 +55,31 @@ pub rest_workers : {G : Type 0} (told : G → Option Content) (faults : G → �
 rest_workers told faults hall from [] all some = absurd (omega (arith, some))
 rest_workers told faults hall from (first ∷ workers) all some = all.2
 
-worker_at : {G : Type 0} (told : G → Option Content) (faults : G → ℕ) (hall : Hall) (from : ℕ) (workers : List (Worker G)) → AreWorkers told faults hall from workers →
+worker_at : {G : Type 0} {told : G → Option Content} {faults : G → ℕ} {hall : Hall} (from : ℕ)
+    (workers : List (Worker G)) → AreWorkers told faults hall from workers →
     (i : ℕ) (d : Worker G) → i < length workers → IsWorker told faults hall (slice_index_or workers i d)
-worker_at told faults hall from [] all i d inside = absurd (omega (arith, inside))
-worker_at told faults hall from (first ∷ workers) all zero d inside = all.1
-worker_at told faults hall from (first ∷ workers) all (suc i) d inside = worker_at told faults hall (from + 1) workers all.2 i d (omega (arith, inside))
+worker_at from [] all i d inside = absurd (omega (arith, inside))
+worker_at from (first ∷ workers) all zero d inside = all.1
+worker_at from (first ∷ workers) all (suc i) d inside = worker_at (from + 1) workers all.2 i d (omega (arith, inside))
 
 pub all_workers : {G : Type 0} (told : G → Option Content) (faults : G → ℕ) (hall : Hall) (from : ℕ) (workers : List (Worker G)) →
     AreWorkers told faults hall from workers → All (IsWorker told faults hall) workers
-all_workers told faults hall from workers all = λ i d inside. worker_at told faults hall from workers all i d inside
+all_workers told faults hall from workers all = λ i d inside. worker_at from workers all i d inside
 
 -- workers with the numbers of others
-pub same_workers : {G : Type 0} (told : G → Option Content) (faults : G → ℕ) (hall : Hall) (from : ℕ) (workers after : List (Worker G)) →
+pub same_workers : {G : Type 0} {told : G → Option Content} {faults : G → ℕ} {hall : Hall} (from : ℕ)
+    (workers after : List (Worker G)) →
     AreWorkers told faults hall from workers → length after ≡ length workers →
     ((i : ℕ) (d : Worker G) → i < length workers → (slice_index_or after i d).number ≡ (slice_index_or workers i d).number) →
     ((i : ℕ) (d : Worker G) → i < length workers → IsWorker told faults hall (slice_index_or after i d)) →
     AreWorkers told faults hall from after
-same_workers told faults hall from [] [] all long numbers each = tt
-same_workers told faults hall from [] (other ∷ after) all long numbers each = absurd (omega (arith, long))
-same_workers told faults hall from (first ∷ workers) [] all long numbers each = absurd (omega (arith, long))
-same_workers told faults hall from (first ∷ workers) (other ∷ after) all long numbers each = (
+same_workers from [] [] all long numbers each = tt
+same_workers from [] (other ∷ after) all long numbers each = absurd (omega (arith, long))
+same_workers from (first ∷ workers) [] all long numbers each = absurd (omega (arith, long))
+same_workers from (first ∷ workers) (other ∷ after) all long numbers each = (
   numbers 0 other (omega arith) ∙ all.0,
   each 0 other (omega arith),
-  same_workers told faults hall (from + 1) workers after all.2 (omega (arith, long))
+  same_workers (from + 1) workers after all.2 (omega (arith, long))
       (λ i d h. numbers (suc i) d (omega (arith, h))) (λ i d h. each (suc i) d (omega (arith, h))),
 )
 
@@ -173,11 +177,11 @@ back_push told from (first ∷ workers) worker gate all last = (
 )
 
 -- a worker more is joined
-pub join_one : {G : Type 0} (told : G → Option Content) (faults : G → ℕ) (hall : Hall) (count : ℕ) (workers : List (Worker G)) (worker : Worker G)
-    (seat seat' : Sitting) (gate gate' : Option Content) → AreJoined told hall count workers seat gate → IsWorker told faults hall worker →
+pub join_one : {G : Type 0} {told : G → Option Content} {faults : G → ℕ} {hall : Hall} {count : ℕ}
+    {workers : List (Worker G)} {worker : Worker G} {seat seat' : Sitting} {gate gate' : Option Content} → AreJoined told hall count workers seat gate → IsWorker told faults hall worker →
     worker.number ≡ length workers → length workers < count → seat' ≡ after_join seat worker.seat → gate' ≡ told_rejoined (told worker.part) gate →
     IsPrefix seat.seen seat'.seen → IsPrefix worker.seat.seen seat'.seen → AreJoined told hall count (workers ++ worker ∷ []) seat' gate'
-join_one told faults hall count workers worker seat seat' gate gate' so_far is number inside seated rejoins longer seen =
+join_one {told} {count} {workers} {worker} {seat} {seat'} {gate} so_far is number inside seated rejoins longer seen =
     let own : IfSome (told worker.part) (λ content. content.own.number ≡ length workers) = number_of (told worker.part) worker.number (length workers) is.part number in
     let one_more : length workers + 1 ≡ length (workers ++ worker ∷ []) = sym (length-append workers (worker ∷ [])) in
     record {
@@ -204,19 +208,21 @@ join_one told faults hall count workers worker seat seat' gate gate' so_far is n
     }
 
 -- every seat that was split is joined
-joined_at : {G : Type 0} (told : G → Option Content) (faults : G → ℕ) (hall : Hall) (from : ℕ) (workers : List (Worker G)) → AreWorkers told faults hall from workers →
-    (k : ℕ) → from < k → k ≤ from + length workers → IsJoined (map joined_of workers) k
-joined_at told faults hall from [] all k low high = absurd (omega (arith, low, high))
-joined_at told faults hall from (worker ∷ workers) all k low high = elim (cases_lt (from + 1) k) [
-  | inl after ↦ inr (joined_at told faults hall (from + 1) workers all.2 k after (omega (arith, high)))
+joined_at : {G : Type 0} (told : G → Option Content) (faults : G → ℕ) (hall : Hall) (from : ℕ)
+    (workers : List (Worker G)) → AreWorkers told faults hall from workers →
+    {k : ℕ} → from < k → k ≤ from + length workers → IsJoined (map joined_of workers) k
+joined_at told faults hall from [] all low high = absurd (omega (arith, low, high))
+joined_at told faults hall from (worker ∷ workers) all {k} low high = elim (cases_lt (from + 1) k) [
+  | inl after ↦ inr (joined_at told faults hall (from + 1) workers all.2 after (omega (arith, high)))
   | inr here ↦ inl (omega (arith, all.1.seat, all.0, here, low))
 ]
 
-pub all_joined : {G : Type 0} (told : G → Option Content) (faults : G → ℕ) (hall : Hall) (workers : List (Worker G)) (seat : Sitting) (gate : Option Content) →
+pub all_joined : {G : Type 0} {told : G → Option Content} {hall : Hall} {workers : List (Worker G)} {seat : Sitting}
+    {gate : Option Content} (faults : G → ℕ) →
     AreWorkers told faults hall 0 workers → AreJoined told hall (length workers) workers seat gate → AllJoined seat
-all_joined told faults hall workers seat gate all back = record {
+all_joined {told} {hall} {workers} faults all back = record {
   each = λ k low high. subst (λ (js : List Joined). IsJoined js k) (sym back.joined)
-      (joined_at told faults hall 0 workers all k low (omega (arith, high, back.splits)));
+      (joined_at told faults hall 0 workers all low (omega (arith, high, back.splits)));
 }
 
 -- how the workers ended, and their reports
@@ -256,9 +262,9 @@ found_more parts part end found none = by part.end refl
         other : PartFault ≡ NoMemory → ⊥
         other e = cc
 
-pub left_more : (parts : List PartReport) (part : PartReport) (end end' : PartEnd) (reports : List ConnReport) → AreLeft parts end reports → IsWorse end part.end end' →
+pub left_more : {parts : List PartReport} {end end' : PartEnd} {reports : List ConnReport} (part : PartReport) → AreLeft parts end reports → IsWorse end part.end end' →
     AreLeft (parts ++ part ∷ []) end' (reports ++ part.reports.items)
-left_more parts part end end' reports left worse = record {
+left_more {parts} {end} {end'} part left worse = record {
   taken = λ e. all_push (λ (p : PartReport). p.end ≡ AllTaken) parts part (left.taken (worse.taken e).0) (worse.taken e).1;
   failed = λ e. elim (worse.fault e) [
     | inl one ↦ one_before PartFault parts part (left.failed one)
@@ -291,25 +297,25 @@ abbrev terms_with : List CapStep → ℕ → ℕ → Terms
 terms_with steps limit maker = record { steps = steps; limit = limit; maker = maker }
 
 -- so has each seat of it
-seat_terms : (serving : Serving) (hall : Hall) (seat left : Sitting) (worker : ℕ) → IsStationOf serving hall → IsSameSeat seat left → left.steps ≡ hall.steps →
+seat_terms : {serving : Serving} {hall : Hall} {seat left : Sitting} (worker : ℕ) → IsStationOf serving hall → IsSameSeat seat left → left.steps ≡ hall.steps →
     left.limit ≡ hall.limit → left.number ≡ worker + 1 → terms_of seat ≡ terms_for serving worker
-seat_terms serving hall seat left worker is same steps limit number =
+seat_terms {serving} {seat} {left} worker is same steps limit number =
     ap (λ (s : List CapStep). terms_with s seat.limit seat.number) (sym same.steps ∙ steps ∙ is.steps)
     ∙ ap (λ (l : ℕ). terms_with serving.capacity l seat.number) (sym same.limit ∙ limit ∙ is.limit)
     ∙ ap (λ (n : ℕ). terms_with serving.capacity serving.journal n) (sym same.number ∙ number)
 
 -- a worker that served, as the closed journal and the gate tell of it
-one_worked : {G : Type 0} (told : G → Option Content) (faults : G → ℕ) (films : List Stored) (serving : Serving) (seed : List ℕ) (journal seen : List Entry) (gate gate' : Outlet)
-    (hall : Hall) (worker : Worker G) → IsStationOf serving hall → IsWorker told faults hall worker → HasFinished told faults films (settings_of serving) seed worker → IsPrefix worker.seat.seen seen → IsPrefix seen journal →
+one_worked : {G : Type 0} {told : G → Option Content} {faults : G → ℕ} {films : List Stored} {serving : Serving}
+    {seed : List ℕ} {journal : List Entry} {gate gate' : Outlet} {hall : Hall} {worker : Worker G} (seen : List Entry) → IsStationOf serving hall → IsWorker told faults hall worker → HasFinished told faults films (settings_of serving) seed worker → IsPrefix worker.seat.seen seen → IsPrefix seen journal →
     IfSome gate'.told (HasBack worker.number (told worker.part)) → (0 < faults worker.part → HasRisen gate.faults gate'.faults) →
     worker.seat.mine ≡ made_by worker.seat.number journal → HasWorked serving (duty films (settings_of serving) seed worker.number) journal gate gate' worker.report
-one_worked told faults films serving seed journal seen gate gate' hall worker of_words is finished front whole back counted made = record {
+one_worked {told} {faults} {seed} {journal} {worker} seen of_words is finished front whole back counted made = record {
   seat = finished.seat;
   left = worker.seat;
   part = finished.part;
   after = outlet (faults worker.part) (told worker.part);
   served = finished.served;
-  terms = seat_terms serving hall finished.seat worker.seat worker.number of_words finished.served.seat is.steps is.limit is.seat;
+  terms = seat_terms worker.number of_words finished.served.seat is.steps is.limit is.seat;
   mine = finished.mine;
   untouched = finished.untouched;
   seen = prefix_trans worker.seat.seen seen journal front whole;
@@ -318,23 +324,24 @@ one_worked told faults films serving seed journal seen gate gate' hall worker of
   counted = counted;
 }
 
-pub all_worked : {G : Type 0} (told : G → Option Content) (faults : G → ℕ) (films : List Stored) (serving : Serving) (seed : List ℕ) (journal seen : List Entry)
-    (gate gate' : Outlet) (hall : Hall) (from : ℕ) (workers : List (Worker G)) → IsStationOf serving hall → AreWorkers told faults hall from workers →
+pub all_worked : {G : Type 0} {told : G → Option Content} {faults : G → ℕ} {films : List Stored} {serving : Serving}
+    {seed : List ℕ} {hall : Hall} (journal seen : List Entry) (gate gate' : Outlet) (from : ℕ)
+    (workers : List (Worker G)) → IsStationOf serving hall → AreWorkers told faults hall from workers →
     All (HasFinished told faults films (settings_of serving) seed) workers →
     All (λ worker. IsPrefix worker.seat.seen seen) workers → IsPrefix seen journal → AreBack told gate'.told from workers →
     All (λ worker. 0 < faults worker.part → HasRisen gate.faults gate'.faults) workers → All (λ joined. joined.mine ≡ made_by joined.number journal) (map joined_of workers) →
     AllWorked films serving seed journal gate gate' from (map report_of workers)
-all_worked told faults films serving seed journal seen gate gate' hall from [] of_words all finished front whole back counted made = tt
-all_worked told faults films serving seed journal seen gate gate' hall from (worker ∷ workers) of_words all finished front whole back counted made =
+all_worked {seed} journal seen gate gate' from [] of_words all finished front whole back counted made = tt
+all_worked {told} {faults} {films} {serving} {seed} {hall} journal seen gate gate' from (worker ∷ workers) of_words all finished front whole back counted made =
     let Ends : Worker _ → Type 0 = HasFinished told faults films (settings_of serving) seed in
     let Saw : Worker _ → Type 0 = λ worker. IsPrefix worker.seat.seen seen in
     let Counts : Worker _ → Type 0 = λ worker. 0 < faults worker.part → HasRisen gate.faults gate'.faults in
     let Made : Joined → Type 0 = λ joined. joined.mine ≡ made_by joined.number journal in (
       subst (λ (n : ℕ). HasWorked serving (duty films (settings_of serving) seed n) journal gate gate' worker.report) all.0
-          (one_worked told faults films serving seed journal seen gate gate' hall worker of_words all.1 (All-head Ends worker workers finished) (All-head Saw worker workers front) whole
+          (one_worked seen of_words all.1 (All-head Ends worker workers finished) (All-head Saw worker workers front) whole
           (subst (λ (n : ℕ). IfSome gate'.told (HasBack n (told worker.part))) (sym all.0) back.0) (All-head Counts worker workers counted)
           (All-head Made (joined_of worker) (map joined_of workers) made)),
-      all_worked told faults films serving seed journal seen gate gate' hall (from + 1) workers of_words all.2 (All-tail Ends worker workers finished) (All-tail Saw worker workers front) whole back.1
+      all_worked {told = told} {faults = faults} {films = films} {serving = serving} {seed = seed} {hall = hall} journal seen gate gate' (from + 1) workers of_words all.2 (All-tail Ends worker workers finished) (All-tail Saw worker workers front) whole back.1
           (All-tail Counts worker workers counted) (All-tail Made (joined_of worker) (map joined_of workers) made),
     )
 

@@ -66,7 +66,7 @@ returns-in-Ok-check-clause-done g c =
       inl (is.0, text_of (codes "least\n") c.from_slice.result done.text c.from_slice.ensures.items is.1),
       is.2,
       λ held told.
-          least_checked held (viewer_of c.args.viewer) c.args.cert.now c.in-Ok.curves c.deref-2.result.now (read held told) (c.in-Ok-check.ensures {u = tt}).best c.from_slice.result c.from_slice.ensures.items done is,
+          least_checked (read held told) (c.in-Ok-check.ensures {u = tt}).best c.from_slice.ensures.items done is,
     ))
     c.finish.ensures.done
 
@@ -87,6 +87,6 @@ returns-clause-done g c =
       inr (c.in-Err-check.fault, (is.0, text_of (refused_line c.in-Err-check.fault) c.refusal_text.result done.text c.refusal_text.ensures is.1)),
       is.2,
       λ held told.
-          fault_checked held (viewer_of c.args.viewer) c.args.cert.now c.in-Ok.curves c.deref-2.result.now (read held told) c.in-Err-check.fault (c.in-Err-check.ensures {u = tt}).verdict c.refusal_text.result c.refusal_text.ensures done is,
+          fault_checked (read held told) (c.in-Err-check.ensures {u = tt}).verdict c.refusal_text.ensures done is,
     ))
     c.finish-in-Err-check.ensures.done

@@ -11,8 +11,8 @@ returns-in-Err-clause-trouble g c =
     (g.L.Library.files c.loop-one.library) (g.L.Library.files c.args.library.now)
     (g.L.Library.faults c.loop-one.library) (g.L.Library.faults c.load_source.new.library) (g.L.Library.faults c.args.library.now) (g.L.Library.faults c.load_source.new.library)
     c.in-Err.trouble
-    (λ name is. named_contains c.args.named.now c.loop-one.one-index c.one-item.result name c.loop-one-test.true c.one-item.is is)
-    (λ held name fault told is refused. first_named_refused held c.args.named.now c.loop-one.sources.items c.loop-one.one-index c.one-item.result name fault
+    (λ name is. named_contains c.args.named.now c.loop-one.one-index c.loop-one-test.true c.one-item.is is)
+    (λ held name fault told is refused. first_named_refused
     c.loop-one-test.true c.one-item.is c.loop-one.invariant.count (c.loop-one.invariant.held held told) is refused)
     (λ held told. c.loop-one.invariant.library.kept ∙ told)
     (omega (arith, c.loop-one.invariant.library.count)) (omega arith) ((c.in-Err.ensures {u = tt}).trouble)
@@ -22,7 +22,7 @@ loop-one-preserved g c = record {
   count = search rules;
   sources = sources_push c.loop-one.sources.items c.push.new.self.items c.in-Ok.source (search rules) ((c.in-Ok.ensures {u = tt}).source) c.loop-one.invariant.sources;
   held = λ held told.
-      held_push held c.args.named.now c.loop-one.sources.items c.push.new.self.items c.in-Ok.source c.one-item.result c.loop-one.one-index (search rules)
+      held_push c.in-Ok.source (search rules)
       c.loop-one.invariant.count c.loop-one-test.true c.one-item.is (c.loop-one.invariant.held held told)
       ((c.in-Ok.ensures {u = tt}).held held (c.loop-one.invariant.library.kept ∙ told));
   library = search rules;

@@ -8,7 +8,7 @@ pub returns-in-Plan : goal.returns-in-Plan
 returns-in-Plan g c = record {
   ran = ran_as _ _ _ _ _ ((c.in-Some.ensures {u = tt}).order) c.in-Plan.is
       c.plan_viewer-done.ensures.library c.print-in-Plan.ensures.count (omega arith)
-      (printed _ _ (plan_of (viewer_of c.in-Plan.viewer)) c.plan_viewer-done.result c.print-in-Plan.result refl c.print-in-Plan.ensures.nothing
+      (printed c.plan_viewer-done.result refl c.print-in-Plan.ensures.nothing
       c.plan_viewer-done.ensures.done c.plan_viewer-done.ensures.trouble c.print-in-Plan.ensures.printed);
 }
 
@@ -16,7 +16,7 @@ pub returns-in-Check : goal.returns-in-Check
 returns-in-Check g c = record {
   ran = ran_as _ _ _ _ _ ((c.in-Some.ensures {u = tt}).order) c.in-Check.is
       c.check_viewer-done.ensures.library c.print-in-Check.ensures.count (omega arith)
-      (printed _ _ (check_of (viewer_of c.in-Check.viewer) c.in-Check.cert.now) c.check_viewer-done.result c.print-in-Check.result refl
+      (printed c.check_viewer-done.result refl
       c.print-in-Check.ensures.nothing c.check_viewer-done.ensures.done c.check_viewer-done.ensures.trouble c.print-in-Check.ensures.printed);
 }
 
@@ -24,7 +24,7 @@ pub returns-in-Make : goal.returns-in-Make
 returns-in-Make g c = record {
   ran = ran_as _ _ _ _ _ ((c.in-Some.ensures {u = tt}).order) c.in-Make.is
       (record { kept = refl; count = omega arith }) c.print-in-Make.ensures.count (omega arith)
-      (printed _ _ (make_of (made_of c.in-Make.kind) c.in-Make.seed c.in-Make.pictures) c.finish-in-Make.result c.print-in-Make.result refl
+      (printed c.finish-in-Make.result refl
       c.print-in-Make.ensures.nothing
       (made_done None (made_of c.in-Make.kind) c.in-Make.seed c.in-Make.pictures c.make.result c.make.ensures c.finish-in-Make.result c.finish-in-Make.ensures.done)
       (no_memory _ _ _ (make_of (made_of c.in-Make.kind) c.in-Make.seed c.in-Make.pictures) c.finish-in-Make.result c.finish-in-Make.ensures.trouble)
@@ -35,7 +35,7 @@ pub returns-in-Scan : goal.returns-in-Scan
 returns-in-Scan g c = record {
   ran = ran_as _ _ _ _ _ ((c.in-Some.ensures {u = tt}).order) c.in-Scan.is
       c.print_scan-done.ensures.library c.print-in-Scan.ensures.count (omega arith)
-      (printed _ _ (scan_of c.in-Scan.film.now) c.print_scan-done.result c.print-in-Scan.result refl c.print-in-Scan.ensures.nothing
+      (printed c.print_scan-done.result refl c.print-in-Scan.ensures.nothing
       c.print_scan-done.ensures.done c.print_scan-done.ensures.trouble c.print-in-Scan.ensures.printed);
 }
 
@@ -43,7 +43,7 @@ pub returns-in-Help : goal.returns-in-Help
 returns-in-Help g c = record {
   ran = ran_as _ _ _ _ _ ((c.in-Some.ensures {u = tt}).order) c.in-Help.is
       (record { kept = refl; count = omega arith }) c.print.ensures.count (omega arith)
-      (printed _ _ help c.finish.result c.print.result refl c.print.ensures.nothing
+      (printed c.finish.result refl c.print.ensures.nothing
       (help_done None c.help.result c.help.ensures c.finish.result c.finish.ensures.done)
       (no_memory _ _ _ help c.finish.result c.finish.ensures.trouble) c.print.ensures.printed);
 }
@@ -52,7 +52,7 @@ pub returns-in-Version : goal.returns-in-Version
 returns-in-Version g c = record {
   ran = ran_as _ _ _ _ _ ((c.in-Some.ensures {u = tt}).order) c.in-Version.is
       (record { kept = refl; count = omega arith }) c.print-in-Version.ensures.count (omega arith)
-      (printed _ _ version c.finish-in-Version.result c.print-in-Version.result refl c.print-in-Version.ensures.nothing
+      (printed c.finish-in-Version.result refl c.print-in-Version.ensures.nothing
       (version_done None c.version.result c.version.ensures c.finish-in-Version.result c.finish-in-Version.ensures.done)
       (no_memory _ _ _ version c.finish-in-Version.result c.finish-in-Version.ensures.trouble) c.print-in-Version.ensures.printed);
 }

@@ -26,7 +26,7 @@ returns-in-Ok-run_server-clause-serves g c =
     subst (λ (rs : List ConnReport).
     HaveWorked c.in-Ok.prepared.films.items c.args.seed serving c.end_server.result.journal.items before after c.in-Ok-run_server.closed.end rs) (sym c.end_server.ensures.reports)
     (subst (λ (es : List Entry). HaveWorked c.in-Ok.prepared.films.items c.args.seed serving es before after c.in-Ok-run_server.closed.end reports) (sym c.end_server.ensures.journal)
-    (have_worked_since c.in-Ok.prepared.films.items c.args.seed serving entries before opened after c.in-Ok-run_server.closed.end reports
+    (have_worked_since
     ((c.in-Ok-run_server.ensures {u = tt}).worked) c.prepare.ensures.count)) in
     let out : Seen (List ℕ) = sight_of g.O.Sink.faults g.O.Sink.written c.args.out.now in
     let out' : Seen (List ℕ) = sight_of g.O.Sink.faults g.O.Sink.written c.end_server.new.out in
@@ -38,7 +38,7 @@ returns-in-Ok-run_server-clause-serves g c =
       journal = subst (λ (es : List Entry). IsJournal serving es) (sym c.end_server.ensures.journal) ((c.in-Ok-run_server.ensures {u = tt}).closed);
       end = c.in-Ok-run_server.closed.end;
       worked = worked;
-      fault = fault_risen c.in-Ok.prepared.films.items c.args.seed serving c.end_server.result.journal.items before after c.in-Ok-run_server.closed.end
-          c.end_server.result.reports.items worked;
+      fault = fault_risen
+          worked;
       ends = subst (λ (text : List ℕ). Ends out out' err err' text c.in-Ok-run_server.closed.end c.end_server.result) same c.end_server.ensures.ends;
     })

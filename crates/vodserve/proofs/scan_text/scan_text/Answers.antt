@@ -5,5 +5,5 @@ use Rattle.vodserve.proofs.scan_text.scan_text.Goals as goal
 
 pub loop-number-preserved : goal.loop-number-preserved
 loop-number-preserved c =
-    text-more (film_line c.args.bytes c.args.rate (length c.args.units.now)) c.loop-number.text.items c.push_unit.new.text.items c.args.units.now c.loop-number.number
+    text-more (film_line c.args.bytes c.args.rate (length c.args.units.now)) c.args.units.now c.loop-number.number
     _ c.loop-number-test.true c.loop-number.invariant c.in_ok-push_unit.ensures

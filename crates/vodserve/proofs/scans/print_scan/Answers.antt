@@ -22,6 +22,6 @@ returns-clause-done g c =
       λ held told.
           let holds : HoldsFilm held c.args.film.now c.in-Ok.scanned.bytes c.in-Ok.scanned.rate c.deref.result.now =
           rw c.deref.ensures.value ((c.in-Ok.ensures {u = tt}).film held told) in
-          film_done held c.args.film.now c.in-Ok.scanned.bytes c.in-Ok.scanned.rate c.deref.result.now holds c.scan_text.result c.scan_text.ensures done is.1,
+          film_done holds c.scan_text.ensures done is.1,
     ))
     c.finish.ensures.done

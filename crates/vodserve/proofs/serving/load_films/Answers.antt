@@ -20,10 +20,10 @@ returns-in-Err-clause-trouble g c =
     (g.L.Library.files c.loop-word.library) (g.L.Library.files c.args.library.now)
     (g.L.Library.faults c.loop-word.library) (g.L.Library.faults c.add_film.new.library) (g.L.Library.faults c.args.library.now) (g.L.Library.faults c.add_film.new.library)
     c.in-Err.trouble
-    (λ name named. word_film c.args.words.now c.loop-word.word-index c.word-item.result (names_of c.loop-word.films.items) name c.loop-word-test.true c.word-item.is
+    (λ name named. word_film c.args.words.now c.loop-word.word-index (names_of c.loop-word.films.items) name c.loop-word-test.true c.word-item.is
     c.loop-word.invariant.names (rw c.as_str.ensures.value at named))
-    (λ held name fault told named refused. first_refused (g.L.Library.files c.args.library.now) held c.args.words.now c.loop-word.word-index c.word-item.result
-    c.loop-word.films.items name fault c.loop-word-test.true c.word-item.is c.loop-word.invariant.names (rw c.as_str.ensures.value at named) told
+    (λ held name fault told named refused. first_refused c.args.words.now c.loop-word.word-index
+    c.loop-word.films.items c.loop-word-test.true c.word-item.is c.loop-word.invariant.names (rw c.as_str.ensures.value at named) told
     c.loop-word.invariant.held refused)
     (λ held told. c.loop-word.invariant.library.kept ∙ told)
     (omega (arith, c.loop-word.invariant.library.count)) (omega arith) ((c.in-Err.ensures {u = tt}).trouble)

@@ -19,13 +19,13 @@ run_workers-requires-clause-each g c κs within =
 
 pub close-book-requires-clause-all : goal.close-book-requires-clause-all
 close-book-requires-clause-all g c =
-    all_joined g.G.Gate.told g.G.Gate.faults c.args.prepared.station c.run_workers.new.workers.items c.join_workers-end.new.seat
-    (g.G.Gate.told c.join_workers-end.new.gate) c.run_workers.ensures.workers c.join_workers-end.ensures.joined
+    all_joined g.G.Gate.faults
+    c.run_workers.ensures.workers c.join_workers-end.ensures.joined
 
 pub returns-clause-closed : goal.returns-clause-closed
 returns-clause-closed g c =
-    closed_journal g.G.Gate.told (serving_of c.args.serving.now) c.args.prepared.station c.run_workers.new.workers.items c.join_workers-end.new.seat
-    (g.G.Gate.told c.join_workers-end.new.gate) c.close-book.result.entries c.join_workers-end.ensures.joined c.close-book.ensures.whole c.requires.steps
+    closed_journal
+    c.join_workers-end.ensures.joined c.close-book.ensures.whole c.requires.steps
     (c.run_workers.ensures.count ∙ (c.in-Ok.ensures {u = tt}).made)
 
 pub returns-clause-worked : goal.returns-clause-worked
@@ -33,9 +33,7 @@ returns-clause-worked g c =
     let serving : Serving = serving_of c.args.serving.now in
     let before : ℕ = g.G.Gate.faults c.args.gate.now in
     let after : ℕ = g.G.Gate.faults c.join_workers-end.new.gate in
-    have_worked g.G.Gate.told g.G.Gate.faults c.args.prepared.films.items c.args.seed serving c.args.prepared.station c.run_workers.new.workers.items
-    c.join_workers-end.new.seat c.close-book.result.entries (outlet before (g.G.Gate.told c.args.gate.now))
-    (outlet after (g.G.Gate.told c.join_workers-end.new.gate)) c.join_workers-end.result c.join_workers-end.new.reports.items
+    have_worked
     c.run_workers.ensures.workers
     (subst (λ (films : List Stored). All (HasFinished g.G.Gate.told g.G.Gate.faults films (settings_of serving) c.args.seed) c.run_workers.new.workers.items)
     c.as_slice.ensures.value c.run_workers.ensures.finished)

@@ -12,5 +12,5 @@ returns-in-Ok c =
     c.append.ensures.items in
     record {
       left = λ parts left. subst (λ (rs : List ConnReport). AreLeft (parts ++ c.args.report ∷ []) c.worse.result rs) (sym items)
-          (left_more parts c.args.report c.args.end c.worse.result c.args.reports.now.items left c.worse.ensures);
+          (left_more c.args.report left c.worse.ensures);
     }

@@ -50,7 +50,7 @@ loop-workers-preserved g c =
     let worker : Worker _ = c.remove-other.result in
     let some : 0 < length rest = omega (arith, c.remove-other.ensures.len, c.loop-workers.workers.ok) in
     let first : (worker.number ≡ length done) × IsWorker g.G.Gate.told g.G.Gate.faults c.args.station.now worker =
-    first_worker g.G.Gate.told g.G.Gate.faults c.args.station.now (length done) rest worker inv.rest some c.remove-other.ensures.value in
+    first_worker rest inv.rest some c.remove-other.ensures.value in
     let one_more : length done + 1 ≡ length (done ++ worker ∷ []) = sym (length-append done (worker ∷ [])) in
     let inside : length done < length c.args.workers.items = omega (arith, ap length inv.whole, length-append done rest, some) in (
       done ++ worker ∷ [],
@@ -60,8 +60,8 @@ loop-workers-preserved g c =
         rest = subst (λ (ws : List (Worker _)). AreWorkers g.G.Gate.told g.G.Gate.faults c.args.station.now (length (done ++ worker ∷ [])) ws) (sym c.remove-other.ensures.items)
             (subst (λ (n : ℕ). AreWorkers g.G.Gate.told g.G.Gate.faults c.args.station.now n (remove rest 0)) one_more
             (rest_workers g.G.Gate.told g.G.Gate.faults c.args.station.now (length done) rest inv.rest some));
-        joined = join_one g.G.Gate.told g.G.Gate.faults c.args.station.now (length c.args.workers.items) done worker c.loop-workers.seat c.join.new.seat
-            (g.G.Gate.told c.loop-workers.gate) (g.G.Gate.told c.rejoin.new.self) inv.joined first.1 first.0 inside c.join.ensures.same c.rejoin.ensures.joined
+        joined = join_one
+            inv.joined first.1 first.0 inside c.join.ensures.same c.rejoin.ensures.joined
             c.join.ensures.longer c.join.ensures.told;
         left = subst (λ (ps : List PartReport). AreLeft ps c.add_reports-end.result c.add_reports-end.new.reports.items) (sym (map-append report_of done (worker ∷ [])))
             (c.add_reports-end.ensures.left (map report_of done) inv.left);

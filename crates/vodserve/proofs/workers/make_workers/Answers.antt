@@ -36,7 +36,7 @@ loop-number-preserved g c =
       made = omega (arith, ap length items, length-append c.loop-number.workers.items (worker ∷ []), c.loop-number.invariant.made);
       seat = c.split-in-loop-number.ensures.same ∙ ap after_split c.loop-number.invariant.seat;
       workers = subst (AreWorkers g.G.Gate.told g.G.Gate.faults c.args.station.now 0) (sym items)
-          (workers_push g.G.Gate.told g.G.Gate.faults c.args.station.now 0 c.loop-number.workers.items worker c.loop-number.invariant.workers
+          (workers_push 0 c.loop-number.workers.items c.loop-number.invariant.workers
           (omega (arith, c.loop-number.invariant.made)) is);
       fresh = subst (All (IsFresh g.G.Gate.told g.G.Gate.faults)) (sym items)
           (all_push (IsFresh g.G.Gate.told g.G.Gate.faults) c.loop-number.workers.items worker c.loop-number.invariant.fresh fresh);
