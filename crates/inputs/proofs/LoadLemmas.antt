@@ -19,8 +19,8 @@ use Rattle.inputs.proofs.ReadLemmas.{first_front}
 use Rattle.inputs.proofs.Tokens.{slice_from}
 
 -- a file whose size was found has too many bytes
-pub size_above : (held : List File) (name : List ℕ) (size most : ℕ) (over : Fault) → Some size ≡ option_map length (file_named held name) → most < size → IsRefusedAbove most over held name over
-size_above held name size most over found long =
+pub size_above : {size : ℕ} (held : List File) (name : List ℕ) (most : ℕ) (over : Fault) → Some size ≡ option_map length (file_named held name) → most < size → IsRefusedAbove most over held name over
+size_above {size} held name most over found long =
     let file : IsFront held name size [] = first_front held name size found in
     inr (file.whole, (file.found, inl (omega (arith, file.sized, long), refl)))
 
@@ -33,9 +33,9 @@ pub stream_is : (file video : List ℕ) (from : ℕ) → pack_in file ≡ Some f
 stream_is file video from pack system =
     subst (λ (o : Option ℕ). IsVideoFrom o file video) (sym pack) (subst (λ (l : List ℕ). IsSystem l video) (slice_from file from) system)
 
-pub fault_is : (file : List ℕ) (from : ℕ) (own fault : SystemFault) → pack_in file ≡ Some from → from ≤ length file → length file ≤ 2 ^ 40 → IsRefused (take (length file - from) (drop from file)) own →
+pub fault_is : {from : ℕ} {own fault : SystemFault} (file : List ℕ) → pack_in file ≡ Some from → from ≤ length file → length file ≤ 2 ^ 40 → IsRefused (take (length file - from) (drop from file)) own →
     ((bytes : List ℕ) → IsRefused bytes own → from + length bytes ≤ 2 ^ 40 → fault ≡ fault_from from own) → IsStreamFault file fault
-fault_is file from own fault pack within short refused moves =
+fault_is {from} {own} {fault} file pack within short refused moves =
     let stream : IsRefused (drop from file) own = subst (λ (l : List ℕ). IsRefused l own) (slice_from file from) refused in
     let its : IsStreamFaultFrom (Some from) file fault = (own, (stream, moves (drop from file) stream (omega (arith, length-drop from file, within, short)))) in
     subst (λ (o : Option ℕ). IsStreamFaultFrom o file fault) (sym pack) its
@@ -52,17 +52,18 @@ video_trouble name file video GateFault is h = h
 video_trouble name file video LinkFault is h = h
 
 -- what the bytes of a file come to is what the file comes to
-pub bytes_trouble : (most : ℕ) (over : Fault) (told : Option (List File)) (faults faults' : ℕ) (name file : List ℕ) (t : Trouble) → IsBytesTrouble name file t →
+pub bytes_trouble : {told : Option (List File)} {file : List ℕ} (most : ℕ) (over : Fault) (faults faults' : ℕ)
+    (name : List ℕ) (t : Trouble) → IsBytesTrouble name file t →
     ((held : List File) → told ≡ Some held → file_named held name ≡ Some file) → length file ≤ most → IsReadTrouble (IsNamed name) (IsRefusedAbove most over) told faults faults' t
-bytes_trouble most over told faults faults' name file Usage h found short = h
-bytes_trouble most over told faults faults' name file (Refused other fault) h found short =
+bytes_trouble most over faults faults' name Usage h found short = h
+bytes_trouble {file} most over faults faults' name (Refused other fault) h found short =
     (h.0, λ held is. subst (λ (n : List ℕ). IsRefusedAbove most over held n fault) (sym h.0) (inr (file, (found held is, inr (short, h.1)))))
-bytes_trouble most over told faults faults' name file (StoreFault other) h found short = absurd h
-bytes_trouble most over told faults faults' name file SinkFault h found short = h
-bytes_trouble most over told faults faults' name file NoMemory h found short = tt
-bytes_trouble most over told faults faults' name file GateFault h found short = h
-bytes_trouble most over told faults faults' name file LinkFault h found short = h
+bytes_trouble most over faults faults' name (StoreFault other) h found short = absurd h
+bytes_trouble most over faults faults' name SinkFault h found short = h
+bytes_trouble most over faults faults' name NoMemory h found short = tt
+bytes_trouble most over faults faults' name GateFault h found short = h
+bytes_trouble most over faults faults' name LinkFault h found short = h
 
-pub film_loaded : (held : List File) (name file video : List ℕ) → file_named held name ≡ Some file → length file ≤ 2 ^ 40 → IsVideo file video → refusal video ≡ None → HoldsVideo held name video
-film_loaded held name file video found short is accepted =
+pub film_loaded : {held : List File} {name file video : List ℕ} → file_named held name ≡ Some file → length file ≤ 2 ^ 40 → IsVideo file video → refusal video ≡ None → HoldsVideo held name video
+film_loaded {name} {file} found short is accepted =
     record { file = file; found = found; short = omega (arith, short); is_video = is; accepted = accepted }

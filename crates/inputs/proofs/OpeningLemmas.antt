@@ -24,9 +24,9 @@ unfolding latest_prefix
 open_none = record { none = codes-none; prefix_is = refl }
 
 -- a byte that isn't the kind of a code
-pub open_more : (prefix next : Prefix) (seen : List ℕ) (byte : ℕ) → IsOpen prefix seen → is_whole (prefix_of prefix) ≡ false →
+pub open_more : {prefix next : Prefix} {seen : List ℕ} (byte : ℕ) → IsOpen prefix seen → is_whole (prefix_of prefix) ≡ false →
     prefix_of next ≡ next_prefix (prefix_of prefix) byte → IsOpen next (seen ++ byte ∷ [])
-open_more prefix next seen byte so_far part is =
+open_more {next} {seen} byte so_far part is =
     let joined : read [] (seen ++ byte ∷ []) ≡ byte ∷ read [] seen = read-append [] seen (byte ∷ []) in
     let plain : is_whole (latest_prefix (read [] seen)) ≡ false = ap is_whole (sym so_far.prefix_is) ∙ part in
     record {
@@ -82,9 +82,9 @@ first_code prefix seen byte so_far whole =
     }
 
 -- whatever follows it
-pub first_found : (prefix : Prefix) (seen : List ℕ) (byte : ℕ) (pack : Option ℕ) (more : List ℕ) → IsOpen prefix seen → prefix ≡ Whole →
+pub first_found : {prefix : Prefix} {seen : List ℕ} {pack : Option ℕ} (byte : ℕ) (more : List ℕ) → IsOpen prefix seen → prefix ≡ Whole →
     cond (eqb byte 0xba) (Some (length seen - 3)) None ≡ pack → pack_in ((seen ++ byte ∷ []) ++ more) ≡ pack
-first_found prefix seen byte pack more so_far whole is =
+first_found {prefix} {seen} byte more so_far whole is =
     let joined : read [] ((seen ++ byte ∷ []) ++ more) ≡ read (byte ∷ read [] seen) more =
     read-append [] (seen ++ byte ∷ []) more ∙ ap (λ (r : List ℕ). read r more) (read-append [] seen (byte ∷ [])) in
     ap (λ (r : List ℕ). pack_of (codes_of r)) joined
@@ -112,9 +112,10 @@ pub record HasLooked (held : List File) (name : List ℕ) (size place : ℕ) (pr
 pub none_looked : (held : List File) (name : List ℕ) (size : ℕ) → Some size ≡ option_map length (file_named held name) → HasLooked held name size 0 Nothing
 none_looked held name size found = record { bytes = []; front = first_front held name size found; long = refl; unfound = open_none }
 
-pub more_looked : (held : List File) (name : List ℕ) (size place : ℕ) (prefix next : Prefix) (piece : List ℕ) (count : ℕ) → (so_far : HasLooked held name size place prefix) →
+pub more_looked : {held : List File} {name : List ℕ} {size place : ℕ} {prefix next : Prefix} (piece : List ℕ)
+    (count : ℕ) → (so_far : HasLooked held name size place prefix) →
     IsFront held name size (so_far.bytes ++ take count piece) → count ≤ length piece → IsOpen next (so_far.bytes ++ take count piece) → HasLooked held name size (place + count) next
-more_looked held name size place prefix next piece count so_far front within unfound = record {
+more_looked {name} {place} {next} piece count so_far front within unfound = record {
   bytes = so_far.bytes ++ take count piece;
   front = front;
   long = omega (arith, length-append so_far.bytes (take count piece), so_far.long, length-take-le count piece within);
@@ -122,9 +123,9 @@ more_looked held name size place prefix next piece count so_far front within unf
 }
 
 -- the first code was found, or none stands in the whole file
-pub found_opened : (held : List File) (name : List ℕ) (size : ℕ) (bytes : List ℕ) (pack : Option ℕ) → (front : IsFront held name size bytes) →
+pub found_opened : {held : List File} {name : List ℕ} {size : ℕ} {bytes : List ℕ} {pack : Option ℕ} → (front : IsFront held name size bytes) →
     ((more : List ℕ) → pack_in (bytes ++ more) ≡ pack) → IfSome pack (λ place. place ≤ size) → IsOpened held name size pack
-found_opened held name size bytes pack front is within = record {
+found_opened {held} {name} {size} {bytes} {pack} front is within = record {
   file = front.whole;
   found = front.found;
   sized = front.sized;
@@ -132,8 +133,8 @@ found_opened held name size bytes pack front is within = record {
   within = within;
 }
 
-pub whole_looked : (held : List File) (name : List ℕ) (size place : ℕ) (prefix : Prefix) → HasLooked held name size place prefix → size ≤ place → IsOpened held name size None
-whole_looked held name size place prefix so_far end =
+pub whole_looked : {held : List File} {name : List ℕ} {size place : ℕ} {prefix : Prefix} → HasLooked held name size place prefix → size ≤ place → IsOpened held name size None
+whole_looked {held} {name} {size} {place} {prefix} so_far end =
     let found : file_named held name ≡ Some so_far.bytes = whole_front held name size so_far.bytes so_far.front (omega (arith, so_far.long, end)) in
     let same : so_far.bytes ≡ so_far.front.whole = one_file held name so_far.bytes so_far.front.whole found so_far.front.found in
     record {
@@ -145,20 +146,20 @@ whole_looked held name size place prefix so_far end =
     }
 
 -- one byte of a piece more
-pub open_step : (prefix next : Prefix) (seen piece : List ℕ) (index : ℕ) → index < length piece → IsOpen prefix (seen ++ take index piece) → is_whole (prefix_of prefix) ≡ false →
+pub open_step : {prefix next : Prefix} (seen piece : List ℕ) (index : ℕ) → index < length piece → IsOpen prefix (seen ++ take index piece) → is_whole (prefix_of prefix) ≡ false →
     prefix_of next ≡ next_prefix (prefix_of prefix) (get_or piece index 0) → IsOpen next (seen ++ take (index + 1) piece)
-open_step prefix next seen piece index inside so_far part is =
+open_step {next} seen piece index inside so_far part is =
     let joined : (seen ++ take index piece) ++ get_or piece index 0 ∷ [] ≡ seen ++ take (index + 1) piece =
     append_assoc seen (take index piece) (get_or piece index 0 ∷ []) ∙ ap (λ (l : List ℕ). seen ++ l) (sym (take_more piece index 0 inside)) in
-    subst (IsOpen next) joined (open_more prefix next (seen ++ take index piece) (get_or piece index 0) so_far part is)
+    subst (IsOpen next) joined (open_more (get_or piece index 0) so_far part is)
 
 -- the first code of a piece is found
-pub found_step : (prefix : Prefix) (seen piece : List ℕ) (index at : ℕ) (pack : Option ℕ) → index < length piece → length seen ≡ at → IsOpen prefix (seen ++ take index piece) → prefix ≡ Whole →
+pub found_step : {prefix : Prefix} {at : ℕ} {pack : Option ℕ} (seen piece : List ℕ) (index : ℕ) → index < length piece → length seen ≡ at → IsOpen prefix (seen ++ take index piece) → prefix ≡ Whole →
     cond (eqb (get_or piece index 0) 0xba) (Some (at + index - 3)) None ≡ pack → (more : List ℕ) → pack_in ((seen ++ piece) ++ more) ≡ pack
-found_step prefix seen piece index at pack inside long so_far whole is more =
+found_step {at} seen piece index inside long so_far whole is more =
     let place : length (seen ++ take index piece) ≡ at + index = omega (arith, length-append seen (take index piece), long, length-take-le index piece (omega (arith, inside))) in
     ap pack_in (at_byte seen piece more index inside)
-    ∙ first_found prefix (seen ++ take index piece) (get_or piece index 0) pack (drop (index + 1) piece ++ more) so_far whole
+    ∙ first_found (get_or piece index 0) (drop (index + 1) piece ++ more) so_far whole
     (ap (λ n. cond (eqb (get_or piece index 0) 0xba) (Some (n - 3)) None) place ∙ is)
 
 pub not_whole : (prefix : Prefix) → (prefix ≡ Whole → ⊥) → is_whole (prefix_of prefix) ≡ false

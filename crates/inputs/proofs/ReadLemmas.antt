@@ -26,9 +26,9 @@ named : (held : List File) (name b : List ℕ) → file_named held name ≡ Some
 named held name b e = ap (λ (o : Option (List ℕ)). unwrap_or o []) e
 
 -- what a read of n bytes gives, of which k are taken
-pub more_front : (held : List File) (name : List ℕ) (size : ℕ) (bytes piece : List ℕ) (n k : ℕ) → IsFront held name size bytes →
+pub more_front : {held : List File} {name : List ℕ} {size : ℕ} {bytes piece : List ℕ} {n : ℕ} (k : ℕ) → IsFront held name size bytes →
     IsRead (bytes_named held name) (length bytes) n piece → k ≤ n → IsFront held name size (bytes ++ take k piece)
-more_front held name size bytes piece n k so_far read fits =
+more_front {held} {name} {bytes} {piece} {n} k so_far read fits =
     let whole : bytes_named held name ≡ so_far.whole = named held name so_far.whole so_far.found in
     let there : take n piece ≡ take n (drop (length bytes) so_far.whole) = read.front ∙ ap (λ (b : List ℕ). take n (drop (length bytes) b)) whole in
     let shorter : take k piece ≡ take k (drop (length bytes) so_far.whole) =
@@ -50,18 +50,18 @@ whole_front held name size bytes so_far long =
     so_far.found ∙ ap (λ (b : List ℕ). Some b) (sym (so_far.front ∙ take_all (length bytes) so_far.whole (omega (arith, so_far.sized, long))))
 
 -- an empty read stands at the end
-pub read_some : (held : List File) (name : List ℕ) (size : ℕ) (bytes piece : List ℕ) (n : ℕ) → IsFront held name size bytes →
+pub read_some : {held : List File} {name : List ℕ} {size : ℕ} {bytes piece : List ℕ} {n : ℕ} → IsFront held name size bytes →
     IsRead (bytes_named held name) (length bytes) n piece → 0 < length piece → length bytes < size → 0 < n
-read_some held name size bytes piece n so_far read some before =
+read_some {held} {name} {piece} so_far read some before =
     let whole : bytes_named held name ≡ so_far.whole = named held name so_far.whole so_far.found in
     read.some some (omega (arith, so_far.sized, before, ap length whole))
 
 -- each read comes nearer the size, or is the last
-pub measure_falls : (size len len' : ℕ) (more more' : Bool) → more ≡ true → len < size → len ≤ len' → (more' ≡ true → len < len') →
+pub measure_falls : {more more' : Bool} (size len len' : ℕ) → more ≡ true → len < size → len ≤ len' → (more' ≡ true → len < len') →
     size - len' + (if more' then 1 else 0) < size - len + (if more then 1 else 0)
-measure_falls size len len' false more' h before longer grows = let e : size ≡ len = cc in omega (arith, e, before)
-measure_falls size len len' true false h before longer grows = omega (arith, before, longer)
-measure_falls size len len' true true h before longer grows = omega (arith, before, grows refl)
+measure_falls {more = false} size len len' h before longer grows = let e : size ≡ len = cc in omega (arith, e, before)
+measure_falls {more = true} {more' = false} size len len' h before longer grows = omega (arith, before, longer)
+measure_falls {more = true} {more' = true} size len len' h before longer grows = omega (arith, before, grows refl)
 
 pub one_file : (held : List File) (name a b : List ℕ) → file_named held name ≡ Some a → file_named held name ≡ Some b → a ≡ b
 one_file held name a b p q = let e : Some a ≡ Some b = sym p ∙ q in cc

@@ -42,38 +42,40 @@ plain_video held name size whole opened found =
     let pack : pack_in whole ≡ None = ap pack_in (one_file held name whole opened.file found opened.found) ∙ opened.pack in
     subst (λ (o : Option ℕ). IsVideoFrom o whole whole) (sym pack) refl
 
-plain_refused : (held : List File) (name : List ℕ) (size : ℕ) (whole : List ℕ) (fault : FilmFault) → IsOpened held name size None → file_named held name ≡ Some whole →
+plain_refused : {held : List File} {name : List ℕ} {size : ℕ} {whole : List ℕ} {fault : FilmFault} → IsOpened held name size None → file_named held name ≡ Some whole →
     length whole ≤ 2 ^ 40 → refusal whole ≡ Some fault → IsFilmRefused held name (Film fault)
-plain_refused held name size whole fault opened found short refused =
+plain_refused {held} {name} {size} {whole} opened found short refused =
     inr (whole, (found, inr (short, (whole, (plain_video held name size whole opened found, refused)))))
 
 -- a piece more
-pub more_told : (Heard Heard' : List Call → Type 0) (scanner scanner' : Scanner) (video more : List ℕ) → HasTold Heard scanner video →
+pub more_told : {Heard Heard' : List Call → Type 0} {scanner scanner' : Scanner} {video : List ℕ} (more : List ℕ) → HasTold Heard scanner video →
     ((r : List ℕ) → HasScannedBytes scanner r → HasScannedBytes scanner' (read r more)) →
     ((r : List ℕ) (calls : List Call) → HasScannedBytes scanner r → Heard (calls ++ calls_of (codes_of r)) → Heard' (calls ++ calls_of (codes_of (read r more)))) →
     HasTold Heard' scanner' (video ++ more)
-more_told Heard Heard' scanner scanner' video more so_far kept tells =
+more_told {Heard} {Heard'} {scanner'} {video} more so_far kept tells =
     let joined : read [] (video ++ more) ≡ read (read [] video) more = read-append [] video more in
     record {
       fed = subst (λ (r : List ℕ). HasScannedBytes scanner' r) (sym joined) (kept (read [] video) so_far.fed);
       heard = subst (λ (r : List ℕ). Heard' (calls_of (codes_of r))) (sym joined) (tells (read [] video) [] so_far.fed so_far.heard);
     }
 
-pub more_scanned : (Heard Heard' : List Call → Type 0) (told' : Option (List File)) (name : List ℕ) (size place : ℕ) (scanner scanner' : Scanner) (piece : List ℕ) (count : ℕ) →
+pub more_scanned : {Heard Heard' : List Call → Type 0} {told' : Option (List File)} {name : List ℕ} {size place : ℕ}
+    {scanner scanner' : Scanner} (piece : List ℕ) (count : ℕ) →
     (so_far : HasScanned Heard told' name size place scanner) → ((held : List File) → told' ≡ Some held → IsFront held name size (so_far.bytes ++ take count piece)) → count ≤ length piece →
     ((r : List ℕ) → HasScannedBytes scanner r → HasScannedBytes scanner' (read r (take count piece))) →
     ((r : List ℕ) (calls : List Call) → HasScannedBytes scanner r → Heard (calls ++ calls_of (codes_of r)) → Heard' (calls ++ calls_of (codes_of (read r (take count piece))))) →
     HasScanned Heard' told' name size (place + count) scanner'
-more_scanned Heard Heard' told' name size place scanner scanner' piece count so_far front within kept tells = record {
+more_scanned {Heard} {Heard'} {name} {place} piece count so_far front within kept tells = record {
   bytes = so_far.bytes ++ take count piece;
   long = omega (arith, length-append so_far.bytes (take count piece), so_far.long, length-take-le count piece within);
-  scanned = more_told Heard Heard' scanner scanner' so_far.bytes (take count piece) so_far.scanned kept tells;
+  scanned = more_told (take count piece) so_far.scanned kept tells;
   front = front;
 }
 
 -- a scanner was fed as many bytes as were read
-pub scanned_fed : (Heard : List Call → Type 0) (told' : Option (List File)) (name : List ℕ) (size place : ℕ) (scanner : Scanner) → HasScanned Heard told' name size place scanner → bytes_fed scanner ≤ place
-scanned_fed Heard told' name size place scanner so_far = omega (arith, so_far.scanned.fed.progress.fed, length-read so_far.bytes [], so_far.long)
+pub scanned_fed : {Heard : List Call → Type 0} {told' : Option (List File)} {name : List ℕ} {size place : ℕ}
+    {scanner : Scanner} → HasScanned Heard told' name size place scanner → bytes_fed scanner ≤ place
+scanned_fed {Heard} {name} {place} so_far = omega (arith, so_far.scanned.fed.progress.fed, length-read so_far.bytes [], so_far.long)
 
 -- what is refused at a code of a front of the bytes is refused
 pub front_refused : (front rest : List ℕ) (fault : FilmFault) → length (front ++ rest) ≤ 2 ^ 40 → first_fault (codes_of (read [] front)) ≡ Some fault →
@@ -81,25 +83,27 @@ pub front_refused : (front rest : List ℕ) (fault : FilmFault) → length (fron
 front_refused front rest fault short is =
     refusal-at_code (front ++ rest) fault short (ap (λ (r : List ℕ). first_fault (codes_of r)) (read-append [] front rest) ∙ fault-stays rest (read [] front) fault is)
 
-pub piece_refused : (Heard : List Call → Type 0) (held : List File) (name : List ℕ) (size : ℕ) (scanner : Scanner) (bytes piece : List ℕ) (fault : FilmFault) →
+pub piece_refused : {Heard : List Call → Type 0} {held : List File} {name : List ℕ} {size : ℕ} {scanner : Scanner}
+    {bytes : List ℕ} {fault : FilmFault} (piece : List ℕ) →
     HasTold Heard scanner bytes → IsOpened held name size None → IsFront held name size (bytes ++ piece) → size ≤ 2 ^ 40 →
     ((r : List ℕ) → HasScannedBytes scanner r → first_fault (codes_of (read r piece)) ≡ Some fault) → IsFilmRefused held name (Film fault)
-piece_refused Heard held name size scanner bytes piece fault so_far opened front short is =
+piece_refused {Heard} {held} {name} {size} {bytes} {fault} piece so_far opened front short is =
     let rest : List ℕ = drop (length (bytes ++ piece)) front.whole in
     let whole : (bytes ++ piece) ++ rest ≡ front.whole = front_rest held name size (bytes ++ piece) front in
     let few : length front.whole ≤ 2 ^ 40 = omega (arith, front.sized, short) in
     let at : first_fault (codes_of (read [] (bytes ++ piece))) ≡ Some fault =
     ap (λ (r : List ℕ). first_fault (codes_of r)) (read-append [] bytes piece) ∙ is (read [] bytes) so_far.fed in
-    plain_refused held name size front.whole fault opened front.found few
+    plain_refused opened front.found few
     (ap refusal (sym whole) ∙ front_refused (bytes ++ piece) rest fault (omega (arith, few, ap length whole)) at)
 
 -- before the first piece
 pub none_told : (Heard : List Call → Type 0) (scanner : Scanner) → HasScannedBytes scanner [] → Heard [] → HasTold Heard scanner []
 none_told Heard scanner fed fresh = record { fed = fed; heard = subst Heard (sym told-none) fresh }
 
-pub first_scanned : (Heard : List Call → Type 0) (told' : Option (List File)) (name : List ℕ) (size : ℕ) (scanner : Scanner) (from : Option ℕ) → WasOpened told' name size from →
+pub first_scanned : {Heard : List Call → Type 0} {told' : Option (List File)} {name : List ℕ} {size : ℕ}
+    {scanner : Scanner} (from : Option ℕ) → WasOpened told' name size from →
     HasScannedBytes scanner [] → Heard [] → HasScanned Heard told' name size 0 scanner
-first_scanned Heard told' name size scanner from opened fed fresh = record {
+first_scanned {Heard} {name} {scanner} from opened fed fresh = record {
   bytes = [];
   long = refl;
   scanned = none_told Heard scanner fed fresh;
@@ -116,11 +120,11 @@ missing_refused held name fault missing = inl missing
 
 -- ---- the end of a video
 
-pub told_ended : (Heard Heard' : List Call → Type 0) (scanner : Scanner) (video : List ℕ) (size rate : ℕ) → HasTold Heard scanner video →
+pub told_ended : {Heard Heard' : List Call → Type 0} {scanner : Scanner} {video : List ℕ} {size rate : ℕ} → HasTold Heard scanner video →
     ((r : List ℕ) → HasScannedBytes scanner r → (refusal_of r ≡ None) × (rate ≡ rate_of (codes_of r)) × (size ≡ length r)) →
     ((r : List ℕ) (calls : List Call) → HasScannedBytes scanner r → Heard (calls ++ calls_of (codes_of r)) → Heard' (calls ++ all_calls r)) →
     HasEnded Heard' video size rate
-told_ended Heard Heard' scanner video size rate so_far ended tells =
+told_ended {Heard} {video} {size} {rate} so_far ended tells =
     let end : (refusal_of (read [] video) ≡ None) × (rate ≡ rate_of (codes_of (read [] video))) × (size ≡ length (read [] video)) = ended (read [] video) so_far.fed in
     record {
       accepted = end.0;
@@ -135,18 +139,20 @@ refused_ended scanner video short so_far =
 
 -- ---- the whole film
 
-pub all_scanned : (Heard : List Call → Type 0) (told' : Option (List File)) (name : List ℕ) (size place : ℕ) (scanner : Scanner) → HasScanned Heard told' name size place scanner → place ≤ size →
+pub all_scanned : {Heard : List Call → Type 0} {told' : Option (List File)} {name : List ℕ} {size place : ℕ}
+    {scanner : Scanner} → HasScanned Heard told' name size place scanner → place ≤ size →
     ((held : List File) → told' ≡ Some held → size ≤ place) → HasScannedAll Heard told' name size scanner
-all_scanned Heard told' name size place scanner so_far within end = record {
+all_scanned {Heard} {name} {size} {place} so_far within end = record {
   bytes = so_far.bytes;
   few = omega (arith, so_far.long, within);
   scanned = so_far.scanned;
   whole = λ held is. whole_front held name size so_far.bytes (so_far.front held is) (omega (arith, so_far.long, end held is));
 }
 
-pub film_heard : (Heard Heard' : List Call → Type 0) (told' : Option (List File)) (name : List ℕ) (size : ℕ) (scanner : Scanner) (bytes rate : ℕ) → size ≤ 2 ^ 40 → WasOpened told' name size None →
+pub film_heard : {Heard Heard' : List Call → Type 0} {told' : Option (List File)} {name : List ℕ} {size : ℕ}
+    {scanner : Scanner} {bytes rate : ℕ} → size ≤ 2 ^ 40 → WasOpened told' name size None →
     (so_far : HasScannedAll Heard told' name size scanner) → HasEnded Heard' so_far.bytes bytes rate → HasHeard Heard' told' name bytes rate
-film_heard Heard Heard' told' name size scanner bytes rate short opened so_far ended = record {
+film_heard {Heard} {name} {size} short opened so_far ended = record {
   video = so_far.bytes;
   ended = ended;
   holds = λ held is. record {
@@ -158,10 +164,11 @@ film_heard Heard Heard' told' name size scanner bytes rate short opened so_far e
   };
 }
 
-pub end_refused : (Heard : List Call → Type 0) (told' : Option (List File)) (held : List File) (name : List ℕ) (size : ℕ) (scanner : Scanner) (fault : FilmFault) → size ≤ 2 ^ 40 →
+pub end_refused : {Heard : List Call → Type 0} {told' : Option (List File)} {held : List File} {name : List ℕ}
+    {size : ℕ} {scanner : Scanner} {fault : FilmFault} → size ≤ 2 ^ 40 →
     WasOpened told' name size None → (so_far : HasScannedAll Heard told' name size scanner) → told' ≡ Some held → refusal so_far.bytes ≡ Some fault → IsFilmRefused held name (Film fault)
-end_refused Heard told' held name size scanner fault short opened so_far is refused =
-    plain_refused held name size so_far.bytes fault (opened held is) (so_far.whole held is) (omega (arith, so_far.few, short)) refused
+end_refused {Heard} {held} {name} short opened so_far is refused =
+    plain_refused (opened held is) (so_far.whole held is) (omega (arith, so_far.few, short)) refused
 
 -- ---- answers that are handed on
 
@@ -174,32 +181,35 @@ err_map P Q (Ok x) f h = tt
 err_map P Q (Err e) f h = f e h
 
 -- a trouble of the film's end, where the library tells what it holds
-pub end_trouble : (name : List ℕ) (Refuses : FilmFault → Type 0) (told' : Option (List File)) (faults faults' : ℕ) (t : Trouble) →
+pub end_trouble : {told' : Option (List File)} (name : List ℕ) (Refuses : FilmFault → Type 0) (faults faults' : ℕ)
+    (t : Trouble) →
     ((held : List File) (fault : FilmFault) → told' ≡ Some held → Refuses fault → IsFilmRefused held name (Film fault)) → IsFilmTrouble name Refuses t →
     IsReadTrouble (IsNamed name) IsFilmRefused told' faults faults' t
-end_trouble name Refuses told' faults faults' Usage refuses h = absurd h
-end_trouble name Refuses told' faults faults' (Refused other (Film fault)) refuses h =
+end_trouble name Refuses faults faults' Usage refuses h = absurd h
+end_trouble name Refuses faults faults' (Refused other (Film fault)) refuses h =
     (h.0, λ held is. subst (λ (n : List ℕ). IsFilmRefused held n (Film fault)) (sym h.0) (refuses held fault is h.1))
-end_trouble name Refuses told' faults faults' (Refused other fault) refuses h = absurd h
-end_trouble name Refuses told' faults faults' (StoreFault other) refuses h = absurd h
-end_trouble name Refuses told' faults faults' SinkFault refuses h = absurd h
-end_trouble name Refuses told' faults faults' NoMemory refuses h = tt
-end_trouble name Refuses told' faults faults' GateFault refuses h = absurd h
-end_trouble name Refuses told' faults faults' LinkFault refuses h = absurd h
+end_trouble name Refuses faults faults' (Refused other fault) refuses h = absurd h
+end_trouble name Refuses faults faults' (StoreFault other) refuses h = absurd h
+end_trouble name Refuses faults faults' SinkFault refuses h = absurd h
+end_trouble name Refuses faults faults' NoMemory refuses h = tt
+end_trouble name Refuses faults faults' GateFault refuses h = absurd h
+end_trouble name Refuses faults faults' LinkFault refuses h = absurd h
 
 -- what was found out before is not less known after more of the library was read
-pub trouble_on : (name : List ℕ) (Refuses : List File → List ℕ → Fault → Type 0) (told told' : Option (List File)) (a b c : ℕ) (t : Trouble) → told' ≡ told → a ≤ b →
+pub trouble_on : {told told' : Option (List File)} (name : List ℕ) (Refuses : List File → List ℕ → Fault → Type 0)
+    (a b c : ℕ) (t : Trouble) → told' ≡ told → a ≤ b →
     IsReadTrouble (IsNamed name) Refuses told' b c t → IsReadTrouble (IsNamed name) Refuses told a c t
-trouble_on name Refuses told told' a b c t kept count h =
+trouble_on {told} {told'} name Refuses a b c t kept count h =
     trouble_map (IsNamed name) (IsNamed name) Refuses Refuses told' told b c a c t (λ n is. is) (λ held n fault is named refused. refused) (λ held is. kept ∙ is) count (omega arith) h
 
 -- the same of a call's answer
-pub troubles_on : (name : List ℕ) (told told' : Option (List File)) (a b c : ℕ) (r : Result Ending Trouble) → told' ≡ told → a ≤ b →
+pub troubles_on : {told told' : Option (List File)} (name : List ℕ) (a b c : ℕ) (r : Result Ending Trouble) → told' ≡ told → a ≤ b →
     IfErr r (IsReadTrouble (IsNamed name) IsFilmRefused told' b c) → IfErr r (IsReadTrouble (IsNamed name) IsFilmRefused told a c)
-troubles_on name told told' a b c (Ok ending) kept count h = tt
-troubles_on name told told' a b c (Err t) kept count h = trouble_on name IsFilmRefused told told' a b c t kept count h
+troubles_on name a b c (Ok ending) kept count h = tt
+troubles_on name a b c (Err t) kept count h = trouble_on name IsFilmRefused a b c t kept count h
 
 -- a film that is heard where the library tells as much as before
-pub heard_on : (Heard : List Call → Type 0) (name : List ℕ) (told told' : Option (List File)) (r : Result Ending Trouble) → told' ≡ told →
+pub heard_on : {told told' : Option (List File)} (Heard : List Call → Type 0) (name : List ℕ)
+    (r : Result Ending Trouble) → told' ≡ told →
     IfOk r (λ e. HasHeard Heard told' name e.bytes e.rate) → IfOk r (λ e. HasHeard Heard told name e.bytes e.rate)
-heard_on Heard name told told' r kept h = subst (λ (t : Option (List File)). IfOk r (λ e. HasHeard Heard t name e.bytes e.rate)) kept h
+heard_on Heard name r kept h = subst (λ (t : Option (List File)). IfOk r (λ e. HasHeard Heard t name e.bytes e.rate)) kept h

@@ -33,8 +33,8 @@ lengths-more (s ∷ []) at b = refl
 lengths-more (s ∷ (next ∷ cur)) at b = ap (λ (l : List ℕ). (next - s) ∷ l) (lengths-more (next ∷ cur) at b)
 
 -- the slices of a unit, after those before it
-own-slices : (before cur rest : List ℕ) (first n : ℕ) → first ≡ length before → n ≡ length cur → take n (drop first ((before ++ cur) ++ rest)) ≡ cur
-own-slices before cur rest first n f m =
+own-slices : {cur : List ℕ} {first n : ℕ} (before rest : List ℕ) → first ≡ length before → n ≡ length cur → take n (drop first ((before ++ cur) ++ rest)) ≡ cur
+own-slices {cur} {first} {n} before rest f m =
     ap (λ (l : List ℕ). take n (drop first l)) (append_assoc before cur rest)
     ∙ ap (λ i. take n (drop i (before ++ (cur ++ rest)))) f
     ∙ ap (λ (l : List ℕ). take n l) (drop-append_seam before (cur ++ rest))
@@ -59,40 +59,40 @@ count-fits false k [] e = cc
 count-fits false k (call ∷ calls) e = cc
 
 -- a unit that has ended has its size
-unit-size : (unit : PictureUnit) (from head_end at n : ℕ) (past rest : List ℕ) (m : Measure) → unit.from ≡ from → unit.head_end ≡ head_end → unit.to ≡ at → unit.slices ≡ n →
+unit-size : {from head_end at n : ℕ} {past : List ℕ} {m : Measure} (unit : PictureUnit) (rest : List ℕ) → unit.from ≡ from → unit.head_end ≡ head_end → unit.to ≡ at → unit.slices ≡ n →
     unit.first_slice + unit.slices ≡ length past → IsMeasured from head_end at n past m →
     cond unit.starts_group 52 0 + frames_of m ≡ wire_size (past ++ rest) unit
-unit-size unit from head_end at n past rest m begin head end slices count so_far =
+unit-size {from} {head_end} {at} {past} {m} unit rest begin head end slices count so_far =
     let all : length past ≡ length so_far.before + length so_far.cur = ap length so_far.past_is ∙ length-append so_far.before so_far.cur in
     let cur : unit.slices ≡ length so_far.cur = slices ∙ so_far.count in
     let first : unit.first_slice ≡ length so_far.before = omega (arith, all, cur, count) in
     let starts : unit_starts (past ++ rest) unit ≡ so_far.cur =
-    ap (λ (l : List ℕ). take unit.slices (drop unit.first_slice (l ++ rest))) so_far.past_is ∙ own-slices so_far.before so_far.cur rest unit.first_slice unit.slices first cur in
+    ap (λ (l : List ℕ). take unit.slices (drop unit.first_slice (l ++ rest))) so_far.past_is ∙ own-slices so_far.before rest first cur in
     let lengths : lengths_to at so_far.cur ≡ unit_lengths (past ++ rest) unit =
     ap (λ t. lengths_to t so_far.cur) (sym end) ∙ ap (λ (l : List ℕ). lengths_to unit.to l) (sym starts) in
     let head_is : head_end - from ≡ unit.head_end - unit.from = ap (λ h. h - from) (sym head) ∙ ap (λ f. unit.head_end - f) (sym begin) in
     ap (λ (u : Measure). cond unit.starts_group 52 0 + frames_of u)
     (so_far.unit_is ∙ ap (λ h. measure_of h (lengths_to at so_far.cur)) head_is ∙ ap (λ (l : List ℕ). measure_of (unit.head_end - unit.from) l) lengths)
 
-sizes-told : (calls : List Call) (part : Part) (k : Count) (to : ℕ) (past : List ℕ) (s : Sizing) → parts_after (Some part) calls ≡ Some (between to) →
+sizes-told : {to : ℕ} (calls : List Call) (part : Part) (k : Count) (past : List ℕ) (s : Sizing) → parts_after (Some part) calls ≡ Some (between to) →
     IsSome (counts_after (Some k) calls) → k.slices ≡ length past → Measures part past s.unit →
     (sizing_after s calls).sizes ≡ s.sizes ++ map (λ u. wire_size (past ++ slices_in calls) u) (units_in calls)
-sizes-told [] part k to past s parts counts slices so_far = sym (append-nil s.sizes)
-sizes-told (head_call a b ∷ calls) (between at) k to past s parts counts slices so_far =
+sizes-told [] part k past s parts counts slices so_far = sym (append-nil s.sizes)
+sizes-told {to} (head_call a b ∷ calls) (between at) k past s parts counts slices so_far =
     let fits = part-fits (eqb a at && (ltb a b && leb (b - a) 1380)) (within a b b 0) calls to parts in
-    sizes-told calls (within a b b 0) k to past (sizing_after_call s (head_call a b)) fits.1 counts slices
+    sizes-told calls (within a b b 0) k past (sizing_after_call s (head_call a b)) fits.1 counts slices
     (record { before = past; cur = []; past_is = sym (append-nil past); count = refl; unit_is = refl })
-sizes-told (slice_call a b ∷ calls) (between at) k to past s parts counts slices so_far = absurd (false≢true (part-fits false (between at) calls to parts).0)
-sizes-told (unit_call unit ∷ calls) (between at) k to past s parts counts slices so_far = absurd (false≢true (part-fits false (between at) calls to parts).0)
-sizes-told (head_call a b ∷ calls) (within from head_end at n) k to past s parts counts slices so_far = absurd (false≢true (part-fits false (between at) calls to parts).0)
-sizes-told (slice_call a b ∷ calls) (within from head_end at n) k to past s parts counts slices so_far =
+sizes-told {to} (slice_call a b ∷ calls) (between at) k past s parts counts slices so_far = absurd (false≢true (part-fits false (between at) calls to parts).0)
+sizes-told {to} (unit_call unit ∷ calls) (between at) k past s parts counts slices so_far = absurd (false≢true (part-fits false (between at) calls to parts).0)
+sizes-told {to} (head_call a b ∷ calls) (within from head_end at n) k past s parts counts slices so_far = absurd (false≢true (part-fits false (between at) calls to parts).0)
+sizes-told {to} (slice_call a b ∷ calls) (within from head_end at n) k past s parts counts slices so_far =
     let fits = part-fits (eqb a at && leb (a + 4) b) (within from head_end b (n + 1)) calls to parts in
     let same : a ≡ at = eqb-true a at (and_parts (eqb a at) (leb (a + 4) b) fits.0).0 in
     let unit : with_slice s.unit (b - a) ≡ measure_of (head_end - from) (lengths_to b (so_far.cur ++ a ∷ [])) =
     ap (λ (m : Measure). with_slice m (b - a)) (so_far.unit_is ∙ ap (λ t. measure_of (head_end - from) (lengths_to t so_far.cur)) (sym same))
     ∙ sym (slices-append (lengths_to a so_far.cur) (measure_from_head (head_end - from)) (b - a))
     ∙ ap (λ (l : List ℕ). measure_of (head_end - from) l) (sym (lengths-more so_far.cur a b)) in
-    sizes-told calls (within from head_end b (n + 1)) (record k { slices = k.slices + 1 }) to (past ++ a ∷ []) (sizing_after_call s (slice_call a b)) fits.1 counts
+    sizes-told calls (within from head_end b (n + 1)) (record k { slices = k.slices + 1 }) (past ++ a ∷ []) (sizing_after_call s (slice_call a b)) fits.1 counts
     (omega (arith, slices, length-append past (a ∷ [])))
     (record {
       before = so_far.before;
@@ -102,7 +102,7 @@ sizes-told (slice_call a b ∷ calls) (within from head_end at n) k to past s pa
       unit_is = unit;
     })
     ∙ ap (λ (starts : List ℕ). s.sizes ++ map (λ u. wire_size starts u) (units_in calls)) (append_assoc past (a ∷ []) (slices_in calls))
-sizes-told (unit_call unit ∷ calls) (within from head_end at n) k to past s parts counts slices so_far =
+sizes-told {to} (unit_call unit ∷ calls) (within from head_end at n) k past s parts counts slices so_far =
     let fits = part-fits ((eqb unit.from from && (eqb unit.head_end head_end && eqb unit.to at)) && (eqb unit.slices n && ltb 0 n)) (between at) calls to parts in
     let both = and_parts (eqb unit.from from && (eqb unit.head_end head_end && eqb unit.to at)) (eqb unit.slices n && ltb 0 n) fits.0 in
     let first = and_parts (eqb unit.from from) (eqb unit.head_end head_end && eqb unit.to at) both.0 in
@@ -112,10 +112,10 @@ sizes-told (unit_call unit ∷ calls) (within from head_end at n) k to past s pa
     let count : unit.first_slice + unit.slices ≡ k.slices =
     eqb-true (unit.first_slice + unit.slices) k.slices (and_parts (eqb (unit.first_slice + unit.slices) k.slices) (eqb unit.presentation (group_of k unit + unit.temporal)) counted.0).0 in
     let size : cond unit.starts_group 52 0 + frames_of s.unit ≡ wire_size (past ++ slices_in calls) unit =
-    unit-size unit from head_end at n past (slices_in calls) s.unit (eqb-true unit.from from first.0) (eqb-true unit.head_end head_end places.0) (eqb-true unit.to at places.1)
+    unit-size unit (slices_in calls) (eqb-true unit.from from first.0) (eqb-true unit.head_end head_end places.0) (eqb-true unit.to at places.1)
     (eqb-true unit.slices n (and_parts (eqb unit.slices n) (ltb 0 n) both.1).0) (count ∙ slices) so_far in
     let rest : List ℕ = map (λ u. wire_size (past ++ slices_in calls) u) (units_in calls) in
-    sizes-told calls (between at) next to past (sizing_after_call s (unit_call unit)) fits.1 counted.1 slices tt
+    sizes-told calls (between at) next past (sizing_after_call s (unit_call unit)) fits.1 counted.1 slices tt
     ∙ append_assoc s.sizes ((cond unit.starts_group 52 0 + frames_of s.unit) ∷ []) rest
     ∙ ap (λ n. s.sizes ++ n ∷ rest) size
 
@@ -123,14 +123,14 @@ sizes-told (unit_call unit ∷ calls) (within from head_end at n) k to past s pa
 pub film-sizes : (film : List ℕ) (unit : Measure) (sizes : List ℕ) → refusal film ≡ None → IsSized unit sizes (told_of film) → sizes ≡ sizes_of film
 film-sizes film unit sizes accepted sized =
     sized.sizes_are
-    ∙ sizes-told (told_of film) (between (first_of (codes_of (read [] film)))) no_count (length (read [] film)) [] first_sizing (film-tiles (read [] film) accepted)
+    ∙ sizes-told (told_of film) (between (first_of (codes_of (read [] film)))) no_count [] first_sizing (film-tiles (read [] film) accepted)
     (film-numbered (read [] film) accepted) refl tt
 
 -- a part more
-pub sized-more : (calls : List Call) (call : Call) (unit unit' : Measure) (sizes sizes' : List ℕ) → IsSized unit sizes calls →
+pub sized-more : {calls : List Call} {unit unit' : Measure} {sizes sizes' : List ℕ} (call : Call) → IsSized unit sizes calls →
     unit' ≡ (sizing_after_call (record { unit = unit; sizes = sizes }) call).unit → sizes' ≡ (sizing_after_call (record { unit = unit; sizes = sizes }) call).sizes →
     IsSized unit' sizes' (calls ++ call ∷ [])
-sized-more calls call unit unit' sizes sizes' so_far unit_is sizes_are =
+sized-more {calls} {unit} {sizes} call so_far unit_is sizes_are =
     let before : Sizing = record { unit = unit; sizes = sizes } in
     let after : Sizing = sizing_after first_sizing calls in
     let same : before ≡ after =

@@ -54,12 +54,13 @@ refused_more scanner scanner' video more same so_far =
       refused = so_far.refused;
     })
 
-pub part_unwrapped : (Heard Heard' : List Call → Type 0) (unwrapper unwrapper' : Unwrapper) (scanner scanner' : Scanner) (seen part more : List ℕ) →
+pub part_unwrapped : {Heard Heard' : List Call → Type 0} {unwrapper unwrapper' : Unwrapper}
+    {scanner scanner' : Scanner} {seen : List ℕ} (part more : List ℕ) →
     (so_far : HasUnwrapped Heard unwrapper scanner seen) → length more ≤ length part →
     ((seen video : List ℕ) → WasFed unwrapper seen video → WasFed unwrapper' (seen ++ part) (video ++ more)) →
     ((video : List ℕ) → HasTaken Heard scanner video → HasTaken Heard' scanner' (video ++ more)) →
     HasUnwrapped Heard' unwrapper' scanner' (seen ++ part)
-part_unwrapped Heard Heard' unwrapper unwrapper' scanner scanner' seen part more so_far few fed taken = record {
+part_unwrapped {Heard} {seen} part more so_far few fed taken = record {
   video = so_far.video ++ more;
   fed = fed seen so_far.video so_far.fed;
   few = omega (arith, so_far.few, few, length-append so_far.video more, length-append seen part);
@@ -67,9 +68,9 @@ part_unwrapped Heard Heard' unwrapper unwrapper' scanner scanner' seen part more
 }
 
 -- a piece of a stream more
-pub front_more : (held : List File) (name : List ℕ) (size from place : ℕ) (seen more : List ℕ) → IsStreamFront size from seen held name → from + length seen ≡ place →
+pub front_more : {held : List File} {name : List ℕ} {size place : ℕ} (from : ℕ) (seen more : List ℕ) → IsStreamFront size from seen held name → from + length seen ≡ place →
     ((bytes : List ℕ) → IsFront held name size bytes → length bytes ≡ place → IsFront held name size (bytes ++ more)) → IsStreamFront size from (seen ++ more) held name
-front_more held name size from place seen more before long front = (
+front_more {held} {name} {size} {place} from seen more before long front = (
   before.0,
   (
     before.1.0,
@@ -78,26 +79,29 @@ front_more held name size from place seen more before long front = (
   ),
 )
 
-pub more_streamed : (Heard Heard' : List Call → Type 0) (told : Option (List File)) (name : List ℕ) (size from place : ℕ) (unwrapper unwrapper' : Unwrapper) (scanner scanner' : Scanner) (piece : List ℕ) (count : ℕ) →
+pub more_streamed : {Heard Heard' : List Call → Type 0} {told : Option (List File)} {name : List ℕ}
+    {size from place : ℕ} {unwrapper unwrapper' : Unwrapper} {scanner scanner' : Scanner} (piece : List ℕ) (count : ℕ) →
     (so_far : HasStreamed Heard told name size from place unwrapper scanner) →
     ((held : List File) → told ≡ Some held → (bytes : List ℕ) → IsFront held name size bytes → length bytes ≡ place → IsFront held name size (bytes ++ take count piece)) → count ≤ length piece →
     HasUnwrapped Heard' unwrapper' scanner' (so_far.seen ++ take count piece) → HasStreamed Heard' told name size from (place + count) unwrapper' scanner'
-more_streamed Heard Heard' told name size from place unwrapper unwrapper' scanner scanner' piece count so_far front within unwrapped = record {
+more_streamed {Heard} {name} {from} {place} piece count so_far front within unwrapped = record {
   seen = so_far.seen ++ take count piece;
   long = omega (arith, length-append so_far.seen (take count piece), so_far.long, length-take-le count piece within);
   unwrapped = unwrapped;
-  front = λ held is. front_more held name size from place so_far.seen (take count piece) (so_far.front held is) so_far.long (front held is);
+  front = λ held is. front_more from so_far.seen (take count piece) (so_far.front held is) so_far.long (front held is);
 }
 
 -- what was fed is what was read of the stream
-pub streamed_fed : (Heard : List Call → Type 0) (told : Option (List File)) (name : List ℕ) (size from place : ℕ) (unwrapper : Unwrapper) (scanner : Scanner) →
+pub streamed_fed : {Heard : List Call → Type 0} {told : Option (List File)} {name : List ℕ} {size from place : ℕ}
+    {unwrapper : Unwrapper} {scanner : Scanner} →
     HasStreamed Heard told name size from place unwrapper scanner → from + unwrapper.fed ≡ place
-streamed_fed Heard told name size from place unwrapper scanner so_far = omega (arith, so_far.unwrapped.fed.count, so_far.long)
+streamed_fed {Heard} {name} {from} {place} so_far = omega (arith, so_far.unwrapped.fed.count, so_far.long)
 
 -- before the first piece
-pub first_streamed : (Heard : List Call → Type 0) (told : Option (List File)) (name : List ℕ) (size from : ℕ) (unwrapper : Unwrapper) (scanner : Scanner) → WasOpened told name size (Some from) →
+pub first_streamed : {Heard : List Call → Type 0} {told : Option (List File)} {name : List ℕ} {size from : ℕ}
+    {unwrapper : Unwrapper} {scanner : Scanner} → WasOpened told name size (Some from) →
     WasFed unwrapper [] [] → HasScannedBytes scanner [] → Heard [] → HasStreamed Heard told name size from from unwrapper scanner
-first_streamed Heard told name size from unwrapper scanner opened empty fed fresh = record {
+first_streamed {Heard} {name} {size} {from} {scanner} opened empty fed fresh = record {
   seen = [];
   long = omega arith;
   unwrapped = record { video = []; fed = empty; few = omega arith; taken = inl (none_told Heard scanner fed fresh) };
@@ -125,10 +129,10 @@ stream_rest before rest whole from is long =
     ap (drop from) (sym is) ∙ ap (λ (n : ℕ). drop n (before ++ rest)) (sym long) ∙ drop-append_seam before rest
 
 -- the stream of a file, and one of its faults
-stream_fault : (held : List File) (name : List ℕ) (size from : ℕ) (whole stream : List ℕ) (own fault : SystemFault) → IsOpened held name size (Some from) → file_named held name ≡ Some whole →
+stream_fault : {held : List File} {name : List ℕ} {size from : ℕ} {whole stream : List ℕ} {own fault : SystemFault} → IsOpened held name size (Some from) → file_named held name ≡ Some whole →
     size ≤ 2 ^ 40 → drop from whole ≡ stream → IsRefused stream own →
     ((bytes : List ℕ) → IsRefused bytes own → from + length bytes ≤ 2 ^ 40 → fault ≡ fault_from from own) → IsFilmRefused held name (System fault)
-stream_fault held name size from whole stream own fault opened found short is refused moves =
+stream_fault {held} {name} {from} {whole} {stream} {own} {fault} opened found short is refused moves =
     let same : whole ≡ opened.file = one_file held name whole opened.file found opened.found in
     let pack : pack_in whole ≡ Some from = ap pack_in same ∙ opened.pack in
     let few : length whole ≤ 2 ^ 40 = omega (arith, ap length same, opened.sized, short) in
@@ -136,23 +140,24 @@ stream_fault held name size from whole stream own fault opened found short is re
     let its : IsStreamFaultFrom (Some from) whole fault = (own, (subst (λ (l : List ℕ). IsRefused l own) (sym is) refused, moves stream refused room)) in
     inr (whole, (found, inr (few, subst (λ (o : Option ℕ). IsStreamFaultFrom o whole fault) (sym pack) its)))
 
-pub piece_fault : (held : List File) (name : List ℕ) (size from : ℕ) (seen piece : List ℕ) (own fault : SystemFault) → (front : IsStreamFront size from (seen ++ piece) held name) →
+pub piece_fault : {held : List File} {name : List ℕ} {size from : ℕ} {own fault : SystemFault} (seen piece : List ℕ) → (front : IsStreamFront size from (seen ++ piece) held name) →
     IsOpened held name size (Some from) → size ≤ 2 ^ 40 → ((more : List ℕ) → IsRefused (seen ++ piece ++ more) own) →
     ((bytes : List ℕ) → IsRefused bytes own → from + length bytes ≤ 2 ^ 40 → fault ≡ fault_from from own) → IsFilmRefused held name (System fault)
-piece_fault held name size from seen piece own fault front opened short refused moves =
+piece_fault {held} {name} {size} {from} seen piece front opened short refused moves =
     let rest : List ℕ = drop (length (front.0 ++ (seen ++ piece))) front.1.1.whole in
     let whole : front.0 ++ (seen ++ piece ++ rest) ≡ front.1.1.whole =
     sym (append_assoc front.0 (seen ++ piece) rest)
     ∙ front_rest held name size (front.0 ++ (seen ++ piece)) front.1.1 in
-    stream_fault held name size from front.1.1.whole (seen ++ piece ++ rest) own fault opened front.1.1.found short
+    stream_fault opened front.1.1.found short
     (stream_rest front.0 (seen ++ piece ++ rest) front.1.1.whole from whole front.1.0) (refused rest) moves
 
 -- ---- the whole stream
 
-pub all_streamed : (Heard : List Call → Type 0) (told : Option (List File)) (name : List ℕ) (size from place : ℕ) (unwrapper : Unwrapper) (scanner : Scanner) →
+pub all_streamed : {Heard : List Call → Type 0} {told : Option (List File)} {name : List ℕ} {size from place : ℕ}
+    {unwrapper : Unwrapper} {scanner : Scanner} →
     HasStreamed Heard told name size from place unwrapper scanner → place ≤ size → ((held : List File) → told ≡ Some held → size ≤ place) →
     HasStreamedAll Heard told name size from unwrapper scanner
-all_streamed Heard told name size from place unwrapper scanner so_far within end = record {
+all_streamed {Heard} {name} {size} {from} {place} so_far within end = record {
   seen = so_far.seen;
   few = omega (arith, so_far.long, within);
   unwrapped = so_far.unwrapped;
@@ -163,29 +168,32 @@ all_streamed Heard told name size from place unwrapper scanner so_far within end
       (front.1.1.whole, (front.1.1.found, stream_rest front.0 so_far.seen front.1.1.whole from whole front.1.0));
 }
 
-pub end_fault : (Heard : List Call → Type 0) (told : Option (List File)) (held : List File) (name : List ℕ) (size from : ℕ) (unwrapper : Unwrapper) (scanner : Scanner) (own fault : SystemFault) →
+pub end_fault : {Heard : List Call → Type 0} {told : Option (List File)} {held : List File} {name : List ℕ}
+    {size from : ℕ} {unwrapper : Unwrapper} {scanner : Scanner} {own fault : SystemFault} →
     (so_far : HasStreamedAll Heard told name size from unwrapper scanner) → told ≡ Some held → WasOpened told name size (Some from) → size ≤ 2 ^ 40 → IsRefused so_far.seen own →
     ((bytes : List ℕ) → IsRefused bytes own → from + length bytes ≤ 2 ^ 40 → fault ≡ fault_from from own) → IsFilmRefused held name (System fault)
-end_fault Heard told held name size from unwrapper scanner own fault so_far is opened short refused moves =
-    stream_fault held name size from (so_far.whole held is).0 so_far.seen own fault (opened held is) (so_far.whole held is).1.0 short (so_far.whole held is).1.1 refused moves
+end_fault {Heard} {held} {name} {from} so_far is opened short refused moves =
+    stream_fault (opened held is) (so_far.whole held is).1.0 short (so_far.whole held is).1.1 refused moves
 
-pub video_short : (Heard : List Call → Type 0) (told : Option (List File)) (name : List ℕ) (size from : ℕ) (unwrapper : Unwrapper) (scanner : Scanner) → size ≤ 2 ^ 40 →
+pub video_short : {Heard : List Call → Type 0} {told : Option (List File)} {name : List ℕ} {size from : ℕ}
+    {unwrapper : Unwrapper} {scanner : Scanner} → size ≤ 2 ^ 40 →
     (so_far : HasStreamedAll Heard told name size from unwrapper scanner) → length so_far.unwrapped.video ≤ 2 ^ 40
-video_short Heard told name size from unwrapper scanner short so_far = omega (arith, short, so_far.unwrapped.few, so_far.few)
+video_short {Heard} {name} {from} short so_far = omega (arith, short, so_far.unwrapped.few, so_far.few)
 
-stream_video : (held : List File) (name : List ℕ) (size from : ℕ) (whole stream video : List ℕ) → IsOpened held name size (Some from) → file_named held name ≡ Some whole → drop from whole ≡ stream →
+stream_video : {held : List File} {name : List ℕ} {size from : ℕ} {whole stream video : List ℕ} → IsOpened held name size (Some from) → file_named held name ≡ Some whole → drop from whole ≡ stream →
     IsSystem stream video → IsVideo whole video
-stream_video held name size from whole stream video opened found is system =
+stream_video {held} {name} {from} {whole} {video} opened found is system =
     let pack : pack_in whole ≡ Some from = ap pack_in (one_file held name whole opened.file found opened.found) ∙ opened.pack in
     subst (λ (o : Option ℕ). IsVideoFrom o whole video) (sym pack) (subst (λ (l : List ℕ). IsSystem l video) (sym is) system)
 
-stream_few : (held : List File) (name : List ℕ) (size : ℕ) (from : Option ℕ) (whole : List ℕ) → IsOpened held name size from → file_named held name ≡ Some whole → size ≤ 2 ^ 40 → length whole ≤ 2 ^ 40
-stream_few held name size from whole opened found short = omega (arith, ap length (one_file held name whole opened.file found opened.found), opened.sized, short)
+stream_few : {held : List File} {name : List ℕ} {size : ℕ} {from : Option ℕ} {whole : List ℕ} → IsOpened held name size from → file_named held name ≡ Some whole → size ≤ 2 ^ 40 → length whole ≤ 2 ^ 40
+stream_few {held} {name} {from} {whole} opened found short = omega (arith, ap length (one_file held name whole opened.file found opened.found), opened.sized, short)
 
-pub stream_heard : (Heard Heard' : List Call → Type 0) (told : Option (List File)) (name : List ℕ) (size from : ℕ) (unwrapper : Unwrapper) (scanner : Scanner) (bytes rate : ℕ) → size ≤ 2 ^ 40 →
+pub stream_heard : {Heard Heard' : List Call → Type 0} {told : Option (List File)} {name : List ℕ} {size from : ℕ}
+    {unwrapper : Unwrapper} {scanner : Scanner} {bytes rate : ℕ} → size ≤ 2 ^ 40 →
     WasOpened told name size (Some from) → (so_far : HasStreamedAll Heard told name size from unwrapper scanner) → IsSystem so_far.seen so_far.unwrapped.video →
     HasEnded Heard' so_far.unwrapped.video bytes rate → HasHeard Heard' told name bytes rate
-stream_heard Heard Heard' told name size from unwrapper scanner bytes rate short opened so_far system ended = record {
+stream_heard {Heard} {name} {from} short opened so_far system ended = record {
   video = so_far.unwrapped.video;
   ended = ended;
   holds = λ held is.
@@ -194,16 +202,17 @@ stream_heard Heard Heard' told name size from unwrapper scanner bytes rate short
       record {
         file = whole;
         found = found;
-        short = stream_few held name size (Some from) whole (opened held is) found short;
-        is_video = stream_video held name size from whole so_far.seen so_far.unwrapped.video (opened held is) found (so_far.whole held is).1.1 system;
+        short = stream_few (opened held is) found short;
+        is_video = stream_video (opened held is) found (so_far.whole held is).1.1 system;
         accepted = ended.accepted;
       };
 }
 
-pub video_refused : (Heard : List Call → Type 0) (told : Option (List File)) (held : List File) (name : List ℕ) (size from : ℕ) (unwrapper : Unwrapper) (scanner : Scanner) (fault : FilmFault) → size ≤ 2 ^ 40 →
+pub video_refused : {Heard : List Call → Type 0} {told : Option (List File)} {held : List File} {name : List ℕ}
+    {size from : ℕ} {unwrapper : Unwrapper} {scanner : Scanner} {fault : FilmFault} → size ≤ 2 ^ 40 →
     WasOpened told name size (Some from) → (so_far : HasStreamedAll Heard told name size from unwrapper scanner) → told ≡ Some held → IsSystem so_far.seen so_far.unwrapped.video →
     refusal so_far.unwrapped.video ≡ Some fault → IsFilmRefused held name (Film fault)
-video_refused Heard told held name size from unwrapper scanner fault short opened so_far is system refused =
+video_refused {Heard} {held} {name} {from} short opened so_far is system refused =
     let whole : List ℕ = (so_far.whole held is).0 in
     let found : file_named held name ≡ Some whole = (so_far.whole held is).1.0 in
     inr (
@@ -211,8 +220,8 @@ video_refused Heard told held name size from unwrapper scanner fault short opene
       (
         found,
         inr (
-          stream_few held name size (Some from) whole (opened held is) found short,
-          (so_far.unwrapped.video, (stream_video held name size from whole so_far.seen so_far.unwrapped.video (opened held is) found (so_far.whole held is).1.1 system, refused)),
+          stream_few (opened held is) found short,
+          (so_far.unwrapped.video, (stream_video (opened held is) found (so_far.whole held is).1.1 system, refused)),
         ),
       ),
     )

@@ -40,11 +40,11 @@ blank_front at b rest (token ∷ tokens) blank h = (
 )
 
 -- the first byte of a word, and the rest of it
-first_word : (at b : ℕ) (rest : List ℕ) (token : Token) (tokens : List Token) (front after : List ℕ) → begins_token rest ≡ true → is_blank b ≡ false →
+first_word : {rest : List ℕ} (at b : ℕ) (token : Token) (tokens : List Token) (front after : List ℕ) → begins_token rest ≡ true → is_blank b ≡ false →
     (rest ≡ front ++ (token.bytes ++ after)) × (list_all is_blank front ≡ true) × IsWord token.bytes × (begins_token after ≡ false)
     × (token.from ≡ at + 1 + length front) × AreSeparated (token.from + length token.bytes) after tokens →
     AreSeparated at (b ∷ rest) (joined_tokens at b true (token ∷ tokens))
-first_word at b rest token tokens [] after begins word h =
+first_word at b token tokens [] after begins word h =
     let next : token.from + length token.bytes ≡ at + length (b ∷ token.bytes) = omega (arith, h.4) in (
       [],
       (
@@ -59,20 +59,20 @@ first_word at b rest token tokens [] after begins word h =
         ),
       ),
     )
-first_word at b rest token tokens (x ∷ front) after begins word h =
+first_word at b token tokens (x ∷ front) after begins word h =
     let blank : is_blank x ≡ true = (and_parts (is_blank x) (list_all is_blank front) h.1).0 in
     absurd (false≢true (ap not (sym blank) ∙ ap begins_token (sym h.0) ∙ begins))
 
 -- a byte of a word more in front
-word_front : (at b : ℕ) (rest : List ℕ) (tokens : List Token) (begins : Bool) → begins_token rest ≡ begins → is_blank b ≡ false → AreSeparated (at + 1) rest tokens →
+word_front : {begins : Bool} (at b : ℕ) (rest : List ℕ) (tokens : List Token) → begins_token rest ≡ begins → is_blank b ≡ false → AreSeparated (at + 1) rest tokens →
     AreSeparated at (b ∷ rest) (joined_tokens at b begins tokens)
-word_front at b rest tokens false begins word h =
+word_front {begins = false} at b rest tokens begins word h =
     ([], (rest, (refl, refl, (omega arith, and_from (not (is_blank b)) true (not_from_false (is_blank b) word) refl), begins, omega arith, h)))
-word_front at b [] [] true begins word h = absurd (false≢true begins)
-word_front at b (x ∷ rest) [] true begins word h =
+word_front {begins = true} at b [] [] begins word h = absurd (false≢true begins)
+word_front {begins = true} at b (x ∷ rest) [] begins word h =
     let blank : is_blank x ≡ true = (and_parts (is_blank x) (list_all is_blank rest) h).0 in
     absurd (false≢true (ap not (sym blank) ∙ begins))
-word_front at b rest (token ∷ tokens) true begins word h = first_word at b rest token tokens h.0 h.1.0 begins word h.1.1
+word_front {begins = true} at b rest (token ∷ tokens) begins word h = first_word at b token tokens h.0 h.1.0 begins word h.1.1
 
 -- each text is separated so
 pub separated_are : (text : List ℕ) (at : ℕ) → AreSeparated at text (tokens_from at text)
@@ -82,5 +82,5 @@ separated_are (b ∷ rest) at =
     let reads : Bool → List Token = λ v. if v then tokens_from (at + 1) rest else joined_tokens at b (begins_token rest) (tokens_from (at + 1) rest) in
     elim (cases_Bool (is_blank b)) [
       | inl blank ↦ subst (AreSeparated at (b ∷ rest)) (sym (ap reads blank)) (blank_front at b rest (tokens_from (at + 1) rest) blank next)
-      | inr word ↦ subst (AreSeparated at (b ∷ rest)) (sym (ap reads word)) (word_front at b rest (tokens_from (at + 1) rest) (begins_token rest) refl word next)
+      | inr word ↦ subst (AreSeparated at (b ∷ rest)) (sym (ap reads word)) (word_front at b rest (tokens_from (at + 1) rest) refl word next)
     ]

@@ -49,9 +49,9 @@ blanks_at text at n fits blank =
     ∙ ap (λ (k : ℕ). tokens_from (at + k) (drop n (drop at text))) (length-take-le n (drop at text) fits)
     ∙ ap (tokens_from (at + n)) (drop-drop n at text)
 
-pub blanks_step : (text front : List ℕ) (at n : ℕ) → front ≡ drop at text → n ≤ length front → list_all is_blank (take n front) ≡ true →
+pub blanks_step : {front : List ℕ} (text : List ℕ) (at n : ℕ) → front ≡ drop at text → n ≤ length front → list_all is_blank (take n front) ≡ true →
     tokens_from at (drop at text) ≡ tokens_from (at + n) (drop (at + n) text)
-blanks_step text front at n are fits blank = blanks_at text at n (rw (← are) fits) (rw (← are) blank)
+blanks_step text at n are fits blank = blanks_at text at n (rw (← are) fits) (rw (← are) blank)
 
 -- the bytes up to a blank at a place of a text are a token
 pub word_at : (text : List ℕ) (from m : ℕ) → m ≤ length (drop from text) → 0 < m →
@@ -80,20 +80,20 @@ pub record HasRead (text : List ℕ) (at : ℕ) (sizes : List ℕ) (total : ℕ)
   pub total_is : total ≡ sum sizes
 
 -- sizes that go with the tokens end with the last token's number
-split_last : (f : Token → Option ℕ) (good : List Token) (bad : Token) (sizes more : List ℕ) →
+split_last : {bad : Token} {more : List ℕ} (f : Token → Option ℕ) (good : List Token) (sizes : List ℕ) →
     map f good ≡ map (λ size. Some size) sizes → map f (good ++ bad ∷ []) ≡ map (λ size. Some size) more →
     (s : ℕ) × ((more ≡ sizes ++ s ∷ []) × (f bad ≡ Some s))
-split_last f [] bad [] [] h g = (0, ((cc), (cc)))
-split_last f [] bad [] (s ∷ []) h g = (s, (refl, (cc)))
-split_last f [] bad [] (s ∷ t ∷ more) h g = (0, ((cc), (cc)))
-split_last f [] bad (s ∷ sizes) more h g = (0, ((cc), (cc)))
-split_last f (t ∷ good) bad [] more h g = (0, ((cc), (cc)))
-split_last f (t ∷ good) bad (s ∷ sizes) [] h g = (0, ((cc), (cc)))
-split_last f (t ∷ good) bad (s ∷ sizes) (u ∷ more) h g =
+split_last {bad} {more = []} f [] [] h g = (0, ((cc), (cc)))
+split_last {bad} {more = s ∷ []} f [] [] h g = (s, (refl, (cc)))
+split_last {bad} {more = s ∷ t ∷ more} f [] [] h g = (0, ((cc), (cc)))
+split_last {bad} {more} f [] (s ∷ sizes) h g = (0, ((cc), (cc)))
+split_last {bad} {more} f (t ∷ good) [] h g = (0, ((cc), (cc)))
+split_last {bad} {more = []} f (t ∷ good) (s ∷ sizes) h g = (0, ((cc), (cc)))
+split_last {bad} {more = u ∷ more} f (t ∷ good) (s ∷ sizes) h g =
     let before : map f good ≡ map (λ size. Some size) sizes = cc in
     let after : map f (good ++ bad ∷ []) ≡ map (λ size. Some size) more = cc in
     let first : u ≡ s = cc in
-    let rest : (x : ℕ) × ((more ≡ sizes ++ x ∷ []) × (f bad ≡ Some x)) = split_last f good bad sizes more before after in
+    let rest : (x : ℕ) × ((more ≡ sizes ++ x ∷ []) × (f bad ≡ Some x)) = split_last f good sizes before after in
     (rest.0, (ap (λ (n : ℕ). n ∷ more) first ∙ ap (λ (ns : List ℕ). s ∷ ns) rest.1.0, rest.1.1))
 
 -- what a number more at the end means for a list
@@ -110,10 +110,10 @@ is_pushed xs x ys e = record {
 }
 
 -- a token more, with its size
-pub more_read : (text : List ℕ) (at from to : ℕ) (sizes : List ℕ) (total count size : ℕ) → HasRead text at sizes total → count ≡ length sizes →
+pub more_read : {text : List ℕ} {at to : ℕ} {sizes : List ℕ} {total count size : ℕ} (from : ℕ) → HasRead text at sizes total → count ≡ length sizes →
     tokens_from at (drop at text) ≡ (record { from = from; bytes = slice_range text from to }) ∷ tokens_from to (drop to text) → to ≤ length text →
     AddsSize (slice_range text from to) count total size → HasRead text to (sizes ++ size ∷ []) (total + size)
-more_read text at from to sizes total count size read counted next fits adds = record {
+more_read {text} {at} {to} {sizes} {size} from read counted next fits adds = record {
   within = fits;
   done = read.done ++ (record { from = from; bytes = slice_range text from to }) ∷ [];
   tokens = read.tokens ∙ ap (λ (ts : List Token). read.done ++ ts) next ∙ sym (append_assoc read.done ((record { from = from; bytes = slice_range text from to }) ∷ []) (tokens_from to (drop to text)));
@@ -130,10 +130,10 @@ more_read text at from to sizes total count size read counted next fits adds = r
 }
 
 -- a token with which the tokens so far write no sizes
-pub bad_read : (text : List ℕ) (at from to : ℕ) (sizes : List ℕ) (total count : ℕ) → HasRead text at sizes total → count ≡ length sizes →
+pub bad_read : {text : List ℕ} {at from : ℕ} {sizes : List ℕ} {total count : ℕ} (to : ℕ) → HasRead text at sizes total → count ≡ length sizes →
     tokens_from at (drop at text) ≡ (record { from = from; bytes = slice_range text from to }) ∷ tokens_from to (drop to text) →
     ((size : ℕ) → AddsSize (slice_range text from to) count total size → ⊥) → IsBadTrace text from
-bad_read text at from to sizes total count read counted next none = record {
+bad_read {text} {at} {from} {sizes} to read counted next none = record {
   good = read.done;
   bad = record { from = from; bytes = slice_range text from to };
   rest = tokens_from to (drop to text);
@@ -142,7 +142,7 @@ bad_read text at from to sizes total count read counted next none = record {
   written = read.written;
   ends = λ more trace.
       let last : (x : ℕ) × ((more ≡ sizes ++ x ∷ []) × (number_of (slice_range text from to) ≡ Some x)) =
-      split_last (λ (token : Token). number_of token.bytes) read.done (record { from = from; bytes = slice_range text from to }) sizes more read.written.numbers trace.numbers in
+      split_last (λ (token : Token). number_of token.bytes) read.done sizes read.written.numbers trace.numbers in
       let ends : IsPushed sizes last.0 more = is_pushed sizes last.0 more last.1.0 in
       none last.0 (record {
         number = last.1.1;

@@ -8,9 +8,9 @@ use Rattle.inputs.proofs.Tokens.{HasRead, more_read, bad_read}
 use Rattle.inputs.proofs.Words.{word_token}
 
 -- where the blanks end before the end of the text, a token begins
-pub begins_after : (text front : List ℕ) (at n : ℕ) → front ≡ drop at text →
+pub begins_after : {front : List ℕ} (text : List ℕ) (at n : ℕ) → front ≡ drop at text →
     (n < length front → begins_token (drop n front) ≡ true) → at + n < length text → begins_token (drop (at + n) text) ≡ true
-begins_after text front at n are begins inside =
+begins_after text at n are begins inside =
     ap begins_token (sym (drop-drop n at text)) ∙ ap (λ (ts : List ℕ). begins_token (drop n ts)) (sym are)
     ∙ begins (omega (arith, inside, ap length are, length-drop at text))
 
@@ -26,23 +26,23 @@ after_blanks : (text : List ℕ) (at from : ℕ) → tokens_from at (drop at tex
 after_blanks text at from same begins = same ∙ word_token text from begins
 
 -- a word more, with its size
-pub next_read : (text rest : List ℕ) (at from len : ℕ) (sizes : List ℕ) (total count size : ℕ) → HasRead text at sizes total → count ≡ length sizes →
+pub next_read : {text rest : List ℕ} {at len : ℕ} {sizes : List ℕ} {total count size : ℕ} (from : ℕ) → HasRead text at sizes total → count ≡ length sizes →
     tokens_from at (drop at text) ≡ tokens_from from (drop from text) → begins_token (drop from text) ≡ true → from < length text → rest ≡ drop from text →
     len ≡ word_length rest → AddsSize (first_word rest) count total size → HasRead text (from + len) (sizes ++ size ∷ []) (total + size)
-next_read text rest at from len sizes total count size read counted same begins inside are long adds =
+next_read {text} {rest} {at} {len} {sizes} {total} {count} {size} from read counted same begins inside are long adds =
     let word : len ≡ word_length (drop from text) = long ∙ ap word_length are in
     let within : from + word_length (drop from text) ≤ length text =
     omega (arith, inside, prefix_len-le-length (λ b. not (is_blank b)) (drop from text), length-drop from text) in
     let bytes : first_word rest ≡ slice_range text from (from + word_length (drop from text)) = ap first_word are ∙ word_slice text from in
     subst (λ (n : ℕ). HasRead text (from + n) (sizes ++ size ∷ []) (total + size)) (sym word)
-    (more_read text at from (from + word_length (drop from text)) sizes total count size read counted (after_blanks text at from same begins) within
+    (more_read from read counted (after_blanks text at from same begins) within
     (subst (λ (ts : List ℕ). AddsSize ts count total size) bytes adds))
 
 -- a word with which the tokens so far write no sizes
-pub next_bad : (text rest : List ℕ) (at from : ℕ) (sizes : List ℕ) (total count : ℕ) → HasRead text at sizes total → count ≡ length sizes →
+pub next_bad : {text rest : List ℕ} {at from : ℕ} {sizes : List ℕ} {total count : ℕ} → HasRead text at sizes total → count ≡ length sizes →
     tokens_from at (drop at text) ≡ tokens_from from (drop from text) → begins_token (drop from text) ≡ true → rest ≡ drop from text →
     ((size : ℕ) → AddsSize (first_word rest) count total size → ⊥) → IsBadTrace text from
-next_bad text rest at from sizes total count read counted same begins are none =
+next_bad {text} {rest} {at} {from} {total} {count} read counted same begins are none =
     let bytes : first_word rest ≡ slice_range text from (from + word_length (drop from text)) = ap first_word are ∙ word_slice text from in
-    bad_read text at from (from + word_length (drop from text)) sizes total count read counted (after_blanks text at from same begins)
+    bad_read (from + word_length (drop from text)) read counted (after_blanks text at from same begins)
     (λ size adds. none size (subst (λ (ts : List ℕ). AddsSize ts count total size) (sym bytes) adds))

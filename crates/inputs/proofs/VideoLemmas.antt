@@ -35,10 +35,10 @@ video_not_refused file video (System fault) is accepted refused = from_not_fault
 video_not_refused file video other is accepted refused = refused
 
 -- a file of at most so many bytes, whose video is accepted, isn't refused
-pub file_not_refused : (held : List File) (name file video : List ℕ) (most : ℕ) (over fault : Fault) → file_named held name ≡ Some file → length file ≤ most → IsVideo file video → refusal video ≡ None →
+pub file_not_refused : {file : List ℕ} (held : List File) (name video : List ℕ) (most : ℕ) (over fault : Fault) → file_named held name ≡ Some file → length file ≤ most → IsVideo file video → refusal video ≡ None →
     IsRefusedAbove most over held name fault → ⊥
-file_not_refused held name file video most over fault found short is accepted (inl missing) = let both : Some file ≡ None = sym found ∙ missing.1 in cc
-file_not_refused held name file video most over fault found short is accepted (inr other) =
+file_not_refused {file} held name video most over fault found short is accepted (inl missing) = let both : Some file ≡ None = sym found ∙ missing.1 in cc
+file_not_refused {file} held name video most over fault found short is accepted (inr other) =
     let same : file ≡ other.0 = one_file held name file other.0 found other.1.0 in
     elim other.1.1 [
       | inl long ↦ omega (arith, ap length same, short, long.0)
@@ -48,4 +48,4 @@ file_not_refused held name file video most over fault found short is accepted (i
 -- what is accepted isn't refused
 pub held_not_refused : (held : List File) (name video : List ℕ) (fault : Fault) → HoldsVideo held name video → IsFilmRefused held name fault → ⊥
 held_not_refused held name video fault holds refused =
-    file_not_refused held name holds.file video (2 ^ 40) (Film TooLong) fault holds.found holds.short holds.is_video holds.accepted refused
+    file_not_refused held name video (2 ^ 40) (Film TooLong) fault holds.found holds.short holds.is_video holds.accepted refused

@@ -70,9 +70,9 @@ too_large rest k size fits digits large is =
     omega (arith, same, front, read.2, is.1, large)
 
 -- where the digits in front end within the first word, it writes no number up to 2^32
-end_inside : (rest : List ℕ) (k value size : ℕ) → k < word_length rest → list_all is_ascii_digit (take k rest) ≡ true → value ≡ digits_value 10 (take k rest)
+end_inside : {value : ℕ} (rest : List ℕ) (k size : ℕ) → k < word_length rest → list_all is_ascii_digit (take k rest) ≡ true → value ≡ digits_value 10 (take k rest)
     → (k < length rest → (2 ^ 32 < value) ⊎ (is_ascii_digit (get_or rest k 0) ≡ false)) → WritesSize rest size → ⊥
-end_inside rest k value size inside digits is ends written =
+end_inside {value} rest k size inside digits is ends written =
     let long : word_length rest ≤ length rest = prefix_len-le-length (λ b. not (is_blank b)) rest in
     elim (ends (omega (arith, inside, long))) [
       | inl large ↦ too_large rest k size (omega (arith, inside, long)) digits (omega (arith, is, large)) written
@@ -80,23 +80,23 @@ end_inside rest k value size inside digits is ends written =
     ]
 
 -- no digits in front
-pub no_digits : (rest : List ℕ) (k value size : ℕ) → k ≡ 0 → list_all is_ascii_digit (take k rest) ≡ true → value ≡ digits_value 10 (take k rest)
+pub no_digits : {k value : ℕ} (rest : List ℕ) (size : ℕ) → k ≡ 0 → list_all is_ascii_digit (take k rest) ≡ true → value ≡ digits_value 10 (take k rest)
     → (k < length rest → (2 ^ 32 < value) ⊎ (is_ascii_digit (get_or rest k 0) ≡ false)) → WritesSize rest size → ⊥
-no_digits rest k value size none digits is ends written =
+no_digits {k} {value} rest size none digits is ends written =
     let read = number_read (first_word rest) size written.0 in
     let long : length (first_word rest) ≡ word_length rest = length-take-le (word_length rest) rest (prefix_len-le-length (λ b. not (is_blank b)) rest) in
-    end_inside rest k value size (omega (arith, none, read.0, long)) digits is ends written
+    end_inside rest k size (omega (arith, none, read.0, long)) digits is ends written
 
 -- another byte after them that is no blank
-pub not_whole : (rest : List ℕ) (k value size : ℕ) → k < length rest → is_blank (get_or rest k 0) ≡ false → list_all is_ascii_digit (take k rest) ≡ true
+pub not_whole : {value : ℕ} (rest : List ℕ) (k size : ℕ) → k < length rest → is_blank (get_or rest k 0) ≡ false → list_all is_ascii_digit (take k rest) ≡ true
     → value ≡ digits_value 10 (take k rest) → (k < length rest → (2 ^ 32 < value) ⊎ (is_ascii_digit (get_or rest k 0) ≡ false)) → WritesSize rest size → ⊥
-not_whole rest k value size inside other digits is ends written =
-    end_inside rest k value size (other_within rest k inside digits other) digits is ends written
+not_whole {value} rest k size inside other digits is ends written =
+    end_inside rest k size (other_within rest k inside digits other) digits is ends written
 
 -- digits that are the whole word write their number
-pub whole_word : (rest : List ℕ) (k value : ℕ) → 0 < k → k ≤ length rest → list_all is_ascii_digit (take k rest) ≡ true → value ≡ digits_value 10 (take k rest) → value ≤ 2 ^ 32
+pub whole_word : {k value : ℕ} (rest : List ℕ) → 0 < k → k ≤ length rest → list_all is_ascii_digit (take k rest) ≡ true → value ≡ digits_value 10 (take k rest) → value ≤ 2 ^ 32
     → (k < length rest → is_blank (get_or rest k 0) ≡ true) → (k ≡ word_length rest) × WritesSize rest value
-whole_word rest k value some fits digits is small ends =
+whole_word {k} {value} rest some fits digits is small ends =
     let whole : k ≡ word_length rest = digits_are rest k fits digits ends in
     let long : 0 < length (take k rest) = omega (arith, some, length-take-le k rest fits) in
     let number : number_of (take k rest) ≡ Some value = number_is (take k rest) value long digits is (omega (arith, small)) in

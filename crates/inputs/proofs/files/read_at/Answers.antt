@@ -8,4 +8,4 @@ returns-in-Ok-clause-told g c = λ held bytes told front long.
     let got : IsRead (bytes_named held c.args.name.now) (length bytes) c.in-Ok.count c.read.new.into =
     subst (λ (n : ℕ). IsRead (bytes_named held c.args.name.now) n c.in-Ok.count c.read.new.into) (sym long) ((c.in-Ok.ensures {u = tt}).bytes held told) in
     let fewer : c.min.result ≤ c.in-Ok.count = search rules in
-    more_front held c.args.name.now c.args.size bytes c.read.new.into c.in-Ok.count c.min.result front got fewer
+    more_front c.min.result front got fewer

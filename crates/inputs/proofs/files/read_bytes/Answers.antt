@@ -38,5 +38,5 @@ returns-clause-read g c = λ held told found.
 
 pub loop-more-smaller : goal.loop-more-smaller
 loop-more-smaller g c =
-    measure_falls c.args.size (vec_len c.loop-more.bytes) (vec_len c.read_piece.new.bytes) c.loop-more.more c.in-Ok-read_piece.more c.loop-more-test.true
+    measure_falls c.args.size (vec_len c.loop-more.bytes) (vec_len c.read_piece.new.bytes) c.loop-more-test.true
     (omega (arith, c.if-len-size.true, c.len.ensures)) (c.read_piece.ensures.longer) ((c.in-Ok-read_piece.ensures {u = tt}).grows)

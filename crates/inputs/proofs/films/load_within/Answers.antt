@@ -17,20 +17,20 @@ returns-in-Err-clause-trouble g c =
 pub returns-then-most-size-clause-trouble : goal.returns-then-most-size-clause-trouble
 returns-then-most-size-clause-trouble g c = (
   refl,
-  λ held told. size_above held c.args.name.now c.in-Ok.size c.args.most c.args.over ((c.in-Ok.ensures {u = tt}).found held told) (omega (arith, c.if-most-size.true)),
+  λ held told. size_above held c.args.name.now c.args.most c.args.over ((c.in-Ok.ensures {u = tt}).found held told) (omega (arith, c.if-most-size.true)),
 )
 
 pub returns-in-Err-scan_file-clause-trouble : goal.returns-in-Err-scan_file-clause-trouble
 returns-in-Err-scan_file-clause-trouble g c =
-    bytes_trouble c.args.most c.args.over (g.L.Library.files c.args.library.now) (g.L.Library.faults c.args.library.now) (g.L.Library.faults c.read_bytes.new.library)
-    c.args.name.now c.in-Ok-read_bytes.file.items c.in-Err-scan_file.trouble ((c.in-Err-scan_file.ensures {u = tt}).trouble)
+    bytes_trouble c.args.most c.args.over (g.L.Library.faults c.args.library.now) (g.L.Library.faults c.read_bytes.new.library)
+    c.args.name.now c.in-Err-scan_file.trouble ((c.in-Err-scan_file.ensures {u = tt}).trouble)
     (λ held is. (c.in-Ok-read_bytes.ensures {u = tt}).read held (c.find_file.ensures.library.kept ∙ is) ((c.in-Ok.ensures {u = tt}).found held is))
     (omega (arith, (c.in-Ok-read_bytes.ensures {u = tt}).within, c.in-Ok-read_bytes.file.ok, c.if-most-size.false))
 
 pub returns-in-Ok-store-clause-film : goal.returns-in-Ok-store-clause-film
 returns-in-Ok-store-clause-film g c = λ held is.
     let same : c.in-Ok-store.stored.film ≡ c.in-Ok-scan_file.film = (c.in-Ok-store.ensures {u = tt}).film in
-    film_loaded held c.args.name.now c.in-Ok-read_bytes.file.items c.in-Ok-store.stored.film.bytes.items
+    film_loaded
     ((c.in-Ok-read_bytes.ensures {u = tt}).read held (c.find_file.ensures.library.kept ∙ is) ((c.in-Ok.ensures {u = tt}).found held is))
     (omega (arith, (c.in-Ok-read_bytes.ensures {u = tt}).within, c.in-Ok-read_bytes.file.ok, c.if-most-size.false, c.requires))
     (subst (λ (f : Film). IsVideo c.in-Ok-read_bytes.file.items f.bytes.items) (sym same) ((c.in-Ok-scan_file.ensures {u = tt}).film))
@@ -39,7 +39,7 @@ returns-in-Ok-store-clause-film g c = λ held is.
 pub returns-in-Ok-store-clause-small : goal.returns-in-Ok-store-clause-small
 returns-in-Ok-store-clause-small g c = λ held is fault refused.
     let same : c.in-Ok-store.stored.film ≡ c.in-Ok-scan_file.film = (c.in-Ok-store.ensures {u = tt}).film in
-    file_not_refused held c.args.name.now c.in-Ok-read_bytes.file.items c.in-Ok-store.stored.film.bytes.items c.args.most c.args.over fault
+    file_not_refused held c.args.name.now c.in-Ok-store.stored.film.bytes.items c.args.most c.args.over fault
     ((c.in-Ok-read_bytes.ensures {u = tt}).read held (c.find_file.ensures.library.kept ∙ is) ((c.in-Ok.ensures {u = tt}).found held is))
     (omega (arith, (c.in-Ok-read_bytes.ensures {u = tt}).within, c.in-Ok-read_bytes.file.ok, c.if-most-size.false))
     (subst (λ (f : Film). IsVideo c.in-Ok-read_bytes.file.items f.bytes.items) (sym same) ((c.in-Ok-scan_file.ensures {u = tt}).film))

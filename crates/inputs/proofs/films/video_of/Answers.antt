@@ -16,7 +16,7 @@ returns-in-Ok-clause-video c =
 pub returns-in-Err-Fault-clause-trouble : goal.returns-in-Err-Fault-clause-trouble
 returns-in-Err-Fault-clause-trouble c = (
   refl,
-  fault_is c.args.file.items c.in-Some.from c.in-Err-Fault.fault c.move_fault.result (ap pack_in (sym c.deref.ensures.value) ∙ sym ((c.in-Some.ensures {u = tt}).place))
+  fault_is c.args.file.items (ap pack_in (sym c.deref.ensures.value) ∙ sym ((c.in-Some.ensures {u = tt}).place))
       (omega (arith, (c.in-Some.ensures {u = tt}).within, ap length c.deref.ensures.value)) (omega (arith, c.requires, c.args.file.ok))
       (subst (λ (l : List ℕ). IsRefused (take (length l - c.in-Some.from) (drop c.in-Some.from l)) c.in-Err-Fault.fault) c.deref-2.ensures.value
       (subst (IsStreamRefused (take (length c.deref-2.result.now - c.in-Some.from) (drop c.in-Some.from c.deref-2.result.now))) c.in-Err-Fault.field-0-is ((c.in-Err-Fault.ensures {u = tt}).refused)))

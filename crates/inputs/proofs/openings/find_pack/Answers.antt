@@ -15,14 +15,14 @@ loop-at-preserved g c = record {
   within = (c.in-Ok.ensures {u = tt}).fits;
   told = λ held is found.
       let so_far : HasLooked held c.args.name.now c.args.size c.loop-at.at c.loop-at.prefix = c.loop-at.invariant.told held is found in
-      more_looked held c.args.name.now c.args.size c.loop-at.at c.loop-at.prefix c.in-Open.next c.read_at.new.piece c.in-Ok.count so_far
+      more_looked c.read_at.new.piece c.in-Ok.count so_far
       ((c.in-Ok.ensures {u = tt}).told held so_far.bytes (c.loop-at.invariant.kept ∙ is) so_far.front so_far.long) ((c.in-Ok.ensures {u = tt}).within)
       ((c.in-Open.ensures {u = tt}).opening so_far.bytes so_far.long so_far.unfound);
 }
 
 pub returns-clause-opened : goal.returns-clause-opened
 returns-clause-opened g c = λ held is found.
-    whole_looked held c.args.name.now c.args.size c.loop-at.at c.loop-at.prefix (c.loop-at.invariant.told held is found) (omega (arith, c.loop-at-test.false))
+    whole_looked (c.loop-at.invariant.told held is found) (omega (arith, c.loop-at-test.false))
 
 pub returns-then-count-eq0-clause-opened : goal.returns-then-count-eq0-clause-opened
 returns-then-count-eq0-clause-opened g c = λ held is found.
@@ -38,7 +38,7 @@ returns-in-Pack-clause-opened g c = λ held is found.
       length-take-le c.in-Ok.count c.read_at.new.piece ((c.in-Ok.ensures {u = tt}).within),
       (c.in-Ok.ensures {u = tt}).fits,
     ) in
-    found_opened held c.args.name.now c.args.size (so_far.bytes ++ take c.in-Ok.count c.read_at.new.piece) (Some c.in-Pack.place)
+    found_opened
     ((c.in-Ok.ensures {u = tt}).told held so_far.bytes (c.loop-at.invariant.kept ∙ is) so_far.front so_far.long)
     ((c.in-Pack.ensures {u = tt}).opening so_far.bytes so_far.long so_far.unfound) place
 
@@ -53,12 +53,12 @@ returns-in-Pack-clause-within g c = omega (
 pub returns-in-Other-clause-opened : goal.returns-in-Other-clause-opened
 returns-in-Other-clause-opened g c = λ held is found.
     let so_far : HasLooked held c.args.name.now c.args.size c.loop-at.at c.loop-at.prefix = c.loop-at.invariant.told held is found in
-    found_opened held c.args.name.now c.args.size (so_far.bytes ++ take c.in-Ok.count c.read_at.new.piece) None
+    found_opened
     ((c.in-Ok.ensures {u = tt}).told held so_far.bytes (c.loop-at.invariant.kept ∙ is) so_far.front so_far.long)
     ((c.in-Other.ensures {u = tt}).opening so_far.bytes so_far.long so_far.unfound) tt
 
 pub returns-in-Err-clause-trouble : goal.returns-in-Err-clause-trouble
 returns-in-Err-clause-trouble g c =
-    trouble_on c.args.name.now IsNever (g.L.Library.files c.args.library.now) (g.L.Library.files c.loop-at.library)
+    trouble_on c.args.name.now IsNever
     (g.L.Library.faults c.args.library.now) (g.L.Library.faults c.loop-at.library) (g.L.Library.faults c.read_at.new.library)
     c.in-Err.trouble c.loop-at.invariant.kept c.loop-at.invariant.count ((c.in-Err.ensures {u = tt}).trouble)

@@ -6,18 +6,18 @@ use Rattle.inputs.proofs.openings.open_piece.Goals as goal
 pub returns-in-Whole-clause-opening : goal.returns-in-Whole-clause-opening
 returns-in-Whole-clause-opening c = λ seen long so_far.
     let byte : eqb (get_or c.args.piece.now c.loop-index.index 0) 0xba ≡ true = eq-eqb (get_or c.args.piece.now c.loop-index.index 0) 0xba c.if-byte.true in
-    found_step c.loop-index.prefix seen c.args.piece.now c.loop-index.index c.args.at (Some c.saturating_sub.result) c.loop-index-test.true long
+    found_step seen c.args.piece.now c.loop-index.index c.loop-index-test.true long
     (c.loop-index.invariant seen long so_far) c.in-Whole.is
     (ap (λ (b : Bool). cond b (Some (c.args.at + c.loop-index.index - 3)) None) byte ∙ ap (λ (n : ℕ). Some n) (sym c.saturating_sub.ensures))
 
 pub returns-in-Whole-2-clause-opening : goal.returns-in-Whole-2-clause-opening
 returns-in-Whole-2-clause-opening c = λ seen long so_far.
     let byte : eqb (get_or c.args.piece.now c.loop-index.index 0) 0xba ≡ false = ne_eqb (get_or c.args.piece.now c.loop-index.index 0) 0xba c.if-byte.false in
-    found_step c.loop-index.prefix seen c.args.piece.now c.loop-index.index c.args.at None c.loop-index-test.true long
+    found_step seen c.args.piece.now c.loop-index.index c.loop-index-test.true long
     (c.loop-index.invariant seen long so_far) c.in-Whole.is
     (ap (λ (b : Bool). cond b (Some (c.args.at + c.loop-index.index - 3)) None) byte)
 
 pub loop-index-preserved : goal.loop-index-preserved
 loop-index-preserved c = λ seen long so_far.
-    open_step c.loop-index.prefix c.then-prefix.result seen c.args.piece.now c.loop-index.index c.loop-index-test.true (c.loop-index.invariant seen long so_far)
+    open_step seen c.args.piece.now c.loop-index.index c.loop-index-test.true (c.loop-index.invariant seen long so_far)
     (not_whole c.loop-index.prefix c.in_default.not-Whole) c.then-prefix.ensures

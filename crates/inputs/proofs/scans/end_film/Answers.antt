@@ -7,7 +7,7 @@ use Rattle.inputs.proofs.scans.end_film.Goals as goal
 
 pub returns-in-Ok-clause-ended : goal.returns-in-Ok-clause-ended
 returns-in-Ok-clause-ended g c = λ video short taken. elim taken [
-  | inl so_far ↦ told_ended (g.F.Found.heard c.args.found.now) (g.F.Found.heard c.finish.new.found) c.args.scanner video c.in-Ok.ending.bytes c.in-Ok.ending.rate so_far
+  | inl so_far ↦ told_ended so_far
       ((c.in-Ok.ensures {u = tt}).ended) ((c.in-Ok.ensures {u = tt}).told)
   | inr so_far ↦ (let answered : c.finish.result ≡ Err (FaultAnswer so_far.fault) = (c.finish.ensures.again (FaultAnswer so_far.fault) so_far.answers).0 in absurd (cc))
 ]

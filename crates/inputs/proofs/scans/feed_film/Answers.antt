@@ -37,7 +37,7 @@ loop-more-preserved g c = (
 
 pub returns-clause-scanned : goal.returns-clause-scanned
 returns-clause-scanned g c =
-    all_scanned (g.F.Found.heard c.loop-more.found) (g.L.Library.files c.args.library.now) c.args.name.now c.args.size c.loop-more.at c.loop-more.scanner
+    all_scanned
     c.loop-more.invariant.0.scanned c.loop-more.invariant.0.within
     (λ held is. elim c.loop-more-test.branch [
       | then-loop-more-test+else-at-size w ↦ omega (arith, w.if-at-size.false)

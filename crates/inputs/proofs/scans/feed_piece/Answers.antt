@@ -7,7 +7,7 @@ pub feed-requires-clause-short : goal.feed-requires-clause-short
 feed-requires-clause-short g c =
     omega (
       arith,
-      scanned_fed (g.F.Found.heard c.args.found.now) (g.L.Library.files c.args.library.now) c.args.name.now c.args.size c.args.at c.args.scanner.now c.requires.scanned,
+      scanned_fed c.requires.scanned,
       length-take-le c.in-Ok.count c.read_at.new.piece ((c.in-Ok.ensures {u = tt}).within),
       (c.in-Ok.ensures {u = tt}).fits,
       c.requires.short,
@@ -15,8 +15,8 @@ feed-requires-clause-short g c =
 
 pub returns-in-Ok-feed-clause-scanned : goal.returns-in-Ok-feed-clause-scanned
 returns-in-Ok-feed-clause-scanned g c =
-    more_scanned (g.F.Found.heard c.args.found.now) (g.F.Found.heard c.feed.new.found) (g.L.Library.files c.args.library.now) c.args.name.now c.args.size c.args.at
-    c.args.scanner.now c.feed.new.self c.read_at.new.piece c.in-Ok.count c.requires.scanned
+    more_scanned
+    c.read_at.new.piece c.in-Ok.count c.requires.scanned
     (λ held is. (c.in-Ok.ensures {u = tt}).told held c.requires.scanned.bytes is (c.requires.scanned.front held is) c.requires.scanned.long)
     ((c.in-Ok.ensures {u = tt}).within) ((c.in-Ok-feed.ensures {u = tt}).kept) ((c.in-Ok-feed.ensures {u = tt}).told)
 
@@ -28,8 +28,8 @@ pub returns-in-Err-Fault-clause-trouble : goal.returns-in-Err-Fault-clause-troub
 returns-in-Err-Fault-clause-trouble g c = (
   refl,
   λ held is.
-      piece_refused (g.F.Found.heard c.args.found.now) held c.args.name.now c.args.size c.args.scanner.now c.requires.scanned.bytes
-      (take c.in-Ok.count c.read_at.new.piece) c.in-Err-Fault.fault c.requires.scanned.scanned (c.requires.opened held is)
+      piece_refused
+      (take c.in-Ok.count c.read_at.new.piece) c.requires.scanned.scanned (c.requires.opened held is)
       ((c.in-Ok.ensures {u = tt}).told held c.requires.scanned.bytes is (c.requires.scanned.front held is) c.requires.scanned.long) c.requires.short
       (c.feed.ensures.fault c.in-Err-Fault.fault (cc)),
 )

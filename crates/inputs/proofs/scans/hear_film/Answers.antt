@@ -33,22 +33,22 @@ scan_stream-requires-clause-opened g c = λ held is.
 
 pub returns-in-Ok-None-clause-film : goal.returns-in-Ok-None-clause-film
 returns-in-Ok-None-clause-film g c =
-    heard_on (g.F.Found.heard c.scan_plain.new.found) c.args.name.now (g.L.Library.files c.args.library.now) (g.L.Library.files c.find_pack.new.library) c.scan_plain.result
+    heard_on (g.F.Found.heard c.scan_plain.new.found) c.args.name.now c.scan_plain.result
     (c.find_pack.ensures.library.kept ∙ c.find_file.ensures.library.kept) c.scan_plain.ensures.film
 
 pub returns-in-Ok-None-clause-trouble : goal.returns-in-Ok-None-clause-trouble
 returns-in-Ok-None-clause-trouble g c =
-    troubles_on c.args.name.now (g.L.Library.files c.args.library.now) (g.L.Library.files c.find_pack.new.library)
+    troubles_on c.args.name.now
     (g.L.Library.faults c.args.library.now) (g.L.Library.faults c.find_pack.new.library) (g.L.Library.faults c.scan_plain.new.library) c.scan_plain.result
     (c.find_pack.ensures.library.kept ∙ c.find_file.ensures.library.kept) (omega (arith, c.find_file.ensures.library.count, c.find_pack.ensures.library.count)) c.scan_plain.ensures.trouble
 
 pub returns-in-Ok-Some-clause-film : goal.returns-in-Ok-Some-clause-film
 returns-in-Ok-Some-clause-film g c =
-    heard_on (g.F.Found.heard c.scan_stream.new.found) c.args.name.now (g.L.Library.files c.args.library.now) (g.L.Library.files c.find_pack.new.library) c.scan_stream.result
+    heard_on (g.F.Found.heard c.scan_stream.new.found) c.args.name.now c.scan_stream.result
     (c.find_pack.ensures.library.kept ∙ c.find_file.ensures.library.kept) c.scan_stream.ensures.film
 
 pub returns-in-Ok-Some-clause-trouble : goal.returns-in-Ok-Some-clause-trouble
 returns-in-Ok-Some-clause-trouble g c =
-    troubles_on c.args.name.now (g.L.Library.files c.args.library.now) (g.L.Library.files c.find_pack.new.library)
+    troubles_on c.args.name.now
     (g.L.Library.faults c.args.library.now) (g.L.Library.faults c.find_pack.new.library) (g.L.Library.faults c.scan_stream.new.library) c.scan_stream.result
     (c.find_pack.ensures.library.kept ∙ c.find_file.ensures.library.kept) (omega (arith, c.find_file.ensures.library.count, c.find_pack.ensures.library.count)) c.scan_stream.ensures.trouble

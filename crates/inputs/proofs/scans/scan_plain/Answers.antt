@@ -8,7 +8,7 @@ use Rattle.inputs.proofs.scans.scan_plain.Goals as goal
 
 pub feed_film-requires-clause-scanned : goal.feed_film-requires-clause-scanned
 feed_film-requires-clause-scanned g c =
-    first_scanned (g.F.Found.heard c.args.found.now) (g.L.Library.files c.args.library.now) c.args.name.now c.args.size c.new-scanner.result None
+    first_scanned None
     c.requires.opened c.new-scanner.ensures.fed c.requires.fresh
 
 pub returns-in-Ok-clause-film : goal.returns-in-Ok-clause-film
@@ -18,8 +18,8 @@ returns-in-Ok-clause-film g c =
     let short : length all.bytes ≤ 2 ^ 40 = omega (arith, all.few, c.requires.short) in
     ok_map (λ e. HasEnded (g.F.Found.heard c.end_film.new.found) all.bytes e.bytes e.rate)
     (λ e. HasHeard (g.F.Found.heard c.end_film.new.found) (g.L.Library.files c.args.library.now) c.args.name.now e.bytes e.rate) c.end_film.result
-    (λ e ended. film_heard (g.F.Found.heard c.feed_film.new.found) (g.F.Found.heard c.end_film.new.found) (g.L.Library.files c.args.library.now) c.args.name.now c.args.size
-    c.feed_film.new.scanner e.bytes e.rate c.requires.short c.requires.opened all ended)
+    (λ e ended. film_heard
+    c.requires.short c.requires.opened all ended)
     (c.end_film.ensures.ended all.bytes short (inl all.scanned))
 
 pub returns-in-Ok-clause-trouble : goal.returns-in-Ok-clause-trouble
@@ -29,8 +29,8 @@ returns-in-Ok-clause-trouble g c =
     let short : length all.bytes ≤ 2 ^ 40 = omega (arith, all.few, c.requires.short) in
     err_map (IsFilmTrouble c.args.name.now (IsRefusedAtEnd (g.F.Found.heard c.feed_film.new.found) c.feed_film.new.scanner))
     (IsReadTrouble (IsNamed c.args.name.now) IsFilmRefused (g.L.Library.files c.args.library.now) (g.L.Library.faults c.args.library.now) (g.L.Library.faults c.feed_film.new.library)) c.end_film.result
-    (λ t h. end_trouble c.args.name.now (IsRefusedAtEnd (g.F.Found.heard c.feed_film.new.found) c.feed_film.new.scanner) (g.L.Library.files c.args.library.now)
+    (λ t h. end_trouble c.args.name.now (IsRefusedAtEnd (g.F.Found.heard c.feed_film.new.found) c.feed_film.new.scanner)
     (g.L.Library.faults c.args.library.now) (g.L.Library.faults c.feed_film.new.library) t
-    (λ held fault is refuses. end_refused (g.F.Found.heard c.feed_film.new.found) (g.L.Library.files c.args.library.now) held c.args.name.now c.args.size c.feed_film.new.scanner fault
+    (λ held fault is refuses. end_refused
     c.requires.short c.requires.opened all is (refuses all.bytes short (inl all.scanned))) h)
     c.end_film.ensures.trouble

@@ -32,7 +32,7 @@ loop-more-preserved g c = record {
 
 pub returns-clause-streamed : goal.returns-clause-streamed
 returns-clause-streamed g c =
-    all_streamed (g.F.Found.heard c.loop-more.found) (g.L.Library.files c.args.library.now) c.args.name.now c.args.size c.args.from c.loop-more.at c.loop-more.unwrapper c.loop-more.scanner
+    all_streamed
     c.loop-more.invariant.streamed c.loop-more.invariant.within
     (λ held is. elim c.loop-more-test.branch [
       | then-loop-more-test+else-at-size w ↦ omega (arith, w.if-at-size.false)
@@ -41,6 +41,6 @@ returns-clause-streamed g c =
 
 pub returns-in-Err-clause-trouble : goal.returns-in-Err-clause-trouble
 returns-in-Err-clause-trouble g c =
-    trouble_on c.args.name.now IsFilmRefused (g.L.Library.files c.args.library.now) (g.L.Library.files c.loop-more.library)
+    trouble_on c.args.name.now IsFilmRefused
     (g.L.Library.faults c.args.library.now) (g.L.Library.faults c.loop-more.library) (g.L.Library.faults c.feed_stream_piece.new.library)
     c.in-Err.trouble c.loop-more.invariant.kept c.loop-more.invariant.count ((c.in-Err.ensures {u = tt}).trouble)

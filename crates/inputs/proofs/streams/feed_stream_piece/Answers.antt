@@ -8,7 +8,7 @@ pub unwrap_piece-requires-clause-room : goal.unwrap_piece-requires-clause-room
 unwrap_piece-requires-clause-room g c =
     omega (
       arith,
-      streamed_fed (g.F.Found.heard c.args.found.now) (g.L.Library.files c.args.library.now) c.args.name.now c.args.size c.args.from c.args.at c.args.unwrapper.now c.args.scanner.now c.requires.streamed,
+      streamed_fed c.requires.streamed,
       length-take-le c.in-Ok.count c.read_at.new.piece ((c.in-Ok.ensures {u = tt}).within),
       (c.in-Ok.ensures {u = tt}).fits,
       c.requires.short,
@@ -16,8 +16,8 @@ unwrap_piece-requires-clause-room g c =
 
 pub returns-in-Ok-unwrap_piece-clause-streamed : goal.returns-in-Ok-unwrap_piece-clause-streamed
 returns-in-Ok-unwrap_piece-clause-streamed g c =
-    more_streamed (g.F.Found.heard c.args.found.now) (g.F.Found.heard c.unwrap_piece.new.found) (g.L.Library.files c.args.library.now) c.args.name.now c.args.size c.args.from c.args.at
-    c.args.unwrapper.now c.unwrap_piece.new.unwrapper c.args.scanner.now c.unwrap_piece.new.scanner c.read_at.new.piece c.in-Ok.count c.requires.streamed
+    more_streamed
+    c.read_at.new.piece c.in-Ok.count c.requires.streamed
     (λ held is bytes front long. (c.in-Ok.ensures {u = tt}).told held bytes is front long) ((c.in-Ok.ensures {u = tt}).within)
     ((c.in-Ok-unwrap_piece.ensures {u = tt}).next c.requires.streamed.seen c.requires.streamed.unwrapped)
 
@@ -31,8 +31,8 @@ pub returns-in-Err-Fault-clause-trouble : goal.returns-in-Err-Fault-clause-troub
 returns-in-Err-Fault-clause-trouble g c = (
   refl,
   λ held is.
-      piece_fault held c.args.name.now c.args.size c.args.from c.requires.streamed.seen (take c.in-Ok.count c.read_at.new.piece) c.in-Err-Fault.fault c.move_fault.result
-      (front_more held c.args.name.now c.args.size c.args.from c.args.at c.requires.streamed.seen (take c.in-Ok.count c.read_at.new.piece) (c.requires.streamed.front held is) c.requires.streamed.long
+      piece_fault c.requires.streamed.seen (take c.in-Ok.count c.read_at.new.piece)
+      (front_more c.args.from c.requires.streamed.seen (take c.in-Ok.count c.read_at.new.piece) (c.requires.streamed.front held is) c.requires.streamed.long
       (λ bytes front long. (c.in-Ok.ensures {u = tt}).told held bytes is front long))
       (c.requires.opened held is) c.requires.short
       (subst (IsPieceRefused c.requires.streamed.seen (take c.in-Ok.count c.read_at.new.piece)) c.in-Err-Fault.field-0-is

@@ -10,7 +10,7 @@ use Rattle.inputs.proofs.streams.scan_stream.Goals as goal
 
 pub feed_stream-requires-clause-streamed : goal.feed_stream-requires-clause-streamed
 feed_stream-requires-clause-streamed g c =
-    first_streamed (g.F.Found.heard c.args.found.now) (g.L.Library.files c.args.library.now) c.args.name.now c.args.size c.args.from c.new-unwrapper.result c.new-scanner.result
+    first_streamed
     c.requires.opened c.new-unwrapper.ensures c.new-scanner.ensures.fed c.requires.fresh
 
 pub feed_stream-requires-clause-few : goal.feed_stream-requires-clause-few
@@ -22,11 +22,11 @@ returns-in-Ok-finish-clause-film g c =
     (c.in-Ok.ensures {u = tt}).streamed in
     let system : IsSystem all.seen all.unwrapped.video = (c.in-Ok-finish.ensures {u = tt}).end all.seen all.unwrapped.video all.unwrapped.fed in
     let short : length all.unwrapped.video ≤ 2 ^ 40 =
-    video_short (g.F.Found.heard c.feed_stream.new.found) (g.L.Library.files c.args.library.now) c.args.name.now c.args.size c.args.from c.feed_stream.new.unwrapper c.feed_stream.new.scanner c.requires.short all in
+    video_short c.requires.short all in
     ok_map (λ e. HasEnded (g.F.Found.heard c.end_film.new.found) all.unwrapped.video e.bytes e.rate)
     (λ e. HasHeard (g.F.Found.heard c.end_film.new.found) (g.L.Library.files c.args.library.now) c.args.name.now e.bytes e.rate) c.end_film.result
-    (λ e ended. stream_heard (g.F.Found.heard c.feed_stream.new.found) (g.F.Found.heard c.end_film.new.found) (g.L.Library.files c.args.library.now) c.args.name.now c.args.size c.args.from
-    c.feed_stream.new.unwrapper c.feed_stream.new.scanner e.bytes e.rate c.requires.short c.requires.opened all system ended)
+    (λ e ended. stream_heard
+    c.requires.short c.requires.opened all system ended)
     (c.end_film.ensures.ended all.unwrapped.video short all.unwrapped.taken)
 
 pub returns-in-Ok-finish-clause-trouble : goal.returns-in-Ok-finish-clause-trouble
@@ -35,13 +35,13 @@ returns-in-Ok-finish-clause-trouble g c =
     (c.in-Ok.ensures {u = tt}).streamed in
     let system : IsSystem all.seen all.unwrapped.video = (c.in-Ok-finish.ensures {u = tt}).end all.seen all.unwrapped.video all.unwrapped.fed in
     let short : length all.unwrapped.video ≤ 2 ^ 40 =
-    video_short (g.F.Found.heard c.feed_stream.new.found) (g.L.Library.files c.args.library.now) c.args.name.now c.args.size c.args.from c.feed_stream.new.unwrapper c.feed_stream.new.scanner c.requires.short all in
+    video_short c.requires.short all in
     err_map (IsFilmTrouble c.args.name.now (IsRefusedAtEnd (g.F.Found.heard c.feed_stream.new.found) c.feed_stream.new.scanner))
     (IsReadTrouble (IsNamed c.args.name.now) IsFilmRefused (g.L.Library.files c.args.library.now) (g.L.Library.faults c.args.library.now) (g.L.Library.faults c.feed_stream.new.library)) c.end_film.result
-    (λ t h. end_trouble c.args.name.now (IsRefusedAtEnd (g.F.Found.heard c.feed_stream.new.found) c.feed_stream.new.scanner) (g.L.Library.files c.args.library.now)
+    (λ t h. end_trouble c.args.name.now (IsRefusedAtEnd (g.F.Found.heard c.feed_stream.new.found) c.feed_stream.new.scanner)
     (g.L.Library.faults c.args.library.now) (g.L.Library.faults c.feed_stream.new.library) t
-    (λ held fault is refuses. video_refused (g.F.Found.heard c.feed_stream.new.found) (g.L.Library.files c.args.library.now) held c.args.name.now c.args.size c.args.from
-    c.feed_stream.new.unwrapper c.feed_stream.new.scanner fault c.requires.short c.requires.opened all is system (refuses all.unwrapped.video short all.unwrapped.taken)) h)
+    (λ held fault is refuses. video_refused
+    c.requires.short c.requires.opened all is system (refuses all.unwrapped.video short all.unwrapped.taken)) h)
     c.end_film.ensures.trouble
 
 pub returns-in-Err-finish-clause-trouble : goal.returns-in-Err-finish-clause-trouble
@@ -50,8 +50,8 @@ returns-in-Err-finish-clause-trouble g c = (
   λ held is.
       let all : HasStreamedAll (g.F.Found.heard c.feed_stream.new.found) (g.L.Library.files c.args.library.now) c.args.name.now c.args.size c.args.from c.feed_stream.new.unwrapper c.feed_stream.new.scanner =
       (c.in-Ok.ensures {u = tt}).streamed in
-      end_fault (g.F.Found.heard c.feed_stream.new.found) (g.L.Library.files c.args.library.now) held c.args.name.now c.args.size c.args.from c.feed_stream.new.unwrapper c.feed_stream.new.scanner
-      c.in-Err-finish.fault c.move_fault.result all is c.requires.opened c.requires.short
+      end_fault
+      all is c.requires.opened c.requires.short
       ((c.in-Err-finish.ensures {u = tt}).end all.seen all.unwrapped.video all.unwrapped.fed) c.move_fault.ensures,
 )
 

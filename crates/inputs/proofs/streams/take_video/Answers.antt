@@ -10,7 +10,7 @@ use Rattle.inputs.proofs.streams.take_video.Goals as goal
 
 pub returns-in-Ok-clause-taken : goal.returns-in-Ok-clause-taken
 returns-in-Ok-clause-taken g c = λ seen taken. elim taken [
-  | inl so_far ↦ inl (more_told (g.F.Found.heard c.args.found.now) (g.F.Found.heard c.feed.new.found) c.args.scanner.now c.feed.new.self seen c.args.video.now so_far
+  | inl so_far ↦ inl (more_told c.args.video.now so_far
       ((c.in-Ok.ensures {u = tt}).kept) ((c.in-Ok.ensures {u = tt}).told))
   | inr so_far ↦ (let answered : c.feed.result ≡ Err (FaultAnswer so_far.fault) = (c.feed.ensures.again (FaultAnswer so_far.fault) so_far.answers).0 in absurd (cc))
 ]

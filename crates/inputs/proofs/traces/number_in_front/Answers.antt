@@ -11,7 +11,7 @@ returns-then-number-eq0 c = λ size written.
     let read = c.digits_in_front-number.ensures in
     elim c.then-number-eq0.branch [
       | then-number-eq0-via-then-number-eq0 w ↦
-          no_digits c.args.rest.now number.len number.value size (omega (arith, w.if-number-eq0.true)) read.digits read.value read.ends written
+          no_digits c.args.rest.now size (omega (arith, w.if-number-eq0.true)) read.digits read.value read.ends written
       | then-number-eq0-via-else-number-eq0+then-number-gt-MOST_SIZE w ↦
           too_large c.args.rest.now number.len size read.within read.digits (omega (arith, w.if-number-gt-MOST_SIZE.true, read.value)) written
     ]
@@ -20,7 +20,7 @@ pub returns-then-not-is_blank : goal.returns-then-not-is_blank
 returns-then-not-is_blank c = λ size written.
     let number = c.digits_in_front-number.result in
     let read = c.digits_in_front-number.ensures in
-    not_whole c.args.rest.now number.len number.value size (omega (arith, c.if-number-rest.true)) (sym c.is_blank.ensures ∙ c.if-not-is_blank.true) read.digits read.value read.ends written
+    not_whole c.args.rest.now number.len size (omega (arith, c.if-number-rest.true)) (sym c.is_blank.ensures ∙ c.if-not-is_blank.true) read.digits read.value read.ends written
 
 pub returns : goal.returns
 returns c =
@@ -31,4 +31,4 @@ returns c =
       | else-number-rest-via-then-number-rest+else-not-is_blank w ↦ sym w.is_blank.ensures ∙ w.if-not-is_blank.false
       | else-number-rest-via-else-number-rest w ↦ absurd (omega (arith, w.if-number-rest.false, inside))
     ] in
-    whole_word c.args.rest.now number.len number.value (omega (arith, c.if-number-eq0.false)) read.within read.digits read.value (omega (arith, c.if-number-gt-MOST_SIZE.false)) ends
+    whole_word c.args.rest.now (omega (arith, c.if-number-eq0.false)) read.within read.digits read.value (omega (arith, c.if-number-gt-MOST_SIZE.false)) ends

@@ -9,7 +9,7 @@ returns-in_default-next_size-clause-refused c =
     let from = c.in-Some.from in
     let place = c.in-Some.ensures {u = tt} in
     let counted : c.len.result ≡ length c.loop-from.sizes.items = omega (arith, c.len.ensures, c.loop-from.sizes.ok) in
-    next_bad text (take (length text - from) (drop from text)) c.loop-from.at from c.loop-from.sizes.items c.loop-from.total c.len.result
+    next_bad
     c.loop-from.invariant counted place.3 place.2 (slice_from text from) (c.in_default-next_size.ensures {u = tt})
 
 pub loop-from-preserved : goal.loop-from-preserved
@@ -19,7 +19,7 @@ loop-from-preserved c =
     let place = c.in-Some.ensures {u = tt} in
     let size = c.in-Some-next_size.ensures {u = tt} in
     let counted : c.len.result ≡ length c.loop-from.sizes.items = omega (arith, c.len.ensures, c.loop-from.sizes.ok) in
-    let read = next_read text (take (length text - from) (drop from text)) c.loop-from.at from c.in-Some-next_size.size.len c.loop-from.sizes.items c.loop-from.total
-    c.len.result c.in-Some-next_size.size.value c.loop-from.invariant counted place.3 place.2 place.1 (slice_from text from) size.0 size.1 in
+    let read = next_read from
+    c.loop-from.invariant counted place.3 place.2 place.1 (slice_from text from) size.0 size.1 in
     let pushed : c.push.new.self.items ≡ c.loop-from.sizes.items ++ c.in-Some-next_size.size.value ∷ [] = search rules in
     rw pushed read

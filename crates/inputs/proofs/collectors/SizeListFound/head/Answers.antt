@@ -5,4 +5,4 @@ use Rattle.inputs.proofs.collectors.SizeListFound.head.Goals as goal
 
 pub returns-clause-heard : goal.returns-clause-heard
 returns-clause-heard c = λ calls so_far.
-    sized-more calls (head_call c.args.from c.args.to) c.args.self.now.unit c.begin-self.result c.args.self.now.sizes.items c.args.self.now.sizes.items so_far c.begin-self.ensures.begun refl
+    sized-more (head_call c.args.from c.args.to) so_far c.begin-self.ensures.begun refl

@@ -5,4 +5,4 @@ use Rattle.inputs.proofs.collectors.SizeListFound.slice.Goals as goal
 
 pub returns-clause-heard : goal.returns-clause-heard
 returns-clause-heard c = λ calls so_far.
-    sized-more calls (slice_call c.args.from c.args.to) c.args.self.now.unit c.slice.new.self c.args.self.now.sizes.items c.args.self.now.sizes.items so_far c.slice.ensures.slice refl
+    sized-more (slice_call c.args.from c.args.to) so_far c.slice.ensures.slice refl

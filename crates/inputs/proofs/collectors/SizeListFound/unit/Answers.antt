@@ -10,6 +10,6 @@ returns-in-Ok c = λ calls so_far.
     let report : c.if-unit.report ≡ (if c.args.unit.starts_group then 52 else 0) = search rules in
     let size : c.if-unit.report + c.end.result ≡ (if c.args.unit.starts_group then 52 else 0) + frames_of c.args.self.now.unit =
     ap (λ n. n + c.end.result) report ∙ ap (λ n. (if c.args.unit.starts_group then 52 else 0) + n) ended in
-    sized-more calls (unit_call c.args.unit) c.args.self.now.unit c.replace-ended.new.dest c.args.self.now.sizes.items c.push.new.self.items so_far
+    sized-more (unit_call c.args.unit) so_far
     (c.replace-ended.ensures.after ∙ c.begin.ensures.begun)
     ((c.in-Ok.ensures {u = tt}).items ∙ ap (λ (n : ℕ). c.args.self.now.sizes.items ++ n ∷ []) size)
