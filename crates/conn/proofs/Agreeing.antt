@@ -19,23 +19,24 @@ use Rattle.conn.specs.Parts.{AreServed, AreTold, HasServedOne, IsUntouched, fres
 use Rattle.conn.proofs.Sighting.{told_none}
 
 -- what a connection told at its end is what it told before, and more
-told_after : (session : Standing) (old new : Option (List Doing)) (seat next : Sitting) (report : ConnReport) → HasServedConnection session old new seat next report →
+told_after : {new : Option (List Doing)} (session : Standing) (old : Option (List Doing)) (seat next : Sitting)
+    (report : ConnReport) → HasServedConnection session old new seat next report →
     (doings : List Doing) × (new ≡ told_more old doings)
-told_after session old new seat next report (inl from) =
+told_after {new} session old seat next report (inl from) =
     (rounds_doings from.course.rounds ++ ending_doings from.course.ending, from.told ∙ from.course.told)
-told_after session old new seat next report (inr none) = ([], none.told ∙ sym (told_none old))
+told_after {new} session old seat next report (inr none) = ([], none.told ∙ sym (told_none old))
 
 fresh_is : (old new : Option (List Doing)) (doings : List Doing) → IfSome old (λ told. told ≡ []) → new ≡ told_more old doings → old ≡ fresh_told new
 fresh_is None new doings fresh is = sym (ap fresh_told is)
 fresh_is (Some told) new doings fresh is = ap Some fresh ∙ sym (ap fresh_told is)
 
-pub served_fresh : (films : List Stored) (settings : Settings) (words : List ℕ) (old new : Option (List Doing)) (before after : ℕ) (seat next : Sitting)
-    (report : ConnReport) → before ≡ 0 → IfSome old (λ told. told ≡ []) → report.words ≡ words →
+pub served_fresh : {films : List Stored} {settings : Settings} {words : List ℕ} {before : ℕ} {seat next : Sitting}
+    {report : ConnReport} (old new : Option (List Doing)) (after : ℕ) → before ≡ 0 → IfSome old (λ told. told ≡ []) → report.words ≡ words →
     HasServedConnection (new_standing films settings words) old new seat next report →
     KeepsPromise (new_standing films settings words) old new seat next report → (report.end ≡ LinkFault → HasRisen before after) →
     HasServedOne films settings (record { faults = after; told = new }) report seat next
-served_fresh films settings words old new before after seat next report zero fresh is_words served keeps fault =
-    let more = told_after (new_standing films settings words) old new seat next report served in
+served_fresh {films} {settings} {words} {seat} {next} {report} old new after zero fresh is_words served keeps fault =
+    let more = told_after (new_standing films settings words) old seat next report served in
     let told : HasServedConnection (new_standing films settings words) (fresh_told new) new seat next report =
     subst (λ t. HasServedConnection (new_standing films settings words) t new seat next report) (fresh_is old new more.0 fresh more.1) served in
     let kept : KeepsPromise (new_standing films settings words) (fresh_told new) new seat next report =
@@ -46,31 +47,36 @@ served_fresh films settings words old new before after seat next report zero fre
     }
 
 -- one more connection
-pub served_more : (films : List Stored) (settings : Settings) (old mid new : Sitting) (back : List Returned) (reports : List ConnReport) (returned : Returned) (report : ConnReport) →
+pub served_more : {films : List Stored} {settings : Settings} {mid new : Sitting} {returned : Returned}
+    {report : ConnReport} (old : Sitting) (back : List Returned) (reports : List ConnReport) →
     AreServed films settings old back reports mid → HasServedOne films settings returned report mid new → AreServed films settings old (back ++ returned ∷ []) (reports ++ report ∷ []) new
-served_more films settings old mid new [] [] returned report are one = (new, (subst (λ s. HasServedOne films settings returned report s new) are one, refl))
-served_more films settings old mid new [] (r ∷ reports) returned report are one = absurd are
-served_more films settings old mid new (b ∷ back) [] returned report are one = absurd are
-served_more films settings old mid new (b ∷ back) (r ∷ reports) returned report are one =
-    (are.0, (are.1.0, served_more films settings are.0 mid new back reports returned report are.1.1 one))
+served_more {films} {settings} {new} {returned} {report} old [] [] are one = (new, (subst (λ s. HasServedOne films settings returned report s new) are one, refl))
+served_more {new} {returned} old [] (r ∷ reports) are one = absurd are
+served_more {new} {returned} old (b ∷ back) [] are one = absurd are
+served_more {new} {returned} old (b ∷ back) (r ∷ reports) are one =
+    (are.0, (are.1.0, served_more are.0 back reports are.1.1 one))
 
 -- the same of what is told of the part
-pub told_first : (films : List Stored) (settings : Settings) (part : Option Content) (seat : Sitting) (reports : List ConnReport) → IfSome part IsUntouched → reports ≡ [] → AreTold films settings part reports seat seat
-told_first films settings None seat reports untouched none = tt
-told_first films settings (Some part) seat reports untouched none =
+pub told_first : {reports : List ConnReport} (films : List Stored) (settings : Settings) (part : Option Content)
+    (seat : Sitting) → IfSome part IsUntouched → reports ≡ [] → AreTold films settings part reports seat seat
+told_first films settings None seat untouched none = tt
+told_first {reports} films settings (Some part) seat untouched none =
     subst (λ bs. AreServed films settings seat bs reports seat) (sym untouched.back) (subst (λ rs. AreServed films settings seat [] rs seat) (sym none) refl)
 
-pub told_one : (films : List Stored) (settings : Settings) (mid taken new : Option Content) (old between next : Sitting) (reports more : List ConnReport) (returned : Returned) (report : ConnReport) →
+pub told_one : {films : List Stored} {settings : Settings} {taken new : Option Content} {between next : Sitting}
+    {more : List ConnReport} {returned : Returned} {report : ConnReport} (mid : Option Content) (old : Sitting)
+    (reports : List ConnReport) →
     AreTold films settings mid reports old between → taken ≡ option_map after_take mid → new ≡ option_map (after_return returned) taken → more ≡ reports ++ report ∷ [] →
     HasServedOne films settings returned report between next → AreTold films settings new more old next
-told_one films settings None taken new old between next reports more returned report are is back items one =
+told_one {films} {settings} {taken} {new} {between} {next} {more} {returned} None old reports are is back items one =
     subst (λ c. AreTold films settings c more old next) (sym (back ∙ ap (option_map (after_return returned)) is)) tt
-told_one films settings (Some mid) taken new old between next reports more returned report are is back items one =
+told_one {films} {settings} {taken} {new} {between} {next} {more} {returned} (Some mid) old reports are is back items one =
     subst (λ c. AreTold films settings c more old next) (sym (back ∙ ap (option_map (after_return returned)) is))
     (subst (λ rs. AreServed films settings old (mid.own.back ++ returned ∷ []) rs next) (sym items)
-    (served_more films settings old between next mid.own.back reports returned report are one))
+    (served_more old mid.own.back reports are one))
 
-pub told_end : (films : List Stored) (settings : Settings) (mid new : Option Content) (old next : Sitting) (reports : List ConnReport) (last : LastTake) → AreTold films settings mid reports old next →
+pub told_end : {new : Option Content} (films : List Stored) (settings : Settings) (mid : Option Content)
+    (old next : Sitting) (reports : List ConnReport) (last : LastTake) → AreTold films settings mid reports old next →
     new ≡ option_map (after_empty_take last) mid → AreTold films settings new reports old next
-told_end films settings None new old next reports last are is = subst (λ c. AreTold films settings c reports old next) (sym is) tt
-told_end films settings (Some mid) new old next reports last are is = subst (λ c. AreTold films settings c reports old next) (sym is) are
+told_end {new} films settings None old next reports last are is = subst (λ c. AreTold films settings c reports old next) (sym is) tt
+told_end {new} films settings (Some mid) old next reports last are is = subst (λ c. AreTold films settings c reports old next) (sym is) are

@@ -30,12 +30,13 @@ memory_code : (old : Standing) (ask : Ask) (asking : Standing) → LacksMemory o
 unfolding reply_text reply_front status_line digits
 memory_code old ask asking lacks = subst (HasCode 500) (sym (ap (λ (s : Standing). s.text) lacks.refused.1)) refl
 
-entry_replied : (old asking : Standing) (is : IsPlayAsked old asking) (placed : Placed) (answer : Answer) (new : Standing) → asking.state ≡ old.state →
+entry_replied : {old asking : Standing} (is : IsPlayAsked old asking) (placed : Placed) (answer : Answer)
+    (new : Standing) → asking.state ≡ old.state →
     placed.entry.command ≡ play_of old.heard is.planned.plan → IsPlayAnswered asking placed answer new → IsEntryReplied old placed answer new
-entry_replied old asking is placed (Admitted start) new same command answered =
+entry_replied {old} {asking} is placed (Admitted start) new same command answered =
     let prepared = prepared_of old is.stored is.setup is.planned is.sequence in
     let ready : IsReady is.setup asking.state = subst (IsReady is.setup) (sym (same ∙ is.ready)) refl in
-    let begun = play_begins asking new placed start is.setup prepared answered ready is.awaited in
+    let begun = play_begins asking placed answered ready is.awaited in
     let text = ap (λ (s : Standing). s.text) answered.1 ∙ ap (λ (t : List ℕ). started_text t (start - asking.heard)) is.text in record {
       ok = subst (HasCode 200) (sym text) (front_ok old asking is (start - asking.heard));
       asking = asking;
@@ -49,36 +50,36 @@ entry_replied old asking is placed (Admitted start) new same command answered =
       start_is = begun.start_is;
       sent = begun.sent;
     }
-entry_replied old asking is placed (Overflow slot booked asked) new same command answered = (sequence_of asking.awaited, ap (λ (s : Standing). s.text) answered)
-entry_replied old asking is placed Halted new same command answered = absurd answered
-entry_replied old asking is placed (Looked now at booked) new same command answered = absurd answered
+entry_replied {asking} is placed (Overflow slot booked asked) new same command answered = (sequence_of asking.awaited, ap (λ (s : Standing). s.text) answered)
+entry_replied is placed Halted new same command answered = absurd answered
+entry_replied is placed (Looked now at booked) new same command answered = absurd answered
 
-asked_replied : (old asking : Standing) (is : IsPlayAsked old asking) (outcome : Outcome) (new : Standing) → asking.state ≡ old.state → asking.heard ≡ old.heard →
+asked_replied : {old asking : Standing} (is : IsPlayAsked old asking) (outcome : Outcome) (new : Standing) → asking.state ≡ old.state → asking.heard ≡ old.heard →
     IsAnswered asking (AskPlay is.planned.plan) outcome new → IsPlayReplied old outcome new
-asked_replied old asking is Unasked new same heard answered = absurd answered
-asked_replied old asking is (Entered placed) new same heard answered =
-    entry_replied old asking is placed placed.entry.answer new same (answered.0 ∙ ap (λ h. play_of h is.planned.plan) heard) answered.1
-asked_replied old asking is (WasFull more entries live) new same heard answered = (sequence_of asking.awaited, ap (λ (s : Standing). s.text) answered.0)
-asked_replied old asking is (Offered at_slot note) new same heard answered = absurd answered
+asked_replied is Unasked new same heard answered = absurd answered
+asked_replied is (Entered placed) new same heard answered =
+    entry_replied is placed placed.entry.answer new same (answered.0 ∙ ap (λ h. play_of h is.planned.plan) heard) answered.1
+asked_replied {asking} is (WasFull more entries live) new same heard answered = (sequence_of asking.awaited, ap (λ (s : Standing). s.text) answered.0)
+asked_replied is (Offered at_slot note) new same heard answered = absurd answered
 
-lacks_replied : (old : Standing) (ask : Ask) (asking : Standing) (outcome : Outcome) (new : Standing) → LacksMemory old ask asking →
+lacks_replied : {old : Standing} {ask : Ask} {asking : Standing} (outcome : Outcome) (new : Standing) → LacksMemory old ask asking →
     IsAnswered asking AskReply outcome new → IsPlayReplied old outcome new
-lacks_replied old ask asking Unasked new lacks answered =
+lacks_replied {old} {ask} {asking} Unasked new lacks answered =
     subst (HasCode 500) (sym (ap (λ (s : Standing). s.text) answered)) (memory_code old ask asking lacks)
-lacks_replied old ask asking (Entered placed) new lacks answered = absurd answered
-lacks_replied old ask asking (WasFull more entries live) new lacks answered = absurd answered
-lacks_replied old ask asking (Offered at_slot note) new lacks answered = absurd answered
+lacks_replied {ask} (Entered placed) new lacks answered = absurd answered
+lacks_replied {ask} (WasFull more entries live) new lacks answered = absurd answered
+lacks_replied {ask} (Offered at_slot note) new lacks answered = absurd answered
 
-either_replied : (old : Standing) (ask : Ask) (asking : Standing) (outcome : Outcome) (new : Standing) → AsksOrLacks old ask asking →
+either_replied : {ask : Ask} {asking : Standing} (old : Standing) (outcome : Outcome) (new : Standing) → AsksOrLacks old ask asking →
     ChangesState ask old asking → asking.heard ≡ old.heard → IsAnswered asking ask outcome new → IsPlayReplied old outcome new
-either_replied old ask asking outcome new (inl asks) changes heard answered =
+either_replied {ask} {asking} old outcome new (inl asks) changes heard answered =
     let state = subst (λ a. ChangesState a old asking) asks.command changes in
-    asked_replied old asking asks.play outcome new state.0 heard (subst (λ a. IsAnswered asking a outcome new) asks.command answered)
-either_replied old ask asking outcome new (inr lacks) changes heard answered =
-    lacks_replied old ask asking outcome new lacks (subst (λ a. IsAnswered asking a outcome new) lacks.refused.0 answered)
+    asked_replied asks.play outcome new state.0 heard (subst (λ a. IsAnswered asking a outcome new) asks.command answered)
+either_replied {ask} {asking} old outcome new (inr lacks) changes heard answered =
+    lacks_replied outcome new lacks (subst (λ a. IsAnswered asking a outcome new) lacks.refused.0 answered)
 
 pub play_answered : (old new : Standing) (message : List ℕ) (outcome : Outcome) → CanBePlayed old message → HasHeard old message outcome new →
     IsPlayReplied old outcome new
 play_answered old new message outcome can heard =
-    either_replied old heard.ask heard.asking outcome new (hears_good old heard.asking message heard.ask heard.hears can)
+    either_replied old outcome new (hears_good old heard.asking message heard.ask heard.hears can)
     (hears_state old heard.asking message heard.ask heard.hears) (hears_ground old heard.asking message heard.ask heard.hears).heard heard.answered

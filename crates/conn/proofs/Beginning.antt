@@ -49,10 +49,11 @@ admitted_is (Ready own paused) setup prepared place start ready = ap (λ s. Play
 admitted_is (Playing own play) setup prepared place start ready = absurd ready
 admitted_is (Stopping own stop) setup prepared place start ready = absurd ready
 
-pub play_begins : (old new : Standing) (placed : Placed) (start : ℕ) (setup : Setup) (prepared : Prepared) →
+pub play_begins : {new : Standing} {start : ℕ} {setup : Setup} {prepared : Prepared} (old : Standing)
+    (placed : Placed) →
     IsPlayAnswered old placed (Admitted start) new → IsReady setup old.state → old.awaited ≡ Play prepared →
     HasBegun setup prepared placed.place start new
-play_begins old new placed start setup prepared answered ready awaits =
+play_begins {new} {start} {setup} {prepared} old placed answered ready awaits =
     let play : Played = new_play prepared placed.place start in
     let state : new.state ≡ Playing setup play =
     ap (λ (s : Standing). s.state) answered.1 ∙ ap (λ a. admitted_in old.state a placed.place start) awaits

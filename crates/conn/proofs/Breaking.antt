@@ -10,10 +10,10 @@ on_err (Ok t) p = tt
 on_err (Err e) p = p
 
 -- a send failed in a slot
-pub broken_slot : (a b : Sight) (slot : ℕ) → HasFailed a.stage.session slot a.told b.told b.stage.session → b.stage.input ≡ a.stage.input →
+pub broken_slot : {a b : Sight} {slot : ℕ} → HasFailed a.stage.session slot a.told b.told b.stage.session → b.stage.input ≡ a.stage.input →
     b.stage.session.heard ≡ taken_up a.stage.session.heard slot → IsAtRest b.stage.session → b.stage.session.receipts ≡ a.stage.session.receipts →
     b.stage.session.plays ≡ a.stage.session.plays → b.stage.session.offers ≡ a.stage.session.offers → b.seat ≡ a.seat → HasBroken a b slot
-broken_slot a b slot failed input heard rest receipts plays offers seat = record {
+broken_slot {a} {b} {slot} failed input heard rest receipts plays offers seat = record {
   front = take failed.front.0 (due_bytes a.stage.session.waits a.stage.session.state a.stage.session.text slot);
   fails = record {
     taken = failed.taken;

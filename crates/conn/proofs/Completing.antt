@@ -27,11 +27,12 @@ use Rattle.conn.specs.Journals.{HasRoomAt, IsFullIn, StandsIn, Terms, entries_ne
 use Rattle.conn.proofs.Answering.{play_answered}
 
 -- an entry was made: by the machine's answer in the state after the entries before it
-entry_decided : (terms : Terms) (journal : List Entry) (old : Standing) (plan : List Segment) (placed : Placed) (answer : Answer) (new : Standing) →
+entry_decided : {terms : Terms} {journal : List Entry} {old : Standing} {plan : List Segment} {new : Standing}
+    (placed : Placed) (answer : Answer) →
     HasRoomAt terms journal placed.place 2 →
     IsAnswer terms.steps (state_after (take placed.place journal)) (play_of old.heard plan) answer →
     IsEntryReplied old placed answer new → IsDecided terms journal old plan placed.place new
-entry_decided terms journal old plan placed (Admitted start) new room is replied =
+entry_decided {terms} {journal} {old} {plan} {new} placed (Admitted start) room is replied =
     let from : ℕ = start_at journal placed.place old.heard in
     let booked : ℕ → ℕ = booked_after (take placed.place journal) in
     let fits : HasRoom 0 booked (capacity_at terms.steps) from plan = subst (λ s. HasRoom 0 booked (capacity_at terms.steps) s plan) is.0 is.1 in record {
@@ -39,7 +40,7 @@ entry_decided terms journal old plan placed (Admitted start) new room is replied
       over = λ has over first. absurd (no-room 0 from booked (capacity_at terms.steps) plan over first fits);
       admitted = λ has all. (placed, subst (λ s. HasBegunPlay old placed s new) is.0 replied);
     }
-entry_decided terms journal old plan placed (Overflow slot bytes asked) new room is replied =
+entry_decided {terms} {journal} {old} {plan} {new} placed (Overflow slot bytes asked) room is replied =
     let from : ℕ = start_at journal placed.place old.heard in
     let booked : ℕ → ℕ = booked_after (take placed.place journal) in
     let found : Over = record { slot = slot; booked = bytes; asked = asked } in record {
@@ -49,13 +50,14 @@ entry_decided terms journal old plan placed (Overflow slot bytes asked) new room
           (replied.0, subst (λ (o : Over). new.text ≡ overflow_text replied.0 o.slot o.booked o.asked) same replied.1);
       admitted = λ has all. absurd (no-room 0 from booked (capacity_at terms.steps) plan found is all);
     }
-entry_decided terms journal old plan placed Halted new room is replied = absurd is
-entry_decided terms journal old plan placed (Looked now at booked) new room is replied = absurd is
+entry_decided {new} placed Halted room is replied = absurd is
+entry_decided {new} placed (Looked now at booked) room is replied = absurd is
 
-entry_turn : (terms : Terms) (journal : List Entry) (from : ℕ) (old asking : Standing) (asked : IsPlayAsked old asking) (placed : Placed) (new : Standing) →
+entry_turn : {terms : Terms} {journal : List Entry} {from : ℕ} {old asking : Standing} {placed : Placed}
+    {new : Standing} (asked : IsPlayAsked old asking) →
     IsLegal terms.steps journal → StandsIn terms journal from placed → placed.entry.command ≡ play_of old.heard asked.planned.plan →
     IsEntryReplied old placed placed.entry.answer new → HasTurn terms journal from old new
-entry_turn terms journal from old asking asked placed new legal stands command replied =
+entry_turn {terms} {journal} {from} {asking} {placed} {new} asked legal stands command replied =
     let plan : List Segment = asked.planned.plan in
     let state = state_after (take placed.place journal) in
     let needed : entries_needed placed.entry.command ≡ 2 = ap entries_needed command in
@@ -68,15 +70,16 @@ entry_turn terms journal from old asking asked placed new legal stands command r
       turn = placed.place;
       after = stands.after;
       within = omega (arith, stands.within);
-      decided = entry_decided terms journal old plan placed placed.entry.answer new room
+      decided = entry_decided placed placed.entry.answer room
           (subst (λ (c : Command). IsAnswer terms.steps state c placed.entry.answer) command answer) replied;
     }
 
 -- the journal was full
-full_turn : (terms : Terms) (journal : List Entry) (from : ℕ) (old asking : Standing) (asked : IsPlayAsked old asking) (more entries live_plays : ℕ) (new : Standing) →
+full_turn : {terms : Terms} {journal : List Entry} {from : ℕ} {old asking : Standing} {more entries live_plays : ℕ}
+    {new : Standing} (asked : IsPlayAsked old asking) →
     IsFullIn terms.limit journal from more entries live_plays → more ≡ 2 → ((sequence : ℕ) × (new.text ≡ full_text sequence entries live_plays)) →
     HasTurn terms journal from old new
-full_turn terms journal from old asking asked more entries live_plays new full two replied =
+full_turn {terms} {journal} {from} {asking} {more} {entries} {new} asked full two replied =
     let over : terms.limit < entries + open_count (take entries journal) + 2 = omega (arith, full.full, full.live_is, two) in record {
       asking = asking;
       asked = asked;
@@ -90,14 +93,14 @@ full_turn terms journal from old asking asked more entries live_plays new full t
       };
     }
 
-asked_completed : (old asking : Standing) (asked : IsPlayAsked old asking) (outcome : Outcome) (new : Standing) → asking.heard ≡ old.heard →
+asked_completed : {old asking : Standing} {outcome : Outcome} {new : Standing} (asked : IsPlayAsked old asking) → asking.heard ≡ old.heard →
     IsAnswered asking (AskPlay asked.planned.plan) outcome new → IsPlayReplied old outcome new → IsPlayCompleted old outcome new
-asked_completed old asking asked Unasked new same answered replied = absurd answered
-asked_completed old asking asked (Entered placed) new same answered replied = λ terms journal from legal agree.
-    inl (entry_turn terms journal from old asking asked placed new legal agree.0 (answered.0 ∙ ap (λ h. play_of h asked.planned.plan) same) replied)
-asked_completed old asking asked (WasFull more entries live_plays) new same answered replied = λ terms journal from legal agree.
-    inl (full_turn terms journal from old asking asked more entries live_plays new agree.0 answered.1 replied)
-asked_completed old asking asked (Offered at_slot note) new same answered replied = absurd answered
+asked_completed {outcome = Unasked} {new} asked same answered replied = absurd answered
+asked_completed {outcome = Entered placed} {new} asked same answered replied = λ terms journal from legal agree.
+    inl (entry_turn asked legal agree.0 (answered.0 ∙ ap (λ h. play_of h asked.planned.plan) same) replied)
+asked_completed {outcome = WasFull more entries live_plays} {new} asked same answered replied = λ terms journal from legal agree.
+    inl (full_turn asked agree.0 answered.1 replied)
+asked_completed {outcome = Offered at_slot note} {new} asked same answered replied = absurd answered
 
 -- memory was wanting
 lacks_completed : (old asking : Standing) (outcome : Outcome) (new : Standing) → IsAnswered asking AskReply outcome new → IsPlayReplied old outcome new →
@@ -107,15 +110,15 @@ lacks_completed old asking (Entered placed) new answered replied = absurd answer
 lacks_completed old asking (WasFull more entries live_plays) new answered replied = absurd answered
 lacks_completed old asking (Offered at_slot note) new answered replied = absurd answered
 
-either_completed : (old : Standing) (ask : Ask) (asking : Standing) (outcome : Outcome) (new : Standing) → AsksOrLacks old ask asking → asking.heard ≡ old.heard →
+either_completed : {ask : Ask} {asking : Standing} {outcome : Outcome} {new : Standing} (old : Standing) → AsksOrLacks old ask asking → asking.heard ≡ old.heard →
     IsAnswered asking ask outcome new → IsPlayReplied old outcome new → IsPlayCompleted old outcome new
-either_completed old ask asking outcome new (inl asks) same answered replied =
-    asked_completed old asking asks.play outcome new same (subst (λ a. IsAnswered asking a outcome new) asks.command answered) replied
-either_completed old ask asking outcome new (inr lacks) same answered replied =
+either_completed {ask} {asking} {outcome} {new} old (inl asks) same answered replied =
+    asked_completed asks.play same (subst (λ a. IsAnswered asking a outcome new) asks.command answered) replied
+either_completed {ask} {asking} {outcome} {new} old (inr lacks) same answered replied =
     lacks_completed old asking outcome new (subst (λ a. IsAnswered asking a outcome new) lacks.refused.0 answered) replied
 
 pub play_completed : (old new : Standing) (message : List ℕ) (outcome : Outcome) → CanBePlayed old message → HasHeard old message outcome new →
     IsPlayCompleted old outcome new
 play_completed old new message outcome can heard =
-    either_completed old heard.ask heard.asking outcome new (hears_good old heard.asking message heard.ask heard.hears can)
+    either_completed old (hears_good old heard.asking message heard.ask heard.hears can)
     (hears_ground old heard.asking message heard.ask heard.hears).heard heard.answered (play_answered old new message outcome can heard)

@@ -18,8 +18,8 @@ pub cuts_on : (a b c : List ℕ) → CutsOn a b → CutsOn b c → CutsOn a c
 cuts_on a b c first second = record { each = λ bytes pieces cut. let next = first.each bytes pieces cut in second.each bytes next.0 next.1 }
 
 -- the piece in front is dropped
-pub cuts_drop : (input rest : List ℕ) (step : Step) (n : ℕ) → IsFirst input (Ok step) → told_length (Ok step) ≡ n → rest ≡ drop n input → CutsOn input rest
-cuts_drop input rest step n first length_is dropped = record {
+pub cuts_drop : {input rest : List ℕ} {n : ℕ} (step : Step) → IsFirst input (Ok step) → told_length (Ok step) ≡ n → rest ≡ drop n input → CutsOn input rest
+cuts_drop {input} {rest} step first length_is dropped = record {
   each = λ bytes pieces cut.
       let is : drop (told_length (Ok step)) input ≡ rest = ap (λ k. drop k input) length_is ∙ sym dropped in
       (pieces ++ told_pieces input (Ok step), subst (λ x. AreCut bytes (pieces ++ told_pieces input (Ok step)) x) is (next_pieces input (Ok step) first bytes pieces cut));
@@ -30,8 +30,8 @@ pub cuts_same : (old new : List ℕ) → new ≡ old → CutsOn old new
 cuts_same old new same = subst (CutsOn old) (sym same) (cuts_none old)
 
 -- what stands in front of the same bytes is the same step
-pub first_is : (b w : List ℕ) (s t : Step) → IsFirst b (Ok s) → w ≡ b → s ≡ t → IsFirst w (Ok t)
-first_is b w s t first same is = subst (λ x. IsFirst x (Ok t)) (sym same) (subst (λ x. IsFirst b (Ok x)) is first)
+pub first_is : {b w : List ℕ} {s t : Step} → IsFirst b (Ok s) → w ≡ b → s ≡ t → IsFirst w (Ok t)
+first_is {b} {w} {s} {t} first same is = subst (λ x. IsFirst x (Ok t)) (sym same) (subst (λ x. IsFirst b (Ok x)) is first)
 
 prefix_on : (a b c : List Entry) → IsPrefix a b → IsPrefix b c → IsPrefix a c
 prefix_on a b c p q = (p.0 ++ q.0, sym (append_assoc a p.0 q.0) ∙ (ap (λ w. w ++ q.0) p.1 ∙ q.1))

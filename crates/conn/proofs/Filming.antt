@@ -36,9 +36,9 @@ slot_film waits slot p =
     then plan_bytes (after_step true slot p) (after_step true slot p).sent (step_end false (at_slot slot (after_step true slot p))) else [])
     else plan_bytes p p.sent (step_end false (at_slot slot p))
 
-pacing_same : (p : Pacing) (passed due sent passed' due' sent' : ℕ) → passed ≡ passed' → due ≡ due' → sent ≡ sent' →
+pacing_same : {passed due sent passed' due' sent' : ℕ} (p : Pacing) → passed ≡ passed' → due ≡ due' → sent ≡ sent' →
     pacing_of p.pieces p.before p.plan p.start p.keep passed due sent ≡ pacing_of p.pieces p.before p.plan p.start p.keep passed' due' sent'
-pacing_same p passed due sent passed' due' sent' one two three =
+pacing_same {passed} {due} {sent} {passed'} {due'} p one two three =
     ap (λ n. pacing_of p.pieces p.before p.plan p.start p.keep n due sent) one
     ∙ ap (λ n. pacing_of p.pieces p.before p.plan p.start p.keep passed' n sent) two
     ∙ ap (λ n. pacing_of p.pieces p.before p.plan p.start p.keep passed' due' n) three
@@ -49,7 +49,7 @@ both_steps slot p =
     let due : ℕ = due_by p slot in
     let part : ℕ = min (first_slots p.plan (slots_by p slot)) p.keep in
     let again : max due part ≡ due = omega arith in
-    pacing_same p (max (max p.passed (slots_by p slot)) (slots_by p slot)) (max due part) (max due part) (max p.passed (slots_by p slot)) due due
+    pacing_same p
     (omega arith) again again
 
 -- a step with a stop that ends within a frame has sent all that is due
@@ -71,7 +71,7 @@ slot_is false between slot p is between_is = refl
 slot_is true true slot p is between_is = both_steps slot p
 slot_is true false slot p is between_is =
     let due : ℕ = due_by p slot in
-    pacing_same p (max p.passed (slots_by p slot)) due (step_end true (at_slot slot p)) (max p.passed (slots_by p slot)) due due refl refl
+    pacing_same p refl refl
     (stop_inside slot p is between_is)
 
 -- and these are its bytes
@@ -116,9 +116,9 @@ pub few_slots : (plan : List Segment) (k : ℕ) → IsPlan plan → first_slots 
 few_slots plan k is = omega (arith, sum_by-take-le (λ (x : ℕ). x) (plan_slots plan) k, sum-plan_slots plan is.no_empty)
 
 -- a play goes on by a slot
-pub sent_slot : (play : Played) (heard slot : ℕ) (waits : Bool) (film : List ℕ) → HasSent play heard film → heard < slot →
+pub sent_slot : {play : Played} {heard slot : ℕ} {film : List ℕ} (waits : Bool) → HasSent play heard film → heard < slot →
     HasSent (record play { pacer = slot_pacing waits slot play.pacer }) slot (film ++ slot_film waits slot play.pacer)
-sent_slot play heard slot waits film has later =
+sent_slot {play} {heard} {slot} {film} waits has later =
     let p = play.pacer in
     let between : Bool = stands_at_boundary (after_step true slot p) in
     let q : slot_pacing waits slot p ≡ sent_through slot p = slot_is waits between slot p has.pacing refl in

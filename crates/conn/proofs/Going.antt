@@ -26,9 +26,9 @@ entry_receipts-append (EntryReceipt place answer ∷ xs) ys = ap (λ rs. EntryRe
 entry_receipts-append (FullReceipt entries live ∷ xs) ys = entry_receipts-append xs ys
 
 -- no entry was made, and the receipts tell none
-pub gone_none : (old new : Business) (full : List Receipt) → new.mine ≡ old.mine → new.booking ≡ old.booking → new.receipts ≡ old.receipts ++ full → entry_receipts full ≡ [] →
+pub gone_none : {old new : Business} (full : List Receipt) → new.mine ≡ old.mine → new.booking ≡ old.booking → new.receipts ≡ old.receipts ++ full → entry_receipts full ≡ [] →
     HasGone old new
-gone_none old new full mine booking receipts none = record {
+gone_none {old} {new} full mine booking receipts none = record {
   made = [];
   mine_is = mine ∙ sym (append-nil old.mine);
   receipts_are = ap entry_receipts receipts ∙ entry_receipts-append old.receipts full ∙ ap (λ rs. entry_receipts old.receipts ++ rs) none;
@@ -37,7 +37,7 @@ gone_none old new full mine booking receipts none = record {
 
 -- nothing was answered
 pub gone_still : (old new : Business) → new.mine ≡ old.mine → new.booking ≡ old.booking → new.receipts ≡ old.receipts → HasGone old new
-gone_still old new mine booking receipts = gone_none old new [] mine booking (receipts ∙ sym (append-nil old.receipts)) refl
+gone_still old new mine booking receipts = gone_none [] mine booking (receipts ∙ sym (append-nil old.receipts)) refl
 
 -- one entry was made
 pub gone_one : (old new : Business) (placed : Placed) → new.mine ≡ old.mine ++ placed ∷ [] → new.receipts ≡ old.receipts ++ receipt_for placed ∷ [] →
@@ -77,12 +77,12 @@ open_among_more mine placed number keep other among = record {
 }
 
 -- a booking is held as a look is noted
-pub held_at_look : (mine : List Placed) (placed : Placed) (slot : ℕ) (booking : Option Booking) (play : Option Open) → placed.entry.command ≡ Look slot →
+pub held_at_look : {slot : ℕ} (mine : List Placed) (placed : Placed) (booking : Option Booking) (play : Option Open) → placed.entry.command ≡ Look slot →
     IsHeld mine booking play → IsHeld (mine ++ placed ∷ []) booking play
-held_at_look mine placed slot None None is held = held
-held_at_look mine placed slot None (Some play) is held = held
-held_at_look mine placed slot (Some booking) None is held = held
-held_at_look mine placed slot (Some booking) (Some play) is held =
+held_at_look {slot} mine placed None None is held = held
+held_at_look {slot} mine placed None (Some play) is held = held
+held_at_look {slot} mine placed (Some booking) None is held = held
+held_at_look {slot} mine placed (Some booking) (Some play) is held =
     λ keep small. open_among_more mine placed booking.number keep (subst (λ (c : Command). ¬ Halts booking.number c) (sym is) (λ h. h)) (held keep small)
 
 -- a booking is held as more of its plan becomes due
@@ -94,42 +94,42 @@ held_same mine (Some booking) (Some old) (Some new) same held =
     λ keep small. held keep (subst (λ (plan : List Segment). keep ≤ total_bytes plan) same.0 small)
 
 -- the calls at the station, each with what it leaves
-pub gone_full : (old new : Business) (entries live : ℕ) → new.mine ≡ old.mine → new.booking ≡ old.booking →
+pub gone_full : {old new : Business} (entries live : ℕ) → new.mine ≡ old.mine → new.booking ≡ old.booking →
     new.receipts ≡ old.receipts ++ FullReceipt entries live ∷ [] → HasGone old new
-gone_full old new entries live mine booking receipts = gone_none old new (FullReceipt entries live ∷ []) mine booking receipts refl
+gone_full {new} entries live mine booking receipts = gone_none (FullReceipt entries live ∷ []) mine booking receipts refl
 
 at_look : (booking : Option Booking) (maker place slot now at booked : ℕ) →
     course_with (course_of booking) (record { place = place; entry = record { maker = maker; command = Look slot; answer = Looked now at booked } }) ≡ course_of booking
 at_look None maker place slot now at booked = refl
 at_look (Some booking) maker place slot now at booked = refl
 
-pub gone_look : (old new : Business) (maker place slot now at booked : ℕ) → new.booking ≡ old.booking →
+pub gone_look : {old new : Business} (maker place slot now at booked : ℕ) → new.booking ≡ old.booking →
     new.mine ≡ old.mine ++ record { place = place; entry = record { maker = maker; command = Look slot; answer = Looked now at booked } } ∷ [] →
     new.receipts ≡ old.receipts ++ EntryReceipt place (Looked now at booked) ∷ [] → HasGone old new
-gone_look old new maker place slot now at booked same mine receipts =
+gone_look {old} {new} maker place slot now at booked same mine receipts =
     gone_one old new _ mine receipts (at_look old.booking maker place slot now at booked ∙ ap course_of (sym same))
 
-pub gone_overflow : (old new : Business) (maker place slot : ℕ) (plan : List Segment) (over booked asked : ℕ) → old.booking ≡ None → new.booking ≡ old.booking →
+pub gone_overflow : {old new : Business} (maker place slot : ℕ) (plan : List Segment) (over booked asked : ℕ) → old.booking ≡ None → new.booking ≡ old.booking →
     new.mine ≡ old.mine ++ record { place = place; entry = record { maker = maker; command = Play slot plan; answer = Overflow over booked asked } } ∷ [] →
     new.receipts ≡ old.receipts ++ EntryReceipt place (Overflow over booked asked) ∷ [] → HasGone old new
-gone_overflow old new maker place slot plan over booked asked none same mine receipts =
+gone_overflow {old} {new} maker place slot plan over booked asked none same mine receipts =
     gone_one old new _ mine receipts (ap (λ b. course_with (course_of b) (record { place = place; entry = record { maker = maker; command = Play slot plan; answer = Overflow over booked asked } })) none
     ∙ ap course_of (sym (same ∙ none)))
 
-pub gone_play : (old new : Business) (maker slot : ℕ) (plan : List Segment) (made : Booking) → old.booking ≡ None → new.booking ≡ Some made →
+pub gone_play : {old new : Business} {made : Booking} (maker slot : ℕ) (plan : List Segment) → old.booking ≡ None → new.booking ≡ Some made →
     new.mine ≡ old.mine ++ record { place = made.number; entry = record { maker = maker; command = Play slot plan; answer = Admitted made.start } } ∷ [] →
     new.receipts ≡ old.receipts ++ EntryReceipt made.number (Admitted made.start) ∷ [] → HasGone old new
-gone_play old new maker slot plan made none some mine receipts =
+gone_play {old} {new} {made} maker slot plan none some mine receipts =
     gone_one old new _ mine receipts (ap (λ b. course_with (course_of b) (record { place = made.number; entry = record { maker = maker; command = Play slot plan; answer = Admitted made.start } })) none
     ∙ ap course_of (sym some))
 
 at_halt : (number : ℕ) → (if number == number then Closed else Broken) ≡ Closed
 at_halt number = let same : (number == number) ≡ true = grind arith in ap (λ b. if b then Closed else Broken) same
 
-pub gone_halt : (old new : Business) (maker place keep : ℕ) (made : Booking) → old.booking ≡ Some made → new.booking ≡ None →
+pub gone_halt : {old new : Business} {made : Booking} (maker place keep : ℕ) → old.booking ≡ Some made → new.booking ≡ None →
     new.mine ≡ old.mine ++ record { place = place; entry = record { maker = maker; command = Halt made.number keep; answer = Halted } } ∷ [] →
     new.receipts ≡ old.receipts ++ EntryReceipt place Halted ∷ [] → HasGone old new
-gone_halt old new maker place keep made some none mine receipts =
+gone_halt {old} {new} {made} maker place keep some none mine receipts =
     gone_one old new _ mine receipts (ap (λ b. course_with (course_of b) (record { place = place; entry = record { maker = maker; command = Halt made.number keep; answer = Halted } })) some
     ∙ at_halt made.number ∙ ap course_of (sym none))
 

@@ -14,9 +14,9 @@ use Rattle.session.specs.Playing.{IsRunOf, playback_of}
 use Rattle.session.specs.Ranges.{AreSettings, IsSetup}
 use Rattle.conn.specs.Plays.{IsShown}
 
-playback_fits : (stored : Stored) (settings : Settings) (setup : Setup) (films : ℕ) → IsShown stored → AreSettings settings → IsSetup films setup →
+playback_fits : {stored : Stored} {settings : Settings} {setup : Setup} {films : ℕ} → IsShown stored → AreSettings settings → IsSetup films setup →
     IsPlayback (playback_of stored.film settings setup)
-playback_fits stored settings setup films shown good values = record {
+playback_fits shown good values = record {
   some_picture_units = shown.some_time;
   picture_units_fit = shown.time_fits;
   some_slot_units = omega (arith, good.long_slots);
@@ -26,14 +26,15 @@ playback_fits stored settings setup films shown good values = record {
   delay_fits = values.most_delay;
 }
 
-pub sending_of_run : (stored : Stored) (source : Source) (settings : Settings) (setup : Setup) (counts : Counts) (run : Run) (plan : List Segment) (films : ℕ) →
+pub sending_of_run : {stored : Stored} {source : Source} {settings : Settings} {setup : Setup} {counts : Counts}
+    {run : Run} {plan : List Segment} {films : ℕ} →
     IsShown stored → AreSettings settings → IsSetup films setup → IsRunOf stored source setup counts run →
     IsPlanOf (stored_sizes stored) (playback_of stored.film settings setup) run plan →
     IsSending (stored_sizes stored) (playback_of stored.film settings setup) run plan
-sending_of_run stored source settings setup counts run plan films shown good values run_of planned = record {
+sending_of_run shown good values run_of planned = record {
   can_play = record {
     sizes_are = shown.sizes;
-    playback_is = playback_fits stored settings setup films shown good values;
+    playback_is = playback_fits shown good values;
     run_is = run_of.run_is;
     fits = run_of.fits;
   };

@@ -118,9 +118,9 @@ set_up_well old new film well same is = record {
 }
 
 -- a PLAY in Ready
-prepared_well : (old new : Standing) (film : List ℕ) → IsWell old film → IsSameGround old new → new.state ≡ old.state → IsPlayAsked old new →
+prepared_well : {old new : Standing} {film : List ℕ} → IsWell old film → IsSameGround old new → new.state ≡ old.state → IsPlayAsked old new →
     HasPrepared new.films new.source new.settings new.state new.awaited
-prepared_well old new film well same state is =
+prepared_well {old} {new} {film} well same state is =
     let values : IsSetup (length old.films) is.setup = subst (IsStateOf old.films old.source old.settings old.counts old.heard film) is.ready well.state in
     let planned = is.planned_is in
     let made : HasPrepared old.films old.source old.settings new.state new.awaited = record {
@@ -132,7 +132,7 @@ prepared_well old new film well same state is =
       awaited_is = is.awaited;
       values = values;
       at = planned.at;
-      sending = sending_of_run is.stored old.source old.settings is.setup is.planned.counts is.planned.run is.planned.plan (length old.films)
+      sending = sending_of_run
           (well.films is.setup.film is.stored planned.at) well.settings values planned.goes_on planned.plan_is;
       frames = refl;
     } in
@@ -149,16 +149,16 @@ halting_well old new film well same is =
       values = subst (IsSetUpIn (length new.films)) (sym is.now) (subst (λ (f : List Stored). IsSetup (length f) is.setup) (sym same.films) was.0);
     }
 
-asked_well : (ask : Ask) (old new : Standing) (film : List ℕ) → IsWell old film → IsSameGround old new → ChangesState ask old new → IsAskedWell ask new film
-asked_well AskReply old new film well same (inl state) = carried old new film well same state
-asked_well AskReply old new film well same (inr setup) = set_up_well old new film well same setup
-asked_well (AskPlay plan) old new film well same changes =
-    (carried old new film well same changes.0, prepared_well old new film well same changes.0 changes.1.play)
-asked_well (AskHalt keep) old new film well same changes = halting_well old new film well same changes
-asked_well (AskLook slot) old new film well same changes = carried old new film well same changes
-asked_well (AskOffer plan offers) old new film well same changes = carried old new film well same changes
+asked_well : {old new : Standing} {film : List ℕ} (ask : Ask) → IsWell old film → IsSameGround old new → ChangesState ask old new → IsAskedWell ask new film
+asked_well {old} {new} {film} AskReply well same (inl state) = carried old new film well same state
+asked_well {old} {new} {film} AskReply well same (inr setup) = set_up_well old new film well same setup
+asked_well {old} {new} {film} (AskPlay plan) well same changes =
+    (carried old new film well same changes.0, prepared_well well same changes.0 changes.1.play)
+asked_well {old} {new} {film} (AskHalt keep) well same changes = halting_well old new film well same changes
+asked_well {old} {new} {film} (AskLook slot) well same changes = carried old new film well same changes
+asked_well {old} {new} {film} (AskOffer plan offers) well same changes = carried old new film well same changes
 
-pub hears_well : (old new : Standing) (message : List ℕ) (ask : Ask) (film : List ℕ) → IsWell old film → Hears old message ask new →
+pub hears_well : {old : Standing} {film : List ℕ} (new : Standing) (message : List ℕ) (ask : Ask) → IsWell old film → Hears old message ask new →
     IsAskedWell ask new film
-hears_well old new message ask film well hears =
-    asked_well ask old new film well (hears_ground old new message ask hears) (hears_state old new message ask hears)
+hears_well {old} new message ask well hears =
+    asked_well ask well (hears_ground old new message ask hears) (hears_state old new message ask hears)

@@ -44,9 +44,9 @@ agree_lower terms journal low from (Offered at_slot note ∷ outcomes) less agre
 )
 
 -- with a longer journal
-stands_longer : (terms : Terms) (from : ℕ) (journal longer : List Entry) (placed : Placed) → IsPrefix journal longer → StandsIn terms journal from placed
+stands_longer : {terms : Terms} {from : ℕ} {journal longer : List Entry} {placed : Placed} → IsPrefix journal longer → StandsIn terms journal from placed
     → StandsIn terms longer from placed
-stands_longer terms from journal longer placed prefix stands =
+stands_longer {from} {journal} {longer} {placed} prefix stands =
     let inside : placed.place ≤ length journal = omega (arith, stands.within) in
     let same : open_count (take placed.place longer) ≡ open_count (take placed.place journal) =
     ap (λ (xs : List Entry). open_count xs) (prefix-take journal longer prefix placed.place inside) in record {
@@ -57,18 +57,18 @@ stands_longer terms from journal longer placed prefix stands =
       room = omega (arith, stands.room, same);
     }
 
-full_longer : (limit from more entries live_plays : ℕ) (journal longer : List Entry) → IsPrefix journal longer
+full_longer : {limit from more entries live_plays : ℕ} {journal longer : List Entry} → IsPrefix journal longer
     → IsFullIn limit journal from more entries live_plays → IsFullIn limit longer from more entries live_plays
-full_longer limit from more entries live_plays journal longer prefix full = record {
+full_longer {from} {more} {entries} {journal} {longer} prefix full = record {
   after = full.after;
   within = omega (arith, full.within, prefix_length journal longer prefix);
   live_is = full.live_is ∙ ap (λ (xs : List Entry). open_count xs) (sym (prefix-take journal longer prefix entries full.within));
   full = full.full;
 }
 
-offered_longer : (steps : List CapStep) (from slot : ℕ) (journal longer : List Entry) (note : OfferNote) → IsPrefix journal longer
+offered_longer : {steps : List CapStep} {from slot : ℕ} {journal longer : List Entry} {note : OfferNote} → IsPrefix journal longer
     → IsOfferedIn steps journal from slot note → IsOfferedIn steps longer from slot note
-offered_longer steps from slot journal longer note prefix offered =
+offered_longer {steps} {from} {slot} {journal} {longer} {note} prefix offered =
     let same : take note.seen longer ≡ take note.seen journal = prefix-take journal longer prefix note.seen offered.within in
     record {
       after = offered.after;
@@ -82,15 +82,15 @@ pub agree_longer : (terms : Terms) (journal longer : List Entry) (from : ℕ) (o
 agree_longer terms journal longer from [] prefix agree = omega (arith, agree, prefix_length journal longer prefix)
 agree_longer terms journal longer from (Unasked ∷ outcomes) prefix agree = agree_longer terms journal longer from outcomes prefix agree
 agree_longer terms journal longer from (Entered placed ∷ outcomes) prefix agree = (
-  stands_longer terms from journal longer placed prefix agree.0,
+  stands_longer prefix agree.0,
   agree_longer terms journal longer (placed.place + 1) outcomes prefix agree.1,
 )
 agree_longer terms journal longer from (WasFull more entries open_count ∷ outcomes) prefix agree = (
-  full_longer terms.limit from more entries open_count journal longer prefix agree.0,
+  full_longer prefix agree.0,
   agree_longer terms journal longer entries outcomes prefix agree.1,
 )
 agree_longer terms journal longer from (Offered at_slot note ∷ outcomes) prefix agree = (
-  offered_longer terms.steps from at_slot journal longer note prefix agree.0,
+  offered_longer prefix agree.0,
   agree_longer terms journal longer note.seen outcomes prefix agree.1,
 )
 
@@ -100,15 +100,15 @@ pub agree_then : (terms : Terms) (journal longer : List Entry) (from : ℕ) (fir
 agree_then terms journal longer from [] more prefix agree later = agree_lower terms longer from (length journal) more agree later
 agree_then terms journal longer from (Unasked ∷ first) more prefix agree later = agree_then terms journal longer from first more prefix agree later
 agree_then terms journal longer from (Entered placed ∷ first) more prefix agree later = (
-  stands_longer terms from journal longer placed prefix agree.0,
+  stands_longer prefix agree.0,
   agree_then terms journal longer (placed.place + 1) first more prefix agree.1 later,
 )
 agree_then terms journal longer from (WasFull asked entries open_count ∷ first) more prefix agree later = (
-  full_longer terms.limit from asked entries open_count journal longer prefix agree.0,
+  full_longer prefix agree.0,
   agree_then terms journal longer entries first more prefix agree.1 later,
 )
 agree_then terms journal longer from (Offered at_slot note ∷ first) more prefix agree later = (
-  offered_longer terms.steps from at_slot journal longer note prefix agree.0,
+  offered_longer prefix agree.0,
   agree_then terms journal longer note.seen first more prefix agree.1 later,
 )
 
@@ -123,16 +123,16 @@ terms_same a b same =
     ∙ ap (λ n. terms_with a.steps a.limit n) same.number
 
 -- an entry of the seat's own comes after all that it had seen
-entry_after : (seat next : Sitting) (more : ℕ) (command : Command) (place : ℕ) (answer : Answer) (rest : List Entry) → IsSeat seat → IsSeat next
+entry_after : {seat next : Sitting} {more : ℕ} {command : Command} {place : ℕ} {answer : Answer} (rest : List Entry) → IsSeat seat → IsSeat next
     → next.number ≡ seat.number → seat.seen ++ rest ≡ next.seen → Made seat next more command place answer → length seat.seen ≤ place
-entry_after seat next more command place answer [] kept also number longer made =
+entry_after {seat} {next} {more} {command} {place} {answer} [] kept also number longer made =
     let seen : next.seen ≡ seat.seen = sym longer ∙ append-nil seat.seen in
     let mine : next.mine ≡ seat.mine =
     also.own ∙ ap (λ n. made_by n next.seen) number ∙ ap (made_by seat.number) seen ∙ sym kept.own in
     let e : Placed = record { place = place; entry = record { maker = seat.number; command = command; answer = answer } } in
     let long : length seat.mine ≡ length seat.mine + 1 = ap (λ (ps : List Placed). length ps) (sym mine ∙ made.mine) ∙ length-append seat.mine (e ∷ []) in
     absurd (omega (arith, long))
-entry_after seat next more command place answer (x ∷ xs) kept also number longer made =
+entry_after {seat} {next} {more} {command} {place} {answer} (x ∷ xs) kept also number longer made =
     let all : length seat.seen + length (x ∷ xs) ≡ length next.seen =
     sym (length-append seat.seen (x ∷ xs)) ∙ ap (λ (es : List Entry). length es) longer in
     omega (arith, all, last-place seat next more command place answer made)
@@ -140,11 +140,11 @@ entry_after seat next more command place answer (x ∷ xs) kept also number long
 take_whole : (entries : List Entry) (n : ℕ) → n ≡ length entries → take n entries ≡ entries
 take_whole entries n is = take_all n entries (omega (arith, is))
 
-pub entry_agrees : (seat next : Sitting) (more : ℕ) (command : Command) (place : ℕ) (answer : Answer) → IsSeat seat → IsSeat next → IsSameSeat seat next
+pub entry_agrees : {seat next : Sitting} {more : ℕ} {command : Command} {place : ℕ} {answer : Answer} → IsSeat seat → IsSeat next → IsSameSeat seat next
     → Made seat next more command place answer → more ≡ entries_needed command
     → AgreeWith (terms_of seat) next.seen (length seat.seen)
     (Entered (record { place = place; entry = record { maker = seat.number; command = command; answer = answer } }) ∷ [])
-entry_agrees seat next more command place answer kept also same made needed =
+entry_agrees {seat} {next} {more} {command} {place} {answer} kept also same made needed =
     let e : Entry = record { maker = seat.number; command = command; answer = answer } in
     let front : take place next.seen ≡ made.before =
     prefix-take made.before next.seen (e ∷ [], sym made.seen) place (omega (arith, made.place_is))
@@ -152,7 +152,7 @@ entry_agrees seat next more command place answer kept also same made needed =
     let live_is : open_count (take place next.seen) ≡ open_count made.before = ap (λ (xs : List Entry). open_count xs) front in
     let last = last-place seat next more command place answer made in (
       record {
-        after = entry_after seat next more command place answer same.longer.0 kept also same.number same.longer.1 made;
+        after = entry_after same.longer.0 kept also same.number same.longer.1 made;
         within = omega (arith, last);
         entry = λ none. last-entry seat next more command place answer made none;
         maker_is = refl;
@@ -161,9 +161,9 @@ entry_agrees seat next more command place answer kept also same made needed =
       omega (arith, last),
     )
 
-pub full_agrees : (seat next : Sitting) (more entries live_plays : ℕ) → IsSameSeat seat next → IsFull seat next more entries live_plays
+pub full_agrees : {seat next : Sitting} {more entries live_plays : ℕ} → IsSameSeat seat next → IsFull seat next more entries live_plays
     → AgreeWith (terms_of seat) next.seen (length seat.seen) (WasFull more entries live_plays ∷ [])
-full_agrees seat next more entries live_plays same full =
+full_agrees {seat} {next} {more} {entries} same full =
     let far = prefix_length seat.seen next.seen same.longer in (
       record {
         after = omega (arith, far, full.entries_are);
@@ -174,11 +174,11 @@ full_agrees seat next more entries live_plays same full =
       omega (arith, full.entries_are),
     )
 
-pub offer_agrees : (seat next : Sitting) (heard : ℕ) (plan : List Segment) (told : Told) (found : Found) → IsSameSeat seat next
+pub offer_agrees : {seat next : Sitting} {heard : ℕ} {plan : List Segment} {told : Told} {found : Found} → IsSameSeat seat next
     → IsOffered next.steps next.seen heard plan told found
     → AgreeWith (terms_of seat) next.seen (length seat.seen)
     (Offered heard (record { seen = told.seen; first = told.first; plan = plan; offers = found }) ∷ [])
-offer_agrees seat next heard plan told found same offered =
+offer_agrees {seat} {next} {heard} {plan} {told} {found} same offered =
     let far = prefix_length seat.seen next.seen same.longer in
     let whole : take told.seen next.seen ≡ next.seen = take_whole next.seen told.seen offered.seen_is in (
       record {

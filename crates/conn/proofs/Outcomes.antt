@@ -25,43 +25,45 @@ use Rattle.conn.specs.Turns.{IsAnswered}
 use Rattle.conn.specs.Sights.{HasAnswered}
 
 -- the station's answers
-pub answered_entry : (old : Standing) (ask : Ask) (new : Standing) (seat next : Sitting) (more : ℕ) (command : Command) (place : ℕ) (answer : Answer)
+pub answered_entry : {old : Standing} {ask : Ask} {new : Standing} {seat next : Sitting} {more : ℕ}
+    {command : Command} {place : ℕ} {answer : Answer}
     → IsSeat seat → IsSeat next → IsSameSeat seat next → Made seat next more command place answer → more ≡ entries_needed command
     → IsAnswered old ask (Entered (record { place = place; entry = record { maker = seat.number; command = command; answer = answer } })) new
     → HasAnswered old ask new seat next
-answered_entry old ask new seat next more command place answer kept also same made needed answered = record {
+answered_entry {ask} {new} {seat} {next} {more} {command} {place} {answer} kept also same made needed answered = record {
   outcome = Entered (record { place = place; entry = record { maker = seat.number; command = command; answer = answer } });
   answered = answered;
-  noted = record { mine = made.mine; seat = same; agree = entry_agrees seat next more command place answer kept also same made needed };
+  noted = record { mine = made.mine; seat = same; agree = entry_agrees kept also same made needed };
 }
 
-pub answered_full : (old : Standing) (ask : Ask) (new : Standing) (seat next : Sitting) (more entries live : ℕ) → IsSameSeat seat next
+pub answered_full : {old : Standing} {ask : Ask} {new : Standing} {seat next : Sitting} {more entries live : ℕ} → IsSameSeat seat next
     → IsFull seat next more entries live → IsAnswered old ask (WasFull more entries live) new → HasAnswered old ask new seat next
-answered_full old ask new seat next more entries live same full answered = record {
+answered_full {ask} {new} {seat} {next} {more} {entries} {live} same full answered = record {
   outcome = WasFull more entries live;
   answered = answered;
-  noted = record { mine = full.mine ∙ sym (append-nil seat.mine); seat = same; agree = full_agrees seat next more entries live same full };
+  noted = record { mine = full.mine ∙ sym (append-nil seat.mine); seat = same; agree = full_agrees same full };
 }
 
 -- a play is refused as its cause says
-pub refused_as : (seat next : Sitting) (heard : ℕ) (plan : List Segment) (was is : PlayRefused) → IsRefused seat next heard plan was → was ≡ is →
+pub refused_as : {was is : PlayRefused} (seat next : Sitting) (heard : ℕ) (plan : List Segment) → IsRefused seat next heard plan was → was ≡ is →
     IsRefused seat next heard plan is
-refused_as seat next heard plan was is refused same = subst (IsRefused seat next heard plan) same refused
+refused_as seat next heard plan refused same = subst (IsRefused seat next heard plan) same refused
 
-pub answered_offer : (old : Standing) (ask : Ask) (new : Standing) (seat next : Sitting) (heard : ℕ) (plan : List Segment) (told : Told) (found : Found)
+pub answered_offer : {old : Standing} {ask : Ask} {new : Standing} {seat next : Sitting} {heard : ℕ}
+    {plan : List Segment} {told : Told} {found : Found}
     → IsSameSeat seat next → next.mine ≡ seat.mine → IsOffered next.steps next.seen heard plan told found
     → IsAnswered old ask (Offered heard (record { seen = told.seen; first = told.first; plan = plan; offers = found })) new
     → HasAnswered old ask new seat next
-answered_offer old ask new seat next heard plan told found same mine offered answered = record {
+answered_offer {ask} {new} {seat} {next} {heard} {plan} {told} {found} same mine offered answered = record {
   outcome = Offered heard (record { seen = told.seen; first = told.first; plan = plan; offers = found });
   answered = answered;
-  noted = record { mine = mine ∙ sym (append-nil seat.mine); seat = same; agree = offer_agrees seat next heard plan told found same offered };
+  noted = record { mine = mine ∙ sym (append-nil seat.mine); seat = same; agree = offer_agrees same offered };
 }
 
-pub halted_entry : (old : Standing) (keep : ℕ) (new : Standing) (seat next : Sitting) (number place : ℕ) → IsSeat seat → IsSeat next → IsSameSeat seat next
+pub halted_entry : {old : Standing} {keep : ℕ} {new : Standing} {seat next : Sitting} {number place : ℕ} → IsSeat seat → IsSeat next → IsSameSeat seat next
     → Made seat next 0 (Halt number keep) place Halted → Halts old place new → HasAnswered old (AskHalt keep) new seat next
-halted_entry old keep new seat next number place kept also same made halts = record {
+halted_entry {keep} {new} {seat} {next} {number} {place} kept also same made halts = record {
   outcome = Entered (record { place = place; entry = record { maker = seat.number; command = Halt number keep; answer = Halted } });
   answered = record { number = number; command = refl; answer = refl; halts = halts };
-  noted = record { mine = made.mine; seat = same; agree = entry_agrees seat next 0 (Halt number keep) place Halted kept also same made refl };
+  noted = record { mine = made.mine; seat = same; agree = entry_agrees kept also same made refl };
 }

@@ -127,7 +127,7 @@ taken_slot old slot setup play film is has later =
     ap (λ st. film_bytes (parts_of old.waits st old.text slot)) is ∙ play_film old.waits setup play old.text slot in
     let through : slot_pacing old.waits slot play.pacer ≡ sent_through slot play.pacer =
     slot_is old.waits (stands_at_boundary (after_step true slot play.pacer)) slot play.pacer has.pacing refl in
-    let sent : HasSent now slot (film ++ slot_film old.waits slot play.pacer) = sent_by play old.heard slot old.waits film has later in record {
+    let sent : HasSent now slot (film ++ slot_film old.waits slot play.pacer) = sent_by {play = play} {heard = old.heard} {slot = slot} {film = film} old.waits has later in record {
       now = now;
       state = state;
       run = refl;
@@ -157,12 +157,13 @@ as_it_was session setup play film is has = record {
   sent = has;
 }
 
-pub slot_cases : (taken sending : Bool) (old next still : Standing) (parts : List Part) (setup : Setup) (play : Played) (film : List ℕ) → sending ≡ true →
+pub slot_cases : {taken sending : Bool} {old next : Standing} {setup : Setup} {play : Played} {film : List ℕ}
+    (still : Standing) (parts : List Part) → sending ≡ true →
     HasSentOn setup play old film → (taken ≡ true → HasSentOn setup play next (film ++ film_bytes parts)) →
     HasSentOn setup play (if taken then (if sending then next else still) else old) (film ++ film_bytes (if taken && sending then parts else []))
-slot_cases false sending old next still parts setup play film sends was goes = subst (HasSentOn setup play old) (sym (append-nil film)) was
-slot_cases true true old next still parts setup play film sends was goes = goes refl
-slot_cases true false old next still parts setup play film sends was goes = absurd (true≢false (sym sends))
+slot_cases {taken = false} {old} {next} {setup} {play} {film} still parts sends was goes = subst (HasSentOn setup play old) (sym (append-nil film)) was
+slot_cases {taken = true} {sending = true} {next} still parts sends was goes = goes refl
+slot_cases {taken = true} {sending = false} {next} still parts sends was goes = absurd (true≢false (sym sends))
 
 and_left : (a b : Bool) → (a && b) ≡ true → a ≡ true
 and_left true b both = refl
@@ -172,19 +173,21 @@ pub later_slot : (old : Standing) (slot : ℕ) → is_taken old slot ≡ true �
 later_slot old slot taken = ltb-true old.heard slot (and_left (nat_lt old.heard slot) (nat_le slot (2 ^ 62)) taken)
 
 -- a play goes on by a slot
-pub play_slot : (old : Standing) (slot : ℕ) (halt : Outcome) (new : Standing) (setup : Setup) (play : Played) (film : List ℕ) →
+pub play_slot : {new : Standing} {setup : Setup} {play : Played} {film : List ℕ} (old : Standing) (slot : ℕ)
+    (halt : Outcome) →
     old.state ≡ Playing setup play → HasSent play old.heard film → IsFinished (awaits (after_slot old slot)) (after_slot old slot) halt new → IsUnhalted halt →
     HasSentOn setup play new (film ++ film_bytes (slot_parts old slot))
-play_slot old slot halt new setup play film is has finishes free =
+play_slot {new} {setup} {play} {film} old slot halt is has finishes free =
     subst (λ s. HasSentOn setup play s (film ++ film_bytes (slot_parts old slot))) (sym (finished_same (awaits (after_slot old slot)) (after_slot old slot) halt new finishes free))
-    (slot_cases (is_taken old slot) (is_sending old.state) old (after_play (sent_slot old slot)) (record old { heard = slot }) (due_parts old slot) setup play film
+    (slot_cases (record old { heard = slot }) (due_parts old slot)
     (ap is_sending is) (as_it_was old setup play film is has)
     (λ taken. taken_slot old slot setup play film is has (later_slot old slot taken)))
 
 -- a play that goes on, and then goes on
-pub goes_on : (setup : Setup) (play : Played) (mid new : Standing) (film more : List ℕ) (on : HasSentOn setup play mid film) →
+pub goes_on : {setup : Setup} {play : Played} {mid new : Standing} {film more : List ℕ}
+    (on : HasSentOn setup play mid film) →
     HasSentOn setup on.now new more → HasSentOn setup play new more
-goes_on setup play mid new film more on next = record {
+goes_on {new} {more} on next = record {
   now = next.now;
   state = next.state;
   run = next.run ∙ on.run;
@@ -201,18 +204,18 @@ goes_on setup play mid new film more on next = record {
 abbrev pub IsLeft : Standing → Standing → Type 0
 IsLeft old new = (new.state ≡ old.state) × (new.heard ≡ old.heard)
 
-play_admitted : (state : State) (awaited : Awaited) (place start : ℕ) (setup : Setup) (play : Played) → state ≡ Playing setup play →
+play_admitted : {state : State} {setup : Setup} {play : Played} (awaited : Awaited) (place start : ℕ) → state ≡ Playing setup play →
     admitted_in state awaited place start ≡ state
-play_admitted state awaited place start setup play is =
+play_admitted awaited place start is =
     subst (λ st. admitted_in st awaited place start ≡ st) (sym is) refl
 
-play_left : (old : Standing) (placed : Placed) (answer : Answer) (new : Standing) (setup : Setup) (play : Played) → old.state ≡ Playing setup play →
+play_left : {setup : Setup} {play : Played} (old : Standing) (placed : Placed) (answer : Answer) (new : Standing) → old.state ≡ Playing setup play →
     IsPlayAnswered old placed answer new → IsLeft old new
-play_left old placed (Admitted start) new setup play is answered =
-    subst (IsLeft old) (sym answered.1) (play_admitted old.state old.awaited placed.place start setup play is, refl)
-play_left old placed (Overflow slot booked asked) new setup play is answered = subst (IsLeft old) (sym answered) (refl, refl)
-play_left old placed Halted new setup play is answered = absurd answered
-play_left old placed (Looked now at booked) new setup play is answered = absurd answered
+play_left old placed (Admitted start) new is answered =
+    subst (IsLeft old) (sym answered.1) (play_admitted old.awaited placed.place start is, refl)
+play_left old placed (Overflow slot booked asked) new is answered = subst (IsLeft old) (sym answered) (refl, refl)
+play_left old placed Halted new is answered = absurd answered
+play_left old placed (Looked now at booked) new is answered = absurd answered
 
 look_left : (old : Standing) (placed : Placed) (answer : Answer) (new : Standing) → IsLookAnswered old placed answer new → IsLeft old new
 look_left old placed (Admitted start) new answered = absurd answered
@@ -220,32 +223,32 @@ look_left old placed (Overflow slot booked asked) new answered = absurd answered
 look_left old placed Halted new answered = absurd answered
 look_left old placed (Looked now at booked) new answered = subst (IsLeft old) (sym answered) (refl, refl)
 
-answer_left : (old : Standing) (ask : Ask) (outcome : Outcome) (new : Standing) (setup : Setup) (play : Played) → old.state ≡ Playing setup play →
+answer_left : {setup : Setup} {play : Played} (old : Standing) (ask : Ask) (outcome : Outcome) (new : Standing) → old.state ≡ Playing setup play →
     IsAnswered old ask outcome new → IsUnhalted outcome → IsLeft old new
-answer_left old AskReply Unasked new setup play is answered free = subst (IsLeft old) (sym answered) (refl, refl)
-answer_left old AskReply (Entered placed) new setup play is answered free = absurd answered
-answer_left old AskReply (WasFull more entries live) new setup play is answered free = absurd answered
-answer_left old AskReply (Offered at_slot note) new setup play is answered free = absurd answered
-answer_left old (AskPlay plan) Unasked new setup play is answered free = absurd answered
-answer_left old (AskPlay plan) (Entered placed) new setup play is answered free = play_left old placed placed.entry.answer new setup play is answered.1
-answer_left old (AskPlay plan) (WasFull more entries live) new setup play is answered free = subst (IsLeft old) (sym answered.0) (refl, refl)
-answer_left old (AskPlay plan) (Offered at_slot note) new setup play is answered free = absurd answered
-answer_left old (AskHalt keep) outcome new setup play is answered free = absurd (no_halt old keep outcome new answered free)
-answer_left old (AskLook slot) Unasked new setup play is answered free = absurd answered
-answer_left old (AskLook slot) (Entered placed) new setup play is answered free = look_left old placed placed.entry.answer new answered.1
-answer_left old (AskLook slot) (WasFull more entries live) new setup play is answered free = subst (IsLeft old) (sym answered.0) (refl, refl)
-answer_left old (AskLook slot) (Offered at_slot note) new setup play is answered free = absurd answered
-answer_left old (AskOffer plan offers) Unasked new setup play is answered free = absurd answered
-answer_left old (AskOffer plan offers) (Entered placed) new setup play is answered free = absurd answered
-answer_left old (AskOffer plan offers) (WasFull more entries live) new setup play is answered free = absurd answered
-answer_left old (AskOffer plan offers) (Offered at_slot note) new setup play is answered free = subst (IsLeft old) (sym answered.2) (refl, refl)
+answer_left old AskReply Unasked new is answered free = subst (IsLeft old) (sym answered) (refl, refl)
+answer_left old AskReply (Entered placed) new is answered free = absurd answered
+answer_left old AskReply (WasFull more entries live) new is answered free = absurd answered
+answer_left old AskReply (Offered at_slot note) new is answered free = absurd answered
+answer_left old (AskPlay plan) Unasked new is answered free = absurd answered
+answer_left old (AskPlay plan) (Entered placed) new is answered free = play_left old placed placed.entry.answer new is answered.1
+answer_left old (AskPlay plan) (WasFull more entries live) new is answered free = subst (IsLeft old) (sym answered.0) (refl, refl)
+answer_left old (AskPlay plan) (Offered at_slot note) new is answered free = absurd answered
+answer_left old (AskHalt keep) outcome new is answered free = absurd (no_halt old keep outcome new answered free)
+answer_left old (AskLook slot) Unasked new is answered free = absurd answered
+answer_left old (AskLook slot) (Entered placed) new is answered free = look_left old placed placed.entry.answer new answered.1
+answer_left old (AskLook slot) (WasFull more entries live) new is answered free = subst (IsLeft old) (sym answered.0) (refl, refl)
+answer_left old (AskLook slot) (Offered at_slot note) new is answered free = absurd answered
+answer_left old (AskOffer plan offers) Unasked new is answered free = absurd answered
+answer_left old (AskOffer plan offers) (Entered placed) new is answered free = absurd answered
+answer_left old (AskOffer plan offers) (WasFull more entries live) new is answered free = absurd answered
+answer_left old (AskOffer plan offers) (Offered at_slot note) new is answered free = subst (IsLeft old) (sym answered.2) (refl, refl)
 
 left_on : (a b c : Standing) → IsLeft a b → IsLeft b c → IsLeft a c
 left_on a b c first second = (second.0 ∙ first.0, second.1 ∙ first.1)
 
-hears_left : (old : Standing) (message : List ℕ) (ask : Ask) (new : Standing) (setup : Setup) (play : Played) → Hears old message ask new →
+hears_left : {setup : Setup} {play : Played} (old : Standing) (message : List ℕ) (ask : Ask) (new : Standing) → Hears old message ask new →
     old.state ≡ Playing setup play → IsNoHalt ask → IsLeft old new
-hears_left old message ask new setup play hears is free =
+hears_left {setup} {play} old message ask new hears is free =
     let plays = hears_plays old new message ask setup play hears is free in (plays.state, plays.heard)
 
 ask_free : (old : Standing) (ask : Ask) (outcome : Outcome) (new : Standing) → IsAnswered old ask outcome new → IsUnhalted outcome → IsNoHalt ask
@@ -255,12 +258,13 @@ ask_free old (AskHalt keep) outcome new answered free = no_halt old keep outcome
 ask_free old (AskLook slot) outcome new answered free = tt
 ask_free old (AskOffer plan offers) outcome new answered free = tt
 
-pub heard_left : (old : Standing) (message : List ℕ) (outcome : Outcome) (new : Standing) (setup : Setup) (play : Played) → HasHeard old message outcome new →
+pub heard_left : {old : Standing} {message : List ℕ} {outcome : Outcome} {new : Standing} {setup : Setup}
+    {play : Played} → HasHeard old message outcome new →
     IsUnhalted outcome → old.state ≡ Playing setup play → IsLeft old new
-heard_left old message outcome new setup play heard free is =
-    let asking : IsLeft old heard.asking = hears_left old message heard.ask heard.asking setup play heard.hears is
+heard_left {old} {message} {outcome} {new} heard free is =
+    let asking : IsLeft old heard.asking = hears_left old message heard.ask heard.asking heard.hears is
     (ask_free heard.asking heard.ask outcome new heard.answered free) in
-    left_on old heard.asking new asking (answer_left heard.asking heard.ask outcome new setup play (asking.0 ∙ is) heard.answered free)
+    left_on old heard.asking new asking (answer_left heard.asking heard.ask outcome new (asking.0 ∙ is) heard.answered free)
 
 settled_play : (state : State) (setup : Setup) (play : Played) → state ≡ Playing setup play → after_stop state ≡ state
 settled_play state setup play is = subst (λ st. after_stop st ≡ st) (sym is) refl
@@ -269,11 +273,11 @@ reply_left : (goes : Bool) (s : Standing) (setup : Setup) (play : Played) → s.
 reply_left true s setup play is = (settled_play s.state setup play is, refl)
 reply_left false s setup play is = (refl, refl)
 
-pub taking_left : (old new : Stage) (taking : Taking) (setup : Setup) (play : Played) → Takes old taking new → AreUnhalted (taking_outcomes taking) →
+pub taking_left : {setup : Setup} {play : Played} (old new : Stage) (taking : Taking) → Takes old taking new → AreUnhalted (taking_outcomes taking) →
     old.session.state ≡ Playing setup play → IsLeft old.session new.session
-taking_left old new (Passed n) setup play takes free is = subst (λ (s : Stage). IsLeft old.session s.session) (sym takes.2) (refl, refl)
-taking_left old new (Answered message outcome parts) setup play takes free is =
-    let heard : IsLeft old.session takes.answered = heard_left old.session message outcome takes.answered setup play takes.heard free.0 is in
+taking_left old new (Passed n) takes free is = subst (λ (s : Stage). IsLeft old.session s.session) (sym takes.2) (refl, refl)
+taking_left {setup} {play} old new (Answered message outcome parts) takes free is =
+    let heard : IsLeft old.session takes.answered = heard_left takes.heard free.0 is in
     subst (λ (s : Stage). IsLeft old.session s.session) (sym takes.new_is)
     (left_on old.session takes.answered (after_reply takes.answered) heard
     (reply_left (can_reply takes.answered) takes.answered setup play (heard.0 ∙ is)))
@@ -286,18 +290,18 @@ pub unhalted_rest : (xs ys : List Outcome) → AreUnhalted (xs ++ ys) → AreUnh
 unhalted_rest [] ys free = free
 unhalted_rest (x ∷ xs) ys free = unhalted_rest xs ys free.1
 
-pub takes_left : (old new : Stage) (takings : List Taking) (setup : Setup) (play : Played) → TakesAll old takings new →
+pub takes_left : {setup : Setup} {play : Played} (old new : Stage) (takings : List Taking) → TakesAll old takings new →
     AreUnhalted (takings_outcomes takings) → old.session.state ≡ Playing setup play → IsLeft old.session new.session
-takes_left old new [] setup play takes free is = subst (λ (s : Stage). IsLeft old.session s.session) (sym takes) (refl, refl)
-takes_left old new (taking ∷ takings) setup play takes free is =
-    let first : IsLeft old.session takes.0.session = taking_left old takes.0 taking setup play takes.1.0
+takes_left old new [] takes free is = subst (λ (s : Stage). IsLeft old.session s.session) (sym takes) (refl, refl)
+takes_left old new (taking ∷ takings) takes free is =
+    let first : IsLeft old.session takes.0.session = taking_left old takes.0 taking takes.1.0
     (unhalted_front (taking_outcomes taking) (takings_outcomes takings) free) is in
     left_on old.session takes.0.session new.session first
-    (takes_left takes.0 new takings setup play takes.1.1 (unhalted_rest (taking_outcomes taking) (takings_outcomes takings) free) (first.0 ∙ is))
+    (takes_left takes.0 new takings takes.1.1 (unhalted_rest (taking_outcomes taking) (takings_outcomes takings) free) (first.0 ∙ is))
 
 -- what was sent of a play stays
-on_left : (setup : Setup) (play : Played) (old new : Standing) (film : List ℕ) → HasSentOn setup play old film → IsLeft old new → HasSentOn setup play new film
-on_left setup play old new film on left = record {
+on_left : {setup : Setup} {play : Played} {old new : Standing} {film : List ℕ} → HasSentOn setup play old film → IsLeft old new → HasSentOn setup play new film
+on_left {new} {film} on left = record {
   now = on.now;
   state = left.0 ∙ on.state;
   run = on.run;
@@ -310,46 +314,47 @@ on_left setup play old new film on left = record {
   sent = subst (λ n. HasSent on.now n film) (sym left.1) on.sent;
 }
 
-pub comes_on : (old new : Stage) (event : Doing) (due : List Part) (halt : Outcome) (setup : Setup) (play : Played) (film : List ℕ) →
+pub comes_on : {setup : Setup} {play : Played} {film : List ℕ} (old new : Stage) (event : Doing) (due : List Part)
+    (halt : Outcome) →
     Comes old event due halt new → IsUnhalted halt → old.session.state ≡ Playing setup play → HasSent play old.session.heard film →
     HasSentOn setup play new.session (film ++ film_bytes due)
-comes_on old new (HeardBytes bytes) due halt setup play film comes free is has =
+comes_on {setup} {play} {film} old new (HeardBytes bytes) due halt comes free is has =
     subst (λ ps. HasSentOn setup play new.session (film ++ film_bytes ps)) (sym comes.0)
     (subst (λ (s : Stage). HasSentOn setup play s.session (film ++ [])) (sym comes.3)
     (subst (HasSentOn setup play old.session) (sym (append-nil film)) (as_it_was old.session setup play film is has)))
-comes_on old new (HeardSlot slot) due halt setup play film comes free is has =
+comes_on {setup} {play} {film} old new (HeardSlot slot) due halt comes free is has =
     subst (λ ps. HasSentOn setup play new.session (film ++ film_bytes ps)) (sym comes.1.parts_are)
-    (play_slot old.session slot halt new.session setup play film is has comes.1.finished free)
-comes_on old new HeardEnd due halt setup play film comes free is has = absurd comes
-comes_on old new (Sent byte) due halt setup play film comes free is has = absurd comes
+    (play_slot old.session slot halt is has comes.1.finished free)
+comes_on old new HeardEnd due halt comes free is has = absurd comes
+comes_on old new (Sent byte) due halt comes free is has = absurd comes
 
-pub round_on : (old new : Stage) (round : Round) (setup : Setup) (play : Played) (film : List ℕ) → Runs old round new → AreUnhalted (round_outcomes round) →
+pub round_on : {old new : Stage} {round : Round} {setup : Setup} {play : Played} {film : List ℕ} → Runs old round new → AreUnhalted (round_outcomes round) →
     old.session.state ≡ Playing setup play → HasSent play old.session.heard film → HasSentOn setup play new.session (film ++ film_bytes round.due)
-round_on old new round setup play film runs free is has =
+round_on {old} {new} {round} {setup} {play} {film} runs free is has =
     let opened = runs.opened in
     let on : HasSentOn setup play opened.session (film ++ film_bytes round.due) =
-    comes_on old opened round.event round.due round.halt setup play film runs.comes free.0 is has in
-    on_left setup play opened.session new.session (film ++ film_bytes round.due) on (takes_left opened new round.takings setup on.now runs.takes free.1 on.state)
+    comes_on old opened round.event round.due round.halt runs.comes free.0 is has in
+    on_left on (takes_left opened new round.takings runs.takes free.1 on.state)
 
 -- a play goes on by events, as long as it isn't halted
-pub rounds_on : (old new : Stage) (rounds : List Round) (setup : Setup) (play : Played) (film : List ℕ) → RunsAll old rounds new →
+pub rounds_on : {setup : Setup} {play : Played} {film : List ℕ} (old new : Stage) (rounds : List Round) → RunsAll old rounds new →
     AreUnhalted (rounds_outcomes rounds) → old.session.state ≡ Playing setup play → HasSent play old.session.heard film →
     HasSentOn setup play new.session (film ++ rounds_film rounds)
-rounds_on old new [] setup play film runs free is has =
+rounds_on {setup} {play} {film} old new [] runs free is has =
     subst (λ (s : Stage). HasSentOn setup play s.session (film ++ [])) (sym runs)
     (subst (HasSentOn setup play old.session) (sym (append-nil film)) (as_it_was old.session setup play film is has))
-rounds_on old new (round ∷ rounds) setup play film runs free is has =
-    let first = round_on old runs.0 round setup play film runs.1.0 (unhalted_front (round_outcomes round) (rounds_outcomes rounds) free) is has in
-    let rest = rounds_on runs.0 new rounds setup first.now (film ++ film_bytes round.due) runs.1.2
+rounds_on {setup} {play} {film} old new (round ∷ rounds) runs free is has =
+    let first = round_on runs.1.0 (unhalted_front (round_outcomes round) (rounds_outcomes rounds) free) is has in
+    let rest = rounds_on {setup = setup} {play = first.now} {film = film ++ film_bytes round.due} runs.0 new rounds runs.1.2
     (unhalted_rest (round_outcomes round) (rounds_outcomes rounds) free) first.state first.sent in
     subst (HasSentOn setup play new.session) (append_assoc film (film_bytes round.due) (rounds_film rounds))
-    (goes_on setup play runs.0.session new.session (film ++ film_bytes round.due) ((film ++ film_bytes round.due) ++ rounds_film rounds) first rest)
+    (goes_on first rest)
 
 -- and by what is taken up before the next event
 pub film_on : (s : Stretch) (on : GoesOn s) → HasSentOn on.setup s.play s.new.session (s.film ++ rounds_film s.rounds)
 film_on s on =
     let front = unhalted_front (takings_outcomes s.takings) (rounds_outcomes s.rounds) on.unhalted in
     let rest = unhalted_rest (takings_outcomes s.takings) (rounds_outcomes s.rounds) on.unhalted in
-    let left = takes_left s.old on.mid s.takings on.setup s.play on.takes front on.state in
-    rounds_on on.mid s.new s.rounds on.setup s.play s.film on.runs rest (left.0 ∙ on.state)
+    let left = takes_left s.old on.mid s.takings on.takes front on.state in
+    rounds_on on.mid s.new s.rounds on.runs rest (left.0 ∙ on.state)
     (subst (λ h. HasSent s.play h s.film) (sym left.1) on.sent)

@@ -37,7 +37,7 @@ none_served duty seat part reports untouched none = record {
   entries = has_none seat.mine reports none;
   each = are_none duty.seed duty.worker reports none;
   served = subst (IsServed part.told part.told) (sym (ap length none)) (served_none part.told untouched);
-  connections = told_first duty.films duty.settings part.told seat reports untouched none;
+  connections = told_first duty.films duty.settings part.told seat untouched none;
   count = omega arith;
 }
 
@@ -50,24 +50,24 @@ pub record IsOneMore (duty : Duty) (reports : List ConnReport) (mid : Option Con
   pub one : HasServedOne duty.films duty.settings returned report old_seat new_seat
 
 -- a connection was given, served, and came back
-pub one_served : (duty : Duty) (old_seat mid_seat new_seat : Sitting) (old mid new : Outlet) (taken : Option Content) (reports more : List ConnReport) (report : ConnReport)
-    (returned : Returned) → HasServedSoFar duty old_seat mid_seat old mid reports → IsOneMore duty reports mid.told report returned mid_seat new_seat →
+pub one_served : {duty : Duty} {old_seat mid_seat new_seat : Sitting} {old mid new : Outlet} {taken : Option Content}
+    {reports more : List ConnReport} {report : ConnReport} {returned : Returned} → HasServedSoFar duty old_seat mid_seat old mid reports → IsOneMore duty reports mid.told report returned mid_seat new_seat →
     taken ≡ option_map after_take mid.told → new.told ≡ option_map (after_return returned) taken → mid.faults ≤ new.faults → more ≡ reports ++ report ∷ [] →
     HasServedSoFar duty old_seat new_seat old new more
-one_served duty old_seat mid_seat new_seat old mid new taken reports more report returned front one given back count items =
+one_served {duty} {old_seat} {mid_seat} {new_seat} {old} {mid} {new} {taken} {reports} {more} {report} {returned} front one given back count items =
     let size : length reports + 1 ≡ length more = sym (rw items (length-append reports (report ∷ []))) in record {
       seat = seat_on old_seat mid_seat new_seat front.seat one.seat;
-      entries = has_one old_seat.mine mid_seat.mine new_seat.mine reports more report front.entries one.entries items;
+      entries = has_one report front.entries one.entries items;
       each = are_more duty.seed duty.worker reports more report front.each one.worker one.words items;
-      served = subst (IsServed old.told new.told) size (served_one old.told mid.told taken new.told (length reports) returned front.served given back);
-      connections = told_one duty.films duty.settings mid.told taken new.told old_seat mid_seat new_seat reports more returned report front.connections given back items one.one;
+      served = subst (IsServed old.told new.told) size (served_one old.told mid.told (length reports) returned front.served given back);
+      connections = told_one mid.told old_seat reports front.connections given back items one.one;
       count = omega (arith, front.count, count);
     }
 
 -- there was no memory for one more report
-pub ends_early : (duty : Duty) (old_seat new_seat : Sitting) (old new : Outlet) (result : PartReport) → HasServedSoFar duty old_seat new_seat old new result.reports.items →
+pub ends_early : {duty : Duty} {old_seat new_seat : Sitting} {old new : Outlet} {result : PartReport} → HasServedSoFar duty old_seat new_seat old new result.reports.items →
     result.end ≡ NoMemory → HasServedPart duty old_seat new_seat old new result
-ends_early duty old_seat new_seat old new result front is = record {
+ends_early {new} front is = record {
   seat = front.seat;
   entries = front.entries;
   reports = front.each;
@@ -80,14 +80,14 @@ ends_early duty old_seat new_seat old new result front is = record {
 }
 
 -- the last take gave none: there are no more
-pub ends_taken : (duty : Duty) (old_seat new_seat : Sitting) (old mid new : Outlet) (result : PartReport) → HasServedSoFar duty old_seat new_seat old mid result.reports.items →
+pub ends_taken : {duty : Duty} {old_seat new_seat : Sitting} {old mid new : Outlet} {result : PartReport} → HasServedSoFar duty old_seat new_seat old mid result.reports.items →
     result.end ≡ AllTaken → new.told ≡ option_map (after_empty_take NoMore) mid.told → mid.faults ≤ new.faults → HasServedPart duty old_seat new_seat old new result
-ends_taken duty old_seat new_seat old mid new result front is last count = record {
+ends_taken {duty} {old_seat} {new_seat} {old} {mid} {new} {result} front is last count = record {
   seat = front.seat;
   entries = front.entries;
   reports = front.each;
-  served = served_last old.told mid.told new.told (length result.reports.items) NoMore front.served last;
-  connections = told_end duty.films duty.settings mid.told new.told old_seat new_seat result.reports.items NoMore front.connections last;
+  served = served_last old.told mid.told (length result.reports.items) NoMore front.served last;
+  connections = told_end duty.films duty.settings mid.told old_seat new_seat result.reports.items NoMore front.connections last;
   count = omega (arith, front.count, count);
   all = λ same. told_last mid.told new.told NoMore last;
   fault = λ other. absurd (let no : ⊥ = cc (is, other) in no);
@@ -95,15 +95,15 @@ ends_taken duty old_seat new_seat old mid new result front is last count = recor
 }
 
 -- or it failed
-pub ends_failed : (duty : Duty) (old_seat new_seat : Sitting) (old mid new : Outlet) (result : PartReport) → HasServedSoFar duty old_seat new_seat old mid result.reports.items →
+pub ends_failed : {duty : Duty} {old_seat new_seat : Sitting} {old mid new : Outlet} {result : PartReport} → HasServedSoFar duty old_seat new_seat old mid result.reports.items →
     result.end ≡ GateFault → new.told ≡ option_map (after_empty_take Failed) mid.told → mid.faults ≤ new.faults → HasRisen mid.faults new.faults →
     HasServedPart duty old_seat new_seat old new result
-ends_failed duty old_seat new_seat old mid new result front is last count risen = record {
+ends_failed {duty} {old_seat} {new_seat} {old} {mid} {new} {result} front is last count risen = record {
   seat = front.seat;
   entries = front.entries;
   reports = front.each;
-  served = served_last old.told mid.told new.told (length result.reports.items) Failed front.served last;
-  connections = told_end duty.films duty.settings mid.told new.told old_seat new_seat result.reports.items Failed front.connections last;
+  served = served_last old.told mid.told (length result.reports.items) Failed front.served last;
+  connections = told_end duty.films duty.settings mid.told old_seat new_seat result.reports.items Failed front.connections last;
   count = omega (arith, front.count, count);
   all = λ other. absurd (let no : ⊥ = cc (is, other) in no);
   fault = λ same. risen_on old.faults mid.faults new.faults front.count risen;

@@ -54,22 +54,23 @@ reply_heard : (goes : Bool) (s : Standing) → (if goes then sent_reply s else s
 reply_heard true s = refl
 reply_heard false s = refl
 
-heard_cases : (taken sending : Bool) (next still old : Standing) (slot : ℕ) → next.heard ≡ slot → still.heard ≡ slot →
+heard_cases : {slot : ℕ} (taken sending : Bool) (next still old : Standing) → next.heard ≡ slot → still.heard ≡ slot →
     (if taken then (if sending then next else still) else old).heard ≡ (if taken then slot else old.heard)
-heard_cases false sending next still old slot one other = refl
-heard_cases true false next still old slot one other = other
-heard_cases true true next still old slot one other = one
+heard_cases {slot} false sending next still old one other = refl
+heard_cases {slot} true false next still old one other = other
+heard_cases {slot} true true next still old one other = one
 
 slot_heard : (old : Standing) (slot : ℕ) → (after_slot old slot).heard ≡ taken_up old.heard slot
 slot_heard old slot =
-    heard_cases (is_taken old slot) (is_sending old.state) (after_play (sent_slot old slot)) (record old { heard = slot }) old slot
+    heard_cases (is_taken old slot) (is_sending old.state) (after_play (sent_slot old slot)) (record old { heard = slot }) old
     (reply_heard (old.waits && is_between (stepped_in true slot old.state)) (sent_due old slot)) refl
 
 -- what was sent of a play, by the play as it was and as it is now
-sent_by : (old : Standing) (setup : Setup) (play : Played) (film : List ℕ) (new : Standing) (heard : ℕ) (more : List ℕ) →
+sent_by : {old : Standing} {setup : Setup} {play : Played} {film : List ℕ} {new : Standing} {heard : ℕ}
+    {more : List ℕ} →
     HasPlay old.films old.source old.settings old.counts old.heard film setup play → HasSentOn setup play new more → new.heard ≡ heard →
     (stored : Stored) × IsSentBy old stored setup play heard more
-sent_by old setup play film new heard more its on same =
+sent_by {old} {setup} {play} {new} {heard} {more} its on same =
     let stored = its.stored in
     let now = on.now in
     let sizes = stored_sizes stored in
@@ -98,36 +99,37 @@ sent_by old setup play film new heard more its on same =
       },
     )
 
-kept_event : (old new : Stage) (event : Doing) (due : List Part) (halt : Outcome) (setup : Setup) (play : Played) (film : List ℕ) →
+kept_event : {setup : Setup} {play : Played} {film : List ℕ} (old new : Stage) (event : Doing) (due : List Part)
+    (halt : Outcome) →
     HasPlay old.session.films old.session.source old.session.settings old.session.counts old.session.heard film setup play →
     old.session.state ≡ Playing setup play → Comes old event due halt new →
     (stored : Stored) × IsSentBy old.session stored setup play (heard_by old.session.heard event) (film ++ film_bytes due)
-kept_event old new (HeardBytes bytes) due halt setup play film its is comes =
+kept_event {setup} {play} {film} old new (HeardBytes bytes) due halt its is comes =
     subst (λ ps. (stored : Stored) × IsSentBy old.session stored setup play old.session.heard (film ++ film_bytes ps)) (sym comes.0)
     (subst (λ bs. (stored : Stored) × IsSentBy old.session stored setup play old.session.heard bs) (sym (append-nil film))
-    (sent_by old.session setup play film old.session old.session.heard film its (as_it_was old.session setup play film is its.sent) refl))
-kept_event old new (HeardSlot slot) due halt setup play film its is comes =
+    (sent_by its (as_it_was old.session setup play film is its.sent) refl))
+kept_event {setup} {play} {film} old new (HeardSlot slot) due halt its is comes =
     subst (λ ps. (stored : Stored) × IsSentBy old.session stored setup play (taken_up old.session.heard slot) (film ++ film_bytes ps)) (sym comes.1.parts_are)
-    (sent_by old.session setup play film (after_slot old.session slot) (taken_up old.session.heard slot) (film ++ film_bytes (slot_parts old.session slot)) its
-    (slot_play old.session slot setup play film is its.sent) (slot_heard old.session slot))
-kept_event old new HeardEnd due halt setup play film its is comes = absurd comes
-kept_event old new (Sent byte) due halt setup play film its is comes = absurd comes
+    (sent_by its
+    (slot_play old.session slot is its.sent) (slot_heard old.session slot))
+kept_event old new HeardEnd due halt its is comes = absurd comes
+kept_event old new (Sent byte) due halt its is comes = absurd comes
 
-kept_in : (state : State) (old new : Stage) (event : Doing) (due : List Part) (halt : Outcome) (film : List ℕ) → IsWell old.session film →
+kept_in : {state : State} {film : List ℕ} (old new : Stage) (event : Doing) (due : List Part) (halt : Outcome) → IsWell old.session film →
     old.session.state ≡ state → Comes old event due halt new →
     IsKeptIn state old.session (heard_by old.session.heard event) (film ++ film_bytes due)
-kept_in Init old new event due halt film well is comes = tt
-kept_in (Ready setup paused) old new event due halt film well is comes = tt
-kept_in (Playing setup play) old new event due halt film well is comes =
+kept_in {state = Init} old new event due halt well is comes = tt
+kept_in {state = Ready setup paused} old new event due halt well is comes = tt
+kept_in {state = Playing setup play} {film} old new event due halt well is comes =
     let s = old.session in
     let was = subst (IsStateOf s.films s.source s.settings s.counts s.heard film) is well.state in
-    kept_event old new event due halt setup play film was.1 is comes
-kept_in (Stopping setup stop) old new event due halt film well is comes = tt
+    kept_event old new event due halt was.1 is comes
+kept_in {state = Stopping setup stop} old new event due halt well is comes = tt
 
 -- in each course from such a session on
 pub plays_kept : (first : Standing) (rounds : List Round) → IsWell first [] → ArePlaysKept first rounds
 plays_kept first rounds well = λ before round old at.
-    kept_in old.session.state old at.opened round.event round.due round.halt (film_in [] before)
+    kept_in old at.opened round.event round.due round.halt
     (rounds_well (stage first []) old before [] well at.runs) refl at.comes
 
 -- no slot is booked above its capacity
@@ -136,10 +138,11 @@ never_overbooked seat is = λ n slot.
     (sound-after seat.steps (take n seat.seen) (legal-take seat.steps seat.seen n is.legal)).within.each slot
 
 -- the whole promise
-pub keeps_promise : (session : Standing) (old_told new_told : Option (List Doing)) (old_seat new_seat : Sitting) (report : ConnReport) → IsWell session [] →
+pub keeps_promise : {session : Standing} {old_told new_told : Option (List Doing)} {old_seat new_seat : Sitting}
+    {report : ConnReport} → IsWell session [] →
     session.text ≡ [] → IsSeat new_seat → HasServedFrom session old_told new_told old_seat new_seat report →
     KeepsPromise session old_told new_told old_seat new_seat report
-keeps_promise session old_told new_told old_seat new_seat report well none is served =
+keeps_promise {session} {old_seat} {new_seat} {report} well none is served =
     let course = served.course in
     let made : List Outcome = rounds_outcomes course.rounds ++ ending_outcomes course.ending in
     let parts : List Part = rounds_parts (course.rounds ++ ending_rounds course.ending) in
@@ -151,6 +154,6 @@ keeps_promise session old_told new_told old_seat new_seat report well none is se
       booked = record { legal = is.legal; within = never_overbooked new_seat is };
       keeps = record {
         plays = plays_kept session (course.rounds ++ ending_rounds course.ending) well;
-        refusals = refusals_told new_seat old_seat.mine after made parts is mine told;
+        refusals = refusals_told old_seat.mine after made parts is mine told;
       };
     })

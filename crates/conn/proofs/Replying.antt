@@ -71,22 +71,22 @@ stand-append pieces place (Film bytes ∷ xs) ys first second =
 stand-append pieces place (Text text ∷ xs) ys first second = (first.0, stand-append pieces place xs ys first.1 second)
 
 -- a slot's parts
-slot_stands : (waits between : Bool) (pieces : List (List ℕ)) (place : ℕ) (one after plain text : List ℕ) →
+slot_stands : {between : Bool} {pieces : List (List ℕ)} (waits : Bool) (place : ℕ) (one after plain text : List ℕ) →
     (between ≡ true → IsBoundary pieces (place + length one)) →
     StandBetween pieces place (if waits then Film one ∷ (if between then Text text ∷ Film after ∷ [] else []) else Film plain ∷ [])
-slot_stands false between pieces place one after plain text stands = tt
-slot_stands true false pieces place one after plain text stands = tt
-slot_stands true true pieces place one after plain text stands = (stands refl, tt)
+slot_stands {between} false place one after plain text stands = tt
+slot_stands {between = false} true place one after plain text stands = tt
+slot_stands {between = true} true place one after plain text stands = (stands refl, tt)
 
-due_stand : (session : Standing) (slot : ℕ) (setup : Setup) (play : Played) (film : List ℕ) → session.state ≡ Playing setup play →
+due_stand : {setup : Setup} {play : Played} {film : List ℕ} (session : Standing) (slot : ℕ) → session.state ≡ Playing setup play →
     HasSent play session.heard film → StandBetween play.pacer.pieces (play.pacer.before + length film) (due_parts session slot)
-due_stand session slot setup play film is has =
+due_stand {setup} {play} {film} session slot is has =
     let p = play.pacer in
     let State' : State → Type 0 = λ st. (is_between (stepped_in true slot st) ≡ true → IsBoundary p.pieces ((p.before + length film) + length (step_bytes true slot st))) in
     let stands : State' (Playing setup play) =
     λ between. subst (IsBoundary p.pieces) (omega (arith, sent_place play session.heard film has, stopped_place slot p has.pacing))
     (boundary_here (after_step true slot p) (stopped_is slot p has.pacing) between) in
-    slot_stands session.waits (is_between (stepped_in true slot session.state)) p.pieces (p.before + length film) (step_bytes true slot session.state)
+    slot_stands session.waits (p.before + length film) (step_bytes true slot session.state)
     (step_bytes false slot (stepped_in true slot session.state)) (step_bytes false slot session.state) session.text
     (subst State' (sym is) stands)
 
@@ -95,17 +95,18 @@ none_stand : (goes : Bool) (pieces : List (List ℕ)) (place : ℕ) (parts : Lis
 none_stand true pieces place parts stands = stands refl
 none_stand false pieces place parts stands = tt
 
-comes_stand : (old new : Stage) (event : Doing) (due : List Part) (halt : Outcome) (setup : Setup) (play : Played) (film : List ℕ) →
+comes_stand : {setup : Setup} {play : Played} {film : List ℕ} (old new : Stage) (event : Doing) (due : List Part)
+    (halt : Outcome) →
     Comes old event due halt new → old.session.state ≡ Playing setup play → HasSent play old.session.heard film →
     StandBetween play.pacer.pieces (play.pacer.before + length film) due
-comes_stand old new (HeardBytes bytes) due halt setup play film comes is has =
+comes_stand {play} {film} old new (HeardBytes bytes) due halt comes is has =
     subst (StandBetween play.pacer.pieces (play.pacer.before + length film)) (sym comes.0) tt
-comes_stand old new (HeardSlot slot) due halt setup play film comes is has =
+comes_stand {play} {film} old new (HeardSlot slot) due halt comes is has =
     subst (StandBetween play.pacer.pieces (play.pacer.before + length film)) (sym comes.1.parts_are)
     (none_stand (is_taken old.session slot && is_sending old.session.state) play.pacer.pieces (play.pacer.before + length film) (due_parts old.session slot)
-    (λ goes. due_stand old.session slot setup play film is has))
-comes_stand old new HeardEnd due halt setup play film comes is has = absurd comes
-comes_stand old new (Sent byte) due halt setup play film comes is has = absurd comes
+    (λ goes. due_stand old.session slot is has))
+comes_stand old new HeardEnd due halt comes is has = absurd comes
+comes_stand old new (Sent byte) due halt comes is has = absurd comes
 
 -- a reply's part
 and_right : (a b : Bool) → (a && b) ≡ true → b ≡ true
@@ -140,17 +141,17 @@ takings_film old new (Answered message outcome parts ∷ takings) takes =
     ∙ ap (λ bs. bs ++ film_bytes (takings_parts takings)) (ap film_bytes takes.1.0.parts_are ∙ no_film (can_reply takes.1.0.answered) takes.1.0.answered.text)
     ∙ takings_film takes.0 new takings takes.1.1
 
-takes_stand : (old new : Stage) (takings : List Taking) (setup : Setup) (play : Played) (film : List ℕ) → TakesAll old takings new →
+takes_stand : {setup : Setup} {play : Played} {film : List ℕ} (old new : Stage) (takings : List Taking) → TakesAll old takings new →
     AreUnhalted (takings_outcomes takings) → old.session.state ≡ Playing setup play → HasSent play old.session.heard film →
     StandBetween play.pacer.pieces (play.pacer.before + length film) (takings_parts takings)
-takes_stand old new [] setup play film takes free is has = tt
-takes_stand old new (Passed n ∷ takings) setup play film takes free is has =
-    let left = taking_left old takes.0 (Passed n) setup play takes.1.0 tt is in
-    takes_stand takes.0 new takings setup play film takes.1.1 free (left.0 ∙ is) (subst (λ h. HasSent play h film) (sym left.1) has)
-takes_stand old new (Answered message outcome parts ∷ takings) setup play film takes free is has =
+takes_stand old new [] takes free is has = tt
+takes_stand {play} {film} old new (Passed n ∷ takings) takes free is has =
+    let left = taking_left old takes.0 (Passed n) takes.1.0 tt is in
+    takes_stand takes.0 new takings takes.1.1 free (left.0 ∙ is) (subst (λ h. HasSent play h film) (sym left.1) has)
+takes_stand {setup} {play} {film} old new (Answered message outcome parts ∷ takings) takes free is has =
     let first : AreUnhalted (outcome ∷ []) = (free.0, tt) in
-    let left = taking_left old takes.0 (Answered message outcome parts) setup play takes.1.0 first is in
-    let heard = heard_left old.session message outcome takes.1.0.answered setup play takes.1.0.heard free.0 is in
+    let left = taking_left old takes.0 (Answered message outcome parts) takes.1.0 first is in
+    let heard = heard_left takes.1.0.heard free.0 is in
     let place : ℕ = play.pacer.before + length film in
     let none : film_bytes parts ≡ [] =
     ap film_bytes takes.1.0.parts_are ∙ no_film (can_reply takes.1.0.answered) takes.1.0.answered.text in
@@ -158,35 +159,35 @@ takes_stand old new (Answered message outcome parts ∷ takings) setup play film
     subst (StandBetween play.pacer.pieces place) (sym takes.1.0.parts_are)
     (reply_stands takes.1.0.answered setup play film (heard.0 ∙ is) (subst (λ h. HasSent play h film) (sym heard.1) has)) in
     let rest : StandBetween play.pacer.pieces place (takings_parts takings) =
-    takes_stand takes.0 new takings setup play film takes.1.1 free.1 (left.0 ∙ is) (subst (λ h. HasSent play h film) (sym left.1) has) in
+    takes_stand takes.0 new takings takes.1.1 free.1 (left.0 ∙ is) (subst (λ h. HasSent play h film) (sym left.1) has) in
     stand-append play.pacer.pieces place parts (takings_parts takings) reply
     (subst (λ n. StandBetween play.pacer.pieces n (takings_parts takings)) (omega (arith, ap length none)) rest)
 
-round_stands : (old new : Stage) (round : Round) (setup : Setup) (play : Played) (film : List ℕ) → Runs old round new → AreUnhalted (round_outcomes round) →
+round_stands : {old new : Stage} {round : Round} {setup : Setup} {play : Played} {film : List ℕ} → Runs old round new → AreUnhalted (round_outcomes round) →
     old.session.state ≡ Playing setup play → HasSent play old.session.heard film →
     StandBetween play.pacer.pieces (play.pacer.before + length film) (round_parts round)
-round_stands old new round setup play film runs free is has =
+round_stands {old} {new} {round} {play} {film} runs free is has =
     let opened = runs.opened in
-    let on = comes_on old opened round.event round.due round.halt setup play film runs.comes free.0 is has in
+    let on = comes_on old opened round.event round.due round.halt runs.comes free.0 is has in
     let rest : StandBetween on.now.pacer.pieces (on.now.pacer.before + length (film ++ film_bytes round.due)) (takings_parts round.takings) =
-    takes_stand opened new round.takings setup on.now (film ++ film_bytes round.due) runs.takes free.1 on.state on.sent in
+    takes_stand opened new round.takings runs.takes free.1 on.state on.sent in
     let same : StandBetween play.pacer.pieces (on.now.pacer.before + length (film ++ film_bytes round.due)) (takings_parts round.takings) =
     subst (λ ps. StandBetween ps (on.now.pacer.before + length (film ++ film_bytes round.due)) (takings_parts round.takings)) on.pieces rest in
     stand-append play.pacer.pieces (play.pacer.before + length film) round.due (takings_parts round.takings)
-    (comes_stand old opened round.event round.due round.halt setup play film runs.comes is has)
+    (comes_stand old opened round.event round.due round.halt runs.comes is has)
     (subst (λ n. StandBetween play.pacer.pieces n (takings_parts round.takings)) (omega (arith, on.before, length-append film (film_bytes round.due))) same)
 
 -- while a play goes on, each reply stands between frames and reports
-pub rounds_stand : (old new : Stage) (rounds : List Round) (setup : Setup) (play : Played) (film : List ℕ) → RunsAll old rounds new →
+pub rounds_stand : {setup : Setup} {play : Played} {film : List ℕ} (old new : Stage) (rounds : List Round) → RunsAll old rounds new →
     AreUnhalted (rounds_outcomes rounds) → old.session.state ≡ Playing setup play → HasSent play old.session.heard film →
     StandBetween play.pacer.pieces (play.pacer.before + length film) (rounds_parts rounds)
-rounds_stand old new [] setup play film runs free is has = tt
-rounds_stand old new (round ∷ rounds) setup play film runs free is has =
+rounds_stand old new [] runs free is has = tt
+rounds_stand {setup} {play} {film} old new (round ∷ rounds) runs free is has =
     let first_free = unhalted_front (round_outcomes round) (rounds_outcomes rounds) free in
-    let on = round_on old runs.0 round setup play film runs.1.0 first_free is has in
+    let on = round_on runs.1.0 first_free is has in
     let more : List ℕ = film ++ film_bytes round.due in
     let rest : StandBetween on.now.pacer.pieces (on.now.pacer.before + length more) (rounds_parts rounds) =
-    rounds_stand runs.0 new rounds setup on.now more runs.1.2 (unhalted_rest (round_outcomes round) (rounds_outcomes rounds) free) on.state on.sent in
+    rounds_stand {setup = setup} {play = on.now} {film = more} runs.0 new rounds runs.1.2 (unhalted_rest (round_outcomes round) (rounds_outcomes rounds) free) on.state on.sent in
     let same : StandBetween play.pacer.pieces (on.now.pacer.before + length more) (rounds_parts rounds) =
     subst (λ ps. StandBetween ps (on.now.pacer.before + length more) (rounds_parts rounds)) on.pieces rest in
     let film_is : length (film_bytes (round_parts round)) ≡ length (film_bytes round.due) =
@@ -194,7 +195,7 @@ rounds_stand old new (round ∷ rounds) setup play film runs free is has =
     ∙ ap (λ bs. film_bytes round.due ++ bs) (takings_film runs.1.0.opened runs.0 round.takings runs.1.0.takes)
     ∙ append-nil (film_bytes round.due)) in
     stand-append play.pacer.pieces (play.pacer.before + length film) (round_parts round) (rounds_parts rounds)
-    (round_stands old runs.0 round setup play film runs.1.0 first_free is has)
+    (round_stands runs.1.0 first_free is has)
     (subst (λ n. StandBetween play.pacer.pieces n (rounds_parts rounds)) (omega (arith, on.before, film_is, length-append film (film_bytes round.due))) same)
 
 -- from a play's beginning on
@@ -203,12 +204,12 @@ pub replies_stand : (s : Stretch) → GoesOn s →
 replies_stand s on =
     let first = unhalted_front (takings_outcomes s.takings) (rounds_outcomes s.rounds) on.unhalted in
     let after = unhalted_rest (takings_outcomes s.takings) (rounds_outcomes s.rounds) on.unhalted in
-    let left = takes_left s.old on.mid s.takings on.setup s.play on.takes first on.state in
+    let left = takes_left s.old on.mid s.takings on.takes first on.state in
     let pieces = s.play.pacer.pieces in
     let place : ℕ = s.play.pacer.before + length s.film in
     let rest : StandBetween pieces place (rounds_parts s.rounds) =
-    rounds_stand on.mid s.new s.rounds on.setup s.play s.film on.runs after (left.0 ∙ on.state)
+    rounds_stand on.mid s.new s.rounds on.runs after (left.0 ∙ on.state)
     (subst (λ h. HasSent s.play h s.film) (sym left.1) on.sent) in
     stand-append pieces place (takings_parts s.takings) (rounds_parts s.rounds)
-    (takes_stand s.old on.mid s.takings on.setup s.play s.film on.takes first on.state on.sent)
+    (takes_stand s.old on.mid s.takings on.takes first on.state on.sent)
     (subst (λ n. StandBetween pieces n (rounds_parts s.rounds)) (omega (arith, ap length (takings_film s.old on.mid s.takings on.takes))) rest)

@@ -53,8 +53,8 @@ told_none (Some told) = ap Some (append-nil told)
 pub sent_none : (told : Option (List Doing)) → IsSent told [] told
 sent_none told = sym (told_none told)
 
-pub sent_on : (a b c : Option (List Doing)) (xs ys : List ℕ) → IsSent a xs b → IsSent b ys c → IsSent a (xs ++ ys) c
-sent_on a b c xs ys first second =
+pub sent_on : {b c : Option (List Doing)} (a : Option (List Doing)) (xs ys : List ℕ) → IsSent a xs b → IsSent b ys c → IsSent a (xs ++ ys) c
+sent_on {c} a xs ys first second =
     second ∙ ap (λ t. told_more t (sends ys)) first ∙ told_on a (sends xs) (sends ys) ∙ ap (told_more a) (sym (map-append Sent xs ys))
 
 -- what the seat made
@@ -110,7 +110,7 @@ taken_on a b c first second = record {
   takings = first.takings ++ second.takings;
   takes = takes_on a.stage b.stage c.stage first.takings second.takings first.takes second.takes;
   sent = subst (λ bs. IsSent a.told bs c.told) (sym (takings_bytes-append first.takings second.takings))
-      (sent_on a.told b.told c.told (takings_bytes first.takings) (takings_bytes second.takings) first.sent second.sent);
+      (sent_on a.told (takings_bytes first.takings) (takings_bytes second.takings) first.sent second.sent);
   noted = subst (λ os. AreNoted a.seat c.seat os) (sym (takings_outcomes-append first.takings second.takings))
       (noted_on a.seat b.seat c.seat (takings_outcomes first.takings) (takings_outcomes second.takings) first.noted second.noted);
 }
@@ -136,30 +136,30 @@ up_on (Some end) a b c first up =
     ]
 
 -- an event, and what was taken up after it
-event_round : (event : Doing) (due : List Part) (halt : Outcome) (a b c : Sight) → Comes a.stage event due halt b.stage → IsSent a.told (parts_bytes due) b.told →
+event_round : {event : Doing} {halt : Outcome} {a b c : Sight} (due : List Part) → Comes a.stage event due halt b.stage → IsSent a.told (parts_bytes due) b.told →
     AreNoted a.seat b.seat (halt ∷ []) → HasTaken b c → IsIdle c.stage → HasRound event a c
-event_round event due halt a b c comes sent noted taken idle = record {
+event_round {event} {halt} {a} {b} {c} due comes sent noted taken idle = record {
   round = record { event = event; due = due; halt = halt; takings = taken.takings };
   event_is = refl;
   runs = record { opened = b.stage; comes = comes; takes = taken.takes };
   idle = idle;
-  sent = sent_on a.told b.told c.told (parts_bytes due) (takings_bytes taken.takings) sent taken.sent;
+  sent = sent_on a.told (parts_bytes due) (takings_bytes taken.takings) sent taken.sent;
   noted = noted_on a.seat b.seat c.seat (halt ∷ []) (takings_outcomes taken.takings) noted taken.noted;
 }
 
-event_stop : (event : Doing) (due : List Part) (halt : Outcome) (end : ConnEnd) (count : ℕ) (a b c : Sight) → Comes a.stage event due halt b.stage →
+event_stop : {event : Doing} {halt : Outcome} {end : ConnEnd} {count : ℕ} {a b c : Sight} (due : List Part) → Comes a.stage event due halt b.stage →
     IsSent a.told (parts_bytes due) b.told → AreNoted a.seat b.seat (halt ∷ []) → HasTaken b c → IsStopped end c.stage → HasEnded (event ∷ []) end count a c
-event_stop event due halt end count a b c comes sent noted taken stopped = record {
+event_stop {event} {halt} {end} {a} {b} {c} due comes sent noted taken stopped = record {
   ending = AtPiece (record { event = event; due = due; halt = halt; takings = taken.takings });
   event_is = refl;
   ends = (record { opened = b.stage; comes = comes; takes = taken.takes }, stopped);
-  sent = sent_on a.told b.told c.told (parts_bytes due) (takings_bytes taken.takings) sent taken.sent;
+  sent = sent_on a.told (parts_bytes due) (takings_bytes taken.takings) sent taken.sent;
   noted = noted_on a.seat b.seat c.seat (halt ∷ []) (takings_outcomes taken.takings) noted taken.noted;
 }
 
-event_lost : (event : Doing) (due : List Part) (halt : Outcome) (end : ConnEnd) (count : ℕ) (a b c : Sight) → Comes a.stage event due halt b.stage →
+event_lost : {event : Doing} {halt : Outcome} {end : ConnEnd} {count : ℕ} {a b c : Sight} (due : List Part) → Comes a.stage event due halt b.stage →
     IsSent a.told (parts_bytes due) b.told → AreNoted a.seat b.seat (halt ∷ []) → end ≡ LinkFault → HasLost b c → HasEnded (event ∷ []) end count a c
-event_lost event due halt end count a b c comes sent noted is lost =
+event_lost {event} {halt} {end} {a} {b} {c} due comes sent noted is lost =
     let mid = lost.mid in
     let round : Round = record { event = event; due = due; halt = halt; takings = lost.taken.takings } in record {
       ending = InReply round lost.message lost.outcome lost.front;
@@ -172,20 +172,20 @@ event_lost event due halt end count a b c comes sent noted is lost =
           fails = lost.fails;
         },
       );
-      sent = sent_on a.told mid.told c.told (round_bytes round) lost.front
-          (sent_on a.told b.told mid.told (parts_bytes due) (takings_bytes lost.taken.takings) sent lost.taken.sent) lost.sent;
+      sent = sent_on a.told (round_bytes round) lost.front
+          (sent_on a.told (parts_bytes due) (takings_bytes lost.taken.takings) sent lost.taken.sent) lost.sent;
       noted = noted_on a.seat mid.seat c.seat (round_outcomes round) (lost.outcome ∷ [])
           (noted_on a.seat b.seat mid.seat (halt ∷ []) (takings_outcomes lost.taken.takings) noted lost.taken.noted) lost.noted;
     }
 
-event_up : (result : Option ConnEnd) (event : Doing) (due : List Part) (halt : Outcome) (a b c : Sight) → Comes a.stage event due halt b.stage →
+event_up : {halt : Outcome} (result : Option ConnEnd) (event : Doing) (due : List Part) (a b c : Sight) → Comes a.stage event due halt b.stage →
     IsSent a.told (parts_bytes due) b.told → AreNoted a.seat b.seat (halt ∷ []) → HasTakenUp result b c → HasComeTo result event a c
-event_up None event due halt a b c comes sent noted up = event_round event due halt a b c comes sent noted up.0 up.1
-event_up (Some end) event due halt a b c comes sent noted up =
+event_up {halt} None event due a b c comes sent noted up = event_round due comes sent noted up.0 up.1
+event_up {halt} (Some end) event due a b c comes sent noted up =
     λ count.
     elim up [
-      | inl lost ↦ event_lost event due halt end count a b c comes sent noted lost.0 lost.1
-      | inr stopped ↦ event_stop event due halt end count a b c comes sent noted stopped.0 stopped.1
+      | inl lost ↦ event_lost due comes sent noted lost.0 lost.1
+      | inr stopped ↦ event_stop due comes sent noted stopped.0 stopped.1
     ]
 
 -- bytes came
@@ -193,13 +193,13 @@ pub bytes_up : (result : Option ConnEnd) (bytes : List ℕ) (a b c : Sight) → 
     b.stage ≡ stage a.stage.session (a.stage.input ++ bytes) → b.told ≡ a.told → b.seat ≡ a.seat → HasTakenUp result b c →
     HasComeTo result (HeardBytes bytes) a c
 bytes_up result bytes a b c few is told seat up =
-    event_up result (HeardBytes bytes) [] Unasked a b c (refl, refl, few, is) (told ∙ sent_none a.told)
+    event_up result (HeardBytes bytes) [] a b c (refl, refl, few, is) (told ∙ sent_none a.told)
     (subst (λ s. AreNoted a.seat s (Unasked ∷ [])) (sym seat) (noted_unasked a.seat)) up
 
 -- a slot began
-pub slot_up : (result : Option ConnEnd) (slot : ℕ) (a b c : Sight) → HasPassed a b slot → HasTakenUp result b c → HasComeTo result (HeardSlot slot) a c
-slot_up result slot a b c passed up =
-    event_up result (HeardSlot slot) passed.parts passed.halt a b c (passed.input, passed.stepped) passed.sent passed.noted up
+pub slot_up : {slot : ℕ} {a b : Sight} (result : Option ConnEnd) (c : Sight) → HasPassed a b slot → HasTakenUp result b c → HasComeTo result (HeardSlot slot) a c
+slot_up {slot} {a} {b} result c passed up =
+    event_up result (HeardSlot slot) passed.parts a b c (passed.input, passed.stepped) passed.sent passed.noted up
 
 pub slot_broken : (slot : ℕ) (a c : Sight) → HasBroken a c slot → HasComeTo (Some LinkFault) (HeardSlot slot) a c
 slot_broken slot a c broken =
@@ -233,9 +233,9 @@ goes_on (Bytes n) waiting c has =
     ]
 
 -- events, one after another
-runs_on : (a b c : Stage) (rounds : List Round) (round : Round) → RunsAll a rounds b → Runs b round c → IsIdle c → RunsAll a (rounds ++ round ∷ []) c
-runs_on a b c [] round runs next idle = (c, (subst (λ s. Runs s round c) runs next, idle, refl))
-runs_on a b c (first ∷ rounds) round runs next idle = (runs.0, (runs.1.0, runs.1.1, runs_on runs.0 b c rounds round runs.1.2 next idle))
+runs_on : {b c : Stage} {round : Round} (a : Stage) (rounds : List Round) → RunsAll a rounds b → Runs b round c → IsIdle c → RunsAll a (rounds ++ round ∷ []) c
+runs_on {c} {round} a [] runs next idle = (c, (subst (λ s. Runs s round c) runs next, idle, refl))
+runs_on {c} a (first ∷ rounds) runs next idle = (runs.0, (runs.1.0, runs.1.1, runs_on runs.0 rounds runs.1.2 next idle))
 
 rounds_doings-append : (xs ys : List Round) → rounds_doings (xs ++ ys) ≡ rounds_doings xs ++ rounds_doings ys
 rounds_doings-append [] ys = refl
@@ -258,13 +258,13 @@ run_none a = record {
 }
 
 -- an event was heard
-heard_sent : (a b c : Option (List Doing)) (event : Doing) (bytes : List ℕ) → b ≡ told_more a (event ∷ []) → IsSent b bytes c →
+heard_sent : {b c : Option (List Doing)} (a : Option (List Doing)) (event : Doing) (bytes : List ℕ) → b ≡ told_more a (event ∷ []) → IsSent b bytes c →
     c ≡ told_more a (event ∷ sends bytes)
-heard_sent a b c event bytes heard sent = sent ∙ ap (λ t. told_more t (sends bytes)) heard ∙ told_on a (event ∷ []) (sends bytes)
+heard_sent {c} a event bytes heard sent = sent ∙ ap (λ t. told_more t (sends bytes)) heard ∙ told_on a (event ∷ []) (sends bytes)
 
-pub run_on : (count : ℕ) (event : Doing) (a b heard c : Sight) → HasRun count a b → heard.stage ≡ b.stage → heard.seat ≡ b.seat →
+pub run_on : {count : ℕ} {event : Doing} {a b heard c : Sight} → HasRun count a b → heard.stage ≡ b.stage → heard.seat ≡ b.seat →
     heard.told ≡ told_more b.told (event ∷ []) → HasRound event heard c → HasRun (count + 1) a c
-run_on count event a b heard c run stage_is seat_is told_is next =
+run_on {a} {b} {heard} {c} run stage_is seat_is told_is next =
     let round = next.round in
     let doings : List Doing = round.event ∷ sends (round_bytes round) in
     let last : rounds_doings (round ∷ []) ≡ doings = append-nil doings in
@@ -272,8 +272,8 @@ run_on count event a b heard c run stage_is seat_is told_is next =
     let outcomes : rounds_outcomes (round ∷ []) ≡ round_outcomes round = append-nil (round_outcomes round) in record {
       rounds = run.rounds ++ round ∷ [];
       count_is = length-append run.rounds (round ∷ []) ∙ ap (λ n. n + 1) run.count_is;
-      runs = runs_on a.stage b.stage c.stage run.rounds round run.runs (subst (λ s. Runs s round c.stage) stage_is next.runs) next.idle;
-      told = heard_sent b.told heard.told c.told round.event (round_bytes round) told next.sent
+      runs = runs_on a.stage run.rounds run.runs (subst (λ s. Runs s round c.stage) stage_is next.runs) next.idle;
+      told = heard_sent b.told round.event (round_bytes round) told next.sent
           ∙ ap (λ t. told_more t doings) run.told ∙ told_on a.told (rounds_doings run.rounds) doings
           ∙ ap (λ ds. told_more a.told (rounds_doings run.rounds ++ ds)) (sym last)
           ∙ ap (told_more a.told) (sym (rounds_doings-append run.rounds (round ∷ [])));
@@ -283,9 +283,9 @@ run_on count event a b heard c run stage_is seat_is told_is next =
     }
 
 -- and it was the last
-pub run_end : (count : ℕ) (event : Doing) (end : ConnEnd) (a b heard c : Sight) → HasRun count a b → heard.stage ≡ b.stage → heard.seat ≡ b.seat →
+pub run_end : {count : ℕ} {event : Doing} {end : ConnEnd} {a b heard c : Sight} → HasRun count a b → heard.stage ≡ b.stage → heard.seat ≡ b.seat →
     heard.told ≡ told_more b.told (event ∷ []) → count < 2 ^ 40 → HasEnded (event ∷ []) end count heard c → HasCourse end a c
-run_end count event end a b heard c run stage_is seat_is told_is more last =
+run_end {count} {event} {end} {a} {b} {c} run stage_is seat_is told_is more last =
     let ending = last.ending in
     let one : length (ending_events ending) ≡ 1 = ap (λ (es : List Doing). length es) last.event_is in record {
       rounds = run.rounds;
@@ -294,7 +294,7 @@ run_end count event end a b heard c run stage_is seat_is told_is more last =
       ending = ending;
       few = omega (arith, run.count_is, one, more);
       ends = subst (λ n. Ends b.stage n ending end c.stage) (sym run.count_is) (subst (λ s. Ends s count ending end c.stage) stage_is last.ends);
-      told = heard_sent b.told heard.told c.told event (ending_bytes ending) told_is last.sent
+      told = heard_sent b.told event (ending_bytes ending) told_is last.sent
           ∙ ap (λ es. told_more b.told (es ++ sends (ending_bytes ending))) (sym last.event_is)
           ∙ ap (λ t. told_more t (ending_doings ending)) run.told ∙ told_on a.told (rounds_doings run.rounds) (ending_doings ending);
       noted = noted_on a.seat b.seat c.seat (rounds_outcomes run.rounds) (ending_outcomes ending) run.noted
@@ -313,8 +313,8 @@ few_heard HeadTooLong count is = absurd is
 few_heard BodyTooLong count is = absurd is
 few_heard NoMemory count is = absurd is
 
-pub run_over : (count : ℕ) (end : ConnEnd) (a b c : Sight) → HasRun count a b → IsUnheard end count → c ≡ b → HasCourse end a c
-run_over count end a b c run unheard is =
+pub run_over : {count : ℕ} {end : ConnEnd} {a b c : Sight} → HasRun count a b → IsUnheard end count → c ≡ b → HasCourse end a c
+run_over {count} {end} {a} {b} {c} run unheard is =
     subst (λ s. HasCourse end a s) (sym is) (record {
       rounds = run.rounds;
       mid = b.stage;
@@ -327,11 +327,11 @@ run_over count end a b c run unheard is =
     })
 
 -- a piece in front that is too long: what was taken up before it stands, and the connection ends
-pub taken_fault : (a b : Sight) (fault : DemuxFault) (end : ConnEnd) → b ≡ a → a.stage.session.torn ≡ false → IsFirst a.stage.input (Err fault)
+pub taken_fault : {a b : Sight} (fault : DemuxFault) (end : ConnEnd) → b ≡ a → a.stage.session.torn ≡ false → IsFirst a.stage.input (Err fault)
     → IsEndOf fault end → HasTaken a b × IsStopped end b.stage
-taken_fault a b LongHead end same torn first is =
+taken_fault {a} LongHead end same torn first is =
     subst (λ (s : Sight). HasTaken a s × IsStopped end s.stage) (sym same) (taken_none a, subst (λ e. IsStopped e a.stage) (sym is) (torn, first))
-taken_fault a b LongBody end same torn first is =
+taken_fault {a} LongBody end same torn first is =
     subst (λ (s : Sight). HasTaken a s × IsStopped end s.stage) (sym same) (taken_none a, subst (λ e. IsStopped e a.stage) (sym is) (torn, first))
 
 -- what a slot brings is what is sent in it
@@ -342,22 +342,23 @@ due_is false between one plain after text = append-nil plain
 due_is true false one plain after text = refl
 due_is true true one plain after text = ap (λ bs. one ++ (text ++ bs)) (append-nil after)
 
-told_if : (sends_it : Bool) (parts : List Part) (bytes : List ℕ) (old new : Option (List Doing)) → parts_bytes parts ≡ bytes → IsTold sends_it old bytes new →
+told_if : {bytes : List ℕ} {new : Option (List Doing)} (sends_it : Bool) (parts : List Part)
+    (old : Option (List Doing)) → parts_bytes parts ≡ bytes → IsTold sends_it old bytes new →
     IsSent old (parts_bytes (if sends_it then parts else [])) new
-told_if true parts bytes old new is told = told ∙ ap (λ bs. told_more old (sends bs)) (sym is)
-told_if false parts bytes old new is told = told ∙ sym (told_none old)
+told_if {new} true parts old is told = told ∙ ap (λ bs. told_more old (sends bs)) (sym is)
+told_if {new} false parts old is told = told ∙ sym (told_none old)
 
 pub slot_sent : (session : Standing) (slot : ℕ) (old new : Option (List Doing)) →
     IsTold (is_taken session slot && is_sending session.state) old (due_bytes session.waits session.state session.text slot) new →
     IsSent old (parts_bytes (slot_parts session slot)) new
 slot_sent session slot old new told =
-    told_if (is_taken session slot && is_sending session.state) (due_parts session slot) (due_bytes session.waits session.state session.text slot) old new
+    told_if (is_taken session slot && is_sending session.state) (due_parts session slot) old
     (due_is session.waits (is_between (stepped_in true slot session.state)) (step_bytes true slot session.state)
     (step_bytes false slot session.state) (step_bytes false slot (stepped_in true slot session.state)) session.text) told
 
 pub reply_sent : (session : Standing) (old new : Option (List Doing)) → IsTold (can_reply session) old session.text new →
     IsSent old (parts_bytes (reply_parts session)) new
-reply_sent session old new told = told_if (can_reply session) (Text session.text ∷ []) session.text old new (append-nil session.text) told
+reply_sent session old new told = told_if (can_reply session) (Text session.text ∷ []) old (append-nil session.text) told
 
 -- the piece in front was passed over
 pub taken_passed : (a b : Sight) (n : ℕ) → IsPassed a.stage.input n → a.stage.session.torn ≡ false →
@@ -375,10 +376,10 @@ next_is a n first replied torn =
       torn = torn;
     }
 
-pub taken_reply : (a b : Sight) (asked : Standing) (n : ℕ) → IsFirst a.stage.input (Ok (Request n)) → a.stage.session.waits ≡ false → a.stage.session.torn ≡ false →
+pub taken_reply : {a b : Sight} {asked : Standing} {n : ℕ} → IsFirst a.stage.input (Ok (Request n)) → a.stage.session.waits ≡ false → a.stage.session.torn ≡ false →
     HasAsked a.stage.session (take n a.stage.input) asked a.seat b.seat → b.stage ≡ stage (after_reply asked) (drop n a.stage.input) →
     IsTold (can_reply asked) a.told asked.text b.told → HasTaken a b
-taken_reply a b asked n first replied torn heard is told =
+taken_reply {a} {b} {asked} {n} first replied torn heard is told =
     let message : List ℕ = take n a.stage.input in
     let long : length message ≡ n = length-take-le n a.stage.input first.2 in
     taken_one a b (Answered message heard.outcome (reply_parts asked)) (record {
@@ -389,10 +390,10 @@ taken_reply a b asked n first replied torn heard is told =
       new_is = is ∙ ap (λ k. stage (after_reply asked) (drop k a.stage.input)) (sym long);
     }) (reply_sent asked a.told b.told told) heard.noted
 
-pub lost_reply : (a b : Sight) (asked : Standing) (n : ℕ) → IsFirst a.stage.input (Ok (Request n)) → a.stage.session.waits ≡ false → a.stage.session.torn ≡ false →
+pub lost_reply : {a b : Sight} {asked : Standing} {n : ℕ} → IsFirst a.stage.input (Ok (Request n)) → a.stage.session.waits ≡ false → a.stage.session.torn ≡ false →
     HasAsked a.stage.session (take n a.stage.input) asked a.seat b.seat → can_reply asked ≡ true →
     b.stage ≡ stage (record asked { lost = true }) (drop n a.stage.input) → IsFrontTold a.told b.told asked.text → HasLost a b
-lost_reply a b asked n first replied torn heard can is told =
+lost_reply {a} {asked} {n} first replied torn heard can is told =
     let message : List ℕ = take n a.stage.input in
     let long : length message ≡ n = length-take-le n a.stage.input first.2 in record {
       mid = a;

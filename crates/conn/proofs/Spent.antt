@@ -30,18 +30,18 @@ unheard_end BodyTooLong count is all = absurd is
 unheard_end TurnsSpent count is all = refl
 unheard_end NoMemory count is all = absurd is
 
-all_at : (old new : Stage) (count : ℕ) (ending : Ending) (end : ConnEnd) → Ends old count ending end new
+all_at : {count : ℕ} {end : ConnEnd} (old new : Stage) (ending : Ending) → Ends old count ending end new
     → count + length (ending_events ending) ≤ 2 ^ 40 → count ≡ 2 ^ 40 → end ≡ TurnsSpent
-all_at old new count Unheard end ends few all = unheard_end end count ends.0 all
-all_at old new count PeerEnded end ends few all = absurd (omega (arith, few, all))
-all_at old new count (Overfull bytes) end ends few all = absurd (omega (arith, few, all))
-all_at old new count (AtPiece round) end ends few all = absurd (omega (arith, few, all))
-all_at old new count (InSlot slot front) end ends few all = absurd (omega (arith, few, all))
-all_at old new count (InReply round message outcome front) end ends few all = absurd (omega (arith, few, all))
+all_at {count} {end} old new Unheard ends few all = unheard_end end count ends.0 all
+all_at {end} old new PeerEnded ends few all = absurd (omega (arith, few, all))
+all_at {end} old new (Overfull bytes) ends few all = absurd (omega (arith, few, all))
+all_at {end} old new (AtPiece round) ends few all = absurd (omega (arith, few, all))
+all_at {end} old new (InSlot slot front) ends few all = absurd (omega (arith, few, all))
+all_at {end} old new (InReply round message outcome front) ends few all = absurd (omega (arith, few, all))
 
 pub all_heard : (end : ConnEnd) (old new : Sight) (course : HasCourse end old new) → length course.rounds ≡ 2 ^ 40 → end ≡ TurnsSpent
 all_heard end old new course all =
-    all_at course.mid new.stage (length course.rounds) course.ending end course.ends course.few all
+    all_at course.mid new.stage course.ending course.ends course.few all
 
 pub few_heard : (end : ConnEnd) (old new : Sight) (course : HasCourse end old new) → events_heard end old new course ≤ 2 ^ 40
 few_heard end old new course = course.few

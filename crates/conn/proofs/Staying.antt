@@ -53,14 +53,14 @@ use Rattle.conn.proofs.Hearing.{IsWell, hears_well}
 use Rattle.conn.proofs.Playing.{as_it_was, later_slot, slot_cases, taken_slot}
 
 -- an admitted play is a sending of which nothing was sent
-admitted_well : (old : Standing) (placed : Placed) (start : ℕ) (new : Standing) (plan : List Segment) (film : List ℕ) → IsAskedWell (AskPlay plan) old film →
+admitted_well : {new : Standing} (old : Standing) (placed : Placed) (start : ℕ) (plan : List Segment) (film : List ℕ) → IsAskedWell (AskPlay plan) old film →
     IsPlayAnswered old placed (Admitted start) new → IsWell new []
-admitted_well old placed start new plan film well answered =
+admitted_well {new} old placed start plan film well answered =
     let made : Standing = after_admission old placed.place start in
     let asked = well.1 in
     let playing = subst (λ (s : Standing). IsPlayIn s.state) answered.1 answered.2 in
     let ready : IsReady asked.setup old.state = subst (IsReady asked.setup) (sym asked.state_is) refl in
-    let begun = play_begins old made placed start asked.setup asked.prepared (answered.0, refl, playing) ready asked.awaited_is in
+    let begun = play_begins old placed (answered.0, refl, playing) ready asked.awaited_is in
     let counts : counts_of old.awaited old.counts ≡ asked.prepared.counts = ap (λ a. counts_of a old.counts) asked.awaited_is in
     let run = begun.run in
     let play : HasPlay old.films old.source old.settings (counts_of old.awaited old.counts) old.heard [] asked.setup begun.play = record {
@@ -80,48 +80,49 @@ admitted_well old placed start new plan film well answered =
       state = subst (IsStateOf old.films old.source old.settings (counts_of old.awaited old.counts) old.heard []) (sym begun.state) (asked.values, play);
     })
 
-play_answered : (old : Standing) (placed : Placed) (answer : Answer) (new : Standing) (plan : List Segment) (film : List ℕ) →
+play_answered : {new : Standing} (old : Standing) (placed : Placed) (answer : Answer) (plan : List Segment)
+    (film : List ℕ) →
     IsAskedWell (AskPlay plan) old film → IsPlayAnswered old placed answer new → IsWell new (if is_admission answer then [] else film)
-play_answered old placed (Admitted start) new plan film well answered = admitted_well old placed start new plan film well answered
-play_answered old placed (Overflow slot booked asked) new plan film well answered =
+play_answered {new} old placed (Admitted start) plan film well answered = admitted_well old placed start plan film well answered
+play_answered {new} old placed (Overflow slot booked asked) plan film well answered =
     subst (λ s. IsWell s film) (sym answered) (record { films = well.0.films; settings = well.0.settings; state = well.0.state })
-play_answered old placed Halted new plan film well answered = absurd answered
-play_answered old placed (Looked now at booked) new plan film well answered = absurd answered
+play_answered {new} old placed Halted plan film well answered = absurd answered
+play_answered {new} old placed (Looked now at booked) plan film well answered = absurd answered
 
-look_answered : (old : Standing) (placed : Placed) (answer : Answer) (new : Standing) (film : List ℕ) → IsWell old film →
+look_answered : {old new : Standing} {film : List ℕ} (placed : Placed) (answer : Answer) → IsWell old film →
     IsLookAnswered old placed answer new → IsWell new (if is_admission answer then [] else film)
-look_answered old placed (Admitted start) new film well answered = absurd answered
-look_answered old placed (Overflow slot booked asked) new film well answered = absurd answered
-look_answered old placed Halted new film well answered = absurd answered
-look_answered old placed (Looked now at booked) new film well answered =
+look_answered {new} placed (Admitted start) well answered = absurd answered
+look_answered {new} placed (Overflow slot booked asked) well answered = absurd answered
+look_answered {new} placed Halted well answered = absurd answered
+look_answered {new} {film} placed (Looked now at booked) well answered =
     subst (λ s. IsWell s film) (sym answered) (record { films = well.films; settings = well.settings; state = well.state })
 
 -- after a halt no play goes on
-next_values : (films : List Stored) (source : Source) (settings : Settings) (counts : Counts) (heard : ℕ) (film : List ℕ) (setup : Setup) (play : Played)
-    (next : Next) → IsSetup (length films) setup → IsStateOf films source settings counts heard film (state_after setup play next)
-next_values films source settings counts heard film setup play Done values = values
-next_values films source settings counts heard film setup play (Paused run) values = values
-next_values films source settings counts heard film setup play Torn values = values
+next_values : {setup : Setup} (films : List Stored) (source : Source) (settings : Settings) (counts : Counts)
+    (heard : ℕ) (film : List ℕ) (play : Played) (next : Next) → IsSetup (length films) setup → IsStateOf films source settings counts heard film (state_after setup play next)
+next_values films source settings counts heard film play Done values = values
+next_values films source settings counts heard film play (Paused run) values = values
+next_values films source settings counts heard film play Torn values = values
 
 halted_values : (films : List Stored) (source : Source) (settings : Settings) (counts : Counts) (heard : ℕ) (film : List ℕ) (state : State) (awaited : Awaited) →
     IsSetUpIn (length films) state → IsStateOf films source settings counts heard film (halted_in state awaited)
 halted_values films source settings counts heard film Init awaited values = tt
 halted_values films source settings counts heard film (Ready setup paused) awaited values = values
 halted_values films source settings counts heard film (Playing setup play) awaited values =
-    next_values films source settings counts heard film setup play (next_of awaited) values
+    next_values films source settings counts heard film play (next_of awaited) values
 halted_values films source settings counts heard film (Stopping setup stop) awaited values = values
 
-halted_well : (old : Standing) (keep : ℕ) (outcome : Outcome) (new : Standing) (film : List ℕ) → IsHalting old → IsHalted old keep outcome new → IsWell new film
-halted_well old keep Unasked new film well halted = absurd halted
-halted_well old keep (Entered placed) new film well halted =
+halted_well : {old new : Standing} {film : List ℕ} (keep : ℕ) (outcome : Outcome) → IsHalting old → IsHalted old keep outcome new → IsWell new film
+halted_well {new} keep Unasked well halted = absurd halted
+halted_well {old} {new} {film} keep (Entered placed) well halted =
     let made : Standing = after_halt old placed.place in
     subst (λ s. IsWell s film) (sym halted.halts) (record {
       films = well.films;
       settings = well.settings;
       state = halted_values made.films made.source made.settings made.counts made.heard film old.state old.awaited well.values;
     })
-halted_well old keep (WasFull more entries live) new film well halted = absurd halted
-halted_well old keep (Offered at_slot note) new film well halted = absurd halted
+halted_well {new} keep (WasFull more entries live) well halted = absurd halted
+halted_well {new} keep (Offered at_slot note) well halted = absurd halted
 
 values_in : (films : List Stored) (source : Source) (settings : Settings) (counts : Counts) (heard : ℕ) (film : List ℕ) (state : State) →
     IsStateOf films source settings counts heard film state → IsSetUpIn (length films) state
@@ -138,33 +139,33 @@ halting_of s film well = record {
 }
 
 -- the station's answers
-answered_well : (old : Standing) (ask : Ask) (outcome : Outcome) (new : Standing) (film : List ℕ) → IsAskedWell ask old film →
+answered_well : {new : Standing} (old : Standing) (ask : Ask) (outcome : Outcome) (film : List ℕ) → IsAskedWell ask old film →
     IsAnswered old ask outcome new → IsWell new (film_since film outcome)
-answered_well old AskReply Unasked new film well answered = subst (λ s. IsWell s film) (sym answered) well
-answered_well old AskReply (Entered placed) new film well answered = absurd answered
-answered_well old AskReply (WasFull more entries live) new film well answered = absurd answered
-answered_well old AskReply (Offered at_slot note) new film well answered = absurd answered
-answered_well old (AskPlay plan) Unasked new film well answered = absurd answered
-answered_well old (AskPlay plan) (Entered placed) new film well answered = play_answered old placed placed.entry.answer new plan film well answered.1
-answered_well old (AskPlay plan) (WasFull more entries live) new film well answered =
+answered_well {new} old AskReply Unasked film well answered = subst (λ s. IsWell s film) (sym answered) well
+answered_well {new} old AskReply (Entered placed) film well answered = absurd answered
+answered_well {new} old AskReply (WasFull more entries live) film well answered = absurd answered
+answered_well {new} old AskReply (Offered at_slot note) film well answered = absurd answered
+answered_well {new} old (AskPlay plan) Unasked film well answered = absurd answered
+answered_well {new} old (AskPlay plan) (Entered placed) film well answered = play_answered old placed placed.entry.answer plan film well answered.1
+answered_well {new} old (AskPlay plan) (WasFull more entries live) film well answered =
     subst (λ s. IsWell s film) (sym answered.0) (record { films = well.0.films; settings = well.0.settings; state = well.0.state })
-answered_well old (AskPlay plan) (Offered at_slot note) new film well answered = absurd answered
-answered_well old (AskHalt keep) outcome new film well answered = halted_well old keep outcome new (film_since film outcome) well answered
-answered_well old (AskLook slot) Unasked new film well answered = absurd answered
-answered_well old (AskLook slot) (Entered placed) new film well answered = look_answered old placed placed.entry.answer new film well answered.1
-answered_well old (AskLook slot) (WasFull more entries live) new film well answered =
+answered_well {new} old (AskPlay plan) (Offered at_slot note) film well answered = absurd answered
+answered_well {new} old (AskHalt keep) outcome film well answered = halted_well keep outcome well answered
+answered_well {new} old (AskLook slot) Unasked film well answered = absurd answered
+answered_well {new} old (AskLook slot) (Entered placed) film well answered = look_answered placed placed.entry.answer well answered.1
+answered_well {new} old (AskLook slot) (WasFull more entries live) film well answered =
     subst (λ s. IsWell s film) (sym answered.0) (record { films = well.films; settings = well.settings; state = well.state })
-answered_well old (AskLook slot) (Offered at_slot note) new film well answered = absurd answered
-answered_well old (AskOffer plan offers) Unasked new film well answered = absurd answered
-answered_well old (AskOffer plan offers) (Entered placed) new film well answered = absurd answered
-answered_well old (AskOffer plan offers) (WasFull more entries live) new film well answered = absurd answered
-answered_well old (AskOffer plan offers) (Offered at_slot note) new film well answered =
+answered_well {new} old (AskLook slot) (Offered at_slot note) film well answered = absurd answered
+answered_well {new} old (AskOffer plan offers) Unasked film well answered = absurd answered
+answered_well {new} old (AskOffer plan offers) (Entered placed) film well answered = absurd answered
+answered_well {new} old (AskOffer plan offers) (WasFull more entries live) film well answered = absurd answered
+answered_well {new} old (AskOffer plan offers) (Offered at_slot note) film well answered =
     subst (λ s. IsWell s film) (sym answered.2) (record { films = well.films; settings = well.settings; state = well.state })
 
-pub heard_well : (old : Standing) (message : List ℕ) (outcome : Outcome) (new : Standing) (film : List ℕ) → IsWell old film →
+pub heard_well : {old : Standing} {message : List ℕ} {outcome : Outcome} {new : Standing} {film : List ℕ} → IsWell old film →
     HasHeard old message outcome new → IsWell new (film_since film outcome)
-heard_well old message outcome new film well heard =
-    answered_well heard.asking heard.ask outcome new film (hears_well old heard.asking message heard.ask film well heard.hears) heard.answered
+heard_well {message} {outcome} {new} {film} well heard =
+    answered_well heard.asking heard.ask outcome film (hears_well heard.asking message heard.ask well heard.hears) heard.answered
 
 -- a reply that was sent
 settled_well : (films : List Stored) (source : Source) (settings : Settings) (counts : Counts) (heard : ℕ) (film : List ℕ) (state : State) →
@@ -192,7 +193,7 @@ pub taking_well : (old new : Stage) (taking : Taking) (film : List ℕ) → Take
 taking_well old new (Passed n) film takes well = subst (λ (s : Stage). IsWell s.session film) (sym takes.2) well
 taking_well old new (Answered message outcome parts) film takes well =
     let since : List ℕ = film_since film outcome in
-    let heard : IsWell takes.answered since = heard_well old.session message outcome takes.answered film well takes.heard in
+    let heard : IsWell takes.answered since = heard_well well takes.heard in
     let after : IsWell (after_reply takes.answered) since = reply_well (can_reply takes.answered) takes.answered since heard in
     let none : film_bytes parts ≡ [] = ap film_bytes takes.parts_are ∙ reply_film (can_reply takes.answered) takes.answered.text in
     let same : since ≡ since ++ film_bytes parts = sym (append-nil since) ∙ ap (λ bs. since ++ bs) (sym none) in
@@ -222,18 +223,18 @@ finished_ground : (old s : Standing) → IsSameSession old s → IsSameSession o
 finished_ground old s is = record { films = is.films; source = is.source; settings = is.settings; counts = is.counts }
 
 -- a slot is taken up in a play or its rest, or outside, or not at all
-slot_any : (P : Standing → Type 0) (taken sending : Bool) (next still old : Standing) → (sending ≡ true → P next) → P still → P old →
+slot_any : {sending : Bool} {next still old : Standing} (P : Standing → Type 0) (taken : Bool) → (sending ≡ true → P next) → P still → P old →
     P (if taken then (if sending then next else still) else old)
-slot_any P false sending next still old goes stays same = same
-slot_any P true false next still old goes stays same = stays
-slot_any P true true next still old goes stays same = goes refl
+slot_any {next} P false goes stays same = same
+slot_any {sending = false} {next} P true goes stays same = stays
+slot_any {sending = true} {next} P true goes stays same = goes refl
 
 same_ground : (s : Standing) → IsSameSession s s
 same_ground s = record { films = refl; source = refl; settings = refl; counts = refl }
 
 slot_ground : (old : Standing) (slot : ℕ) → IsSameSession old (after_slot old slot)
 slot_ground old slot =
-    slot_any (IsSameSession old) (is_taken old slot) (is_sending old.state) (after_play (sent_slot old slot)) (record old { heard = slot }) old
+    slot_any (IsSameSession old) (is_taken old slot)
     (λ sends. finished_ground old (sent_slot old slot)
     (sent_ground (old.waits && is_between (stepped_in true slot old.state)) old (sent_due old slot)
     (record { films = refl; source = refl; settings = refl; counts = refl })))
@@ -253,8 +254,8 @@ off_state films source settings counts heard film (Ready setup paused) off = off
 off_state films source settings counts heard film (Playing setup play) off = absurd off
 off_state films source settings counts heard film (Stopping setup stop) off = off
 
-off_well : (old new : Standing) (film more : List ℕ) → IsSameSession old new → IsWell old film → IsOff (length old.films) new.state → IsWell new more
-off_well old new film more same well off = record {
+off_well : {old new : Standing} {film more : List ℕ} → IsSameSession old new → IsWell old film → IsOff (length old.films) new.state → IsWell new more
+off_well {new} {more} same well off = record {
   films = subst AreShown (sym same.films) well.films;
   settings = subst AreSettings (sym same.settings) well.settings;
   state = off_state new.films new.source new.settings new.counts new.heard more new.state
@@ -262,46 +263,46 @@ off_well old new film more same well off = record {
 }
 
 -- the rest of a play that was halted
-rest_off : (films : ℕ) (waits between : Bool) (setup : Setup) (both one plain : Stop) → IsSetup films setup →
+rest_off : {films : ℕ} {setup : Setup} (waits between : Bool) (both one plain : Stop) → IsSetup films setup →
     IsOff films (if waits && between
     then after_stop (if waits then (if between then Stopping setup both else Stopping setup one) else Stopping setup plain)
     else (if waits then (if between then Stopping setup both else Stopping setup one) else Stopping setup plain))
-rest_off films false between setup both one plain values = values
-rest_off films true false setup both one plain values = values
-rest_off films true true setup both one plain values = values
+rest_off false between both one plain values = values
+rest_off true false both one plain values = values
+rest_off true true both one plain values = values
 
 reply_state : (goes : Bool) (s : Standing) → (if goes then sent_reply s else s).state ≡ (if goes then after_stop s.state else s.state)
 reply_state true s = refl
 reply_state false s = refl
 
-sent_off : (films : ℕ) (old : Standing) (slot : ℕ) (setup : Setup) (stop : Stop) → old.state ≡ Stopping setup stop → IsSetup films setup →
+sent_off : {films : ℕ} {setup : Setup} (old : Standing) (slot : ℕ) (stop : Stop) → old.state ≡ Stopping setup stop → IsSetup films setup →
     IsOff films (after_play (sent_slot old slot)).state
-sent_off films old slot setup stop is values =
+sent_off {films} old slot stop is values =
     let p = stop.pacer in
     let both : Stop = record stop { pacer = after_step false slot (after_step true slot p) } in
     let one : Stop = record stop { pacer = after_step true slot p } in
     let plain : Stop = record stop { pacer = after_step false slot p } in
     subst (IsOff films) (sym (reply_state (old.waits && is_between (stepped_in true slot old.state)) (sent_due old slot)))
     (subst (λ st. IsOff films (if old.waits && is_between (stepped_in true slot st) then after_stop (due_state old.waits st slot) else due_state old.waits st slot)) (sym is)
-    (rest_off films old.waits (stands_at_boundary (after_step true slot p)) setup both one plain values))
+    (rest_off old.waits (stands_at_boundary (after_step true slot p)) both one plain values))
 
 -- a slot
 slot_off : (films : ℕ) (old : Standing) (slot : ℕ) → IsOff films old.state → (is_sending old.state ≡ true → IsOff films (after_play (sent_slot old slot)).state) →
     IsOff films (after_slot old slot).state
 slot_off films old slot off sent =
-    slot_any (λ s. IsOff films s.state) (is_taken old slot) (is_sending old.state) (after_play (sent_slot old slot)) (record old { heard = slot }) old sent off off
+    slot_any (λ s. IsOff films s.state) (is_taken old slot) sent off off
 
 -- a play goes on by a slot
-pub slot_play : (old : Standing) (slot : ℕ) (setup : Setup) (play : Played) (film : List ℕ) → old.state ≡ Playing setup play → HasSent play old.heard film →
+pub slot_play : {setup : Setup} {play : Played} {film : List ℕ} (old : Standing) (slot : ℕ) → old.state ≡ Playing setup play → HasSent play old.heard film →
     HasSentOn setup play (after_slot old slot) (film ++ film_bytes (slot_parts old slot))
-slot_play old slot setup play film is has =
-    slot_cases (is_taken old slot) (is_sending old.state) old (after_play (sent_slot old slot)) (record old { heard = slot }) (due_parts old slot) setup play film
+slot_play {setup} {play} {film} old slot is has =
+    slot_cases (record old { heard = slot }) (due_parts old slot)
     (ap is_sending is) (as_it_was old setup play film is has)
     (λ taken. taken_slot old slot setup play film is has (later_slot old slot taken))
 
-play_on : (old new : Standing) (setup : Setup) (play : Played) (film more : List ℕ) → IsSameSession old new → IsWell old film → old.state ≡ Playing setup play →
+play_on : {old new : Standing} {setup : Setup} {play : Played} {film more : List ℕ} → IsSameSession old new → IsWell old film → old.state ≡ Playing setup play →
     HasSentOn setup play new more → IsWell new more
-play_on old new setup play film more same well is on =
+play_on {old} {new} {setup} {play} {film} {more} same well is on =
     let was = subst (IsStateOf old.films old.source old.settings old.counts old.heard film) is well.state in
     let stored = was.1.stored in
     let its : HasPlay old.films old.source old.settings old.counts new.heard more setup on.now = record {
@@ -324,51 +325,51 @@ play_on old new setup play film more same well is on =
 slot_state : (state : State) (old : Standing) (slot : ℕ) (film : List ℕ) → old.state ≡ state → IsWell old film →
     IsWell (after_slot old slot) (film ++ film_bytes (slot_parts old slot))
 slot_state Init old slot film is well =
-    off_well old (after_slot old slot) film (film ++ film_bytes (slot_parts old slot)) (slot_ground old slot) well
+    off_well (slot_ground old slot) well
     (slot_off (length old.films) old slot (subst (IsOff (length old.films)) (sym is) tt) (λ sends. absurd (true≢false (sym sends ∙ ap is_sending is))))
 slot_state (Ready setup paused) old slot film is well =
     let values = subst (IsStateOf old.films old.source old.settings old.counts old.heard film) is well.state in
-    off_well old (after_slot old slot) film (film ++ film_bytes (slot_parts old slot)) (slot_ground old slot) well
+    off_well (slot_ground old slot) well
     (slot_off (length old.films) old slot (subst (IsOff (length old.films)) (sym is) values) (λ sends. absurd (true≢false (sym sends ∙ ap is_sending is))))
 slot_state (Playing setup play) old slot film is well =
     let was = subst (IsStateOf old.films old.source old.settings old.counts old.heard film) is well.state in
-    play_on old (after_slot old slot) setup play film (film ++ film_bytes (slot_parts old slot)) (slot_ground old slot) well is
-    (slot_play old slot setup play film is was.1.sent)
+    play_on (slot_ground old slot) well is
+    (slot_play old slot is was.1.sent)
 slot_state (Stopping setup stop) old slot film is well =
     let values = subst (IsStateOf old.films old.source old.settings old.counts old.heard film) is well.state in
-    off_well old (after_slot old slot) film (film ++ film_bytes (slot_parts old slot)) (slot_ground old slot) well
-    (slot_off (length old.films) old slot (subst (IsOff (length old.films)) (sym is) values) (λ sends. sent_off (length old.films) old slot setup stop is values))
+    off_well (slot_ground old slot) well
+    (slot_off (length old.films) old slot (subst (IsOff (length old.films)) (sym is) values) (λ sends. sent_off old slot stop is values))
 
 -- a play that is done is halted
-finish_well : (asks : Awaits) (old : Standing) (halt : Outcome) (new : Standing) (film : List ℕ) → IsWell old film → IsFinished asks old halt new → IsWell new film
-finish_well NoAnswer old Unasked new film well is = subst (λ s. IsWell s film) (sym is) well
-finish_well NoAnswer old (Entered placed) new film well is = absurd is
-finish_well NoAnswer old (WasFull more entries live) new film well is = absurd is
-finish_well NoAnswer old (Offered at_slot note) new film well is = absurd is
-finish_well (PlayAnswer plan) old halt new film well is = absurd is
-finish_well (HaltAnswer keep) old halt new film well is = halted_well old keep halt new film (halting_of old film well) is
-finish_well LookAnswer old halt new film well is = absurd is
-finish_well OfferAnswer old halt new film well is = absurd is
+finish_well : {old new : Standing} {film : List ℕ} (asks : Awaits) (halt : Outcome) → IsWell old film → IsFinished asks old halt new → IsWell new film
+finish_well {new} {film} NoAnswer Unasked well is = subst (λ s. IsWell s film) (sym is) well
+finish_well {new} NoAnswer (Entered placed) well is = absurd is
+finish_well {new} NoAnswer (WasFull more entries live) well is = absurd is
+finish_well {new} NoAnswer (Offered at_slot note) well is = absurd is
+finish_well {new} (PlayAnswer plan) halt well is = absurd is
+finish_well {old} {new} {film} (HaltAnswer keep) halt well is = halted_well keep halt (halting_of old film well) is
+finish_well {new} LookAnswer halt well is = absurd is
+finish_well {new} OfferAnswer halt well is = absurd is
 
 -- an event
-comes_well : (old new : Stage) (event : Doing) (due : List Part) (halt : Outcome) (film : List ℕ) → IsWell old.session film → Comes old event due halt new →
+comes_well : {film : List ℕ} (old new : Stage) (event : Doing) (due : List Part) (halt : Outcome) → IsWell old.session film → Comes old event due halt new →
     IsWell new.session (film ++ film_bytes due)
-comes_well old new (HeardBytes bytes) due halt film well comes =
+comes_well {film} old new (HeardBytes bytes) due halt well comes =
     subst (λ ps. IsWell new.session (film ++ film_bytes ps)) (sym comes.0)
     (subst (λ (s : Stage). IsWell s.session (film ++ [])) (sym comes.3) (subst (IsWell old.session) (sym (append-nil film)) well))
-comes_well old new (HeardSlot slot) due halt film well comes =
+comes_well {film} old new (HeardSlot slot) due halt well comes =
     subst (λ ps. IsWell new.session (film ++ film_bytes ps)) (sym comes.1.parts_are)
-    (finish_well (awaits (after_slot old.session slot)) (after_slot old.session slot) halt new.session (film ++ film_bytes (slot_parts old.session slot))
+    (finish_well (awaits (after_slot old.session slot)) halt
     (slot_state old.session.state old.session slot film refl well) comes.1.finished)
-comes_well old new HeardEnd due halt film well comes = absurd comes
-comes_well old new (Sent byte) due halt film well comes = absurd comes
+comes_well old new HeardEnd due halt well comes = absurd comes
+comes_well old new (Sent byte) due halt well comes = absurd comes
 
 -- a round, and rounds
 pub round_well : (old new : Stage) (round : Round) (film : List ℕ) → IsWell old.session film → Runs old round new →
     IsWell new.session (film_taken (film ++ film_bytes round.due) round.takings)
 round_well old new round film well runs =
     takes_well runs.opened new round.takings (film ++ film_bytes round.due) runs.takes
-    (comes_well old runs.opened round.event round.due round.halt film well runs.comes)
+    (comes_well old runs.opened round.event round.due round.halt well runs.comes)
 
 pub rounds_well : (old new : Stage) (rounds : List Round) (film : List ℕ) → IsWell old.session film → RunsAll old rounds new →
     IsWell new.session (film_in film rounds)

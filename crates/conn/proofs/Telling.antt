@@ -50,17 +50,17 @@ use Rattle.conn.proofs.Sighting.{entries_in-append}
 use Rattle.conn.specs.Promises.{AreRefusalsTold, TellsFullOf, TellsOverflowOf}
 
 -- three digits differ where the first does
-other : (a b c x y z : ℕ) → (a ≡ x → ⊥) → (a ∷ b ∷ c ∷ []) ≡ (x ∷ y ∷ z ∷ []) → ⊥
-other a b c x y z differ same = differ (ap (λ l. get_or l 0 0) same)
+other : {a b c x y z : ℕ} → (a ≡ x → ⊥) → (a ∷ b ∷ c ∷ []) ≡ (x ∷ y ∷ z ∷ []) → ⊥
+other {a} {c} differ same = differ (ap (λ l. get_or l 0 0) same)
 
 -- a text of 453 is none of 503, nor the other way round
 overflow_not_full : (sequence slot booked asked : ℕ) → HasCode 503 (overflow_text sequence slot booked asked) → ⊥
 unfolding reply_text reply_front status_line digits
-overflow_not_full sequence slot booked asked is = other 52 53 51 53 48 51 (λ p. absurd (omega (arith, p))) is
+overflow_not_full sequence slot booked asked is = other (λ p. absurd (omega (arith, p))) is
 
 full_not_overflow : (sequence entries live : ℕ) → HasCode 453 (full_text sequence entries live) → ⊥
 unfolding reply_text reply_front status_line digits
-full_not_overflow sequence entries live is = other 53 48 51 52 53 51 (λ p. absurd (omega (arith, p))) is
+full_not_overflow sequence entries live is = other (λ p. absurd (omega (arith, p))) is
 
 -- what a reply tells, by a seat's entries and the station's answers
 pub record TellsOver (mine : List Placed) (text : List ℕ) : Type 0 where
@@ -139,9 +139,9 @@ are_both made (Film bytes ∷ xs) ys first second = are_both made xs ys first se
 are_both made (Text text ∷ xs) ys first second = (first.0, are_both made xs ys first.1 second)
 
 -- what the station answers is told
-told_overflow : (made : List Outcome) (placed : Placed) (slot booked asked sequence : ℕ) → placed.entry.answer ≡ Overflow slot booked asked →
+told_overflow : {slot booked asked : ℕ} (made : List Outcome) (placed : Placed) (sequence : ℕ) → placed.entry.answer ≡ Overflow slot booked asked →
     IsTold (made ++ Entered placed ∷ []) (overflow_text sequence slot booked asked)
-told_overflow made placed slot booked asked sequence answer = record {
+told_overflow {slot} {booked} {asked} made placed sequence answer = record {
   overflow = λ is. record {
     placed = placed;
     made = subst (λ mine. Contains mine placed) (sym (entries_in-append made (Entered placed ∷ []))) (Contains-push (entries_in made) placed);
@@ -168,18 +168,18 @@ told_full made more entries live sequence = record {
   };
 }
 
-play_told : (made : List Outcome) (old : Standing) (placed : Placed) (answer : Answer) (new : Standing) → placed.entry.answer ≡ answer →
+play_told : {answer : Answer} (made : List Outcome) (old : Standing) (placed : Placed) (new : Standing) → placed.entry.answer ≡ answer →
     ((rest : List ℕ) → IsNoRefusal (old.text ++ rest)) → IsPlayAnswered old placed answer new → IsTold (made ++ Entered placed ∷ []) new.text
-play_told made old placed (Admitted start) new same plain answered =
+play_told {answer = Admitted start} made old placed new same plain answered =
     subst (IsTold (made ++ Entered placed ∷ [])) (sym (ap (λ (s : Standing). s.text) answered.1))
     (told_plain (made ++ Entered placed ∷ []) (started_text old.text (start - old.heard))
     (subst IsNoRefusal (sym (append_assoc old.text (field_line (field (codes "x-Start") (decimal (start - old.heard)))) (codes "\r\n")))
     (plain (field_line (field (codes "x-Start") (decimal (start - old.heard))) ++ codes "\r\n"))))
-play_told made old placed (Overflow slot booked asked) new same plain answered =
+play_told {answer = Overflow slot booked asked} made old placed new same plain answered =
     subst (IsTold (made ++ Entered placed ∷ [])) (sym (ap (λ (s : Standing). s.text) answered))
-    (told_overflow made placed slot booked asked _ same)
-play_told made old placed Halted new same plain answered = absurd answered
-play_told made old placed (Looked now at booked) new same plain answered = absurd answered
+    (told_overflow made placed _ same)
+play_told {answer = Halted} made old placed new same plain answered = absurd answered
+play_told {answer = Looked now at booked} made old placed new same plain answered = absurd answered
 
 look_told : (made : List Outcome) (old : Standing) (placed : Placed) (answer : Answer) (new : Standing) → IsLookAnswered old placed answer new →
     IsTold (made ++ Entered placed ∷ []) new.text
@@ -190,9 +190,9 @@ look_told made old placed (Looked now at booked) new answered =
     subst (IsTold (made ++ Entered placed ∷ [])) (sym (ap (λ (s : Standing). s.text) answered))
     (told_plain (made ++ Entered placed ∷ []) _ (ok_plain _ _ _))
 
-full_told : (made : List Outcome) (old : Standing) (more entries live : ℕ) (new : Standing) → new ≡ after_full old entries live →
+full_told : {new : Standing} (made : List Outcome) (old : Standing) (more entries live : ℕ) → new ≡ after_full old entries live →
     IsTold (made ++ WasFull more entries live ∷ []) new.text
-full_told made old more entries live new is =
+full_told {new} made old more entries live is =
     subst (IsTold (made ++ WasFull more entries live ∷ [])) (sym (ap (λ (s : Standing). s.text) is)) (told_full made more entries live _)
 
 -- a halt leaves the reply
@@ -210,14 +210,14 @@ answered_told made old AskReply (Entered placed) new heard answered = absurd ans
 answered_told made old AskReply (WasFull more entries live) new heard answered = absurd answered
 answered_told made old AskReply (Offered at_slot note) new heard answered = absurd answered
 answered_told made old (AskPlay plan) Unasked new heard answered = absurd answered
-answered_told made old (AskPlay plan) (Entered placed) new heard answered = play_told made old placed placed.entry.answer new refl heard answered.1
-answered_told made old (AskPlay plan) (WasFull more entries live) new heard answered = full_told made old more entries live new answered.0
+answered_told made old (AskPlay plan) (Entered placed) new heard answered = play_told made old placed new refl heard answered.1
+answered_told made old (AskPlay plan) (WasFull more entries live) new heard answered = full_told made old more entries live answered.0
 answered_told made old (AskPlay plan) (Offered at_slot note) new heard answered = absurd answered
 answered_told made old (AskHalt keep) outcome new heard answered =
     subst (IsTold (made ++ outcome ∷ [])) (sym (halted_text old keep outcome new answered)) (told_plain (made ++ outcome ∷ []) old.text heard)
 answered_told made old (AskLook slot) Unasked new heard answered = absurd answered
 answered_told made old (AskLook slot) (Entered placed) new heard answered = look_told made old placed placed.entry.answer new answered.1
-answered_told made old (AskLook slot) (WasFull more entries live) new heard answered = full_told made old more entries live new answered.0
+answered_told made old (AskLook slot) (WasFull more entries live) new heard answered = full_told made old more entries live answered.0
 answered_told made old (AskLook slot) (Offered at_slot note) new heard answered = absurd answered
 answered_told made old (AskOffer plan offers) Unasked new heard answered = absurd answered
 answered_told made old (AskOffer plan offers) (Entered placed) new heard answered = absurd answered
@@ -244,9 +244,9 @@ record Tells (made : List Outcome) (s : Standing) (parts : List Part) : Type 0 w
   waiting : IsTold made s.text
   sent : AreTold made parts
 
-taking_tells : (made : List Outcome) (old new : Stage) (message : List ℕ) (outcome : Outcome) (parts : List Part) →
+taking_tells : {parts : List Part} (made : List Outcome) (old new : Stage) (message : List ℕ) (outcome : Outcome) →
     TakesPiece old (Answered message outcome parts) new → Tells (made ++ outcome ∷ []) new.session parts
-taking_tells made old new message outcome parts takes =
+taking_tells made old new message outcome takes =
     let goes : Bool = can_reply takes.answered in
     let told : IsTold (made ++ outcome ∷ []) takes.answered.text = heard_told made old.session message outcome takes.answered takes.heard in
     let text : new.session.text ≡ takes.answered.text = ap (λ (s : Stage). s.session.text) takes.new_is ∙ reply_text_is goes takes.answered in
@@ -266,7 +266,7 @@ takings_tell made old new [] told takes =
 takings_tell made old new (Passed n ∷ takings) told takes =
     takings_tell made takes.0 new takings (subst (λ (s : Stage). IsTold made s.session.text) (sym takes.1.0.2) told) takes.1.1
 takings_tell made old new (Answered message outcome parts ∷ takings) told takes =
-    let first = taking_tells made old takes.0 message outcome parts takes.1.0 in
+    let first = taking_tells made old takes.0 message outcome takes.1.0 in
     let rest = takings_tell (made ++ outcome ∷ []) takes.0 new takings first.waiting takes.1.1 in
     let all : (made ++ outcome ∷ []) ++ takings_outcomes takings ≡ made ++ outcome ∷ takings_outcomes takings =
     append_assoc made (outcome ∷ []) (takings_outcomes takings) in
@@ -289,16 +289,16 @@ slot_text old slot =
     slot_text_cases (is_taken old slot) (is_sending old.state) (after_play (sent_slot old slot)) (record old { heard = slot }) old
     (reply_text_is (old.waits && is_between (stepped_in true slot old.state)) (sent_due old slot)) refl
 
-due_told : (made : List Outcome) (sends waits between : Bool) (one after plain text : List ℕ) → IsTold made text →
+due_told : {made : List Outcome} {text : List ℕ} (sends waits between : Bool) (one after plain : List ℕ) → IsTold made text →
     AreTold made (if sends then (if waits then Film one ∷ (if between then Text text ∷ Film after ∷ [] else []) else Film plain ∷ []) else [])
-due_told made false waits between one after plain text told = tt
-due_told made true false between one after plain text told = tt
-due_told made true true false one after plain text told = tt
-due_told made true true true one after plain text told = (told, tt)
+due_told {made} {text} false waits between one after plain told = tt
+due_told {made} {text} true false between one after plain told = tt
+due_told {made} {text} true true false one after plain told = tt
+due_told {made} {text} true true true one after plain told = (told, tt)
 
 slot_tells : (made : List Outcome) (old : Standing) (slot : ℕ) → IsTold made old.text → AreTold made (slot_parts old slot)
 slot_tells made old slot told =
-    due_told made (is_taken old slot && is_sending old.state) old.waits (is_between (stepped_in true slot old.state)) _ _ _ old.text told
+    due_told (is_taken old slot && is_sending old.state) old.waits (is_between (stepped_in true slot old.state)) _ _ _ told
 
 finished_text : (asks : Awaits) (old : Standing) (halt : Outcome) (new : Standing) → IsFinished asks old halt new → new.text ≡ old.text
 finished_text NoAnswer old Unasked new is = ap (λ (s : Standing). s.text) is
@@ -310,27 +310,27 @@ finished_text (HaltAnswer keep) old halt new is = halted_text old keep halt new 
 finished_text LookAnswer old halt new is = absurd is
 finished_text OfferAnswer old halt new is = absurd is
 
-comes_tells : (made : List Outcome) (old new : Stage) (event : Doing) (due : List Part) (halt : Outcome) → IsTold made old.session.text →
+comes_tells : {made : List Outcome} {due : List Part} (old new : Stage) (event : Doing) (halt : Outcome) → IsTold made old.session.text →
     Comes old event due halt new → Tells made new.session due
-comes_tells made old new (HeardBytes bytes) due halt told comes = record {
+comes_tells {made} old new (HeardBytes bytes) halt told comes = record {
   waiting = subst (λ (s : Stage). IsTold made s.session.text) (sym comes.3) told;
   sent = subst (AreTold made) (sym comes.0) tt;
 }
-comes_tells made old new (HeardSlot slot) due halt told comes =
+comes_tells {made} old new (HeardSlot slot) halt told comes =
     let s = after_slot old.session slot in
     let text : new.session.text ≡ old.session.text = finished_text (awaits s) s halt new.session comes.1.finished ∙ slot_text old.session slot in
     record {
       waiting = subst (IsTold made) (sym text) told;
       sent = subst (AreTold made) (sym comes.1.parts_are) (slot_tells made old.session slot told);
     }
-comes_tells made old new HeardEnd due halt told comes = absurd comes
-comes_tells made old new (Sent byte) due halt told comes = absurd comes
+comes_tells {made} old new HeardEnd halt told comes = absurd comes
+comes_tells {made} old new (Sent byte) halt told comes = absurd comes
 
 -- a round, and rounds
 round_tells : (made : List Outcome) (old new : Stage) (round : Round) → IsTold made old.session.text → Runs old round new →
     Tells (made ++ round_outcomes round) new.session (round_parts round)
 round_tells made old new round told runs =
-    let first = comes_tells made old runs.opened round.event round.due round.halt told runs.comes in
+    let first = comes_tells old runs.opened round.event round.halt told runs.comes in
     let opened : IsTold (made ++ round.halt ∷ []) runs.opened.session.text = told_more made (round.halt ∷ []) runs.opened.session.text first.waiting in
     let rest = takings_tell (made ++ round.halt ∷ []) runs.opened new round.takings opened runs.takes in
     let all : (made ++ round.halt ∷ []) ++ takings_outcomes round.takings ≡ made ++ round_outcomes round =
@@ -360,15 +360,15 @@ rounds_tell made old new (round ∷ rounds) told runs =
     })
 
 -- the last round
-ending_tells : (made : List Outcome) (old : Stage) (count : ℕ) (ending : Ending) (end : ConnEnd) (new : Stage) → IsTold made old.session.text →
+ending_tells : {made : List Outcome} (old : Stage) (count : ℕ) (ending : Ending) (end : ConnEnd) (new : Stage) → IsTold made old.session.text →
     Ends old count ending end new → AreTold (made ++ ending_outcomes ending) (rounds_parts (ending_rounds ending))
-ending_tells made old count Unheard end new told ends = tt
-ending_tells made old count PeerEnded end new told ends = tt
-ending_tells made old count (Overfull bytes) end new told ends = tt
-ending_tells made old count (AtPiece round) end new told ends =
+ending_tells {made} old count Unheard end new told ends = tt
+ending_tells {made} old count PeerEnded end new told ends = tt
+ending_tells {made} old count (Overfull bytes) end new told ends = tt
+ending_tells {made} old count (AtPiece round) end new told ends =
     are_both (made ++ round_outcomes round) (round_parts round) [] (round_tells made old new round told ends.0).sent tt
-ending_tells made old count (InSlot slot front) end new told ends = tt
-ending_tells made old count (InReply round message outcome front) end new told ends =
+ending_tells {made} old count (InSlot slot front) end new told ends = tt
+ending_tells {made} old count (InReply round message outcome front) end new told ends =
     let first = round_tells made old ends.1.mid round told ends.1.runs in
     let all : (made ++ round_outcomes round) ++ outcome ∷ [] ≡ made ++ (round_outcomes round ++ outcome ∷ []) =
     append_assoc made (round_outcomes round) (outcome ∷ []) in
@@ -394,7 +394,7 @@ pub course_tells : (old mid : Stage) (rounds : List Round) (ending : Ending) (en
 course_tells old mid rounds ending end new none runs ends =
     let made : List Outcome = rounds_outcomes rounds ++ ending_outcomes ending in
     let first = rounds_tell [] old mid rounds (subst (IsTold []) (sym none) nothing_told) runs in
-    let last = ending_tells (rounds_outcomes rounds) mid (length rounds) ending end new first.waiting ends in
+    let last = ending_tells mid (length rounds) ending end new first.waiting ends in
     subst (AreTold made) (sym (parts-more rounds (ending_rounds ending)))
     (are_both made (rounds_parts rounds) (rounds_parts (ending_rounds ending)) (are_more (rounds_outcomes rounds) (ending_outcomes ending) (rounds_parts rounds) first.sent) last)
 
@@ -419,12 +419,12 @@ mine_before before mine made (Text text ∷ parts) told = (
 )
 
 -- an entry of a seat's stands in what it has seen, and was answered in the state before it
-overflow_stands : (steps : List CapStep) (before : Journal) (command : Command) (slot booked asked : ℕ) → IsAnswer steps before command (Overflow slot booked asked) →
+overflow_stands : {command : Command} {slot booked asked : ℕ} (steps : List CapStep) (before : Journal) → IsAnswer steps before command (Overflow slot booked asked) →
     (heard : ℕ) × ((plan : List Segment) × ((command ≡ Play heard plan) × IsFirstOverflow 0 (booked_in before) (capacity_at steps) (start_after before heard) plan
     (record { slot = slot; booked = booked; asked = asked })))
-overflow_stands steps before (Play heard plan) slot booked asked is = (heard, (plan, (refl, is)))
-overflow_stands steps before (Halt number keep) slot booked asked is = absurd is
-overflow_stands steps before (Look at) slot booked asked is = absurd is
+overflow_stands {command = Play heard plan} {slot} steps before is = (heard, (plan, (refl, is)))
+overflow_stands {command = Halt number keep} {slot} steps before is = absurd is
+overflow_stands {command = Look at} {slot} steps before is = absurd is
 
 overflow_seen : (seat : Sitting) (text : List ℕ) → IsSeat seat → TellsOver seat.mine text → TellsOverflowOf seat text
 overflow_seen seat text is told =
@@ -436,7 +436,7 @@ overflow_seen seat text is told =
     let seen : slice_get seat.seen place ≡ Some entry = read ∙ ap (λ e. Some e) (sym at.entry_is) in
     let answered : IsAnswer seat.steps (state_after (take place seat.seen)) entry.command entry.answer =
     subst (λ (e : Entry). IsAnswer seat.steps (state_after (take place seat.seen)) e.command e.answer) (sym at.entry_is) (is.legal.each place entry at.inside) in
-    let over = overflow_stands seat.steps (state_after (take place seat.seen)) entry.command told.slot told.booked told.asked
+    let over = overflow_stands seat.steps (state_after (take place seat.seen))
     (subst (IsAnswer seat.steps (state_after (take place seat.seen)) entry.command) told.answer answered) in record {
       slot = told.slot;
       booked = told.booked;
@@ -463,8 +463,8 @@ all_seen seat made (Text text ∷ parts) is told =
     (record { overflow = λ code. overflow_seen seat text is (told.0.overflow code); full = told.0.full }, all_seen seat made parts is told.1)
 
 -- over a whole course, by the seat at its end
-pub refusals_told : (seat : Sitting) (before after : List Placed) (made : List Outcome) (parts : List Part) → IsSeat seat →
+pub refusals_told : {seat : Sitting} (before after : List Placed) (made : List Outcome) (parts : List Part) → IsSeat seat →
     seat.mine ≡ (before ++ entries_in made) ++ after → AreTold made parts → AreRefusalsTold seat made parts
-refusals_told seat before after made parts is mine told =
+refusals_told {seat} before after made parts is mine told =
     all_seen seat made parts is (subst (λ ps. AreRepliesTold ps made parts) (sym mine)
     (mine_more (before ++ entries_in made) after made parts (mine_before before (entries_in made) made parts told)))

@@ -18,9 +18,9 @@ use Rattle.conn.specs.Parts.{IsUntouched, IsServed, AreOf, entries_told, HasServ
 use Rattle.conn.specs.Words.{words_of}
 
 -- a connection from beginning to end: no booking is open before and after
-pub gone_whole : (mine new : List Placed) (booking next : Option Booking) (receipts told lists : List Receipt) → booking ≡ None → receipts ≡ [] → next ≡ None → lists ≡ told →
+pub gone_whole : {booking next : Option Booking} {receipts told lists : List Receipt} (mine new : List Placed) → booking ≡ None → receipts ≡ [] → next ≡ None → lists ≡ told →
     HasGone (record { mine = mine; booking = booking; receipts = receipts }) (record { mine = new; booking = next; receipts = told }) → HasGone (at_rest mine []) (at_rest new lists)
-gone_whole mine new booking next receipts told lists closed none open_none same gone = record {
+gone_whole {next} mine new closed none open_none same gone = record {
   made = gone.made;
   mine_is = gone.mine_is;
   receipts_are = ap entry_receipts same ∙ gone.receipts_are ∙ ap (λ rs. entry_receipts rs ++ map receipt_for gone.made) none;
@@ -43,11 +43,11 @@ served_out (Some old) None new count served is = absurd served
 served_out (Some old) (Some mid) new count served is =
     subst (λ c. IfSome c HasOut) (sym is) (omega (arith, served.given, served.back))
 
-pub served_one : (old mid taken new : Option Content) (count : ℕ) (conn : Returned) → IsServed old mid count → taken ≡ option_map after_take mid →
+pub served_one : {taken new : Option Content} (old mid : Option Content) (count : ℕ) (conn : Returned) → IsServed old mid count → taken ≡ option_map after_take mid →
     new ≡ option_map (after_return conn) taken → IsServed old new (count + 1)
-served_one None mid taken new count conn served is back = back ∙ ap (option_map (after_return conn)) (is ∙ ap (option_map after_take) served)
-served_one (Some old) None taken new count conn served is back = absurd served
-served_one (Some old) (Some mid) taken new count conn served is back =
+served_one {taken} {new} None mid count conn served is back = back ∙ ap (option_map (after_return conn)) (is ∙ ap (option_map after_take) served)
+served_one {taken} {new} (Some old) None count conn served is back = absurd served
+served_one {taken} {new} (Some old) (Some mid) count conn served is back =
     subst (λ c. IsServed (Some old) c (count + 1)) (sym (back ∙ ap (option_map (after_return conn)) is)) (record {
       opening = served.opening;
       parts = served.parts;
@@ -56,10 +56,10 @@ served_one (Some old) (Some mid) taken new count conn served is back =
       back = length-append mid.own.back (conn ∷ []) ∙ ap (λ n. n + 1) served.back;
     })
 
-pub served_last : (old mid new : Option Content) (count : ℕ) (last : LastTake) → IsServed old mid count → new ≡ option_map (after_empty_take last) mid → IsServed old new count
-served_last None mid new count last served is = is ∙ ap (option_map (after_empty_take last)) served
-served_last (Some old) None new count last served is = absurd served
-served_last (Some old) (Some mid) new count last served is =
+pub served_last : {new : Option Content} (old mid : Option Content) (count : ℕ) (last : LastTake) → IsServed old mid count → new ≡ option_map (after_empty_take last) mid → IsServed old new count
+served_last {new} None mid count last served is = is ∙ ap (option_map (after_empty_take last)) served
+served_last {new} (Some old) None count last served is = absurd served
+served_last {new} (Some old) (Some mid) count last served is =
     subst (λ c. IsServed (Some old) c count) (sym is) (record {
       opening = served.opening;
       parts = served.parts;
@@ -92,9 +92,9 @@ has_none mine reports none = record {
   course_is = refl;
 }
 
-pub has_one : (mine mid new : List Placed) (reports more : List ConnReport) (report : ConnReport) → HasServed mine reports mid →
+pub has_one : {mine mid new : List Placed} {reports more : List ConnReport} (report : ConnReport) → HasServed mine reports mid →
     HasGone (at_rest mid []) (at_rest new report.receipts.items) → more ≡ reports ++ report ∷ [] → HasServed mine more new
-has_one mine mid new reports more report served gone is = record {
+has_one {mine} {new} {reports} {more} report served gone is = record {
   made = served.made ++ gone.made;
   mine_is = gone.mine_is ∙ ap (λ xs. xs ++ gone.made) served.mine_is ∙ append_assoc mine served.made gone.made;
   receipts_are = ap entries_told is ∙ entries_told-append reports (report ∷ [])
@@ -103,9 +103,9 @@ has_one mine mid new reports more report served gone is = record {
   course_is = fold-append course_with Closed served.made gone.made ∙ ap (λ course. course_from course gone.made) served.course_is ∙ gone.course_is;
 }
 
-at_end : (P : ConnReport → ℕ → Type 0) (reports : List ConnReport) (report : ConnReport) → ((k : ℕ) (none : ConnReport) → k < length reports → P (get_or reports k none) k) →
+at_end : {report : ConnReport} (P : ConnReport → ℕ → Type 0) (reports : List ConnReport) → ((k : ℕ) (none : ConnReport) → k < length reports → P (get_or reports k none) k) →
     P report (length reports) → (k : ℕ) (none : ConnReport) → k < length (reports ++ report ∷ []) → P (get_or (reports ++ report ∷ []) k none) k
-at_end P reports report each here k none within =
+at_end {report} P reports each here k none within =
     elim (cases_lt k (length reports)) [
       | inl before ↦ subst (λ r. P r k) (sym (get_or_append_left reports (report ∷ []) none k before)) (each k none before)
       | inr after ↦
@@ -117,6 +117,6 @@ at_end P reports report each here k none within =
 pub are_more : (seed : List ℕ) (worker : ℕ) (reports more : List ConnReport) (report : ConnReport) → AreOf seed worker reports → report.worker ≡ worker →
     report.words ≡ words_of seed worker (length reports) → more ≡ reports ++ report ∷ [] → AreOf seed worker more
 are_more seed worker reports more report are number words is = subst (AreOf seed worker) (sym is) (record {
-  worker_is = at_end (λ r k. r.worker ≡ worker) reports report are.worker_is number;
-  words_are = at_end (λ r k. r.words ≡ words_of seed worker k) reports report are.words_are words;
+  worker_is = at_end (λ r k. r.worker ≡ worker) reports are.worker_is number;
+  words_are = at_end (λ r k. r.words ≡ words_of seed worker k) reports are.words_are words;
 })

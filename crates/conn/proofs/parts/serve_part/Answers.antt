@@ -19,17 +19,13 @@ connections-preserved g c =
     let items : c.push_reserved.new.self.items ≡ reports ++ report ∷ [] = search rules in
     let words : report.words ≡ words_of c.args.seed c.args.worker (length reports) = search rules in
     let given : g.G.Gate.told c.take.new.self ≡ option_map after_take (g.G.Gate.told c.connections.part) = search rules in
-    one_served (duty c.args.films.now c.args.settings.now c.args.seed c.args.worker) c.args.seat.now c.connections.seat
-    c.serve_connection-report.new.seat
-    (outlet (g.G.Gate.faults c.args.part.now) (g.G.Gate.told c.args.part.now))
-    (outlet (g.G.Gate.faults c.connections.part) (g.G.Gate.told c.connections.part))
-    (outlet (g.G.Gate.faults c.give_back.new.self) (g.G.Gate.told c.give_back.new.self))
-    (g.G.Gate.told c.take.new.self) reports c.push_reserved.new.self.items report _ c.connections.invariant
+    one_served {duty = duty c.args.films.now c.args.settings.now c.args.seed c.args.worker} {old_seat = c.args.seat.now} {mid_seat = c.connections.seat} {new_seat = c.serve_connection-report.new.seat} {old = outlet (g.G.Gate.faults c.args.part.now) (g.G.Gate.told c.args.part.now)} {mid = outlet (g.G.Gate.faults c.connections.part) (g.G.Gate.told c.connections.part)} {new = outlet (g.G.Gate.faults c.give_back.new.self) (g.G.Gate.told c.give_back.new.self)} {taken = g.G.Gate.told c.take.new.self} {reports = reports} {more = c.push_reserved.new.self.items} {report = report} {returned = _}
+    c.connections.invariant
     (record {
       seat = served.seat;
       entries = served.entries;
       worker = served.worker;
       words = words;
-      one = served_fresh c.args.films.now c.args.settings.now _ _ _ _ _ c.connections.seat c.serve_connection-report.new.seat report
+      one = served_fresh {films = c.args.films.now} {settings = c.args.settings.now} {words = _} {before = _} {seat = c.connections.seat} {next = c.serve_connection-report.new.seat} {report = report} _ _ _
           (search rules) (search rules) served.words served.served served.headline served.fault;
     }) given c.give_back.ensures.back (omega (arith, c.take.ensures.count, c.give_back.ensures.count)) items

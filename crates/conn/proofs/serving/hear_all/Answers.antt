@@ -16,7 +16,7 @@ returns-in_default-clause-course g c =
     let before : Sight = sight c.events.connection (g.K.Link.told c.events.link) c.events.seat in
     let after : Sight = sight c.events.connection (g.K.Link.told c.next.new.self) c.events.seat in
     let told : g.K.Link.told c.next.new.self ≡ g.K.Link.told c.events.link = c.in_default.ensures.lost in
-    run_over c.events._event LinkFault first before after c.events.invariant.5 c.events-test.true
+    run_over c.events.invariant.5 c.events-test.true
     (ap (λ (t : Option (List Doing)). record {
       stage = stage c.events.connection.session c.events.connection.input;
       told = t;
@@ -30,7 +30,7 @@ returns-in-Some-clause-course g c =
     let heard : Sight = sight c.events.connection (g.K.Link.told c.next.new.self) c.events.seat in
     let after : Sight = sight c.hear.new.self (g.K.Link.told c.hear.new.link) c.hear.new.seat in
     let told : g.K.Link.told c.next.new.self ≡ told_more (g.K.Link.told c.events.link) (doing_of c.in-Ok.heard c.next.new.into ∷ []) = c.in-Ok.ensures.heard in
-    run_end c.events._event (doing_of c.in-Ok.heard c.next.new.into) c.in-Some.end first before heard after c.events.invariant.5 refl refl told
+    run_end c.events.invariant.5 refl refl told
     (omega (arith, c.events-test.true)) (c.in-Some.ensures.comes c.events._event)
 
 pub events-init : goal.events-init
@@ -60,7 +60,7 @@ events-preserved g c =
           (business c.hear.new.seat.mine c.hear.new.self) inv.2 c.hear.ensures.gone,
       on.0,
       on.1,
-      run_on c.events._event (doing_of c.in-Ok.heard c.next.new.into) first before heard after inv.5 refl refl told c.in_default-hear.ensures.comes,
+      run_on inv.5 refl refl told c.in_default-hear.ensures.comes,
       omega (arith, inv.6, c.next.ensures.count, c.hear.ensures.counted.count),
       on.2,
     )
@@ -70,7 +70,7 @@ returns-clause-course g c =
     let first : Sight = sight c.args.connection.now (g.K.Link.told c.args.link.now) c.args.seat.now in
     let before : Sight = sight c.events.connection (g.K.Link.told c.events.link) c.events.seat in
     let spent : c.events._event ≡ 1099511627776 = search rules in
-    run_over c.events._event TurnsSpent first before before c.events.invariant.5 spent refl
+    run_over c.events.invariant.5 spent refl
 
 pub returns-in_default-clause-counted : goal.returns-in_default-clause-counted
 returns-in_default-clause-counted g c =

@@ -10,13 +10,13 @@ pub returns-clause-entries : goal.returns-clause-entries
 returns-clause-entries g c =
     let both = gone_on (business c.args.seat.now.mine c.in-Ok.connection) (business c.hear_all-end.new.seat.mine c.hear_all-end.new.connection)
     (business c.close.new.seat.mine c.close.new.self) c.hear_all-end.ensures.gone c.close.ensures.gone in
-    gone_whole c.args.seat.now.mine c.close.new.seat.mine c.in-Ok.connection.booking c.close.new.self.booking c.in-Ok.connection.session.receipts
-    c.close.new.self.session.receipts c.report_of-2.result.receipts.items c.in-Ok.ensures.booking c.in-Ok.ensures.receipts c.close.ensures.booking
+    gone_whole c.args.seat.now.mine c.close.new.seat.mine
+    c.in-Ok.ensures.booking c.in-Ok.ensures.receipts c.close.ensures.booking
     (search rules) both
 
 pub returns-clause-headline : goal.returns-clause-headline
 returns-clause-headline g c =
     let session = new_standing c.args.films.now c.args.settings.now c.args.words in
     let well = new_well c.args.films.now c.args.settings.now c.args.words c.law_all_shown.ensures c.requires.settings in
-    keeps_promise session (g.K.Link.told c.args.link.now) (g.K.Link.told c.hear_all-end.new.link) c.args.seat.now c.close.new.seat c.report_of-2.result well
+    keeps_promise well
     refl c.holds.ensures.kept (search rules)

@@ -57,4 +57,4 @@ returns-else-is_err-2-clause-comes g c =
     let after : Sight = sight c.take_up-in-Slot.new.self (g.K.Link.told c.take_up-in-Slot.new.link) c.take_up-in-Slot.new.seat in
     let passed : HasPassed here mid c.in-Slot.slot = search rules in
     subst (λ (h : Heard). HasComeTo c.take_up-in-Slot.result (doing_of h c.args.bytes.now) here after) (sym c.in-Slot.is)
-    (slot_up c.take_up-in-Slot.result c.in-Slot.slot here mid after passed c.take_up-in-Slot.ensures.up)
+    (slot_up c.take_up-in-Slot.result after passed c.take_up-in-Slot.ensures.up)

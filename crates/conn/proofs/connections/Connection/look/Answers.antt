@@ -7,23 +7,21 @@ use Rattle.conn.proofs.connections.Connection.look.Goals as goal
 
 pub returns-in-Ok-clause-gone : goal.returns-in-Ok-clause-gone
 returns-in-Ok-clause-gone g c =
-    gone_look (business c.args.seat.now.mine c.args.self.now)
-    (business c.look.new.seat.mine (record { session = c.hear_look.new.self; input = c.args.self.now.input; booking = c.args.self.now.booking }))
+    gone_look
     _ c.in-Ok.looked.place _ c.in-Ok.looked.now c.in-Ok.looked.at c.in-Ok.looked.booked refl c.in-Ok.ensures.made.mine
     c.hear_look.ensures.handed.receipts
 
 pub returns-in-Err-clause-gone : goal.returns-in-Err-clause-gone
 returns-in-Err-clause-gone g c =
-    gone_full (business c.args.seat.now.mine c.args.self.now)
-    (business c.look.new.seat.mine (record { session = c.hear_full.new.self; input = c.args.self.now.input; booking = c.args.self.now.booking }))
+    gone_full
     c.in-Err.full.entries c.in-Err.full.live c.in-Err.ensures.full.mine refl c.hear_full.ensures.handed.receipts
 
 pub returns-in-Ok-clause-answered : goal.returns-in-Ok-clause-answered
 returns-in-Ok-clause-answered g c =
-    answered_entry c.args.self.now.session (AskLook c.args.slot) c.hear_look.new.self c.args.seat.now c.look.new.seat 1 _ c.in-Ok.looked.place _
+    answered_entry
     c.holds.ensures.kept c.look.ensures.kept c.look.ensures.same c.in-Ok.ensures.made refl (refl, c.hear_look.ensures.exact)
 
 pub returns-in-Err-clause-answered : goal.returns-in-Err-clause-answered
 returns-in-Err-clause-answered g c =
-    answered_full c.args.self.now.session (AskLook c.args.slot) c.hear_full.new.self c.args.seat.now c.look.new.seat 1
-    c.in-Err.full.entries c.in-Err.full.live c.look.ensures.same c.in-Err.ensures.full (c.hear_full.ensures.exact, refl)
+    answered_full
+    c.look.ensures.same c.in-Err.ensures.full (c.hear_full.ensures.exact, refl)

@@ -5,6 +5,6 @@ use Rattle.conn.proofs.connections.Connection.offer.Goals as goal
 
 pub returns-clause-answered : goal.returns-clause-answered
 returns-clause-answered g c =
-    answered_offer c.args.self.now.session (AskOffer c.args.plan c.args.offers) c.hear_offer.new.self c.args.seat.now c.offer-offered.new.seat
-    c.heard_slot-heard.result c.args.plan c.offer-offered.result c.offer-offered.new.into c.offer-offered.ensures.same c.offer-offered.ensures.mine
+    answered_offer
+    c.offer-offered.ensures.same c.offer-offered.ensures.mine
     c.offer-offered.ensures.offered (refl, search rules, c.hear_offer.ensures.exact, search rules)

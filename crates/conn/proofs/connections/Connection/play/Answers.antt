@@ -10,51 +10,44 @@ use Rattle.conn.proofs.connections.Connection.play.Goals as goal
 
 pub returns-in-None-clause-gone : goal.returns-in-None-clause-gone
 returns-in-None-clause-gone g c =
-    gone_play (business c.args.seat.now.mine c.args.self.now)
-    (business c.play.new.seat.mine (record { session = c.hear_admission.new.self; input = c.args.self.now.input; booking = c.replace.new.dest }))
-    _ _ _ c.in-Ok.booking
+    gone_play
+    _ _ _
     (held_none c.args.seat.now.mine c.args.self.now.booking (open_of c.args.self.now.session) c.requires.closed c.requires.held)
     (search rules) c.in-Ok.ensures.made.mine c.hear_admission.ensures.handed.receipts
 
 pub returns-in-Err-Overflow-clause-gone : goal.returns-in-Err-Overflow-clause-gone
 returns-in-Err-Overflow-clause-gone g c =
-    let made = refused_as c.args.seat.now c.play.new.seat c.heard_slot.result c.args.plan c.in-Err-Overflow.field-0
-    (Overflow c.in-Err-Overflow.place c.in-Err-Overflow.slot c.in-Err-Overflow.booked c.in-Err-Overflow.asked)
+    let made = refused_as {was = c.in-Err-Overflow.field-0} {is = Overflow c.in-Err-Overflow.place c.in-Err-Overflow.slot c.in-Err-Overflow.booked c.in-Err-Overflow.asked} c.args.seat.now c.play.new.seat c.heard_slot.result c.args.plan
     c.in-Err-Overflow.ensures.refused (search rules) in
-    gone_overflow (business c.args.seat.now.mine c.args.self.now)
-    (business c.play.new.seat.mine (record { session = c.hear_overflow.new.self; input = c.args.self.now.input; booking = c.args.self.now.booking }))
+    gone_overflow {old = business c.args.seat.now.mine c.args.self.now} {new = business c.play.new.seat.mine (record { session = c.hear_overflow.new.self; input = c.args.self.now.input; booking = c.args.self.now.booking })}
     _ c.in-Err-Overflow.place _ _ c.in-Err-Overflow.slot c.in-Err-Overflow.booked c.in-Err-Overflow.asked
     (held_none c.args.seat.now.mine c.args.self.now.booking (open_of c.args.self.now.session) c.requires.closed c.requires.held)
     refl made.mine c.hear_overflow.ensures.handed.receipts
 
 pub returns-clause-gone : goal.returns-clause-gone
 returns-clause-gone g c =
-    let full = refused_as c.args.seat.now c.play.new.seat c.heard_slot.result c.args.plan c.in-Err-JournalFull.field-0
-    (JournalFull c.in-Err-JournalFull.field-0-0 c.in-Err-JournalFull.entries c.in-Err-JournalFull.live)
+    let full = refused_as {was = c.in-Err-JournalFull.field-0} {is = JournalFull c.in-Err-JournalFull.field-0-0 c.in-Err-JournalFull.entries c.in-Err-JournalFull.live} c.args.seat.now c.play.new.seat c.heard_slot.result c.args.plan
     c.in-Err-JournalFull.ensures.refused (search rules) in
-    gone_full (business c.args.seat.now.mine c.args.self.now)
-    (business c.play.new.seat.mine (record { session = c.hear_full.new.self; input = c.args.self.now.input; booking = c.args.self.now.booking }))
+    gone_full {old = business c.args.seat.now.mine c.args.self.now} {new = business c.play.new.seat.mine (record { session = c.hear_full.new.self; input = c.args.self.now.input; booking = c.args.self.now.booking })}
     c.in-Err-JournalFull.entries c.in-Err-JournalFull.live full.1.mine refl c.hear_full.ensures.handed.receipts
 
 pub returns-in-None-clause-answered : goal.returns-in-None-clause-answered
 returns-in-None-clause-answered g c =
-    answered_entry c.args.self.now.session (AskPlay c.args.plan) c.hear_admission.new.self c.args.seat.now c.play.new.seat 2 _ c.in-Ok.booking.number _
+    answered_entry
     c.holds.ensures.kept c.play.ensures.kept c.play.ensures.same c.in-Ok.ensures.made refl
     (ap (λ heard. play_of heard c.args.plan) (search rules), (search rules, c.hear_admission.ensures.exact, c.hear_admission.ensures.play))
 
 pub returns-in-Err-Overflow-clause-answered : goal.returns-in-Err-Overflow-clause-answered
 returns-in-Err-Overflow-clause-answered g c =
-    let made = refused_as c.args.seat.now c.play.new.seat c.heard_slot.result c.args.plan c.in-Err-Overflow.field-0
-    (Overflow c.in-Err-Overflow.place c.in-Err-Overflow.slot c.in-Err-Overflow.booked c.in-Err-Overflow.asked)
+    let made = refused_as {was = c.in-Err-Overflow.field-0} {is = Overflow c.in-Err-Overflow.place c.in-Err-Overflow.slot c.in-Err-Overflow.booked c.in-Err-Overflow.asked} c.args.seat.now c.play.new.seat c.heard_slot.result c.args.plan
     c.in-Err-Overflow.ensures.refused (search rules) in
-    answered_entry c.args.self.now.session (AskPlay c.args.plan) c.hear_overflow.new.self c.args.seat.now c.play.new.seat 2 _ c.in-Err-Overflow.place _
+    answered_entry {old = c.args.self.now.session} {ask = AskPlay c.args.plan} {new = c.hear_overflow.new.self} {seat = c.args.seat.now} {next = c.play.new.seat} {more = 2} {command = _} {place = c.in-Err-Overflow.place} {answer = _}
     c.holds.ensures.kept c.play.ensures.kept c.play.ensures.same made refl
     (ap (λ heard. play_of heard c.args.plan) (search rules), c.hear_overflow.ensures.exact)
 
 pub returns-clause-answered : goal.returns-clause-answered
 returns-clause-answered g c =
-    let full = refused_as c.args.seat.now c.play.new.seat c.heard_slot.result c.args.plan c.in-Err-JournalFull.field-0
-    (JournalFull c.in-Err-JournalFull.field-0-0 c.in-Err-JournalFull.entries c.in-Err-JournalFull.live)
+    let full = refused_as {was = c.in-Err-JournalFull.field-0} {is = JournalFull c.in-Err-JournalFull.field-0-0 c.in-Err-JournalFull.entries c.in-Err-JournalFull.live} c.args.seat.now c.play.new.seat c.heard_slot.result c.args.plan
     c.in-Err-JournalFull.ensures.refused (search rules) in
-    answered_full c.args.self.now.session (AskPlay c.args.plan) c.hear_full.new.self c.args.seat.now c.play.new.seat 2
-    c.in-Err-JournalFull.entries c.in-Err-JournalFull.live c.play.ensures.same full.1 (c.hear_full.ensures.exact, refl)
+    answered_full {old = c.args.self.now.session} {ask = AskPlay c.args.plan} {new = c.hear_full.new.self} {seat = c.args.seat.now} {next = c.play.new.seat} {more = 2} {entries = c.in-Err-JournalFull.entries} {live = c.in-Err-JournalFull.live}
+    c.play.ensures.same full.1 (c.hear_full.ensures.exact, refl)

@@ -6,7 +6,6 @@ use Rattle.conn.proofs.connections.Connection.step.Goals as goal
 pub returns-in_err-slot-clause-broken : goal.returns-in_err-slot-clause-broken
 returns-in_err-slot-clause-broken g c =
     on_err c.from_residual.result
-    (broken_slot (sight c.args.self.now (g.K.Link.told c.args.link.now) c.args.seat.now)
-    (sight (record { session = c.slot.new.self; input = c.args.self.now.input; booking = c.args.self.now.booking }) (g.K.Link.told c.slot.new.link)
-    c.args.seat.now) c.args.slot c.in_err-slot.ensures.failed refl c.slot.ensures.heard c.in_err-slot.ensures.lost c.slot.ensures.receipts c.slot.ensures.plays
+    (broken_slot
+    c.in_err-slot.ensures.failed refl c.slot.ensures.heard c.in_err-slot.ensures.lost c.slot.ensures.receipts c.slot.ensures.plays
     c.slot.ensures.offers refl)

@@ -14,34 +14,34 @@ returns-then-is_err-clause-cut g c =
     let first : IsFirst c.args.self.now.input (Ok c.in-Ok-Request.field-0) = c.in-Ok-Request.ensures.first in
     let is : c.in-Ok-Request.field-0 ≡ Request c.in-Ok-Request.length = search rules in
     let dropped : c.take_request.new.self.input ≡ drop c.in-Ok-Request.length c.args.self.now.input = search rules in
-    cuts_drop c.args.self.now.input c.take_request.new.self.input c.in-Ok-Request.field-0 c.in-Ok-Request.length first (ap (λ s. told_length (Ok s)) is) dropped
+    cuts_drop c.in-Ok-Request.field-0 first (ap (λ s. told_length (Ok s)) is) dropped
 
 pub returns-else-is_err-clause-cut : goal.returns-else-is_err-clause-cut
 returns-else-is_err-clause-cut g c =
     let first : IsFirst c.args.self.now.input (Ok c.in-Ok-Request.field-0) = c.in-Ok-Request.ensures.first in
     let is : c.in-Ok-Request.field-0 ≡ Request c.in-Ok-Request.length = search rules in
     let dropped : c.take_request.new.self.input ≡ drop c.in-Ok-Request.length c.args.self.now.input = search rules in
-    cuts_drop c.args.self.now.input c.take_request.new.self.input c.in-Ok-Request.field-0 c.in-Ok-Request.length first (ap (λ s. told_length (Ok s)) is) dropped
+    cuts_drop c.in-Ok-Request.field-0 first (ap (λ s. told_length (Ok s)) is) dropped
 
 pub returns-in-Ok-Skip-clause-cut : goal.returns-in-Ok-Skip-clause-cut
 returns-in-Ok-Skip-clause-cut g c =
     let first : IsFirst c.args.self.now.input (Ok c.in-Ok-Skip.field-0) = c.in-Ok-Skip.ensures.first in
     let is : c.in-Ok-Skip.field-0 ≡ Skip c.in-Ok-Skip.count = search rules in
     let dropped : c.drop_front.new.self ≡ drop c.in-Ok-Skip.count c.args.self.now.input = search rules in
-    cuts_drop c.args.self.now.input c.drop_front.new.self c.in-Ok-Skip.field-0 c.in-Ok-Skip.count first (ap (λ s. told_length (Ok s)) is) dropped
+    cuts_drop c.in-Ok-Skip.field-0 first (ap (λ s. told_length (Ok s)) is) dropped
 
 pub returns-in-Ok-Block-clause-cut : goal.returns-in-Ok-Block-clause-cut
 returns-in-Ok-Block-clause-cut g c =
     let first : IsFirst c.args.self.now.input (Ok c.in-Ok-Block.field-0) = c.in-Ok-Block.ensures.first in
     let is : c.in-Ok-Block.field-0 ≡ Block c.in-Ok-Block.field-0-0 c.in-Ok-Block.count = search rules in
     let dropped : c.drop_front-in-Ok-Block.new.self ≡ drop c.in-Ok-Block.count c.args.self.now.input = search rules in
-    cuts_drop c.args.self.now.input c.drop_front-in-Ok-Block.new.self c.in-Ok-Block.field-0 c.in-Ok-Block.count first (ap (λ s. told_length (Ok s)) is) dropped
+    cuts_drop c.in-Ok-Block.field-0 first (ap (λ s. told_length (Ok s)) is) dropped
 
 pub returns-in-Ok-More-clause-taken : goal.returns-in-Ok-More-clause-taken
 returns-in-Ok-More-clause-taken g c =
     let first : IsFirst c.args.self.now.input (Ok c.in-Ok-More.field-0) = c.in-Ok-More.ensures.first in
     let is : c.in-Ok-More.field-0 ≡ More = search rules in
-    (search rules, search rules, inl (first_is c.args.self.now.input c.look.new.self c.in-Ok-More.field-0 More first c.look.ensures.waiting is))
+    (search rules, search rules, inl (first_is first c.look.ensures.waiting is))
 
 pub returns-then-waits-clause-taken : goal.returns-then-waits-clause-taken
 returns-then-waits-clause-taken g c =
@@ -51,7 +51,7 @@ returns-then-waits-clause-taken g c =
       search rules,
       inr (
         c.in-Ok-Request.length,
-        (first_is c.args.self.now.input c.look.new.self c.in-Ok-Request.field-0 (Request c.in-Ok-Request.length) first c.look.ensures.waiting is, search rules),
+        (first_is first c.look.ensures.waiting is, search rules),
       ),
     )
 
@@ -64,7 +64,7 @@ returns-in-Ok-More-clause-takes g c =
         told = g.K.Link.told c.args.link.now;
         seat = c.args.seat.now;
       }) c.look.ensures.waiting,
-      record { torn = search rules; waits = inl (first_is c.args.self.now.input c.look.new.self c.in-Ok-More.field-0 More first c.look.ensures.waiting is) },
+      record { torn = search rules; waits = inl (first_is first c.look.ensures.waiting is) },
     )
 
 pub returns-in-Ok-Skip-clause-takes : goal.returns-in-Ok-Skip-clause-takes
@@ -107,9 +107,8 @@ returns-then-is_err-clause-takes g c =
     ≡ stage (record c.take_request.new.self.session { lost = true }) (drop c.in-Ok-Request.length c.args.self.now.input) = search rules in
     inl (
       refl,
-      lost_reply (sight c.args.self.now (g.K.Link.told c.args.link.now) c.args.seat.now)
-          (sight (record { session = c.reply.new.self; input = c.take_request.new.self.input; booking = c.take_request.new.self.booking })
-          (g.K.Link.told c.reply.new.link) c.take_request.new.seat) c.take_request.new.self.session c.in-Ok-Request.length
+      lost_reply {a = sight c.args.self.now (g.K.Link.told c.args.link.now) c.args.seat.now} {b = sight (record { session = c.reply.new.self; input = c.take_request.new.self.input; booking = c.take_request.new.self.booking })
+          (g.K.Link.told c.reply.new.link) c.take_request.new.seat} {asked = c.take_request.new.self.session} {n = c.in-Ok-Request.length}
           (subst (λ s. IsFirst c.args.self.now.input (Ok s)) is first) (search rules) (search rules) (search rules) (search rules) after (search rules),
     )
 
@@ -119,17 +118,15 @@ returns-else-is_err-clause-takes g c =
     let is : c.in-Ok-Request.field-0 ≡ Request c.in-Ok-Request.length = search rules in
     let after : stage c.reply.new.self c.take_request.new.self.input
     ≡ stage (after_reply c.take_request.new.self.session) (drop c.in-Ok-Request.length c.args.self.now.input) = search rules in
-    taken_reply (sight c.args.self.now (g.K.Link.told c.args.link.now) c.args.seat.now)
-    (sight (record { session = c.reply.new.self; input = c.take_request.new.self.input; booking = c.take_request.new.self.booking })
-    (g.K.Link.told c.reply.new.link) c.take_request.new.seat) c.take_request.new.self.session c.in-Ok-Request.length
+    taken_reply {a = sight c.args.self.now (g.K.Link.told c.args.link.now) c.args.seat.now} {b = sight (record { session = c.reply.new.self; input = c.take_request.new.self.input; booking = c.take_request.new.self.booking })
+    (g.K.Link.told c.reply.new.link) c.take_request.new.seat} {asked = c.take_request.new.self.session} {n = c.in-Ok-Request.length}
     (subst (λ s. IsFirst c.args.self.now.input (Ok s)) is first) (search rules) (search rules) (search rules) after (search rules)
 
 pub returns-in-Err-clause-takes : goal.returns-in-Err-clause-takes
 returns-in-Err-clause-takes g c =
     let first : IsFirst c.args.self.now.input (Err c.in-Err.fault) = c.in-Err.ensures.first in
-    inr (taken_fault (sight c.args.self.now (g.K.Link.told c.args.link.now) c.args.seat.now)
-    (sight (record { session = c.args.self.now.session; input = c.look.new.self; booking = c.args.self.now.booking })
-    (g.K.Link.told c.args.link.now) c.args.seat.now) c.in-Err.fault c.end_of.result
+    inr (taken_fault
+    c.in-Err.fault c.end_of.result
     (ap (λ (i : List ℕ). record {
       stage = stage c.args.self.now.session i;
       told = g.K.Link.told c.args.link.now;
