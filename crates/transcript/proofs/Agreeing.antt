@@ -69,10 +69,10 @@ connection_agrees visit old new (inl served) memory legal = served_agrees visit 
 connection_agrees visit old new (inr nothing) memory legal = absurd (memory nothing.end)
 
 -- a connection that did something keeps its promise: what its seat has seen is legal
-legal_seen : (session : Standing) (old_told new_told : Option (List Doing)) (old new : Sitting) (report : ConnReport)
+legal_seen : {session : Standing} {old_told new_told : Option (List Doing)} {old new : Sitting} {report : ConnReport}
     → KeepsPromise session old_told new_told old new report → (report.end ≡ NoMemory → ⊥) → IsLegal new.steps new.seen
-legal_seen session old_told new_told old new report (inl keeps) memory = keeps.booked.legal
-legal_seen session old_told new_told old new report (inr nothing) memory = absurd (memory nothing.end)
+legal_seen {new} (inl keeps) memory = keeps.booked.legal
+legal_seen {new} (inr nothing) memory = absurd (memory nothing.end)
 
 -- what was served agrees with the seat's journal
 pub returned_agrees : (visit : Visit) (returned : Returned) (old new : Sitting) → HasServedOne visit.films visit.settings returned visit.report old new
@@ -80,7 +80,7 @@ pub returned_agrees : (visit : Visit) (returned : Returned) (old new : Sitting) 
 returned_agrees visit returned old new one tells memory =
     connection_agrees visit old new
     (subst (λ t. HasServedConnection (new_standing visit.films visit.settings visit.report.words) (fresh_told t) t old new visit.report) tells one.served)
-    memory (legal_seen (new_standing visit.films visit.settings visit.report.words) (fresh_told returned.told) returned.told old new visit.report one.keeps memory)
+    memory (legal_seen one.keeps memory)
 
 -- and with each longer legal journal
 pub agrees_longer : (visit : Visit) (terms : Terms) (journal longer : List Entry) → Agrees visit terms journal → IsPrefix journal longer

@@ -59,52 +59,54 @@ pub record IsMaker (run : Run) (unit : PictureUnit) (make : Packet → Part) : T
   pub count : (p : Packet) → count_of (make p) ≡ 1
   pub among : (p : Packet) (ps : List Part) (b : List ℕ) (bs : List (List ℕ)) → frames_among (make p ∷ ps) (b ∷ bs) ≡ b ∷ frames_among ps bs
 
-frames-made : (run : Run) (unit : PictureUnit) (make : Packet → Part) (f o : ℕ) (packets : List Packet) → IsMaker run unit make
+frames-made : {run : Run} {unit : PictureUnit} {make : Packet → Part} (f o : ℕ) (packets : List Packet) → IsMaker run unit make
     → blocks_from run f o (map make packets) ≡ frame_blocks run unit f packets
-frames-made run unit make f o [] is = refl
-frames-made run unit make f o (p ∷ packets) is =
+frames-made f o [] is = refl
+frames-made {run} {unit} {make} f o (p ∷ packets) is =
     ap (λ b. b ∷ blocks_from run (f + count_of (make p)) (o + octets_of (make p)) (map make packets)) (is.bytes p f o)
     ∙ (ap (λ n. frame_block run unit p f ∷ blocks_from run (f + n) (o + octets_of (make p)) (map make packets)) (is.count p)
-    ∙ ap (λ bs. frame_block run unit p f ∷ bs) (frames-made run unit make (f + 1) (o + octets_of (make p)) packets is))
+    ∙ ap (λ bs. frame_block run unit p f ∷ bs) (frames-made (f + 1) (o + octets_of (make p)) packets is))
 
 plain : (f : ℕ) → f + 0 ≡ f
 plain f = omega arith
 
-with-report : (starts : Bool) (run : Run) (unit : PictureUnit) (make : Packet → Part) (report : Part) (f o : ℕ) (packets : List Packet)
+with-report : {run : Run} {unit : PictureUnit} {make : Packet → Part} (starts : Bool) (report : Part) (f o : ℕ)
+    (packets : List Packet)
     → IsMaker run unit make → piece_bytes run f o report ≡ report_block run unit f o → count_of report ≡ 0
     → blocks_from run f o (cond starts (report ∷ []) [] ++ map make packets) ≡ report_if starts run unit f o ++ frame_blocks run unit f packets
-with-report false run unit make report f o packets is bytes count = frames-made run unit make f o packets is
-with-report true run unit make report f o packets is bytes count =
+with-report false report f o packets is bytes count = frames-made f o packets is
+with-report {run} {unit} {make} true report f o packets is bytes count =
     ap (λ b. b ∷ blocks_from run (f + count_of report) (o + octets_of report) (map make packets)) bytes
     ∙ (ap (λ n. report_block run unit f o ∷ blocks_from run n (o + octets_of report) (map make packets)) (ap (λ n. f + n) count ∙ plain f)
-    ∙ ap (λ bs. report_block run unit f o ∷ bs) (frames-made run unit make f (o + octets_of report) packets is))
+    ∙ ap (λ bs. report_block run unit f o ∷ bs) (frames-made f (o + octets_of report) packets is))
 
 pub unit-made : (run : Run) (f o : ℕ) (starts : List ℕ) (unit : PictureUnit) → blocks_from run f o (unit_pieces starts unit) ≡ unit_blocks run starts unit f o
 unit-made run f o starts unit =
-    with-report unit.starts_group run unit _ _ f o (unit_packets starts unit) (record { bytes = λ p g n. refl; count = λ p. refl; among = λ p ps b bs. refl }) refl refl
+    with-report {run = run} {unit = unit} {make = _} unit.starts_group _ f o (unit_packets starts unit) (record { bytes = λ p g n. refl; count = λ p. refl; among = λ p ps b bs. refl }) refl refl
 
 -- ---- the frames among them
 
-frames-among-made : (run : Run) (unit : PictureUnit) (make : Packet → Part) (f : ℕ) (packets : List Packet) (ps : List Part) (bs : List (List ℕ))
+frames-among-made : {run : Run} {unit : PictureUnit} {make : Packet → Part} (f : ℕ) (packets : List Packet)
+    (ps : List Part) (bs : List (List ℕ))
     → IsMaker run unit make → frames_among (map make packets ++ ps) (frame_blocks run unit f packets ++ bs) ≡ frame_blocks run unit f packets ++ frames_among ps bs
-frames-among-made run unit make f [] ps bs is = refl
-frames-among-made run unit make f (p ∷ packets) ps bs is =
+frames-among-made f [] ps bs is = refl
+frames-among-made {run} {unit} {make} f (p ∷ packets) ps bs is =
     is.among p (map make packets ++ ps) (frame_block run unit p f) (frame_blocks run unit (f + 1) packets ++ bs)
-    ∙ ap (λ l. frame_block run unit p f ∷ l) (frames-among-made run unit make (f + 1) packets ps bs is)
+    ∙ ap (λ l. frame_block run unit p f ∷ l) (frames-among-made (f + 1) packets ps bs is)
 
-among-report : (starts : Bool) (run : Run) (unit : PictureUnit) (make : Packet → Part) (report : Part) (f o : ℕ) (packets : List Packet) (ps : List Part)
-    (bs : List (List ℕ)) → IsMaker run unit make
+among-report : {run : Run} {unit : PictureUnit} {make : Packet → Part} (starts : Bool) (report : Part) (f o : ℕ)
+    (packets : List Packet) (ps : List Part) (bs : List (List ℕ)) → IsMaker run unit make
     → ((qs : List Part) (b : List ℕ) (cs : List (List ℕ)) → frames_among (report ∷ qs) (b ∷ cs) ≡ frames_among qs cs)
     → frames_among ((cond starts (report ∷ []) [] ++ map make packets) ++ ps) ((report_if starts run unit f o ++ frame_blocks run unit f packets) ++ bs)
     ≡ frame_blocks run unit f packets ++ frames_among ps bs
-among-report false run unit make report f o packets ps bs is none = frames-among-made run unit make f packets ps bs is
-among-report true run unit make report f o packets ps bs is none =
-    none (map make packets ++ ps) (report_block run unit f o) (frame_blocks run unit f packets ++ bs) ∙ frames-among-made run unit make f packets ps bs is
+among-report false report f o packets ps bs is none = frames-among-made f packets ps bs is
+among-report {run} {unit} {make} true report f o packets ps bs is none =
+    none (map make packets ++ ps) (report_block run unit f o) (frame_blocks run unit f packets ++ bs) ∙ frames-among-made f packets ps bs is
 
 pub unit-among : (run : Run) (f o : ℕ) (starts : List ℕ) (unit : PictureUnit) (ps : List Part) (bs : List (List ℕ))
     → frames_among (unit_pieces starts unit ++ ps) (unit_blocks run starts unit f o ++ bs) ≡ frame_blocks run unit f (unit_packets starts unit) ++ frames_among ps bs
 unit-among run f o starts unit ps bs =
-    among-report unit.starts_group run unit _ _ f o (unit_packets starts unit) ps bs
+    among-report {run = run} {unit = unit} {make = _} unit.starts_group _ f o (unit_packets starts unit) ps bs
     (record { bytes = λ p g n. refl; count = λ p. refl; among = λ p qs b cs. refl }) (λ qs b cs. refl)
 
 -- ---- what a client reads of them

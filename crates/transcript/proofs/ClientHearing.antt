@@ -38,9 +38,10 @@ pub heard-none : Heard [] (stage [] [])
 heard-none = record { pieces = []; cut = refl; sum = refl; gone = tt }
 
 -- with further pieces
-pub heard-more : (bytes more : List ℕ) (old : Stage) (pieces : List (List ℕ)) (rest : List ℕ) (heard : Heard bytes old) → AreCut (old.rest ++ more) pieces rest
+pub heard-more : {bytes : List ℕ} {old : Stage} {rest : List ℕ} (more : List ℕ) (pieces : List (List ℕ))
+    (heard : Heard bytes old) → AreCut (old.rest ++ more) pieces rest
     → GoOn old.history (moments_in pieces) → Heard (bytes ++ more) (stage (after old.history (moments_in pieces)) rest)
-heard-more bytes more old pieces rest heard cut good = record {
+heard-more {bytes} {old} {rest} more pieces heard cut good = record {
   pieces = heard.pieces ++ pieces;
   cut = cuts_join bytes more heard.pieces pieces old.rest rest heard.cut cut;
   sum = sum-after old.history (moments_in pieces)
@@ -52,14 +53,14 @@ heard-more bytes more old pieces rest heard cut good = record {
 same-stage : (new : Stage) (h : History) (rest : List ℕ) → new.history ≡ h → new.rest ≡ rest → stage h rest ≡ new
 same-stage new h rest history same = ap (λ x. stage x rest) (sym history) ∙ ap (λ x. stage new.history x) (sym same)
 
-heard-event : (event : Doing) (moments : List Moment) (bytes : List ℕ) (old new : Stage) → Heard bytes old → Brings event old.rest moments new.rest
+heard-event : {bytes : List ℕ} {old new : Stage} (event : Doing) (moments : List Moment) → Heard bytes old → Brings event old.rest moments new.rest
     → GoOn old.history moments → new.history ≡ after old.history moments → Heard (bytes ++ bytes_in event) new
-heard-event (HeardBytes more) moments bytes old new heard brings good history =
+heard-event {bytes} {old} {new} (HeardBytes more) moments heard brings good history =
     let G : List Moment → Type 0 = λ ms. GoOn old.history ms in
     let is : stage (after old.history (moments_in brings.0)) new.rest ≡ new =
     same-stage new (after old.history (moments_in brings.0)) new.rest (history ∙ ap (after old.history) brings.1.1) refl in
-    subst (Heard (bytes ++ more)) is (heard-more bytes more old brings.0 new.rest heard brings.1.0 (subst G brings.1.1 good))
-heard-event (HeardSlot slot) moments bytes old new heard brings good history =
+    subst (Heard (bytes ++ more)) is (heard-more more brings.0 heard brings.1.0 (subst G brings.1.1 good))
+heard-event {bytes} {old} {new} (HeardSlot slot) moments heard brings good history =
     let cut = cut_bytes old.rest in
     let G : List Moment → Type 0 = λ ms. GoOn old.history ms in
     let good2 : GoOn old.history (Slot slot cut ∷ []) = subst G brings.0 good in
@@ -69,11 +70,11 @@ heard-event (HeardSlot slot) moments bytes old new heard brings good history =
     record { pieces = heard.pieces; cut = heard.cut; sum = heard.sum; gone = (tt, heard.gone) } in
     let B : List ℕ → Type 0 = λ b. Heard b new in
     subst B (sym (append-nil bytes)) (subst (Heard bytes) is mid)
-heard-event HeardEnd moments bytes old new heard brings good history = absurd brings
-heard-event (Sent byte) moments bytes old new heard brings good history = absurd brings
+heard-event {new} HeardEnd moments heard brings good history = absurd brings
+heard-event {new} (Sent byte) moments heard brings good history = absurd brings
 
 pub heard-round : (bytes : List ℕ) (old new : Stage) (round : Round) → Heard bytes old → Runs old round new → Heard (bytes ++ bytes_in round.event) new
-heard-round bytes old new round heard runs = heard-event round.event round.moments bytes old new heard runs.brings runs.good runs.history_is
+heard-round bytes old new round heard runs = heard-event round.event round.moments heard runs.brings runs.good runs.history_is
 
 pub heard-all : (bytes : List ℕ) (old new : Stage) (rounds : List Round) → Heard bytes old → RunsAll old rounds new → Heard (bytes ++ rounds_heard rounds) new
 heard-all bytes old new [] heard all =
@@ -132,12 +133,13 @@ complete-then n complete two awaited =
     let P : ℕ → Type 0 = λ k. (nat_lt k 2 || complete) ≡ true in subst P two awaited
 
 -- the done stage, with its moments
-pub at-done : (wish : Wish) (watched : Watched) (bytes out : List ℕ) (moments : List Moment) (at : Stage) (moment : Moment)
+pub at-done : {wish : Wish} {watched : Watched} {bytes out : List ℕ} {at : Stage} {moment : Moment}
+    (moments : List Moment)
     → Heard bytes at → IsNext at.rest moment → Gives wish at.history moment (Done watched) → at.history ≡ after [] moments → out ≡ payloads_of moments
     → ((done : IsDone wish watched bytes out) × (done.at ≡ at))
-at-done wish watched bytes out moments at (Reply message) heard next (inl bad) history is = absurd (let no : ⊥ = cc in no)
-at-done wish watched bytes out moments at (Reply message) heard next (inr (inl refused)) history is = absurd (let no : ⊥ = cc in no)
-at-done wish watched bytes out moments at (Reply message) heard next (inr (inr good)) history is = (
+at-done {out} {at} {moment = Reply message} moments heard next (inl bad) history is = absurd (let no : ⊥ = cc in no)
+at-done {out} {at} {moment = Reply message} moments heard next (inr (inl refused)) history is = absurd (let no : ⊥ = cc in no)
+at-done {wish} {watched} {out} {at} {moment = Reply message} moments heard next (inr (inr good)) history is = (
   record {
     at = at;
     heard = heard;
@@ -154,6 +156,6 @@ at-done wish watched bytes out moments at (Reply message) heard next (inr (inr g
   },
   refl,
 )
-at-done wish watched bytes out moments at (Frame block) heard next gives history is = absurd (let no : ⊥ = cc in no)
-at-done wish watched bytes out moments at (Report block) heard next gives history is = absurd gives
-at-done wish watched bytes out moments at (Slot slot cut) heard next gives history is = absurd gives
+at-done {out} {at} {moment = Frame block} moments heard next gives history is = absurd (let no : ⊥ = cc in no)
+at-done {out} {at} {moment = Report block} moments heard next gives history is = absurd gives
+at-done {out} {at} {moment = Slot slot cut} moments heard next gives history is = absurd gives

@@ -48,10 +48,10 @@ used-same wish timing slot sizes units delay none =
     omega (arith, ap (used_before wish timing.picture_units slot 0) (take_all (length sizes) sizes (omega arith)), all, none)
 
 -- between the curves of a plan is between those of the meter
-pub curves-same : (wish : Wish) (timing : Timing) (sizes : List ℕ) (slot came : ℕ) → timing.slot_units ≡ wish.slot_units → timing.delay ≡ wish.startup
+pub curves-same : {wish : Wish} {sizes : List ℕ} {slot came : ℕ} (timing : Timing) → timing.slot_units ≡ wish.slot_units → timing.delay ≡ wish.startup
     → timing.buffer ≡ wish.buffer → timing.played ≡ 0 → low_at sizes timing slot ≤ came → came ≤ up_at sizes timing slot
     → IsBetween wish sizes timing.picture_units slot came
-curves-same wish timing sizes slot came units delay buffer none above below =
+curves-same {wish} {sizes} {slot} timing units delay buffer none above below =
     let low = used-same wish timing (slot + 1) sizes units delay none in
     let up = used-same wish timing slot sizes units delay none in
     record { low = omega (arith, low, above); up = omega (arith, up, below, buffer) }

@@ -42,10 +42,10 @@ takings-append (Answered message outcome parts ∷ xs) ys =
     ap (λ bs. parts_bytes parts ++ bs) (takings-append xs ys) ∙ sym (append_assoc (parts_bytes parts) (takings_bytes xs) (takings_bytes ys))
 
 -- ---- one event more
-follows-more : (old mid new : Stage) (rounds : List Round) (round : Round) → Follows old rounds mid → Runs mid round new → Follows old (rounds ++ round ∷ []) new
-follows-more old mid new [] round follows runs = (new, (subst (λ s. Runs s round new) follows runs, refl))
-follows-more old mid new (first ∷ rounds) round follows runs =
-    (follows.0, (follows.1.0, follows-more follows.0 mid new rounds round follows.1.1 runs))
+follows-more : {mid new : Stage} {round : Round} (old : Stage) (rounds : List Round) → Follows old rounds mid → Runs mid round new → Follows old (rounds ++ round ∷ []) new
+follows-more {new} {round} old [] follows runs = (new, (subst (λ s. Runs s round new) follows runs, refl))
+follows-more {mid} {new} {round} old (first ∷ rounds) follows runs =
+    (follows.0, (follows.1.0, follows-more {mid = mid} {new = new} {round = round} follows.0 rounds follows.1.1 runs))
 
 cut-short : (course : Course) (round : Round) (new : Stage) (sent : List ℕ) → Runs course.last round new → IsFront sent (round_bytes round)
     → IsCutShort course round.event round.takings (rounds_bytes course.rounds ++ sent)
@@ -56,7 +56,7 @@ cut-short course round new sent runs front =
       words = course.words;
       rounds = course.rounds ++ round ∷ [];
       last = new;
-      follows = follows-more (first_stage course.films course.settings course.words) course.last new course.rounds round course.follows runs;
+      follows = follows-more (first_stage course.films course.settings course.words) course.rounds course.follows runs;
     } in
     let all : rounds_bytes longer.rounds ≡ rounds_bytes course.rounds ++ round_bytes round =
     bytes-append course.rounds (round ∷ []) ∙ ap (λ bs. rounds_bytes course.rounds ++ bs) (append-nil (round_bytes round)) in
@@ -153,12 +153,12 @@ failed-slot course slot front new failed =
     cut-short course round opened front runs (subst F (sym bytes) failed.front_is)
 
 -- ---- a reply
-takes-more : (old mid new : Stage) (takings : List Taking) (taking : Taking) → TakesAll old takings mid → TakesAll mid (taking ∷ []) new
+takes-more : {new : Stage} (old mid : Stage) (takings : List Taking) (taking : Taking) → TakesAll old takings mid → TakesAll mid (taking ∷ []) new
     → TakesAll old (takings ++ taking ∷ []) new
-takes-more old mid new [] taking takes more =
+takes-more {new} old mid [] taking takes more =
     let T : Stage → Type 0 = λ s. TakesAll s (taking ∷ []) new in
     subst T takes more
-takes-more old mid new (first ∷ takings) taking takes more = (takes.0, (takes.1.0, takes-more takes.0 mid new takings taking takes.1.1 more))
+takes-more {new} old mid (first ∷ takings) taking takes more = (takes.0, (takes.1.0, takes-more {new = new} takes.0 mid takings taking takes.1.1 more))
 
 pub failed-reply : (course : Course) (round : Round) (message : List ℕ) (outcome : Outcome) (front : List ℕ) (new : Stage)
     → (ends : EndsInReply course.last round message outcome front new)
@@ -176,7 +176,7 @@ failed-reply course round message outcome front new ends =
     let runs : Runs course.last longer last = record {
       opened = ends.runs.opened;
       comes = ends.runs.comes;
-      takes = takes-more ends.runs.opened ends.mid last round.takings taking ends.runs.takes more;
+      takes = takes-more ends.runs.opened ends.mid round.takings taking ends.runs.takes more;
     } in
     let text : takings_bytes (taking ∷ []) ≡ answered.text =
     append-nil (parts_bytes parts) ∙ ap parts_bytes (cond-true (can_reply answered) (Text answered.text ∷ []) [] failed.can) ∙ append-nil answered.text in

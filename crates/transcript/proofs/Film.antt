@@ -55,7 +55,7 @@ come : (film : Film) (identity : Identity) (x : Stream) (d : ℕ) → IsFilmIn f
     → HasCome (film_sizes film) d (begun_sum x) (steps (begun_sum x) (moments_in (take (count_ended d x.blocks) x.blocks)))
 come film identity x d is =
     let P : List (List ℕ) → Type 0 = λ bs. HasCome (film_sizes film) d (begun_sum x) (steps (begun_sum x) (moments_in (take (count_ended d bs) bs))) in
-    subst P (sym is.blocks) (units-come (film_run film identity) 0 0 d film.slice_starts.items film.units.items (begun_sum x) is.media is.control (laid-film film) refl refl refl)
+    subst P (sym is.blocks) (units-come (film_run film identity) 0 0 film.slice_starts.items film.units.items is.media is.control (laid-film film) refl refl refl)
 
 -- ---- the time of a picture
 
@@ -76,17 +76,17 @@ time-by film identity x k (unit ∷ items) items_are is =
     → begins_film (drop 20 (steps (begun_sum x) (moments_in (take k bs))).first) ≡ true
     → time_in (steps (begun_sum x) (moments_in (take k bs))).first ≡ picture_time film.rate in
     subst P blocks (λ some good.
-    time-is run starts unit 0 film.rate (steps (begun_sum x) (moments_in (take k (blocks_from run 0 0 (pieces_of starts (unit ∷ items)))))).first laid.0.1
-    (first-frame run 0 0 k starts unit items (begun_sum x) is.media is.control refl some) begins good)
+    time-is laid.0.1
+    (first-frame {run = run} {f = 0} {starts = starts} {unit = unit} 0 k items (begun_sum x) is.media is.control refl some) begins good)
 
 -- the time of a picture and the number of units, by what was heard
 pub record IsTimed (film : Film) (x : Stream) (h : History) : Type 0 where
   pub time_is : 0 < frames h → time h ≡ picture_time film.rate
   pub units_are : 0 < frames h → units h ≡ units_until (begun_sum x).end_ms (picture_time film.rate)
 
-pub timed : (film : Film) (identity : Identity) (x : Stream) (k : ℕ) (h : History) → IsFilmIn film identity x → HasGoneOn h
+pub timed : {film : Film} {identity : Identity} {x : Stream} {h : History} (k : ℕ) → IsFilmIn film identity x → HasGoneOn h
     → sum_of h ≡ steps (begun_sum x) (moments_in (take k x.blocks)) → IsTimed film x h
-timed film identity x k h is gone sum_is =
+timed {film} {identity} {x} {h} k is gone sum_is =
     let t = steps (begun_sum x) (moments_in (take k x.blocks)) in
     let first : first_frame h ≡ t.first = ap (λ (s : Sum). s.first) sum_is in
     let count : frames h ≡ t.frames = ap (λ (s : Sum). s.frames) sum_is in
@@ -106,11 +106,11 @@ timed film identity x k h is gone sum_is =
 min-below : (a b : ℕ) → min a b ≤ a
 min-below a b = omega arith
 
-pub heard-of : (film : Film) (identity : Identity) (x : Stream) (c : ℕ) (at : Stage) → IsFilmIn film identity x → HasGoneOn at.history → IsReadingOf x c at
+pub heard-of : {film : Film} {identity : Identity} {x : Stream} {c : ℕ} {at : Stage} → IsFilmIn film identity x → HasGoneOn at.history → IsReadingOf x c at
     → units_until (begun_sum x).end_ms (picture_time film.rate) ≡ length (film_sizes film)
     → IsHeardOf (film_sizes film) (picture_time film.rate) at.history (cut_bytes at.rest)
     × (bytes_received at.history + cut_bytes at.rest ≡ min (film_place x c) (length (framed_bytes x.blocks)))
-heard-of film identity x c at is gone reading count =
+heard-of {film} {identity} {x} {c} {at} is gone reading count =
     let d = film_place x c in
     let k = count_ended d x.blocks in
     let t = steps (begun_sum x) (moments_in (take k x.blocks)) in
@@ -120,7 +120,7 @@ heard-of film identity x c at is gone reading count =
     let many : length (sizes at.history) ≡ its.count = ap (λ (l : List ℕ). length l) are ∙ length-take-le its.count all its.among in
     let bytes = ap (λ (s : Sum). s.received) reading.sum ∙ blocks-received (take k x.blocks) (begun_sum x) (blocks-one-take k x.blocks x.blocks_are) refl in
     let came : bytes_received at.history + cut_bytes at.rest ≡ min d (length (framed_bytes x.blocks)) = omega (arith, bytes, reading.cut) in
-    let its_time = timed film identity x k at.history is gone reading.sum in (
+    let its_time = timed k is gone reading.sum in (
       record {
         sizes_are = are ∙ ap (λ n. take n all) (sym many);
         among = omega (arith, many, its.among);
@@ -149,9 +149,9 @@ pub record IsWholeOf (film : Film) (x : Stream) (h : History) : Type 0 where
   pub sizes_are : sizes h ≡ film_sizes film
   pub count : units_until (begun_sum x).end_ms (picture_time film.rate) ≡ length (film_sizes film)
 
-pub whole-of : (film : Film) (identity : Identity) (x : Stream) (h : History) → IsFilmIn film identity x → HasGoneOn h
+pub whole-of : {film : Film} {identity : Identity} {x : Stream} {h : History} → IsFilmIn film identity x → HasGoneOn h
     → sum_of h ≡ steps (begun_sum x) (moments_in x.blocks) → is_complete h ≡ true → IsWholeOf film x h
-whole-of film identity x h is gone sum_is complete =
+whole-of {film} {identity} {x} {h} is gone sum_is complete =
     let all = film_sizes film in
     let total = length (framed_bytes x.blocks) in
     let k = count_ended total x.blocks in
@@ -165,14 +165,14 @@ whole-of film identity x h is gone sum_is complete =
     let are : sizes h ≡ all = ap (λ (s : Sum). s.sizes) sum_here ∙ (its.sizes_are ∙ take_all its.count all (omega (arith, every))) in
     let some : 0 < frames h = ltb-true 0 (frames h) (and-left (nat_lt 0 (frames h)) (length (sizes h) == units h) complete) in
     let same : length (sizes h) ≡ units h = eqb-true (length (sizes h)) (units h) (and-right (nat_lt 0 (frames h)) (length (sizes h) == units h) complete) in
-    let its_time = timed film identity x k h is gone sum_here in
+    let its_time = timed k is gone sum_here in
     record { sizes_are = are; count = sym (its_time.units_are some) ∙ (sym same ∙ ap (λ (l : List ℕ). length l) are) }
 
-pub film-back : (film : Film) (identity : Identity) (x : Stream) (h : History) (first last : PictureUnit) → IsFilmIn film identity x
+pub film-back : {film : Film} {identity : Identity} {x : Stream} {first last : PictureUnit} (h : History) → IsFilmIn film identity x
     → sum_of h ≡ steps (begun_sum x) (moments_in x.blocks) → slice_get film.units.items 0 ≡ Some first
     → slice_get film.units.items (length film.units.items - 1) ≡ Some last
     → payloads h ≡ take (last.to - first.from) (drop first.from film.bytes.items)
-film-back film identity x h first last is sum_is at_first at_last =
+film-back {film} {identity} {x} {first} {last} h is sum_is at_first at_last =
     let run = film_run film identity in
     let starts = film.slice_starts.items in
     let items = film.units.items in

@@ -42,10 +42,10 @@ pub record Step (old new : Standing) (made : List Asking) (bytes : List ℕ) : T
 pub stands_by : (old new : Standing) (made : List Asking) (bytes : List ℕ) → Step old new made bytes → Stands new
 stands_by old new made bytes step = record { rest = step.rest; sound = step.on.sound }
 
-pub step_then : (a b c : Standing) (made more : List Asking) (film bytes : List ℕ) → Step a b made film → Step b c more bytes → Step a c (made ++ more) (film ++ bytes)
-step_then a b c made more film bytes one two = record {
+pub step_then : {a b c : Standing} {made more : List Asking} {film bytes : List ℕ} → Step a b made film → Step b c more bytes → Step a c (made ++ more) (film ++ bytes)
+step_then {a} {c} {made} {more} one two = record {
   rest = two.rest;
-  on = then_on (sends_in a.state) (sends_in b.state) (sends_in c.state) a.heard b.heard c.heard b.waits c.waits made more film bytes one.on two.on;
+  on = then_on one.on two.on;
 }
 
 pub step_none : (session : Standing) → Stands session → Step session session [] []
@@ -79,21 +79,22 @@ reply_is false s between stands = step_none s stands
 reply_step : (s : Standing) → Stands s → Step s (after_reply s) [] []
 reply_step s stands = reply_is (can_reply s) s (λ can. and_right s.waits (is_between s.state) can) stands
 
-answered_step : (old new : Stage) (message : List ℕ) (outcome : Outcome) (parts : List Part) (replied : IsReplied old message outcome parts new)
+answered_step : {old new : Stage} {message : List ℕ} {outcome : Outcome} {parts : List Part}
+    (replied : IsReplied old message outcome parts new)
     → Stands old.session → Step old.session new.session (Asks replied.heard.asking.awaited outcome ∷ []) []
-answered_step old new message outcome parts replied stands =
+answered_step {old} {new} {message} {outcome} replied stands =
     let asked : Awaited = replied.heard.asking.awaited in
     let turns = turns_as old.session message outcome replied.answered replied.heard stands.rest in
     let one : Step old.session replied.answered (Asks asked outcome ∷ []) [] = turn_step old.session replied.answered asked outcome stands turns in
     let two : Step replied.answered (after_reply replied.answered) [] [] =
     reply_step replied.answered (stands_by old.session replied.answered (Asks asked outcome ∷ []) [] one) in
     subst (λ (s : Stage). Step old.session s.session (Asks asked outcome ∷ []) []) (sym replied.new_is)
-    (step_then old.session replied.answered (after_reply replied.answered) (Asks asked outcome ∷ []) [] [] [] one two)
+    (step_then one two)
 
 pub taken_stands : (old new : Stage) (taking : Taking) → Takes old taking new → Stands old.session → Stands new.session
 taken_stands old new (Passed n) takes stands = subst Stands (sym (ap (λ (s : Stage). s.session) takes.2)) stands
 taken_stands old new (Answered message outcome parts) takes stands =
-    stands_by old.session new.session (Asks takes.heard.asking.awaited outcome ∷ []) [] (answered_step old new message outcome parts takes stands)
+    stands_by old.session new.session (Asks takes.heard.asking.awaited outcome ∷ []) [] (answered_step takes stands)
 
 pub takes_step : (old new : Stage) (takings : List Taking) (takes : TakesAll old takings new) → Stands old.session
     → Step old.session new.session (takings_askings old takings new takes) []
@@ -104,9 +105,9 @@ takes_step old new (Passed n ∷ takings) takes stands =
     subst (λ s. Step s new.session (takings_askings takes.0 takings new takes.1.1) []) same rest
 takes_step old new (Answered message outcome parts ∷ takings) takes stands =
     let made : List Asking = Asks takes.1.0.heard.asking.awaited outcome ∷ [] in
-    let one = answered_step old takes.0 message outcome parts takes.1.0 stands in
+    let one = answered_step takes.1.0 stands in
     let rest = takes_step takes.0 new takings takes.1.1 (stands_by old.session takes.0.session made [] one) in
-    step_then old.session takes.0.session new.session made (takings_askings takes.0 takings new takes.1.1) [] [] one rest
+    step_then one rest
 
 -- ---- slots
 
@@ -114,35 +115,36 @@ takes_step old new (Answered message outcome parts ∷ takings) takes stands =
 pub done_kept : (p : Pacing) → is_done p ≡ true → p.sent ≡ p.keep
 done_kept p done = eqb-true p.sent p.keep (and_right (nat_lt 0 p.passed) (p.sent == p.keep) done)
 
-done_rest : (p : Pacing) (slot : ℕ) (asked : Awaited) (placed : Placed) (number keep : ℕ) (askings : List Asking) (end : ℕ) (more : List ℕ)
+done_rest : {p : Pacing} {slot : ℕ} {asked : Awaited} {number keep end : ℕ} (placed : Placed) (askings : List Asking)
+    (more : List ℕ)
     → IsOnTime p slot → keep ≡ p.sent → placed.entry.command ≡ HaltCommand number keep → asked ≡ Halt keep Done → slot ≤ end
     → IsFilm end (plays_of askings) more → IsRest (Going p) (Asks asked (Entered placed) ∷ askings) end more
-done_rest p slot asked placed number keep askings end more on sent command asks later is =
+done_rest {p} {slot} {asked} {number} {keep} {end} placed askings more on sent command asks later is =
     let kept : kept_with (Entered placed) (kept_in askings (total_bytes p.plan)) ≡ keep =
     ap (λ c. kept_by c (kept_in askings (total_bytes p.plan))) command in
     let none : plays_begun asked (Entered placed) askings ≡ [] = ap (λ a. plays_admitted a placed.entry.answer askings) asks in
     subst (λ k. IsFilm end (play_with p k ∷ (plays_begun asked (Entered placed) askings ++ plays_of askings)) (take p.sent (film_in p) ++ more)) (sym kept)
     (subst (λ ps. IsFilm end (play_with p keep ∷ (ps ++ plays_of askings)) (take p.sent (film_in p) ++ more)) (sym none)
-    (film_over p slot end keep (plays_of askings) more on (sym sent) later is))
+    (film_over (plays_of askings) more on (sym sent) later is))
 
-pub halt_state : (state : State) (awaited : Awaited) (setup : Setup) (play : Played) (keep : ℕ) → state ≡ Playing setup play → awaited ≡ Halt keep Done
+pub halt_state : {state : State} {awaited : Awaited} {setup : Setup} {play : Played} {keep : ℕ} → state ≡ Playing setup play → awaited ≡ Halt keep Done
     → sends_in (halted_in state awaited) ≡ Idle
-halt_state state awaited setup play keep is asks =
+halt_state {awaited} {setup} {play} is asks =
     ap (λ (s : State). sends_in (halted_in s awaited)) is ∙ ap (λ (a : Awaited). sends_in (halted_in (Playing setup play) a)) asks
 
-done_step : (s : Standing) (setup : Setup) (play : Played) (placed : Placed) (keep : ℕ) (new : Standing) → s.state ≡ Playing setup play
+done_step : {s : Standing} {setup : Setup} {play : Played} {placed : Placed} {keep : ℕ} {new : Standing} → s.state ≡ Playing setup play
     → IsSound (sends_in s.state) s.waits s.heard → is_done play.pacer ≡ true → keep ≡ play.pacer.sent → s.awaited ≡ Halt keep Done
     → IsHaltAnswered s keep placed new → Step s new (Asks s.awaited (Entered placed) ∷ []) []
-done_step s setup play placed keep new is sound done sent asks halted =
+done_step {s} {play} {placed} {new} is sound done sent asks halted =
     let p : Pacing = play.pacer in
     let on : IsOnTime p s.heard = (subst (λ st. IsSound (sends_in st) s.waits s.heard) is sound).0 in
     let sends : sends_in new.state ≡ Idle =
-    ap (λ (n : Standing). sends_in n.state) halted.halts ∙ halt_state s.state s.awaited setup play keep is asks in
+    ap (λ (n : Standing). sends_in n.state) halted.halts ∙ halt_state is asks in
     let heard : new.heard ≡ s.heard = ap (λ (n : Standing). n.heard) halted.halts in
     let goes : GoesOn (Going p) Idle s.heard s.heard new.waits (Asks s.awaited (Entered placed) ∷ []) [] = record {
       sound = tt;
       later = omega arith;
-      rest = λ askings end more later film. done_rest p s.heard s.awaited placed halted.number keep askings end more on sent halted.command asks later film;
+      rest = λ askings end more later film. done_rest placed askings more on sent halted.command asks later film;
     } in
     record {
       rest = ap (λ (n : Standing). n.awaited) halted.halts;
@@ -151,21 +153,21 @@ done_step s setup play placed keep new is sound done sent asks halted =
           (subst (λ h. GoesOn (Going p) Idle s.heard h new.waits (Asks s.awaited (Entered placed) ∷ []) []) (sym heard) goes));
     }
 
-halted_step : (s : Standing) (setup : Setup) (play : Played) (halt : Outcome) (keep : ℕ) (new : Standing) → s.state ≡ Playing setup play
+halted_step : {s : Standing} {setup : Setup} {play : Played} {halt : Outcome} {keep : ℕ} {new : Standing} → s.state ≡ Playing setup play
     → IsSound (sends_in s.state) s.waits s.heard → is_done play.pacer ≡ true → keep ≡ play.pacer.sent → s.awaited ≡ Halt keep Done
     → IsHalted s keep halt new → Step s new (Asks s.awaited halt ∷ []) []
-halted_step s setup play Unasked keep new is sound done sent asks halted = absurd halted
-halted_step s setup play (Entered placed) keep new is sound done sent asks halted = done_step s setup play placed keep new is sound done sent asks halted
-halted_step s setup play (WasFull more entries live) keep new is sound done sent asks halted = absurd halted
-halted_step s setup play (Offered at_slot note) keep new is sound done sent asks halted = absurd halted
+halted_step {s} {halt = Unasked} {new} is sound done sent asks halted = absurd halted
+halted_step {s} {halt = Entered placed} {new} is sound done sent asks halted = done_step is sound done sent asks halted
+halted_step {s} {halt = WasFull more entries live} {new} is sound done sent asks halted = absurd halted
+halted_step {s} {halt = Offered at_slot note} {new} is sound done sent asks halted = absurd halted
 
-finishes : (s : Standing) (state : State) (halt : Outcome) (new : Standing) → s.state ≡ state → IsSound (sends_in s.state) s.waits s.heard
+finishes : {s : Standing} {state : State} {halt : Outcome} {new : Standing} → s.state ≡ state → IsSound (sends_in s.state) s.waits s.heard
     → is_done_in state ≡ true → s.awaited ≡ Halt (sent_in state) Done → IsFinished (awaits s) s halt new → Step s new (Asks s.awaited halt ∷ []) []
-finishes s Init halt new is sound done asks finished = absurd (true≢false (sym done))
-finishes s (Ready setup paused) halt new is sound done asks finished = absurd (true≢false (sym done))
-finishes s (Playing setup play) halt new is sound done asks finished =
-    halted_step s setup play halt play.pacer.sent new is sound done refl asks (subst (λ a. IsFinished (awaits_of a) s halt new) asks finished)
-finishes s (Stopping setup stop) halt new is sound done asks finished = absurd (true≢false (sym done))
+finishes {s} {state = Init} {halt} {new} is sound done asks finished = absurd (true≢false (sym done))
+finishes {s} {state = Ready setup paused} {halt} {new} is sound done asks finished = absurd (true≢false (sym done))
+finishes {s} {state = Playing setup play} {halt} {new} is sound done asks finished =
+    halted_step is sound done refl asks (subst (λ a. IsFinished (awaits_of a) s halt new) asks finished)
+finishes {s} {state = Stopping setup stop} {halt} {new} is sound done asks finished = absurd (true≢false (sym done))
 
 -- nothing is asked
 same_step : (s new : Standing) → Stands s → new ≡ s → Step s new (Asks s.awaited Unasked ∷ []) []
@@ -175,7 +177,7 @@ same_step s new stands same = subst (λ n. Step s n (Asks s.awaited Unasked ∷ 
     sound = stands.sound;
     later = omega arith;
     rest = λ askings end more later is.
-        still_rest (sends_in s.state) s.awaited Unasked askings end more (record { none = λ after. refl; kept = λ after. refl; untold = λ made. refl }) is;
+        still_rest (sends_in s.state) askings end more (record { none = λ after. refl; kept = λ after. refl; untold = λ made. refl }) is;
   };
 })
 
@@ -190,10 +192,10 @@ unasked_step s halt new stands finished =
     unasked_same s halt new stands (subst (λ a. IsFinished (awaits_of a) s halt new) stands.rest finished)
 
 -- a slot that is taken up by what is being sent
-finished_step : (s : Standing) (halt : Outcome) (new : Standing) (done : Bool) → IsSound (sends_in s.state) s.waits s.heard → is_done_in s.state ≡ done
+finished_step : {s : Standing} {halt : Outcome} {new : Standing} {done : Bool} → IsSound (sends_in s.state) s.waits s.heard → is_done_in s.state ≡ done
     → s.awaited ≡ (if done then Halt (sent_in s.state) Done else Nothing) → IsFinished (awaits s) s halt new → Step s new (Asks s.awaited halt ∷ []) []
-finished_step s halt new true sound done asks finished = finishes s s.state halt new refl sound done asks finished
-finished_step s halt new false sound done asks finished = unasked_step s halt new (record { rest = asks; sound = sound }) finished
+finished_step {s} {halt} {new} {done = true} sound done asks finished = finishes refl sound done asks finished
+finished_step {s} {halt} {new} {done = false} sound done asks finished = unasked_step s halt new (record { rest = asks; sound = sound }) finished
 
 pub reply_state : (goes : Bool) (s : Standing) → (if goes then sent_reply s else s).state ≡ (if goes then after_stop s.state else s.state)
 reply_state true s = refl
@@ -212,12 +214,12 @@ reply_awaited true s = refl
 reply_awaited false s = refl
 
 -- bytes of a film were sent, and then what the session asks was answered
-pub then_asked : (a b c : Standing) (asked : Awaited) (outcome : Outcome) (bytes : List ℕ) → On a b [] bytes → Step b c (Asks asked outcome ∷ []) []
+pub then_asked : {a b c : Standing} {asked : Awaited} {outcome : Outcome} {bytes : List ℕ} → On a b [] bytes → Step b c (Asks asked outcome ∷ []) []
     → Step a c (Asks asked outcome ∷ []) bytes
-then_asked a b c asked outcome bytes one two = record {
+then_asked {a} {c} {asked} {outcome} {bytes} one two = record {
   rest = two.rest;
   on = subst (λ bs. On a c (Asks asked outcome ∷ []) bs) (append-nil bytes)
-      (then_on (sends_in a.state) (sends_in b.state) (sends_in c.state) a.heard b.heard c.heard b.waits c.waits [] (Asks asked outcome ∷ []) bytes [] one two.on);
+      (then_on one two.on);
 }
 
 pub sent_on : (old : Standing) (slot : ℕ) → Stands old → is_sending old.state ≡ true → old.heard < slot
@@ -232,19 +234,19 @@ sent_on old slot stands sending later =
     subst (λ st. GoesOn (sends_in old.state) (sends_in st) old.heard s.heard s.waits [] (film_bytes (due_parts old slot))) (sym state)
     (subst (λ h. GoesOn (sends_in old.state) (sends_in (state_after old.waits old.state slot)) old.heard h s.waits [] (film_bytes (due_parts old slot))) (sym heard)
     (subst (λ w. GoesOn (sends_in old.state) (sends_in (state_after old.waits old.state slot)) old.heard slot w [] (film_bytes (due_parts old slot))) (sym waits)
-    (slot_goes old.state old.waits old.heard slot old.text sending stands.sound later)))
+    (slot_goes old.state old.waits old.text sending stands.sound later)))
 
-sent_step : (old : Standing) (slot : ℕ) (halt : Outcome) (new : Standing) → Stands old → is_sending old.state ≡ true → old.heard < slot
+sent_step : {old : Standing} {halt : Outcome} {new : Standing} (slot : ℕ) → Stands old → is_sending old.state ≡ true → old.heard < slot
     → IsFinished (awaits (after_play (sent_slot old slot))) (after_play (sent_slot old slot)) halt new
     → Step old new (Asks (after_play (sent_slot old slot)).awaited halt ∷ []) (film_bytes (due_parts old slot))
-sent_step old slot halt new stands sending later finishing =
+sent_step {old} {halt} {new} slot stands sending later finishing =
     let s : Standing = after_play (sent_slot old slot) in
     let goes : Bool = old.waits && is_between (stepped_in true slot old.state) in
     let asks : s.awaited ≡ (if is_done_in s.state then Halt (sent_in s.state) Done else Nothing) =
     ap (λ a. if is_done_in s.state then Halt (sent_in s.state) Done else a) (reply_awaited goes (sent_due old slot) ∙ stands.rest) in
     let on = sent_on old slot stands sending later in
-    then_asked old s new s.awaited halt (film_bytes (due_parts old slot)) on
-    (finished_step s halt new (is_done_in s.state) on.sound refl asks finishing)
+    then_asked on
+    (finished_step on.sound refl asks finishing)
 
 -- nothing is being sent
 pub idle_sound : (state : State) (waits : Bool) (from to : ℕ) → is_sending state ≡ false → IsSound (sends_in state) waits from → IsSound (sends_in state) waits to
@@ -264,56 +266,56 @@ pub and_left : (a b : Bool) → (a && b) ≡ true → a ≡ true
 and_left true b both = refl
 and_left false b both = both
 
-slot_cases : (old : Standing) (slot : ℕ) (halt : Outcome) (new : Standing) (taken sending : Bool) → Stands old → (taken ≡ true → old.heard < slot)
+slot_cases : {old : Standing} {halt : Outcome} {new : Standing} {taken sending : Bool} (slot : ℕ) → Stands old → (taken ≡ true → old.heard < slot)
     → is_sending old.state ≡ sending
     → let s : Standing = if taken then (if sending then after_play (sent_slot old slot) else record old { heard = slot }) else old in
     IsFinished (awaits s) s halt new
     → Step old new (Asks s.awaited halt ∷ []) (film_bytes (if taken && sending then due_parts old slot else []))
-slot_cases old slot halt new false sending stands later is finishing = unasked_step old halt new stands finishing
-slot_cases old slot halt new true true stands later is finishing = sent_step old slot halt new stands is (later refl) finishing
-slot_cases old slot halt new true false stands later is finishing =
+slot_cases {old} {halt} {new} {taken = false} slot stands later is finishing = unasked_step old halt new stands finishing
+slot_cases {halt} {new} {taken = true} {sending = true} slot stands later is finishing = sent_step slot stands is (later refl) finishing
+slot_cases {old} {halt} {new} {taken = true} {sending = false} slot stands later is finishing =
     let s : Standing = record old { heard = slot } in
     let on : On old s [] [] = idle_on old slot stands is (later refl) in
-    then_asked old s new s.awaited halt [] on (unasked_step s halt new (record { rest = stands.rest; sound = on.sound }) finishing)
+    then_asked on (unasked_step s halt new (record { rest = stands.rest; sound = on.sound }) finishing)
 
 pub slot_step : (old : Standing) (slot : ℕ) (halt : Outcome) (new : Standing) → Stands old → IsFinished (awaits (after_slot old slot)) (after_slot old slot) halt new
     → Step old new (Asks (after_slot old slot).awaited halt ∷ []) (film_bytes (slot_parts old slot))
 slot_step old slot halt new stands finishing =
-    slot_cases old slot halt new (is_taken old slot) (is_sending old.state) stands
+    slot_cases slot stands
     (λ taken. ltb-true old.heard slot (and_left (nat_lt old.heard slot) (nat_le slot (2 ^ 62)) taken)) refl finishing
 
 -- ---- events
 
-comes_step : (old opened : Stage) (event : Doing) (due : List Part) (halt : Outcome) → Comes old event due halt opened → Stands old.session
+comes_step : {halt : Outcome} (old opened : Stage) (event : Doing) (due : List Part) → Comes old event due halt opened → Stands old.session
     → Step old.session opened.session (Asks (asked_by old.session event) halt ∷ []) (film_bytes due)
-comes_step old opened (HeardBytes bytes) due halt comes stands =
+comes_step {halt} old opened (HeardBytes bytes) due comes stands =
     subst (λ ps. Step old.session opened.session (Asks Nothing halt ∷ []) (film_bytes ps)) (sym comes.0)
     (subst (λ h. Step old.session opened.session (Asks Nothing h ∷ []) []) (sym comes.1)
     (subst (λ (s : Stage). Step old.session s.session (Asks Nothing Unasked ∷ []) []) (sym comes.3)
     (subst (λ a. Step old.session old.session (Asks a Unasked ∷ []) []) stands.rest (same_step old.session old.session stands refl))))
-comes_step old opened (HeardSlot slot) due halt comes stands =
+comes_step {halt} old opened (HeardSlot slot) due comes stands =
     subst (λ ps. Step old.session opened.session (Asks (after_slot old.session slot).awaited halt ∷ []) (film_bytes ps)) (sym comes.1.parts_are)
     (slot_step old.session slot halt opened.session stands comes.1.finished)
-comes_step old opened HeardEnd due halt comes stands = absurd comes
-comes_step old opened (Sent byte) due halt comes stands = absurd comes
+comes_step {halt} old opened HeardEnd due comes stands = absurd comes
+comes_step {halt} old opened (Sent byte) due comes stands = absurd comes
 
 pub opened_stands : (old new : Stage) (round : Round) (runs : Runs old round new) → Stands old.session → Stands runs.opened.session
 opened_stands old new round runs stands =
     stands_by old.session runs.opened.session (Asks (asked_by old.session round.event) round.halt ∷ []) (film_bytes round.due)
-    (comes_step old runs.opened round.event round.due round.halt runs.comes stands)
+    (comes_step old runs.opened round.event round.due runs.comes stands)
 
 pub opened_rest : (old new : Stage) (round : Round) (runs : Runs old round new) → Stands old.session → runs.opened.session.awaited ≡ Nothing
-opened_rest old new round runs stands = (comes_step old runs.opened round.event round.due round.halt runs.comes stands).rest
+opened_rest old new round runs stands = (comes_step old runs.opened round.event round.due runs.comes stands).rest
 
 pub round_step : (old new : Stage) (round : Round) (runs : Runs old round new) → Stands old.session
     → Step old.session new.session (round_askings old round new runs) (film_bytes round.due)
 round_step old new round runs stands =
     let made : List Asking = Asks (asked_by old.session round.event) round.halt ∷ [] in
-    let one = comes_step old runs.opened round.event round.due round.halt runs.comes stands in
+    let one = comes_step old runs.opened round.event round.due runs.comes stands in
     let two = takes_step runs.opened new round.takings runs.takes (stands_by old.session runs.opened.session made (film_bytes round.due) one) in
     let more : List Asking = takings_askings runs.opened round.takings new runs.takes in
     subst (λ bs. Step old.session new.session (made ++ more) bs) (append-nil (film_bytes round.due))
-    (step_then old.session runs.opened.session new.session made more (film_bytes round.due) [] one two)
+    (step_then one two)
 
 pub course_step : (old new : Stage) (rounds : List Round) (follows : Follows old rounds new) → Stands old.session
     → Step old.session new.session (askings_of old rounds new follows) (rounds_film rounds)
@@ -322,4 +324,4 @@ course_step old new (round ∷ rounds) follows stands =
     let made : List Asking = round_askings old round follows.0 follows.1.0 in
     let one = round_step old follows.0 round follows.1.0 stands in
     let two = course_step follows.0 new rounds follows.1.1 (stands_by old.session follows.0.session made (film_bytes round.due) one) in
-    step_then old.session follows.0.session new.session made (askings_of follows.0 rounds new follows.1.1) (film_bytes round.due) (rounds_film rounds) one two
+    step_then one two

@@ -100,9 +100,9 @@ spent : (slot : ℕ) (plays : List FilmPlay) (play : FilmPlay) → due_of slot p
 spent slot [] play due small = tt
 spent slot (next ∷ plays) play due small = (due, small)
 
-pub film_over : (p : Pacing) (heard slot keep : ℕ) (plays : List FilmPlay) (more : List ℕ) → IsOnTime p heard → p.sent ≡ keep → heard ≤ slot
+pub film_over : {p : Pacing} {heard slot keep : ℕ} (plays : List FilmPlay) (more : List ℕ) → IsOnTime p heard → p.sent ≡ keep → heard ≤ slot
     → IsFilm slot plays more → IsFilm slot (play_with p keep ∷ plays) (take p.sent (film_in p) ++ more)
-film_over p heard slot keep plays more on sent later is =
+film_over {p} {heard} {slot} {keep} plays more on sent later is =
     let rise : first_slots p.plan (heard + 1 - p.start) ≤ first_slots p.plan (slot + 1 - p.start) =
     first-slots-rise p.plan (heard + 1 - p.start) (slot + 1 - p.start) (omega (arith, later)) in
     let now : min (first_slots p.plan (heard + 1 - p.start)) p.keep ≡ p.sent = due_now p heard on in
@@ -133,9 +133,9 @@ through_time p heard slot on later = record {
   even = refl;
 }
 
-pub through_film : (p : Pacing) (slot end keep : ℕ) (plays : List FilmPlay) (more : List ℕ) → IsPacing p
+pub through_film : {p : Pacing} (slot end keep : ℕ) (plays : List FilmPlay) (more : List ℕ) → IsPacing p
     → IsFilm end (play_with p keep ∷ plays) (take (due_by p slot) (film_in p) ++ more)
     → IsFilm end (play_with p keep ∷ plays) (take p.sent (film_in p) ++ (plan_bytes p p.sent (due_by p slot) ++ more))
-through_film p slot end keep plays more is film =
+through_film {p} slot end keep plays more is film =
     subst (IsFilm end (play_with p keep ∷ plays))
     (ap (λ bs. bs ++ more) (sym (through_sent p slot is)) ∙ append_assoc (take p.sent (film_in p)) (plan_bytes p p.sent (due_by p slot)) more) film

@@ -32,33 +32,34 @@ block-reply b ys s n (inr report) same =
     let P : List Moment → Type 0 = λ l. (steps s (l ++ moments_in ys)).replies ≡ s.replies in (step (Report b) s, subst P report same)
 
 -- pieces before a reply, and none of them a reply, are all the blocks
-all-blocks : (bs later ps : List (List ℕ)) (x : List ℕ) (tail : List (List ℕ)) (m : List ℕ) (s : Sum) → AreOneBlocks bs → AreTexts later
+all-blocks : {bs ps : List (List ℕ)} {m : List ℕ} (later : List (List ℕ)) (x : List ℕ) (tail : List (List ℕ))
+    (s : Sum) → AreOneBlocks bs → AreTexts later
     → moments_of x ≡ Reply m ∷ [] → ps ++ x ∷ tail ≡ bs ++ later → (steps s (moments_in ps)).replies ≡ s.replies → ps ≡ bs
-all-blocks [] later [] x tail m s are texts reply all same = refl
-all-blocks [] [] (y ∷ ys) x tail m s are texts reply all same = absurd (let no : ⊥ = cc in no)
-all-blocks [] (z ∷ zs) (y ∷ ys) x tail m s are texts reply all same =
+all-blocks {bs = []} {ps = []} {m} later x tail s are texts reply all same = refl
+all-blocks {bs = []} {ps = y ∷ ys} {m} [] x tail s are texts reply all same = absurd (let no : ⊥ = cc in no)
+all-blocks {bs = []} {ps = y ∷ ys} {m} (z ∷ zs) x tail s are texts reply all same =
     let first : z ≡ y = cc in
     let P : List ℕ → Type 0 = λ q. moments_of q ≡ Reply q ∷ [] in
     absurd (omega (arith, same, more-reply y ys s (subst P first texts.0.moment)))
-all-blocks (b ∷ bs) later [] x tail m s are texts reply all same =
+all-blocks {bs = b ∷ bs} {ps = []} {m} later x tail s are texts reply all same =
     let first : x ≡ b = cc in absurd (no-reply b x m are.0.moment reply first)
-all-blocks (b ∷ bs) later (y ∷ ys) x tail m s are texts reply all same =
+all-blocks {bs = b ∷ bs} {ps = y ∷ ys} {m} later x tail s are texts reply all same =
     let first : y ≡ b = cc in
     let rest : ys ++ x ∷ tail ≡ bs ++ later = cc in
     let P : List ℕ → Type 0 = λ q. (steps s (moments_in (q ∷ ys))).replies ≡ s.replies in
     let next = block-reply b ys s 0 are.0.moment (subst P first same) in
-    ap (λ q. q ∷ ys) first ∙ ap (λ l. b ∷ l) (all-blocks bs later ys x tail m next.0 are.1 texts reply rest next.1)
+    ap (λ q. q ∷ ys) first ∙ ap (λ l. b ∷ l) (all-blocks later x tail next.0 are.1 texts reply rest next.1)
 
 -- with the two first replies before them
-all-pieces : (x : Stream) (ps : List (List ℕ)) (p : List ℕ) (tail : List (List ℕ)) (m : List ℕ) → moments_of p ≡ Reply m ∷ []
+all-pieces : {ps : List (List ℕ)} {m : List ℕ} (x : Stream) (p : List ℕ) (tail : List (List ℕ)) → moments_of p ≡ Reply m ∷ []
     → all_of x ≡ ps ++ p ∷ tail → (steps no_sum (moments_in ps)).replies ≡ 2 → ps ≡ x.first ∷ x.second ∷ x.blocks
-all-pieces x [] p tail m reply all two = absurd (omega (arith, two))
-all-pieces x (a ∷ []) p tail m reply all two =
+all-pieces {ps = []} {m} x p tail reply all two = absurd (omega (arith, two))
+all-pieces {ps = a ∷ []} {m} x p tail reply all two =
     let first : x.first ≡ a = cc in
     let P : List ℕ → Type 0 = λ q. moments_of q ≡ Reply q ∷ [] in
     let one : steps no_sum (moments_in (a ∷ [])) ≡ steps no_sum (Reply a ∷ []) = ap (λ l. steps no_sum (l ++ [])) (subst P first x.first_is.moment) in
     absurd (omega (arith, two, ap (λ (s : Sum). s.replies) one))
-all-pieces x (a ∷ b ∷ ps) p tail m reply all two =
+all-pieces {ps = a ∷ b ∷ ps} {m} x p tail reply all two =
     let first : x.first ≡ a = cc in
     let second : x.second ≡ b = cc in
     let rest : ps ++ p ∷ tail ≡ x.blocks ++ x.later = cc in
@@ -67,20 +68,21 @@ all-pieces x (a ∷ b ∷ ps) p tail m reply all two =
     subst (λ r. P x.first r) (sym second) (subst (λ q. P q b) (sym first) two) in
     let same : (steps (begun_sum x) (moments_in ps)).replies ≡ 2 = sym (ap (λ (s : Sum). s.replies) (two-moments x ps)) ∙ there in
     ap (λ q. q ∷ b ∷ ps) (sym first) ∙ (ap (λ r. x.first ∷ r ∷ ps) (sym second)
-    ∙ ap (λ l. x.first ∷ x.second ∷ l) (all-blocks x.blocks x.later ps p tail m (begun_sum x) x.blocks_are x.later_are reply rest same))
+    ∙ ap (λ l. x.first ∷ x.second ∷ l) (all-blocks x.later p tail (begun_sum x) x.blocks_are x.later_are reply rest same))
 
-pub done-sum : (x : Stream) (wish : Wish) (watched : Watched) (bytes out : List ℕ) (c : ℕ) (done : IsDone wish watched bytes out)
+pub done-sum : {wish : Wish} {watched : Watched} {bytes out : List ℕ} (x : Stream) (c : ℕ)
+    (done : IsDone wish watched bytes out)
     → bytes ≡ take c (framed_bytes (all_of x)) → sum_of done.at.history ≡ steps (begun_sum x) (moments_in x.blocks)
-done-sum x wish watched bytes out c done is =
+done-sum {out} x c done is =
     let all = all_of x in
     let k = count_ended c all in
     let p = take done.length_ done.at.rest in
-    let front = cut-front all c bytes done.heard.pieces done.at.rest done.length_ x.alone is done.heard.cut done.whole in
+    let front = cut-front all c done.heard.pieces x.alone is done.heard.cut done.whole in
     let tail = front.0 ++ drop k all in
     let whole : all ≡ done.heard.pieces ++ p ∷ tail =
     sym (take-append-drop k all)
     ∙ (ap (λ l. l ++ drop k all) front.1
     ∙ (append_assoc (done.heard.pieces ++ p ∷ []) front.0 (drop k all) ∙ append_assoc done.heard.pieces (p ∷ []) tail)) in
     let two : (steps no_sum (moments_in done.heard.pieces)).replies ≡ 2 = sym (ap (λ (s : Sum). s.replies) done.heard.sum) ∙ done.replies_are in
-    let are = all-pieces x done.heard.pieces p tail done.message done.moment whole two in
+    let are = all-pieces x p tail done.moment whole two in
     done.heard.sum ∙ (ap (λ l. steps no_sum (moments_in l)) are ∙ two-moments x x.blocks)

@@ -82,11 +82,12 @@ pub record IsLed (run : Run) (starts : List ℕ) (unit : PictureUnit) (f : ℕ) 
   pub are : unit_packets starts unit ≡ packet ∷ packets
   pub first_is : first ≡ frame_block run unit packet f
 
-pub first-frame : (run : Run) (f o k : ℕ) (starts : List ℕ) (unit : PictureUnit) (units : List PictureUnit) (s : Sum) → run.identity.channel ≡ 0
+pub first-frame : {run : Run} {f : ℕ} {starts : List ℕ} {unit : PictureUnit} (o k : ℕ) (units : List PictureUnit)
+    (s : Sum) → run.identity.channel ≡ 0
     → run.identity.control ≡ 1 → s.frames ≡ 0
     → let t : Sum = steps s (moments_in (take k (blocks_from run f o (pieces_of starts (unit ∷ units))))) in
     0 < t.frames → IsLed run starts unit f t.first
-first-frame run f o k starts unit units s media control none some =
+first-frame {run} {f} {starts} {unit} o k units s media control none some =
     let there = packets-there starts unit in
     let rest = blocks_from run (frames_after f (unit_pieces starts unit))
     (octets_after o (unit_pieces starts unit)) (pieces_of starts units) in
@@ -114,9 +115,9 @@ min-left : (a b n : ℕ) → n ≤ min a b → n ≤ a
 min-left a b n less = omega (arith, less)
 
 -- a first frame that begins a film tells its rate
-pub time-is : (run : Run) (starts : List ℕ) (unit : PictureUnit) (f rate : ℕ) (first : List ℕ) → IsLaid starts unit → IsLed run starts unit f first
+pub time-is : {run : Run} {starts : List ℕ} {unit : PictureUnit} {f rate : ℕ} {first : List ℕ} → IsLaid starts unit → IsLed run starts unit f first
     → BeginsSequence run.film rate unit.from → begins_film (drop 20 first) ≡ true → time_in first ≡ picture_time rate
-time-is run starts unit f rate first laid led begins good =
+time-is {run} {starts} {unit} {first} laid led begins good =
     let p = led.packet in
     let its : List ℕ = payload run.film p in
     let Q : List ℕ → Type 0 = λ b. begins_film (drop 20 b) ≡ true in

@@ -60,18 +60,18 @@ finished_heard OfferAnswer s halt new is = absurd is
 sent_heard : (old : Standing) (slot : ℕ) → (after_play (sent_slot old slot)).heard ≡ slot
 sent_heard old slot = (reply_left (old.waits && is_between (stepped_in true slot old.state)) (sent_due old slot)).1
 
-slot_cases : (old : Standing) (slot : ℕ) (later small sending : Bool) → (later ≡ true → old.heard < slot) → (later ≡ false → slot ≤ old.heard)
+slot_cases : {later : Bool} (old : Standing) (slot : ℕ) (small sending : Bool) → (later ≡ true → old.heard < slot) → (later ≡ false → slot ≤ old.heard)
     → (if later && small then (if sending then after_play (sent_slot old slot) else record old { heard = slot }) else old).heard
     ≡ max old.heard (if small then slot else 0)
-slot_cases old slot true true true after before = let h : old.heard < slot = after refl in sent_heard old slot ∙ omega (arith, h)
-slot_cases old slot true true false after before = let h : old.heard < slot = after refl in omega (arith, h)
-slot_cases old slot true false sending after before = omega arith
-slot_cases old slot false true sending after before = let h : slot ≤ old.heard = before refl in omega (arith, h)
-slot_cases old slot false false sending after before = omega arith
+slot_cases {later = true} old slot true true after before = let h : old.heard < slot = after refl in sent_heard old slot ∙ omega (arith, h)
+slot_cases {later = true} old slot true false after before = let h : old.heard < slot = after refl in omega (arith, h)
+slot_cases {later = true} old slot false sending after before = omega arith
+slot_cases {later = false} old slot true sending after before = let h : slot ≤ old.heard = before refl in omega (arith, h)
+slot_cases {later = false} old slot false sending after before = omega arith
 
 slotted_heard : (old : Standing) (slot : ℕ) → (after_slot old slot).heard ≡ max old.heard (slot_in (HeardSlot slot))
 slotted_heard old slot =
-    slot_cases old slot (nat_lt old.heard slot) (nat_le slot (2 ^ 62)) (is_sending old.state) (ltb-true old.heard slot) (ltb-false old.heard slot)
+    slot_cases old slot (nat_le slot (2 ^ 62)) (is_sending old.state) (ltb-true old.heard slot) (ltb-false old.heard slot)
 
 pub comes_heard : (old opened : Stage) (event : Doing) (due : List Part) (halt : Outcome) → Comes old event due halt opened
     → opened.session.heard ≡ max old.session.heard (slot_in event)

@@ -42,12 +42,12 @@ same-then a b c one two = record { plays = two.plays ∙ one.plays; open-same = 
 
 from-same : (old mid new : Standing) (turns : List Turn) → IsSame old mid → CarriesOf mid turns new → CarriesOf old turns new
 from-same old mid new turns same on =
-    carries-as old.plays mid.plays new.plays new.plays old.state mid.state new.state new.state turns (sym same.plays) (λ later. sym (same.open-same later)) refl
+    carries-as (sym same.plays) (λ later. sym (same.open-same later)) refl
     (λ later. refl) on
 
 to-same : (old mid new : Standing) (turns : List Turn) → IsSame mid new → CarriesOf old turns mid → CarriesOf old turns new
 to-same old mid new turns same on =
-    carries-as old.plays old.plays new.plays mid.plays old.state old.state new.state mid.state turns refl (λ later. refl) same.plays same.open-same on
+    carries-as refl (λ later. refl) same.plays same.open-same on
 
 -- ---- slots
 stepped-open : (stop : Bool) (slot : ℕ) (state : State) (later : List Turn) → open_note (stepped_in stop slot state) later ≡ open_note state later
@@ -113,7 +113,7 @@ finished-turn : (s new : Standing) (awaited : Awaited) (halt : Outcome) → s.aw
 finished-turn s new Nothing halt asks is = unasked-finished s new halt is
 finished-turn s new (Play prepared) halt asks is = absurd is
 finished-turn s new (Halt keep next) halt asks is =
-    halt-turn s new s keep halt (kept-halt s.state s.awaited keep next asks) is (no-halt-note s.state s.awaited keep next asks)
+    halt-turn s new s keep (kept-halt s.state s.awaited keep next asks) is (no-halt-note s.state asks)
 finished-turn s new (Look sequence) halt asks is = absurd is
 finished-turn s new (Offer sequence) halt asks is = absurd is
 
@@ -145,13 +145,12 @@ takes-turns old new (Answered message outcome parts ∷ takings) takes =
     let sent : CarriesOf old.session (turn ∷ []) (after_reply replied.answered) =
     to-same old.session replied.answered (after_reply replied.answered) (turn ∷ []) (reply-same (can_reply replied.answered) replied.answered) one in
     let C : Stage → Type 0 = λ s. CarriesOf old.session (turn ∷ []) s.session in
-    carries-then old.session.plays takes.0.session.plays new.session.plays old.session.state takes.0.session.state new.session.state (turn ∷ [])
-    (takings_turns takes.0 takings new takes.1.1) (subst C (sym replied.new_is) sent) (takes-turns takes.0 new takings takes.1.1)
+    carries-then
+    (subst C (sym replied.new_is) sent) (takes-turns takes.0 new takings takes.1.1)
 
 round-carries : (old new : Stage) (round : Round) (runs : Runs old round new) → CarriesOf old.session (round_turns old round new runs) new.session
 round-carries old new round runs =
-    carries-then old.session.plays runs.opened.session.plays new.session.plays old.session.state runs.opened.session.state new.session.state
-    (turn_of (asking_at old.session round.event) round.halt ∷ []) (takings_turns runs.opened round.takings new runs.takes)
+    carries-then
     (comes-turn old runs.opened round.event round.due round.halt runs.comes) (takes-turns runs.opened new round.takings runs.takes)
 
 rounds-carry : (old new : Stage) (rounds : List Round) (runs : RunsAll old rounds new) → CarriesOf old.session (rounds_turns old rounds new runs) new.session
@@ -159,8 +158,8 @@ rounds-carry old new [] runs =
     let C : Stage → Type 0 = λ s. CarriesOf old.session [] s.session in
     subst C (sym runs) (carries-none old.session.plays old.session.state)
 rounds-carry old new (round ∷ rounds) runs =
-    carries-then old.session.plays runs.0.session.plays new.session.plays old.session.state runs.0.session.state new.session.state
-    (round_turns old round runs.0 runs.1.0) (rounds_turns runs.0 rounds new runs.1.2) (round-carries old runs.0 round runs.1.0)
+    carries-then
+    (round-carries old runs.0 round runs.1.0)
     (rounds-carry runs.0 new rounds runs.1.2)
 
 -- a play that a failed send leaves as it was
@@ -207,8 +206,8 @@ ending-carries old new count (InReply round message outcome front) end ends =
     let turn = turn_of failed.heard.asking outcome in
     let last : CarriesOf e.mid.session (turn ∷ []) failed.answered = heard-on e.mid.session failed.answered message outcome failed.heard in
     let C : Stage → Type 0 = λ s. CarriesOf e.mid.session (turn ∷ []) s.session in
-    carries-then old.session.plays e.mid.session.plays new.session.plays old.session.state e.mid.session.state new.session.state
-    (round_turns old round e.mid e.runs) (turn ∷ []) (round-carries old e.mid round e.runs) (subst C (sym failed.new_is) last)
+    carries-then
+    (round-carries old e.mid round e.runs) (subst C (sym failed.new_is) last)
 
 -- ---- between doings nothing is awaited
 stands-all : (old new : Stage) (rounds : List Round) → RunsAll old rounds new → Stands old.session → Stands new.session
@@ -252,27 +251,27 @@ shut-none last closed (Entered placed) none closes = absurd closes
 shut-none last closed (WasFull more entries live) none closes = absurd closes
 shut-none last closed (Offered at_slot note) none closes = absurd closes
 
-shut-halted : (last closed : Standing) (keep : ℕ) (halt : Outcome) → IsKept last.state last.awaited keep → last.awaited ≡ Nothing → IsHalted last keep halt closed
+shut-halted : {last closed : Standing} {halt : Outcome} (keep : ℕ) → IsKept last.state last.awaited keep → last.awaited ≡ Nothing → IsHalted last keep halt closed
     → IsShut last closed halt
-shut-halted last closed keep Unasked kept rest halted = absurd halted
-shut-halted last closed keep (Entered placed) kept rest halted = record {
-  on = halt-turn last closed last keep (Entered placed) kept halted
+shut-halted {last} {closed} {halt = Unasked} keep kept rest halted = absurd halted
+shut-halted {last} {closed} {halt = Entered placed} keep kept rest halted = record {
+  on = halt-turn last closed last keep kept halted
       (λ made later. no-note last.state last.awaited made later (λ prepared asks. let no : Nothing ≡ Play prepared = sym rest ∙ asks in cc no));
   none = λ later. ap (λ (s : Standing). open_note s.state later) halted.halts ∙ halted-open last.state last.awaited later;
 }
-shut-halted last closed keep (WasFull more entries live) kept rest halted = absurd halted
-shut-halted last closed keep (Offered at_slot note) kept rest halted = absurd halted
+shut-halted {last} {closed} {halt = WasFull more entries live} keep kept rest halted = absurd halted
+shut-halted {last} {closed} {halt = Offered at_slot note} keep kept rest halted = absurd halted
 
-shut-in : (state : State) (last closed : Standing) (halt : Outcome) → last.state ≡ state → last.awaited ≡ Nothing → IsClosed (open_in state) last halt closed
+shut-in : {state : State} {last closed : Standing} {halt : Outcome} → last.state ≡ state → last.awaited ≡ Nothing → IsClosed (open_in state) last halt closed
     → IsShut last closed halt
-shut-in Init last closed halt is rest closes = shut-none last closed halt (λ later. ap (λ s. open_note s later) is) closes
-shut-in (Ready setup paused) last closed halt is rest closes = shut-none last closed halt (λ later. ap (λ s. open_note s later) is) closes
-shut-in (Playing setup play) last closed halt is rest closes =
+shut-in {state = Init} {last} {closed} {halt} is rest closes = shut-none last closed halt (λ later. ap (λ s. open_note s later) is) closes
+shut-in {state = Ready setup paused} {last} {closed} {halt} is rest closes = shut-none last closed halt (λ later. ap (λ s. open_note s later) is) closes
+shut-in {state = Playing setup play} {last} {closed} {halt} is rest closes =
     let K : State → Awaited → Type 0 = λ s a. IsKept s a play.pacer.due in
     let kept : IsKept last.state last.awaited play.pacer.due =
     subst (λ s. K s last.awaited) (sym is) (subst (K (Playing setup play)) (sym rest) refl) in
-    shut-halted last closed play.pacer.due halt kept rest closes
-shut-in (Stopping setup stop) last closed halt is rest closes = shut-none last closed halt (λ later. ap (λ s. open_note s later) is) closes
+    shut-halted play.pacer.due kept rest closes
+shut-in {state = Stopping setup stop} {last} {closed} {halt} is rest closes = shut-none last closed halt (λ later. ap (λ s. open_note s later) is) closes
 
 -- ---- all notes
 until-none : (turns : List Turn) → notes_until turns [] ≡ notes_of turns
@@ -288,16 +287,16 @@ plays-noted films settings words doings report done =
     let begun : Stands first.session = record { rest = refl; sound = tt } in
     let mid = stands-all first done.mid doings.rounds done.runs begun in
     let rest = ending-rest done.mid done.last count doings.ending report.end done.ends mid in
-    let shut = shut-in done.last.session.state done.last.session done.closed doings.halt refl rest done.closes in
+    let shut = shut-in refl rest done.closes in
     let heard = rounds_turns first doings.rounds done.mid done.runs in
     let ended = ending_turns done.mid count doings.ending report.end done.last done.ends in
     let turns = turns_of films settings words doings report done in
     let before : CarriesOf first.session (heard ++ ended) done.last.session =
-    carries-then first.session.plays done.mid.session.plays done.last.session.plays first.session.state done.mid.session.state done.last.session.state heard ended
+    carries-then
     (rounds-carry first done.mid doings.rounds done.runs) (ending-carries done.mid done.last count doings.ending report.end done.ends) in
     let all : CarriesOf first.session turns done.closed =
-    carries-then first.session.plays done.last.session.plays done.closed.plays first.session.state done.last.session.state done.closed.state (heard ++ ended)
-    (turn_of done.last.session doings.halt ∷ []) before shut.on in
+    carries-then
+    before shut.on in
     done.report_is.plays ∙ sym (append-nil done.closed.plays) ∙ ap (λ ns. done.closed.plays ++ ns) (sym (shut.none [])) ∙ sym (all.on []) ∙ until-none turns
 
 -- ---- the answers of turns are those of the doings

@@ -62,8 +62,8 @@ until-append (t ∷ ts) us later =
     ∙ ap (λ ns. notes_of_turns t.asking t.outcome (ts ++ (us ++ later)) ++ ns) (until-append ts us later)
     ∙ sym (append_assoc (notes_of_turns t.asking t.outcome (ts ++ (us ++ later))) (notes_until ts (us ++ later)) (notes_until us later))
 
-pub carries-then : (p q r : List PlayNote) (a b c : State) (ts us : List Turn) → Carries p a ts q b → Carries q b us r c → Carries p a (ts ++ us) r c
-carries-then p q r a b c ts us one two = record {
+pub carries-then : {p q r : List PlayNote} {a b c : State} {ts us : List Turn} → Carries p a ts q b → Carries q b us r c → Carries p a (ts ++ us) r c
+carries-then {p} {r} {a} {c} {ts} {us} one two = record {
   on = λ later.
       ap (λ ns. (p ++ open_note a ns) ++ notes_until (ts ++ us) later) (append_assoc ts us later)
       ∙ ap (λ ns. (p ++ open_note a (ts ++ (us ++ later))) ++ ns) (until-append ts us later)
@@ -72,9 +72,9 @@ carries-then p q r a b c ts us one two = record {
 }
 
 -- the same notes, and the same play under way
-pub carries-as : (p q r s : List PlayNote) (a b c d : State) (ts : List Turn) → p ≡ q → ((later : List Turn) → open_note a later ≡ open_note b later)
+pub carries-as : {p q r s : List PlayNote} {a b c d : State} {ts : List Turn} → p ≡ q → ((later : List Turn) → open_note a later ≡ open_note b later)
     → r ≡ s → ((later : List Turn) → open_note c later ≡ open_note d later) → Carries q b ts s d → Carries p a ts r c
-carries-as p q r s a b c d ts plays state next after on = record {
+carries-as {p} {q} {r} {s} {a} {c} {ts} plays state next after on = record {
   on = λ later.
       ap (λ ns. (ns ++ open_note a (ts ++ later)) ++ notes_until ts later) plays
       ∙ ap (λ ns. (q ++ ns) ++ notes_until ts later) (state (ts ++ later)) ∙ on.on later
@@ -131,19 +131,19 @@ IsKept (Ready setup paused) awaited keep = Unit {0}
 IsKept (Playing setup play) awaited keep = kept_of awaited play.pacer.due ≡ keep
 IsKept (Stopping setup stop) awaited keep = Unit {0}
 
-halted-as : (state : State) (awaited : Awaited) (keep : ℕ) (turn : Turn) (later : List Turn) → IsKept state awaited keep → ((k : ℕ) → kept_with turn.outcome k ≡ keep)
+halted-as : {keep : ℕ} (state : State) (awaited : Awaited) (turn : Turn) (later : List Turn) → IsKept state awaited keep → ((k : ℕ) → kept_with turn.outcome k ≡ keep)
     → open_note state (turn ∷ later) ≡ halted_notes state awaited
-halted-as Init awaited keep turn later is kept = refl
-halted-as (Ready setup paused) awaited keep turn later is kept = refl
-halted-as (Playing setup play) awaited keep turn later is kept =
+halted-as Init awaited turn later is kept = refl
+halted-as (Ready setup paused) awaited turn later is kept = refl
+halted-as (Playing setup play) awaited turn later is kept =
     ap (λ k. note_of setup play k ∷ []) (kept (kept_later later (total_bytes play.plan)) ∙ sym is)
-halted-as (Stopping setup stop) awaited keep turn later is kept = refl
+halted-as (Stopping setup stop) awaited turn later is kept = refl
 
-pub halt-turn : (s new asking : Standing) (keep : ℕ) (halt : Outcome) → IsKept s.state s.awaited keep → IsHalted s keep halt new
+pub halt-turn : {halt : Outcome} (s new asking : Standing) (keep : ℕ) → IsKept s.state s.awaited keep → IsHalted s keep halt new
     → ((placed : Placed) (later : List Turn) → noted_entry asking.state asking.awaited placed later ≡ [])
     → Carries s.plays s.state (turn_of asking halt ∷ []) new.plays new.state
-halt-turn s new asking keep Unasked kept halted none = absurd halted
-halt-turn s new asking keep (Entered placed) kept halted none =
+halt-turn {halt = Unasked} s new asking keep kept halted none = absurd halted
+halt-turn {halt = Entered placed} s new asking keep kept halted none =
     let turn = turn_of asking (Entered placed) in
     let is : new ≡ after_halt s placed.place = halted.halts in
     let plays : new.plays ≡ s.plays ++ halted_notes s.state s.awaited = ap (λ (n : Standing). n.plays) is in
@@ -152,55 +152,58 @@ halt-turn s new asking keep (Entered placed) kept halted none =
       on = λ later.
           ap (λ ns. (s.plays ++ open_note s.state (turn ∷ later)) ++ (ns ++ [])) (none placed later)
           ∙ append-nil (s.plays ++ open_note s.state (turn ∷ later))
-          ∙ ap (λ ns. s.plays ++ ns) (halted-as s.state s.awaited keep turn later kept (λ k. ap (λ c. kept_by c k) halted.command))
+          ∙ ap (λ ns. s.plays ++ ns) (halted-as s.state s.awaited turn later kept (λ k. ap (λ c. kept_by c k) halted.command))
           ∙ sym (append-nil (s.plays ++ halted_notes s.state s.awaited))
           ∙ ap (λ ns. (s.plays ++ halted_notes s.state s.awaited) ++ ns) (sym (ap (λ x. open_note x later) state ∙ halted-open s.state s.awaited later))
           ∙ ap (λ ns. ns ++ open_note new.state later) (sym plays);
     }
-halt-turn s new asking keep (WasFull more entries live) kept halted none = absurd halted
-halt-turn s new asking keep (Offered at_slot note) kept halted none = absurd halted
+halt-turn {halt = WasFull more entries live} s new asking keep kept halted none = absurd halted
+halt-turn {halt = Offered at_slot note} s new asking keep kept halted none = absurd halted
 
 -- ---- a request
 abbrev CarriesOn : Standing → Standing → Outcome → Standing → Type 0
 CarriesOn old asking outcome new = Carries old.plays old.state (turn_of asking outcome ∷ []) new.plays new.state
 
-stays-on : (old asking new : Standing) (outcome : Outcome) → new.plays ≡ old.plays → new.state ≡ old.state → ((later : List Turn) → notes_of_turns asking outcome later ≡ [])
+stays-on : {asking : Standing} {outcome : Outcome} (old new : Standing) → new.plays ≡ old.plays → new.state ≡ old.state → ((later : List Turn) → notes_of_turns asking outcome later ≡ [])
     → ((k : ℕ) → kept_with outcome k ≡ k) → CarriesOn old asking outcome new
-stays-on old asking new outcome plays state none kept =
-    carries-as old.plays old.plays new.plays old.plays old.state old.state new.state old.state (turn_of asking outcome ∷ []) refl (λ later. refl) plays
+stays-on {asking} {outcome} old new plays state none kept =
+    carries-as refl (λ later. refl) plays
     (λ later. ap (λ s. open_note s later) state) (still-turn old.plays old.state asking outcome none kept)
 
 -- the session's own reply
-replied-on : (old asking new : Standing) (outcome : Outcome) → IsAnswered asking AskReply outcome new → asking.plays ≡ old.plays
+replied-on : {asking : Standing} {outcome : Outcome} (old new : Standing) → IsAnswered asking AskReply outcome new → asking.plays ≡ old.plays
     → ((later : List Turn) → open_note asking.state later ≡ open_note old.state later) → CarriesOn old asking outcome new
-replied-on old asking new Unasked answered plays state =
-    carries-as old.plays old.plays new.plays old.plays old.state old.state new.state old.state (turn_of asking Unasked ∷ []) refl (λ later. refl)
+replied-on {asking} {outcome = Unasked} old new answered plays state =
+    carries-as refl (λ later. refl)
     (ap (λ (s : Standing). s.plays) answered ∙ plays) (λ later. ap (λ (s : Standing). open_note s.state later) answered ∙ state later) (unasked-turn old.plays old.state asking)
-replied-on old asking new (Entered placed) answered plays state = absurd answered
-replied-on old asking new (WasFull more entries live) answered plays state = absurd answered
-replied-on old asking new (Offered at_slot note) answered plays state = absurd answered
+replied-on {outcome = Entered placed} old new answered plays state = absurd answered
+replied-on {outcome = WasFull more entries live} old new answered plays state = absurd answered
+replied-on {outcome = Offered at_slot note} old new answered plays state = absurd answered
 
 -- a play that begins
-begun-state : (state : State) (awaited : Awaited) (setup : Setup) (paused : Option Run) (prepared : Prepared) (place start : ℕ) (later : List Turn)
+begun-state : {state : State} {awaited : Awaited} {setup : Setup} {paused : Option Run} {prepared : Prepared}
+    (place start : ℕ) (later : List Turn)
     → state ≡ Ready setup paused → awaited ≡ Play prepared
     → open_note (admitted_in state awaited place start) later
     ≡ note_for setup prepared.run place (whole_play start prepared.plan) (kept_later later (total_bytes prepared.plan)) ∷ []
-begun-state state awaited setup paused prepared place start later ready asks =
+begun-state {awaited} {setup} {paused} place start later ready asks =
     ap (λ s. open_note (admitted_in s awaited place start) later) ready
     ∙ ap (λ a. open_note (admitted_in (Ready setup paused) a place start) later) asks
 
-begun-note : (asking : Standing) (setup : Setup) (paused : Option Run) (prepared : Prepared) (placed : Placed) (answer : Answer) (later : List Turn)
+begun-note : {setup : Setup} {paused : Option Run} {prepared : Prepared} {answer : Answer} (asking : Standing)
+    (placed : Placed) (later : List Turn)
     → asking.state ≡ Ready setup paused → asking.awaited ≡ Play prepared → placed.entry.command ≡ play_of asking.heard prepared.plan → placed.entry.answer ≡ answer
     → notes_of_turns asking (Entered placed) later ≡ noted_for setup prepared.run placed.place (play_admitted (play_of asking.heard prepared.plan) answer) later
-begun-note asking setup paused prepared placed answer later ready asks command is =
+begun-note {setup} {paused} {prepared} asking placed later ready asks command is =
     ap (λ s. noted_entry s asking.awaited placed later) ready ∙ ap (λ a. noted_entry (Ready setup paused) a placed later) asks
     ∙ ap (λ c. noted_for setup prepared.run placed.place (play_admitted c placed.entry.answer) later) command
     ∙ ap (λ a. noted_for setup prepared.run placed.place (play_admitted (play_of asking.heard prepared.plan) a) later) is
 
-play-on : (old asking new : Standing) (setup : Setup) (paused : Option Run) (prepared : Prepared) (placed : Placed) (answer : Answer) → placed.entry.answer ≡ answer
+play-on : {asking : Standing} {setup : Setup} {paused : Option Run} {prepared : Prepared} {placed : Placed}
+    {answer : Answer} (old new : Standing) → placed.entry.answer ≡ answer
     → placed.entry.command ≡ play_of asking.heard prepared.plan → IsPlayAnswered asking placed answer new → old.state ≡ Ready setup paused → asking.state ≡ old.state
     → asking.plays ≡ old.plays → asking.awaited ≡ Play prepared → CarriesOn old asking (Entered placed) new
-play-on old asking new setup paused prepared placed (Admitted start) is command answered ready state plays awaited =
+play-on {asking} {setup} {paused} {prepared} {placed} {answer = Admitted start} old new is command answered ready state plays awaited =
     let there : asking.state ≡ Ready setup paused = state ∙ ready in
     let note : List Turn → PlayNote = λ later. note_for setup prepared.run placed.place (whole_play start prepared.plan) (kept_later later (total_bytes prepared.plan)) in
     let new-plays : new.plays ≡ old.plays = ap (λ (s : Standing). s.plays) answered.1 ∙ plays in
@@ -210,101 +213,103 @@ play-on old asking new setup paused prepared placed (Admitted start) is command 
           ap (λ s. (old.plays ++ open_note s (turn_of asking (Entered placed) ∷ later)) ++ (notes_of_turns asking (Entered placed) later ++ [])) ready
           ∙ ap (λ ns. ns ++ (notes_of_turns asking (Entered placed) later ++ [])) (append-nil old.plays)
           ∙ ap (λ ns. old.plays ++ ns) (append-nil (notes_of_turns asking (Entered placed) later)
-          ∙ begun-note asking setup paused prepared placed (Admitted start) later there awaited command is)
+          ∙ begun-note asking placed later there awaited command is)
           ∙ ap (λ ns. old.plays ++ ns) (sym (ap (λ s. open_note s later) new-state
-          ∙ begun-state asking.state asking.awaited setup paused prepared placed.place start later there awaited))
+          ∙ begun-state placed.place start later there awaited))
           ∙ ap (λ ns. ns ++ open_note new.state later) (sym new-plays);
     }
-play-on old asking new setup paused prepared placed (Overflow slot booked asks) is command answered ready state plays awaited =
-    stays-on old asking new (Entered placed) (ap (λ (s : Standing). s.plays) answered ∙ plays) (ap (λ (s : Standing). s.state) answered ∙ state)
-    (λ later. begun-note asking setup paused prepared placed (Overflow slot booked asks) later (state ∙ ready) awaited command is)
+play-on {asking} {placed} {answer = Overflow slot booked asks} old new is command answered ready state plays awaited =
+    stays-on old new (ap (λ (s : Standing). s.plays) answered ∙ plays) (ap (λ (s : Standing). s.state) answered ∙ state)
+    (λ later. begun-note asking placed later (state ∙ ready) awaited command is)
     (λ k. ap (λ c. kept_by c k) command)
-play-on old asking new setup paused prepared placed Halted is command answered ready state plays awaited = absurd answered
-play-on old asking new setup paused prepared placed (Looked now at booked) is command answered ready state plays awaited = absurd answered
+play-on {answer = Halted} old new is command answered ready state plays awaited = absurd answered
+play-on {answer = Looked now at booked} old new is command answered ready state plays awaited = absurd answered
 
-asks-play : (old asking new : Standing) (setup : Setup) (paused : Option Run) (prepared : Prepared) (outcome : Outcome)
+asks-play : {asking : Standing} {setup : Setup} {paused : Option Run} {prepared : Prepared} {outcome : Outcome}
+    (old new : Standing)
     → IsAnswered asking (AskPlay prepared.plan) outcome new → old.state ≡ Ready setup paused → asking.state ≡ old.state
     → asking.plays ≡ old.plays → asking.awaited ≡ Play prepared → CarriesOn old asking outcome new
-asks-play old asking new setup paused prepared Unasked answered ready state plays awaited = absurd answered
-asks-play old asking new setup paused prepared (Entered placed) answered ready state plays awaited =
-    play-on old asking new setup paused prepared placed placed.entry.answer refl answered.0 answered.1 ready state plays awaited
-asks-play old asking new setup paused prepared (WasFull more entries live) answered ready state plays awaited =
-    stays-on old asking new (WasFull more entries live) (ap (λ (s : Standing). s.plays) answered.0 ∙ plays) (ap (λ (s : Standing). s.state) answered.0 ∙ state)
+asks-play {outcome = Unasked} old new answered ready state plays awaited = absurd answered
+asks-play {outcome = Entered placed} old new answered ready state plays awaited =
+    play-on old new refl answered.0 answered.1 ready state plays awaited
+asks-play {outcome = WasFull more entries live} old new answered ready state plays awaited =
+    stays-on old new (ap (λ (s : Standing). s.plays) answered.0 ∙ plays) (ap (λ (s : Standing). s.state) answered.0 ∙ state)
     (λ later. refl) (λ k. refl)
-asks-play old asking new setup paused prepared (Offered at_slot note) answered ready state plays awaited = absurd answered
+asks-play {outcome = Offered at_slot note} old new answered ready state plays awaited = absurd answered
 
 -- a look
 no-play : (sequence : ℕ) (awaited : Awaited) → awaited ≡ Look sequence → (prepared : Prepared) → awaited ≡ Play prepared → ⊥
 no-play sequence awaited looks prepared asks = let no : Look sequence ≡ Play prepared = sym looks ∙ asks in cc no
 
-look-on : (old asking new : Standing) (placed : Placed) (answer : Answer) (sequence slot : ℕ) → placed.entry.command ≡ look_at slot
+look-on : {asking : Standing} {placed : Placed} {sequence : ℕ} (old new : Standing) (answer : Answer) (slot : ℕ) → placed.entry.command ≡ look_at slot
     → IsLookAnswered asking placed answer new → asking.state ≡ old.state → asking.plays ≡ old.plays → asking.awaited ≡ Look sequence
     → CarriesOn old asking (Entered placed) new
-look-on old asking new placed (Looked now at booked) sequence slot command answered state plays awaited =
-    stays-on old asking new (Entered placed) (ap (λ (s : Standing). s.plays) answered ∙ plays) (ap (λ (s : Standing). s.state) answered ∙ state)
+look-on {asking} {placed} {sequence} old new (Looked now at booked) slot command answered state plays awaited =
+    stays-on old new (ap (λ (s : Standing). s.plays) answered ∙ plays) (ap (λ (s : Standing). s.state) answered ∙ state)
     (λ later. no-note asking.state asking.awaited placed later (no-play sequence asking.awaited awaited)) (λ k. ap (λ c. kept_by c k) command)
-look-on old asking new placed (Admitted start) sequence slot command answered state plays awaited = absurd answered
-look-on old asking new placed (Overflow over booked asks) sequence slot command answered state plays awaited = absurd answered
-look-on old asking new placed Halted sequence slot command answered state plays awaited = absurd answered
+look-on old new (Admitted start) slot command answered state plays awaited = absurd answered
+look-on old new (Overflow over booked asks) slot command answered state plays awaited = absurd answered
+look-on old new Halted slot command answered state plays awaited = absurd answered
 
-asks-look : (old asking new : Standing) (slot sequence : ℕ) (outcome : Outcome) → IsAnswered asking (AskLook slot) outcome new → asking.state ≡ old.state
+asks-look : {asking : Standing} {sequence : ℕ} {outcome : Outcome} (old new : Standing) (slot : ℕ) → IsAnswered asking (AskLook slot) outcome new → asking.state ≡ old.state
     → asking.plays ≡ old.plays → asking.awaited ≡ Look sequence → CarriesOn old asking outcome new
-asks-look old asking new slot sequence Unasked answered state plays awaited = absurd answered
-asks-look old asking new slot sequence (Entered placed) answered state plays awaited =
-    look-on old asking new placed placed.entry.answer sequence slot answered.0 answered.1 state plays awaited
-asks-look old asking new slot sequence (WasFull more entries live) answered state plays awaited =
-    stays-on old asking new (WasFull more entries live) (ap (λ (s : Standing). s.plays) answered.0 ∙ plays) (ap (λ (s : Standing). s.state) answered.0 ∙ state)
+asks-look {outcome = Unasked} old new slot answered state plays awaited = absurd answered
+asks-look {outcome = Entered placed} old new slot answered state plays awaited =
+    look-on old new placed.entry.answer slot answered.0 answered.1 state plays awaited
+asks-look {outcome = WasFull more entries live} old new slot answered state plays awaited =
+    stays-on old new (ap (λ (s : Standing). s.plays) answered.0 ∙ plays) (ap (λ (s : Standing). s.state) answered.0 ∙ state)
     (λ later. refl) (λ k. refl)
-asks-look old asking new slot sequence (Offered at_slot note) answered state plays awaited = absurd answered
+asks-look {outcome = Offered at_slot note} old new slot answered state plays awaited = absurd answered
 
-asks-offer : (old asking new : Standing) (plan : List Segment) (offers : Found) (outcome : Outcome) → IsAnswered asking (AskOffer plan offers) outcome new
+asks-offer : {asking : Standing} {outcome : Outcome} (old new : Standing) (plan : List Segment) (offers : Found) → IsAnswered asking (AskOffer plan offers) outcome new
     → asking.state ≡ old.state → asking.plays ≡ old.plays → CarriesOn old asking outcome new
-asks-offer old asking new plan offers Unasked answered state plays = absurd answered
-asks-offer old asking new plan offers (Entered placed) answered state plays = absurd answered
-asks-offer old asking new plan offers (WasFull more entries live) answered state plays = absurd answered
-asks-offer old asking new plan offers (Offered at_slot note) answered state plays =
-    stays-on old asking new (Offered at_slot note) (ap (λ (s : Standing). s.plays) answered.2 ∙ plays) (ap (λ (s : Standing). s.state) answered.2 ∙ state)
+asks-offer {outcome = Unasked} old new plan offers answered state plays = absurd answered
+asks-offer {outcome = Entered placed} old new plan offers answered state plays = absurd answered
+asks-offer {outcome = WasFull more entries live} old new plan offers answered state plays = absurd answered
+asks-offer {outcome = Offered at_slot note} old new plan offers answered state plays =
+    stays-on old new (ap (λ (s : Standing). s.plays) answered.2 ∙ plays) (ap (λ (s : Standing). s.state) answered.2 ∙ state)
     (λ later. refl) (λ k. refl)
 
 -- a halt that a request asks for
-pub no-halt-note : (state : State) (awaited : Awaited) (keep : ℕ) (next : Next) → awaited ≡ Halt keep next → (placed : Placed) (later : List Turn)
+pub no-halt-note : {awaited : Awaited} {keep : ℕ} {next : Next} (state : State) → awaited ≡ Halt keep next → (placed : Placed) (later : List Turn)
     → noted_entry state awaited placed later ≡ []
-no-halt-note state awaited keep next halts placed later =
+no-halt-note {awaited} {keep} {next} state halts placed later =
     no-note state awaited placed later (λ prepared asks. let no : Halt keep next ≡ Play prepared = sym halts ∙ asks in cc no)
 
-asks-halt : (old asking new : Standing) (setup : Setup) (play : Played) (keep : ℕ) (next : Next) (outcome : Outcome) → IsHalted asking keep outcome new
+asks-halt : {asking : Standing} {setup : Setup} {play : Played} {keep : ℕ} {next : Next} {outcome : Outcome}
+    (old new : Standing) → IsHalted asking keep outcome new
     → old.state ≡ Playing setup play → asking.state ≡ Playing setup (record play { pacer = record play.pacer { keep = keep } }) → asking.plays ≡ old.plays
     → asking.awaited ≡ Halt keep next → CarriesOn old asking outcome new
-asks-halt old asking new setup play keep next outcome halted playing state plays awaited =
+asks-halt {asking} {setup} {play} {keep} {next} old new halted playing state plays awaited =
     let stopped : Played = record play { pacer = record play.pacer { keep = keep } } in
     let K : State → Awaited → Type 0 = λ s a. IsKept s a keep in
     let kept : IsKept asking.state asking.awaited keep =
     subst (λ s. K s asking.awaited) (sym state) (subst (K (Playing setup stopped)) (sym awaited) refl) in
-    carries-as old.plays asking.plays new.plays new.plays old.state asking.state new.state new.state (turn_of asking outcome ∷ []) (sym plays)
+    carries-as (sym plays)
     (λ later. ap (λ s. open_note s later) playing ∙ sym (ap (λ s. open_note s later) state)) refl (λ later. refl)
-    (halt-turn asking new asking keep outcome kept halted (no-halt-note asking.state asking.awaited keep next awaited))
+    (halt-turn asking new asking keep kept halted (no-halt-note asking.state awaited))
 
 -- by what was asked
-answered-on : (old asking new : Standing) (ask : Ask) (outcome : Outcome) → IsAnswered asking ask outcome new → HearsAs old ask asking → CarriesOn old asking outcome new
-answered-on old asking new ask outcome answered (Replies text tearing ask_is is) =
-    replied-on old asking new outcome (subst (λ a. IsAnswered asking a outcome new) ask_is answered) (ap (λ (s : Standing). s.plays) is)
+answered-on : {old asking : Standing} {ask : Ask} {outcome : Outcome} (new : Standing) → IsAnswered asking ask outcome new → HearsAs old ask asking → CarriesOn old asking outcome new
+answered-on {old} {asking} {ask} {outcome} new answered (Replies text tearing ask_is is) =
+    replied-on old new (subst (λ a. IsAnswered asking a outcome new) ask_is answered) (ap (λ (s : Standing). s.plays) is)
     (λ later. ap (λ (s : Standing). open_note s.state later) is)
-answered-on old asking new ask outcome answered (SetsUp text setup init ask_is is) =
-    replied-on old asking new outcome (subst (λ a. IsAnswered asking a outcome new) ask_is answered) (ap (λ (s : Standing). s.plays) is)
+answered-on {old} {asking} {ask} {outcome} new answered (SetsUp text setup init ask_is is) =
+    replied-on old new (subst (λ a. IsAnswered asking a outcome new) ask_is answered) (ap (λ (s : Standing). s.plays) is)
     (λ later. ap (λ (s : Standing). open_note s.state later) is ∙ sym (ap (λ s. open_note s later) init))
-answered-on old asking new ask outcome answered (AsksPlay setup paused prepared text ready ask_is is) =
-    asks-play old asking new setup paused prepared outcome (subst (λ a. IsAnswered asking a outcome new) ask_is answered) ready
+answered-on {old} {asking} {ask} {outcome} new answered (AsksPlay setup paused prepared text ready ask_is is) =
+    asks-play old new (subst (λ a. IsAnswered asking a outcome new) ask_is answered) ready
     (ap (λ (s : Standing). s.state) is) (ap (λ (s : Standing). s.plays) is) (ap (λ (s : Standing). s.awaited) is)
-answered-on old asking new ask outcome answered (Stops setup play keep next text playing told keep_is ask_is is) =
-    asks-halt old asking new setup play keep next outcome (subst (λ a. IsAnswered asking a outcome new) ask_is answered) playing
+answered-on {old} {asking} {ask} {outcome} new answered (Stops setup play keep next text playing told keep_is ask_is is) =
+    asks-halt old new (subst (λ a. IsAnswered asking a outcome new) ask_is answered) playing
     (ap (λ (s : Standing). s.state) is) (ap (λ (s : Standing). s.plays) is) (ap (λ (s : Standing). s.awaited) is)
-answered-on old asking new ask outcome answered (AsksLook looks sequence ask_is is) =
-    asks-look old asking new old.heard sequence outcome (subst (λ a. IsAnswered asking a outcome new) ask_is answered)
+answered-on {old} {asking} {ask} {outcome} new answered (AsksLook looks sequence ask_is is) =
+    asks-look old new old.heard (subst (λ a. IsAnswered asking a outcome new) ask_is answered)
     (ap (λ (s : Standing). s.state) is) (ap (λ (s : Standing). s.plays) is) (ap (λ (s : Standing). s.awaited) is)
-answered-on old asking new ask outcome answered (AsksOffer plan offers sequence ask_is is) =
-    asks-offer old asking new plan offers outcome (subst (λ a. IsAnswered asking a outcome new) ask_is answered)
+answered-on {old} {asking} {ask} {outcome} new answered (AsksOffer plan offers sequence ask_is is) =
+    asks-offer old new plan offers (subst (λ a. IsAnswered asking a outcome new) ask_is answered)
     (ap (λ (s : Standing). s.state) is) (ap (λ (s : Standing). s.plays) is)
 
 pub heard-on : (old new : Standing) (message : List ℕ) (outcome : Outcome) (heard : HasHeard old message outcome new)
     → Carries old.plays old.state (turn_of heard.asking outcome ∷ []) new.plays new.state
-heard-on old new message outcome heard = answered-on old heard.asking new heard.ask outcome heard.answered (hears_as old message heard.ask heard.asking heard.hears)
+heard-on old new message outcome heard = answered-on new heard.answered (hears_as old message heard.ask heard.asking heard.hears)

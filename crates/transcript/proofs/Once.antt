@@ -20,21 +20,21 @@ use Rattle.transcript.specs.Cuttings.{AreSameAnswers, Hearing, LackAlike, LacksM
 abbrev pub hearing : Standing → List ℕ → Ask → Standing → Hearing
 hearing session message ask asking = record { session = session; message = message; ask = ask; asking = asking }
 
-lacks_once : (old one other : Standing) (message : List ℕ) (ask again : Ask) → LacksMemory (hearing old message ask one)
+lacks_once : {one other : Standing} {ask again : Ask} (old : Standing) (message : List ℕ) → LacksMemory (hearing old message ask one)
     → LacksMemory (hearing old message again other) → (again ≡ ask) × (other ≡ one)
-lacks_once old one other message ask again lacks also = (also.0 ∙ sym lacks.0, also.1 ∙ sym lacks.1)
+lacks_once {one} {other} {ask} old message lacks also = (also.0 ∙ sym lacks.0, also.1 ∙ sym lacks.1)
 
-hears_by : (old one other : Standing) (message : List ℕ) (ask again : Ask) → LackAlike (hearing old message ask one) (hearing old message again other)
+hears_by : {old one other : Standing} {message : List ℕ} {ask again : Ask} → LackAlike (hearing old message ask one) (hearing old message again other)
     → IsOneHearing old message ask one again other → (again ≡ ask) × (other ≡ one)
-hears_by old one other message ask again alike (inl same) = (same.ask_is, same.session_is)
-hears_by old one other message ask again alike (inr (inl lacks)) = lacks_once old one other message ask again lacks (alike.there lacks)
-hears_by old one other message ask again alike (inr (inr lacks)) = lacks_once old one other message ask again (alike.back lacks) lacks
+hears_by {one} {other} {ask} alike (inl same) = (same.ask_is, same.session_is)
+hears_by {old} {one} {other} {message} {ask} alike (inr (inl lacks)) = lacks_once old message lacks (alike.there lacks)
+hears_by {old} {one} {other} {message} {ask} alike (inr (inr lacks)) = lacks_once old message (alike.back lacks) lacks
 
-pub hears_same : (old one other : Standing) (message : List ℕ) (ask again : Ask) → AreFilms old.films → Hears old message ask one
+pub hears_same : {old one other : Standing} {message : List ℕ} {ask again : Ask} → AreFilms old.films → Hears old message ask one
     → Hears old message again other → LackAlike (hearing old message ask one) (hearing old message again other)
     → (again ≡ ask) × (other ≡ one)
-hears_same old one other message ask again films hears also alike =
-    hears_by old one other message ask again alike (hears_once old one other message ask again films hears also)
+hears_same {old} {one} {other} {message} {ask} {again} films hears also alike =
+    hears_by alike (hears_once old one other message ask again films hears also)
 
 -- ---- the station answers
 
@@ -50,9 +50,9 @@ answer_one (Entered placed) is = refl
 answer_one (WasFull more entries live) is = refl
 answer_one (Offered at_slot note) is = refl
 
-heads_same : (one other : Outcome) (ones others : List Outcome) → IsAnswer one → IsAnswer other
+heads_same : {one other : Outcome} (ones others : List Outcome) → IsAnswer one → IsAnswer other
     → AreSameAnswers (answer_in one ++ ones) (answer_in other ++ others) → (other ≡ one) × AreSameAnswers ones others
-heads_same one other ones others is also same =
+heads_same {one} {other} ones others is also same =
     let both : AreSameAnswers (one ∷ ones) (other ∷ others) =
     subst (λ l. AreSameAnswers (l ++ ones) (other ∷ others)) (answer_one one is)
     (subst (λ l. AreSameAnswers (answer_in one ++ ones) (l ++ others)) (answer_one other also) same) in
@@ -90,65 +90,66 @@ outcome_of old (AskOffer plan offers) (Entered placed) new is = absurd is
 outcome_of old (AskOffer plan offers) (WasFull more entries live) new is = absurd is
 outcome_of old (AskOffer plan offers) (Offered at_slot note) new is = tt
 
-outcomes_same : (ask : Ask) (one other : Outcome) (ones others : List Outcome) → IsOutcomeOf ask one → IsOutcomeOf ask other
+outcomes_same : {one other : Outcome} (ask : Ask) (ones others : List Outcome) → IsOutcomeOf ask one → IsOutcomeOf ask other
     → AreSameAnswers (answer_in one ++ ones) (answer_in other ++ others) → (other ≡ one) × AreSameAnswers ones others
-outcomes_same AskReply one other ones others is also same = (
+outcomes_same {one} {other} AskReply ones others is also same = (
   also ∙ sym is,
   subst (λ o. AreSameAnswers (answer_in o ++ ones) others) is (subst (λ o. AreSameAnswers (answer_in one ++ ones) (answer_in o ++ others)) also same),
 )
-outcomes_same (AskPlay plan) one other ones others is also same = heads_same one other ones others is also same
-outcomes_same (AskHalt keep) one other ones others is also same = heads_same one other ones others is also same
-outcomes_same (AskLook slot) one other ones others is also same = heads_same one other ones others is also same
-outcomes_same (AskOffer plan offers) one other ones others is also same = heads_same one other ones others is also same
+outcomes_same {one} {other} (AskPlay plan) ones others is also same = heads_same ones others is also same
+outcomes_same {one} {other} (AskHalt keep) ones others is also same = heads_same ones others is also same
+outcomes_same {one} {other} (AskLook slot) ones others is also same = heads_same ones others is also same
+outcomes_same {one} {other} (AskOffer plan offers) ones others is also same = heads_same ones others is also same
 
-play_once : (old : Standing) (placed : Placed) (answer : Answer) (one other : Standing) → IsPlayAnswered old placed answer one
+play_once : {one other : Standing} (old : Standing) (placed : Placed) (answer : Answer) → IsPlayAnswered old placed answer one
     → IsPlayAnswered old placed answer other → other ≡ one
-play_once old placed (Admitted start) one other is also = also.1 ∙ sym is.1
-play_once old placed (Overflow slot booked asked) one other is also = also ∙ sym is
-play_once old placed Halted one other is also = absurd is
-play_once old placed (Looked now at booked) one other is also = absurd is
+play_once {one} {other} old placed (Admitted start) is also = also.1 ∙ sym is.1
+play_once {one} {other} old placed (Overflow slot booked asked) is also = also ∙ sym is
+play_once {one} {other} old placed Halted is also = absurd is
+play_once {one} {other} old placed (Looked now at booked) is also = absurd is
 
-look_once : (old : Standing) (placed : Placed) (answer : Answer) (one other : Standing) → IsLookAnswered old placed answer one
+look_once : {one other : Standing} (old : Standing) (placed : Placed) (answer : Answer) → IsLookAnswered old placed answer one
     → IsLookAnswered old placed answer other → other ≡ one
-look_once old placed (Admitted start) one other is also = absurd is
-look_once old placed (Overflow slot booked asked) one other is also = absurd is
-look_once old placed Halted one other is also = absurd is
-look_once old placed (Looked now at booked) one other is also = also ∙ sym is
+look_once {one} {other} old placed (Admitted start) is also = absurd is
+look_once {one} {other} old placed (Overflow slot booked asked) is also = absurd is
+look_once {one} {other} old placed Halted is also = absurd is
+look_once {one} {other} old placed (Looked now at booked) is also = also ∙ sym is
 
-halted_once : (old : Standing) (keep : ℕ) (outcome : Outcome) (one other : Standing) → IsHalted old keep outcome one → IsHalted old keep outcome other
+halted_once : {one other : Standing} (old : Standing) (keep : ℕ) (outcome : Outcome) → IsHalted old keep outcome one → IsHalted old keep outcome other
     → other ≡ one
-halted_once old keep Unasked one other is also = absurd is
-halted_once old keep (Entered placed) one other is also = also.halts ∙ sym is.halts
-halted_once old keep (WasFull more entries live) one other is also = absurd is
-halted_once old keep (Offered at_slot note) one other is also = absurd is
+halted_once {one} {other} old keep Unasked is also = absurd is
+halted_once {one} {other} old keep (Entered placed) is also = also.halts ∙ sym is.halts
+halted_once {one} {other} old keep (WasFull more entries live) is also = absurd is
+halted_once {one} {other} old keep (Offered at_slot note) is also = absurd is
 
-answered_once : (old : Standing) (ask : Ask) (outcome : Outcome) (one other : Standing) → IsAnswered old ask outcome one
+answered_once : {one other : Standing} (old : Standing) (ask : Ask) (outcome : Outcome) → IsAnswered old ask outcome one
     → IsAnswered old ask outcome other → other ≡ one
-answered_once old AskReply Unasked one other is also = also ∙ sym is
-answered_once old AskReply (Entered placed) one other is also = absurd is
-answered_once old AskReply (WasFull more entries live) one other is also = absurd is
-answered_once old AskReply (Offered at_slot note) one other is also = absurd is
-answered_once old (AskPlay plan) Unasked one other is also = absurd is
-answered_once old (AskPlay plan) (Entered placed) one other is also = play_once old placed placed.entry.answer one other is.1 also.1
-answered_once old (AskPlay plan) (WasFull more entries live) one other is also = also.0 ∙ sym is.0
-answered_once old (AskPlay plan) (Offered at_slot note) one other is also = absurd is
-answered_once old (AskHalt keep) outcome one other is also = halted_once old keep outcome one other is also
-answered_once old (AskLook slot) Unasked one other is also = absurd is
-answered_once old (AskLook slot) (Entered placed) one other is also = look_once old placed placed.entry.answer one other is.1 also.1
-answered_once old (AskLook slot) (WasFull more entries live) one other is also = also.0 ∙ sym is.0
-answered_once old (AskLook slot) (Offered at_slot note) one other is also = absurd is
-answered_once old (AskOffer plan offers) Unasked one other is also = absurd is
-answered_once old (AskOffer plan offers) (Entered placed) one other is also = absurd is
-answered_once old (AskOffer plan offers) (WasFull more entries live) one other is also = absurd is
-answered_once old (AskOffer plan offers) (Offered at_slot note) one other is also = also.2 ∙ sym is.2
+answered_once {one} {other} old AskReply Unasked is also = also ∙ sym is
+answered_once {one} {other} old AskReply (Entered placed) is also = absurd is
+answered_once {one} {other} old AskReply (WasFull more entries live) is also = absurd is
+answered_once {one} {other} old AskReply (Offered at_slot note) is also = absurd is
+answered_once {one} {other} old (AskPlay plan) Unasked is also = absurd is
+answered_once {one} {other} old (AskPlay plan) (Entered placed) is also = play_once old placed placed.entry.answer is.1 also.1
+answered_once {one} {other} old (AskPlay plan) (WasFull more entries live) is also = also.0 ∙ sym is.0
+answered_once {one} {other} old (AskPlay plan) (Offered at_slot note) is also = absurd is
+answered_once {one} {other} old (AskHalt keep) outcome is also = halted_once old keep outcome is also
+answered_once {one} {other} old (AskLook slot) Unasked is also = absurd is
+answered_once {one} {other} old (AskLook slot) (Entered placed) is also = look_once old placed placed.entry.answer is.1 also.1
+answered_once {one} {other} old (AskLook slot) (WasFull more entries live) is also = also.0 ∙ sym is.0
+answered_once {one} {other} old (AskLook slot) (Offered at_slot note) is also = absurd is
+answered_once {one} {other} old (AskOffer plan offers) Unasked is also = absurd is
+answered_once {one} {other} old (AskOffer plan offers) (Entered placed) is also = absurd is
+answered_once {one} {other} old (AskOffer plan offers) (WasFull more entries live) is also = absurd is
+answered_once {one} {other} old (AskOffer plan offers) (Offered at_slot note) is also = also.2 ∙ sym is.2
 
 -- the same answer, and the same session after it
-pub answers_same : (old : Standing) (ask : Ask) (one other : Outcome) (new again : Standing) (ones others : List Outcome) → IsAnswered old ask one new
+pub answers_same : {new again : Standing} (old : Standing) (ask : Ask) (one other : Outcome)
+    (ones others : List Outcome) → IsAnswered old ask one new
     → IsAnswered old ask other again → AreSameAnswers (answer_in one ++ ones) (answer_in other ++ others)
     → (again ≡ new) × AreSameAnswers ones others
-answers_same old ask one other new again ones others is also same =
-    let both = outcomes_same ask one other ones others (outcome_of old ask one new is) (outcome_of old ask other again also) same in
-    (answered_once old ask one new again is (subst (λ o. IsAnswered old ask o again) both.0 also), both.1)
+answers_same {new} {again} old ask one other ones others is also same =
+    let both = outcomes_same ask ones others (outcome_of old ask one new is) (outcome_of old ask other again also) same in
+    (answered_once old ask one is (subst (λ o. IsAnswered old ask o again) both.0 also), both.1)
 
 -- ---- a slot is taken up
 
@@ -158,28 +159,30 @@ unasked old (Entered placed) new is = absurd is
 unasked old (WasFull more entries live) new is = absurd is
 unasked old (Offered at_slot note) new is = absurd is
 
-finished_same : (asks : Awaits) (old : Standing) (one other : Outcome) (new again : Standing) (ones others : List Outcome)
+finished_same : {new again : Standing} (asks : Awaits) (old : Standing) (one other : Outcome)
+    (ones others : List Outcome)
     → IsFinished asks old one new → IsFinished asks old other again → AreSameAnswers (answer_in one ++ ones) (answer_in other ++ others)
     → (again ≡ new) × AreSameAnswers ones others
-finished_same NoAnswer old one other new again ones others is also same =
+finished_same {new} {again} NoAnswer old one other ones others is also same =
     let first = unasked old one new is in
     let second = unasked old other again also in (
       second.1 ∙ sym first.1,
       subst (λ o. AreSameAnswers (answer_in o ++ ones) others) first.0
           (subst (λ o. AreSameAnswers (answer_in one ++ ones) (answer_in o ++ others)) second.0 same),
     )
-finished_same (PlayAnswer plan) old one other new again ones others is also same = absurd is
-finished_same (HaltAnswer keep) old one other new again ones others is also same =
-    let both = heads_same one other ones others (halted_answer old keep one new is) (halted_answer old keep other again also) same in
-    (halted_once old keep one new again is (subst (λ o. IsHalted old keep o again) both.0 also), both.1)
-finished_same LookAnswer old one other new again ones others is also same = absurd is
-finished_same OfferAnswer old one other new again ones others is also same = absurd is
+finished_same {new} (PlayAnswer plan) old one other ones others is also same = absurd is
+finished_same {new} {again} (HaltAnswer keep) old one other ones others is also same =
+    let both = heads_same ones others (halted_answer old keep one new is) (halted_answer old keep other again also) same in
+    (halted_once old keep one is (subst (λ o. IsHalted old keep o again) both.0 also), both.1)
+finished_same {new} LookAnswer old one other ones others is also same = absurd is
+finished_same {new} OfferAnswer old one other ones others is also same = absurd is
 
-pub steps_same : (old : Standing) (slot : ℕ) (due sent : List Part) (one other : Outcome) (new again : Standing) (ones others : List Outcome)
+pub steps_same : {old : Standing} {slot : ℕ} {due sent : List Part} {one other : Outcome} {new again : Standing}
+    (ones others : List Outcome)
     → HasStepped old slot due one new → HasStepped old slot sent other again → AreSameAnswers (answer_in one ++ ones) (answer_in other ++ others)
     → (sent ≡ due) × (again ≡ new) × AreSameAnswers ones others
-steps_same old slot due sent one other new again ones others is also same =
-    let both = finished_same (awaits (after_slot old slot)) (after_slot old slot) one other new again ones others is.finished also.finished same in
+steps_same {old} {slot} {one} {other} {new} ones others is also same =
+    let both = finished_same (awaits (after_slot old slot)) (after_slot old slot) one other ones others is.finished also.finished same in
     (also.parts_are ∙ sym is.parts_are, both.0, both.1)
 
 -- ---- the films stay

@@ -123,9 +123,9 @@ join_hearings (Taken turn ∷ xs) ys = ap (λ hs. hearing turn.session turn.mess
 abbrev pub longer : Stage → List ℕ → Stage
 longer old more = stage old.session (old.input ++ more)
 
-shorter : (old new : Stage) (session : Standing) (more : List ℕ) (n : ℕ) → n ≤ length old.input → new ≡ stage session (drop n old.input)
+shorter : {new : Stage} (old : Stage) (session : Standing) (more : List ℕ) (n : ℕ) → n ≤ length old.input → new ≡ stage session (drop n old.input)
     → longer new more ≡ stage session (drop n (old.input ++ more))
-shorter old new session more n inside is =
+shorter {new} old session more n inside is =
     ap (λ s. longer s more) is ∙ ap (λ input. stage session input) (sym (drop-append-le n old.input more inside))
 
 next_grows : (old : Stage) (message more : List ℕ) → IsNext old message → IsNext (longer old more) message
@@ -140,14 +140,14 @@ piece_grows : (old new : Stage) (piece : Piece) (more : List ℕ) → Goes old p
 piece_grows old new (Over n) more goes = record {
   over = over_grows old.input more n goes.over;
   torn = goes.torn;
-  new_is = shorter old new old.session more n (over_within old.input n goes.over) goes.new_is;
+  new_is = shorter old old.session more n (over_within old.input n goes.over) goes.new_is;
 }
 piece_grows old new (Taken turn) more goes = record {
   session_is = goes.session_is;
   next = next_grows old turn.message more goes.next;
   hears = goes.hears;
   answered = goes.answered;
-  new_is = shorter old new (after_reply turn.answered) more (length turn.message) goes.next.first.2 goes.new_is;
+  new_is = shorter old (after_reply turn.answered) more (length turn.message) goes.next.first.2 goes.new_is;
 }
 
 pub goes_grow : (old new : Stage) (pieces : List Piece) (more : List ℕ) → GoesAll old pieces new → GoesAll (longer old more) pieces (longer new more)
@@ -167,9 +167,9 @@ pub record Path (old new : Stage) (bytes : List ℕ) (answers : List Outcome) (h
 path_none : (s : Stage) → Path s s [] [] []
 path_none s = record { pieces = []; goes = refl; bytes_are = refl; answers_are = refl; hearings_are = refl }
 
-path_over : (a b c : Stage) (n : ℕ) (bytes : List ℕ) (answers : List Outcome) (hearings : List Hearing) → IsPassing a n b
+path_over : {a b c : Stage} {n : ℕ} {bytes : List ℕ} {answers : List Outcome} {hearings : List Hearing} → IsPassing a n b
     → Path b c bytes answers hearings → Path a c bytes answers hearings
-path_over a b c n bytes answers hearings passing path = record {
+path_over {a} {b} {c} {n} {answers} passing path = record {
   pieces = Over n ∷ path.pieces;
   goes = (b, (passing, path.goes));
   bytes_are = path.bytes_are;
@@ -177,9 +177,9 @@ path_over a b c n bytes answers hearings passing path = record {
   hearings_are = path.hearings_are;
 }
 
-path_then : (a b c : Stage) (first second : List ℕ) (one two : List Outcome) (heard later : List Hearing) → Path a b first one heard
+path_then : {a b c : Stage} {first second : List ℕ} {one two : List Outcome} {heard later : List Hearing} → Path a b first one heard
     → Path b c second two later → Path a c (first ++ second) (one ++ two) (heard ++ later)
-path_then a b c first second one two heard later path after = record {
+path_then {a} {b} {c} {first} {second} {one} {heard} {later} path after = record {
   pieces = path.pieces ++ after.pieces;
   goes = join_goes a b c path.pieces after.pieces path.goes after.goes;
   bytes_are = join_bytes path.pieces after.pieces ∙ ap (λ bs. bs ++ pieces_bytes after.pieces) path.bytes_are ∙ ap (λ bs. first ++ bs) after.bytes_are;
@@ -194,7 +194,7 @@ ends_over : (session : Standing) (input : List ℕ) (n : ℕ) → session.torn �
 ends_over session input zero torn inside ends = path_none (stage session input)
 ends_over session [] (suc n) torn inside ends = let bad : ⊥ = omega (arith, inside) in absurd bad
 ends_over session (c ∷ cs) (suc n) torn inside ends =
-    path_over (stage session (c ∷ cs)) (stage session cs) (stage session (drop n cs)) 1 [] [] []
+    path_over
     (record { over = AnEnd refl (omega arith) (ends 0 (omega arith)); torn = torn; new_is = refl })
     (ends_over session cs n torn (omega (arith, inside)) (λ k below. ends (suc k) (omega (arith, below))))
 
@@ -202,7 +202,7 @@ passed_over : (session : Standing) (input : List ℕ) (n : ℕ) → IsPassed inp
     → Path (stage session input) (stage session (drop n input)) [] [] []
 passed_over session input n (inl skip) torn = ends_over session input n torn skip.1.within skip.1.line_ends
 passed_over session input n (inr block) torn =
-    path_over (stage session input) (stage session (drop n input)) (stage session (drop n input)) n [] [] []
+    path_over
     (record { over = ABlock block.1.0 block.1.1 block.1.3 block.1.4; torn = torn; new_is = refl }) (path_none (stage session (drop n input)))
 
 path_taken : (old new : Stage) (message : List ℕ) (outcome : Outcome) (parts : List Part) (replied : IsReplied old message outcome parts new)
@@ -234,12 +234,11 @@ path_of old new [] takes = subst (λ s. Path old s [] [] []) (sym takes) (path_n
 path_of old new (Passed n ∷ takings) takes =
     let over : Path old takes.0 [] [] [] =
     subst (λ s. Path old s [] [] []) (sym takes.1.0.2) (passed_over old.session old.input n takes.1.0.0 takes.1.0.1) in
-    path_then old takes.0 new [] (takings_bytes takings) [] (answers_in (takings_outcomes takings)) [] (takings_hearings takes.0 takings new takes.1.1)
+    path_then
     over (path_of takes.0 new takings takes.1.1)
 path_of old new (Answered message outcome parts ∷ takings) takes =
     let replied = takes.1.0 in
-    path_then old takes.0 new (parts_bytes parts) (takings_bytes takings) (answer_in outcome) (answers_in (takings_outcomes takings))
-    (hearing old.session message replied.heard.ask replied.heard.asking ∷ []) (takings_hearings takes.0 takings new takes.1.1)
+    path_then
     (path_taken old takes.0 message outcome parts replied) (path_of takes.0 new takings takes.1.1)
 
 -- ---- where nothing more can be taken up
@@ -252,15 +251,15 @@ goes_on : (old new : Stage) (piece : Piece) → Goes old piece new → old.sessi
 goes_on old new (Over n) goes = goes.torn
 goes_on old new (Taken turn) goes = goes.next.torn
 
-waits_on : (old new : Stage) (piece : Piece) (n : ℕ) → IsFirst old.input (Ok (Request n)) → old.session.waits ≡ true → Goes old piece new → ⊥
-waits_on old new (Over m) n first waits goes = over_no_request old.input m goes.over first.0
-waits_on old new (Taken turn) n first waits goes = true≢false (sym waits ∙ goes.next.replied)
+waits_on : {n : ℕ} (old new : Stage) (piece : Piece) → IsFirst old.input (Ok (Request n)) → old.session.waits ≡ true → Goes old piece new → ⊥
+waits_on old new (Over m) first waits goes = over_no_request old.input m goes.over first.0
+waits_on old new (Taken turn) first waits goes = true≢false (sym waits ∙ goes.next.replied)
 
 idle_done : (old new : Stage) (piece : Piece) → (IsFirst old.input (Ok More) ⊎ ((n : ℕ) × (IsFirst old.input (Ok (Request n)) × (old.session.waits ≡ true))))
     → Goes old piece new → ⊥
 idle_done old new piece (inl more) goes =
     let first = first_piece old new piece goes in tells_none old.input (Ok More) more first.0 first.1
-idle_done old new piece (inr request) goes = waits_on old new piece request.0 request.1.0 request.1.1 goes
+idle_done old new piece (inr request) goes = waits_on old new piece request.1.0 request.1.1 goes
 
 stopped_done : (old new : Stage) (piece : Piece) (end : ConnEnd) → IsStopped end old → Goes old piece new → ⊥
 stopped_done old new piece Ended stopped goes = absurd stopped
@@ -302,9 +301,9 @@ message_same : (old : Stage) (one other : List ℕ) → IsNext old one → IsNex
 message_same old one other is also =
     also.message_is ∙ ap (λ n. take n old.input) (total_once old.input (length other) (length one) also.first.1 is.first.1) ∙ sym is.message_is
 
-lacks_same : (session s r : Standing) (message m k : List ℕ) (ask again : Ask) (asking other : Standing) → s ≡ session → r ≡ session → m ≡ message → k ≡ message
+lacks_same : {session s r : Standing} {message m k : List ℕ} (ask again : Ask) (asking other : Standing) → s ≡ session → r ≡ session → m ≡ message → k ≡ message
     → LackAlike (hearing s m ask asking) (hearing r k again other) → LackAlike (hearing session message ask asking) (hearing session message again other)
-lacks_same session s r message m k ask again asking other one two three four alike =
+lacks_same {session} {s} {r} {message} {m} ask again asking other one two three four alike =
     subst (λ z. LackAlike (hearing z message ask asking) (hearing session message again other)) one
     (subst (λ z. LackAlike (hearing s message ask asking) (hearing z message again other)) two
     (subst (λ z. LackAlike (hearing s z ask asking) (hearing r message again other)) three
@@ -313,21 +312,21 @@ lacks_same session s r message m k ask again asking other one two three four ali
 stages_same : (a b : Standing) (x y : List ℕ) → a ≡ b → x ≡ y → stage a x ≡ stage b y
 stages_same a b x y one two = ap (λ s. stage s x) one ∙ ap (λ input. stage b input) two
 
-turns_same : (old one other : Stage) (turn again : Turn) (ones others : List Outcome) → AreFilms old.session.films
+turns_same : {old one other : Stage} {turn again : Turn} (ones others : List Outcome) → AreFilms old.session.films
     → IsTaken old turn one → IsTaken old again other
     → LackAlike (hearing turn.session turn.message turn.ask turn.asking) (hearing again.session again.message again.ask again.asking)
     → AreSameAnswers (answer_in turn.outcome ++ ones) (answer_in again.outcome ++ others)
     → (other ≡ one) × (parts_bytes (reply_parts again.answered) ≡ parts_bytes (reply_parts turn.answered)) × AreSameAnswers ones others
-turns_same old one other turn again ones others films taken also alike answers =
+turns_same {old} {one} {other} {turn} {again} ones others films taken also alike answers =
     let message : again.message ≡ turn.message = message_same old turn.message again.message taken.next also.next in
-    let heard = hears_same old.session turn.asking again.asking turn.message turn.ask again.ask films taken.hears
+    let heard = hears_same films taken.hears
     (subst (λ m. Hears old.session m again.ask again.asking) message also.hears)
-    (lacks_same old.session turn.session again.session turn.message turn.message again.message turn.ask again.ask turn.asking again.asking
+    (lacks_same turn.ask again.ask turn.asking again.asking
     taken.session_is also.session_is refl message alike) in
     let answered : IsAnswered turn.asking turn.ask again.outcome again.answered =
     subst (λ a. IsAnswered turn.asking a again.outcome again.answered) heard.0
     (subst (λ s. IsAnswered s again.ask again.outcome again.answered) heard.1 also.answered) in
-    let both = answers_same turn.asking turn.ask turn.outcome again.outcome turn.answered again.answered ones others taken.answered answered answers in (
+    let both = answers_same turn.asking turn.ask turn.outcome again.outcome ones others taken.answered answered answers in (
       also.new_is
           ∙ stages_same (after_reply again.answered) (after_reply turn.answered) (drop (length again.message) old.input) (drop (length turn.message) old.input)
           (ap after_reply both.0) (ap (λ (m : List ℕ). drop (length m) old.input) message)
@@ -336,35 +335,36 @@ turns_same old one other turn again ones others films taken also alike answers =
       both.1,
     )
 
-pub ends_same : (old one other : Stage) (xs ys : List Piece) (ones others : List Outcome) (heard also : List Hearing)
+pub ends_same : {one other : Stage} {ones others : List Outcome} {heard also : List Hearing} (old : Stage)
+    (xs ys : List Piece)
     → AreFilms old.session.films → GoesAll old xs one → GoesAll old ys other → IsDone one → IsDone other
     → AreSameAnswers (pieces_answers xs ++ ones) (pieces_answers ys ++ others)
     → AllLackAlike (pieces_hearings xs ++ heard) (pieces_hearings ys ++ also)
     → SameEnds one other (pieces_bytes xs) (pieces_bytes ys) ones others heard also
-ends_same old one other [] [] ones others heard also films goes too done stops answers memory =
+ends_same {one} {other} old [] [] films goes too done stops answers memory =
     record { last = too ∙ sym goes; bytes = refl; answers = answers; memory = memory }
-ends_same old one other [] (y ∷ ys) ones others heard also films goes too done stops answers memory =
+ends_same {one} {other} old [] (y ∷ ys) films goes too done stops answers memory =
     absurd (done_goes old too.0 y (subst IsDone goes done) too.1.0)
-ends_same old one other (x ∷ xs) [] ones others heard also films goes too done stops answers memory =
+ends_same {one} {other} old (x ∷ xs) [] films goes too done stops answers memory =
     absurd (done_goes old goes.0 x (subst IsDone too stops) goes.1.0)
-ends_same old one other (Over n ∷ xs) (Over m ∷ ys) ones others heard also films goes too done stops answers memory =
+ends_same {one} {other} old (Over n ∷ xs) (Over m ∷ ys) films goes too done stops answers memory =
     let mid : Stage = goes.0 in
     let size : m ≡ n = piece_once old.input m n (over_piece old.input m too.1.0.over) (over_piece old.input n goes.1.0.over) in
     let same : too.0 ≡ mid = too.1.0.new_is ∙ ap (λ k. stage old.session (drop k old.input)) size ∙ sym goes.1.0.new_is in
     let kept : AreFilms mid.session.films = subst AreFilms (sym (ap (λ (s : Stage). s.session.films) goes.1.0.new_is)) films in
-    ends_same mid one other xs ys ones others heard also kept goes.1.1 (subst (λ s. GoesAll s ys other) same too.1.1) done stops answers memory
-ends_same old one other (Over n ∷ xs) (Taken turn ∷ ys) ones others heard also films goes too done stops answers memory =
+    ends_same mid xs ys kept goes.1.1 (subst (λ s. GoesAll s ys other) same too.1.1) done stops answers memory
+ends_same {one} {other} old (Over n ∷ xs) (Taken turn ∷ ys) films goes too done stops answers memory =
     absurd (over_no_request old.input n goes.1.0.over too.1.0.next.first.0)
-ends_same old one other (Taken turn ∷ xs) (Over m ∷ ys) ones others heard also films goes too done stops answers memory =
+ends_same {one} {other} old (Taken turn ∷ xs) (Over m ∷ ys) films goes too done stops answers memory =
     absurd (over_no_request old.input m too.1.0.over goes.1.0.next.first.0)
-ends_same old one other (Taken turn ∷ xs) (Taken again ∷ ys) ones others heard also films goes too done stops answers memory =
+ends_same {one} {other} {ones} {others} old (Taken turn ∷ xs) (Taken again ∷ ys) films goes too done stops answers memory =
     let mid : Stage = goes.0 in
     let split : AreSameAnswers (answer_in turn.outcome ++ (pieces_answers xs ++ ones)) (answer_in again.outcome ++ (pieces_answers ys ++ others)) =
     subst (λ os. AreSameAnswers os (answer_in again.outcome ++ (pieces_answers ys ++ others))) (append_assoc (answer_in turn.outcome) (pieces_answers xs) ones)
     (subst (λ os. AreSameAnswers ((answer_in turn.outcome ++ pieces_answers xs) ++ ones) os) (append_assoc (answer_in again.outcome) (pieces_answers ys) others) answers) in
-    let both = turns_same old mid too.0 turn again (pieces_answers xs ++ ones) (pieces_answers ys ++ others) films goes.1.0 too.1.0 memory.0 split in
+    let both = turns_same (pieces_answers xs ++ ones) (pieces_answers ys ++ others) films goes.1.0 too.1.0 memory.0 split in
     let kept : AreFilms mid.session.films = subst AreFilms (sym (taken_films old mid turn goes.1.0)) films in
-    let rest = ends_same mid one other xs ys ones others heard also kept goes.1.1 (subst (λ s. GoesAll s ys other) both.0 too.1.1) done stops both.2 memory.1 in
+    let rest = ends_same mid xs ys kept goes.1.1 (subst (λ s. GoesAll s ys other) both.0 too.1.1) done stops both.2 memory.1 in
     record {
       last = rest.last;
       bytes = ap (λ bs. bs ++ pieces_bytes ys) both.1 ∙ ap (λ bs. parts_bytes (reply_parts turn.answered) ++ bs) rest.bytes;

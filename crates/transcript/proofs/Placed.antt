@@ -28,41 +28,41 @@ use Rattle.transcript.proofs.Waits.{Fits, GoesTo, IsHeld, Stand, after_slot, at_
 
 -- ---- a request is answered
 
-still_stand : (sends : Sends) (pending : Option ℕ) (asked : Awaited) (outcome : Outcome) (askings : List Asking) (end : ℕ) (slots : List ℕ)
-    (parts : List Part) → IsStill asked outcome → Stand sends pending askings end slots parts → Stand sends pending (Asks asked outcome ∷ askings) end slots parts
-still_stand Idle None asked outcome askings end slots parts still stand =
+still_stand : {asked : Awaited} {outcome : Outcome} (sends : Sends) (pending : Option ℕ) (askings : List Asking)
+    (end : ℕ) (slots : List ℕ) (parts : List Part) → IsStill asked outcome → Stand sends pending askings end slots parts → Stand sends pending (Asks asked outcome ∷ askings) end slots parts
+still_stand Idle None askings end slots parts still stand =
     subst (λ ps. AreSentAt end (ps ++ plays_of askings) slots (placed_texts 0 parts)) (sym (still.none askings)) stand
-still_stand Idle (Some slot) asked outcome askings end slots parts still stand =
+still_stand Idle (Some slot) askings end slots parts still stand =
     subst (λ ps. AreSentAt end (ps ++ plays_of askings) (slot ∷ slots) (placed_texts 0 parts)) (sym (still.none askings)) stand
-still_stand (Going p) pending asked outcome askings end slots parts still stand =
+still_stand {outcome} (Going p) pending askings end slots parts still stand =
     subst (λ ps. StandAt p (kept_with outcome (kept_in askings (total_bytes p.plan))) pending (ps ++ plays_of askings) end slots parts) (sym (still.none askings))
     (subst (λ k. StandAt p k pending (plays_of askings) end slots parts) (sym (still.kept (kept_in askings (total_bytes p.plan)))) stand)
-still_stand (Ending p) pending asked outcome askings end slots parts still stand =
+still_stand (Ending p) pending askings end slots parts still stand =
     subst (λ ps. StandAt p p.keep pending (ps ++ plays_of askings) end slots parts) (sym (still.none askings)) stand
 
-pub still_fits : (sends : Sends) (heard : ℕ) (pending : Option ℕ) (asked : Awaited) (outcome : Outcome) (askings : List Asking) (end : ℕ)
-    (slots : List ℕ) (parts : List Part) → IsStill asked outcome → Fits sends heard pending askings end slots parts
+pub still_fits : {sends : Sends} {heard : ℕ} {pending : Option ℕ} {asked : Awaited} {outcome : Outcome}
+    {askings : List Asking} {end : ℕ} {slots : List ℕ} {parts : List Part} → IsStill asked outcome → Fits sends heard pending askings end slots parts
     → Fits sends heard pending (Asks asked outcome ∷ askings) end slots parts
-still_fits sends heard pending asked outcome askings end slots parts still fits = record {
+still_fits {sends} {heard} {pending} {askings} {end} {slots} {parts} still fits = record {
   from = fits.from;
   later = subst (λ ps. AreLater heard (ps ++ plays_of askings)) (sym (still.none askings)) fits.later;
-  stand = still_stand sends pending asked outcome askings end slots parts still fits.stand;
+  stand = still_stand sends pending askings end slots parts still fits.stand;
 }
 
 -- its reply is in hand
-in_hand : (p : Pacing) (keep slot : ℕ) (plays : List FilmPlay) (end : ℕ) (slots : List ℕ) (parts : List Part)
+in_hand : {p : Pacing} {keep slot : ℕ} {plays : List FilmPlay} {end : ℕ} {slots : List ℕ} {parts : List Part}
     → StandAt p keep (Some slot) plays end slots parts → StandAt p keep None plays end (slot ∷ slots) parts
-in_hand p keep slot plays end slots parts stand = record { holds = stand.holds; sent = stand.sent }
+in_hand {p} {slot} {end} stand = record { holds = stand.holds; sent = stand.sent }
 
 in_hand_of : (sends : Sends) (slot : ℕ) (askings : List Asking) (end : ℕ) (slots : List ℕ) (parts : List Part)
     → Stand sends (Some slot) askings end slots parts → Stand sends None askings end (slot ∷ slots) parts
 in_hand_of Idle slot askings end slots parts stand = stand
-in_hand_of (Going p) slot askings end slots parts stand = in_hand p (kept_in askings (total_bytes p.plan)) slot (plays_of askings) end slots parts stand
-in_hand_of (Ending p) slot askings end slots parts stand = in_hand p p.keep slot (plays_of askings) end slots parts stand
+in_hand_of (Going p) slot askings end slots parts stand = in_hand stand
+in_hand_of (Ending p) slot askings end slots parts stand = in_hand stand
 
-taken_fits : (sends : Sends) (heard : ℕ) (askings : List Asking) (end : ℕ) (slots : List ℕ) (parts : List Part)
+taken_fits : {sends : Sends} {heard : ℕ} {askings : List Asking} {end : ℕ} {slots : List ℕ} {parts : List Part}
     → Fits sends heard (Some heard) askings end slots parts → Fits sends heard None askings end (heard ∷ slots) parts
-taken_fits sends heard askings end slots parts fits = record {
+taken_fits {sends} {heard} {askings} {end} {slots} {parts} fits = record {
   from = (omega arith, fits.from);
   later = fits.later;
   stand = in_hand_of sends heard askings end slots parts fits.stand;
@@ -77,10 +77,11 @@ play_for prepared start plan keep = record {
   pieces = run_pieces prepared.frames;
 }
 
-begin_stand : (prepared : Prepared) (start : ℕ) (plan : List Segment) (askings : List Asking) (end : ℕ) (slots : List ℕ) (parts : List Part)
+begin_stand : {plan : List Segment} (prepared : Prepared) (start : ℕ) (askings : List Asking) (end : ℕ)
+    (slots : List ℕ) (parts : List Part)
     → prepared.paced ≡ plan → AreSentAt end (play_for prepared start prepared.paced (kept_in askings (total_bytes prepared.paced)) ∷ plays_of askings) slots (placed_texts 0 parts)
     → AreSentAt end (play_for prepared start plan (kept_in askings (total_bytes plan)) ∷ plays_of askings) slots (placed_texts 0 parts)
-begin_stand prepared start plan askings end slots parts same sent =
+begin_stand prepared start askings end slots parts same sent =
     subst (λ pl. AreSentAt end (play_for prepared start pl (kept_in askings (total_bytes pl)) ∷ plays_of askings) slots (placed_texts 0 parts)) same sent
 
 begun_is : (old new : Standing) (asked : Awaited) (outcome : Outcome) (begins : Begins old asked outcome new) (askings : List Asking)
@@ -89,10 +90,10 @@ begun_is old new asked outcome begins askings =
     ap (λ o. plays_begun asked o askings) begins.outcome_is ∙ ap (λ a. plays_admitted a begins.placed.entry.answer askings) begins.asked_is
     ∙ ap (λ a. plays_admitted (Play begins.prepared) a askings) begins.answer
 
-begin_fits : (old new : Standing) (asked : Awaited) (outcome : Outcome) (begins : Begins old asked outcome new) (askings : List Asking) (end : ℕ)
-    (slots : List ℕ) (parts : List Part) → Fits (Going (pacing_for begins.prepared begins.start)) old.heard (Some old.heard) askings end slots parts
+begin_fits : {old new : Standing} {asked : Awaited} {outcome : Outcome} {askings : List Asking} {end : ℕ}
+    {slots : List ℕ} {parts : List Part} (begins : Begins old asked outcome new) → Fits (Going (pacing_for begins.prepared begins.start)) old.heard (Some old.heard) askings end slots parts
     → Fits Idle old.heard None (Asks asked outcome ∷ askings) end (old.heard ∷ slots) parts
-begin_fits old new asked outcome begins askings end slots parts fits =
+begin_fits {old} {new} {asked} {outcome} {askings} {end} {slots} {parts} begins fits =
     let p : Pacing = pacing_for begins.prepared begins.start in
     let plan : List Segment = begins.prepared.plan in
     let made = begun_is old new asked outcome begins askings in
@@ -103,14 +104,14 @@ begin_fits old new asked outcome begins askings end slots parts fits =
       later = subst (λ ps. AreLater old.heard (ps ++ plays_of askings)) (sym made)
           (record { starts = (begins.later, fits.later.starts); begins = inl (omega arith, starts) });
       stand = subst (λ ps. AreSentAt end (ps ++ plays_of askings) (old.heard ∷ slots) (placed_texts 0 parts)) (sym made)
-          (begin_stand begins.prepared begins.start plan askings end (old.heard ∷ slots) parts begins.paced fits.stand.sent);
+          (begin_stand begins.prepared begins.start askings end (old.heard ∷ slots) parts begins.paced fits.stand.sent);
     }
 
-halt_fits : (old new : Standing) (asked : Awaited) (outcome : Outcome) (halts : Halts old asked outcome new) (askings : List Asking) (end : ℕ)
-    (slots : List ℕ) (parts : List Part)
+halt_fits : {old new : Standing} {asked : Awaited} {outcome : Outcome} {askings : List Asking} {end : ℕ}
+    {slots : List ℕ} {parts : List Part} (halts : Halts old asked outcome new)
     → Fits (Ending (record halts.pacing { keep = next_boundary halts.pacing })) old.heard (Some old.heard) askings end slots parts
     → Fits (Going halts.pacing) old.heard None (Asks asked outcome ∷ askings) end (old.heard ∷ slots) parts
-halt_fits old new asked outcome halts askings end slots parts fits =
+halt_fits {old} {new} {asked} {outcome} {askings} {end} {slots} {parts} halts fits =
     let p : Pacing = halts.pacing in
     let kept : kept_with outcome (kept_in askings (total_bytes p.plan)) ≡ next_boundary p =
     ap (λ o. kept_with o (kept_in askings (total_bytes p.plan))) halts.outcome_is
@@ -129,20 +130,20 @@ pub turn_fits : (old new : Standing) (asked : Awaited) (outcome : Outcome) → T
 turn_fits old new asked outcome (Stays same after still) = record {
   later = omega arith;
   rest = λ askings end more rest on fits.
-      still_fits (sends_in old.state) old.heard None asked outcome askings end (old.heard ∷ more) rest still
-      (taken_fits (sends_in old.state) old.heard askings end more rest (subst (λ s. Fits s old.heard (Some old.heard) askings end more rest) same fits));
+      still_fits still
+      (taken_fits (subst (λ s. Fits s old.heard (Some old.heard) askings end more rest) same fits));
 }
 turn_fits old new asked outcome (Starts after begins) = record {
   later = omega arith;
   rest = λ askings end more rest on fits.
       subst (λ s. Fits s old.heard None (Asks asked outcome ∷ askings) end (old.heard ∷ more) rest) (sym begins.idle)
-      (begin_fits old new asked outcome begins askings end more rest (subst (λ s. Fits s old.heard (Some old.heard) askings end more rest) begins.sends fits));
+      (begin_fits begins (subst (λ s. Fits s old.heard (Some old.heard) askings end more rest) begins.sends fits));
 }
 turn_fits old new asked outcome (Ends after halts) = record {
   later = omega arith;
   rest = λ askings end more rest on fits.
       subst (λ s. Fits s old.heard None (Asks asked outcome ∷ askings) end (old.heard ∷ more) rest) (sym halts.going)
-      (halt_fits old new asked outcome halts askings end more rest (subst (λ s. Fits s old.heard (Some old.heard) askings end more rest) halts.sends fits));
+      (halt_fits halts (subst (λ s. Fits s old.heard (Some old.heard) askings end more rest) halts.sends fits));
 }
 
 -- ---- a reply goes out at once, or is held up
@@ -152,9 +153,9 @@ kept_due : (p : Pacing) (heard keep : ℕ) → IsSound (Going p) true heard → 
 kept_due p heard keep sound holds =
     let here = due_here p heard sound.0 in due_going p heard keep sound.0.pacing sound.1 (omega (arith, here, holds))
 
-idle_reply : (heard : ℕ) (text : List ℕ) (askings : List Asking) (end : ℕ) (slots : List ℕ) (parts : List Part) → Fits Idle heard None askings end slots parts
+idle_reply : {heard : ℕ} {text : List ℕ} {askings : List Asking} {end : ℕ} {slots : List ℕ} {parts : List Part} → Fits Idle heard None askings end slots parts
     → Fits Idle heard (Some heard) askings end slots (Text text ∷ parts)
-idle_reply heard text askings end slots parts fits =
+idle_reply {heard} {text} {askings} {end} fits =
     let none : all_due heard (plays_of askings) ≡ 0 = none_due heard (plays_of askings) fits.later.starts in
     let sent : IsSentAt end (plays_of askings) heard (placed_text 0 text) = record {
       next = record { boundary = fits.later.begins; after = omega (arith, none); least = λ other boundary from. omega arith };
@@ -162,35 +163,37 @@ idle_reply heard text askings end slots parts fits =
     } in
     record { from = fits.from; later = fits.later; stand = (sent, fits.stand) }
 
-going_reply : (p : Pacing) (heard : ℕ) (text : List ℕ) (askings : List Asking) (end : ℕ) (slots : List ℕ) (parts : List Part) → IsSound (Going p) true heard
+going_reply : {p : Pacing} {heard : ℕ} {text : List ℕ} {askings : List Asking} {end : ℕ} {slots : List ℕ}
+    {parts : List Part} → IsSound (Going p) true heard
     → stands_at_boundary p ≡ true → heard ≤ end → Fits (Going p) heard None askings end slots parts
     → Fits (Going p) heard (Some heard) askings end slots (Text text ∷ parts)
-going_reply p heard text askings end slots parts sound stands on fits = record {
+going_reply {p} {heard} {text} {askings} {end} sound stands on fits = record {
   from = fits.from;
   later = fits.later;
-  stand = text_at p (kept_in askings (total_bytes p.plan)) heard (min (first_slots p.plan (heard + 1 - p.start)) p.keep) (plays_of askings) end slots text parts
+  stand = text_at
       (at_here p heard sound.0 stands) (kept_due p heard (kept_in askings (total_bytes p.plan)) sound fits.stand.holds) fits.later.starts
       (due_far p heard end sound.0 on) fits.stand;
 }
 
-over_fits : (p : Pacing) (heard : ℕ) (askings : List Asking) (end : ℕ) (slots : List ℕ) (parts : List Part) → IsOnTime p heard → p.sent ≡ p.keep
+over_fits : {p : Pacing} {heard : ℕ} {askings : List Asking} {end : ℕ} {slots : List ℕ} {parts : List Part} → IsOnTime p heard → p.sent ≡ p.keep
     → heard ≤ end → Fits Idle heard None askings end slots parts → Fits (Ending p) heard None askings end slots parts
-over_fits p heard askings end slots parts on ended ends fits = record {
+over_fits {p} {end} on ended ends fits = record {
   from = fits.from;
   later = fits.later;
-  stand = over_at p heard p.keep (plays_of askings) end slots parts on ended ends fits.from fits.later fits.stand;
+  stand = over_at on ended ends fits.from fits.later fits.stand;
 }
 
-ending_reply : (p : Pacing) (heard : ℕ) (text : List ℕ) (askings : List Asking) (end : ℕ) (slots : List ℕ) (parts : List Part) → IsSound (Ending p) true heard
+ending_reply : {p : Pacing} {heard : ℕ} {text : List ℕ} {askings : List Asking} {end : ℕ} {slots : List ℕ}
+    {parts : List Part} → IsSound (Ending p) true heard
     → stands_at_boundary p ≡ true → heard ≤ end → Fits Idle heard None askings end slots parts
     → Fits (Ending p) heard (Some heard) askings end slots (Text text ∷ parts)
-ending_reply p heard text askings end slots parts sound stands on fits =
-    let ended = ended_at p heard (p.before + p.sent) sound.0 sound.2 (stands_here p sound.0.pacing stands) refl in
-    let over = over_fits p heard askings end slots parts sound.0 ended on fits in
+ending_reply {p} {heard} {text} {end} sound stands on fits =
+    let ended = ended_at sound.0 sound.2 (stands_here p sound.0.pacing stands) refl in
+    let over = over_fits sound.0 ended on fits in
     record {
       from = fits.from;
       later = fits.later;
-      stand = text_at p p.keep heard (min (first_slots p.plan (heard + 1 - p.start)) p.keep) (plays_of askings) end slots text parts
+      stand = text_at
           (at_here p heard sound.0 stands) refl fits.later.starts (due_far p heard end sound.0 on) over.stand;
     }
 
@@ -206,22 +209,22 @@ pub replying : (state : State) (goes : Bool) (heard : ℕ) (text : List ℕ) →
 replying Init true heard text sound is = record {
   after = None;
   held = refl;
-  goes_on = record { later = omega arith; rest = λ askings end more rest on fits. idle_reply heard text askings end more rest fits };
+  goes_on = record { later = omega arith; rest = λ askings end more rest on fits. idle_reply fits };
 }
 replying (Ready setup paused) true heard text sound is = record {
   after = None;
   held = refl;
-  goes_on = record { later = omega arith; rest = λ askings end more rest on fits. idle_reply heard text askings end more rest fits };
+  goes_on = record { later = omega arith; rest = λ askings end more rest on fits. idle_reply fits };
 }
 replying (Playing setup play) true heard text sound is = record {
   after = None;
   held = refl;
-  goes_on = record { later = omega arith; rest = λ askings end more rest on fits. going_reply play.pacer heard text askings end more rest sound is on fits };
+  goes_on = record { later = omega arith; rest = λ askings end more rest on fits. going_reply sound is on fits };
 }
 replying (Stopping setup stop) true heard text sound is = record {
   after = None;
   held = refl;
-  goes_on = record { later = omega arith; rest = λ askings end more rest on fits. ending_reply stop.pacer heard text askings end more rest sound is on fits };
+  goes_on = record { later = omega arith; rest = λ askings end more rest on fits. ending_reply sound is on fits };
 }
 replying Init false heard text sound is = absurd (true≢false is)
 replying (Ready setup paused) false heard text sound is = absurd (true≢false is)
@@ -243,39 +246,39 @@ pub record SlotMoves (state : State) (waits : Bool) (heard slot : ℕ) (text : L
   pub held : IsHeld after (sends_in (state_after waits state slot)) (waits_after waits state slot) slot
   pub goes_on : GoesTo (sends_in state) (sends_in (state_after waits state slot)) heard slot pending after [] [] (parts_of waits state text slot)
 
-going_slot : (p : Pacing) (heard slot : ℕ) (waits : Bool) (text : List ℕ) (pending : Option ℕ) → IsSound (Going p) waits heard → heard < slot
+going_slot : {p : Pacing} {heard slot : ℕ} {pending : Option ℕ} (waits : Bool) (text : List ℕ) → IsSound (Going p) waits heard → heard < slot
     → IsHeld pending (Going p) waits heard
     → GoesTo (Going p) (Going (sent_through slot p)) heard slot pending (after_slot (stands_at_boundary (after_step true slot p)) pending) [] []
     (parts_in waits (stands_at_boundary (after_step true slot p)) p slot text)
-going_slot p heard slot waits text pending sound later held = record {
+going_slot {p} {heard} {slot} waits text sound later held = record {
   later = omega (arith, later);
   rest = λ askings end more rest on fits. record {
     from = from_lower heard slot more (omega (arith, later)) fits.from;
     later = later_lower heard slot (plays_of askings) (omega (arith, later)) fits.later;
-    stand = slot_at p (kept_in askings (total_bytes p.plan)) pending heard slot waits (stands_at_boundary (after_step true slot p)) text (plays_of askings) end more rest
+    stand = slot_at waits text
         sound.0 later on refl held (λ taken less. due_going p taken (kept_in askings (total_bytes p.plan)) sound.0.pacing sound.1 less) fits.later fits.stand;
   };
 }
 
-going_held : (p : Pacing) (heard slot : ℕ) (waits between : Bool) (pending : Option ℕ) → IsOnTime p heard → heard < slot
+going_held : {p : Pacing} {heard slot : ℕ} {between : Bool} (waits : Bool) (pending : Option ℕ) → IsOnTime p heard → heard < slot
     → stands_at_boundary (after_step true slot p) ≡ between → IsHeld pending (Going p) waits heard
     → IsHeld (after_slot between pending) (Going (sent_through slot p)) (if waits && between then false else waits) slot
-going_held p heard slot true between None on later stands held = absurd (true≢false held)
-going_held p heard slot false between None on later stands held = refl
-going_held p heard slot false between (Some taken) on later stands held = absurd (true≢false (sym held.0))
-going_held p heard slot true true (Some taken) on later stands held = refl
-going_held p heard slot true false (Some taken) on later stands held = (refl, still_held p taken heard slot on.pacing later held.1 stands)
+going_held {p} {slot} {between} true None on later stands held = absurd (true≢false held)
+going_held {p} {slot} {between} false None on later stands held = refl
+going_held {p} {slot} {between} false (Some taken) on later stands held = absurd (true≢false (sym held.0))
+going_held {p} {slot} {between = true} true (Some taken) on later stands held = refl
+going_held {p} {slot} {between = false} true (Some taken) on later stands held = (refl, still_held on.pacing later held.1 stands)
 
 -- the rest of a play that was halted
 abbrev ends_in : Bool → Pacing → Sends
 ends_in between p = if between then Idle else Ending p
 
-ending_held : (p : Pacing) (heard slot : ℕ) (between : Bool) (pending : Option ℕ) → IsOnTime p heard → heard < slot
+ending_held : {p : Pacing} {heard slot : ℕ} {between : Bool} (pending : Option ℕ) → IsOnTime p heard → heard < slot
     → stands_at_boundary (after_step true slot p) ≡ between → IsHeld pending (Ending p) true heard
     → IsHeld (after_slot between pending) (ends_in between (sent_through slot p)) (if between then false else true) slot
-ending_held p heard slot between None on later stands held = absurd (true≢false held)
-ending_held p heard slot true (Some taken) on later stands held = refl
-ending_held p heard slot false (Some taken) on later stands held = (refl, still_held p taken heard slot on.pacing later held.1 stands)
+ending_held {p} {slot} {between} None on later stands held = absurd (true≢false held)
+ending_held {p} {slot} {between = true} (Some taken) on later stands held = refl
+ending_held {p} {slot} {between = false} (Some taken) on later stands held = (refl, still_held on.pacing later held.1 stands)
 
 sent_after : (p : Pacing) (slot : ℕ) → IsPacing p → p.before + p.sent ≤ p.before + (after_step true slot p).sent
 sent_after p slot is =
@@ -303,44 +306,45 @@ ended_through p heard slot sound later stands =
     let least : p.before + p.keep ≤ p.before + one.sent = sound.2 (p.before + one.sent) boundary (sent_after p slot on.pacing) in
     omega (arith, least, through.pacing.due)
 
-ending_stand : (p : Pacing) (heard slot : ℕ) (between : Bool) (askings : List Asking) (end : ℕ) (more : List ℕ) (rest : List Part) (after : Option ℕ)
+ending_stand : {p : Pacing} {heard slot : ℕ} {between : Bool} {askings : List Asking} {end : ℕ} {more : List ℕ}
+    {rest : List Part} {after : Option ℕ}
     → IsSound (Ending p) true heard → heard < slot → stands_at_boundary (after_step true slot p) ≡ between → slot ≤ end
     → (between ≡ true → after ≡ None)
     → Fits (ends_in between (sent_through slot p)) slot after askings end more rest → Fits (Ending (sent_through slot p)) slot after askings end more rest
-ending_stand p heard slot false askings end more rest after sound later stands ends none fits = fits
-ending_stand p heard slot true askings end more rest after sound later stands ends none fits =
+ending_stand {p} {slot} {between = false} {end} {more} sound later stands ends none fits = fits
+ending_stand {p} {heard} {slot} {between = true} {askings} {end} {more} {rest} sound later stands ends none fits =
     subst (λ a. Fits (Ending (sent_through slot p)) slot a askings end more rest) (sym (none refl))
-    (over_fits (sent_through slot p) slot askings end more rest (through_time p heard slot sound.0 later) (ended_through p heard slot sound later stands) ends
+    (over_fits (through_time p heard slot sound.0 later) (ended_through p heard slot sound later stands) ends
     (subst (λ a. Fits Idle slot a askings end more rest) (none refl) fits))
 
 after_none : (between : Bool) (pending : Option ℕ) → between ≡ true → after_slot between pending ≡ None
 after_none between None is = refl
 after_none between (Some slot) is = ap (λ b. if b then None else Some slot) is
 
-ending_slot : (p : Pacing) (heard slot : ℕ) (text : List ℕ) (pending : Option ℕ) → IsSound (Ending p) true heard → heard < slot
+ending_slot : {p : Pacing} {heard slot : ℕ} {pending : Option ℕ} (text : List ℕ) → IsSound (Ending p) true heard → heard < slot
     → IsHeld pending (Ending p) true heard
     → GoesTo (Ending p) (ends_in (stands_at_boundary (after_step true slot p)) (sent_through slot p)) heard slot pending
     (after_slot (stands_at_boundary (after_step true slot p)) pending) [] [] (parts_in true (stands_at_boundary (after_step true slot p)) p slot text)
-ending_slot p heard slot text pending sound later held =
+ending_slot {p} {heard} {slot} {pending} text sound later held =
     let between : Bool = stands_at_boundary (after_step true slot p) in
     let after : Option ℕ = after_slot between pending in
     record {
       later = omega (arith, later);
       rest = λ askings end more rest on fits.
-          let whole = ending_stand p heard slot between askings end more rest after sound later refl on (after_none between pending) fits in
+          let whole = ending_stand sound later refl on (after_none between pending) fits in
           record {
             from = from_lower heard slot more (omega (arith, later)) fits.from;
             later = later_lower heard slot (plays_of askings) (omega (arith, later)) fits.later;
-            stand = slot_at p p.keep pending heard slot true between text (plays_of askings) end more rest sound.0 later on refl (as_going p heard pending held)
+            stand = slot_at true text sound.0 later on refl (as_going p heard pending held)
                 (λ taken less. refl) fits.later whole.stand;
           };
     }
 
-pub slot_moves : (state : State) (waits : Bool) (heard slot : ℕ) (text : List ℕ) (pending : Option ℕ) → is_sending state ≡ true
+pub slot_moves : {state : State} {waits : Bool} {heard slot : ℕ} {text : List ℕ} {pending : Option ℕ} → is_sending state ≡ true
     → IsSound (sends_in state) waits heard → heard < slot → IsHeld pending (sends_in state) waits heard → SlotMoves state waits heard slot text pending
-slot_moves Init waits heard slot text pending sending sound later held = absurd (true≢false (sym sending))
-slot_moves (Ready setup paused) waits heard slot text pending sending sound later held = absurd (true≢false (sym sending))
-slot_moves (Playing setup play) waits heard slot text pending sending sound later held =
+slot_moves {state = Init} {waits} {slot} {text} sending sound later held = absurd (true≢false (sym sending))
+slot_moves {state = Ready setup paused} {waits} {slot} {text} sending sound later held = absurd (true≢false (sym sending))
+slot_moves {state = Playing setup play} {waits} {heard} {slot} {text} {pending} sending sound later held =
     let p : Pacing = play.pacer in
     let one : Pacing = after_step true slot p in
     let between : Bool = stands_at_boundary one in
@@ -349,12 +353,12 @@ slot_moves (Playing setup play) waits heard slot text pending sending sound late
     record {
       after = after_slot between pending;
       held = subst (λ s. IsHeld (after_slot between pending) s (waits_after waits (Playing setup play) slot) slot) (sym sends)
-          (going_held p heard slot waits between pending sound.0 later refl held);
+          (going_held waits pending sound.0 later refl held);
       goes_on = subst (λ s. GoesTo (Going p) s heard slot pending (after_slot between pending) [] [] (parts_of waits (Playing setup play) text slot)) (sym sends)
-          (going_slot p heard slot waits text pending sound later held);
+          (going_slot waits text sound later held);
     }
-slot_moves (Stopping setup stop) false heard slot text pending sending sound later held = absurd (true≢false (sym sound.1))
-slot_moves (Stopping setup stop) true heard slot text pending sending sound later held =
+slot_moves {state = Stopping setup stop} {waits = false} {slot} {text} sending sound later held = absurd (true≢false (sym sound.1))
+slot_moves {state = Stopping setup stop} {waits = true} {heard} {slot} {text} {pending} sending sound later held =
     let p : Pacing = stop.pacer in
     let one : Pacing = after_step true slot p in
     let between : Bool = stands_at_boundary one in
@@ -363,7 +367,7 @@ slot_moves (Stopping setup stop) true heard slot text pending sending sound late
     record {
       after = after_slot between pending;
       held = subst (λ s. IsHeld (after_slot between pending) s (waits_after true (Stopping setup stop) slot) slot) (sym sends)
-          (ending_held p heard slot between pending sound.0 later refl held);
+          (ending_held pending sound.0 later refl held);
       goes_on = subst (λ s. GoesTo (Ending p) s heard slot pending (after_slot between pending) [] [] (parts_of true (Stopping setup stop) text slot)) (sym sends)
-          (ending_slot p heard slot text pending sound later held);
+          (ending_slot text sound later held);
     }

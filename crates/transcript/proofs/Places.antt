@@ -63,10 +63,11 @@ pub record StandAt (p : Pacing) (keep : ℕ) (pending : Option ℕ) (plays : Lis
   pub sent : AreSentAt end (play_with p keep ∷ plays) (with_pending pending slots) (placed_texts p.sent parts)
 
 -- bytes of the film
-pub film_at : (p q : Pacing) (keep : ℕ) (pending : Option ℕ) (plays : List FilmPlay) (end : ℕ) (slots : List ℕ) (bytes : List ℕ) (parts : List Part)
+pub film_at : {p q : Pacing} {keep : ℕ} {pending : Option ℕ} {plays : List FilmPlay} {end : ℕ} {slots bytes : List ℕ}
+    {parts : List Part}
     → play_with q keep ≡ play_with p keep → p.sent + length bytes ≡ q.sent → StandAt q keep pending plays end slots parts
     → StandAt p keep pending plays end slots (Film bytes ∷ parts)
-film_at p q keep pending plays end slots bytes parts same size stand = record {
+film_at {p} {q} {keep} {pending} {plays} {end} {slots} {parts} same size stand = record {
   holds = omega (arith, size, stand.holds);
   sent = subst (λ n. AreSentAt end (play_with p keep ∷ plays) (with_pending pending slots) (placed_texts n parts)) (sym size)
       (subst (λ play. AreSentAt end (play ∷ plays) (with_pending pending slots) (placed_texts q.sent parts)) same stand.sent);
@@ -78,38 +79,39 @@ pub record IsAtNext (p : Pacing) (due : ℕ) : Type 0 where
   pub after : due ≤ p.sent
   pub least : (place : ℕ) → IsBoundary p.pieces place → p.before + due ≤ place → p.before + p.sent ≤ place
 
-pub due_then : (p : Pacing) (keep slot due : ℕ) (plays : List FilmPlay) → due_of slot (play_with p keep) ≡ due → AreAfter slot plays
+pub due_then : {due : ℕ} (p : Pacing) (keep slot : ℕ) (plays : List FilmPlay) → due_of slot (play_with p keep) ≡ due → AreAfter slot plays
     → all_due slot (play_with p keep ∷ plays) ≡ due
-due_then p keep slot due plays is are =
+due_then p keep slot plays is are =
     let none : all_due slot plays ≡ 0 = none_due slot plays are in
     due_cons slot (play_with p keep) plays ∙ omega (arith, is, none)
 
-least_here : (p : Pacing) (keep due : ℕ) (plays : List FilmPlay) (other : ℕ) → p.sent ≤ keep → IsAtNext p due → due ≤ other
+least_here : {p : Pacing} {due other : ℕ} (keep : ℕ) (plays : List FilmPlay) → p.sent ≤ keep → IsAtNext p due → due ≤ other
     → IsBoundaryIn (play_with p keep ∷ plays) other → p.sent ≤ other
-least_here p keep due plays other holds at from (inl own) =
+least_here {p} {other} keep plays holds at from (inl own) =
     let least = at.least (p.before + other) own.1 (omega (arith, from)) in omega (arith, least)
-least_here p keep due plays other holds at from (inr past) = omega (arith, holds, past.0)
+least_here {p} {other} keep plays holds at from (inr past) = omega (arith, holds, past.0)
 
-next_here : (p : Pacing) (keep slot due : ℕ) (plays : List FilmPlay) → p.sent ≤ keep → IsAtNext p due → due_of slot (play_with p keep) ≡ due
+next_here : {p : Pacing} {due : ℕ} {plays : List FilmPlay} (keep slot : ℕ) → p.sent ≤ keep → IsAtNext p due → due_of slot (play_with p keep) ≡ due
     → AreAfter slot plays → IsNextIn (play_with p keep ∷ plays) (all_due slot (play_with p keep ∷ plays)) p.sent
-next_here p keep slot due plays holds at is are =
-    let all = due_then p keep slot due plays is are in
+next_here {p} {plays} keep slot holds at is are =
+    let all = due_then p keep slot plays is are in
     record {
       boundary = inl (holds, at.boundary);
       after = omega (arith, all, at.after);
-      least = λ other boundary from. least_here p keep due plays other holds at (omega (arith, all, from)) boundary;
+      least = λ other boundary from. least_here keep plays holds at (omega (arith, all, from)) boundary;
     }
 
-pub text_at : (p : Pacing) (keep slot due : ℕ) (plays : List FilmPlay) (end : ℕ) (slots : List ℕ) (text : List ℕ) (parts : List Part) → IsAtNext p due
+pub text_at : {p : Pacing} {keep slot due : ℕ} {plays : List FilmPlay} {end : ℕ} {slots text : List ℕ}
+    {parts : List Part} → IsAtNext p due
     → due_of slot (play_with p keep) ≡ due → AreAfter slot plays → p.sent ≤ first_slots p.plan (end + 1 - p.start)
     → StandAt p keep None plays end slots parts → StandAt p keep (Some slot) plays end slots (Text text ∷ parts)
-text_at p keep slot due plays end slots text parts at is are far stand =
+text_at {p} {keep} {slot} {plays} {end} {text} at is are far stand =
     let all = due_cons end (play_with p keep) plays in
     let own : p.sent ≤ due_of end (play_with p keep) = omega (arith, far, stand.holds) in
     record {
       holds = stand.holds;
       sent = (
-        record { next = next_here p keep slot due plays stand.holds at is are; reached = omega (arith, all, own) },
+        record { next = next_here keep slot stand.holds at is are; reached = omega (arith, all, own) },
         stand.sent,
       );
     }
@@ -122,79 +124,79 @@ past_due : (play : FilmPlay) (plays : List FilmPlay) (from slot : ℕ) → IsOve
     → all_due slot (play ∷ plays) ≡ play.keep + all_due slot plays
 past_due play plays from slot is later = let own = is.over slot later in due_cons slot play plays ∙ omega (arith, own)
 
-past_unsent : (play : FilmPlay) (plays : List FilmPlay) (from end slot place : ℕ) → IsOver play from → from ≤ slot → from ≤ end → IsBoundaryIn plays 0
+past_unsent : {play : FilmPlay} {from end slot place : ℕ} (plays : List FilmPlay) → IsOver play from → from ≤ slot → from ≤ end → IsBoundaryIn plays 0
     → IsUnsentAt end plays slot → IsBoundaryIn (play ∷ plays) place → all_due slot (play ∷ plays) ≤ place → all_due end (play ∷ plays) < place
-past_unsent play plays from end slot place is later ends begins none (inl own) due =
+past_unsent {play} {from} {end} {slot} {place} plays is later ends begins none (inl own) due =
     let first = past_due play plays from slot is later in
     let nothing : all_due slot plays ≤ 0 = omega (arith, first, due, own.0) in
     let bad = none 0 begins nothing in
     absurd (omega (arith, bad))
-past_unsent play plays from end slot place is later ends begins none (inr past) due =
+past_unsent {play} {from} {end} {slot} {place} plays is later ends begins none (inr past) due =
     let first = past_due play plays from slot is later in
     let last = past_due play plays from end is ends in
     let less = none (place - play.keep) past.1 (omega (arith, first, due, past.0)) in
     omega (arith, last, less)
 
-past_least : (play : FilmPlay) (plays : List FilmPlay) (from slot at other : ℕ) → IsOver play from → from ≤ slot → IsBoundaryIn plays 0
+past_least : {play : FilmPlay} {plays : List FilmPlay} {from at other : ℕ} (slot : ℕ) → IsOver play from → from ≤ slot → IsBoundaryIn plays 0
     → IsNextIn plays (all_due slot plays) at → all_due slot (play ∷ plays) ≤ other → IsBoundaryIn (play ∷ plays) other → play.keep + at ≤ other
-past_least play plays from slot at other is later begins next due (inl own) =
+past_least {play} {plays} {from} {at} {other} slot is later begins next due (inl own) =
     let first = past_due play plays from slot is later in
     let here = next.least 0 begins (omega (arith, first, due, own.0)) in
     omega (arith, here, first, due)
-past_least play plays from slot at other is later begins next due (inr past) =
+past_least {play} {plays} {from} {at} {other} slot is later begins next due (inr past) =
     let first = past_due play plays from slot is later in
     let least = next.least (other - play.keep) past.1 (omega (arith, first, due, past.0)) in
     omega (arith, least, past.0)
 
-past_sent : (play : FilmPlay) (plays : List FilmPlay) (from end slot at : ℕ) (text : List ℕ) → IsOver play from → from ≤ slot → from ≤ end → IsBoundaryIn plays 0
+past_sent : {play : FilmPlay} {plays : List FilmPlay} {from end slot : ℕ} (at : ℕ) (text : List ℕ) → IsOver play from → from ≤ slot → from ≤ end → IsBoundaryIn plays 0
     → IsSentAt end plays slot (placed_text at text) → IsSentAt end (play ∷ plays) slot (placed_text (play.keep + at) text)
-past_sent play plays from end slot at text is later ends begins sent =
+past_sent {play} {plays} {from} {end} {slot} at text is later ends begins sent =
     let first = past_due play plays from slot is later in
     let last = past_due play plays from end is ends in
     record {
       next = record {
         boundary = inr (omega arith, subst (IsBoundaryIn plays) (omega arith) sent.next.boundary);
         after = omega (arith, first, sent.next.after);
-        least = λ other boundary due. past_least play plays from slot at other is later begins sent.next due boundary;
+        least = λ other boundary due. past_least slot is later begins sent.next due boundary;
       };
       reached = omega (arith, last, sent.reached);
     }
 
-past_all : (play : FilmPlay) (plays : List FilmPlay) (from end at : ℕ) (slots : List ℕ) (parts : List Part) → IsOver play from → from ≤ end
+past_all : {play : FilmPlay} {from end : ℕ} (plays : List FilmPlay) (at : ℕ) (slots : List ℕ) (parts : List Part) → IsOver play from → from ≤ end
     → AreFrom from slots → IsBoundaryIn plays 0 → AreSentAt end plays slots (placed_texts at parts)
     → AreSentAt end (play ∷ plays) slots (placed_texts (play.keep + at) parts)
-past_all play plays from end at [] [] is ends are begins sent = tt
-past_all play plays from end at (slot ∷ slots) [] is ends are begins sent = (
-  λ place boundary due. past_unsent play plays from end slot place is are.0 ends begins sent.0 boundary due,
-  past_all play plays from end at slots [] is ends are.1 begins sent.1,
+past_all {from} {end} plays at [] [] is ends are begins sent = tt
+past_all {from} {end} plays at (slot ∷ slots) [] is ends are begins sent = (
+  λ place boundary due. past_unsent plays is are.0 ends begins sent.0 boundary due,
+  past_all plays at slots [] is ends are.1 begins sent.1,
 )
-past_all play plays from end at slots (Film bytes ∷ parts) is ends are begins sent =
+past_all {play} {from} {end} plays at slots (Film bytes ∷ parts) is ends are begins sent =
     let n : ℕ = length bytes in
     let same : play.keep + (at + n) ≡ play.keep + at + n = omega arith in
     subst (λ m. AreSentAt end (play ∷ plays) slots (placed_texts m parts)) same
-    (past_all play plays from end (at + n) slots parts is ends are begins sent)
-past_all play plays from end at [] (Text text ∷ parts) is ends are begins sent = absurd sent
-past_all play plays from end at (slot ∷ slots) (Text text ∷ parts) is ends are begins sent = (
-  past_sent play plays from end slot at text is are.0 ends begins sent.0,
-  past_all play plays from end at slots parts is ends are.1 begins sent.1,
+    (past_all plays (at + n) slots parts is ends are begins sent)
+past_all {from} {end} plays at [] (Text text ∷ parts) is ends are begins sent = absurd sent
+past_all {from} {end} plays at (slot ∷ slots) (Text text ∷ parts) is ends are begins sent = (
+  past_sent at text is are.0 ends begins sent.0,
+  past_all plays at slots parts is ends are.1 begins sent.1,
 )
 
-stays_due : (p : Pacing) (heard keep slot : ℕ) → IsOnTime p heard → p.sent ≡ keep → heard ≤ slot → due_of slot (play_with p keep) ≡ keep
-stays_due p heard keep slot on sent from =
+stays_due : {p : Pacing} {heard keep : ℕ} (slot : ℕ) → IsOnTime p heard → p.sent ≡ keep → heard ≤ slot → due_of slot (play_with p keep) ≡ keep
+stays_due {p} {heard} slot on sent from =
     let rise : first_slots p.plan (heard + 1 - p.start) ≤ first_slots p.plan (slot + 1 - p.start) =
     first-slots-rise p.plan (heard + 1 - p.start) (slot + 1 - p.start) (omega (arith, from)) in
     let now : p.sent ≡ min (first_slots p.plan (heard + 1 - p.start)) p.keep =
     on.even ∙ on.pacing.due ∙ ap (λ n. min (first_slots p.plan n) p.keep) on.passed in
     omega (arith, rise, now, sent)
 
-pub over_at : (p : Pacing) (heard keep : ℕ) (plays : List FilmPlay) (end : ℕ) (slots : List ℕ) (parts : List Part) → IsOnTime p heard → p.sent ≡ keep
+pub over_at : {p : Pacing} {heard keep : ℕ} {plays : List FilmPlay} {end : ℕ} {slots : List ℕ} {parts : List Part} → IsOnTime p heard → p.sent ≡ keep
     → heard ≤ end → AreFrom heard slots → AreLater heard plays → AreSentAt end plays slots (placed_texts 0 parts)
     → StandAt p keep None plays end slots parts
-over_at p heard keep plays end slots parts on sent ends are later all =
+over_at {p} {heard} {keep} {plays} {end} {slots} {parts} on sent ends are later all =
     let play : FilmPlay = play_with p keep in
-    let over : IsOver play heard = record { over = λ slot from. stays_due p heard keep slot on sent from } in
+    let over : IsOver play heard = record { over = λ slot from. stays_due slot on sent from } in
     let shifted : AreSentAt end (play ∷ plays) slots (placed_texts (keep + 0) parts) =
-    past_all play plays heard end 0 slots parts over ends are later.begins all in
+    past_all plays 0 slots parts over ends are later.begins all in
     record {
       holds = omega (arith, sent);
       sent = subst (λ n. AreSentAt end (play ∷ plays) slots (placed_texts n parts)) (omega (arith, sent)) shifted;

@@ -94,11 +94,11 @@ pub record IsSentThrough (play : FilmPlay) (rounds : List Round) : Type 0 where
   pub plan : IsPlan play.plan
   pub parts : film_bytes (rounds_parts rounds) ≡ rounds_film rounds
 
-sent-through : (course : Course) (first later : List Round) (play : FilmPlay) (j : ℕ)
+sent-through : {first : List Round} {play : FilmPlay} (course : Course) (later : List Round) (j : ℕ)
     → (follows : Follows (first_stage course.films course.settings course.words) (first ++ later) course.last)
     → plays_of (askings_of (first_stage course.films course.settings course.words) (first ++ later) course.last follows) ≡ play ∷ []
     → play.keep ≡ total_bytes play.plan → greatest_slot first ≡ play.start + j → IsSentThrough play first
-sent-through course first later play j follows one whole slot =
+sent-through {first} {play} course later j follows one whole slot =
     let begin = first_stage course.films course.settings course.words in
     let stands = first-stands course in
     let parts = parted begin course.last first later follows in
@@ -137,9 +137,9 @@ rest-all stored =
     take_all (length stored.film.units.items - 0) (film_sizes stored.film)
     (omega (arith, length-map stored.film.units.items (λ u. wire_size stored.film.slice_starts.items u)))
 
-whole-bytes : (wish : Wish) (stored : Stored) (identity : Identity) (play : FilmPlay) (x : Stream) → IsWholePlay wish stored identity play
+whole-bytes : {wish : Wish} {stored : Stored} {identity : Identity} {play : FilmPlay} {x : Stream} → IsWholePlay wish stored identity play
     → IsFilmIn stored.film identity x → total_bytes play.plan ≡ length (framed_bytes x.blocks)
-whole-bytes wish stored identity play x whole is =
+whole-bytes {wish} {stored} {identity} {play} {x} whole is =
     let keeps = sending-keeps (stored_sizes stored) (playback_of wish stored) (whole_run stored) play.plan whole.sending in
     omega (arith, keeps.bytes, ap sum (rest-all stored), blocks-sum stored.film identity x is)
 
@@ -152,10 +152,11 @@ pub record IsSentBetween (wish : Wish) (film : Film) (total place count : ℕ) :
   pub few : count ≤ total
   pub between : IsBetween wish (film_sizes film) (picture_time film.rate) place count
 
-sent-between : (wish : Wish) (stored : Stored) (identity : Identity) (play : FilmPlay) (x : Stream) (rounds : List Round) (j : ℕ)
+sent-between : {wish : Wish} {stored : Stored} {identity : Identity} {play : FilmPlay} {x : Stream}
+    {rounds : List Round} {j : ℕ}
     → IsWholePlay wish stored identity play → IsFilmIn stored.film identity x → x.blocks ≡ film_blocks stored identity → IsSentThrough play rounds
     → greatest_slot rounds ≡ play.start + j → IsSentBetween wish stored.film (length (framed_bytes x.blocks)) j (length (rounds_film rounds))
-sent-between wish stored identity play x rounds j whole is blocks sent slot =
+sent-between {wish} {stored} {identity} {play} {x} {rounds} {j} whole is blocks sent slot =
     let g = greatest_slot rounds in
     let n = first_slots play.plan (j + 1) in
     let total = length (framed_bytes x.blocks) in
@@ -163,7 +164,7 @@ sent-between wish stored identity play x rounds j whole is blocks sent slot =
     sent.film ∙ (one-written g play ∙ ap (take (due_of g play)) (film-blocks wish stored identity play whole ∙ ap framed_bytes (sym blocks))) in
     let at : g + 1 - play.start ≡ j + 1 = omega (arith, slot) in
     let due : first_slots play.plan (g + 1 - play.start) ≡ n = ap (first_slots play.plan) at in
-    let bytes = whole-bytes wish stored identity play x whole is in
+    let bytes = whole-bytes whole is in
     let most = slots-most play (j + 1) sent.plan in
     let size : length (rounds_film rounds) ≡ n =
     ap (λ (l : List ℕ). length l) film ∙ (length-take (due_of g play) (framed_bytes x.blocks) ∙ omega (arith, due, whole.keep, most, bytes)) in
@@ -176,7 +177,7 @@ sent-between wish stored identity play x rounds j whole is blocks sent slot =
     record {
       few = omega (arith, size, most, bytes);
       between = subst Q came (subst P (rest-all stored)
-          (curves-same wish (timing_of playback run) (rest_sizes (stored_sizes stored) run) j (0 + n) refl refl refl refl curves.above curves.below));
+          (curves-same (timing_of playback run) refl refl refl refl curves.above curves.below));
     }
 
 -- ---- what the client is fed
@@ -218,8 +219,8 @@ fed-by wish stored course played first later j split slot =
     let G : (rs : List Round) → Follows begin rs course.last → Type 0 = λ rs f. plays_of (askings_of begin rs course.last f) ≡ play ∷ [] in
     let H : List Round → Type 0 = λ rs. (f : Follows begin rs course.last) × G rs f in
     let there : H (first ++ later) = subst H split (course.follows, played.plays) in
-    let sent = sent-through course first later play j there.0 there.1 played.whole.keep slot in
-    let between = sent-between wish stored played.identity play x first j played.whole is refl sent slot in
+    let sent = sent-through course later j there.0 there.1 played.whole.keep slot in
+    let between = sent-between played.whole is refl sent slot in
     let one = rounds_parts first in
     let two = rounds_parts later in
     let film = length (rounds_film first) in
@@ -234,16 +235,17 @@ fed-by wish stored course played first later j split slot =
     let next : (placed : PlacedText) (rest : List PlacedText) → placed_texts (0 + length (film_bytes one)) two ≡ placed ∷ rest → film ≤ placed.place = λ placed rest at.
     let T : List PlacedText → Type 0 = λ l. IsFromTo (0 + length (film_bytes one)) (0 + length (film_bytes one) + length (film_bytes two)) l in
     let its = subst T at (texts-within (0 + length (film_bytes one)) two) in omega (arith, its.0, same) in
-    let counted = counted-by played.setup played.played played.later (placed_texts 0 one) (placed_texts (0 + length (film_bytes one)) two) film
-    (length (framed_bytes x.blocks)) played.setup_is.starts.0 played.played_is.starts.0 texts played.after within next between.few in
+    let counted = counted-by played.setup played.played (placed_texts 0 one)
+    played.setup_is.starts.0 played.played_is.starts.0 texts played.after within next between.few in
     let C : ℕ → Type 0 = λ n. IsCounted (length x.first) (length x.second) film (length (framed_bytes x.blocks)) n in
     let here = subst C (sym bytes) counted in
     let P : ℕ → Type 0 = λ n. IsBetween wish (film_sizes stored.film) (picture_time stored.film.rate) j n in
     record { between = λ much. subst P (sym (here.is much)) between.between }
 
-pub fed : (wish : Wish) (stored : Stored) (course : Course) (played : IsPlayed wish stored course) (bytes : List ℕ) (j : ℕ)
+pub fed : {wish : Wish} {stored : Stored} {course : Course} {bytes : List ℕ} {j : ℕ}
+    (played : IsPlayed wish stored course)
     → IsWrittenBy (rounds_doings course.rounds) (played.play.start + j) bytes → IsFed wish stored.film (stream_of wish stored course played) bytes j
-fed wish stored course played bytes j written =
+fed {wish} {stored} {course} {bytes} {j} played written =
     let begin = first_stage course.films course.settings course.words in
     let whole = whole-rounds course.rounds written.front written.rest written.parts written.whole in
     let E : List Round → Type 0 = λ rs. AreEvents rs in
@@ -277,7 +279,7 @@ all-sent wish stored course played =
     let all_within = subst T played.texts (texts-within 0 parts) in
     let F : ℕ → Type 0 = λ n. IsFromTo 0 n played.later in
     let within : IsFromTo 0 (length film) played.later = subst F (let e : 0 + length (film_bytes parts) ≡ length film = omega (arith, size) in e) all_within.1.1.1.1 in
-    let front = all-woven film blocks played.setup played.played played.later (due_of g play) is played.after within in
+    let front = all-woven blocks played.setup played.played played.later (due_of g play) is played.after within in
     let events = events-are begin course.last course.rounds course.follows in
     let bytes : sent_bytes (rounds_doings course.rounds) ≡ with_texts 0 film (placed_text 0 played.setup ∷ placed_text 0 played.played ∷ played.later) =
     rounds-sent course.rounds events ∙ (woven_is ∙ ap (with_texts 0 film) played.texts) in

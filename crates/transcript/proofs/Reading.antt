@@ -137,10 +137,10 @@ min-more : (a b : ℕ) → b ≤ a → b ≡ min a b
 min-more a b more = omega (arith, more)
 
 -- with the two first replies whole
-reading-film : (x : Stream) (c : ℕ) (at : Stage) → length x.first + length x.second ≤ c
+reading-film : {x : Stream} {c : ℕ} {at : Stage} → length x.first + length x.second ≤ c
     → sum_of at.history ≡ steps (begun_sum x) (moments_in (take (count_ended (film_place x c) (x.blocks ++ x.later)) (x.blocks ++ x.later)))
     → at.rest ≡ rest_at (film_place x c) (x.blocks ++ x.later) → replies at.history ≤ 2 → IsReadingOf x c at
-reading-film x c at past sum rest few =
+reading-film {x} {c} {at} past sum rest few =
     let d = film_place x c in
     let bs = x.blocks in
     let total = length (framed_bytes bs) in
@@ -179,9 +179,9 @@ reading-film x c at past sum rest few =
           }
     ]
 
-pub reading-of : (x : Stream) (bytes : List ℕ) (c : ℕ) (at : Stage) → Heard bytes at → ((n : ℕ) → IsPieceLength at.rest n → ⊥)
+pub reading-of : {x : Stream} {bytes : List ℕ} {c : ℕ} {at : Stage} → Heard bytes at → ((n : ℕ) → IsPieceLength at.rest n → ⊥)
     → bytes ≡ take c (framed_bytes (all_of x)) → 1 < replies at.history → replies at.history ≤ 2 → IsReadingOf x c at
-reading-of x bytes c at heard none is playing few =
+reading-of {x} {bytes} {c} {at} heard none is playing few =
     let all = all_of x in
     let P : List ℕ → Type 0 = λ b. IsStream b (take (count_ended c all) all) (rest_at c all) in
     let once = stream_once bytes heard.pieces (take (count_ended c all) all) at.rest (rest_at c all) (heard.cut, none) (subst P (sym is) (cut-at all c x.alone)) in
@@ -207,7 +207,7 @@ reading-of x bytes c at heard none is playing few =
                 let k = count_ended d (x.blocks ++ x.later) in
                 let two : take (count_ended c all) all ≡ x.first ∷ x.second ∷ take k (x.blocks ++ x.later) =
                 ap (λ n. take n all) (one ∙ ap suc (count-more x.second (x.blocks ++ x.later) c1 more)) in
-                reading-film x c at (omega (arith, long, more))
+                reading-film (omega (arith, long, more))
                 (sum ∙ (ap (λ l. steps no_sum (moments_in l)) two ∙ two-moments x (take k (x.blocks ++ x.later))))
                 (once.1 ∙ (rest_one ∙ rest-more x.second (x.blocks ++ x.later) c1 more)) few
           ]

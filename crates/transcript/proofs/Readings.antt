@@ -95,39 +95,41 @@ AreFed wish film x begin bytes rounds =
 
 -- ---- a slot
 
-slot-met : (wish : Wish) (film : Film) (identity : Identity) (x : Stream) (begin slot : ℕ) (bytes : List ℕ) (at : Stage) → IsFilmIn film identity x
+slot-met : {wish : Wish} {film : Film} {identity : Identity} {x : Stream} {begin : ℕ} {bytes : List ℕ} {at : Stage}
+    (slot : ℕ) → IsFilmIn film identity x
     → units_until (begun_sum x).end_ms (picture_time film.rate) ≡ length (film_sizes film) → Heard bytes at → IsFirst at.rest (Ok More)
     → bytes ≡ take (length bytes) (framed_bytes (all_of x)) → replies at.history ≤ 2 → (1 < replies at.history → first_slot at.history ≡ begin)
     → (begin ≤ slot → IsFed wish film x bytes (slot - begin)) → is_read at.history slot ≡ true
     → IsHeardOf (film_sizes film) (picture_time film.rate) at.history (cut_bytes at.rest)
     × IsBetween wish (film_sizes film) (picture_time film.rate) (place_in at.history slot) (bytes_received at.history + cut_bytes at.rest)
-slot-met wish film identity x begin slot bytes at is count heard idle front few begins fed read =
+slot-met {wish} {film} {begin} {at} slot is count heard idle front few begins fed read =
     let h = at.history in
     let playing : 1 < replies h = ltb-true 1 (replies h) (and-left (is_playing h) (nat_le (first_slot h) slot && nat_lt (last_slot h) slot) read) in
     let there : first_slot h ≤ slot = leb-true (first_slot h) slot
     (and-left (nat_le (first_slot h) slot) (nat_lt (last_slot h) slot) (and-right (is_playing h) (nat_le (first_slot h) slot && nat_lt (last_slot h) slot) read)) in
     let first : first_slot h ≡ begin = begins playing in
-    let reading = reading-of x bytes (length bytes) at heard (tells_none at.rest (Ok More) idle) front playing few in
-    let its = heard-of film identity x (length bytes) at is heard.gone reading count in
+    let reading = reading-of heard (tells_none at.rest (Ok More) idle) front playing few in
+    let its = heard-of is heard.gone reading count in
     let between = (fed (omega (arith, there, first))).between reading.past in
     let P : ℕ → ℕ → Type 0 = λ place came. IsBetween wish (film_sizes film) (picture_time film.rate) place came in
     (its.0, subst (λ n. P n (bytes_received h + cut_bytes at.rest)) (ap (λ n. slot - n) (sym first)) (subst (λ n. P (slot - begin) n) (sym its.1) between))
 
 -- ---- all events
 
-always-round : (event : Doing) (wish : Wish) (film : Film) (identity : Identity) (x : Stream) (begin : ℕ) (bytes : List ℕ) (old new : Stage) (round : Round)
+always-round : {event : Doing} {wish : Wish} {film : Film} {identity : Identity} {x : Stream} {begin : ℕ}
+    {bytes : List ℕ} {old new : Stage} {round : Round}
     → round.event ≡ event → Runs old round new → IsFilmIn film identity x → units_until (begun_sum x).end_ms (picture_time film.rate) ≡ length (film_sizes film)
     → Heard bytes old → IsFirst old.rest (Ok More) → bytes ≡ take (length bytes) (framed_bytes (all_of x)) → replies new.history ≤ 2
     → (1 < replies new.history → first_slot new.history ≡ begin)
     → ((slot : ℕ) → event ≡ HeardSlot slot → begin ≤ slot → IsFed wish film x bytes (slot - begin))
     → IsBetweenAlways wish (film_sizes film) (picture_time film.rate) old.history → IsBetweenAlways wish (film_sizes film) (picture_time film.rate) new.history
-always-round (HeardBytes more) wish film identity x begin bytes old new round event runs is count heard idle front few begins fed met =
+always-round {event = HeardBytes more} {wish} {film} {old} {new} {round} event runs is count heard idle front few begins fed met =
     let B : Doing → Type 0 = λ e. Brings e old.rest round.moments new.rest in
     let brings = subst B event runs.brings in
     let A : History → Type 0 = λ h. IsBetweenAlways wish (film_sizes film) (picture_time film.rate) h in
     subst A (sym (runs.history_is ∙ ap (after old.history) brings.1.1))
     (always-pieces wish (film_sizes film) (picture_time film.rate) old.history brings.0 met)
-always-round (HeardSlot slot) wish film identity x begin bytes old new round event runs is count heard idle front few begins fed met =
+always-round {event = HeardSlot slot} {wish} {film} {begin} {old} {new} {round} event runs is count heard idle front few begins fed met =
     let B : Doing → Type 0 = λ e. Brings e old.rest round.moments new.rest in
     let brings = subst B event runs.brings in
     let A : History → Type 0 = λ h. IsBetweenAlways wish (film_sizes film) (picture_time film.rate) h in
@@ -136,20 +138,21 @@ always-round (HeardSlot slot) wish film identity x begin bytes old new round eve
     let begins_here : 1 < replies old.history → first_slot old.history ≡ begin = λ playing.
     sym (ap first_slot history) ∙ begins (omega (arith, playing, same)) in
     subst A (sym history)
-    (met, λ read. slot-met wish film identity x begin slot bytes old is count heard idle front (omega (arith, few, same)) begins_here (fed slot refl) read)
-always-round HeardEnd wish film identity x begin bytes old new round event runs is count heard idle front few begins fed met =
+    (met, λ read. slot-met slot is count heard idle front (omega (arith, few, same)) begins_here (fed slot refl) read)
+always-round {event = HeardEnd} {old} {new} {round} event runs is count heard idle front few begins fed met =
     let B : Doing → Type 0 = λ e. Brings e old.rest round.moments new.rest in absurd (subst B event runs.brings)
-always-round (Sent byte) wish film identity x begin bytes old new round event runs is count heard idle front few begins fed met =
+always-round {event = Sent byte} {old} {new} {round} event runs is count heard idle front few begins fed met =
     let B : Doing → Type 0 = λ e. Brings e old.rest round.moments new.rest in absurd (subst B event runs.brings)
 
-pub always-all : (wish : Wish) (film : Film) (identity : Identity) (x : Stream) (begin c : ℕ) (bytes : List ℕ) (old new : Stage) (rounds : List Round)
+pub always-all : {wish : Wish} {film : Film} {identity : Identity} {x : Stream} {begin : ℕ} {bytes : List ℕ}
+    {old : Stage} {rounds : List Round} (c : ℕ) (new : Stage)
     → RunsAll old rounds new → IsFilmIn film identity x → units_until (begun_sum x).end_ms (picture_time film.rate) ≡ length (film_sizes film)
     → Heard bytes old → IsFirst old.rest (Ok More) → bytes ++ rounds_heard rounds ≡ take c (framed_bytes (all_of x)) → replies new.history ≤ 2
     → first_slot new.history ≡ begin → AreFed wish film x begin bytes rounds
     → IsBetweenAlways wish (film_sizes film) (picture_time film.rate) old.history → IsBetweenAlways wish (film_sizes film) (picture_time film.rate) new.history
-always-all wish film identity x begin c bytes old new [] all is count heard idle front few begins fed met =
+always-all {wish} {film} {rounds = []} c new all is count heard idle front few begins fed met =
     let A : Stage → Type 0 = λ s. IsBetweenAlways wish (film_sizes film) (picture_time film.rate) s.history in subst A (sym all) met
-always-all wish film identity x begin c bytes old new (round ∷ rounds) all is count heard idle front few begins fed met =
+always-all {wish} {film} {identity} {x} {begin} {bytes} {old} {rounds = round ∷ rounds} c new all is count heard idle front few begins fed met =
     let mid = all.0 in
     let later = history-later mid new rounds all.1.2 in
     let few_here : replies mid.history ≤ 2 = omega (arith, few, replies-later mid.history (moments_of_rounds rounds), ap replies later) in
@@ -159,12 +162,12 @@ always-all wish film identity x begin c bytes old new (round ∷ rounds) all is 
     let F : List ℕ → Type 0 = λ b. IsFed wish film x b (slot - begin) in
     subst F (append-nil bytes) (fed [] rounds round slot refl event after_begin) in
     let mine : bytes ≡ take (length bytes) (framed_bytes (all_of x)) = front-of bytes (rounds_heard (round ∷ rounds)) (framed_bytes (all_of x)) c front in
-    let now = always-round round.event wish film identity x begin bytes old mid round refl all.1.0 is count heard idle mine few_here begins_here fed_here met in
+    let now = always-round refl all.1.0 is count heard idle mine few_here begins_here fed_here met in
     let next : (bytes ++ bytes_in round.event) ++ rounds_heard rounds ≡ take c (framed_bytes (all_of x)) =
     append_assoc bytes (bytes_in round.event) (rounds_heard rounds) ∙ front in
     let fed_next : AreFed wish film x begin (bytes ++ bytes_in round.event) rounds = λ before after_ r slot split event after_begin.
     let F : List ℕ → Type 0 = λ b. IsFed wish film x b (slot - begin) in
     subst F (sym (append_assoc bytes (bytes_in round.event) (rounds_heard before)))
     (fed (round ∷ before) after_ r slot (ap (λ l. round ∷ l) split) event after_begin) in
-    always-all wish film identity x begin c (bytes ++ bytes_in round.event) mid new rounds all.1.2 is count (heard-round bytes old mid round heard all.1.0) all.1.1
+    always-all {wish = wish} {film = film} {identity = identity} {x = x} {begin = begin} {bytes = bytes ++ bytes_in round.event} {old = mid} {rounds = rounds} c new all.1.2 is count (heard-round bytes old mid round heard all.1.0) all.1.1
     next few begins fed_next now

@@ -34,8 +34,8 @@ offers-append : (xs ys : List Outcome) → offers_in (xs ++ ys) ≡ offers_in xs
 offers-append [] ys = refl
 offers-append (x ∷ xs) ys = ap (λ os. offer_in x ++ os) (offers-append xs ys) ∙ sym (append_assoc (offer_in x) (offers_in xs) (offers_in ys))
 
-logs-then : (a b c : Standing) (xs ys : List Outcome) → Logs a b xs → Logs b c ys → Logs a c (xs ++ ys)
-logs-then a b c xs ys one two = record {
+logs-then : {a b c : Standing} {xs ys : List Outcome} → Logs a b xs → Logs b c ys → Logs a c (xs ++ ys)
+logs-then {a} {c} {xs} {ys} one two = record {
   receipts = two.receipts ∙ ap (λ rs. rs ++ receipts_in ys) one.receipts ∙ append_assoc a.receipts (receipts_in xs) (receipts_in ys)
       ∙ ap (λ rs. a.receipts ++ rs) (sym (receipts-append xs ys));
   offers = two.offers ∙ ap (λ os. os ++ offers_in ys) one.offers ∙ append_assoc a.offers (offers_in xs) (offers_in ys)
@@ -56,37 +56,37 @@ logs-one old new outcome receipts offers = record {
 }
 
 -- an entry's answer is noted, and no offer
-logs-entry : (old new : Standing) (placed : Placed) (answer : Answer) → placed.entry.answer ≡ answer
+logs-entry : {old new : Standing} {placed : Placed} {answer : Answer} → placed.entry.answer ≡ answer
     → new.receipts ≡ old.receipts ++ EntryReceipt placed.place answer ∷ [] → new.offers ≡ old.offers → Logs old new (Entered placed ∷ [])
-logs-entry old new placed answer is receipts offers =
+logs-entry {old} {new} {placed} is receipts offers =
     logs-one old new (Entered placed) (receipts ∙ ap (λ a. old.receipts ++ EntryReceipt placed.place a ∷ []) (sym is)) (offers ∙ sym (append-nil old.offers))
 
 -- ---- the station's answers
 logs-play : (asking new : Standing) (placed : Placed) (answer : Answer) → placed.entry.answer ≡ answer → IsPlayAnswered asking placed answer new
     → Logs asking new (Entered placed ∷ [])
 logs-play asking new placed (Admitted start) is answered =
-    logs-entry asking new placed (Admitted start) is (ap (λ (s : Standing). s.receipts) answered.1) (ap (λ (s : Standing). s.offers) answered.1)
+    logs-entry is (ap (λ (s : Standing). s.receipts) answered.1) (ap (λ (s : Standing). s.offers) answered.1)
 logs-play asking new placed (Overflow slot booked asked) is answered =
-    logs-entry asking new placed (Overflow slot booked asked) is (ap (λ (s : Standing). s.receipts) answered) (ap (λ (s : Standing). s.offers) answered)
+    logs-entry is (ap (λ (s : Standing). s.receipts) answered) (ap (λ (s : Standing). s.offers) answered)
 logs-play asking new placed Halted is answered = absurd answered
 logs-play asking new placed (Looked now at booked) is answered = absurd answered
 
 logs-look : (asking new : Standing) (placed : Placed) (answer : Answer) → placed.entry.answer ≡ answer → IsLookAnswered asking placed answer new
     → Logs asking new (Entered placed ∷ [])
 logs-look asking new placed (Looked now at booked) is answered =
-    logs-entry asking new placed (Looked now at booked) is (ap (λ (s : Standing). s.receipts) answered) (ap (λ (s : Standing). s.offers) answered)
+    logs-entry is (ap (λ (s : Standing). s.receipts) answered) (ap (λ (s : Standing). s.offers) answered)
 logs-look asking new placed (Admitted start) is answered = absurd answered
 logs-look asking new placed (Overflow slot booked asked) is answered = absurd answered
 logs-look asking new placed Halted is answered = absurd answered
 
-logs-full : (asking new : Standing) (more entries live : ℕ) → new.receipts ≡ asking.receipts ++ receipt_in (WasFull more entries live) → new.offers ≡ asking.offers
+logs-full : {asking new : Standing} {more entries live : ℕ} → new.receipts ≡ asking.receipts ++ receipt_in (WasFull more entries live) → new.offers ≡ asking.offers
     → Logs asking new (WasFull more entries live ∷ [])
-logs-full asking new more entries live receipts offers = logs-one asking new (WasFull more entries live) receipts (offers ∙ sym (append-nil asking.offers))
+logs-full {asking} {new} {more} {entries} {live} receipts offers = logs-one asking new (WasFull more entries live) receipts (offers ∙ sym (append-nil asking.offers))
 
 logs-halt : (asking new : Standing) (keep : ℕ) (outcome : Outcome) → IsHalted asking keep outcome new → Logs asking new (outcome ∷ [])
 logs-halt asking new keep Unasked halted = absurd halted
 logs-halt asking new keep (Entered placed) halted =
-    logs-entry asking new placed Halted halted.answer (ap (λ (s : Standing). s.receipts) halted.halts) (ap (λ (s : Standing). s.offers) halted.halts)
+    logs-entry halted.answer (ap (λ (s : Standing). s.receipts) halted.halts) (ap (λ (s : Standing). s.offers) halted.halts)
 logs-halt asking new keep (WasFull more entries live) halted = absurd halted
 logs-halt asking new keep (Offered at_slot note) halted = absurd halted
 
@@ -106,13 +106,13 @@ logs-answer asking new AskReply (Offered at_slot note) answered = absurd answere
 logs-answer asking new (AskPlay plan) Unasked answered = absurd answered
 logs-answer asking new (AskPlay plan) (Entered placed) answered = logs-play asking new placed placed.entry.answer refl answered.1
 logs-answer asking new (AskPlay plan) (WasFull more entries live) answered =
-    logs-full asking new more entries live (ap (λ (s : Standing). s.receipts) answered.0) (ap (λ (s : Standing). s.offers) answered.0)
+    logs-full (ap (λ (s : Standing). s.receipts) answered.0) (ap (λ (s : Standing). s.offers) answered.0)
 logs-answer asking new (AskPlay plan) (Offered at_slot note) answered = absurd answered
 logs-answer asking new (AskHalt keep) outcome answered = logs-halt asking new keep outcome answered
 logs-answer asking new (AskLook slot) Unasked answered = absurd answered
 logs-answer asking new (AskLook slot) (Entered placed) answered = logs-look asking new placed placed.entry.answer refl answered.1
 logs-answer asking new (AskLook slot) (WasFull more entries live) answered =
-    logs-full asking new more entries live (ap (λ (s : Standing). s.receipts) answered.0) (ap (λ (s : Standing). s.offers) answered.0)
+    logs-full (ap (λ (s : Standing). s.receipts) answered.0) (ap (λ (s : Standing). s.offers) answered.0)
 logs-answer asking new (AskLook slot) (Offered at_slot note) answered = absurd answered
 logs-answer asking new (AskOffer plan offers) Unasked answered = absurd answered
 logs-answer asking new (AskOffer plan offers) (Entered placed) answered = absurd answered
@@ -135,7 +135,7 @@ logs-hears old asking ask (AsksOffer plan offers sequence ask_is is) =
 
 logs-heard : (old new : Standing) (message : List ℕ) (outcome : Outcome) → HasHeard old message outcome new → Logs old new (outcome ∷ [])
 logs-heard old new message outcome heard =
-    logs-then old heard.asking new [] (outcome ∷ []) (logs-hears old heard.asking heard.ask (hears_as old message heard.ask heard.asking heard.hears))
+    logs-then (logs-hears old heard.asking heard.ask (hears_as old message heard.ask heard.asking heard.hears))
     (logs-answer heard.asking new heard.ask outcome heard.answered)
 
 -- ---- slots and replies
@@ -145,13 +145,13 @@ logs-reply false s = logs-same s s refl refl
 
 logs-sent : (old : Standing) (slot : ℕ) → Logs old (sent_slot old slot) []
 logs-sent old slot =
-    logs-then old (sent_due old slot) (sent_slot old slot) [] [] (logs-same old (sent_due old slot) refl refl)
+    logs-then (logs-same old (sent_due old slot) refl refl)
     (logs-reply (old.waits && is_between (stepped_in true slot old.state)) (sent_due old slot))
 
 logs-slot : (old : Standing) (slot : ℕ) (taken sending : Bool)
     → Logs old (if taken then (if sending then after_play (sent_slot old slot) else record old { heard = slot }) else old) []
 logs-slot old slot true true =
-    logs-then old (sent_slot old slot) (after_play (sent_slot old slot)) [] [] (logs-sent old slot) (logs-same (sent_slot old slot) (after_play (sent_slot old slot)) refl refl)
+    logs-then (logs-sent old slot) (logs-same (sent_slot old slot) (after_play (sent_slot old slot)) refl refl)
 logs-slot old slot true false = logs-same old (record old { heard = slot }) refl refl
 logs-slot old slot false sending = logs-same old old refl refl
 
@@ -168,7 +168,7 @@ logs-comes old opened (HeardBytes bytes) due halt comes =
     let same : opened.session ≡ old.session = ap (λ (s : Stage). s.session) comes.3 in
     subst (λ h. Logs old.session opened.session (h ∷ [])) (sym comes.1) (logs-unasked old.session opened.session Unasked same)
 logs-comes old opened (HeardSlot slot) due halt comes =
-    logs-then old.session (after_slot old.session slot) opened.session [] (halt ∷ [])
+    logs-then
     (logs-slot old.session slot (is_taken old.session slot) (is_sending old.session.state))
     (logs-finished (after_slot old.session slot) opened.session (awaits (after_slot old.session slot)) halt comes.1.finished)
 logs-comes old opened HeardEnd due halt comes = absurd comes
@@ -182,20 +182,20 @@ logs-takes old new (Passed n ∷ takings) takes =
 logs-takes old new (Answered message outcome parts ∷ takings) takes =
     let replied = takes.1.0 in
     let one : Logs old.session (after_reply replied.answered) (outcome ∷ []) =
-    logs-then old.session replied.answered (after_reply replied.answered) (outcome ∷ []) [] (logs-heard old.session replied.answered message outcome replied.heard)
+    logs-then (logs-heard old.session replied.answered message outcome replied.heard)
     (logs-reply (can_reply replied.answered) replied.answered) in
-    logs-then old.session takes.0.session new.session (outcome ∷ []) (takings_outcomes takings)
+    logs-then
     (subst (λ (s : Stage). Logs old.session s.session (outcome ∷ [])) (sym replied.new_is) one) (logs-takes takes.0 new takings takes.1.1)
 
 logs-round : (old new : Stage) (round : Round) → Runs old round new → Logs old.session new.session (round_outcomes round)
 logs-round old new round runs =
-    logs-then old.session runs.opened.session new.session (round.halt ∷ []) (takings_outcomes round.takings)
+    logs-then
     (logs-comes old runs.opened round.event round.due round.halt runs.comes) (logs-takes runs.opened new round.takings runs.takes)
 
 logs-rounds : (old new : Stage) (rounds : List Round) → RunsAll old rounds new → Logs old.session new.session (rounds_outcomes rounds)
 logs-rounds old new [] runs = subst (λ (s : Stage). Logs old.session s.session []) (sym runs) (logs-same old.session old.session refl refl)
 logs-rounds old new (round ∷ rounds) runs =
-    logs-then old.session runs.0.session new.session (round_outcomes round) (rounds_outcomes rounds) (logs-round old runs.0 round runs.1.0)
+    logs-then (logs-round old runs.0 round runs.1.0)
     (logs-rounds runs.0 new rounds runs.1.2)
 
 -- ---- ends
@@ -211,7 +211,7 @@ logs-ending old new count (InSlot slot front) end ends = logs-same old.session n
 logs-ending old new count (InReply round message outcome front) end ends =
     let e = ends.1 in
     let last = logs-heard e.mid.session e.fails.answered message outcome e.fails.heard in
-    logs-then old.session e.mid.session new.session (round_outcomes round) (outcome ∷ []) (logs-round old e.mid round e.runs) (record {
+    logs-then (logs-round old e.mid round e.runs) (record {
       receipts = ap (λ (s : Stage). s.session.receipts) e.fails.new_is ∙ last.receipts;
       offers = ap (λ (s : Stage). s.session.offers) e.fails.new_is ∙ last.offers;
     })
@@ -229,8 +229,8 @@ logs-all films settings words doings report done =
     let first = first_stage films settings words in
     let heard = rounds_outcomes doings.rounds in
     let ended = ending_outcomes doings.ending in
-    logs-then first.session done.last.session done.closed (heard ++ ended) (doings.halt ∷ [])
-    (logs-then first.session done.mid.session done.last.session heard ended (logs-rounds first done.mid doings.rounds done.runs)
+    logs-then
+    (logs-then (logs-rounds first done.mid doings.rounds done.runs)
     (logs-ending done.mid done.last (length doings.rounds) doings.ending report.end done.ends))
     (logs-closed (open_of done.last.session) done.last.session done.closed doings.halt done.closes)
 

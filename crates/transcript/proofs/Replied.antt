@@ -47,12 +47,13 @@ HeldIn pending s = IsHeld pending (sends_in s.state) s.waits s.heard
 move_none : (s : Standing) (pending : Option ℕ) → HeldIn pending s → Move s s pending [] [] []
 move_none s pending held = record { after = pending; held = held; goes_on = goes_same (sends_in s.state) s.heard pending }
 
-move_then : (a b c : Standing) (pending : Option ℕ) (made asked : List Asking) (slots taken : List ℕ) (parts sent : List Part)
+move_then : {a b c : Standing} {pending : Option ℕ} {made asked : List Asking} {slots taken : List ℕ}
+    {parts sent : List Part}
     → (one : Move a b pending made slots parts) → Move b c one.after asked taken sent → Move a c pending (made ++ asked) (slots ++ taken) (parts ++ sent)
-move_then a b c pending made asked slots taken parts sent one two = record {
+move_then {a} {c} {made} {taken} one two = record {
   after = two.after;
   held = two.held;
-  goes_on = goes_then (sends_in a.state) (sends_in b.state) (sends_in c.state) a.heard b.heard c.heard pending one.after two.after made asked slots taken parts sent
+  goes_on = goes_then
       one.goes_on two.goes_on;
 }
 
@@ -79,10 +80,11 @@ reply_move s waits sound =
     subst (λ goes. Move s (if goes then sent_reply s else s) (Some s.heard) [] [] (if goes then Text s.text ∷ [] else [])) can
     (reply_as s (is_between s.state) waits (replying s.state (is_between s.state) s.heard s.text sound refl))
 
-answered_move : (old new : Stage) (message : List ℕ) (outcome : Outcome) (parts : List Part) (replied : IsReplied old message outcome parts new)
+answered_move : {old new : Stage} {message : List ℕ} {outcome : Outcome} {parts : List Part}
+    (replied : IsReplied old message outcome parts new)
     → Stands old.session
     → Move old.session new.session None (Asks replied.heard.asking.awaited outcome ∷ []) (old.session.heard ∷ []) parts
-answered_move old new message outcome parts replied stands =
+answered_move {old} {new} {message} {outcome} replied stands =
     let asked : Awaited = replied.heard.asking.awaited in
     let s : Standing = replied.answered in
     let turns = turns_as old.session message outcome s replied.heard stands.rest in
@@ -96,8 +98,8 @@ answered_move old new message outcome parts replied stands =
     let all : Move old.session (after_reply s) None (Asks asked outcome ∷ []) (old.session.heard ∷ []) (reply_parts s) = record {
       after = reply.after;
       held = reply.held;
-      goes_on = goes_then (sends_in old.session.state) (sends_in s.state) (sends_in (after_reply s).state) old.session.heard s.heard (after_reply s).heard None
-          (Some s.heard) reply.after (Asks asked outcome ∷ []) [] (old.session.heard ∷ []) [] [] (reply_parts s) first reply.goes_on;
+      goes_on = goes_then
+          first reply.goes_on;
     } in
     subst (λ ps. Move old.session new.session None (Asks asked outcome ∷ []) (old.session.heard ∷ []) ps) (sym replied.parts_are)
     (subst (λ (n : Stage). Move old.session n.session None (Asks asked outcome ∷ []) (old.session.heard ∷ []) (reply_parts s)) (sym replied.new_is) all)
@@ -106,66 +108,66 @@ one_taking : (old new : Stage) (message : List ℕ) (outcome : Outcome) (parts :
     → TakesAll old (Answered message outcome parts ∷ []) new
 one_taking old new message outcome parts replied = (new, (replied, refl))
 
-takes_move : (old new : Stage) (takings : List Taking) (takes : TakesAll old takings new) (pending : Option ℕ) → Stands old.session → HeldIn pending old.session
+takes_move : {pending : Option ℕ} (old new : Stage) (takings : List Taking) (takes : TakesAll old takings new) → Stands old.session → HeldIn pending old.session
     → Move old.session new.session pending (takings_askings old takings new takes) (takings_slots old.session.heard takings) (takings_parts takings)
-takes_move old new [] takes pending stands held =
+takes_move {pending} old new [] takes stands held =
     subst (λ (s : Stage). Move old.session s.session pending [] [] []) (sym takes) (move_none old.session pending held)
-takes_move old new (Passed n ∷ takings) takes pending stands held =
+takes_move {pending} old new (Passed n ∷ takings) takes stands held =
     let same : takes.0.session ≡ old.session = ap (λ (s : Stage). s.session) takes.1.0.2 in
     subst (λ s. Move s new.session pending (takings_askings takes.0 takings new takes.1.1) (takings_slots s.heard takings) (takings_parts takings)) same
-    (takes_move takes.0 new takings takes.1.1 pending (subst Stands (sym same) stands) (subst (HeldIn pending) (sym same) held))
-takes_move old new (Answered message outcome parts ∷ takings) takes pending stands held =
+    (takes_move takes.0 new takings takes.1.1 (subst Stands (sym same) stands) (subst (HeldIn pending) (sym same) held))
+takes_move {pending} old new (Answered message outcome parts ∷ takings) takes stands held =
     let mid : Stage = takes.0 in
     let replied = takes.1.0 in
     let none : pending ≡ None = unheld pending (sends_in old.session.state) old.session.waits old.session.heard held replied.next.replied in
-    let one = answered_move old mid message outcome parts replied stands in
-    let rest = takes_move mid new takings takes.1.1 one.after (taken_stands old mid (Answered message outcome parts) replied stands) one.held in
+    let one = answered_move replied stands in
+    let rest = takes_move {pending = one.after} mid new takings takes.1.1 (taken_stands old mid (Answered message outcome parts) replied stands) one.held in
     let same : mid.session.heard ≡ old.session.heard =
     (takes_left old mid (Answered message outcome parts ∷ []) (one_taking old mid message outcome parts replied) stands.rest).1 in
     let made : List Asking = Asks replied.heard.asking.awaited outcome ∷ takings_askings mid takings new takes.1.1 in
     let all : Move old.session new.session None made (old.session.heard ∷ takings_slots mid.session.heard takings) (parts ++ takings_parts takings) =
-    move_then old.session mid.session new.session None (Asks replied.heard.asking.awaited outcome ∷ []) (takings_askings mid takings new takes.1.1)
-    (old.session.heard ∷ []) (takings_slots mid.session.heard takings) parts (takings_parts takings) one rest in
+    move_then
+    one rest in
     subst (λ o. Move old.session new.session o made (old.session.heard ∷ takings_slots old.session.heard takings) (parts ++ takings_parts takings)) (sym none)
     (subst (λ h. Move old.session new.session None made (old.session.heard ∷ takings_slots h takings) (parts ++ takings_parts takings)) same all)
 
 -- ---- a slot
 
 -- nothing is asked
-still_move : (s new : Standing) (asked : Awaited) (outcome : Outcome) (pending : Option ℕ) → new ≡ s → IsStill asked outcome → HeldIn pending s
+still_move : {s new : Standing} {asked : Awaited} {outcome : Outcome} {pending : Option ℕ} → new ≡ s → IsStill asked outcome → HeldIn pending s
     → Move s new pending (Asks asked outcome ∷ []) [] []
-still_move s new asked outcome pending same still held = subst (λ n. Move s n pending (Asks asked outcome ∷ []) [] []) (sym same) (record {
+still_move {s} {new} {asked} {outcome} {pending} same still held = subst (λ n. Move s n pending (Asks asked outcome ∷ []) [] []) (sym same) (record {
   after = pending;
   held = held;
   goes_on = record {
     later = omega arith;
-    rest = λ askings end more rest on fits. still_fits (sends_in s.state) s.heard pending asked outcome askings end more rest still fits;
+    rest = λ askings end more rest on fits. still_fits still fits;
   };
 })
 
 unasked_move : (s : Standing) (halt : Outcome) (new : Standing) (pending : Option ℕ) → HeldIn pending s → IsFinished NoAnswer s halt new
     → Move s new pending (Asks s.awaited halt ∷ []) [] []
-unasked_move s Unasked new pending held finishing = still_move s new s.awaited Unasked pending finishing (unasked_still s.awaited) held
+unasked_move s Unasked new pending held finishing = still_move finishing (unasked_still s.awaited) held
 unasked_move s (Entered placed) new pending held finishing = absurd finishing
 unasked_move s (WasFull more entries live) new pending held finishing = absurd finishing
 unasked_move s (Offered at_slot note) new pending held finishing = absurd finishing
 
-rest_move : (s : Standing) (halt : Outcome) (new : Standing) (pending : Option ℕ) → s.awaited ≡ Nothing → HeldIn pending s → IsFinished (awaits s) s halt new
+rest_move : {s : Standing} {halt : Outcome} {new : Standing} {pending : Option ℕ} → s.awaited ≡ Nothing → HeldIn pending s → IsFinished (awaits s) s halt new
     → Move s new pending (Asks s.awaited halt ∷ []) [] []
-rest_move s halt new pending rest held finishing =
+rest_move {s} {halt} {new} {pending} rest held finishing =
     unasked_move s halt new pending held (subst (λ a. IsFinished (awaits_of a) s halt new) rest finishing)
 
 -- a play that is done: no reply is held up, and it is halted with all that was sent
-done_unheld : (p : Pacing) (waits : Bool) (heard : ℕ) (pending : Option ℕ) → IsPacing p → p.sent ≡ p.keep → IsHeld pending (Going p) waits heard
+done_unheld : {p : Pacing} {pending : Option ℕ} (waits : Bool) (heard : ℕ) → IsPacing p → p.sent ≡ p.keep → IsHeld pending (Going p) waits heard
     → pending ≡ None
-done_unheld p waits heard None is done held = refl
-done_unheld p waits heard (Some slot) is done held =
+done_unheld {p} {pending = None} waits heard is done held = refl
+done_unheld {p} {pending = Some slot} waits heard is done held =
     let past = held.1.none (p.before + p.keep) is.ends (omega arith) in absurd (omega (arith, past, done))
 
-done_fits : (p : Pacing) (heard : ℕ) (asked : Awaited) (placed : Placed) (number keep : ℕ) (askings : List Asking) (end : ℕ) (slots : List ℕ)
-    (parts : List Part) → IsOnTime p heard → keep ≡ p.sent → placed.entry.command ≡ HaltCommand number keep → asked ≡ Halt keep Done → heard ≤ end
+done_fits : {p : Pacing} {heard : ℕ} {asked : Awaited} {placed : Placed} {number keep : ℕ} {askings : List Asking}
+    {end : ℕ} {slots : List ℕ} {parts : List Part} → IsOnTime p heard → keep ≡ p.sent → placed.entry.command ≡ HaltCommand number keep → asked ≡ Halt keep Done → heard ≤ end
     → Fits Idle heard None askings end slots parts → Fits (Going p) heard None (Asks asked (Entered placed) ∷ askings) end slots parts
-done_fits p heard asked placed number keep askings end slots parts on sent command asks ends fits =
+done_fits {p} {heard} {asked} {placed} {number} {keep} {askings} {end} {slots} {parts} on sent command asks ends fits =
     let kept : kept_with (Entered placed) (kept_in askings (total_bytes p.plan)) ≡ keep =
     ap (λ c. kept_by c (kept_in askings (total_bytes p.plan))) command in
     let none : plays_begun asked (Entered placed) askings ≡ [] = ap (λ a. plays_admitted a placed.entry.answer askings) asks in
@@ -174,27 +176,28 @@ done_fits p heard asked placed number keep askings end slots parts on sent comma
       later = subst (λ ps. AreLater heard (ps ++ plays_of askings)) (sym none) fits.later;
       stand = subst (λ k. StandAt p k None (plays_begun asked (Entered placed) askings ++ plays_of askings) end slots parts) (sym kept)
           (subst (λ ps. StandAt p keep None (ps ++ plays_of askings) end slots parts) (sym none)
-          (over_at p heard keep (plays_of askings) end slots parts on (sym sent) ends fits.from fits.later fits.stand));
+          (over_at on (sym sent) ends fits.from fits.later fits.stand));
     }
 
-done_move : (s : Standing) (setup : Setup) (play : Played) (placed : Placed) (keep : ℕ) (new : Standing) (pending : Option ℕ) → s.state ≡ Playing setup play
+done_move : {s : Standing} {setup : Setup} {play : Played} {placed : Placed} {keep : ℕ} {new : Standing}
+    {pending : Option ℕ} → s.state ≡ Playing setup play
     → IsSound (sends_in s.state) s.waits s.heard → is_done play.pacer ≡ true → keep ≡ play.pacer.sent → s.awaited ≡ Halt keep Done
     → IsHaltAnswered s keep placed new → HeldIn pending s → Move s new pending (Asks s.awaited (Entered placed) ∷ []) [] []
-done_move s setup play placed keep new pending is sound done sent asks halted held =
+done_move {s} {play} {placed} {new} {pending} is sound done sent asks halted held =
     let p : Pacing = play.pacer in
     let on : IsOnTime p s.heard = (subst (λ st. IsSound (sends_in st) s.waits s.heard) is sound).0 in
     let here : IsHeld pending (Going p) s.waits s.heard = subst (λ st. IsHeld pending (sends_in st) s.waits s.heard) is held in
-    let none : pending ≡ None = done_unheld p s.waits s.heard pending on.pacing (done_kept p done) here in
+    let none : pending ≡ None = done_unheld s.waits s.heard on.pacing (done_kept p done) here in
     let waits : s.waits ≡ false = subst (λ o. IsHeld o (Going p) s.waits s.heard) none here in
     let sends : sends_in new.state ≡ Idle =
-    ap (λ (n : Standing). sends_in n.state) halted.halts ∙ halt_state s.state s.awaited setup play keep is asks in
+    ap (λ (n : Standing). sends_in n.state) halted.halts ∙ halt_state is asks in
     let heard : new.heard ≡ s.heard = ap (λ (n : Standing). n.heard) halted.halts in
     let later : new.waits ≡ false =
     ap (λ (n : Standing). n.waits) halted.halts ∙ ap (λ (a : Awaited). if is_answered (next_of a) then true else s.waits) asks ∙ waits in
     let goes : GoesTo (Going p) Idle s.heard s.heard None None (Asks s.awaited (Entered placed) ∷ []) [] [] = record {
       later = omega arith;
       rest = λ askings end more rest ends fits.
-          done_fits p s.heard s.awaited placed halted.number keep askings end more rest on sent halted.command asks ends fits;
+          done_fits on sent halted.command asks ends fits;
     } in
     record {
       after = None;
@@ -205,35 +208,36 @@ done_move s setup play placed keep new pending is sound done sent asks halted he
           (subst (λ h. GoesTo (Going p) Idle s.heard h None None (Asks s.awaited (Entered placed) ∷ []) [] []) (sym heard) goes)));
     }
 
-halted_move : (s : Standing) (setup : Setup) (play : Played) (halt : Outcome) (keep : ℕ) (new : Standing) (pending : Option ℕ) → s.state ≡ Playing setup play
+halted_move : {s : Standing} {setup : Setup} {play : Played} {halt : Outcome} {keep : ℕ} {new : Standing}
+    {pending : Option ℕ} → s.state ≡ Playing setup play
     → IsSound (sends_in s.state) s.waits s.heard → is_done play.pacer ≡ true → keep ≡ play.pacer.sent → s.awaited ≡ Halt keep Done
     → IsHalted s keep halt new → HeldIn pending s → Move s new pending (Asks s.awaited halt ∷ []) [] []
-halted_move s setup play Unasked keep new pending is sound done sent asks halted held = absurd halted
-halted_move s setup play (Entered placed) keep new pending is sound done sent asks halted held =
-    done_move s setup play placed keep new pending is sound done sent asks halted held
-halted_move s setup play (WasFull more entries live) keep new pending is sound done sent asks halted held = absurd halted
-halted_move s setup play (Offered at_slot note) keep new pending is sound done sent asks halted held = absurd halted
+halted_move {s} {halt = Unasked} {new} is sound done sent asks halted held = absurd halted
+halted_move {s} {halt = Entered placed} {new} is sound done sent asks halted held =
+    done_move is sound done sent asks halted held
+halted_move {s} {halt = WasFull more entries live} {new} is sound done sent asks halted held = absurd halted
+halted_move {s} {halt = Offered at_slot note} {new} is sound done sent asks halted held = absurd halted
 
-finishes_move : (s : Standing) (state : State) (halt : Outcome) (new : Standing) (pending : Option ℕ) → s.state ≡ state
+finishes_move : {s : Standing} {state : State} {halt : Outcome} {new : Standing} {pending : Option ℕ} → s.state ≡ state
     → IsSound (sends_in s.state) s.waits s.heard → is_done_in state ≡ true → s.awaited ≡ Halt (sent_in state) Done → IsFinished (awaits s) s halt new
     → HeldIn pending s → Move s new pending (Asks s.awaited halt ∷ []) [] []
-finishes_move s Init halt new pending is sound done asks finishing held = absurd (true≢false (sym done))
-finishes_move s (Ready setup paused) halt new pending is sound done asks finishing held = absurd (true≢false (sym done))
-finishes_move s (Playing setup play) halt new pending is sound done asks finishing held =
-    halted_move s setup play halt play.pacer.sent new pending is sound done refl asks (subst (λ a. IsFinished (awaits_of a) s halt new) asks finishing) held
-finishes_move s (Stopping setup stop) halt new pending is sound done asks finishing held = absurd (true≢false (sym done))
+finishes_move {s} {state = Init} {halt} {new} is sound done asks finishing held = absurd (true≢false (sym done))
+finishes_move {s} {state = Ready setup paused} {halt} {new} is sound done asks finishing held = absurd (true≢false (sym done))
+finishes_move {s} {state = Playing setup play} {halt} {new} is sound done asks finishing held =
+    halted_move is sound done refl asks (subst (λ a. IsFinished (awaits_of a) s halt new) asks finishing) held
+finishes_move {s} {state = Stopping setup stop} {halt} {new} is sound done asks finishing held = absurd (true≢false (sym done))
 
-finished_move : (s : Standing) (halt : Outcome) (new : Standing) (done : Bool) (pending : Option ℕ) → IsSound (sends_in s.state) s.waits s.heard
+finished_move : {s : Standing} {halt : Outcome} {new : Standing} {done : Bool} {pending : Option ℕ} → IsSound (sends_in s.state) s.waits s.heard
     → is_done_in s.state ≡ done → s.awaited ≡ (if done then Halt (sent_in s.state) Done else Nothing) → IsFinished (awaits s) s halt new → HeldIn pending s
     → Move s new pending (Asks s.awaited halt ∷ []) [] []
-finished_move s halt new true pending sound is asks finishing held = finishes_move s s.state halt new pending refl sound is asks finishing held
-finished_move s halt new false pending sound is asks finishing held = rest_move s halt new pending asks held finishing
+finished_move {s} {halt} {new} {done = true} sound is asks finishing held = finishes_move refl sound is asks finishing held
+finished_move {s} {halt} {new} {done = false} sound is asks finishing held = rest_move asks held finishing
 
-sent_move : (old : Standing) (slot : ℕ) (halt : Outcome) (new : Standing) (pending : Option ℕ) → Stands old → HeldIn pending old
+sent_move : {old : Standing} {halt : Outcome} {new : Standing} {pending : Option ℕ} (slot : ℕ) → Stands old → HeldIn pending old
     → IsSound (sends_in (after_play (sent_slot old slot)).state) (after_play (sent_slot old slot)).waits (after_play (sent_slot old slot)).heard
     → is_sending old.state ≡ true → old.heard < slot → IsFinished (awaits (after_play (sent_slot old slot))) (after_play (sent_slot old slot)) halt new
     → Move old new pending (Asks (after_play (sent_slot old slot)).awaited halt ∷ []) [] (due_parts old slot)
-sent_move old slot halt new pending stands held sound sending later finishing =
+sent_move {old} {halt} {new} {pending} slot stands held sound sending later finishing =
     let s : Standing = after_play (sent_slot old slot) in
     let goes : Bool = old.waits && is_between (stepped_in true slot old.state) in
     let due : Standing = sent_due old slot in
@@ -242,7 +246,7 @@ sent_move old slot halt new pending stands held sound sending later finishing =
     let waits : s.waits ≡ waits_after old.waits old.state slot = reply_waits goes due in
     let asks : s.awaited ≡ (if is_done_in s.state then Halt (sent_in s.state) Done else Nothing) =
     ap (λ a. if is_done_in s.state then Halt (sent_in s.state) Done else a) (reply_awaited goes due ∙ stands.rest) in
-    let slots = slot_moves old.state old.waits old.heard slot old.text pending sending stands.sound later held in
+    let slots = slot_moves sending stands.sound later held in
     let there : HeldIn slots.after s =
     subst (λ st. IsHeld slots.after (sends_in st) s.waits s.heard) (sym state)
     (subst (λ w. IsHeld slots.after (sends_in (state_after old.waits old.state slot)) w s.heard) (sym waits)
@@ -254,9 +258,9 @@ sent_move old slot halt new pending stands held sound sending later finishing =
           (subst (λ h. GoesTo (sends_in old.state) (sends_in (state_after old.waits old.state slot)) old.heard h pending slots.after [] [] (due_parts old slot)) (sym heard)
           slots.goes_on);
     } in
-    let second = finished_move s halt new (is_done_in s.state) slots.after sound refl asks finishing there in
+    let second = finished_move sound refl asks finishing there in
     subst (λ ps. Move old new pending (Asks s.awaited halt ∷ []) [] ps) (append-nil (due_parts old slot))
-    (move_then old s new pending [] (Asks s.awaited halt ∷ []) [] [] (due_parts old slot) [] first second)
+    (move_then first second)
 
 -- nothing is being sent
 idle_none : (state : State) (pending : Option ℕ) (waits : Bool) (heard : ℕ) → is_sending state ≡ false → IsHeld pending (sends_in state) waits heard
@@ -290,91 +294,91 @@ idle_move old slot pending held none later =
           (subst (λ s. GoesTo s s old.heard slot None None [] [] []) (sym idle.1) (idle_later old.heard slot (omega (arith, later))));
     }
 
-slot_sound : (old : Standing) (slot : ℕ) (taken sending : Bool) → Stands old → (taken ≡ true → old.heard < slot) → is_sending old.state ≡ sending
+slot_sound : {old : Standing} {taken sending : Bool} (slot : ℕ) → Stands old → (taken ≡ true → old.heard < slot) → is_sending old.state ≡ sending
     → let s : Standing = if taken then (if sending then after_play (sent_slot old slot) else record old { heard = slot }) else old in
     IsSound (sends_in s.state) s.waits s.heard
-slot_sound old slot false sending stands later is = stands.sound
-slot_sound old slot true true stands later is = (sent_on old slot stands is (later refl)).sound
-slot_sound old slot true false stands later is = idle_sound old.state old.waits old.heard slot is stands.sound
+slot_sound {taken = false} slot stands later is = stands.sound
+slot_sound {old} {taken = true} {sending = true} slot stands later is = (sent_on old slot stands is (later refl)).sound
+slot_sound {old} {taken = true} {sending = false} slot stands later is = idle_sound old.state old.waits old.heard slot is stands.sound
 
-slot_move : (old : Standing) (slot : ℕ) (halt : Outcome) (new : Standing) (pending : Option ℕ) (taken sending : Bool) → Stands old → HeldIn pending old
+slot_move : {old : Standing} {halt : Outcome} {new : Standing} {pending : Option ℕ} {taken sending : Bool} (slot : ℕ) → Stands old → HeldIn pending old
     → (taken ≡ true → old.heard < slot) → is_sending old.state ≡ sending
     → let s : Standing = if taken then (if sending then after_play (sent_slot old slot) else record old { heard = slot }) else old in
     IsSound (sends_in s.state) s.waits s.heard → IsFinished (awaits s) s halt new
     → Move old new pending (Asks s.awaited halt ∷ []) [] (if taken && sending then due_parts old slot else [])
-slot_move old slot halt new pending false sending stands held later is sound finishing = rest_move old halt new pending stands.rest held finishing
-slot_move old slot halt new pending true true stands held later is sound finishing =
-    sent_move old slot halt new pending stands held sound is (later refl) finishing
-slot_move old slot halt new pending true false stands held later is sound finishing =
+slot_move {halt} {new} {taken = false} slot stands held later is sound finishing = rest_move stands.rest held finishing
+slot_move {halt} {new} {taken = true} {sending = true} slot stands held later is sound finishing =
+    sent_move slot stands held sound is (later refl) finishing
+slot_move {old} {halt} {new} {pending} {taken = true} {sending = false} slot stands held later is sound finishing =
     let s : Standing = record old { heard = slot } in
     let first = idle_move old slot pending held is (later refl) in
-    move_then old s new pending [] (Asks s.awaited halt ∷ []) [] [] [] [] first (rest_move s halt new first.after stands.rest first.held finishing)
+    move_then first (rest_move stands.rest first.held finishing)
 
 slotted_sound : (old : Standing) (slot : ℕ) → Stands old → IsSound (sends_in (after_slot old slot).state) (after_slot old slot).waits (after_slot old slot).heard
 slotted_sound old slot stands =
-    slot_sound old slot (is_taken old slot) (is_sending old.state) stands
+    slot_sound slot stands
     (λ taken. ltb-true old.heard slot (and_left (nat_lt old.heard slot) (nat_le slot (2 ^ 62)) taken)) refl
 
-comes_move : (old opened : Stage) (event : Doing) (due : List Part) (halt : Outcome) (pending : Option ℕ) → Comes old event due halt opened
+comes_move : {due : List Part} {halt : Outcome} {pending : Option ℕ} (old opened : Stage) (event : Doing) → Comes old event due halt opened
     → Stands old.session → HeldIn pending old.session → Move old.session opened.session pending (Asks (asked_by old.session event) halt ∷ []) [] due
-comes_move old opened (HeardBytes bytes) due halt pending comes stands held =
+comes_move {halt} {pending} old opened (HeardBytes bytes) comes stands held =
     subst (λ ps. Move old.session opened.session pending (Asks Nothing halt ∷ []) [] ps) (sym comes.0)
     (subst (λ h. Move old.session opened.session pending (Asks Nothing h ∷ []) [] []) (sym comes.1)
-    (still_move old.session opened.session Nothing Unasked pending (ap (λ (s : Stage). s.session) comes.3) (unasked_still Nothing) held))
-comes_move old opened (HeardSlot slot) due halt pending comes stands held =
+    (still_move (ap (λ (s : Stage). s.session) comes.3) (unasked_still Nothing) held))
+comes_move {halt} {pending} old opened (HeardSlot slot) comes stands held =
     subst (λ ps. Move old.session opened.session pending (Asks (after_slot old.session slot).awaited halt ∷ []) [] ps) (sym comes.1.parts_are)
-    (slot_move old.session slot halt opened.session pending (is_taken old.session slot) (is_sending old.session.state) stands held
+    (slot_move slot stands held
     (λ taken. ltb-true old.session.heard slot (and_left (nat_lt old.session.heard slot) (nat_le slot (2 ^ 62)) taken)) refl
     (slotted_sound old.session slot stands) comes.1.finished)
-comes_move old opened HeardEnd due halt pending comes stands held = absurd comes
-comes_move old opened (Sent byte) due halt pending comes stands held = absurd comes
+comes_move {halt} old opened HeardEnd comes stands held = absurd comes
+comes_move {halt} old opened (Sent byte) comes stands held = absurd comes
 
-round_move : (old new : Stage) (round : Round) (runs : Runs old round new) (pending : Option ℕ) → Stands old.session → HeldIn pending old.session
+round_move : {old new : Stage} {round : Round} {pending : Option ℕ} (runs : Runs old round new) → Stands old.session → HeldIn pending old.session
     → Move old.session new.session pending (round_askings old round new runs)
     (takings_slots (max old.session.heard (slot_in round.event)) round.takings) (round.due ++ takings_parts round.takings)
-round_move old new round runs pending stands held =
+round_move {old} {new} {round} {pending} runs stands held =
     let opened : Stage = runs.opened in
     let made : List Asking = Asks (asked_by old.session round.event) round.halt ∷ [] in
-    let one = comes_move old opened round.event round.due round.halt pending runs.comes stands held in
-    let two = takes_move opened new round.takings runs.takes one.after (opened_stands old new round runs stands) one.held in
+    let one = comes_move old opened round.event runs.comes stands held in
+    let two = takes_move opened new round.takings runs.takes (opened_stands old new round runs stands) one.held in
     let all : Move old.session new.session pending (round_askings old round new runs) (takings_slots opened.session.heard round.takings) (round.due ++ takings_parts round.takings) =
-    move_then old.session opened.session new.session pending made (takings_askings opened round.takings new runs.takes) []
-    (takings_slots opened.session.heard round.takings) round.due (takings_parts round.takings) one two in
+    move_then
+    one two in
     subst (λ h. Move old.session new.session pending (round_askings old round new runs) (takings_slots h round.takings) (round.due ++ takings_parts round.takings))
     (comes_heard old opened round.event round.due round.halt runs.comes) all
 
-course_move : (old new : Stage) (rounds : List Round) (follows : Follows old rounds new) (pending : Option ℕ) → Stands old.session
+course_move : {pending : Option ℕ} (old new : Stage) (rounds : List Round) (follows : Follows old rounds new) → Stands old.session
     → HeldIn pending old.session
     → Move old.session new.session pending (askings_of old rounds new follows) (slots_from old.session.heard rounds) (rounds_parts rounds)
-course_move old new [] follows pending stands held =
+course_move {pending} old new [] follows stands held =
     subst (λ (s : Stage). Move old.session s.session pending [] [] []) (sym follows) (move_none old.session pending held)
-course_move old new (round ∷ rounds) follows pending stands held =
+course_move {pending} old new (round ∷ rounds) follows stands held =
     let mid : Stage = follows.0 in
     let runs = follows.1.0 in
     let now : ℕ = max old.session.heard (slot_in round.event) in
-    let one = round_move old mid round runs pending stands held in
+    let one = round_move runs stands held in
     let mids : Stands mid.session = stands_by old.session mid.session (round_askings old round mid runs) _ (round_step old mid round runs stands) in
-    let rest = course_move mid new rounds follows.1.1 one.after mids one.held in
+    let rest = course_move {pending = one.after} mid new rounds follows.1.1 mids one.held in
     let heard : mid.session.heard ≡ now =
     (takes_left runs.opened mid round.takings runs.takes (opened_rest old mid round runs stands)).1
     ∙ comes_heard old runs.opened round.event round.due round.halt runs.comes in
     subst (λ h. Move old.session new.session pending (round_askings old round mid runs ++ askings_of mid rounds new follows.1.1)
     (takings_slots now round.takings ++ slots_from h rounds) ((round.due ++ takings_parts round.takings) ++ rounds_parts rounds)) heard
-    (move_then old.session mid.session new.session pending (round_askings old round mid runs) (askings_of mid rounds new follows.1.1)
-    (takings_slots now round.takings) (slots_from mid.session.heard rounds) (round.due ++ takings_parts round.takings) (rounds_parts rounds) one rest)
+    (move_then
+    one rest)
 
 -- ---- where a course ends
 
-unsent_last : (p : Pacing) (keep slot heard place : ℕ) → IsOnTime p heard → keep ≡ p.keep → IsHeldUp p slot heard
+unsent_last : {p : Pacing} {keep slot heard place : ℕ} → IsOnTime p heard → keep ≡ p.keep → IsHeldUp p slot heard
     → due_of slot (play_with p keep) ≡ min (first_slots p.plan (slot + 1 - p.start)) p.keep → due_of heard (play_with p keep) ≡ p.sent
     → IsBoundaryIn (play_with p keep ∷ []) place → all_due slot (play_with p keep ∷ []) ≤ place → all_due heard (play_with p keep ∷ []) < place
-unsent_last p keep slot heard place on same held then_due now_due (inl own) due =
-    let first = due_then p keep slot (min (first_slots p.plan (slot + 1 - p.start)) p.keep) [] then_due tt in
-    let last = due_then p keep heard p.sent [] now_due tt in
+unsent_last {p} {keep} {slot} {heard} {place} on same held then_due now_due (inl own) due =
+    let first = due_then p keep slot [] then_due tt in
+    let last = due_then p keep heard [] now_due tt in
     let past = held.none (p.before + place) own.1 (omega (arith, first, due)) in
     omega (arith, past, last)
-unsent_last p keep slot heard place on same held then_due now_due (inr over) due =
-    let last = due_then p keep heard p.sent [] now_due tt in
+unsent_last {p} {keep} {slot} {heard} {place} on same held then_due now_due (inr over) due =
+    let last = due_then p keep heard [] now_due tt in
     let past = held.none (p.before + p.keep) on.pacing.ends (omega arith) in
     omega (arith, past, last, over.0, same)
 
@@ -391,14 +395,14 @@ end_stand (Going p) waits heard (Some slot) sound held =
     let now_due : due_of heard (play_with p keep) ≡ p.sent = due_going p heard keep sound.0.pacing sound.1 (omega (arith, same)) ∙ here in
     record {
       holds = omega (arith, sound.0.pacing.sent, sound.0.pacing.due, sound.1);
-      sent = (λ place boundary due. unsent_last p keep slot heard place sound.0 same held.1 then_due now_due boundary due, tt);
+      sent = (λ place boundary due. unsent_last sound.0 same held.1 then_due now_due boundary due, tt);
     }
 end_stand (Ending p) waits heard None sound held = record { holds = omega (arith, sound.0.pacing.sent, sound.0.pacing.due); sent = tt }
 end_stand (Ending p) waits heard (Some slot) sound held =
     let here = due_here p heard sound.0 in
     record {
       holds = omega (arith, sound.0.pacing.sent, sound.0.pacing.due);
-      sent = (λ place boundary due. unsent_last p p.keep slot heard place sound.0 refl held.1 refl here boundary due, tt);
+      sent = (λ place boundary due. unsent_last sound.0 refl held.1 refl here boundary due, tt);
     }
 
 course_sound : (old new : Stage) (rounds : List Round) (follows : Follows old rounds new) → Stands old.session
@@ -416,7 +420,7 @@ replies_sent films settings words rounds new follows =
     let slots : List ℕ = slots_from 0 rounds in
     let parts : List Part = rounds_parts rounds in
     let heard : ℕ = new.session.heard in
-    let move = course_move first new rounds follows None stands refl in
+    let move = course_move {pending = None} first new rounds follows stands refl in
     let ends : Fits (sends_in new.session.state) heard move.after [] heard [] [] = record {
       from = tt;
       later = record { starts = tt; begins = refl };

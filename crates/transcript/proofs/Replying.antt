@@ -59,9 +59,10 @@ reply_cases : (goes : Bool) (s : Standing) → s.waits ≡ true
 reply_cases true s waits = refl
 reply_cases false s waits = ap (λ w. if w then s.text ∷ [] else []) waits
 
-answered_replies : (old new : Stage) (message : List ℕ) (outcome : Outcome) (parts : List Part) (replied : IsReplied old message outcome parts new)
+answered_replies : {old new : Stage} {message : List ℕ} {outcome : Outcome} {parts : List Part}
+    (replied : IsReplied old message outcome parts new)
     → Stands old.session → Replies old.session (texts_in parts) (replied.answered.text ∷ []) new.session
-answered_replies old new message outcome parts replied stands =
+answered_replies {old} {new} {message} {outcome} {parts} replied stands =
     let after = turn_after old.session replied.answered replied.heard.asking.awaited outcome
     (turns_as old.session message outcome replied.answered replied.heard stands.rest) in
     ap (λ (s : Stage). texts_in parts ++ waiting_reply s.session) replied.new_is
@@ -81,7 +82,7 @@ takes_replies old new (Answered message outcome parts ∷ takings) takes stands 
     let rest : List (List ℕ) = takings_replies takes.0 takings new takes.1.1 in
     subst (λ ts. Replies old.session ts (text ∷ rest) new.session) (sym (texts-append parts (takings_parts takings)))
     (replies_then old.session takes.0.session new.session (texts_in parts) (texts_in (takings_parts takings)) (text ∷ []) rest
-    (answered_replies old takes.0 message outcome parts takes.1.0 stands)
+    (answered_replies takes.1.0 stands)
     (takes_replies takes.0 new takings takes.1.1 (taken_stands old takes.0 (Answered message outcome parts) takes.1.0 stands)))
 
 -- a play that is done is halted without a reply

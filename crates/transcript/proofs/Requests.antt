@@ -104,15 +104,16 @@ record CutsAll (heard : List ℕ) (new : Stage) (messages : List (List ℕ)) : T
   cut : AreCut heard pieces new.input
   requests : requests_in pieces ≡ messages
 
-rounds_cut : (old new : Stage) (rounds : List Round) (takes : TakesUp old rounds new) (heard : List ℕ) (pieces : List (List ℕ)) (messages : List (List ℕ))
+rounds_cut : {new : Stage} {messages : List (List ℕ)} (old : Stage) (rounds : List Round)
+    (takes : TakesUp old rounds new) (heard : List ℕ) (pieces : List (List ℕ))
     → AreCut heard pieces old.input → requests_in pieces ≡ messages
     → CutsAll (heard ++ rounds_input rounds) new (messages ++ map message_of (hearings_in old rounds new takes))
-rounds_cut old new [] takes heard pieces messages cut requests = record {
+rounds_cut {new} {messages} old [] takes heard pieces cut requests = record {
   pieces = pieces;
   cut = subst (λ w. AreCut w pieces new.input) (sym (append-nil heard)) (subst (AreCut heard pieces) (ap (λ (s : Stage). s.input) (sym takes)) cut);
   requests = requests ∙ sym (append-nil messages);
 }
-rounds_cut old new (round ∷ rounds) takes heard pieces messages cut requests =
+rounds_cut {new} {messages} old (round ∷ rounds) takes heard pieces cut requests =
     let mid : Stage = takes.0 in
     let runs = takes.1.0 in
     let opened : Stage = runs.opened in
@@ -125,7 +126,7 @@ rounds_cut old new (round ∷ rounds) takes heard pieces messages cut requests =
     let these : requests_in (pieces ++ cuts.pieces) ≡ messages ++ more =
     requests-append pieces cuts.pieces ∙ ap (λ rs. rs ++ requests_in cuts.pieces) requests
     ∙ ap (λ rs. messages ++ rs) (cuts.requests ∙ ap (λ hs. map message_of hs) path.hearings_are) in
-    let rest = rounds_cut mid new rounds takes.1.2 (heard ++ bytes) (pieces ++ cuts.pieces) (messages ++ more)
+    let rest = rounds_cut {new = new} {messages = messages ++ more} mid rounds takes.1.2 (heard ++ bytes) (pieces ++ cuts.pieces)
     (cut_then (heard ++ bytes) pieces cuts.pieces opened.input mid.input grown cuts.cut) these in
     record {
       pieces = rest.pieces;
@@ -165,7 +166,7 @@ last_done old new (round ∷ rounds) done takes = last_done takes.0 new rounds t
 pub requests_taken : (beginning : Beginning) (cutting : Cutting beginning) → AreTaken beginning cutting
 requests_taken beginning cutting =
     let first : Stage = first_stage beginning.films beginning.settings beginning.words in
-    let cuts = rounds_cut first cutting.last cutting.rounds cutting.takes [] [] [] refl refl in
+    let cuts = rounds_cut first cutting.rounds cutting.takes [] [] refl refl in
     let begins : IsDone first = inl (record { torn = refl; waits = inl (inl refl) }) in
     record {
       pieces = cuts.pieces;

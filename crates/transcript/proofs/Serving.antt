@@ -107,40 +107,40 @@ either asked (WasFull more entries live) = BeginsNone (λ askings. refl)
 either asked (Offered slot note) = BeginsNone (λ askings. refl)
 
 -- no play so far: all come later
-none-by : (asked : Awaited) (outcome : Outcome) (a b : List Asking) → (plays_of a ≡ [] → plays_of (a ++ b) ≡ plays_of b) → Beginning asked outcome → plays_of (Asks asked outcome ∷ a) ≡ []
+none-by : {asked : Awaited} {outcome : Outcome} (a b : List Asking) → (plays_of a ≡ [] → plays_of (a ++ b) ≡ plays_of b) → Beginning asked outcome → plays_of (Asks asked outcome ∷ a) ≡ []
     → plays_of (Asks asked outcome ∷ (a ++ b)) ≡ plays_of b
-none-by asked outcome a b rest (BeginsNone is) none =
+none-by a b rest (BeginsNone is) none =
     ap (λ l. l ++ plays_of (a ++ b)) (is (a ++ b)) ∙ rest (sym (ap (λ l. l ++ plays_of a) (is a)) ∙ none)
-none-by asked outcome a b rest (BeginsOne prepared start is) none =
+none-by a b rest (BeginsOne prepared start is) none =
     let some : begun_play prepared start a ∷ plays_of a ≡ [] = sym (ap (λ l. l ++ plays_of a) (is a)) ∙ none in absurd (let no : ⊥ = cc in no)
 
 none-so-far : (a b : List Asking) → plays_of a ≡ [] → plays_of (a ++ b) ≡ plays_of b
 none-so-far [] b none = refl
-none-so-far (Asks asked outcome ∷ a) b none = none-by asked outcome a b (none-so-far a b) (either asked outcome) none
+none-so-far (Asks asked outcome ∷ a) b none = none-by a b (none-so-far a b) (either asked outcome) none
 
 -- none at all, none so far
-before-by : (asked : Awaited) (outcome : Outcome) (a b : List Asking) → (plays_of (a ++ b) ≡ [] → plays_of a ≡ []) → Beginning asked outcome → plays_of (Asks asked outcome ∷ (a ++ b)) ≡ []
+before-by : {asked : Awaited} {outcome : Outcome} (a b : List Asking) → (plays_of (a ++ b) ≡ [] → plays_of a ≡ []) → Beginning asked outcome → plays_of (Asks asked outcome ∷ (a ++ b)) ≡ []
     → plays_of (Asks asked outcome ∷ a) ≡ []
-before-by asked outcome a b rest (BeginsNone is) none =
+before-by a b rest (BeginsNone is) none =
     ap (λ l. l ++ plays_of a) (is a) ∙ rest (sym (ap (λ l. l ++ plays_of (a ++ b)) (is (a ++ b))) ∙ none)
-before-by asked outcome a b rest (BeginsOne prepared start is) none =
+before-by a b rest (BeginsOne prepared start is) none =
     let some : begun_play prepared start (a ++ b) ∷ plays_of (a ++ b) ≡ [] = sym (ap (λ l. l ++ plays_of (a ++ b)) (is (a ++ b))) ∙ none in
     absurd (let no : ⊥ = cc in no)
 
 none-before : (a b : List Asking) → plays_of (a ++ b) ≡ [] → plays_of a ≡ []
 none-before [] b none = refl
-none-before (Asks asked outcome ∷ a) b none = before-by asked outcome a b (none-before a b) (either asked outcome) none
+none-before (Asks asked outcome ∷ a) b none = before-by a b (none-before a b) (either asked outcome) none
 
 -- one play that is kept whole: it began already, and is the same, or it begins later
 abbrev pub IsSoFar : List Asking → List Asking → FilmPlay → Type 0
 IsSoFar a b play = (plays_of a ≡ play ∷ []) ⊎ ((plays_of a ≡ []) × (plays_of b ≡ play ∷ []))
 
-one-by : (asked : Awaited) (outcome : Outcome) (a b : List Asking) (play : FilmPlay) → (plays_of (a ++ b) ≡ play ∷ [] → IsSoFar a b play) → Beginning asked outcome
+one-by : {asked : Awaited} {outcome : Outcome} {play : FilmPlay} (a b : List Asking) → (plays_of (a ++ b) ≡ play ∷ [] → IsSoFar a b play) → Beginning asked outcome
     → plays_of (Asks asked outcome ∷ (a ++ b)) ≡ play ∷ [] → play.keep ≡ total_bytes play.plan → IsSoFar (Asks asked outcome ∷ a) b play
-one-by asked outcome a b play rest (BeginsNone is) one whole =
+one-by {play} a b rest (BeginsNone is) one whole =
     let P : List FilmPlay → Type 0 = λ l. (l ++ plays_of a ≡ play ∷ []) ⊎ ((l ++ plays_of a ≡ []) × (plays_of b ≡ play ∷ [])) in
     subst P (sym (is a)) (rest (sym (ap (λ l. l ++ plays_of (a ++ b)) (is (a ++ b))) ∙ one))
-one-by asked outcome a b play rest (BeginsOne prepared start is) one whole =
+one-by {play} a b rest (BeginsOne prepared start is) one whole =
     let there : begun_play prepared start (a ++ b) ∷ plays_of (a ++ b) ≡ play ∷ [] = sym (ap (λ l. l ++ plays_of (a ++ b)) (is (a ++ b))) ∙ one in
     let same : begun_play prepared start (a ++ b) ≡ play = cc in
     let none : plays_of (a ++ b) ≡ [] = cc in
@@ -154,7 +154,7 @@ one-by asked outcome a b play rest (BeginsOne prepared start is) one whole =
 
 pub one-so-far : (a b : List Asking) (play : FilmPlay) → plays_of (a ++ b) ≡ play ∷ [] → play.keep ≡ total_bytes play.plan → IsSoFar a b play
 one-so-far [] b play one whole = inr (refl, one)
-one-so-far (Asks asked outcome ∷ a) b play one whole = one-by asked outcome a b play (λ is. one-so-far a b play is whole) (either asked outcome) one whole
+one-so-far (Asks asked outcome ∷ a) b play one whole = one-by a b (λ is. one-so-far a b play is whole) (either asked outcome) one whole
 
 -- ---- a play begins after the slot that was heard, with a plan of segments
 
@@ -180,18 +180,19 @@ late-lower low heard (Asks asked outcome ∷ a) less are = (
   late-lower low heard a less are.1,
 )
 
-late-by : (heard : ℕ) (asked : Awaited) (outcome : Outcome) (a : List Asking) (play : FilmPlay) (rest : List FilmPlay)
+late-by : {heard : ℕ} {asked : Awaited} {outcome : Outcome} {play : FilmPlay} {rest : List FilmPlay}
+    (a : List Asking)
     → (plays_of a ≡ play ∷ rest → IsLatePlay heard play) → Beginning asked outcome → AreLate heard (Asks asked outcome ∷ a) → plays_of (Asks asked outcome ∷ a) ≡ play ∷ rest → IsLatePlay heard play
-late-by heard asked outcome a play rest next (BeginsNone none) are is =
+late-by a next (BeginsNone none) are is =
     next (sym (ap (λ l. l ++ plays_of a) (none a)) ∙ is)
-late-by heard asked outcome a play rest next (BeginsOne prepared start one) are is =
+late-by {play} {rest} a next (BeginsOne prepared start one) are is =
     let all : begun_play prepared start a ∷ plays_of a ≡ play ∷ rest = sym (ap (λ l. l ++ plays_of a) (one a)) ∙ is in
     let same : begun_play prepared start a ≡ play = cc in
     are.0 a play [] (one a ∙ ap (λ p. p ∷ []) same)
 
 pub late-play : (heard : ℕ) (a : List Asking) (play : FilmPlay) (rest : List FilmPlay) → AreLate heard a → plays_of a ≡ play ∷ rest → IsLatePlay heard play
 late-play heard [] play rest are is = absurd (let no : ⊥ = cc in no)
-late-play heard (Asks asked outcome ∷ a) play rest are is = late-by heard asked outcome a play rest (λ same. late-play heard a play rest are.1 same) (either asked outcome) are is
+late-play heard (Asks asked outcome ∷ a) play rest are is = late-by a (λ same. late-play heard a play rest are.1 same) (either asked outcome) are is
 
 -- by what was asked
 none-late : (heard : ℕ) (asked : Awaited) (outcome : Outcome) → ((askings : List Asking) → plays_begun asked outcome askings ≡ []) → IsLate heard asked outcome

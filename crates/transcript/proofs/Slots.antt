@@ -20,8 +20,8 @@ use Rattle.transcript.proofs.Steps.{GoesOn}
 use Rattle.transcript.proofs.Turning.{Ending, Going, Idle, Sends, sends_in}
 
 -- at a boundary the rest of a halted play was sent
-pub ended_at : (p : Pacing) (slot place : ℕ) → IsOnTime p slot → IsAtLast p → IsBoundary p.pieces place → place ≡ p.before + p.sent → p.sent ≡ p.keep
-ended_at p slot place on last boundary is =
+pub ended_at : {p : Pacing} {slot place : ℕ} → IsOnTime p slot → IsAtLast p → IsBoundary p.pieces place → place ≡ p.before + p.sent → p.sent ≡ p.keep
+ended_at {p} {slot} {place} on last boundary is =
     let least : p.before + p.keep ≤ place = last place boundary (omega (arith, is)) in
     omega (arith, least, is, on.even, on.pacing.due)
 
@@ -41,7 +41,7 @@ over_on : (p : Pacing) (slot : ℕ) → IsOnTime p slot → p.sent ≡ p.keep �
 over_on p slot on ended = record {
   sound = tt;
   later = omega arith;
-  rest = λ askings end more later is. film_over p slot end p.keep (plays_of askings) more on ended later is;
+  rest = λ askings end more later is. film_over (plays_of askings) more on ended later is;
 }
 
 replied_on : (state : State) (waits : Bool) (slot : ℕ) → IsSound (sends_in state) waits slot → is_between state ≡ true
@@ -51,7 +51,7 @@ replied_on (Ready setup paused) waits slot sound between = same_on Idle false sl
 replied_on (Playing setup play) waits slot sound between = same_on (Going play.pacer) false slot sound
 replied_on (Stopping setup stop) waits slot sound between =
     let p : Pacing = stop.pacer in
-    over_on p slot sound.0 (ended_at p slot (p.before + p.sent) sound.0 sound.2 (stands_here p sound.0.pacing between) refl)
+    over_on p slot sound.0 (ended_at sound.0 sound.2 (stands_here p sound.0.pacing between) refl)
 
 and_right : (a b : Bool) → (a && b) ≡ true → b ≡ true
 and_right true b both = both
@@ -127,7 +127,7 @@ going_on : (p : Pacing) (heard slot : ℕ) (waits : Bool) → IsSound (Going p) 
 going_on p heard slot waits sound later = record {
   sound = (through_time p heard slot sound.0 later, sound.1);
   later = omega (arith, later);
-  rest = λ askings end more on is. through_film p slot end _ (plays_of askings) more sound.0.pacing is;
+  rest = λ askings end more on is. through_film slot end _ (plays_of askings) more sound.0.pacing is;
 }
 
 -- the rest of a halted play goes on, or is over
@@ -146,8 +146,8 @@ ending_over p heard slot sound later stands =
       sound = tt;
       later = omega (arith, later);
       rest = λ askings end more after is.
-          through_film p slot end p.keep (plays_of askings) more on.pacing
-          (film_over (sent_through slot p) slot end p.keep (plays_of askings) more through ended after is);
+          through_film slot end p.keep (plays_of askings) more on.pacing
+          (film_over (plays_of askings) more through ended after is);
     }
 
 ending_on : (p : Pacing) (heard slot : ℕ) → IsSound (Ending p) true heard → heard < slot
@@ -159,13 +159,13 @@ ending_on p heard slot sound later = record {
     λ place boundary after. sound.2 place boundary (omega (arith, after, sound.0.pacing.sent)),
   );
   later = omega (arith, later);
-  rest = λ askings end more on is. through_film p slot end p.keep (plays_of askings) more sound.0.pacing is;
+  rest = λ askings end more on is. through_film slot end p.keep (plays_of askings) more sound.0.pacing is;
 }
 
-ending_either : (between : Bool) (p : Pacing) (heard slot : ℕ) → IsSound (Ending p) true heard → heard < slot → stands_at_boundary (after_step true slot p) ≡ between
+ending_either : {between : Bool} {p : Pacing} {heard slot : ℕ} → IsSound (Ending p) true heard → heard < slot → stands_at_boundary (after_step true slot p) ≡ between
     → GoesOn (Ending p) (if between then Idle else Ending (after_step true slot p)) heard slot (if between then false else true) [] (plan_bytes p p.sent (due_by p slot))
-ending_either true p heard slot sound later stands = ending_over p heard slot sound later stands
-ending_either false p heard slot sound later stands =
+ending_either {between = true} {p} {heard} {slot} sound later stands = ending_over p heard slot sound later stands
+ending_either {between = false} {p} {heard} {slot} sound later stands =
     subst (λ q. GoesOn (Ending p) (Ending q) heard slot true [] (plan_bytes p p.sent (due_by p slot))) (sym (slot_is true false slot p sound.0.pacing stands))
     (ending_on p heard slot sound later)
 
@@ -174,11 +174,11 @@ abbrev pub SlotGoes : State → Bool → ℕ → ℕ → List ℕ → Type 0
 SlotGoes state waits heard slot text =
     GoesOn (sends_in state) (sends_in (state_after waits state slot)) heard slot (waits_after waits state slot) [] (film_bytes (parts_of waits state text slot))
 
-pub slot_goes : (state : State) (waits : Bool) (heard slot : ℕ) (text : List ℕ) → is_sending state ≡ true → IsSound (sends_in state) waits heard → heard < slot
+pub slot_goes : {heard slot : ℕ} (state : State) (waits : Bool) (text : List ℕ) → is_sending state ≡ true → IsSound (sends_in state) waits heard → heard < slot
     → SlotGoes state waits heard slot text
-slot_goes Init waits heard slot text sending sound later = absurd (true≢false (sym sending))
-slot_goes (Ready setup paused) waits heard slot text sending sound later = absurd (true≢false (sym sending))
-slot_goes (Playing setup play) waits heard slot text sending sound later =
+slot_goes {slot} Init waits text sending sound later = absurd (true≢false (sym sending))
+slot_goes {slot} (Ready setup paused) waits text sending sound later = absurd (true≢false (sym sending))
+slot_goes {heard} {slot} (Playing setup play) waits text sending sound later =
     let p : Pacing = play.pacer in
     let one : Pacing = after_step true slot p in
     let sends : sends_in (state_after waits (Playing setup play) slot) ≡ Going (sent_through slot p) =
@@ -188,12 +188,12 @@ slot_goes (Playing setup play) waits heard slot text sending sound later =
     subst (λ s. GoesOn (Going p) s heard slot last [] (film_bytes (parts_of waits (Playing setup play) text slot))) (sym sends)
     (subst (GoesOn (Going p) (Going (sent_through slot p)) heard slot last []) (sym (film_of waits p text slot sound.0.pacing))
     (going_on p heard slot last sound later))
-slot_goes (Stopping setup stop) false heard slot text sending sound later = absurd (true≢false (sym sound.1))
-slot_goes (Stopping setup stop) true heard slot text sending sound later =
+slot_goes {slot} (Stopping setup stop) false text sending sound later = absurd (true≢false (sym sound.1))
+slot_goes {heard} {slot} (Stopping setup stop) true text sending sound later =
     let p : Pacing = stop.pacer in
     let one : Pacing = after_step true slot p in
     let last : Bool = waits_after true (Stopping setup stop) slot in
     subst (λ s. GoesOn (Ending p) s heard slot last [] (film_bytes (parts_of true (Stopping setup stop) text slot)))
     (sym (ending_cases (stands_at_boundary one) setup stop (after_step false slot one) one))
     (subst (GoesOn (Ending p) (if stands_at_boundary one then Idle else Ending one) heard slot last []) (sym (film_of true p text slot sound.0.pacing))
-    (ending_either (stands_at_boundary one) p heard slot sound later refl))
+    (ending_either sound later refl))

@@ -25,9 +25,9 @@ pub record GoesOn (old new : Sends) (from to : ℕ) (waits : Bool) (made : List 
   pub later : from ≤ to
   pub rest : (askings : List Asking) (end : ℕ) (more : List ℕ) → to ≤ end → IsRest new askings end more → IsRest old (made ++ askings) end (bytes ++ more)
 
-pub then_on : (a b c : Sends) (x y z : ℕ) (waits last : Bool) (made more : List Asking) (film bytes : List ℕ) → GoesOn a b x y waits made film
+pub then_on : {a b c : Sends} {x y z : ℕ} {waits last : Bool} {made more : List Asking} {film bytes : List ℕ} → GoesOn a b x y waits made film
     → GoesOn b c y z last more bytes → GoesOn a c x z last (made ++ more) (film ++ bytes)
-then_on a b c x y z waits last made more film bytes one two = record {
+then_on {a} {c} {waits} {last} {made} {more} {film} {bytes} one two = record {
   sound = two.sound;
   later = omega (arith, one.later, two.later);
   rest = λ askings end tail on is.
@@ -38,15 +38,16 @@ then_on a b c x y z waits last made more film bytes one two = record {
 }
 
 -- a request that neither begins nor halts a play
-pub still_rest : (sends : Sends) (asked : Awaited) (outcome : Outcome) (askings : List Asking) (end : ℕ) (more : List ℕ) → IsStill asked outcome
+pub still_rest : {asked : Awaited} {outcome : Outcome} (sends : Sends) (askings : List Asking) (end : ℕ)
+    (more : List ℕ) → IsStill asked outcome
     → IsRest sends askings end more → IsRest sends (Asks asked outcome ∷ askings) end more
-still_rest Idle asked outcome askings end more still is =
+still_rest Idle askings end more still is =
     subst (λ ps. IsFilm end (ps ++ plays_of askings) more) (sym (still.none askings)) is
-still_rest (Going p) asked outcome askings end more still is =
+still_rest {outcome} (Going p) askings end more still is =
     subst (λ ps. IsFilm end (play_with p (kept_with outcome (kept_in askings (total_bytes p.plan))) ∷ (ps ++ plays_of askings)) (take p.sent (film_in p) ++ more))
     (sym (still.none askings))
     (subst (λ k. IsFilm end (play_with p k ∷ plays_of askings) (take p.sent (film_in p) ++ more)) (sym (still.kept (kept_in askings (total_bytes p.plan)))) is)
-still_rest (Ending p) asked outcome askings end more still is =
+still_rest (Ending p) askings end more still is =
     subst (λ ps. IsFilm end (play_with p p.keep ∷ (ps ++ plays_of askings)) (take p.sent (film_in p) ++ more)) (sym (still.none askings)) is
 
 pub sound_waits : (sends : Sends) (old new : Bool) (slot : ℕ) → IsSound sends old slot → (new ≡ true) → IsSound sends new slot
@@ -55,9 +56,9 @@ sound_waits (Going p) old new slot is waits = is
 sound_waits (Ending p) old new slot is waits = (is.0, waits, is.2)
 
 -- a play begins
-begin_sound : (p : Pacing) (slot start : ℕ) (pieces : List (List ℕ)) (before : ℕ) (plan : List Segment) → p ≡ whole_pacing pieces before plan start
+begin_sound : {p : Pacing} {slot : ℕ} (start : ℕ) (pieces : List (List ℕ)) (before : ℕ) (plan : List Segment) → p ≡ whole_pacing pieces before plan start
     → IsPacing p → slot < start → IsSound (Going p) true slot
-begin_sound p slot start pieces before plan is pacing later =
+begin_sound {p} {slot} start pieces before plan is pacing later =
     let starts : p.start ≡ start = ap (λ (q : Pacing). q.start) is in
     let none : p.passed ≡ 0 = ap (λ (q : Pacing). q.passed) is in
     let sent : p.sent ≡ p.due = ap (λ (q : Pacing). q.sent) is ∙ sym (ap (λ (q : Pacing). q.due) is) in
@@ -66,21 +67,22 @@ begin_sound p slot start pieces before plan is pacing later =
       whole,
     )
 
-begin_film : (prepared : Prepared) (start : ℕ) (plan : List Segment) (askings : List Asking) (end : ℕ) (more : List ℕ) → prepared.paced ≡ plan
+begin_film : {plan : List Segment} {more : List ℕ} (prepared : Prepared) (start : ℕ) (askings : List Asking)
+    (end : ℕ) → prepared.paced ≡ plan
     → IsFilm end (play_with (pacing_for prepared start) (kept_in askings (total_bytes prepared.paced)) ∷ plays_of askings) more
     → IsFilm end (record { start = start; plan = plan; keep = kept_in askings (total_bytes plan); before = prepared.run.sent; pieces = run_pieces prepared.frames } ∷ plays_of askings) more
-begin_film prepared start plan askings end more same is =
+begin_film {plan} {more} prepared start askings end same is =
     subst (λ pl. IsFilm end (record { start = start; plan = pl; keep = kept_in askings (total_bytes pl); before = prepared.run.sent; pieces = run_pieces prepared.frames } ∷ plays_of askings) more)
     same is
 
-begin_rest : (old new : Standing) (asked : Awaited) (outcome : Outcome) (begins : Begins old asked outcome new) (askings : List Asking) (end : ℕ)
-    (more : List ℕ) → IsRest (Going (pacing_for begins.prepared begins.start)) askings end more → IsRest Idle (Asks asked outcome ∷ askings) end more
-begin_rest old new asked outcome begins askings end more is =
+begin_rest : {old new : Standing} {asked : Awaited} {outcome : Outcome} {more : List ℕ}
+    (begins : Begins old asked outcome new) (askings : List Asking) (end : ℕ) → IsRest (Going (pacing_for begins.prepared begins.start)) askings end more → IsRest Idle (Asks asked outcome ∷ askings) end more
+begin_rest {new} {asked} {outcome} {more} begins askings end is =
     let made : plays_begun asked outcome askings ≡ plays_admitted (Play begins.prepared) (Admitted begins.start) askings =
     ap (λ o. plays_begun asked o askings) begins.outcome_is ∙ ap (λ a. plays_admitted a begins.placed.entry.answer askings) begins.asked_is
     ∙ ap (λ a. plays_admitted (Play begins.prepared) a askings) begins.answer in
     subst (λ ps. IsFilm end (ps ++ plays_of askings) more) (sym made)
-    (begin_film begins.prepared begins.start begins.prepared.plan askings end more begins.paced is)
+    (begin_film begins.prepared begins.start askings end begins.paced is)
 
 -- a play is halted at the next boundary
 halted_pacing : (p : Pacing) (slot : ℕ) → IsSound (Going p) true slot → IsSound (Ending (record p { keep = next_boundary p })) true slot
@@ -111,10 +113,10 @@ halted_pacing p slot is =
       λ other boundary within. omega (arith, place, next.least other boundary within),
     )
 
-halt_rest : (old new : Standing) (asked : Awaited) (outcome : Outcome) (halts : Halts old asked outcome new) (askings : List Asking) (end : ℕ)
-    (more : List ℕ) → IsRest (Ending (record halts.pacing { keep = next_boundary halts.pacing })) askings end more
+halt_rest : {old new : Standing} {asked : Awaited} {outcome : Outcome} (halts : Halts old asked outcome new)
+    (askings : List Asking) (end : ℕ) (more : List ℕ) → IsRest (Ending (record halts.pacing { keep = next_boundary halts.pacing })) askings end more
     → IsRest (Going halts.pacing) (Asks asked outcome ∷ askings) end more
-halt_rest old new asked outcome halts askings end more is =
+halt_rest {new} {asked} {outcome} halts askings end more is =
     let p : Pacing = halts.pacing in
     let kept : kept_with outcome (kept_in askings (total_bytes p.plan)) ≡ next_boundary p =
     ap (λ o. kept_with o (kept_in askings (total_bytes p.plan))) halts.outcome_is
@@ -129,18 +131,18 @@ turn_goes old new asked outcome sound (Stays same after still) = record {
   sound = subst (λ s. IsSound s true old.heard) (sym same) sound;
   later = omega arith;
   rest = λ askings end more on is.
-      still_rest (sends_in old.state) asked outcome askings end more still (subst (λ s. IsRest s askings end more) same is);
+      still_rest (sends_in old.state) askings end more still (subst (λ s. IsRest s askings end more) same is);
 }
 turn_goes old new asked outcome sound (Starts after begins) =
     let p : Pacing = pacing_for begins.prepared begins.start in
     let sounds : IsSound (Going p) true old.heard =
-    begin_sound p old.heard begins.start (run_pieces begins.prepared.frames) begins.prepared.run.sent begins.prepared.paced refl begins.pacing begins.later in
+    begin_sound begins.start (run_pieces begins.prepared.frames) begins.prepared.run.sent begins.prepared.paced refl begins.pacing begins.later in
     record {
       sound = subst (λ s. IsSound s true old.heard) (sym begins.sends) sounds;
       later = omega arith;
       rest = λ askings end more on is.
           subst (λ s. IsRest s (Asks asked outcome ∷ askings) end more) (sym begins.idle)
-          (begin_rest old new asked outcome begins askings end more (subst (λ s. IsRest s askings end more) begins.sends is));
+          (begin_rest begins askings end (subst (λ s. IsRest s askings end more) begins.sends is));
     }
 turn_goes old new asked outcome sound (Ends after halts) =
     let p : Pacing = halts.pacing in
@@ -151,5 +153,5 @@ turn_goes old new asked outcome sound (Ends after halts) =
       later = omega arith;
       rest = λ askings end more on is.
           subst (λ s. IsRest s (Asks asked outcome ∷ askings) end more) (sym halts.going)
-          (halt_rest old new asked outcome halts askings end more (subst (λ s. IsRest s askings end more) halts.sends is));
+          (halt_rest halts askings end more (subst (λ s. IsRest s askings end more) halts.sends is));
     }

@@ -77,20 +77,20 @@ cut-at (p ∷ ps) c alone =
           (stream-cons p (take d (framed_bytes ps)) (take (count_ended d ps) ps) (rest_at d ps) alone.0 (cut-at ps d alone.1))))
     ]
 
-front-is : (rest end : List ℕ) (all cut more : List (List ℕ)) → cut ≡ all ++ more → AreCut rest more end → ((n : ℕ) → IsPieceLength rest n → ⊥)
+front-is : {rest : List ℕ} {all cut : List (List ℕ)} (end : List ℕ) (more : List (List ℕ)) → cut ≡ all ++ more → AreCut rest more end → ((n : ℕ) → IsPieceLength rest n → ⊥)
     → ((later : List (List ℕ)) × (all ≡ cut ++ later))
-front-is rest end all cut [] is are none = ([], sym (append-nil cut ∙ is ∙ append-nil all))
-front-is rest end all cut (piece ∷ more) is are none = absurd (none are.0 are.1.0)
+front-is {all} {cut} end [] is are none = ([], sym (append-nil cut ∙ is ∙ append-nil all))
+front-is {all} {cut} end (piece ∷ more) is are none = absurd (none are.0 are.1.0)
 
 -- whatever was cut is a front of the pieces
-pub cut-front : (ps : List (List ℕ)) (c : ℕ) (bytes : List ℕ) (cut : List (List ℕ)) (rest : List ℕ) (n : ℕ) → AreAlone ps → bytes ≡ take c (framed_bytes ps)
+pub cut-front : {bytes rest : List ℕ} {n : ℕ} (ps : List (List ℕ)) (c : ℕ) (cut : List (List ℕ)) → AreAlone ps → bytes ≡ take c (framed_bytes ps)
     → AreCut bytes cut rest → IsPieceLength rest n → ((more : List (List ℕ)) × (take (count_ended c ps) ps ≡ (cut ++ take n rest ∷ []) ++ more))
-cut-front ps c bytes cut rest n alone is are next =
+cut-front {bytes} {rest} {n} ps c cut alone is are next =
     let all = take (count_ended c ps) ps in
     let P : List ℕ → Type 0 = λ xs. IsStream xs all (rest_at c ps) in
     let stream : IsStream bytes all (rest_at c ps) = subst P (sym is) (cut-at ps c alone) in
     let longer : AreCut bytes (cut ++ take n rest ∷ []) (drop n rest) = cut_more bytes cut rest n are next in
     elim (cuts_agree bytes (cut ++ take n rest ∷ []) all (drop n rest) (rest_at c ps) longer stream.0) [
       | inl more ↦ (more.0, more.1.0)
-      | inr more ↦ front-is (rest_at c ps) (drop n rest) all (cut ++ take n rest ∷ []) more.0 more.1.0 more.1.1 stream.1
+      | inr more ↦ front-is (drop n rest) more.0 more.1.0 more.1.1 stream.1
     ]

@@ -73,9 +73,9 @@ no-zero true false clash = refl
 no-zero false zero_ clash = refl
 
 -- seconds, a point and three digits are read
-point-read : (text s : List ℕ) (n a b c : ℕ) → text ≡ s ++ 46 ∷ (48 + a) ∷ (48 + b) ∷ (48 + c) ∷ [] → s ≡ decimal n → n < 2 ^ 64
+point-read : {text s : List ℕ} (n a b c : ℕ) → text ≡ s ++ 46 ∷ (48 + a) ∷ (48 + b) ∷ (48 + c) ∷ [] → s ≡ decimal n → n < 2 ^ 64
     → a < 10 → b < 10 → c < 10 → time_in text ≡ Some (n * 1000 + (a * 100 + b * 10 + c))
-point-read text s n a b c is s_is small la lb lc =
+point-read {text} {s} n a b c is s_is small la lb lc =
     let tail = 46 ∷ (48 + a) ∷ (48 + b) ∷ (48 + c) ∷ [] in
     let size : length text ≡ length s + 4 = ap (λ (l : List ℕ). length l) is ∙ length-append s tail in
     let some : 0 < length s = omega (arith, ap (λ (l : List ℕ). length l) s_is, decimal_nonempty n small) in
@@ -107,7 +107,7 @@ point-read text s n a b c is s_is small la lb lc =
 
 time-read : (ms : ℕ) → ms < 2 ^ 64 → time_in (seconds_text ms) ≡ Some ms
 time-read ms small =
-    point-read (seconds_text ms) (decimal (ms / 1000)) (ms / 1000) (ms / 100 % 10) (ms / 10 % 10) (ms % 10) (seconds-is ms) refl
+    point-read (ms / 1000) (ms / 100 % 10) (ms / 10 % 10) (ms % 10) (seconds-is ms) refl
     (omega (arith, small)) (omega arith) (omega arith) (omega arith)
     ∙ ap Some (let e : ms / 1000 * 1000 + (ms / 100 % 10 * 100 + ms / 10 % 10 * 10 + ms % 10) ≡ ms = omega arith in e)
 

@@ -101,41 +101,44 @@ pub unasked_still : (asked : Awaited) → IsStill asked Unasked
 unasked_still asked = record { none = λ later. refl; kept = λ later. refl; untold = λ made. refl }
 
 -- a reply of the session's own
-reply_turns : (old : Standing) (outcome : Outcome) (asked new : Standing) → IsAnswered asked AskReply outcome new → old.awaited ≡ Nothing
+reply_turns : {old : Standing} {outcome : Outcome} {new : Standing} (asked : Standing) → IsAnswered asked AskReply outcome new → old.awaited ≡ Nothing
     → sends_in asked.state ≡ sends_in old.state → asked.heard ≡ old.heard → asked.awaited ≡ old.awaited → asked.waits ≡ true
     → TurnsAs old asked.awaited outcome new
-reply_turns old Unasked asked new answered rest sends heard awaited waits =
+reply_turns {old} {outcome = Unasked} {new} asked answered rest sends heard awaited waits =
     subst (λ (s : Standing). TurnsAs old asked.awaited Unasked s) (sym answered)
     (Stays sends (record { heard = heard; awaited = awaited ∙ rest; waits = waits }) (unasked_still asked.awaited))
-reply_turns old (Entered placed) asked new answered rest sends heard awaited waits = absurd answered
-reply_turns old (WasFull more entries live) asked new answered rest sends heard awaited waits = absurd answered
-reply_turns old (Offered at_slot note) asked new answered rest sends heard awaited waits = absurd answered
+reply_turns {outcome = Entered placed} {new} asked answered rest sends heard awaited waits = absurd answered
+reply_turns {outcome = WasFull more entries live} {new} asked answered rest sends heard awaited waits = absurd answered
+reply_turns {outcome = Offered at_slot note} {new} asked answered rest sends heard awaited waits = absurd answered
 
 -- a play's answer
 idle_in : (state : State) (setup : Setup) (paused : Option Run) → state ≡ Ready setup paused → sends_in state ≡ Idle
 idle_in state setup paused is = ap sends_in is
 
-admitted_sends : (state : State) (setup : Setup) (paused : Option Run) (prepared : Prepared) (awaited : Awaited) (place start : ℕ)
+admitted_sends : {state : State} {setup : Setup} {paused : Option Run} {prepared : Prepared} {awaited : Awaited}
+    (place start : ℕ)
     → state ≡ Ready setup paused → awaited ≡ Play prepared
     → sends_in (admitted_in state awaited place start) ≡ Going (pacing_for prepared start)
-admitted_sends state setup paused prepared awaited place start is asks =
+admitted_sends {setup} {paused} {awaited} place start is asks =
     ap (λ (s : State). sends_in (admitted_in s awaited place start)) is
     ∙ ap (λ (a : Awaited). sends_in (admitted_in (Ready setup paused) a place start)) asks
 
-play_in : (state : State) (setup : Setup) (paused : Option Run) (prepared : Prepared) (awaited : Awaited) (place start : ℕ)
+play_in : {state : State} {setup : Setup} {paused : Option Run} {prepared : Prepared} {awaited : Awaited}
+    (place start : ℕ)
     → state ≡ Ready setup paused → awaited ≡ Play prepared → IsPlayIn (admitted_in state awaited place start)
     → IsPacing (pacing_for prepared start) × (prepared.paced ≡ prepared.plan)
-play_in state setup paused prepared awaited place start is asks plays =
+play_in {setup} {paused} {prepared} {awaited} place start is asks plays =
     let At : State → Awaited → Type 0 = λ s a. IsPlayIn (admitted_in s a place start) in
     let there : At (Ready setup paused) (Play prepared) =
     subst (At (Ready setup paused)) asks (subst (λ (s : State). At s awaited) is plays) in
     (there.pacing, there.plan)
 
-play_turns : (old : Standing) (setup : Setup) (paused : Option Run) (prepared : Prepared) (placed : Placed) (answer : Answer) (asked new : Standing)
+play_turns : {old : Standing} {setup : Setup} {paused : Option Run} {prepared : Prepared} {placed : Placed}
+    {answer : Answer} {new : Standing} (asked : Standing)
     → placed.entry.answer ≡ answer → placed.entry.command ≡ play_of asked.heard prepared.plan → IsPlayAnswered asked placed answer new
     → old.state ≡ Ready setup paused → asked.state ≡ old.state → asked.heard ≡ old.heard → asked.awaited ≡ Play prepared
     → TurnsAs old asked.awaited (Entered placed) new
-play_turns old setup paused prepared placed (Admitted start) asked new is command answered ready state heard awaited =
+play_turns {prepared} {placed} {answer = Admitted start} {new} asked is command answered ready state heard awaited =
     let plays : IsPlayIn (admitted_in asked.state asked.awaited placed.place start) =
     subst IsPlayIn (ap (λ (s : Standing). s.state) answered.1) answered.2 in
     Starts (record {
@@ -152,12 +155,12 @@ play_turns old setup paused prepared placed (Admitted start) asked new is comman
       answer = is;
       command = command ∙ ap (λ h. play_of h prepared.plan) heard;
       later = subst (λ h. h < start) heard answered.0;
-      paced = (play_in asked.state setup paused prepared asked.awaited placed.place start (state ∙ ready) awaited plays).1;
+      paced = (play_in placed.place start (state ∙ ready) awaited plays).1;
       sends = ap (λ (s : Standing). sends_in s.state) answered.1
-          ∙ admitted_sends asked.state setup paused prepared asked.awaited placed.place start (state ∙ ready) awaited;
-      pacing = (play_in asked.state setup paused prepared asked.awaited placed.place start (state ∙ ready) awaited plays).0;
+          ∙ admitted_sends placed.place start (state ∙ ready) awaited;
+      pacing = (play_in placed.place start (state ∙ ready) awaited plays).0;
     })
-play_turns old setup paused prepared placed (Overflow slot booked asks) asked new is command answered ready state heard awaited =
+play_turns {prepared} {placed} {answer = Overflow slot booked asks} {new} asked is command answered ready state heard awaited =
     Stays (ap (λ (s : Standing). sends_in s.state) answered ∙ ap sends_in state) (record {
       heard = ap (λ (s : Standing). s.heard) answered ∙ heard;
       awaited = ap (λ (s : Standing). s.awaited) answered;
@@ -168,22 +171,23 @@ play_turns old setup paused prepared placed (Overflow slot booked asks) asked ne
       untold = λ made. ap (λ c. booked_by (play_admitted c placed.entry.answer) made) command
           ∙ ap (λ a. booked_by (play_admitted (play_of asked.heard prepared.plan) a) made) is;
     })
-play_turns old setup paused prepared placed Halted asked new is command answered ready state heard awaited = absurd answered
-play_turns old setup paused prepared placed (Looked now at booked) asked new is command answered ready state heard awaited = absurd answered
+play_turns {answer = Halted} {new} asked is command answered ready state heard awaited = absurd answered
+play_turns {answer = Looked now at booked} {new} asked is command answered ready state heard awaited = absurd answered
 
-asked_play : (old : Standing) (setup : Setup) (paused : Option Run) (prepared : Prepared) (outcome : Outcome) (asked new : Standing)
+asked_play : {old : Standing} {setup : Setup} {paused : Option Run} {prepared : Prepared} {outcome : Outcome}
+    {new : Standing} (asked : Standing)
     → IsAnswered asked (AskPlay prepared.plan) outcome new → old.state ≡ Ready setup paused → asked.state ≡ old.state → asked.heard ≡ old.heard
     → asked.awaited ≡ Play prepared → TurnsAs old asked.awaited outcome new
-asked_play old setup paused prepared Unasked asked new answered ready state heard awaited = absurd answered
-asked_play old setup paused prepared (Entered placed) asked new answered ready state heard awaited =
-    play_turns old setup paused prepared placed placed.entry.answer asked new refl answered.0 answered.1 ready state heard awaited
-asked_play old setup paused prepared (WasFull more entries live) asked new answered ready state heard awaited =
+asked_play {outcome = Unasked} {new} asked answered ready state heard awaited = absurd answered
+asked_play {outcome = Entered placed} {new} asked answered ready state heard awaited =
+    play_turns asked refl answered.0 answered.1 ready state heard awaited
+asked_play {outcome = WasFull more entries live} {new} asked answered ready state heard awaited =
     Stays (ap (λ (s : Standing). sends_in s.state) answered.0 ∙ ap sends_in state) (record {
       heard = ap (λ (s : Standing). s.heard) answered.0 ∙ heard;
       awaited = ap (λ (s : Standing). s.awaited) answered.0;
       waits = ap (λ (s : Standing). s.waits) answered.0;
     }) (record { none = λ later. refl; kept = λ later. refl; untold = λ made. refl })
-asked_play old setup paused prepared (Offered at_slot note) asked new answered ready state heard awaited = absurd answered
+asked_play {outcome = Offered at_slot note} {new} asked answered ready state heard awaited = absurd answered
 
 -- a halt's answer
 stopped_sends : (setup : Setup) (play : Played) (next : Next) → is_answered next ≡ true → sends_in (state_after setup play next) ≡ Ending play.pacer
@@ -195,16 +199,17 @@ told_if : (b waits : Bool) → b ≡ true → (if b then true else waits) ≡ tr
 told_if true waits is = refl
 told_if false waits is = absurd (let no : ⊥ = cc in no)
 
-halt_state : (state : State) (awaited : Awaited) (setup : Setup) (play : Played) (keep : ℕ) (next : Next) → state ≡ Playing setup play
+halt_state : {state : State} {awaited : Awaited} {setup : Setup} {play : Played} {keep : ℕ} {next : Next} → state ≡ Playing setup play
     → awaited ≡ Halt keep next → halted_in state awaited ≡ state_after setup play next
-halt_state state awaited setup play keep next is asks =
+halt_state {awaited} {setup} {play} {next} is asks =
     ap (λ (s : State). halted_in s awaited) is ∙ ap (λ (a : Awaited). halted_in (Playing setup play) a) asks
 
-halt_turns : (old : Standing) (setup : Setup) (play : Played) (keep : ℕ) (next : Next) (placed : Placed) (asked new : Standing)
+halt_turns : {old : Standing} {setup : Setup} {play : Played} {keep : ℕ} {next : Next} {placed : Placed}
+    {asked new : Standing}
     → IsHaltAnswered asked keep placed new → old.state ≡ Playing setup play → is_answered next ≡ true → keep ≡ next_boundary play.pacer
     → asked.state ≡ Playing setup (record play { pacer = record play.pacer { keep = keep } }) → asked.awaited ≡ Halt keep next
     → asked.heard ≡ old.heard → TurnsAs old asked.awaited (Entered placed) new
-halt_turns old setup play keep next placed asked new halted playing told keep_is state awaited heard =
+halt_turns {setup} {play} {keep} {next} {placed} {asked} {new} halted playing told keep_is state awaited heard =
     let stopped : Played = record play { pacer = record play.pacer { keep = keep } } in
     let is : new ≡ after_halt asked placed.place = halted.halts in
     Ends (record {
@@ -221,25 +226,27 @@ halt_turns old setup play keep next placed asked new halted playing told keep_is
       command = halted.command ∙ ap (λ k. HaltCommand halted.number k) keep_is;
       answer = halted.answer;
       none = λ later. ap (λ a. plays_admitted a placed.entry.answer later) awaited;
-      sends = ap (λ (s : Standing). sends_in s.state) is ∙ ap sends_in (halt_state asked.state asked.awaited setup stopped keep next state awaited)
+      sends = ap (λ (s : Standing). sends_in s.state) is ∙ ap sends_in (halt_state state awaited)
           ∙ stopped_sends setup stopped next told ∙ ap (λ k. Ending (record play.pacer { keep = k })) keep_is;
     })
 
-asked_halt : (old : Standing) (setup : Setup) (play : Played) (keep : ℕ) (next : Next) (outcome : Outcome) (asked new : Standing)
+asked_halt : {old : Standing} {setup : Setup} {play : Played} {keep : ℕ} {next : Next} {outcome : Outcome}
+    {new : Standing} (asked : Standing)
     → IsHalted asked keep outcome new → old.state ≡ Playing setup play → is_answered next ≡ true → keep ≡ next_boundary play.pacer
     → asked.state ≡ Playing setup (record play { pacer = record play.pacer { keep = keep } }) → asked.awaited ≡ Halt keep next
     → asked.heard ≡ old.heard → TurnsAs old asked.awaited outcome new
-asked_halt old setup play keep next Unasked asked new halted playing told keep_is state awaited heard = absurd halted
-asked_halt old setup play keep next (Entered placed) asked new halted playing told keep_is state awaited heard =
-    halt_turns old setup play keep next placed asked new halted playing told keep_is state awaited heard
-asked_halt old setup play keep next (WasFull more entries live) asked new halted playing told keep_is state awaited heard = absurd halted
-asked_halt old setup play keep next (Offered at_slot note) asked new halted playing told keep_is state awaited heard = absurd halted
+asked_halt {next} {outcome = Unasked} {new} asked halted playing told keep_is state awaited heard = absurd halted
+asked_halt {next} {outcome = Entered placed} {new} asked halted playing told keep_is state awaited heard =
+    halt_turns halted playing told keep_is state awaited heard
+asked_halt {next} {outcome = WasFull more entries live} {new} asked halted playing told keep_is state awaited heard = absurd halted
+asked_halt {next} {outcome = Offered at_slot note} {new} asked halted playing told keep_is state awaited heard = absurd halted
 
 -- a look's answer, and an offer's
-look_answered : (old : Standing) (placed : Placed) (answer : Answer) (sequence : ℕ) (asked new : Standing)
+look_answered : {old : Standing} {placed : Placed} {sequence : ℕ} {new : Standing} (answer : Answer)
+    (asked : Standing)
     → placed.entry.command ≡ look_at asked.heard → IsLookAnswered asked placed answer new
     → asked.state ≡ old.state → asked.heard ≡ old.heard → asked.awaited ≡ Look sequence → TurnsAs old asked.awaited (Entered placed) new
-look_answered old placed (Looked now at booked) sequence asked new command answered state heard awaited =
+look_answered {placed} {new} (Looked now at booked) asked command answered state heard awaited =
     Stays (ap (λ (s : Standing). sends_in s.state) answered ∙ ap sends_in state) (record {
       heard = ap (λ (s : Standing). s.heard) answered ∙ heard;
       awaited = ap (λ (s : Standing). s.awaited) answered;
@@ -249,31 +256,32 @@ look_answered old placed (Looked now at booked) sequence asked new command answe
       kept = λ later. ap (λ c. kept_by c later) command;
       untold = λ made. ap (λ c. booked_by (play_admitted c placed.entry.answer) made) command;
     })
-look_answered old placed (Admitted start) sequence asked new command answered state heard awaited = absurd answered
-look_answered old placed (Overflow slot booked asks) sequence asked new command answered state heard awaited = absurd answered
-look_answered old placed Halted sequence asked new command answered state heard awaited = absurd answered
+look_answered {new} (Admitted start) asked command answered state heard awaited = absurd answered
+look_answered {new} (Overflow slot booked asks) asked command answered state heard awaited = absurd answered
+look_answered {new} Halted asked command answered state heard awaited = absurd answered
 
-asked_look : (old : Standing) (slot sequence : ℕ) (outcome : Outcome) (asked new : Standing) → IsAnswered asked (AskLook slot) outcome new
+asked_look : {old : Standing} {slot sequence : ℕ} {outcome : Outcome} {new : Standing} (asked : Standing) → IsAnswered asked (AskLook slot) outcome new
     → slot ≡ asked.heard → asked.state ≡ old.state → asked.heard ≡ old.heard → asked.awaited ≡ Look sequence
     → TurnsAs old asked.awaited outcome new
-asked_look old slot sequence Unasked asked new answered slot_is state heard awaited = absurd answered
-asked_look old slot sequence (Entered placed) asked new answered slot_is state heard awaited =
-    look_answered old placed placed.entry.answer sequence asked new (answered.0 ∙ ap look_at slot_is) answered.1 state heard awaited
-asked_look old slot sequence (WasFull more entries live) asked new answered slot_is state heard awaited =
+asked_look {slot} {outcome = Unasked} {new} asked answered slot_is state heard awaited = absurd answered
+asked_look {slot} {outcome = Entered placed} {new} asked answered slot_is state heard awaited =
+    look_answered placed.entry.answer asked (answered.0 ∙ ap look_at slot_is) answered.1 state heard awaited
+asked_look {slot} {outcome = WasFull more entries live} {new} asked answered slot_is state heard awaited =
     Stays (ap (λ (s : Standing). sends_in s.state) answered.0 ∙ ap sends_in state) (record {
       heard = ap (λ (s : Standing). s.heard) answered.0 ∙ heard;
       awaited = ap (λ (s : Standing). s.awaited) answered.0;
       waits = ap (λ (s : Standing). s.waits) answered.0;
     }) (record { none = λ later. refl; kept = λ later. refl; untold = λ made. refl })
-asked_look old slot sequence (Offered at_slot note) asked new answered slot_is state heard awaited = absurd answered
+asked_look {slot} {outcome = Offered at_slot note} {new} asked answered slot_is state heard awaited = absurd answered
 
-asked_offer : (old : Standing) (plan : List Segment) (offers : Found) (outcome : Outcome) (asked new : Standing)
+asked_offer : {old : Standing} {outcome : Outcome} {new : Standing} (plan : List Segment) (offers : Found)
+    (asked : Standing)
     → IsAnswered asked (AskOffer plan offers) outcome new → asked.state ≡ old.state → asked.heard ≡ old.heard
     → TurnsAs old asked.awaited outcome new
-asked_offer old plan offers Unasked asked new answered state heard = absurd answered
-asked_offer old plan offers (Entered placed) asked new answered state heard = absurd answered
-asked_offer old plan offers (WasFull more entries live) asked new answered state heard = absurd answered
-asked_offer old plan offers (Offered at_slot note) asked new answered state heard =
+asked_offer {outcome = Unasked} {new} plan offers asked answered state heard = absurd answered
+asked_offer {outcome = Entered placed} {new} plan offers asked answered state heard = absurd answered
+asked_offer {outcome = WasFull more entries live} {new} plan offers asked answered state heard = absurd answered
+asked_offer {outcome = Offered at_slot note} {new} plan offers asked answered state heard =
     Stays (ap (λ (s : Standing). sends_in s.state) answered.2 ∙ ap sends_in state) (record {
       heard = ap (λ (s : Standing). s.heard) answered.2 ∙ heard;
       awaited = ap (λ (s : Standing). s.awaited) answered.2;
@@ -281,31 +289,31 @@ asked_offer old plan offers (Offered at_slot note) asked new answered state hear
     }) (record { none = λ later. refl; kept = λ later. refl; untold = λ made. refl })
 
 -- by what was asked
-answers_as : (old : Standing) (ask : Ask) (outcome : Outcome) (asked new : Standing) → old.awaited ≡ Nothing → IsAnswered asked ask outcome new
+answers_as : {old : Standing} {ask : Ask} {outcome : Outcome} {asked new : Standing} → old.awaited ≡ Nothing → IsAnswered asked ask outcome new
     → HearsAs old ask asked → TurnsAs old asked.awaited outcome new
-answers_as old ask outcome asked new rest answered (Replies text tearing ask_is is) =
-    reply_turns old outcome asked new (subst (λ a. IsAnswered asked a outcome new) ask_is answered) rest (ap (λ (s : Standing). sends_in s.state) is)
+answers_as {ask} {outcome} {asked} {new} rest answered (Replies text tearing ask_is is) =
+    reply_turns asked (subst (λ a. IsAnswered asked a outcome new) ask_is answered) rest (ap (λ (s : Standing). sends_in s.state) is)
     (ap (λ (s : Standing). s.heard) is) (ap (λ (s : Standing). s.awaited) is) (ap (λ (s : Standing). s.waits) is)
-answers_as old ask outcome asked new rest answered (SetsUp text setup init ask_is is) =
-    reply_turns old outcome asked new (subst (λ a. IsAnswered asked a outcome new) ask_is answered) rest
+answers_as {ask} {outcome} {asked} {new} rest answered (SetsUp text setup init ask_is is) =
+    reply_turns asked (subst (λ a. IsAnswered asked a outcome new) ask_is answered) rest
     (ap (λ (s : Standing). sends_in s.state) is ∙ sym (ap sends_in init)) (ap (λ (s : Standing). s.heard) is) (ap (λ (s : Standing). s.awaited) is)
     (ap (λ (s : Standing). s.waits) is)
-answers_as old ask outcome asked new rest answered (AsksPlay setup paused prepared text ready ask_is is) =
-    asked_play old setup paused prepared outcome asked new (subst (λ a. IsAnswered asked a outcome new) ask_is answered) ready
+answers_as {ask} {outcome} {asked} {new} rest answered (AsksPlay setup paused prepared text ready ask_is is) =
+    asked_play asked (subst (λ a. IsAnswered asked a outcome new) ask_is answered) ready
     (ap (λ (s : Standing). s.state) is) (ap (λ (s : Standing). s.heard) is) (ap (λ (s : Standing). s.awaited) is)
-answers_as old ask outcome asked new rest answered (Stops setup play keep next text playing told keep_is ask_is is) =
-    asked_halt old setup play keep next outcome asked new (subst (λ a. IsAnswered asked a outcome new) ask_is answered) playing told keep_is
+answers_as {ask} {outcome} {asked} {new} rest answered (Stops setup play keep next text playing told keep_is ask_is is) =
+    asked_halt asked (subst (λ a. IsAnswered asked a outcome new) ask_is answered) playing told keep_is
     (ap (λ (s : Standing). s.state) is) (ap (λ (s : Standing). s.awaited) is) (ap (λ (s : Standing). s.heard) is)
-answers_as old ask outcome asked new rest answered (AsksLook looks sequence ask_is is) =
-    asked_look old old.heard sequence outcome asked new (subst (λ a. IsAnswered asked a outcome new) ask_is answered)
+answers_as {ask} {outcome} {asked} {new} rest answered (AsksLook looks sequence ask_is is) =
+    asked_look asked (subst (λ a. IsAnswered asked a outcome new) ask_is answered)
     (sym (ap (λ (s : Standing). s.heard) is)) (ap (λ (s : Standing). s.state) is) (ap (λ (s : Standing). s.heard) is)
     (ap (λ (s : Standing). s.awaited) is)
-answers_as old ask outcome asked new rest answered (AsksOffer plan offers sequence ask_is is) =
-    asked_offer old plan offers outcome asked new (subst (λ a. IsAnswered asked a outcome new) ask_is answered)
+answers_as {ask} {outcome} {asked} {new} rest answered (AsksOffer plan offers sequence ask_is is) =
+    asked_offer plan offers asked (subst (λ a. IsAnswered asked a outcome new) ask_is answered)
     (ap (λ (s : Standing). s.state) is) (ap (λ (s : Standing). s.heard) is)
 
 -- a request was heard and answered
 pub turns_as : (old : Standing) (message : List ℕ) (outcome : Outcome) (new : Standing) (heard : HasHeard old message outcome new)
     → old.awaited ≡ Nothing → TurnsAs old heard.asking.awaited outcome new
 turns_as old message outcome new heard rest =
-    answers_as old heard.ask outcome heard.asking new rest heard.answered (hears_as old message heard.ask heard.asking heard.hears)
+    answers_as rest heard.answered (hears_as old message heard.ask heard.asking heard.hears)

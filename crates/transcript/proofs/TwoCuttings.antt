@@ -65,10 +65,11 @@ record Split (base new : Stage) (heard : List Doing) (bytes : List ℕ) (answers
   answers_are : answers ≡ pieces_answers pieces ++ legs_answers legs
   hearings_are : hearings ≡ pieces_hearings pieces ++ legs_hearings legs
 
-split_as : (base new : Stage) (heard heard' : List Doing) (bytes bytes' : List ℕ) (answers answers' : List Outcome) (hearings hearings' : List Hearing)
+split_as : {base new : Stage} {heard heard' : List Doing} {bytes bytes' : List ℕ} {answers answers' : List Outcome}
+    {hearings hearings' : List Hearing}
     → heard' ≡ heard → bytes' ≡ bytes → answers' ≡ answers → hearings' ≡ hearings → Split base new heard bytes answers hearings
     → Split base new heard' bytes' answers' hearings'
-split_as base new heard heard' bytes bytes' answers answers' hearings hearings' one two three four split = record {
+split_as {base} {new} {answers} one two three four split = record {
   first = split.first;
   pieces = split.pieces;
   until = split.until;
@@ -97,21 +98,18 @@ record Later (mid new : Stage) (heard : List Doing) (bytes : List ℕ) (answers 
       → Split base new (bytes_heard first ++ heard) (pieces_bytes pieces ++ bytes) (pieces_answers pieces ++ answers) (pieces_hearings pieces ++ hearings)
 
 -- bytes came
-bytes_split : (base cur opened mid new : Stage) (first bytes : List ℕ) (pieces : List Piece) (heard : List Doing) (sent taken : List ℕ)
-    (answers more : List Outcome) (hearings also : List Hearing) → GoesAll (longer base first) pieces cur → opened ≡ longer cur bytes
+bytes_split : {base opened mid new : Stage} {heard : List Doing} {sent taken : List ℕ} {answers more : List Outcome}
+    {hearings also : List Hearing} (cur : Stage) (first bytes : List ℕ) (pieces : List Piece) → GoesAll (longer base first) pieces cur → opened ≡ longer cur bytes
     → Path opened mid taken more also → Later mid new heard sent answers hearings
     → Split base new (bytes_heard first ++ (bytes_heard bytes ++ heard)) (pieces_bytes pieces ++ (taken ++ sent))
     (pieces_answers pieces ++ (more ++ answers)) (pieces_hearings pieces ++ (also ++ hearings))
-bytes_split base cur opened mid new first bytes pieces heard sent taken answers more hearings also goes comes path later =
+bytes_split {base} {opened} {mid} {new} {heard} {sent} {taken} {answers} {more} {hearings} {also} cur first bytes pieces goes comes path later =
     let ps : List Piece = path.pieces in
     let front : GoesAll (longer base (first ++ bytes)) pieces opened =
     subst (λ s. GoesAll s pieces opened) (ap (λ input. stage base.session input) (append_assoc base.input first bytes))
     (subst (GoesAll (longer (longer base first) bytes) pieces) (sym comes) (goes_grow (longer base first) cur pieces bytes goes)) in
     let all : GoesAll (longer base (first ++ bytes)) (pieces ++ ps) mid = join_goes (longer base (first ++ bytes)) opened mid pieces ps front path.goes in
-    split_as base new (bytes_heard (first ++ bytes) ++ heard) (bytes_heard first ++ (bytes_heard bytes ++ heard))
-    (pieces_bytes (pieces ++ ps) ++ sent) (pieces_bytes pieces ++ (taken ++ sent))
-    (pieces_answers (pieces ++ ps) ++ answers) (pieces_answers pieces ++ (more ++ answers))
-    (pieces_hearings (pieces ++ ps) ++ hearings) (pieces_hearings pieces ++ (also ++ hearings))
+    split_as {base = base} {new = new} {heard = bytes_heard (first ++ bytes) ++ heard} {heard' = bytes_heard first ++ (bytes_heard bytes ++ heard)} {bytes = pieces_bytes (pieces ++ ps) ++ sent} {bytes' = pieces_bytes pieces ++ (taken ++ sent)} {answers = pieces_answers (pieces ++ ps) ++ answers} {answers' = pieces_answers pieces ++ (more ++ answers)} {hearings = pieces_hearings (pieces ++ ps) ++ hearings} {hearings' = pieces_hearings pieces ++ (also ++ hearings)}
     (sym (append_assoc (bytes_heard first) (bytes_heard bytes) heard) ∙ ap (λ ds. ds ++ heard) (sym (heard-append first bytes)))
     (sym (append_assoc (pieces_bytes pieces) taken sent) ∙ ap (λ bs. (pieces_bytes pieces ++ bs) ++ sent) (sym path.bytes_are)
     ∙ ap (λ bs. bs ++ sent) (sym (join_bytes pieces ps)))
@@ -122,13 +120,14 @@ bytes_split base cur opened mid new first bytes pieces heard sent taken answers 
     (later.each base (first ++ bytes) (pieces ++ ps) all)
 
 -- a slot came
-slot_split : (base cur opened mid new : Stage) (first : List ℕ) (slot : ℕ) (due : List Part) (halt : Outcome) (pieces : List Piece) (heard : List Doing)
-    (sent taken : List ℕ) (answers more : List Outcome) (hearings also : List Hearing) → GoesAll (longer base first) pieces cur → IsDone cur
+slot_split : {base cur opened mid new : Stage} {slot : ℕ} {due : List Part} {halt : Outcome} {heard : List Doing}
+    {sent taken : List ℕ} {answers more : List Outcome} {hearings also : List Hearing} (first : List ℕ)
+    (pieces : List Piece) → GoesAll (longer base first) pieces cur → IsDone cur
     → opened.input ≡ cur.input → HasStepped cur.session slot due halt opened.session → Path opened mid taken more also
     → Later mid new heard sent answers hearings
     → Split base new (bytes_heard first ++ (HeardSlot slot ∷ heard)) (pieces_bytes pieces ++ (parts_bytes due ++ (taken ++ sent)))
     (pieces_answers pieces ++ (answer_in halt ++ (more ++ answers))) (pieces_hearings pieces ++ (also ++ hearings))
-slot_split base cur opened mid new first slot due halt pieces heard sent taken answers more hearings also goes done input stepped path later =
+slot_split {base} {cur} {opened} {mid} {new} {slot} {due} {halt} {sent} {taken} {answers} {more} {hearings} first pieces goes done input stepped path later =
     let ps : List Piece = path.pieces in
     let there : GoesAll (longer opened []) ps mid =
     subst (λ s. GoesAll s ps mid) (ap (λ i. stage opened.session i) (sym (append-nil opened.input))) path.goes in
@@ -148,21 +147,22 @@ slot_split base cur opened mid new first slot due halt pieces heard sent taken a
       hearings_are = ap (λ hs. pieces_hearings pieces ++ hs) (ap (λ hs. hs ++ hearings) (sym path.hearings_are) ∙ rest.hearings_are);
     }
 
-event_split : (base cur opened mid new : Stage) (first : List ℕ) (event : Doing) (due : List Part) (halt : Outcome) (pieces : List Piece)
-    (heard : List Doing) (sent taken : List ℕ) (answers more : List Outcome) (hearings also : List Hearing) → GoesAll (longer base first) pieces cur
+event_split : {base cur opened mid new : Stage} {heard : List Doing} {sent taken : List ℕ}
+    {answers more : List Outcome} {hearings also : List Hearing} (first : List ℕ) (event : Doing) (due : List Part)
+    (halt : Outcome) (pieces : List Piece) → GoesAll (longer base first) pieces cur
     → IsDone cur → Comes cur event due halt opened → Path opened mid taken more also → Later mid new heard sent answers hearings
     → Split base new (bytes_heard first ++ (heard_in event ++ heard)) (pieces_bytes pieces ++ (parts_bytes due ++ (taken ++ sent)))
     (pieces_answers pieces ++ (answer_in halt ++ (more ++ answers))) (pieces_hearings pieces ++ (also ++ hearings))
-event_split base cur opened mid new first (HeardBytes bytes) due halt pieces heard sent taken answers more hearings also goes done comes path later =
+event_split {base} {cur} {opened} {new} {heard} {sent} {taken} {answers} {more} {hearings} {also} first (HeardBytes bytes) due halt pieces goes done comes path later =
     subst (λ ps. Split base new (bytes_heard first ++ (bytes_heard bytes ++ heard)) (pieces_bytes pieces ++ (parts_bytes ps ++ (taken ++ sent)))
     (pieces_answers pieces ++ (answer_in halt ++ (more ++ answers))) (pieces_hearings pieces ++ (also ++ hearings))) (sym comes.0)
     (subst (λ h. Split base new (bytes_heard first ++ (bytes_heard bytes ++ heard)) (pieces_bytes pieces ++ (taken ++ sent))
     (pieces_answers pieces ++ (answer_in h ++ (more ++ answers))) (pieces_hearings pieces ++ (also ++ hearings))) (sym comes.1)
-    (bytes_split base cur opened mid new first bytes pieces heard sent taken answers more hearings also goes comes.3 path later))
-event_split base cur opened mid new first (HeardSlot slot) due halt pieces heard sent taken answers more hearings also goes done comes path later =
-    slot_split base cur opened mid new first slot due halt pieces heard sent taken answers more hearings also goes done comes.0 comes.1 path later
-event_split base cur opened mid new first HeardEnd due halt pieces heard sent taken answers more hearings also goes done comes path later = absurd comes
-event_split base cur opened mid new first (Sent byte) due halt pieces heard sent taken answers more hearings also goes done comes path later = absurd comes
+    (bytes_split cur first bytes pieces goes comes.3 path later))
+event_split {base} {opened} {new} {taken} {answers} {more} first (HeardSlot slot) due halt pieces goes done comes path later =
+    slot_split first pieces goes done comes.0 comes.1 path later
+event_split {base} {opened} {new} {taken} {answers} {more} first HeardEnd due halt pieces goes done comes path later = absurd comes
+event_split {base} {opened} {new} {taken} {answers} {more} first (Sent byte) due halt pieces goes done comes path later = absurd comes
 
 -- event after event
 rounds_split : (cur new : Stage) (rounds : List Round) (takes : TakesUp cur rounds new) → IsDone cur
@@ -195,14 +195,11 @@ rounds_split cur new (round ∷ rounds) takes done =
     let rh : List Hearing = hearings_in mid rounds new takes.1.2 in
     record {
       each = λ base first pieces goes.
-          split_as base new (bytes_heard first ++ (heard_in round.event ++ all_heard rounds)) (bytes_heard first ++ (heard_in round.event ++ all_heard rounds))
-          (pieces_bytes pieces ++ (parts_bytes round.due ++ (tb ++ rb))) (pieces_bytes pieces ++ ((parts_bytes round.due ++ tb) ++ rb))
-          (pieces_answers pieces ++ (answer_in round.halt ++ (ta ++ ra)))
-          (pieces_answers pieces ++ (answer_in round.halt ++ answers_in (takings_outcomes round.takings ++ rounds_outcomes rounds)))
-          (pieces_hearings pieces ++ (th ++ rh)) (pieces_hearings pieces ++ (th ++ rh)) refl
+          split_as
+          refl
           (ap (λ bs. pieces_bytes pieces ++ bs) (append_assoc (parts_bytes round.due) tb rb))
           (ap (λ os. pieces_answers pieces ++ (answer_in round.halt ++ os)) (answers-append (takings_outcomes round.takings) (rounds_outcomes rounds))) refl
-          (event_split base cur runs.opened mid new first round.event round.due round.halt pieces (all_heard rounds) rb tb ra ta rh th goes done runs.comes path later);
+          (event_split first round.event round.due round.halt pieces goes done runs.comes path later);
     }
 
 -- ---- what was heard has one split
@@ -269,29 +266,29 @@ record SameLegs (one other : Stage) (sent again : List ℕ) : Type 0 where
 opened_same : (a b : Stage) → b.session ≡ a.session → b.input ≡ a.input → b ≡ a
 opened_same a b session input = ap (λ s. stage s b.input) session ∙ ap (λ i. stage a.session i) input
 
-legs_same : (old one other : Stage) (xs ys : List Leg) → AreFilms old.session.films → LegsAll old xs one → LegsAll old ys other
+legs_same : {one other : Stage} (old : Stage) (xs ys : List Leg) → AreFilms old.session.films → LegsAll old xs one → LegsAll old ys other
     → legs_heard xs ≡ legs_heard ys → AreSameAnswers (legs_answers xs) (legs_answers ys) → AllLackAlike (legs_hearings xs) (legs_hearings ys)
     → SameLegs one other (legs_bytes xs) (legs_bytes ys)
-legs_same old one other [] [] films legs too heard answers memory = record { last = too ∙ sym legs; bytes = refl }
-legs_same old one other [] (y ∷ ys) films legs too heard answers memory = absurd (true≢false (sym (ap is_some heard)))
-legs_same old one other (x ∷ xs) [] films legs too heard answers memory = absurd (true≢false (ap is_some heard))
-legs_same old one other (x ∷ xs) (y ∷ ys) films legs too heard answers memory =
+legs_same {one} {other} old [] [] films legs too heard answers memory = record { last = too ∙ sym legs; bytes = refl }
+legs_same {one} {other} old [] (y ∷ ys) films legs too heard answers memory = absurd (true≢false (sym (ap is_some heard)))
+legs_same {one} {other} old (x ∷ xs) [] films legs too heard answers memory = absurd (true≢false (ap is_some heard))
+legs_same {one} {other} old (x ∷ xs) (y ∷ ys) films legs too heard answers memory =
     let leg : IsLeg old x = legs.0 in
     let again : IsLeg old y = too.0 in
     let slots : y.slot ≡ x.slot = sym (ap slot_of heard) in
     let cut = heard_split x.bytes y.bytes xs ys (ap tail_of heard) in
-    let step = steps_same old.session x.slot x.due y.due x.halt y.halt x.opened.session y.opened.session (pieces_answers x.pieces ++ legs_answers xs)
+    let step = steps_same (pieces_answers x.pieces ++ legs_answers xs)
     (pieces_answers y.pieces ++ legs_answers ys) leg.stepped (subst (λ t. HasStepped old.session t y.due y.halt y.opened.session) slots again.stepped) answers in
     let opened : y.opened ≡ x.opened = opened_same x.opened y.opened step.1 (again.input ∙ sym leg.input) in
     let place : longer y.opened y.bytes ≡ longer x.opened x.bytes =
     ap (λ s. longer s y.bytes) opened ∙ ap (λ bs. longer x.opened bs) (sym cut.0) in
     let kept : AreFilms x.opened.session.films =
     subst AreFilms (sym (stepped_films old.session x.slot x.due x.halt x.opened.session leg.stepped)) films in
-    let ends = ends_same (longer x.opened x.bytes) x.until y.until x.pieces y.pieces (legs_answers xs) (legs_answers ys) (legs_hearings xs) (legs_hearings ys)
+    let ends = ends_same (longer x.opened x.bytes) x.pieces y.pieces
     kept leg.goes (subst (λ s. GoesAll s y.pieces y.until) place again.goes) leg.done again.done step.2 memory in
     let there : AreFilms x.until.session.films =
     subst AreFilms (sym (goes_films (longer x.opened x.bytes) x.until x.pieces leg.goes)) kept in
-    let rest = legs_same x.until one other xs ys there legs.1 (subst (λ s. LegsAll s ys other) ends.last too.1) cut.1 ends.answers ends.memory in
+    let rest = legs_same x.until xs ys there legs.1 (subst (λ s. LegsAll s ys other) ends.last too.1) cut.1 ends.answers ends.memory in
     record {
       last = rest.last;
       bytes = ap (λ ps. parts_bytes ps ++ (pieces_bytes y.pieces ++ legs_bytes ys)) step.0
@@ -301,17 +298,18 @@ legs_same old one other (x ∷ xs) (y ∷ ys) films legs too heard answers memor
 
 -- ---- from a connection's beginning on
 
-splits_same : (base one other : Stage) (heard also : List Doing) (sent again : List ℕ) (ones others : List Outcome) (hearings too : List Hearing)
+splits_same : {base one other : Stage} {heard also : List Doing} {sent again : List ℕ} {ones others : List Outcome}
+    {hearings too : List Hearing}
     → AreFilms base.session.films → Split base one heard sent ones hearings → Split base other also again others too
     → heard ≡ also → AreSameAnswers ones others → AllLackAlike hearings too → SameLegs one other sent again
-splits_same base one other heard also sent again ones others hearings too films x y same answers memory =
+splits_same {base} {one} {other} {ones} {hearings} films x y same answers memory =
     let cut = heard_split x.first y.first x.legs y.legs (sym x.heard_is ∙ same ∙ y.heard_is) in
-    let ends = ends_same (longer base x.first) x.until y.until x.pieces y.pieces (legs_answers x.legs) (legs_answers y.legs) (legs_hearings x.legs)
-    (legs_hearings y.legs) films x.goes (subst (λ bs. GoesAll (longer base bs) y.pieces y.until) (sym cut.0) y.goes) x.done y.done
+    let ends = ends_same (longer base x.first) x.pieces y.pieces
+    films x.goes (subst (λ bs. GoesAll (longer base bs) y.pieces y.until) (sym cut.0) y.goes) x.done y.done
     (subst (λ os. AreSameAnswers os (pieces_answers y.pieces ++ legs_answers y.legs)) x.answers_are (subst (AreSameAnswers ones) y.answers_are answers))
     (subst (λ hs. AllLackAlike hs (pieces_hearings y.pieces ++ legs_hearings y.legs)) x.hearings_are (subst (AllLackAlike hearings) y.hearings_are memory)) in
     let there : AreFilms x.until.session.films = subst AreFilms (sym (goes_films (longer base x.first) x.until x.pieces x.goes)) films in
-    let rest = legs_same x.until one other x.legs y.legs there x.legs_are (subst (λ s. LegsAll s y.legs other) ends.last y.legs_are) cut.1
+    let rest = legs_same x.until x.legs y.legs there x.legs_are (subst (λ s. LegsAll s y.legs other) ends.last y.legs_are) cut.1
     ends.answers ends.memory in
     record {
       last = rest.last;
@@ -332,9 +330,8 @@ pub two_cuttings : (beginning : Beginning) (one other : Cutting beginning) → A
     → SendAlike beginning one other
 two_cuttings beginning one other films cuts =
     let first : Stage = first_of beginning in
-    let same = splits_same first one.last other.last (all_heard one.rounds) (all_heard other.rounds) (rounds_bytes one.rounds) (rounds_bytes other.rounds)
-    (answers_in (rounds_outcomes one.rounds)) (answers_in (rounds_outcomes other.rounds)) (hearings_in first one.rounds one.last one.takes)
-    (hearings_in first other.rounds other.last other.takes) films (whole_split beginning one) (whole_split beginning other) cuts.heard cuts.answers cuts.memory in
+    let same = splits_same
+    films (whole_split beginning one) (whole_split beginning other) cuts.heard cuts.answers cuts.memory in
     record { bytes = sym same.bytes; last = sym same.last }
 
 -- ---- a connection's course is such a cutting, and so is each front of it

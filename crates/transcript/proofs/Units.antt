@@ -61,10 +61,10 @@ pub record IsUnitDone (s : Sum) (size : ℕ) (t : Sum) : Type 0 where
   pub pending : t.pending ≡ 0
   pub inside : t.inside ≡ false
 
-whole-frames : (run : Run) (f : ℕ) (unit : PictureUnit) (packets : List Packet) (s : Sum) → run.identity.channel ≡ 0 → IsLastMarked packets → 0 < length packets
+whole-frames : {s : Sum} (run : Run) (f : ℕ) (unit : PictureUnit) (packets : List Packet) → run.identity.channel ≡ 0 → IsLastMarked packets → 0 < length packets
     → IsUnitDone s (s.pending + length (framed_bytes (frame_blocks run unit f packets))) (steps s (moments_in (frame_blocks run unit f packets)))
-whole-frames run f unit [] s media marked some = absurd (omega (arith, some))
-whole-frames run f unit (p ∷ []) s media marked some =
+whole-frames {s} run f unit [] media marked some = absurd (omega (arith, some))
+whole-frames {s} run f unit (p ∷ []) media marked some =
     let b = frame_block run unit p f in
     let last : is_last b ≡ true = last-is run f unit p ∙ marked in
     let size : s.pending + length b ≡ s.pending + length (b ++ []) = ap (λ (l : List ℕ). s.pending + length l) (sym (append-nil b)) in
@@ -74,12 +74,12 @@ whole-frames run f unit (p ∷ []) s media marked some =
       pending = cond-true (is_last b) 0 (s.pending + length b) last;
       inside = ap not last;
     })
-whole-frames run f unit (p ∷ (q ∷ packets)) s media marked some =
+whole-frames {s} run f unit (p ∷ (q ∷ packets)) media marked some =
     let b = frame_block run unit p f in
     let last : is_last b ≡ false = last-is run f unit p ∙ marked.0 in
     let blocks = frame_blocks run unit (f + 1) (q ∷ packets) in
     let t = step (Frame b) s in
-    let rest = whole-frames run (f + 1) unit (q ∷ packets) t media marked.1 (omega arith) in
+    let rest = whole-frames {s = t} run (f + 1) unit (q ∷ packets) media marked.1 (omega arith) in
     let sizes_same = cond-false (is_last b) (s.sizes ++ (s.pending + length b) ∷ []) s.sizes last in
     let pending_is = cond-false (is_last b) 0 (s.pending + length b) last in
     let size : t.pending + length (framed_bytes blocks) ≡ s.pending + length (b ++ framed_bytes blocks) = omega (arith, pending_is, length-append b (framed_bytes blocks)) in
@@ -107,23 +107,23 @@ both-true true true one two = refl
 both-true true false one two = two
 both-true false b one two = one
 
-whole-unit : (starts : Bool) (run : Run) (f o : ℕ) (unit : PictureUnit) (packets : List Packet) (s : Sum) → run.identity.channel ≡ 0 → run.identity.control ≡ 1
+whole-unit : {s : Sum} (starts : Bool) (run : Run) (f o : ℕ) (unit : PictureUnit) (packets : List Packet) → run.identity.channel ≡ 0 → run.identity.control ≡ 1
     → IsLastMarked packets → 0 < length packets → plays s ≡ true → s.pending ≡ 0 → s.inside ≡ false
     → IsUnitDone s (length (framed_bytes (report_if starts run unit f o ++ frame_blocks run unit f packets)))
     (steps s (moments_in (report_if starts run unit f o ++ frame_blocks run unit f packets)))
-whole-unit false run f o unit packets s media control marked some on none outside =
-    let done = whole-frames run f unit packets s media marked some in
+whole-unit {s} false run f o unit packets media control marked some on none outside =
+    let done = whole-frames run f unit packets media marked some in
     let size : s.pending + length (framed_bytes (frame_blocks run unit f packets)) ≡ length (framed_bytes (frame_blocks run unit f packets)) = omega (arith, none) in
     record {
       sizes = done.sizes ∙ ap (λ n. s.sizes ++ n ∷ []) size;
       pending = done.pending;
       inside = done.inside;
     }
-whole-unit true run f o unit packets s media control marked some on none outside =
+whole-unit {s} true run f o unit packets media control marked some on none outside =
     let b = report_block run unit f o in
     let t = step (Report b) s in
     let blocks = frame_blocks run unit f packets in
-    let done = whole-frames run f unit packets t media marked some in
+    let done = whole-frames run f unit packets media marked some in
     let waits : t.pending ≡ s.pending + length b = cond-true (plays s && not s.inside) (s.pending + length b) s.pending (both-true (plays s) (not s.inside) on (ap not outside)) in
     let size : t.pending + length (framed_bytes blocks) ≡ length (b ++ framed_bytes blocks) = omega (arith, waits, none, length-append b (framed_bytes blocks)) in
     report-sizes b blocks s (λ u. IsUnitDone s (length (b ++ framed_bytes blocks)) u) (report-moment run f o unit control)
@@ -167,9 +167,9 @@ packets-there starts unit =
 unit-marked : (starts : List ℕ) (unit : PictureUnit) → IsLaid starts unit → IsLastMarked (unit_packets starts unit)
 unit-marked starts unit laid = last-marked starts unit (unit_packets starts unit) (packets-are starts unit laid) (packets-cover starts unit laid)
 
-unit-size : (run : Run) (f o : ℕ) (starts : List ℕ) (unit : PictureUnit) → IsLaid starts unit → unit.to ≤ length run.film
+unit-size : {starts : List ℕ} {unit : PictureUnit} (run : Run) (f o : ℕ) → IsLaid starts unit → unit.to ≤ length run.film
     → length (framed_bytes (unit_blocks run starts unit f o)) ≡ wire_size starts unit
-unit-size run f o starts unit laid short =
+unit-size {starts} {unit} run f o laid short =
     let pieces = unit_pieces starts unit in
     let sound = unit-sound run.film starts unit laid short in
     let n = length (blocks_from run f o pieces) in
@@ -203,20 +203,20 @@ blocks-one run f o starts (unit ∷ units) media control =
     (blocks-one run f2 o2 starts units media control))
 
 -- the sizes of the units that are whole
-pub units-come : (run : Run) (f o c : ℕ) (starts : List ℕ) (units : List PictureUnit) (s : Sum) → run.identity.channel ≡ 0 → run.identity.control ≡ 1
+pub units-come : {c : ℕ} {s : Sum} (run : Run) (f o : ℕ) (starts : List ℕ) (units : List PictureUnit) → run.identity.channel ≡ 0 → run.identity.control ≡ 1
     → AreLaid (length run.film) starts units → plays s ≡ true → s.pending ≡ 0 → s.inside ≡ false
     → HasCome (map (λ u. wire_size starts u) units) c s
     (steps s (moments_in (take (count_ended c (blocks_from run f o (pieces_of starts units))) (blocks_from run f o (pieces_of starts units)))))
-units-come run f o c starts [] s media control laid on none outside =
+units-come {c} {s} run f o starts [] media control laid on none outside =
     record { count = 0; sizes_are = sym (append-nil s.sizes); among = omega arith; next = λ less. absurd (omega (arith, less)) }
-units-come run f o c starts (unit ∷ units) s media control laid on none outside =
+units-come {c} {s} run f o starts (unit ∷ units) media control laid on none outside =
     let f2 = frames_after f (unit_pieces starts unit) in
     let o2 = octets_after o (unit_pieces starts unit) in
     let xs = unit_blocks run starts unit f o in
     let ys = blocks_from run f2 o2 (pieces_of starts units) in
     let w = wire_size starts unit in
     let sizes = map (λ u. wire_size starts u) units in
-    let size : length (framed_bytes xs) ≡ w = unit-size run f o starts unit laid.0.1 laid.0.0 in
+    let size : length (framed_bytes xs) ≡ w = unit-size {starts = starts} {unit = unit} run f o laid.0.1 laid.0.0 in
     let marked = unit-marked starts unit laid.0.1 in
     let some : 0 < length (unit_packets starts unit) = packets-some unit (first_piece unit.from unit.head_end) (unit_lengths starts unit) in
     let Q : List (List ℕ) → Type 0 = λ bs. HasCome (w ∷ sizes) c s (steps s (moments_in (take (count_ended c bs) bs))) in
@@ -239,10 +239,10 @@ units-come run f o c starts (unit ∷ units) s media control laid on none outsid
           let k = count_ended d ys in
           let past : count_ended c (xs ++ ys) ≡ length xs + k = count-past xs ys c (omega (arith, more, size)) in
           let t = steps s (moments_in xs) in
-          let done : IsUnitDone s (length (framed_bytes xs)) t = whole-unit unit.starts_group run f o unit (unit_packets starts unit) s media control marked some on none outside in
+          let done : IsUnitDone s (length (framed_bytes xs)) t = whole-unit {s = s} unit.starts_group run f o unit (unit_packets starts unit) media control marked some on none outside in
           let same = blocks-same xs s (unit-one run f o starts unit media control) in
           let still : plays t ≡ true = ap (λ n. nat_lt 1 n) same.replies ∙ on in
-          let come = units-come run f2 o2 d starts units t media control laid.1 still done.pending done.inside in
+          let come = units-come {c = d} {s = t} run f2 o2 starts units media control laid.1 still done.pending done.inside in
           let u = steps t (moments_in (take k ys)) in
           let all : steps s (moments_in (xs ++ take k ys)) ≡ u =
           ap (steps s) (moments-parts xs (take k ys)) ∙ steps-on s (moments_in xs) (moments_in (take k ys)) in

@@ -33,10 +33,11 @@ pub record GoesTo (old new : Sends) (from to : ℕ) (pending after : Option ℕ)
   pub rest : (askings : List Asking) (end : ℕ) (more : List ℕ) (rest : List Part) → to ≤ end → Fits new to after askings end more rest
       → Fits old from pending (made ++ askings) end (slots ++ more) (parts ++ rest)
 
-pub goes_then : (a b c : Sends) (x y z : ℕ) (first mid last : Option ℕ) (made asked : List Asking) (slots taken : List ℕ) (parts sent : List Part)
+pub goes_then : {a b c : Sends} {x y z : ℕ} {first mid last : Option ℕ} {made asked : List Asking}
+    {slots taken : List ℕ} {parts sent : List Part}
     → GoesTo a b x y first mid made slots parts → GoesTo b c y z mid last asked taken sent
     → GoesTo a c x z first last (made ++ asked) (slots ++ taken) (parts ++ sent)
-goes_then a b c x y z first mid last made asked slots taken parts sent one two = record {
+goes_then {a} {c} {x} {first} {last} {made} {asked} {slots} {taken} {parts} {sent} one two = record {
   later = omega (arith, one.later, two.later);
   rest = λ askings end more rest on fits.
       let there = one.rest (asked ++ askings) end (taken ++ more) (sent ++ rest) (omega (arith, two.later, on)) (two.rest askings end more rest on fits) in
@@ -92,9 +93,9 @@ boundary_stands p is boundary =
     eq-eqb (next_boundary p) p.sent (omega (arith, stays))
 
 -- where what was sent doesn't end at a boundary, a reply is held up
-past_here : (p : Pacing) (heard place : ℕ) → IsOnTime p heard → stands_at_boundary p ≡ false → IsBoundary p.pieces place
+past_here : {p : Pacing} {heard place : ℕ} → IsOnTime p heard → stands_at_boundary p ≡ false → IsBoundary p.pieces place
     → p.before + min (first_slots p.plan (heard + 1 - p.start)) p.keep ≤ place → p.before + p.sent < place
-past_here p heard place on stands boundary from =
+past_here {p} {heard} {place} on stands boundary from =
     let here = due_here p heard on in
     elim (cases_lt (p.before + p.sent) place) [
       | inl less ↦ less
@@ -109,7 +110,7 @@ held_here p heard on stands =
     record {
       before = omega arith;
       due = omega (arith, here);
-      none = λ place boundary from. past_here p heard place on stands boundary from;
+      none = λ place boundary from. past_here on stands boundary from;
     }
 
 pub at_here : (p : Pacing) (heard : ℕ) → IsOnTime p heard → stands_at_boundary p ≡ true → IsAtNext p (min (first_slots p.plan (heard + 1 - p.start)) p.keep)
@@ -153,9 +154,9 @@ due_most : (p : Pacing) (slot : ℕ) → IsPacing p → due_by p slot ≤ p.keep
 due_most p slot is = omega (arith, is.due)
 
 -- the first boundary from what was due on is reached
-next_reached : (p : Pacing) (taken heard slot : ℕ) → IsPacing p → IsHeldUp p taken heard → stands_at_boundary (after_step true slot p) ≡ true
+next_reached : {p : Pacing} {taken heard : ℕ} (slot : ℕ) → IsPacing p → IsHeldUp p taken heard → stands_at_boundary (after_step true slot p) ≡ true
     → IsAtNext (after_step true slot p) (min (first_slots p.plan (taken + 1 - p.start)) p.keep)
-next_reached p taken heard slot is held stands =
+next_reached {p} {taken} slot is held stands =
     let q : Pacing = after_step true slot p in
     let next = boundary-from p.pieces (p.before + p.sent) (inside_of p is) in
     record {
@@ -168,9 +169,9 @@ next_reached p taken heard slot is held stands =
     }
 
 -- or it isn't
-pub still_held : (p : Pacing) (taken heard slot : ℕ) → IsPacing p → heard < slot → IsHeldUp p taken heard → stands_at_boundary (after_step true slot p) ≡ false
+pub still_held : {p : Pacing} {taken heard slot : ℕ} → IsPacing p → heard < slot → IsHeldUp p taken heard → stands_at_boundary (after_step true slot p) ≡ false
     → IsHeldUp (sent_through slot p) taken slot
-still_held p taken heard slot is later held stands =
+still_held {p} {taken} {slot} is later held stands =
     let q : Pacing = after_step true slot p in
     let all : step_end true (at_slot slot p) ≡ due_by p slot = ap (λ (r : Pacing). r.sent) (slot_is true false slot p is stands) in
     let next = boundary-from p.pieces (p.before + p.sent) (inside_of p is) in
@@ -190,23 +191,23 @@ still_held p taken heard slot is later held stands =
     }
 
 -- the bytes of a slot, with the reply that waits
-pub slot_at : (p : Pacing) (keep : ℕ) (pending : Option ℕ) (heard slot : ℕ) (waits between : Bool) (text : List ℕ) (plays : List FilmPlay) (end : ℕ)
-    (slots : List ℕ) (parts : List Part) → IsOnTime p heard → heard < slot → slot ≤ end → stands_at_boundary (after_step true slot p) ≡ between
+pub slot_at : {p : Pacing} {keep : ℕ} {pending : Option ℕ} {heard slot : ℕ} {between : Bool} {plays : List FilmPlay}
+    {end : ℕ} {slots : List ℕ} {parts : List Part} (waits : Bool) (text : List ℕ) → IsOnTime p heard → heard < slot → slot ≤ end → stands_at_boundary (after_step true slot p) ≡ between
     → IsHeld pending (Going p) waits heard
     → ((taken : ℕ) → min (first_slots p.plan (taken + 1 - p.start)) p.keep ≤ keep → due_of taken (play_with p keep) ≡ min (first_slots p.plan (taken + 1 - p.start)) p.keep)
     → AreLater slot plays → StandAt (sent_through slot p) keep (after_slot between pending) plays end slots parts
     → StandAt p keep pending plays end slots (parts_in waits between p slot text ++ parts)
-slot_at p keep None heard slot true between text plays end slots parts on later ends stands held due are stand = absurd (true≢false held)
-slot_at p keep None heard slot false between text plays end slots parts on later ends stands held due are stand =
-    film_at p (sent_through slot p) keep None plays end slots (plan_bytes p p.sent (due_by p slot)) parts refl
+slot_at {p} {pending = None} {slot} {between} {end} true text on later ends stands held due are stand = absurd (true≢false held)
+slot_at {p} {pending = None} {slot} {between} {end} false text on later ends stands held due are stand =
+    film_at refl
     (size_to p (due_by p slot) on.pacing (omega (arith, on.pacing.sent)) (due_most p slot on.pacing)) stand
-slot_at p keep (Some taken) heard slot false between text plays end slots parts on later ends stands held due are stand = absurd (true≢false (sym held.0))
-slot_at p keep (Some taken) heard slot true false text plays end slots parts on later ends stands held due are stand =
+slot_at {p} {pending = Some taken} {slot} {between} {end} false text on later ends stands held due are stand = absurd (true≢false (sym held.0))
+slot_at {p} {keep} {pending = Some taken} {slot} {between = false} {plays} {end} {slots} {parts} true text on later ends stands held due are stand =
     let all : step_end true (at_slot slot p) ≡ due_by p slot = ap (λ (r : Pacing). r.sent) (slot_is true false slot p on.pacing stands) in
     subst (λ to. StandAt p keep (Some taken) plays end slots (Film (plan_bytes p p.sent to) ∷ parts)) (sym all)
-    (film_at p (sent_through slot p) keep (Some taken) plays end slots (plan_bytes p p.sent (due_by p slot)) parts refl
+    (film_at refl
     (size_to p (due_by p slot) on.pacing (omega (arith, on.pacing.sent)) (due_most p slot on.pacing)) stand)
-slot_at p keep (Some taken) heard slot true true text plays end slots parts on later ends stands held due are stand =
+slot_at {p} {keep} {pending = Some taken} {heard} {slot} {between = true} {plays} {end} {slots} {parts} true text on later ends stands held due are stand =
     let q : Pacing = after_step true slot p in
     let is = on.pacing in
     let most : due_by p slot ≤ p.keep = due_most p slot is in
@@ -216,13 +217,13 @@ slot_at p keep (Some taken) heard slot true true text plays end slots parts on l
     let to : q.sent ≤ due_by p slot = omega arith in
     let rest : StandAt q keep None plays end slots (Film (plan_bytes q q.sent (step_end false (at_slot slot q))) ∷ parts) =
     subst (λ n. StandAt q keep None plays end slots (Film (plan_bytes q q.sent n) ∷ parts)) (sym last)
-    (film_at q (sent_through slot p) keep None plays end slots (plan_bytes q q.sent (due_by p slot)) parts refl
+    (film_at refl
     (size_to q (due_by p slot) (stopped_is slot p is) to most) stand) in
-    let at = next_reached p taken heard slot is held.1 stands in
+    let at = next_reached slot is held.1 stands in
     let far : (sent_through slot p).sent ≤ first_slots p.plan (end + 1 - p.start) = due_far (sent_through slot p) slot end (through_time p heard slot on later) ends in
-    let reply = text_at q keep taken (min (first_slots p.plan (taken + 1 - p.start)) p.keep) plays end slots text
-    (Film (plan_bytes q q.sent (step_end false (at_slot slot q))) ∷ parts) at (due taken (omega (arith, at.after, rest.holds)))
+    let reply = text_at
+    at (due taken (omega (arith, at.after, rest.holds)))
     (later_lower taken slot plays (omega (arith, held.1.before, later)) are).starts (omega (arith, to, far)) rest in
-    film_at p q keep (Some taken) plays end slots (plan_bytes p p.sent (step_end true (at_slot slot p)))
-    (Text text ∷ Film (plan_bytes q q.sent (step_end false (at_slot slot q))) ∷ parts) refl
+    film_at
+    refl
     (size_to p q.sent is from (omega (arith, to, most))) reply

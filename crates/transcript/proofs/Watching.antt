@@ -49,12 +49,12 @@ abbrev IsEnd : Wish → Watched → Stage → List Doing → List ℕ → Type 0
 IsEnd wish watched mid doings out = (bytes : List ℕ) × ((sent : List ℕ)
     × (StopsAt wish (stage mid.history (mid.rest ++ bytes)) (Done watched) sent out × (doings ≡ HeardBytes bytes ∷ sends sent)))
 
-end-of : (wish : Wish) (watched : Watched) (mid : Stage) (count : ℕ) (doings : List Doing) (out : List ℕ) → Ends wish mid count (Done watched) doings out
+end-of : {wish : Wish} {watched : Watched} {count : ℕ} {doings : List Doing} {out : List ℕ} (mid : Stage) → Ends wish mid count (Done watched) doings out
     → IsEnd wish watched mid doings out
-end-of wish watched mid count doings out (inl (inl fault, none, empty)) = absurd (let no : ⊥ = cc in no)
-end-of wish watched mid count doings out (inl (inr spent, none, empty)) = absurd (let no : ⊥ = cc in no)
-end-of wish watched mid count doings out (inr (inl early)) = absurd (let no : ⊥ = cc in no)
-end-of wish watched mid count doings out (inr (inr (bytes, (sent, (stops, doings_are, few))))) = (bytes, (sent, (stops, doings_are)))
+end-of {out} mid (inl (inl fault, none, empty)) = absurd (let no : ⊥ = cc in no)
+end-of {out} mid (inl (inr spent, none, empty)) = absurd (let no : ⊥ = cc in no)
+end-of {out} mid (inr (inl early)) = absurd (let no : ⊥ = cc in no)
+end-of {out} mid (inr (inr (bytes, (sent, (stops, doings_are, few))))) = (bytes, (sent, (stops, doings_are)))
 
 -- all of a course: the bytes that were heard, and where it is done
 pub record HasWatchedAll (wish : Wish) (watched : Watched) (rounds : List Round) (mid : Stage) (bytes out : List ℕ) : Type 0 where
@@ -62,14 +62,14 @@ pub record HasWatchedAll (wish : Wish) (watched : Watched) (rounds : List Round)
   pub pieces : List (List ℕ)
   pub history : done.at.history ≡ after mid.history (moments_in pieces)
 
-all-watched : (wish : Wish) (watched : Watched) (rounds : List Round) (mid : Stage) (last sent bytes out : List ℕ) → RunsAll (stage [] []) rounds mid
+all-watched : {wish : Wish} {watched : Watched} {rounds : List Round} {mid : Stage} {last sent bytes out : List ℕ} → RunsAll (stage [] []) rounds mid
     → (stops : StopsAt wish (stage mid.history (mid.rest ++ bytes)) (Done watched) sent last) → out ≡ payloads_of (moments_of_rounds rounds) ++ last
     → HasWatchedAll wish watched rounds mid bytes out
-all-watched wish watched rounds mid last sent bytes out runs stops out_is =
+all-watched {wish} {watched} {rounds} {mid} {last} {bytes} {out} runs stops out_is =
     let moments = moments_of_rounds rounds in
     let at = stage (after mid.history (moments_in stops.pieces)) stops.mid in
     let heard : Heard (rounds_heard rounds) mid = heard-all [] (stage [] []) mid rounds heard-none runs in
-    let h : Heard (rounds_heard rounds ++ bytes) at = heard-more (rounds_heard rounds) bytes mid stops.pieces stops.mid heard stops.cut stops.good in
+    let h : Heard (rounds_heard rounds ++ bytes) at = heard-more bytes stops.pieces heard stops.cut stops.good in
     let told : at.history ≡ after [] (moments ++ moments_in stops.pieces) =
     ap (λ x. after x (moments_in stops.pieces)) (history-later (stage [] []) mid rounds runs) ∙ sym (after-on [] moments (moments_in stops.pieces)) in
     let given = stop-of wish watched at stops.more_sent stops.more_out stops.stops in
@@ -77,7 +77,7 @@ all-watched wish watched rounds mid last sent bytes out runs stops out_is =
     out_is ∙ (ap (λ o. payloads_of moments ++ o) (stops.out_is
     ∙ (ap (λ o. payloads_of (moments_in stops.pieces) ++ o) given.out_none ∙ append-nil (payloads_of (moments_in stops.pieces))))
     ∙ sym (payloads-on moments (moments_in stops.pieces))) in
-    let done = at-done wish watched (rounds_heard rounds ++ bytes) out (moments ++ moments_in stops.pieces) at given.moment h given.next given.gives told all_out in
+    let done = at-done (moments ++ moments_in stops.pieces) h given.next given.gives told all_out in
     record { done = done.0; pieces = stops.pieces; history = ap (λ (s : Stage). s.history) done.1 }
 
 -- ---- the promise
@@ -89,17 +89,18 @@ pub record IsPromise (wish : Wish) (film : Film) (watched : Watched) (out : List
   pub film_back : (first last : PictureUnit) → slice_get film.units.items 0 ≡ Some first
       → slice_get film.units.items (length film.units.items - 1) ≡ Some last → out ≡ take (last.to - first.from) (drop first.from film.bytes.items)
 
-pub kept-promise : (wish : Wish) (film : Film) (identity : Identity) (x : Stream) (watched : Watched) (rounds : List Round) (mid : Stage) (bytes out : List ℕ) (c : ℕ)
+pub kept-promise : {wish : Wish} {film : Film} {identity : Identity} {x : Stream} {watched : Watched}
+    {rounds : List Round} {mid : Stage} {bytes out : List ℕ} (c : ℕ)
     → IsWish wish → 0 < picture_time film.rate → IsFilmIn film identity x → RunsAll (stage [] []) rounds mid → HasWatchedAll wish watched rounds mid bytes out
     → rounds_heard rounds ++ bytes ≡ take c (framed_bytes (all_of x)) → AreFed wish film x (first_slot mid.history) [] rounds → IsPromise wish film watched out
-kept-promise wish film identity x watched rounds mid bytes out c wished timed is runs all front fed =
+kept-promise {wish} {film} {x} {rounds} {mid} {bytes} {out} c wished timed is runs all front fed =
     let done = all.done in
     let h = done.at.history in
-    let sum = done-sum x wish watched (rounds_heard rounds ++ bytes) out c done front in
-    let whole = whole-of film identity x h is done.heard.gone sum done.complete in
+    let sum = done-sum x c done front in
+    let whole = whole-of is done.heard.gone sum done.complete in
     let few : replies mid.history ≤ 2 = omega (arith, replies-later mid.history (moments_in all.pieces), ap replies all.history, done.replies_are) in
     let mine : rounds_heard rounds ≡ take (length (rounds_heard rounds)) (framed_bytes (all_of x)) = front-of (rounds_heard rounds) bytes (framed_bytes (all_of x)) c front in
-    let always = always-all wish film identity x (first_slot mid.history) (length (rounds_heard rounds)) [] (stage [] []) mid rounds runs is whole.count heard-none
+    let always = always-all (length (rounds_heard rounds)) mid runs is whole.count heard-none
     (inl refl) mine few refl fed tt in
     let A : History → Type 0 = λ g. IsBetweenAlways wish (film_sizes film) (picture_time film.rate) g in
     let last = subst A (sym all.history) (always-pieces wish (film_sizes film) (picture_time film.rate) mid.history all.pieces always) in
@@ -110,7 +111,7 @@ kept-promise wish film identity x watched rounds mid bytes out c wished timed is
       over_none = ap (λ (w : Watched). w.over) done.watched_is ∙ quiet.over_none;
       under_none = ap (λ (w : Watched). w.under) done.watched_is ∙ quiet.under_none;
       most_fits = omega (arith, ap (λ (w : Watched). w.most) done.watched_is, quiet.most_fits);
-      film_back = λ first last_ at_first at_last. done.out_is ∙ (sym (ap (λ (s : Sum). s.payloads) (sum-after [] done.moments) ∙ steps-payloads (sum_of []) done.moments) ∙ (ap payloads (sym done.history_is) ∙ film-back film identity x h first last_ is sum at_first at_last));
+      film_back = λ first last_ at_first at_last. done.out_is ∙ (sym (ap (λ (s : Sum). s.payloads) (sum-after [] done.moments) ∙ steps-payloads (sum_of []) done.moments) ∙ (ap payloads (sym done.history_is) ∙ film-back h is sum at_first at_last));
     }
 
 -- ---- what the link told
@@ -169,14 +170,14 @@ pub told-course : (wish : Wish) (watched : Watched) (heard : List Doing) (out : 
 told-course wish watched heard out client =
     let setup = sends (setup_text wish) in
     let doings = rounds_doings wish [] client.rounds in
-    let end = end-of wish watched client.mid (length client.rounds) client.last_doings client.last_out client.ends in
+    let end = end-of client.mid client.ends in
     let told : heard ≡ setup ++ (doings ++ client.last_doings) = let e = client.told in cc in
     let out_is : out ≡ payloads_of (moments_of_rounds client.rounds) ++ client.last_out = let e = client.out in cc in
     let last : heard_bytes client.last_doings ≡ end.0 =
     ap heard_bytes end.1.1.1 ∙ (ap (λ l. end.0 ++ l) (heard-sends end.1.0) ∙ append-nil end.0) in
     record {
       bytes = end.0;
-      all = all-watched wish watched client.rounds client.mid client.last_out end.1.0 end.0 out client.runs end.1.1.0 out_is;
+      all = all-watched client.runs end.1.1.0 out_is;
       heard_is = ap heard_bytes told ∙ (heard-append setup (doings ++ client.last_doings)
           ∙ (ap (λ l. l ++ heard_bytes (doings ++ client.last_doings)) (heard-sends (setup_text wish))
           ∙ (heard-append doings client.last_doings

@@ -29,15 +29,15 @@ abbrev pub IsFromTo : ℕ → ℕ → List PlacedText → Type 0
 IsFromTo from to [] = ⊤
 IsFromTo from to (placed ∷ texts) = (from ≤ placed.place) × ((placed.place ≤ to) × IsFromTo from to texts)
 
-from-to-wider : (low from to high : ℕ) (texts : List PlacedText) → low ≤ from → to ≤ high → IsFromTo from to texts → IsFromTo low high texts
-from-to-wider low from to high [] less more are = tt
-from-to-wider low from to high (placed ∷ texts) less more are =
-    (omega (arith, less, are.0), (omega (arith, more, are.1.0), from-to-wider low from to high texts less more are.1.1))
+from-to-wider : {low from to high : ℕ} (texts : List PlacedText) → low ≤ from → to ≤ high → IsFromTo from to texts → IsFromTo low high texts
+from-to-wider {low} {from} [] less more are = tt
+from-to-wider {low} {from} {to} {high} (placed ∷ texts) less more are =
+    (omega (arith, less, are.0), (omega (arith, more, are.1.0), from-to-wider {low = low} {from = from} {to = to} {high = high} texts less more are.1.1))
 
 pub texts-within : (place : ℕ) (parts : List Part) → IsFromTo place (place + length (film_bytes parts)) (placed_texts place parts)
 texts-within place [] = tt
 texts-within place (Film bytes ∷ parts) =
-    from-to-wider place (place + length bytes) (place + length bytes + length (film_bytes parts)) (place + length (bytes ++ film_bytes parts))
+    from-to-wider
     (placed_texts (place + length bytes) parts) (omega arith) (omega (arith, length-append bytes (film_bytes parts))) (texts-within (place + length bytes) parts)
 texts-within place (Text text ∷ parts) = (omega arith, (omega arith, texts-within place parts))
 
@@ -54,26 +54,26 @@ texts-parts place (Text text ∷ xs) ys = ap (λ l. placed_text place text ∷ l
 pub record IsCounted (first second film total bytes : ℕ) : Type 0 where
   pub is : first + second ≤ bytes → min (bytes - first - second) total ≡ film
 
-pub counted-by : (setup played : List ℕ) (later front rest : List PlacedText) (film total : ℕ) → 0 < length setup → 0 < length played
+pub counted-by : {later rest : List PlacedText} {film total : ℕ} (setup played : List ℕ) (front : List PlacedText) → 0 < length setup → 0 < length played
     → front ++ rest ≡ placed_text 0 setup ∷ placed_text 0 played ∷ later → AreAfter total later → IsFromTo 0 film front
     → ((placed : PlacedText) (texts : List PlacedText) → rest ≡ placed ∷ texts → film ≤ placed.place) → film ≤ total
     → IsCounted (length setup) (length played) film total (film + texts_length front)
-counted-by setup played later [] rest film total some_setup some_played all after within next few =
+counted-by {later} {film} setup played [] some_setup some_played all after within next few =
     let none : film ≤ 0 = next (placed_text 0 setup) (placed_text 0 played ∷ later) all in
     record { is = λ much. absurd (omega (arith, much, none, some_setup)) }
-counted-by setup played later (a ∷ []) rest film total some_setup some_played all after within next few =
+counted-by {later} {rest} {film} setup played (a ∷ []) some_setup some_played all after within next few =
     let first : a ≡ placed_text 0 setup = cc in
     let second : rest ≡ placed_text 0 played ∷ later = cc in
     let none : film ≤ 0 = next (placed_text 0 played) later second in
     let size : length a.text ≡ length setup = ap (λ (p : PlacedText). length p.text) first in
     record { is = λ much. absurd (omega (arith, much, none, size, some_played)) }
-counted-by setup played later (a ∷ b ∷ []) rest film total some_setup some_played all after within next few =
+counted-by {later} setup played (a ∷ b ∷ []) some_setup some_played all after within next few =
     let first : a ≡ placed_text 0 setup = cc in
     let second : b ≡ placed_text 0 played = cc in
     let one : length a.text ≡ length setup = ap (λ (p : PlacedText). length p.text) first in
     let two : length b.text ≡ length played = ap (λ (p : PlacedText). length p.text) second in
     record { is = λ much. omega (arith, one, two, few) }
-counted-by setup played later (a ∷ b ∷ c ∷ texts) rest film total some_setup some_played all after within next few =
+counted-by {later} {rest} {total} setup played (a ∷ b ∷ c ∷ texts) some_setup some_played all after within next few =
     let first : a ≡ placed_text 0 setup = cc in
     let second : b ≡ placed_text 0 played = cc in
     let third : later ≡ c ∷ (texts ++ rest) = cc in
@@ -117,11 +117,11 @@ front-same film blocks n is =
     ]
 
 -- after the two first replies
-film-woven : (film blocks : List ℕ) (later : List PlacedText) (n : ℕ) → film ≡ take n blocks → AreAfter (length blocks) later → IsFromTo 0 (length film) later
+film-woven : {film : List ℕ} (blocks : List ℕ) (later : List PlacedText) (n : ℕ) → film ≡ take n blocks → AreAfter (length blocks) later → IsFromTo 0 (length film) later
     → IsFrontOf (with_texts 0 film later) (blocks ++ framed_bytes (map text_of later))
-film-woven film blocks [] n is after within =
+film-woven {film} blocks [] n is after within =
     record { count = length film; is = front-same film blocks n is }
-film-woven film blocks (placed ∷ texts) n is after within =
+film-woven {film} blocks (placed ∷ texts) n is after within =
     let long : length blocks ≤ length film = omega (arith, after.0, within.1.0) in
     let size : length film ≡ min n (length blocks) = ap (λ (l : List ℕ). length l) is ∙ length-take n blocks in
     let whole : film ≡ blocks = is ∙ take_all n blocks (omega (arith, size, long)) in
@@ -131,11 +131,11 @@ film-woven film blocks (placed ∷ texts) n is after within =
     ∙ ap (λ l. blocks ++ (placed.text ++ l)) (woven-texts placed.place (drop n0 film) texts (drop_all n0 film (omega (arith, after.0, ap (λ (l : List ℕ). length l) whole)))) in
     record { count = length (blocks ++ framed_bytes (map text_of (placed ∷ texts))); is = all ∙ sym (take_all (length (blocks ++ framed_bytes (map text_of (placed ∷ texts)))) (blocks ++ framed_bytes (map text_of (placed ∷ texts))) (omega arith)) }
 
-pub all-woven : (film blocks : List ℕ) (setup played : List ℕ) (later : List PlacedText) (n : ℕ) → film ≡ take n blocks → AreAfter (length blocks) later
+pub all-woven : {film : List ℕ} (blocks setup played : List ℕ) (later : List PlacedText) (n : ℕ) → film ≡ take n blocks → AreAfter (length blocks) later
     → IsFromTo 0 (length film) later
     → IsFrontOf (with_texts 0 film (placed_text 0 setup ∷ placed_text 0 played ∷ later)) (setup ++ (played ++ (blocks ++ framed_bytes (map text_of later))))
-all-woven film blocks setup played later n is after within =
-    let rest = film-woven film blocks later n is after within in
+all-woven blocks setup played later n is after within =
+    let rest = film-woven blocks later n is after within in
     let all = blocks ++ framed_bytes (map text_of later) in
     let both : setup ++ (played ++ take rest.count all) ≡ take (length setup + (length played + rest.count)) (setup ++ (played ++ all)) =
     ap (λ l. setup ++ l) (sym (take-append-add played all rest.count)) ∙ sym (take-append-add setup (played ++ all) (length played + rest.count)) in
@@ -210,8 +210,8 @@ past-sends (b ∷ bytes) rest (d ∷ front) after is whole =
     let next = past-sends bytes rest front after tail whole in
     (next.0, (ap (λ l. d ∷ l) next.1.0 ∙ ap (λ x. x ∷ (sends bytes ++ next.0)) first, next.1.1))
 
-joined-front : (event d : Doing) (front sent more rest : List Doing) → d ≡ event → front ≡ sent ++ more → more ≡ rest → d ∷ front ≡ (event ∷ sent) ++ rest
-joined-front event d front sent more rest first is same =
+joined-front : {event d : Doing} {front more rest : List Doing} (sent : List Doing) → d ≡ event → front ≡ sent ++ more → more ≡ rest → d ∷ front ≡ (event ∷ sent) ++ rest
+joined-front {event} {front} {more} sent first is same =
     ap (λ x. x ∷ front) first ∙ (ap (λ l. event ∷ l) is ∙ ap (λ l. event ∷ (sent ++ l)) same)
 
 pub whole-rounds : (rounds : List Round) (front after : List Doing) → rounds_doings rounds ≡ front ++ after
@@ -227,5 +227,5 @@ whole-rounds (round ∷ rounds) (d ∷ front) after is whole =
       first = round ∷ rest.first;
       later = rest.later;
       parts = ap (λ l. round ∷ l) rest.parts;
-      front_is = joined-front round.event d front (sends (round_bytes round)) next.0 (rounds_doings rest.first) first next.1.0 rest.front_is;
+      front_is = joined-front (sends (round_bytes round)) first next.1.0 rest.front_is;
     }
