@@ -26,9 +26,9 @@ use Rattle.rtsp_client.proofs.Taking.{after-on, payloads-on}
 
 -- ---- one event
 
-pub round-bytes : (wish : Wish) (h : History) (rest bytes : List ℕ) (new : Client) (s t : Sight) → HasTaken wish h (rest ++ bytes) new s t
+pub round-bytes : {wish : Wish} {h : History} {rest bytes : List ℕ} {new : Client} {s t : Sight} → HasTaken wish h (rest ++ bytes) new s t
     → IsFirst new.input (Ok More) → HasRound wish h rest (HeardBytes bytes) new s t
-round-bytes wish h rest bytes new s t taken idle = record {
+round-bytes {h} {new} {s} taken idle = record {
   moments = moments_in taken.pieces;
   runs = record { brings = (taken.pieces, (taken.cut, refl)); good = taken.passed.good; history_is = refl };
   keeps = taken.passed.keeps;
@@ -41,35 +41,35 @@ timed-from o timed s is =
     let P : Option Source → Type 0 = λ x. IfSome x (λ (s : Source). 0 < s.picture_units) in
     let Q : IfSome (Some s) (λ (s : Source). 0 < s.picture_units) = subst P is timed in Q
 
-pub round-slot : (wish : Wish) (h : History) (c new : Client) (slot cut : ℕ) (s : Sight) → Keeps wish h c → 0 < wish.slot_units
+pub round-slot : {wish : Wish} {h : History} {c new : Client} {slot cut : ℕ} {s : Sight} → Keeps wish h c → 0 < wish.slot_units
     → IfSome c.watching.source (λ (source : Source). 0 < source.picture_units) → cut ≡ cut_bytes c.input
     → IsFirst c.input (Ok More) → new.replies ≡ c.replies → new.session.items ≡ c.session.items → new.input ≡ c.input
     → new.watching ≡ after_slot wish c.watching slot cut → HasRound wish h c.input (HeardSlot slot) new s s
-round-slot wish h c new slot cut s k some timed cut_is idle replies_same session_same input_same state = record {
+round-slot {wish} {h} {c} {new} {slot} {cut} {s} k some timed cut_is idle replies_same session_same input_same state = record {
   moments = Slot slot (cut_bytes c.input) ∷ [];
   runs = record { brings = (refl, input_same); good = (tt, tt); history_is = refl };
   keeps = record {
     replies_are = replies_same ∙ k.replies_are;
     session_is = session_same ∙ k.session_is;
     state = subst (λ w. KeepsState wish (Slot slot (cut_bytes c.input) ∷ h) w) (sym (state ∙ ap (after_slot wish c.watching slot) cut_is))
-        (keeps-slot wish h c.watching slot (cut_bytes c.input) k.state some (timed-from c.watching.source timed));
+        (keeps-slot k.state some (timed-from c.watching.source timed));
   };
   idle = subst (λ i. IsFirst i (Ok More)) (sym input_same) idle;
   sight_is = sight-none s;
 }
 
-pub ended-bytes : (wish : Wish) (h : History) (rest bytes : List ℕ) (end : WatchEnd) (s t : Sight) → HasStopped wish h (rest ++ bytes) end s t
+pub ended-bytes : {wish : Wish} {h : History} {rest bytes : List ℕ} {end : WatchEnd} {s t : Sight} → HasStopped wish h (rest ++ bytes) end s t
     → HasEnded wish h rest (HeardBytes bytes) end s t
-ended-bytes wish h rest bytes end s t stopped = record {
+ended-bytes {h} {bytes} {end} {s} stopped = record {
   sent = stopped.sent;
   out = stopped.out;
   ends = λ count few. inr (inr (bytes, (stopped.sent, (stopped.stops, refl, few))));
   sight_is = stopped.sight_is;
 }
 
-pub ended-peer : (wish : Wish) (h : History) (c : Client) (end : WatchEnd) (s : Sight) → Keeps wish h c
+pub ended-peer : {wish : Wish} {h : History} {c : Client} {end : WatchEnd} {s : Sight} → Keeps wish h c
     → end ≡ Fault (EndedEarly c.watching.watched.units) → HasEnded wish h c.input HeardEnd end s s
-ended-peer wish h c end s k is = record {
+ended-peer {h} {c} {end} {s} k is = record {
   sent = [];
   out = [];
   ends = λ count few. inr (inl (is ∙ ap (λ (w : Watched). Fault (EndedEarly w.units)) k.state.watched_is, few, refl, refl));
@@ -78,13 +78,13 @@ ended-peer wish h c end s k is = record {
 
 -- ---- all events
 
-runs-on : (old mid new : Stage) (rounds : List Round) (round : Round) → RunsAll old rounds mid → Runs mid round new → IsFirst new.rest (Ok More)
+runs-on : {mid new : Stage} {round : Round} (old : Stage) (rounds : List Round) → RunsAll old rounds mid → Runs mid round new → IsFirst new.rest (Ok More)
     → RunsAll old (rounds ++ round ∷ []) new
-runs-on old mid new [] round all runs idle =
+runs-on {new} {round} old [] all runs idle =
     let R : Stage → Type 0 = λ x. Runs x round new in
     (new, (subst R all runs, idle, refl))
-runs-on old mid new (first ∷ rounds) round all runs idle =
-    (all.0, (all.1.0, all.1.1, runs-on all.0 mid new rounds round all.1.2 runs idle))
+runs-on {mid} {new} {round} old (first ∷ rounds) all runs idle =
+    (all.0, (all.1.0, all.1.1, runs-on {mid = mid} {new = new} {round = round} all.0 rounds all.1.2 runs idle))
 
 history-is : (old mid : Stage) (rounds : List Round) → RunsAll old rounds mid → mid.history ≡ after old.history (moments_of_rounds rounds)
 history-is old mid [] all = ap (λ (s : Stage). s.history) all
@@ -109,9 +109,9 @@ moments-of-on [] round = append-nil round.moments
 moments-of-on (first ∷ rounds) round =
     ap (λ m. first.moments ++ m) (moments-of-on rounds round) ∙ sym (append_assoc first.moments (moments_of_rounds rounds) round.moments)
 
-pub run-none : (wish : Wish) (client : Client) (s : Sight) → client.replies ≡ 0 → client.session.items ≡ [] → client.watching ≡ new_state
+pub run-none : {wish : Wish} {client : Client} {s : Sight} → client.replies ≡ 0 → client.session.items ≡ [] → client.watching ≡ new_state
     → client.input ≡ [] → HasRun wish 0 client s s
-run-none wish client s none empty new_ input = record {
+run-none {wish} {s} none empty new_ input = record {
   rounds = [];
   count_is = refl;
   history = [];
@@ -125,10 +125,11 @@ run-none wish client s none empty new_ input = record {
 }
 
 -- one more event
-pub run-on : (wish : Wish) (count : ℕ) (event : Doing) (c new : Client) (s t u v : Sight) (run : HasRun wish count c s t)
+pub run-on : {wish : Wish} {count : ℕ} {event : Doing} {c new : Client} {s t u v : Sight}
+    (run : HasRun wish count c s t)
     → u ≡ sight (told_more t.told (event ∷ [])) t.out → ((h : History) → Keeps wish h c → HasRound wish h c.input event new u v)
     → HasRun wish (count + 1) new s v
-run-on wish count event c new s t u v run heard next =
+run-on {wish} {event} {c} {new} {s} run heard next =
     let round = next run.history run.keeps in
     let r : Round = record { event = event; moments = round.moments } in
     let h : run.history ≡ after [] (moments_of_rounds run.rounds) = history-is (stage [] []) (stage run.history c.input) run.rounds run.runs in
@@ -146,7 +147,7 @@ run-on wish count event c new s t u v run heard next =
       rounds = run.rounds ++ r ∷ [];
       count_is = length-append run.rounds (r ∷ []) ∙ ap (λ n. n + 1) run.count_is;
       history = after run.history round.moments;
-      runs = runs-on (stage [] []) (stage run.history c.input) (stage (after run.history round.moments) new.input) run.rounds r run.runs round.runs round.idle;
+      runs = runs-on (stage [] []) run.rounds run.runs round.runs round.idle;
       keeps = round.keeps;
       sight_is = round.sight_is
           ∙ (ap (λ x. sight_more x (requests_after wish run.history round.moments) (payloads_of round.moments))
@@ -156,11 +157,12 @@ run-on wish count event c new s t u v run heard next =
     }
 
 -- the course: SETUP was sent, and then events came
-course-of : (wish : Wish) (count : ℕ) (c : Client) (end : WatchEnd) (told0 : Option (List Doing)) (out0 : Option (List ℕ)) (s t : Sight)
-    (doings : List Doing) (out : List ℕ) (new_told : Option (List Doing)) (new_out : Option (List ℕ)) (run : HasRun wish count c s t)
+course-of : {wish : Wish} {count : ℕ} {c : Client} {end : WatchEnd} {told0 : Option (List Doing)}
+    {out0 : Option (List ℕ)} {s t : Sight} {doings : List Doing} {out : List ℕ} {new_told : Option (List Doing)}
+    {new_out : Option (List ℕ)} (run : HasRun wish count c s t)
     → s ≡ sight (told_more told0 (sends (setup_text wish))) out0 → Ends wish (stage run.history c.input) count end doings out
     → new_told ≡ told_more t.told doings → new_out ≡ more t.out out → HasWatched wish end told0 new_told out0 new_out
-course-of wish count c end told0 out0 s t doings out new_told new_out run begun ends told_is out_is =
+course-of {wish} {c} {end} {told0} {out0} {s} {doings} {out} run begun ends told_is out_is =
     let d = rounds_doings wish [] run.rounds in
     inl (record {
       rounds = run.rounds;
@@ -180,29 +182,29 @@ course-of wish count c end told0 out0 s t doings out new_told new_out run begun 
     })
 
 -- an event gave the answer
-pub watched-end : (wish : Wish) (count : ℕ) (event : Doing) (c : Client) (end : WatchEnd) (told0 : Option (List Doing)) (out0 : Option (List ℕ))
-    (s t u v : Sight) (run : HasRun wish count c s t) → s ≡ sight (told_more told0 (sends (setup_text wish))) out0 → count < 1099511627776
+pub watched-end : {wish : Wish} {count : ℕ} {event : Doing} {c : Client} {end : WatchEnd}
+    {told0 : Option (List Doing)} {out0 : Option (List ℕ)} {s t u v : Sight} (run : HasRun wish count c s t) → s ≡ sight (told_more told0 (sends (setup_text wish))) out0 → count < 1099511627776
     → u ≡ sight (told_more t.told (event ∷ [])) t.out → ((h : History) → Keeps wish h c → HasEnded wish h c.input event end u v)
     → HasWatched wish end told0 v.told out0 v.out
-watched-end wish count event c end told0 out0 s t u v run begun few heard next =
+watched-end {count} {event} {c} {end} {s} {t} run begun few heard next =
     let ended = next run.history run.keeps in
-    course-of wish count c end told0 out0 s t (event ∷ sends ended.sent) ended.out v.told v.out run begun (ended.ends count few)
+    course-of run begun (ended.ends count few)
     (ap (λ (x : Sight). x.told) ended.sight_is
     ∙ (ap (λ (x : Sight). told_more x.told (sends ended.sent)) heard ∙ told-on t.told (event ∷ []) (sends ended.sent)))
     (ap (λ (x : Sight). x.out) ended.sight_is ∙ ap (λ (x : Sight). more x.out ended.out) heard)
 
 -- no further event was heard
-pub watched-lost : (wish : Wish) (count : ℕ) (c : Client) (end : WatchEnd) (told0 : Option (List Doing)) (out0 : Option (List ℕ)) (s t : Sight)
-    (new_told : Option (List Doing)) (run : HasRun wish count c s t) → s ≡ sight (told_more told0 (sends (setup_text wish))) out0
+pub watched-lost : {wish : Wish} {count : ℕ} {c : Client} {end : WatchEnd} {told0 : Option (List Doing)}
+    {out0 : Option (List ℕ)} {s t : Sight} {new_told : Option (List Doing)} (run : HasRun wish count c s t) → s ≡ sight (told_more told0 (sends (setup_text wish))) out0
     → count < 1099511627776 → end ≡ LinkFault → new_told ≡ t.told → HasWatched wish end told0 new_told out0 t.out
-watched-lost wish count c end told0 out0 s t new_told run begun few is same =
-    course-of wish count c end told0 out0 s t [] [] new_told t.out run begun (inl (inl (is, few), refl, refl)) (same ∙ sym (told-none t.told)) (sym (out-none t.out))
+watched-lost {c} {end} {s} {t} run begun few is same =
+    course-of run begun (inl (inl (is, few), refl, refl)) (same ∙ sym (told-none t.told)) (sym (out-none t.out))
 
-pub watched-spent : (wish : Wish) (count : ℕ) (c : Client) (told0 : Option (List Doing)) (out0 : Option (List ℕ)) (s t : Sight)
-    (run : HasRun wish count c s t) → s ≡ sight (told_more told0 (sends (setup_text wish))) out0 → count ≡ 1099511627776
+pub watched-spent : {wish : Wish} {count : ℕ} {c : Client} {told0 : Option (List Doing)} {out0 : Option (List ℕ)}
+    {s t : Sight} (run : HasRun wish count c s t) → s ≡ sight (told_more told0 (sends (setup_text wish))) out0 → count ≡ 1099511627776
     → HasWatched wish (Fault TurnsSpent) told0 t.told out0 t.out
-watched-spent wish count c told0 out0 s t run begun all =
-    course-of wish count c (Fault TurnsSpent) told0 out0 s t [] [] t.told t.out run begun (inl (inr (refl, all), refl, refl)) (sym (told-none t.told)) (sym (out-none t.out))
+watched-spent {c} {s} {t} run begun all =
+    course-of run begun (inl (inr (refl, all), refl, refl)) (sym (told-none t.told)) (sym (out-none t.out))
 
 -- it didn't begin
 pub watched-not : (wish : Wish) (end : WatchEnd) (told : Option (List Doing)) (out : Option (List ℕ)) → end ≡ NoMemory

@@ -23,93 +23,94 @@ use Rattle.rtsp_client.proofs.Replying.{gives, passed-one}
 use Rattle.rtsp_client.proofs.Sighting.{all-front, no-front, sight-both, sight-handed, sight-none}
 
 -- it isn't the next frame
-pub bad-frame : (wish : Wish) (h : History) (c : Client) (b : List ℕ) (end : WatchEnd) (s : Sight) → Keeps wish h c
+pub bad-frame : {wish : Wish} {h : History} {c : Client} {b : List ℕ} {end : WatchEnd} {s : Sight} → Keeps wish h c
     → source_with c.watching b ≡ None → end ≡ Fault (BadFrame c.watching.watched.frames) → HasEndedAt wish h (Frame b) end s s
-bad-frame wish h c b end s k none is =
+bad-frame {wish} {h} {c} {b} {end} {s} k none is =
     gives wish h (Frame b) end s
     (good-is wish h c.watching b k.state ∙ ap is_some none, is ∙ ap (λ (w : Watched). Fault (BadFrame w.frames)) k.state.watched_is)
 
-frame-good : (wish : Wish) (h : History) (c : Client) (b : List ℕ) (next : Source) → Keeps wish h c → source_with c.watching b ≡ Some next
+frame-good : {wish : Wish} {h : History} {c : Client} {next : Source} (b : List ℕ) → Keeps wish h c → source_with c.watching b ≡ Some next
     → GoesOn h (Frame b)
-frame-good wish h c b next k some = good-is wish h c.watching b k.state ∙ ap is_some some
+frame-good {wish} {h} {c} {next} b k some = good-is wish h c.watching b k.state ∙ ap is_some some
 
 -- there was no memory, before the payload was handed on or after it
-pub frame-starved : (wish : Wish) (h : History) (c : Client) (b : List ℕ) (next : Source) (end : WatchEnd) (s : Sight) → Keeps wish h c
+pub frame-starved : {wish : Wish} {h : History} {c : Client} {b : List ℕ} {next : Source} {end : WatchEnd}
+    {s : Sight} → Keeps wish h c
     → source_with c.watching b ≡ Some next → end ≡ NoMemory → HasEndedAt wish h (Frame b) end s s
-frame-starved wish h c b next end s k some is = record {
+frame-starved {wish} {h} {c} {b} {next} {end} {s} k some is = record {
   sent = [];
   out = [];
-  comes = inr (frame-good wish h c b next k some, subst (λ e. Fails wish h (Frame b) e [] []) (sym is) (refl, no-front (drop 20 b)));
+  comes = inr (frame-good b k some, subst (λ e. Fails wish h (Frame b) e [] []) (sym is) (refl, no-front (drop 20 b)));
   sight_is = sight-none s;
 }
 
-pub teardown-starved : (wish : Wish) (h : History) (c : Client) (b : List ℕ) (next : Source) (end : WatchEnd) (told : Option (List Doing))
-    (out new_out : Option (List ℕ)) → Keeps wish h c → source_with c.watching b ≡ Some next → end ≡ NoMemory
+pub teardown-starved : {wish : Wish} {h : History} {c : Client} {b : List ℕ} {next : Source} {end : WatchEnd}
+    {out new_out : Option (List ℕ)} (told : Option (List Doing)) → Keeps wish h c → source_with c.watching b ≡ Some next → end ≡ NoMemory
     → new_out ≡ more out (drop 20 b) → HasEndedAt wish h (Frame b) end (sight told out) (sight told new_out)
-teardown-starved wish h c b next end told out new_out k some is handed = record {
+teardown-starved {wish} {h} {c} {b} {next} {end} {out} {new_out} told k some is handed = record {
   sent = [];
   out = drop 20 b;
   comes = inr (
-    frame-good wish h c b next k some,
+    frame-good b k some,
     subst (λ e. Fails wish h (Frame b) e [] (drop 20 b)) (sym is) (refl, all-front (drop 20 b)),
   );
   sight_is = sight-handed told out new_out (drop 20 b) handed;
 }
 
 -- the output failed
-pub frame-cut : (wish : Wish) (h : History) (c : Client) (b : List ℕ) (next : Source) (end : WatchEnd) (told : Option (List Doing))
-    (out new_out : Option (List ℕ)) → Keeps wish h c → source_with c.watching b ≡ Some next → end ≡ SinkFault
+pub frame-cut : {wish : Wish} {h : History} {c : Client} {b : List ℕ} {next : Source} {end : WatchEnd}
+    {out new_out : Option (List ℕ)} (told : Option (List Doing)) → Keeps wish h c → source_with c.watching b ≡ Some next → end ≡ SinkFault
     → IsFrontMore out new_out (drop 20 b) → HasEndedAt wish h (Frame b) end (sight told out) (sight told new_out)
-frame-cut wish h c b next end told out new_out k some is front = record {
+frame-cut {wish} {h} {c} {b} {next} {end} {out} {new_out} told k some is front = record {
   sent = [];
   out = take front.0 (drop 20 b);
   comes = inr (
-    frame-good wish h c b next k some,
+    frame-good b k some,
     subst (λ e. Fails wish h (Frame b) e [] (take front.0 (drop 20 b))) (sym is) (refl, (front.0, (front.1.0, refl))),
   );
   sight_is = sight-handed told out new_out (take front.0 (drop 20 b)) front.1.1;
 }
 
 -- the client after the frame
-kept : (wish : Wish) (h : History) (c mid : Client) (b : List ℕ) (next : Source) → Keeps wish h c → source_with c.watching b ≡ Some next
+kept : {wish : Wish} {h : History} {c mid : Client} {b : List ℕ} {next : Source} → Keeps wish h c → source_with c.watching b ≡ Some next
     → 20 ≤ length b → mid.replies ≡ c.replies → mid.session.items ≡ c.session.items → mid.watching ≡ after_frame c.watching next (length b)
     → Keeps wish (Frame b ∷ h) mid
-kept wish h c mid b next k some long replies_same session_same state = record {
+kept {wish} {h} {c} {b} {next} k some long replies_same session_same state = record {
   replies_are = replies_same ∙ k.replies_are;
   session_is = session_same ∙ k.session_is;
-  state = subst (λ w. KeepsState wish (Frame b ∷ h) w) (sym state) (keeps-frame wish h c.watching b next k.state some long);
+  state = subst (λ w. KeepsState wish (Frame b ∷ h) w) (sym state) (keeps-frame k.state some long);
 }
 
 -- it goes on, and no request is sent
-pub frame-done : (wish : Wish) (h : History) (c mid : Client) (b : List ℕ) (next : Source) (told : Option (List Doing))
-    (out new_out : Option (List ℕ)) → Keeps wish h c → source_with c.watching b ≡ Some next → 20 ≤ length b
+pub frame-done : {wish : Wish} {h : History} {c mid : Client} {b : List ℕ} {next : Source}
+    {out new_out : Option (List ℕ)} (told : Option (List Doing)) → Keeps wish h c → source_with c.watching b ≡ Some next → 20 ≤ length b
     → mid.replies ≡ c.replies → mid.session.items ≡ c.session.items → mid.watching ≡ after_frame c.watching next (length b)
     → has_all mid.watching ≡ false → new_out ≡ more out (drop 20 b) → HasPassed wish h (Frame b ∷ []) mid (sight told out) (sight told new_out)
-frame-done wish h c mid b next told out new_out k some long replies_same session_same state open_ handed =
-    let keeps = kept wish h c mid b next k some long replies_same session_same state in
+frame-done {wish} {h} {c} {mid} {b} {next} {out} {new_out} told k some long replies_same session_same state open_ handed =
+    let keeps = kept k some long replies_same session_same state in
     let unmet : is_complete (Frame b ∷ h) ≡ false = sym (complete-is wish (Frame b ∷ h) mid.watching keeps.state) ∙ open_ in
-    passed-one wish h (Frame b) mid (sight told out) (sight told new_out) (frame-good wish h c b next k some) keeps
+    passed-one (frame-good b k some) keeps
     (sight-handed told out new_out (drop 20 b) handed
     ∙ ap (λ a. sight_more (sight told out) a (drop 20 b)) (sym (cond-false (is_complete (Frame b ∷ h)) (teardown_text wish (session h)) [] unmet)))
 
-request-last : (wish : Wish) (h : History) (c mid : Client) (b : List ℕ) (next : Source) → Keeps wish h c → Keeps wish (Frame b ∷ h) mid
+request-last : {wish : Wish} {h : History} {c mid : Client} {b : List ℕ} (next : Source) → Keeps wish h c → Keeps wish (Frame b ∷ h) mid
     → has_all mid.watching ≡ true → request_after wish h (Frame b) ≡ teardown_text wish c.session.items
-request-last wish h c mid b next k keeps all =
+request-last {wish} {h} {c} {mid} {b} next k keeps all =
     cond-true (is_complete (Frame b ∷ h)) (teardown_text wish (session h)) [] (sym (complete-is wish (Frame b ∷ h) mid.watching keeps.state) ∙ all)
     ∙ ap (teardown_text wish) (sym k.session_is)
 
 -- all units are whole, and TEARDOWN was sent
-pub last-done : (wish : Wish) (h : History) (c mid : Client) (b : List ℕ) (next : Source) (told new_told : Option (List Doing))
-    (out new_out : Option (List ℕ)) → Keeps wish h c → source_with c.watching b ≡ Some next → 20 ≤ length b
+pub last-done : {wish : Wish} {h : History} {c mid : Client} {b : List ℕ} {next : Source}
+    {new_told : Option (List Doing)} {out new_out : Option (List ℕ)} (told : Option (List Doing)) → Keeps wish h c → source_with c.watching b ≡ Some next → 20 ≤ length b
     → mid.replies ≡ c.replies → mid.session.items ≡ c.session.items → mid.watching ≡ after_frame c.watching next (length b)
     → has_all mid.watching ≡ true → new_out ≡ more out (drop 20 b) → new_told ≡ told_more told (sends (teardown_text wish c.session.items))
     → HasPassed wish h (Frame b ∷ []) mid (sight told out) (sight new_told new_out)
-last-done wish h c mid b next told new_told out new_out k some long replies_same session_same state all handed sent =
-    let keeps = kept wish h c mid b next k some long replies_same session_same state in
+last-done {wish} {h} {c} {b} {next} {new_told} {out} told k some long replies_same session_same state all handed sent =
+    let keeps = kept k some long replies_same session_same state in
     let P : List ℕ → Type 0 = λ text. new_told ≡ told_more told (sends text) in
-    passed-one wish h (Frame b) mid (sight told out) (sight new_told new_out) (frame-good wish h c b next k some) keeps
-    (sight-both told new_told out new_out (request_after wish h (Frame b)) (drop 20 b)
-    (subst P (sym (request-last wish h c mid b next k keeps all)) sent) handed)
+    passed-one (frame-good b k some) keeps
+    (sight-both told out (request_after wish h (Frame b)) (drop 20 b)
+    (subst P (sym (request-last next k keeps all)) sent) handed)
 
 -- or TEARDOWN was cut
 pub last-cut : (wish : Wish) (h : History) (c mid : Client) (b : List ℕ) (next : Source) (end : WatchEnd) (told new_told : Option (List Doing))
@@ -118,26 +119,26 @@ pub last-cut : (wish : Wish) (h : History) (c mid : Client) (b : List ℕ) (next
     → has_all mid.watching ≡ true → end ≡ LinkFault → new_out ≡ more out (drop 20 b)
     → IsFrontTold told new_told (teardown_text wish c.session.items) → HasEndedAt wish h (Frame b) end (sight told out) (sight new_told new_out)
 last-cut wish h c mid b next end told new_told out new_out k some long replies_same session_same state all is handed front =
-    let keeps = kept wish h c mid b next k some long replies_same session_same state in
+    let keeps = kept {wish = wish} {h = h} {c = c} {mid = mid} {b = b} {next = next} k some long replies_same session_same state in
     let text = teardown_text wish c.session.items in
     let F : List ℕ → Type 0 = λ t. IsFront (take front.0 text) t in
     record {
       sent = take front.0 text;
       out = drop 20 b;
       comes = inr (
-        frame-good wish h c b next k some,
+        frame-good {wish = wish} {h = h} {c = c} {next = next} b k some,
         subst (λ e. Fails wish h (Frame b) e (take front.0 text) (drop 20 b)) (sym is)
-            (subst F (sym (request-last wish h c mid b next k keeps all)) (front.0, (front.1.0, refl)), refl),
+            (subst F (sym (request-last {wish = wish} {h = h} {c = c} {mid = mid} {b = b} next k keeps all)) (front.0, (front.1.0, refl)), refl),
       );
-      sight_is = sight-both told new_told out new_out (take front.0 text) (drop 20 b) front.1.1 handed;
+      sight_is = sight-both {new = new_told} {new_out = new_out} told out (take front.0 text) (drop 20 b) front.1.1 handed;
     }
 
 -- ---- a report
 
-pub report-done : (wish : Wish) (h : History) (c new : Client) (b : List ℕ) (s : Sight) → Keeps wish h c → new.replies ≡ c.replies
+pub report-done : {wish : Wish} {h : History} {c new : Client} {b : List ℕ} {s : Sight} → Keeps wish h c → new.replies ≡ c.replies
     → new.session.items ≡ c.session.items → new.watching ≡ after_report c.watching (length b) → HasPassed wish h (Report b ∷ []) new s s
-report-done wish h c new b s k replies_same session_same state =
-    passed-one wish h (Report b) new s s tt
+report-done {wish} {h} {c} {new} {b} {s} k replies_same session_same state =
+    passed-one tt
     (record {
       replies_are = replies_same ∙ k.replies_are;
       session_is = session_same ∙ k.session_is;

@@ -64,9 +64,9 @@ keeps-first wish h s m k none = record {
 second-is : {A : Type 0} (h : History) (x y : A) → replies h ≡ 1 → cond (replies h == 1) x y ≡ x
 second-is h x y one = cond-true (replies h == 1) x y (eq-eqb (replies h) 1 one)
 
-pub keeps-play : (wish : Wish) (h : History) (s : State) (m : List ℕ) (begin ms : ℕ) → KeepsState wish h s → replies h ≡ 1
+pub keeps-play : {wish : Wish} {h : History} {s : State} {m : List ℕ} {begin ms : ℕ} → KeepsState wish h s → replies h ≡ 1
     → play_start m ≡ Some begin → play_range m ≡ Some ms → KeepsState wish (Reply m ∷ h) (after_play s begin ms)
-keeps-play wish h s m begin ms k one starts ends = record {
+keeps-play {h} {s} {m} k one starts ends = record {
   last_slot_is = k.last_slot_is;
   play_is = record {
     playing = lt-ltb 1 (replies h + 1) (omega (arith, one));
@@ -85,16 +85,16 @@ keeps-play wish h s m begin ms k one starts ends = record {
 
 -- ---- which frames are good
 
-head-picked : (c d e : Bool) (x head : Head) (f g i : HeadFault)
+head-picked : {x head : Head} (c d e : Bool) (f g i : HeadFault)
     → cond c (Err f) (cond d (Err g) (cond e (Err i) (Ok x))) ≡ Ok head → head ≡ x
-head-picked true d e x head f g i is = cc
-head-picked false true e x head f g i is = cc
-head-picked false false true x head f g i is = cc
-head-picked false false false x head f g i is = cc
+head-picked {head} true d e f g i is = cc
+head-picked {head} false true e f g i is = cc
+head-picked {head} false false true f g i is = cc
+head-picked {head} false false false f g i is = cc
 
 head-read : (bytes : List ℕ) (head : Head) → head_of bytes ≡ Ok head → head ≡ head_at bytes
 head-read bytes head is =
-    head-picked (nat_lt (length bytes) 16) (not (get_or bytes 0 0 == 0x80)) (not (get_or bytes 1 0 % 128 == 32)) (head_at bytes) head _ _ _ is
+    head-picked (nat_lt (length bytes) 16) (not (get_or bytes 0 0 == 0x80)) (not (get_or bytes 1 0 % 128 == 32)) _ _ _ is
 
 some-cond : {A : Type 0} (c : Bool) (x : A) → is_some (cond c (Some x) None) ≡ c
 some-cond true x = refl
@@ -105,25 +105,25 @@ and-true true = refl
 and-true false = refl
 
 -- whether a frame goes on, by the source that is kept
-goes-on : (source : Option Source) (h : History) (b : List ℕ) (head : Head) (ms : ℕ) → IsSourceOf source h → head ≡ head_at (drop 4 b)
+goes-on : {head : Head} {ms : ℕ} (source : Option Source) (h : History) (b : List ℕ) → IsSourceOf source h → head ≡ head_at (drop 4 b)
     → ms ≡ end_ms h
     → cond (frames h == 0) (is_first_good h b) (is_next_good h b) ≡ is_some (source_after source head (drop 20 b) ms)
-goes-on None h b head ms is at end =
+goes-on {head} {ms} None h b is at end =
     cond-true (frames h == 0) (is_first_good h b) (is_next_good h b) (eq-eqb (frames h) 0 is)
     ∙ sym (some-cond (begins_film (drop 20 b) && (nat_le 1 (units_until ms (time_in b)) && nat_le (units_until ms (time_in b)) 4194304)) _
     ∙ ap (λ n. begins_film (drop 20 b) && (nat_le 1 (units_until n (time_in b)) && nat_le (units_until n (time_in b)) 4194304)) end)
-goes-on (Some source) h b head ms is at end =
+goes-on {head} (Some source) h b is at end =
     cond-false (frames h == 0) (is_first_good h b) (is_next_good h b) (ne_eqb (frames h) 0 (λ none. absurd (omega (arith, is.some, none))))
     ∙ sym (some-cond ((head.ssrc == source.ssrc) && (head.sequence == (source.sequence + 1) % 2 ^ 16)) _
     ∙ (ap (λ (x : Head). (x.ssrc == source.ssrc) && (x.sequence == (source.sequence + 1) % 2 ^ 16)) at
     ∙ (ap (λ n. ((head_at (drop 4 b)).ssrc == n) && ((head_at (drop 4 b)).sequence == (source.sequence + 1) % 2 ^ 16)) is.ssrc_is
     ∙ ap (λ n. ((head_at (drop 4 b)).ssrc == (head_at (drop 4 (first_frame h))).ssrc) && ((head_at (drop 4 b)).sequence == (n + 1) % 2 ^ 16)) is.sequence_is)))
 
-reads-on : (source : Option Source) (h : History) (b : List ℕ) (read : Result Head HeadFault) (ms : ℕ) → IsSourceOf source h
+reads-on : {read : Result Head HeadFault} {ms : ℕ} (source : Option Source) (h : History) (b : List ℕ) → IsSourceOf source h
     → head_of (drop 4 b) ≡ read → ms ≡ end_ms h
     → (is_ok read && cond (frames h == 0) (is_first_good h b) (is_next_good h b)) ≡ is_some (source_read source read (drop 20 b) ms)
-reads-on source h b (Err fault) ms is at end = refl
-reads-on source h b (Ok head) ms is at end = goes-on source h b head ms is (head-read (drop 4 b) head at) end
+reads-on {read = Err fault} source h b is at end = refl
+reads-on {read = Ok head} source h b is at end = goes-on source h b is (head-read (drop 4 b) head at) end
 
 all-in : (source : Option Source) (h : History) (whole : ℕ) → IsSourceOf source h → whole ≡ length (sizes h) → is_all source whole ≡ is_complete h
 all-in None h whole is same = sym (ap (λ n. nat_lt 0 n && (length (sizes h) == units h)) is)
@@ -144,7 +144,7 @@ good-in None s h b is source all = ap (λ c. c && (not (is_complete h) && (is_ok
 good-in (Some play) s h b is source all =
     ap (λ c. c && (not (is_complete h) && (is_ok (head_of (drop 4 b)) && cond (frames h == 0) (is_first_good h b) (is_next_good h b)))) is.playing
     ∙ (ap (λ c. not c && (is_ok (head_of (drop 4 b)) && cond (frames h == 0) (is_first_good h b) (is_next_good h b))) (sym all)
-    ∙ (ap (λ c. not (has_all s) && c) (reads-on s.source h b (head_of (drop 4 b)) play.end_ms source refl is.end_is)
+    ∙ (ap (λ c. not (has_all s) && c) (reads-on s.source h b source refl is.end_is)
     ∙ sym (some-unless (has_all s) (source_read s.source (head_of (drop 4 b)) (drop 20 b) play.end_ms))))
 
 pub good-is : (wish : Wish) (h : History) (s : State) (b : List ℕ) → KeepsState wish h s → is_good_frame h b ≡ is_some (source_with s b)
@@ -156,9 +156,9 @@ picked : {A : Type 0} (c : Bool) (x y : A) → cond c (Some x) None ≡ Some y �
 picked true x y is = cc
 picked false x y is = cc
 
-source-after : (source : Option Source) (h : History) (b : List ℕ) (head : Head) (ms : ℕ) (next : Source) → IsSourceOf source h
+source-after : {h : History} {b : List ℕ} {head : Head} {ms : ℕ} {next : Source} (source : Option Source) → IsSourceOf source h
     → head ≡ head_at (drop 4 b) → ms ≡ end_ms h → source_after source head (drop 20 b) ms ≡ Some next → IsSource next (Frame b ∷ h)
-source-after None h b head ms next is at end after =
+source-after {h} {b} {head} {ms} {next} None is at end after =
     let its = picked (begins_film (drop 20 b) && (nat_le 1 (units_until ms (time_in b)) && nat_le (units_until ms (time_in b)) 4194304)) _ next after in
     let none : (frames h == 0) ≡ true = eq-eqb (frames h) 0 is in
     let first : cond (frames h == 0) b (first_frame h) ≡ b = cond-true (frames h == 0) b (first_frame h) none in
@@ -172,7 +172,7 @@ source-after None h b head ms next is at end after =
           ∙ sym (cond-false (frames h + 1 == 0) 0 (units_until (end_ms h) (time_in (cond (frames h == 0) b (first_frame h)))) (ne_eqb (frames h + 1) 0 (λ e. absurd (omega (arith, e))))
           ∙ ap (λ f. units_until (end_ms h) (time_in f)) first));
     }
-source-after (Some source) h b head ms next is at end after =
+source-after {h} {b} {head} {next} (Some source) is at end after =
     let its = picked ((head.ssrc == source.ssrc) && (head.sequence == (source.sequence + 1) % 2 ^ 16)) _ next after in
     let some : (frames h == 0) ≡ false = ne_eqb (frames h) 0 (λ none. absurd (omega (arith, is.some, none))) in
     let first : cond (frames h == 0) b (first_frame h) ≡ first_frame h = cond-false (frames h == 0) b (first_frame h) some in
@@ -188,20 +188,21 @@ source-after (Some source) h b head ms next is at end after =
           ∙ ap (λ f. units_until (end_ms h) (time_in f)) first)));
     }
 
-source-read : (source : Option Source) (h : History) (b : List ℕ) (read : Result Head HeadFault) (ms : ℕ) (next : Source) → IsSourceOf source h
+source-read : {h : History} {b : List ℕ} {read : Result Head HeadFault} {ms : ℕ} {next : Source}
+    (source : Option Source) → IsSourceOf source h
     → head_of (drop 4 b) ≡ read → ms ≡ end_ms h → source_read source read (drop 20 b) ms ≡ Some next → IsSource next (Frame b ∷ h)
-source-read source h b (Err fault) ms next is at end after = cc
-source-read source h b (Ok head) ms next is at end after = source-after source h b head ms next is (head-read (drop 4 b) head at) end after
+source-read {h} {read = Err fault} {next} source is at end after = cc
+source-read {h} {b} {read = Ok head} {next} source is at end after = source-after source is (head-read (drop 4 b) head at) end after
 
 unless-all : (all : Bool) (o : Option Source) (next : Source) → cond all None o ≡ Some next → o ≡ Some next
 unless-all true o next is = cc
 unless-all false o next is = is
 
-source-played : (play : Option Play) (s : State) (h : History) (b : List ℕ) (next : Source) → IsPlayOf play h → IsSourceOf s.source h
+source-played : {h : History} {b : List ℕ} {next : Source} (play : Option Play) (s : State) → IsPlayOf play h → IsSourceOf s.source h
     → source_played play s b ≡ Some next → IsSource next (Frame b ∷ h) × (is_playing h ≡ true)
-source-played None s h b next is source after = cc
-source-played (Some play) s h b next is source after = (
-  source-read s.source h b (head_of (drop 4 b)) play.end_ms next source refl is.end_is (unless-all (has_all s) _ next after),
+source-played {h} {next} None s is source after = cc
+source-played {h} {next} (Some play) s is source after = (
+  source-read s.source source refl is.end_is (unless-all (has_all s) _ next after),
   is.playing,
 )
 
@@ -233,12 +234,12 @@ ends-more ends sizes end size are is =
       ];
     }
 
-frame-ends : (m l : Bool) (ends sizes : List ℕ) (taken bytes_pending n : ℕ) → m ≡ l → AreSumsOf ends sizes → taken ≡ sum sizes + bytes_pending
+frame-ends : {m l : Bool} {ends sizes : List ℕ} {taken : ℕ} (bytes_pending n : ℕ) → m ≡ l → AreSumsOf ends sizes → taken ≡ sum sizes + bytes_pending
     → AreSumsOf (cond m (ends ++ (taken + n) ∷ []) ends) (cond l (sizes ++ (bytes_pending + n) ∷ []) sizes)
-frame-ends m true ends sizes taken bytes_pending n same are is =
+frame-ends {m} {l = true} {ends} {sizes} {taken} bytes_pending n same are is =
     let E : Bool → Type 0 = λ b. AreSumsOf (cond b (ends ++ (taken + n) ∷ []) ends) (sizes ++ (bytes_pending + n) ∷ []) in
     subst E (sym same) (ends-more ends sizes (taken + n) (bytes_pending + n) are (omega (arith, is)))
-frame-ends m false ends sizes taken bytes_pending n same are is =
+frame-ends {m} {l = false} {ends} {sizes} {taken} bytes_pending n same are is =
     let E : Bool → Type 0 = λ b. AreSumsOf (cond b (ends ++ (taken + n) ∷ []) ends) sizes in
     subst E (sym same) are
 
@@ -247,10 +248,10 @@ whole-more : (m l : Bool) (sizes : List ℕ) (size : ℕ) → m ≡ l
 whole-more m true sizes size same = ap (λ b. cond b (length sizes + 1) (length sizes)) same ∙ sym (length-append sizes (size ∷ []))
 whole-more m false sizes size same = ap (λ b. cond b (length sizes + 1) (length sizes)) same
 
-pub keeps-frame : (wish : Wish) (h : History) (s : State) (b : List ℕ) (next : Source) → KeepsState wish h s
+pub keeps-frame : {wish : Wish} {h : History} {s : State} {b : List ℕ} {next : Source} → KeepsState wish h s
     → source_with s b ≡ Some next → 20 ≤ length b → KeepsState wish (Frame b ∷ h) (after_frame s next (length b))
-keeps-frame wish h s b next k with_it long =
-    let came = source-played s.play s h b next k.play_is k.source_is with_it in
+keeps-frame {wish} {h} {s} {b} {next} k with_it long =
+    let came = source-played s.play s k.play_is k.source_is with_it in
     let src : IsSource next (Frame b ∷ h) = came.0 in
     let handed : length (payloads h ++ drop 20 b) ≡ length (payloads h) + (length b - 20) =
     omega (arith, length-append (payloads h) (drop 20 b), length-drop 20 b) in
@@ -260,7 +261,7 @@ keeps-frame wish h s b next k with_it long =
       source_is = src;
       begun = λ some. came.1;
       inside = ap not (sym src.marker_is);
-      ends_are = frame-ends next.marker (is_last b) s.ends (sizes h) s.taken (bytes_pending h) (length b) src.marker_is k.ends_are k.taken_is;
+      ends_are = frame-ends (bytes_pending h) (length b) src.marker_is k.ends_are k.taken_is;
       received_is = ap (λ n. n + length b) k.received_is;
       taken_is = frame-taken (is_last b) (sizes h) (bytes_pending h) (length b) s.taken k.taken_is;
       watched_is =
@@ -295,16 +296,16 @@ not-twice : (m i : Bool) → i ≡ not m → not i ≡ m
 not-twice true i is = ap not is
 not-twice false i is = ap not is
 
-between-taken : (m i : Bool) (taken sizes bytes_pending n : ℕ) → not i ≡ m → taken ≡ sizes + bytes_pending
+between-taken : {m : Bool} {taken : ℕ} (i : Bool) (sizes bytes_pending n : ℕ) → not i ≡ m → taken ≡ sizes + bytes_pending
     → cond m (taken + n) taken ≡ sizes + cond (true && not i) (bytes_pending + n) bytes_pending
-between-taken true i taken sizes bytes_pending n is same =
+between-taken {m = true} {taken} i sizes bytes_pending n is same =
     omega (arith, same, ap (λ b. cond b (bytes_pending + n) bytes_pending) is)
-between-taken false i taken sizes bytes_pending n is same =
+between-taken {m = false} {taken} i sizes bytes_pending n is same =
     omega (arith, same, ap (λ b. cond b (bytes_pending + n) bytes_pending) is)
 
-report-state : (play : Option Play) (wish : Wish) (h : History) (s : State) (b : List ℕ) → KeepsState wish h s → IsPlayOf play h
+report-state : {play : Option Play} {wish : Wish} {h : History} {s : State} {b : List ℕ} → KeepsState wish h s → IsPlayOf play h
     → s.play ≡ play → KeepsState wish (Report b ∷ h) (report_in play s (length b))
-report-state None wish h s b k is same = record {
+report-state {play = None} {wish} {h} {s} {b} k is same = record {
   last_slot_is = k.last_slot_is;
   play_is = play-report s.play h b k.play_is;
   source_is = source-report s.source h b k.source_is;
@@ -315,7 +316,7 @@ report-state None wish h s b k is same = record {
   taken_is = k.taken_is ∙ sym (ap (λ c. sum (sizes h) + cond (c && not (is_inside h)) (bytes_pending h + length b) (bytes_pending h)) is);
   watched_is = k.watched_is ∙ sym (ap (λ c. record (watched_in wish h) { reports = cond c (reports h + 1) (reports h) }) is);
 }
-report-state (Some play) wish h s b k is same = record {
+report-state {play = Some play} {wish} {h} {s} {b} k is same = record {
   last_slot_is = k.last_slot_is;
   play_is = play-report s.play h b k.play_is;
   source_is = source-report s.source h b k.source_is;
@@ -323,7 +324,7 @@ report-state (Some play) wish h s b k is same = record {
   inside = k.inside;
   ends_are = k.ends_are;
   received_is = ap (λ n. n + length b) k.received_is ∙ sym (ap (λ c. cond c (bytes_received h + length b) (bytes_received h)) is.playing);
-  taken_is = between-taken (is_between s.source) (is_inside h) s.taken (sum (sizes h)) (bytes_pending h) (length b)
+  taken_is = between-taken (is_inside h) (sum (sizes h)) (bytes_pending h) (length b)
       (not-twice (is_between s.source) (is_inside h) k.inside) k.taken_is
       ∙ sym (ap (λ c. sum (sizes h) + cond (c && not (is_inside h)) (bytes_pending h + length b) (bytes_pending h)) is.playing);
   watched_is = ap (λ (w : Watched). record w { reports = w.reports + 1 }) k.watched_is
@@ -332,4 +333,4 @@ report-state (Some play) wish h s b k is same = record {
 
 pub keeps-report : (wish : Wish) (h : History) (s : State) (b : List ℕ) → KeepsState wish h s
     → KeepsState wish (Report b ∷ h) (after_report s (length b))
-keeps-report wish h s b k = report-state s.play wish h s b k k.play_is refl
+keeps-report wish h s b k = report-state k k.play_is refl

@@ -97,11 +97,11 @@ no-units (Slot t cut ∷ h) none = no-units h none
 less-none : (n : ℕ) → n ≡ n - 0
 less-none n = omega arith
 
-played-in : (wish : Wish) (h : History) (source : Option Source) (ends : List ℕ) (j : ℕ) → 0 < wish.slot_units
+played-in : {source : Option Source} {ends : List ℕ} (wish : Wish) (h : History) (j : ℕ) → 0 < wish.slot_units
     → ((src : Source) → source ≡ Some src → 0 < src.picture_units) → IsSourceOf source h → AreSumsOf ends (sizes h)
     → played_of wish source ends j ≡ played_before wish h j
-played-in wish h None ends j some timed is are = sym (ap (used_before wish (time h) j 0) (no-units h is))
-played-in wish h (Some source) ends j some timed is are =
+played-in {source = None} {ends} wish h j some timed is are = sym (ap (used_before wish (time h) j 0) (no-units h is))
+played-in {source = Some source} {ends} wish h j some timed is are =
     let p = source.picture_units in
     let t : time h ≡ p = cond-false (frames h == 0) 0 (time_in (first_frame h)) (ne_eqb (frames h) 0 (λ none. absurd (omega (arith, is.some, none)))) ∙ sym is.time_is in
     ends-sum ends (sizes h) (div_ceil ((j - wish.startup) * wish.slot_units) p) are
@@ -153,9 +153,9 @@ unread wish h t cut missed =
     } in
     sym (ap step missed)
 
-slot-with : (wish : Wish) (h : History) (s : State) (t cut last : ℕ) (w : Watched) → KeepsState wish h s → last ≡ max t (last_slot h)
+slot-with : {wish : Wish} {h : History} {s : State} {t cut last : ℕ} {w : Watched} → KeepsState wish h s → last ≡ max t (last_slot h)
     → w ≡ watched_in wish (Slot t cut ∷ h) → KeepsState wish (Slot t cut ∷ h) (record s { last_slot = last; watched = w })
-slot-with wish h s t cut last w k greatest is = record {
+slot-with {h} {s} {t} {cut} {last} {w} k greatest is = record {
   last_slot_is = greatest;
   play_is = play-slot s.play h t cut k.play_is;
   source_is = source-slot s.source h t cut k.source_is;
@@ -167,14 +167,14 @@ slot-with wish h s t cut last w k greatest is = record {
   watched_is = is;
 }
 
-read-at : (wish : Wish) (h : History) (s : State) (t cut : ℕ) → KeepsState wish h s → 0 < wish.slot_units
+read-at : {wish : Wish} {h : History} {s : State} (t cut : ℕ) → KeepsState wish h s → 0 < wish.slot_units
     → ((src : Source) → s.source ≡ Some src → 0 < src.picture_units) → is_read h t ≡ true
     → (after_reading wish s (place_in h t) cut).watched ≡ watched_in wish (Slot t cut ∷ h)
-read-at wish h s t cut k some timed reads =
+read-at {wish} {h} {s} t cut k some timed reads =
     let j = place_in h t in
     let amount : (s.received + cut) - played_of wish s.source s.ends j ≡ bytes_waiting wish h t cut =
     ap (λ n. (n + cut) - played_of wish s.source s.ends j) k.received_is
-    ∙ ap (λ n. (bytes_received h + cut) - n) (played-in wish h s.source s.ends j some timed k.source_is k.ends_are) in
+    ∙ ap (λ n. (bytes_received h + cut) - n) (played-in wish h j some timed k.source_is k.ends_are) in
     let step : Watched → ℕ → Bool → Watched = λ (w : Watched) (n : ℕ) (l : Bool). record w {
       most = max w.most n;
       over = cond (nat_lt wish.buffer n) (w.over + 1) w.over;
@@ -199,13 +199,13 @@ and-end true true = refl
 and-end true false = refl
 and-end false b = refl
 
-keeps-later : (wish : Wish) (h : History) (s : State) (t cut : ℕ) (play : Option Play) → KeepsState wish h s → 0 < wish.slot_units
+keeps-later : {wish : Wish} {h : History} {s : State} {t cut : ℕ} (play : Option Play) → KeepsState wish h s → 0 < wish.slot_units
     → ((src : Source) → s.source ≡ Some src → 0 < src.picture_units) → last_slot h < t → IsPlayOf play h
     → KeepsState wish (Slot t cut ∷ h) (reading_at wish (record s { last_slot = t }) (place_of play t) cut)
-keeps-later wish h s t cut None k some timed later is =
-    slot-with wish h s t cut t s.watched k (omega (arith, later))
+keeps-later {wish} {h} {s} {t} {cut} None k some timed later is =
+    slot-with k (omega (arith, later))
     (k.watched_is ∙ unread wish h t cut (ap (λ b. b && (nat_le (start h + slot_before h) t && nat_lt (last_slot h) t)) is))
-keeps-later wish h s t cut (Some play) k some timed later is =
+keeps-later {wish} {h} {s} {t} {cut} (Some play) k some timed later is =
     let late = slot-late h in
     let P : Option ℕ → Type 0 = λ place. KeepsState wish (Slot t cut ∷ h) (reading_at wish (record s { last_slot = t }) place cut) in
     let j = (t - play.slot_before) - play.start in
@@ -214,7 +214,7 @@ keeps-later wish h s t cut (Some play) k some timed later is =
           let unmet : nat_le (start h + slot_before h) t ≡ false =
           lt-leb (start h + slot_before h) t (omega (arith, early, is.start_is, is.slot_is, late, later)) in
           subst P (sym (cond-false (nat_le play.start (t - play.slot_before)) (Some j) None (lt-leb play.start (t - play.slot_before) early)))
-          (slot-with wish h s t cut t s.watched k (omega (arith, later))
+          (slot-with k (omega (arith, later))
           (k.watched_is ∙ unread wish h t cut (ap (λ b. is_playing h && (b && nat_lt (last_slot h) t)) unmet ∙ and-middle (is_playing h) (nat_lt (last_slot h) t))))
       | inr due ↦
           let le : nat_le (start h + slot_before h) t ≡ true =
@@ -225,21 +225,21 @@ keeps-later wish h s t cut (Some play) k some timed later is =
           let place : j ≡ place_in h t = omega (arith, due, is.start_is, is.slot_is) in
           subst P (sym (cond-true (nat_le play.start (t - play.slot_before)) (Some j) None (le-leb play.start (t - play.slot_before) due)))
           (subst P (ap (λ n. Some n) (sym place))
-          (slot-with wish h s t cut t (after_reading wish s (place_in h t) cut).watched k (omega (arith, later)) (read-at wish h s t cut k some timed reads)))
+          (slot-with k (omega (arith, later)) (read-at t cut k some timed reads)))
     ]
 
-pub keeps-slot : (wish : Wish) (h : History) (s : State) (t cut : ℕ) → KeepsState wish h s → 0 < wish.slot_units
+pub keeps-slot : {wish : Wish} {h : History} {s : State} {t cut : ℕ} → KeepsState wish h s → 0 < wish.slot_units
     → ((src : Source) → s.source ≡ Some src → 0 < src.picture_units) → KeepsState wish (Slot t cut ∷ h) (after_slot wish s t cut)
-keeps-slot wish h s t cut k some timed =
+keeps-slot {wish} {h} {s} {t} {cut} k some timed =
     let P : State → Type 0 = λ x. KeepsState wish (Slot t cut ∷ h) x in
     elim (cases_lt (last_slot h) t) [
       | inl later ↦
           subst P (sym (cond-false (nat_le t s.last_slot) s (reading_at wish (record s { last_slot = t }) (place_of s.play t) cut)
           (lt-leb t s.last_slot (omega (arith, later, k.last_slot_is)))))
-          (keeps-later wish h s t cut s.play k some timed later k.play_is)
+          (keeps-later s.play k some timed later k.play_is)
       | inr old ↦
           subst P (sym (cond-true (nat_le t s.last_slot) s (reading_at wish (record s { last_slot = t }) (place_of s.play t) cut)
           (le-leb t s.last_slot (omega (arith, old, k.last_slot_is)))))
-          (slot-with wish h s t cut s.last_slot s.watched k (omega (arith, old, k.last_slot_is))
+          (slot-with k (omega (arith, old, k.last_slot_is))
           (k.watched_is ∙ unread wish h t cut (ap (λ b. is_playing h && (nat_le (start h + slot_before h) t && b)) (le-ltb (last_slot h) t old) ∙ and-end (is_playing h) (nat_le (start h + slot_before h) t))))
     ]

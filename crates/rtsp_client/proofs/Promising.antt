@@ -16,9 +16,9 @@ sum-front : (xs : List ℕ) (a b : ℕ) → a ≤ b → sum (take a xs) ≤ sum 
 sum-front xs a b few = omega (arith, sum_by-take-le (λ (x : ℕ). x) (take b xs) a, ap sum (take-take a b xs few))
 
 -- the next unit isn't used yet
-not-yet : (wish : Wish) (all : List ℕ) (p j came n : ℕ) → 0 < wish.slot_units → 0 < p → IsBetween wish all p j came
+not-yet : {wish : Wish} {all : List ℕ} {p j came : ℕ} (n : ℕ) → 0 < wish.slot_units → 0 < p → IsBetween wish all p j came
     → came < sum (take (n + 1) all) → j < use_slot wish p n
-not-yet wish all p j came n some timed between next =
+not-yet {wish} {all} {p} {j} n some timed between next =
     elim (cases_lt j (use_slot wish p n)) [
       | inl early ↦ early
       | inr due ↦
@@ -56,19 +56,19 @@ used-time wish h p j is =
           ap (used_before wish (time h) j 0) empty ∙ sym (ap (used_before wish p j 0) empty)
     ]
 
-played-is : (wish : Wish) (all : List ℕ) (p : ℕ) (h : History) (j cut : ℕ) → 0 < wish.slot_units → 0 < p → IsHeardOf all p h cut
+played-is : {wish : Wish} {all : List ℕ} {p : ℕ} {h : History} {j cut : ℕ} → 0 < wish.slot_units → 0 < p → IsHeardOf all p h cut
     → IsBetween wish all p j (bytes_received h + cut) → played_before wish h j ≡ used_before wish p j 0 all
-played-is wish all p h j cut some timed heard between =
+played-is {wish} {all} {p} {h} {j} {cut} some timed heard between =
     let n = length (sizes h) in
     used-time wish h p j heard.time_is
     ∙ (ap (used_before wish p j 0) heard.sizes_are
-    ∙ same-used wish all p j n some timed (λ fewer. omega (arith, not-yet wish all p j (bytes_received h + cut) n some timed between (heard.next fewer))))
+    ∙ same-used wish all p j n some timed (λ fewer. omega (arith, not-yet n some timed between (heard.next fewer))))
 
 -- the buffer holds what waits
-fits : (wish : Wish) (all : List ℕ) (p : ℕ) (h : History) (slot cut : ℕ) → 0 < wish.slot_units → 0 < p → IsHeardOf all p h cut
+fits : {wish : Wish} {all : List ℕ} {p : ℕ} {h : History} {cut : ℕ} (slot : ℕ) → 0 < wish.slot_units → 0 < p → IsHeardOf all p h cut
     → IsBetween wish all p (place_in h slot) (bytes_received h + cut) → bytes_waiting wish h slot cut ≤ wish.buffer
-fits wish all p h slot cut some timed heard between =
-    omega (arith, played-is wish all p h (place_in h slot) cut some timed heard between, between.up)
+fits {all} {p} {h} {cut} slot some timed heard between =
+    omega (arith, played-is some timed heard between, between.up)
 
 -- no unit lacks
 zero-times : (t : ℕ) → 0 * t ≡ 0
@@ -85,13 +85,13 @@ and-none false = refl
 pub use-first : (wish : Wish) (t : ℕ) → use_slot wish t 0 ≡ wish.startup
 use-first wish t = omega (arith, ap (λ n. n / wish.slot_units) (zero-times t), zero-over wish.slot_units)
 
-enough : (wish : Wish) (all : List ℕ) (p : ℕ) (h : History) (j cut : ℕ) → 0 < wish.slot_units → 0 < p → 0 < length all → IsHeardOf all p h cut
+enough : {wish : Wish} {all : List ℕ} {p : ℕ} {h : History} {j cut : ℕ} → 0 < wish.slot_units → 0 < p → 0 < length all → IsHeardOf all p h cut
     → IsBetween wish all p j (bytes_received h + cut) → lacks wish h j ≡ false
-enough wish all p h j cut some timed units_some heard between =
+enough {wish} {all} {p} {h} {j} {cut} some timed units_some heard between =
     let n = length (sizes h) in
     elim (cases_lt n (length all)) [
       | inl fewer ↦
-          let early : j < use_slot wish p n = not-yet wish all p j (bytes_received h + cut) n some timed between (heard.next fewer) in
+          let early : j < use_slot wish p n = not-yet n some timed between (heard.next fewer) in
           let late : j < use_slot wish (time h) n = elim (cases_lt 0 (frames h)) [
             | inl begun ↦ subst (λ t. j < use_slot wish t n) (sym (heard.time_is begun)) early
             | inr none ↦
@@ -117,21 +117,21 @@ pub record IsQuiet (wish : Wish) (h : History) : Type 0 where
   pub under_none : count_under wish h ≡ 0
   pub most_fits : most wish h ≤ wish.buffer
 
-read-quiet : (r : Bool) (wish : Wish) (all : List ℕ) (p : ℕ) (h : History) (slot cut : ℕ) → 0 < wish.slot_units → 0 < p → 0 < length all
+read-quiet : {r : Bool} {wish : Wish} {all : List ℕ} {p : ℕ} {h : History} {slot cut : ℕ} → 0 < wish.slot_units → 0 < p → 0 < length all
     → IsQuiet wish h → is_read h slot ≡ r
     → (is_read h slot ≡ true → IsHeardOf all p h cut × IsBetween wish all p (place_in h slot) (bytes_received h + cut))
     → IsQuiet wish (Slot slot cut ∷ h)
-read-quiet false wish all p h slot cut some timed units_some quiet is met = record {
+read-quiet {r = false} {wish} {all} {p} {h} {slot} {cut} some timed units_some quiet is met = record {
   over_none = ap (λ r. cond (r && nat_lt wish.buffer (bytes_waiting wish h slot cut)) (count_over wish h + 1) (count_over wish h)) is ∙ quiet.over_none;
   under_none = ap (λ r. cond (r && lacks wish h (place_in h slot)) (count_under wish h + 1) (count_under wish h)) is ∙ quiet.under_none;
   most_fits = omega (arith, ap (λ r. cond r (max (most wish h) (bytes_waiting wish h slot cut)) (most wish h)) is, quiet.most_fits);
 }
-read-quiet true wish all p h slot cut some timed units_some quiet is met =
+read-quiet {r = true} {wish} {all} {p} {h} {slot} {cut} some timed units_some quiet is met =
     let now = met is in
-    let holds : bytes_waiting wish h slot cut ≤ wish.buffer = fits wish all p h slot cut some timed now.0 now.1 in
+    let holds : bytes_waiting wish h slot cut ≤ wish.buffer = fits slot some timed now.0 now.1 in
     let not_over : nat_lt wish.buffer (bytes_waiting wish h slot cut) ≡ false = le-ltb wish.buffer (bytes_waiting wish h slot cut) holds in
     let not_under : lacks wish h (place_in h slot) ≡ false =
-    enough wish all p h (place_in h slot) cut some timed units_some now.0 now.1 in
+    enough some timed units_some now.0 now.1 in
     record {
       over_none = ap (λ r. cond (r && nat_lt wish.buffer (bytes_waiting wish h slot cut)) (count_over wish h + 1) (count_over wish h)) is
           ∙ (ap (λ b. cond (true && b) (count_over wish h + 1) (count_over wish h)) not_over ∙ quiet.over_none);
@@ -153,4 +153,4 @@ quiet-always wish all p (Report b ∷ h) some timed units_some met =
     let q = quiet-always wish all p h some timed units_some met in
     record { over_none = q.over_none; under_none = q.under_none; most_fits = q.most_fits }
 quiet-always wish all p (Slot slot cut ∷ h) some timed units_some met =
-    read-quiet (is_read h slot) wish all p h slot cut some timed units_some (quiet-always wish all p h some timed units_some met.0) refl met.1
+    read-quiet some timed units_some (quiet-always wish all p h some timed units_some met.0) refl met.1

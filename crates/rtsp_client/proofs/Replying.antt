@@ -26,14 +26,14 @@ awaited-is : (wish : Wish) (h : History) (c : Client) → Keeps wish h c → (na
 awaited-is wish h c k =
     ap (λ n. nat_lt n 2 || has_all c.watching) k.replies_are ∙ ap (λ b. nat_lt (replies h) 2 || b) (complete-is wish h c.watching k.state)
 
-orderly : (wish : Wish) (h : History) (c : Client) (m : List ℕ) (code : ℕ) → Keeps wish h c → IsAwaited c m code → IsOrderly h m code
-orderly wish h c m code k is = record {
+orderly : {wish : Wish} {h : History} {c : Client} {m : List ℕ} {code : ℕ} → Keeps wish h c → IsAwaited c m code → IsOrderly h m code
+orderly {wish} {h} {c} {m} {code} k is = record {
   awaited = sym (awaited-is wish h c k) ∙ is.awaited;
   answer = subst (λ n. IsAnswer m (n + 1) code) k.replies_are is.answer;
 }
 
-awaited-from : (wish : Wish) (h : History) (c : Client) (m : List ℕ) (code : ℕ) → Keeps wish h c → IsOrderly h m code → IsAwaited c m code
-awaited-from wish h c m code k is = record {
+awaited-from : {wish : Wish} {h : History} {c : Client} {m : List ℕ} {code : ℕ} → Keeps wish h c → IsOrderly h m code → IsAwaited c m code
+awaited-from {wish} {h} {c} {m} {code} k is = record {
   awaited = awaited-is wish h c k ∙ is.awaited;
   answer = subst (λ n. IsAnswer m (n + 1) code) (sym k.replies_are) is.answer;
 }
@@ -43,17 +43,17 @@ pub gives : (wish : Wish) (h : History) (m : Moment) (end : WatchEnd) (s : Sight
 gives wish h m end s is = record { sent = []; out = []; comes = inl (is, refl, refl); sight_is = sight-none s }
 
 -- the reply isn't awaited, or isn't as it should be
-pub bad-reply : (wish : Wish) (h : History) (c : Client) (m : List ℕ) (end : WatchEnd) (s : Sight) → Keeps wish h c
+pub bad-reply : {wish : Wish} {h : History} {c : Client} {m : List ℕ} {end : WatchEnd} {s : Sight} → Keeps wish h c
     → ((code : ℕ) → ¬ IsAwaited c m code) → end ≡ Fault (BadReply (c.replies + 1)) → HasEndedAt wish h (Reply m) end s s
-bad-reply wish h c m end s k none is =
+bad-reply {wish} {h} {c} {m} {end} {s} k none is =
     gives wish h (Reply m) end s
-    (inl (inl (λ code o. none code (awaited-from wish h c m code k o)), is ∙ ap (λ n. Fault (BadReply (n + 1))) k.replies_are))
+    (inl (inl (λ code o. none code (awaited-from k o)), is ∙ ap (λ n. Fault (BadReply (n + 1))) k.replies_are))
 
 -- another code than 200
-pub refused-reply : (wish : Wish) (h : History) (c : Client) (m : List ℕ) (code : ℕ) (end : WatchEnd) (s : Sight) → Keeps wish h c
+pub refused-reply : {wish : Wish} {h : History} {c : Client} {m : List ℕ} {code : ℕ} {end : WatchEnd} {s : Sight} → Keeps wish h c
     → IsAwaited c m code → code ≢ 200 → end ≡ Fault (Refused code) → HasEndedAt wish h (Reply m) end s s
-refused-reply wish h c m code end s k is other end_is =
-    gives wish h (Reply m) end s (inr (inl (code, ((orderly wish h c m code k is, other), end_is))))
+refused-reply {wish} {h} {c} {m} {code} {end} {s} k is other end_is =
+    gives wish h (Reply m) end s (inr (inl (code, ((orderly k is, other), end_is))))
 
 fields-first : (h : History) (m : List ℕ) → replies h ≡ 0 → has_fields h m ≡ is_some (session_in m)
 fields-first h m none = cond-true (replies h == 0) _ _ (eq-eqb (replies h) 0 none)
@@ -70,37 +70,38 @@ fields-third h m two =
 
 -- ---- the reply to SETUP
 
-pub setup-lacks : (wish : Wish) (h : History) (c : Client) (m : List ℕ) (end : WatchEnd) (s : Sight) → Keeps wish h c → c.replies ≡ 0
+pub setup-lacks : {wish : Wish} {h : History} {c : Client} {m : List ℕ} {end : WatchEnd} {s : Sight} → Keeps wish h c → c.replies ≡ 0
     → IsAwaited c m 200 → session_in m ≡ None → end ≡ Fault (BadReply 1) → HasEndedAt wish h (Reply m) end s s
-setup-lacks wish h c m end s k first is none end_is =
+setup-lacks {wish} {h} {c} {m} {end} {s} k first is none end_is =
     let zero_ : replies h ≡ 0 = sym k.replies_are ∙ first in
     gives wish h (Reply m) end s
-    (inl (inr (orderly wish h c m 200 k is, fields-first h m zero_ ∙ ap is_some none), end_is ∙ ap (λ n. Fault (BadReply (n + 1))) (sym zero_)))
+    (inl (inr (orderly k is, fields-first h m zero_ ∙ ap is_some none), end_is ∙ ap (λ n. Fault (BadReply (n + 1))) (sym zero_)))
 
-setup-good : (wish : Wish) (h : History) (c : Client) (m id : List ℕ) → Keeps wish h c → c.replies ≡ 0 → IsAwaited c m 200
+setup-good : {wish : Wish} {h : History} {c : Client} {m id : List ℕ} → Keeps wish h c → c.replies ≡ 0 → IsAwaited c m 200
     → session_in m ≡ Some id → GoesOn h (Reply m)
-setup-good wish h c m id k first is some =
+setup-good {h} {c} {m} {id} k first is some =
     let zero_ : replies h ≡ 0 = sym k.replies_are ∙ first in
-    ((orderly wish h c m 200 k is, fields-first h m zero_ ∙ ap is_some some), omega (arith, zero_))
+    ((orderly k is, fields-first h m zero_ ∙ ap is_some some), omega (arith, zero_))
 
 setup-request : (wish : Wish) (h : History) (m id : List ℕ) → replies h ≡ 0 → session_in m ≡ Some id
     → request_after wish h (Reply m) ≡ play_text wish id
 setup-request wish h m id none some =
     cond-true (replies h == 0) _ _ (eq-eqb (replies h) 0 none) ∙ ap (λ o. play_text wish (unwrap_or o [])) some
 
-pub setup-starved : (wish : Wish) (h : History) (c : Client) (m id : List ℕ) (end : WatchEnd) (s : Sight) → Keeps wish h c → c.replies ≡ 0
+pub setup-starved : {wish : Wish} {h : History} {c : Client} {m id : List ℕ} {end : WatchEnd} {s : Sight} → Keeps wish h c → c.replies ≡ 0
     → IsAwaited c m 200 → session_in m ≡ Some id → end ≡ NoMemory → HasEndedAt wish h (Reply m) end s s
-setup-starved wish h c m id end s k first is some end_is = record {
+setup-starved {wish} {h} {c} {m} {id} {end} {s} k first is some end_is = record {
   sent = [];
   out = [];
-  comes = inr (setup-good wish h c m id k first is some, subst (λ e. Fails wish h (Reply m) e [] []) (sym end_is) (refl, no-front []));
+  comes = inr (setup-good k first is some, subst (λ e. Fails wish h (Reply m) e [] []) (sym end_is) (refl, no-front []));
   sight_is = sight-none s;
 }
 
-pub setup-cut : (wish : Wish) (h : History) (c : Client) (m id : List ℕ) (end : WatchEnd) (told new : Option (List Doing)) (out : Option (List ℕ))
+pub setup-cut : {wish : Wish} {h : History} {c : Client} {m id : List ℕ} {end : WatchEnd}
+    {told new : Option (List Doing)} (out : Option (List ℕ))
     → Keeps wish h c → c.replies ≡ 0 → IsAwaited c m 200 → session_in m ≡ Some id → end ≡ LinkFault
     → IsFrontTold told new (play_text wish id) → HasEndedAt wish h (Reply m) end (sight told out) (sight new out)
-setup-cut wish h c m id end told new out k first is some end_is front =
+setup-cut {wish} {h} {c} {m} {id} {end} {told} {new} out k first is some end_is front =
     let zero_ : replies h ≡ 0 = sym k.replies_are ∙ first in
     let asked = setup-request wish h m id zero_ some in
     let F : List ℕ → Type 0 = λ text. IsFront (take front.0 (play_text wish id)) text in
@@ -108,7 +109,7 @@ setup-cut wish h c m id end told new out k first is some end_is front =
       sent = take front.0 (play_text wish id);
       out = [];
       comes = inr (
-        setup-good wish h c m id k first is some,
+        setup-good k first is some,
         subst (λ e. Fails wish h (Reply m) e (take front.0 (play_text wish id)) []) (sym end_is)
             (subst F (sym asked) (front.0, (front.1.0, refl)), refl),
       );
@@ -116,9 +117,9 @@ setup-cut wish h c m id end told new out k first is some end_is front =
     }
 
 -- one moment was taken up
-pub passed-one : (wish : Wish) (h : History) (m : Moment) (new : Client) (old_sight new_sight : Sight) → GoesOn h m → Keeps wish (m ∷ h) new
+pub passed-one : {wish : Wish} {h : History} {m : Moment} {new : Client} {old_sight new_sight : Sight} → GoesOn h m → Keeps wish (m ∷ h) new
     → new_sight ≡ sight_more old_sight (request_after wish h m) (payload_of m) → HasPassed wish h (m ∷ []) new old_sight new_sight
-passed-one wish h m new old_sight new_sight good keeps is = record {
+passed-one {wish} {h} {m} {new} {old_sight} good keeps is = record {
   good = (good, tt);
   keeps = keeps;
   sight_is = is
@@ -126,14 +127,15 @@ passed-one wish h m new old_sight new_sight good keeps is = record {
       ∙ ap (λ x. sight_more old_sight (request_after wish h m ++ []) x) (sym (append-nil (payload_of m))));
 }
 
-pub setup-done : (wish : Wish) (h : History) (c new : Client) (m id : List ℕ) (told new_told : Option (List Doing)) (out : Option (List ℕ))
+pub setup-done : {wish : Wish} {h : History} {c new : Client} {m id : List ℕ} {new_told : Option (List Doing)}
+    (told : Option (List Doing)) (out : Option (List ℕ))
     → Keeps wish h c → c.replies ≡ 0 → IsAwaited c m 200 → session_in m ≡ Some id → new.replies ≡ 1 → new.session.items ≡ id
     → new.watching ≡ c.watching → new_told ≡ told_more told (sends (play_text wish id))
     → HasPassed wish h (Reply m ∷ []) new (sight told out) (sight new_told out)
-setup-done wish h c new m id told new_told out k first is some one its same sent =
+setup-done {wish} {h} {c} {new} {m} {id} {new_told} told out k first is some one its same sent =
     let zero_ : replies h ≡ 0 = sym k.replies_are ∙ first in
     let P : List ℕ → Type 0 = λ text. new_told ≡ told_more told (sends text) in
-    passed-one wish h (Reply m) new (sight told out) (sight new_told out) (setup-good wish h c m id k first is some)
+    passed-one (setup-good k first is some)
     (record {
       replies_are = one ∙ ap (λ n. n + 1) (sym zero_);
       session_is = its ∙ sym (cond-true (replies h == 0) _ _ (eq-eqb (replies h) 0 zero_) ∙ ap (λ o. unwrap_or o []) some);
@@ -143,36 +145,36 @@ setup-done wish h c new m id told new_told out k first is some one its same sent
 
 -- ---- the reply to PLAY
 
-pub play-lacks : (wish : Wish) (h : History) (c : Client) (m : List ℕ) (end : WatchEnd) (s : Sight) → Keeps wish h c → c.replies ≡ 1
+pub play-lacks : {wish : Wish} {h : History} {c : Client} {m : List ℕ} {end : WatchEnd} {s : Sight} → Keeps wish h c → c.replies ≡ 1
     → IsAwaited c m 200 → (is_some (play_range m) && is_some (play_start m)) ≡ false → end ≡ Fault (BadReply 2) → HasEndedAt wish h (Reply m) end s s
-play-lacks wish h c m end s k second is none end_is =
+play-lacks {wish} {h} {c} {m} {end} {s} k second is none end_is =
     let one : replies h ≡ 1 = sym k.replies_are ∙ second in
     gives wish h (Reply m) end s
-    (inl (inr (orderly wish h c m 200 k is, fields-second h m one ∙ none), end_is ∙ ap (λ n. Fault (BadReply (n + 1))) (sym one)))
+    (inl (inr (orderly k is, fields-second h m one ∙ none), end_is ∙ ap (λ n. Fault (BadReply (n + 1))) (sym one)))
 
-pub play-done : (wish : Wish) (h : History) (c new : Client) (m : List ℕ) (begin ms : ℕ) (s : Sight) → Keeps wish h c → c.replies ≡ 1
+pub play-done : {wish : Wish} {h : History} {c new : Client} {m : List ℕ} {begin ms : ℕ} {s : Sight} → Keeps wish h c → c.replies ≡ 1
     → IsAwaited c m 200 → play_start m ≡ Some begin → play_range m ≡ Some ms → new.replies ≡ 2 → new.session.items ≡ c.session.items
     → new.watching ≡ after_play c.watching begin ms → HasPassed wish h (Reply m ∷ []) new s s
-play-done wish h c new m begin ms s k second is starts ends two same state =
+play-done {wish} {h} {c} {new} {m} {s} k second is starts ends two same state =
     let one : replies h ≡ 1 = sym k.replies_are ∙ second in
     let later : (replies h == 0) ≡ false = ne_eqb (replies h) 0 (λ none. absurd (omega (arith, none, one))) in
-    passed-one wish h (Reply m) new s s
-    ((orderly wish h c m 200 k is, fields-second h m one ∙ (ap (λ o. is_some o && is_some (play_start m)) ends ∙ ap is_some starts)), omega (arith, one))
+    passed-one
+    ((orderly k is, fields-second h m one ∙ (ap (λ o. is_some o && is_some (play_start m)) ends ∙ ap is_some starts)), omega (arith, one))
     (record {
       replies_are = two ∙ ap (λ n. n + 1) (sym one);
       session_is = same ∙ (k.session_is ∙ sym (cond-false (replies h == 0) (unwrap_or (session_in m) []) (session h) later));
-      state = subst (λ w. KeepsState wish (Reply m ∷ h) w) (sym state) (keeps-play wish h c.watching m begin ms k.state one starts ends);
+      state = subst (λ w. KeepsState wish (Reply m ∷ h) w) (sym state) (keeps-play k.state one starts ends);
     })
     (sight-none s ∙ ap (λ a. sight_more s a []) (sym (cond-false (replies h == 0) (play_text wish (unwrap_or (session_in m) [])) [] later)))
 
 -- ---- the reply to TEARDOWN
 
-pub watch-done : (wish : Wish) (h : History) (c : Client) (m : List ℕ) (end : WatchEnd) (s : Sight) → Keeps wish h c → c.replies ≡ 2
+pub watch-done : {wish : Wish} {h : History} {c : Client} {m : List ℕ} {end : WatchEnd} {s : Sight} → Keeps wish h c → c.replies ≡ 2
     → IsAwaited c m 200 → end ≡ Done c.watching.watched → HasEndedAt wish h (Reply m) end s s
-watch-done wish h c m end s k third is end_is =
+watch-done {wish} {h} {c} {m} {end} {s} k third is end_is =
     let two : replies h ≡ 2 = sym k.replies_are ∙ third in
     gives wish h (Reply m) end s
-    (inr (inr ((orderly wish h c m 200 k is, fields-third h m two), two, end_is ∙ ap (λ (w : Watched). Done w) k.state.watched_is)))
+    (inr (inr ((orderly k is, fields-third h m two), two, end_is ∙ ap (λ (w : Watched). Done w) k.state.watched_is)))
 
 pub awaited-of : (o : Option ℕ) (c : Client) (m : List ℕ) → (nat_lt c.replies 2 || has_all c.watching) ≡ true
     → MatchOption o ((code : ℕ) → ¬ IsAnswer m (c.replies + 1) code) (IsAnswer m (c.replies + 1))

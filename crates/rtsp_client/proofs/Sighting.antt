@@ -44,9 +44,10 @@ pub sight-handed : (told : Option (List Doing)) (out new : Option (List ℕ)) (x
 sight-handed told out new x is = ap (λ o. sight told o) is ∙ ap (λ t. sight t (more out x)) (sym (told-none told))
 
 -- both
-pub sight-both : (told new : Option (List Doing)) (out new_out : Option (List ℕ)) (a x : List ℕ) → new ≡ told_more told (sends a)
+pub sight-both : {new : Option (List Doing)} {new_out : Option (List ℕ)} (told : Option (List Doing))
+    (out : Option (List ℕ)) (a x : List ℕ) → new ≡ told_more told (sends a)
     → new_out ≡ more out x → sight new new_out ≡ sight_more (sight told out) a x
-sight-both told new out new_out a x is handed = ap (λ t. sight t new_out) is ∙ ap (λ o. sight (told_more told (sends a)) o) handed
+sight-both {new} {new_out} told out a x is handed = ap (λ t. sight t new_out) is ∙ ap (λ o. sight (told_more told (sends a)) o) handed
 
 -- fronts
 pub no-front : (bytes : List ℕ) → IsFront [] bytes

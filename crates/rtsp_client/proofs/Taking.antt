@@ -79,9 +79,9 @@ ends-none (b ∷ bytes) all =
 
 -- ---- pieces were taken up
 
-pub passed-none : (wish : Wish) (h : History) (c new : Client) (s : Sight) → Keeps wish h c → new.replies ≡ c.replies
+pub passed-none : {wish : Wish} {h : History} {c new : Client} {s : Sight} → Keeps wish h c → new.replies ≡ c.replies
     → new.session.items ≡ c.session.items → new.watching ≡ c.watching → HasPassed wish h [] new s s
-passed-none wish h c new s k replies_same session_same state_same = record {
+passed-none {wish} {h} {c} {new} {s} k replies_same session_same state_same = record {
   good = tt;
   keeps = record {
     replies_are = replies_same ∙ k.replies_are;
@@ -91,9 +91,9 @@ passed-none wish h c new s k replies_same session_same state_same = record {
   sight_is = sight-none s;
 }
 
-passed-on : (wish : Wish) (h : History) (a b : List Moment) (mid new : Client) (s t u : Sight) → HasPassed wish h a mid s t
+passed-on : {wish : Wish} {h : History} {a b : List Moment} {mid new : Client} {s t u : Sight} → HasPassed wish h a mid s t
     → HasPassed wish (after h a) b new t u → HasPassed wish h (a ++ b) new s u
-passed-on wish h a b mid new s t u first second = record {
+passed-on {wish} {h} {a} {b} {new} {s} first second = record {
   good = good-on h a b first.good second.good;
   keeps = subst (λ x. Keeps wish x new) (sym (after-on h a b)) second.keeps;
   sight_is = second.sight_is
@@ -104,9 +104,9 @@ passed-on wish h a b mid new s t u first second = record {
 }
 
 -- the client with another input
-moved : (wish : Wish) (h : History) (moments : List Moment) (c new : Client) (s t : Sight) → HasPassed wish h moments c s t
+moved : {wish : Wish} {h : History} {moments : List Moment} {c new : Client} {s t : Sight} → HasPassed wish h moments c s t
     → new.replies ≡ c.replies → new.session.items ≡ c.session.items → new.watching ≡ c.watching → HasPassed wish h moments new s t
-moved wish h moments c new s t p replies_same session_same state_same = record {
+moved {wish} {h} {moments} {c} {new} {s} p replies_same session_same state_same = record {
   good = p.good;
   keeps = record {
     replies_are = replies_same ∙ p.keeps.replies_are;
@@ -117,42 +117,43 @@ moved wish h moments c new s t p replies_same session_same state_same = record {
 }
 
 -- the piece in front, of so many bytes, was taken up and dropped
-taken-piece : (wish : Wish) (h : History) (rest : List ℕ) (n : ℕ) (moments : List Moment) (c new : Client) (s t : Sight)
+taken-piece : {wish : Wish} {h : History} {rest : List ℕ} {n : ℕ} {moments : List Moment} {c new : Client}
+    {s t : Sight}
     → IsPieceLength rest n → moments_of (take n rest) ≡ moments → HasPassed wish h moments c s t
     → new.replies ≡ c.replies → new.session.items ≡ c.session.items → new.watching ≡ c.watching → new.input ≡ drop n rest
     → HasTaken wish h rest new s t
-taken-piece wish h rest n moments c new s t piece are passed replies_same session_same state_same dropped = record {
+taken-piece {wish} {h} {rest} {n} {c} {new} {s} {t} piece are passed replies_same session_same state_same dropped = record {
   pieces = take n rest ∷ [];
   cut = (n, (piece, refl, sym dropped));
   passed = subst (λ ms. HasPassed wish h ms new s t) (sym (append-nil (moments_of (take n rest)) ∙ are))
-      (moved wish h moments c new s t passed replies_same session_same state_same);
+      (moved passed replies_same session_same state_same);
 }
 
-pub taken-block : (wish : Wish) (h : History) (rest : List ℕ) (channel n : ℕ) (c new : Client) (s t : Sight)
+pub taken-block : {wish : Wish} {h : History} {rest : List ℕ} {channel n : ℕ} {c new : Client} {s t : Sight}
     → IsFirst rest (Ok (Block channel n)) → HasPassed wish h (block_moments channel (take n rest)) c s t
     → new.replies ≡ c.replies → new.session.items ≡ c.session.items → new.watching ≡ c.watching → new.input ≡ drop n rest
     → HasTaken wish h rest new s t
-taken-block wish h rest channel n c new s t first passed replies_same session_same state_same dropped =
-    taken-piece wish h rest n (block_moments channel (take n rest)) c new s t (WholeBlock first.0 first.1 first.3 first.4)
+taken-block {h} {rest} {n} {c} {new} {s} first passed replies_same session_same state_same dropped =
+    taken-piece (WholeBlock first.0 first.1 first.3 first.4)
     (block-of rest n (omega (arith, first.3)) first.0.1 ∙ ap (λ k. block_moments k (take n rest)) (sym first.2))
     passed replies_same session_same state_same dropped
 
 request-some : (rest : List ℕ) (n : ℕ) → IsFirst rest (Ok (Request n)) → 0 < n
 request-some rest n first = omega (arith, first.1.is_head.some, first.1.total_is)
 
-pub taken-reply : (wish : Wish) (h : History) (rest : List ℕ) (n : ℕ) (c new : Client) (s t : Sight)
+pub taken-reply : {wish : Wish} {h : History} {rest : List ℕ} {n : ℕ} {c new : Client} {s t : Sight}
     → IsFirst rest (Ok (Request n)) → HasPassed wish h (Reply (take n rest) ∷ []) c s t
     → new.replies ≡ c.replies → new.session.items ≡ c.session.items → new.watching ≡ c.watching → new.input ≡ drop n rest
     → HasTaken wish h rest new s t
-taken-reply wish h rest n c new s t first passed replies_same session_same state_same dropped =
-    taken-piece wish h rest n (Reply (take n rest) ∷ []) c new s t (WholeRequest first.0 first.1 first.2)
+taken-reply {h} {rest} {n} {c} {new} {s} first passed replies_same session_same state_same dropped =
+    taken-piece (WholeRequest first.0 first.1 first.2)
     (reply-of rest n (request-some rest n first) first.0.1 first.0.2) passed replies_same session_same state_same dropped
 
-pub taken-ends : (wish : Wish) (h : History) (rest : List ℕ) (n : ℕ) (c new : Client) (s : Sight)
+pub taken-ends : {wish : Wish} {h : History} {rest : List ℕ} {n : ℕ} {c new : Client} {s : Sight}
     → IsFirst rest (Ok (Skip n)) → Keeps wish h c
     → new.replies ≡ c.replies → new.session.items ≡ c.session.items → new.watching ≡ c.watching → new.input ≡ drop n rest
     → HasTaken wish h rest new s s
-taken-ends wish h rest n c new s first k replies_same session_same state_same dropped =
+taken-ends {wish} {h} {rest} {n} {c} {new} {s} first k replies_same session_same state_same dropped =
     let ends : AreLineEnds rest n = first.1 in
     let long : length (take n rest) ≡ n = length-take-le n rest ends.within in
     let none : moments_in (map (λ c. c ∷ []) (take n rest)) ≡ [] =
@@ -162,33 +163,33 @@ taken-ends wish h rest n c new s first k replies_same session_same state_same dr
     record {
       pieces = map (λ c. c ∷ []) (take n rest);
       cut = subst (λ r. AreCut rest (map (λ c. c ∷ []) (take n rest)) r) (sym dropped) (next_pieces rest (Ok (Skip n)) first rest [] refl);
-      passed = subst (λ ms. HasPassed wish h ms new s s) (sym none) (passed-none wish h c new s k replies_same session_same state_same);
+      passed = subst (λ ms. HasPassed wish h ms new s s) (sym none) (passed-none k replies_same session_same state_same);
     }
 
-pub taken-none : (wish : Wish) (h : History) (c new : Client) (s : Sight) → Keeps wish h c → new.replies ≡ c.replies
+pub taken-none : {wish : Wish} {h : History} {c new : Client} {s : Sight} → Keeps wish h c → new.replies ≡ c.replies
     → new.session.items ≡ c.session.items → new.watching ≡ c.watching → new.input ≡ c.input → HasTaken wish h c.input new s s
-taken-none wish h c new s k replies_same session_same state_same input_same = record {
+taken-none {h} {c} {new} {s} k replies_same session_same state_same input_same = record {
   pieces = [];
   cut = sym input_same;
-  passed = passed-none wish h c new s k replies_same session_same state_same;
+  passed = passed-none k replies_same session_same state_same;
 }
 
-pub taken-on : (wish : Wish) (h : History) (rest : List ℕ) (mid new : Client) (s t u : Sight) → HasTaken wish h rest mid s t
+pub taken-on : {wish : Wish} {h : History} {rest : List ℕ} {mid new : Client} {s t u : Sight} → HasTaken wish h rest mid s t
     → ((g : History) → Keeps wish g mid → HasTaken wish g mid.input new t u) → HasTaken wish h rest new s u
-taken-on wish h rest mid new s t u first next =
+taken-on {wish} {h} {rest} {mid} {new} {s} {u} first next =
     let second = next (after h (moments_in first.pieces)) first.passed.keeps in
     record {
       pieces = first.pieces ++ second.pieces;
       cut = cut-on rest mid.input new.input first.pieces second.pieces first.cut second.cut;
       passed = subst (λ ms. HasPassed wish h ms new s u) (sym (moments-on first.pieces second.pieces))
-          (passed-on wish h (moments_in first.pieces) (moments_in second.pieces) mid new s t u first.passed second.passed);
+          (passed-on first.passed second.passed);
     }
 
 -- ---- nothing more was taken up
 
-stops-now : (wish : Wish) (h : History) (rest : List ℕ) (end : WatchEnd) (sent out : List ℕ) (s t : Sight)
+stops-now : {wish : Wish} {h : History} {rest : List ℕ} {end : WatchEnd} {sent out : List ℕ} {s t : Sight}
     → Stops wish (stage h rest) end sent out → t ≡ sight_more s sent out → HasStopped wish h rest end s t
-stops-now wish h rest end sent out s t stops is = record {
+stops-now {h} {rest} {end} {sent} {out} {s} stops is = record {
   sent = sent;
   out = out;
   stops = record {
@@ -205,31 +206,31 @@ stops-now wish h rest end sent out s t stops is = record {
   sight_is = is;
 }
 
-stops-at : (wish : Wish) (h : History) (rest : List ℕ) (n : ℕ) (moment : Moment) (end : WatchEnd) (s t : Sight)
+stops-at : {wish : Wish} {h : History} {rest : List ℕ} {n : ℕ} {moment : Moment} {end : WatchEnd} {s t : Sight}
     → IsPieceLength rest n → moments_of (take n rest) ≡ moment ∷ [] → HasEndedAt wish h moment end s t → HasStopped wish h rest end s t
-stops-at wish h rest n moment end s t piece is ended =
-    stops-now wish h rest end ended.sent ended.out s t (inr (moment, ((n, (piece, is)), ended.comes))) ended.sight_is
+stops-at {h} {n} {moment} {end} {s} piece is ended =
+    stops-now (inr (moment, ((n, (piece, is)), ended.comes))) ended.sight_is
 
-pub stopped-framing : (wish : Wish) (h : History) (rest : List ℕ) (fault : DemuxFault) (end : WatchEnd) (s : Sight)
+pub stopped-framing : {wish : Wish} {h : History} {rest : List ℕ} {end : WatchEnd} {s : Sight} (fault : DemuxFault)
     → IsFirst rest (Err fault) → end ≡ Fault Framing → HasStopped wish h rest end s s
-stopped-framing wish h rest fault end s first is =
-    stops-now wish h rest end [] [] s s (inl (is, (fault, first), refl, refl)) (sight-none s)
+stopped-framing {h} {end} {s} fault first is =
+    stops-now (inl (is, (fault, first), refl, refl)) (sight-none s)
 
-pub stopped-block : (wish : Wish) (h : History) (rest : List ℕ) (channel n : ℕ) (end : WatchEnd) (s t : Sight)
+pub stopped-block : {wish : Wish} {h : History} {rest : List ℕ} {channel n : ℕ} {end : WatchEnd} {s t : Sight}
     → IsFirst rest (Ok (Block channel n)) → (channel ≡ 0) × HasEndedAt wish h (Frame (take n rest)) end s t → HasStopped wish h rest end s t
-stopped-block wish h rest channel n end s t first ended =
-    stops-at wish h rest n (Frame (take n rest)) end s t (WholeBlock first.0 first.1 first.3 first.4)
+stopped-block {h} {rest} {n} {end} {s} first ended =
+    stops-at (WholeBlock first.0 first.1 first.3 first.4)
     (block-of rest n (omega (arith, first.3)) first.0.1 ∙ ap (λ k. block_moments k (take n rest)) (sym first.2 ∙ ended.0)) ended.1
 
-pub stopped-reply : (wish : Wish) (h : History) (rest : List ℕ) (n : ℕ) (end : WatchEnd) (s t : Sight)
+pub stopped-reply : {wish : Wish} {h : History} {rest : List ℕ} {n : ℕ} {end : WatchEnd} {s t : Sight}
     → IsFirst rest (Ok (Request n)) → HasEndedAt wish h (Reply (take n rest)) end s t → HasStopped wish h rest end s t
-stopped-reply wish h rest n end s t first ended =
-    stops-at wish h rest n (Reply (take n rest)) end s t (WholeRequest first.0 first.1 first.2)
+stopped-reply {h} {rest} {n} {end} {s} first ended =
+    stops-at (WholeRequest first.0 first.1 first.2)
     (reply-of rest n (request-some rest n first) first.0.1 first.0.2) ended
 
-pub stopped-on : (wish : Wish) (h : History) (rest : List ℕ) (mid : Client) (end : WatchEnd) (s t u : Sight) → HasTaken wish h rest mid s t
+pub stopped-on : {wish : Wish} {h : History} {rest : List ℕ} {mid : Client} {end : WatchEnd} {s t u : Sight} → HasTaken wish h rest mid s t
     → ((g : History) → Keeps wish g mid → HasStopped wish g mid.input end t u) → HasStopped wish h rest end s u
-stopped-on wish h rest mid end s t u first next =
+stopped-on {wish} {h} {rest} {mid} {end} {s} first next =
     let g = after h (moments_in first.pieces) in
     let second = next g first.passed.keeps in
     let st = second.stops in
@@ -265,9 +266,9 @@ stopped-on wish h rest mid end s t u first next =
     }
 
 -- the same client, with another input
-pub keeps-moved : (wish : Wish) (h : History) (c new : Client) → Keeps wish h c → new.replies ≡ c.replies
+pub keeps-moved : {wish : Wish} {h : History} {c new : Client} → Keeps wish h c → new.replies ≡ c.replies
     → new.session.items ≡ c.session.items → new.watching ≡ c.watching → Keeps wish h new
-keeps-moved wish h c new k replies_same session_same state_same = record {
+keeps-moved {wish} {h} {c} {new} k replies_same session_same state_same = record {
   replies_are = replies_same ∙ k.replies_are;
   session_is = session_same ∙ k.session_is;
   state = subst (λ w. KeepsState wish h w) (sym state_same) k.state;

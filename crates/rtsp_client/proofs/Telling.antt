@@ -39,9 +39,9 @@ used-most wish p j xs some timed =
     omega (arith, used-sum wish p j 0 xs some timed, sum_by-take-le (λ (x : ℕ). x) xs (c - 0))
 
 -- where none lacks, the next unit isn't used yet
-next-early : (wish : Wish) (all : List ℕ) (p : ℕ) (h : History) (j cut : ℕ) → IsHeardOf all p h cut → lacks wish h j ≡ false
+next-early : {all : List ℕ} {p : ℕ} {h : History} {cut : ℕ} (wish : Wish) (j : ℕ) → IsHeardOf all p h cut → lacks wish h j ≡ false
     → length (sizes h) < length all → j < use_slot wish p (length (sizes h))
-next-early wish all p h j cut heard enough fewer =
+next-early {all} {p} {h} {cut} wish j heard enough fewer =
     let n = length (sizes h) in
     elim (cases_Bool (is_complete h)) [
       | inl complete ↦
@@ -62,13 +62,13 @@ next-early wish all p h j cut heard enough fewer =
           ]
     ]
 
-between : (wish : Wish) (all : List ℕ) (p : ℕ) (h : History) (slot cut : ℕ) → 0 < wish.slot_units → 0 < p → IsHeardOf all p h cut
+between : {wish : Wish} {all : List ℕ} {p : ℕ} {h : History} {cut : ℕ} (slot : ℕ) → 0 < wish.slot_units → 0 < p → IsHeardOf all p h cut
     → nat_lt wish.buffer (bytes_waiting wish h slot cut) ≡ false → lacks wish h (place_in h slot) ≡ false
     → IsBetween wish all p (place_in h slot) (bytes_received h + cut)
-between wish all p h slot cut some timed heard not_over not_under =
+between {wish} {all} {p} {h} {cut} slot some timed heard not_over not_under =
     let n = length (sizes h) in
     let j = place_in h slot in
-    let early : n < length all → j < use_slot wish p n = next-early wish all p h j cut heard not_under in
+    let early : n < length all → j < use_slot wish p n = next-early wish j heard not_under in
     let by_end : used_before wish p (j + 1) 0 (take n all) ≡ used_before wish p (j + 1) 0 all =
     same-used wish all p (j + 1) n some timed (λ fewer. omega (arith, early fewer)) in
     let before : used_before wish p j 0 (take n all) ≡ used_before wish p j 0 all =
@@ -89,19 +89,19 @@ no-count false n none = (refl, none)
 tested : (a b : Bool) → a ≡ true → (a && b) ≡ false → b ≡ false
 tested a b is none = sym (ap (λ c. c && b) is) ∙ none
 
-pub between-always : (wish : Wish) (all : List ℕ) (p : ℕ) (h : History) → 0 < wish.slot_units → 0 < p → IsHeardAlways wish all p h
+pub between-always : {p : ℕ} (wish : Wish) (all : List ℕ) (h : History) → 0 < wish.slot_units → 0 < p → IsHeardAlways wish all p h
     → count_over wish h ≡ 0 → count_under wish h ≡ 0 → IsBetweenAlways wish all p h
-between-always wish all p [] some timed heard over under = tt
-between-always wish all p (Reply m ∷ h) some timed heard over under = between-always wish all p h some timed heard over under
-between-always wish all p (Frame b ∷ h) some timed heard over under = between-always wish all p h some timed heard over under
-between-always wish all p (Report b ∷ h) some timed heard over under = between-always wish all p h some timed heard over under
-between-always wish all p (Slot slot cut ∷ h) some timed heard over under =
+between-always {p} wish all [] some timed heard over under = tt
+between-always {p} wish all (Reply m ∷ h) some timed heard over under = between-always {p = p} wish all h some timed heard over under
+between-always {p} wish all (Frame b ∷ h) some timed heard over under = between-always wish all h some timed heard over under
+between-always {p} wish all (Report b ∷ h) some timed heard over under = between-always wish all h some timed heard over under
+between-always {p} wish all (Slot slot cut ∷ h) some timed heard over under =
     let o = no-count (is_read h slot && nat_lt wish.buffer (bytes_waiting wish h slot cut)) (count_over wish h) over in
     let u = no-count (is_read h slot && lacks wish h (place_in h slot)) (count_under wish h) under in (
-      between-always wish all p h some timed heard.0 o.1 u.1,
+      between-always wish all h some timed heard.0 o.1 u.1,
       λ read. (
         heard.1 read,
-        between wish all p h slot cut some timed (heard.1 read)
+        between slot some timed (heard.1 read)
             (tested (is_read h slot) (nat_lt wish.buffer (bytes_waiting wish h slot cut)) read o.0)
             (tested (is_read h slot) (lacks wish h (place_in h slot)) read u.0),
       ),

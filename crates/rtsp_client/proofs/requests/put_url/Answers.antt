@@ -11,5 +11,5 @@ returns c =
     let e3 : c.put-2.new.text.items ≡ c.put_number.new.text.items ++ codes "/" = c.in_ok-put-2.ensures in
     let e4 : c.put-3.new.text.items ≡ c.put-2.new.text.items ++ string_bytes c.args.wish.now.name =
     c.in_ok-put-3.ensures ∙ ap (λ b. c.put-2.new.text.items ++ b) c.as_bytes.ensures.value in
-    put_four c.args.text.now.items c.put.new.text.items c.put_number.new.text.items c.put-2.new.text.items c.put-3.new.text.items
+    put_four c.args.text.now.items
     (codes "rtsp://127.0.0.1:") (decimal c.args.wish.now.port) (codes "/") (string_bytes c.args.wish.now.name) e1 e2 e3 e4

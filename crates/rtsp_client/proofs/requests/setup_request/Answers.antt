@@ -15,6 +15,6 @@ returns c =
     let e7 : c.put-5.new.text.items ≡ c.put_number.new.text.items ++ codes "\r\nx-Startup: " = c.in_ok-put-5.ensures in
     let e8 : c.put_number-2.new.text.items ≡ c.put-5.new.text.items ++ decimal c.args.wish.now.startup = c.in_ok-put_number-2.ensures in
     let e9 : c.put-6.new.text.items ≡ c.put_number-2.new.text.items ++ codes "\r\n\r\n" = c.in_ok-put-6.ensures in
-    put_nine c.put.new.text.items c.put_url.new.text.items c.put-2.new.text.items c.put-3.new.text.items c.put-4.new.text.items c.put_number.new.text.items c.put-5.new.text.items c.put_number-2.new.text.items c.put-6.new.text.items
-    (codes "SETUP ") (film_url c.args.wish.now) (codes "/video RTSP/1.0\r\nCSeq: 1\r\n") (codes "Transport: RTP/AVP/TCP;unicast;interleaved=0-1\r\n") (codes "x-Buffer: ") (decimal c.args.wish.now.buffer) (codes "\r\nx-Startup: ") (decimal c.args.wish.now.startup) (codes "\r\n\r\n")
+    put_nine
+    (film_url c.args.wish.now) (codes "/video RTSP/1.0\r\nCSeq: 1\r\n") (codes "Transport: RTP/AVP/TCP;unicast;interleaved=0-1\r\n") (codes "x-Buffer: ") (decimal c.args.wish.now.buffer) (codes "\r\nx-Startup: ") (decimal c.args.wish.now.startup) (codes "\r\n\r\n")
     e1 e2 e3 e4 e5 e6 e7 e8 e9

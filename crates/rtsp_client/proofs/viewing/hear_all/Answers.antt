@@ -12,7 +12,7 @@ events-init g c = (
   omega (arith, ap length c.requires.empty, ap (λ (s : State). s.received) c.requires.new),
   omega (arith, ap length c.requires.empty),
   inl (ap length c.requires.empty),
-  run-none c.args.wish.now c.args.client.now (sight (g.K.Link.told c.args.link.now) (g.O.Sink.written c.args.out.now))
+  run-none
       c.requires.replies c.requires.session c.requires.new c.requires.empty,
   omega arith,
   omega arith,
@@ -20,20 +20,14 @@ events-init g c = (
 
 pub returns-in_default-clause-watched : goal.returns-in_default-clause-watched
 returns-in_default-clause-watched g c = λ told begun.
-    watched-lost c.args.wish.now c.events._event c.events.client LinkFault told (g.O.Sink.written c.args.out.now)
-    (sight (g.K.Link.told c.args.link.now) (g.O.Sink.written c.args.out.now))
-    (sight (g.K.Link.told c.events.link) (g.O.Sink.written c.events.out))
-    (g.K.Link.told c.next.new.self) c.events.invariant.4
+    watched-lost
+    c.events.invariant.4
     (ap (λ (t : Option (List Doing)). sight t (g.O.Sink.written c.args.out.now)) begun) c.events-test.true refl c.in_default.ensures.lost
 
 pub returns-in-Err-clause-watched : goal.returns-in-Err-clause-watched
 returns-in-Err-clause-watched g c = λ told begun.
-    watched-end c.args.wish.now c.events._event (doing_of c.in-Ok.heard c.next.new.into) c.events.client c.in-Err.end told
-    (g.O.Sink.written c.args.out.now)
-    (sight (g.K.Link.told c.args.link.now) (g.O.Sink.written c.args.out.now))
-    (sight (g.K.Link.told c.events.link) (g.O.Sink.written c.events.out))
-    (sight (g.K.Link.told c.next.new.self) (g.O.Sink.written c.events.out))
-    (sight (g.K.Link.told c.hear.new.link) (g.O.Sink.written c.hear.new.out)) c.events.invariant.4
+    watched-end
+    c.events.invariant.4
     (ap (λ (t : Option (List Doing)). sight t (g.O.Sink.written c.args.out.now)) begun) c.events-test.true
     (ap (λ (t : Option (List Doing)). sight t (g.O.Sink.written c.events.out)) c.in-Ok.ensures.heard)
     (λ h k. c.in-Err.ensures.ended h k)
@@ -41,9 +35,8 @@ returns-in-Err-clause-watched g c = λ told begun.
 pub returns-clause-watched : goal.returns-clause-watched
 returns-clause-watched g c = λ told begun.
     let spent : c.events._event ≡ 1099511627776 = search rules in
-    watched-spent c.args.wish.now c.events._event c.events.client told (g.O.Sink.written c.args.out.now)
-    (sight (g.K.Link.told c.args.link.now) (g.O.Sink.written c.args.out.now))
-    (sight (g.K.Link.told c.events.link) (g.O.Sink.written c.events.out)) c.events.invariant.4
+    watched-spent
+    c.events.invariant.4
     (ap (λ (t : Option (List Doing)). sight t (g.O.Sink.written c.args.out.now)) begun) spent
 
 pub events-preserved : goal.events-preserved
@@ -52,11 +45,8 @@ events-preserved g c = (
   omega (arith, c.events.invariant.1, c.in-Ok-hear.ensures.few),
   c.in-Ok-hear.ensures.waits,
   (c.in-Ok-hear.ensures.on c.events.invariant.4.history c.events.invariant.4.keeps).idle,
-  run-on c.args.wish.now c.events._event (doing_of c.in-Ok.heard c.next.new.into) c.events.client c.hear.new.self
-      (sight (g.K.Link.told c.args.link.now) (g.O.Sink.written c.args.out.now))
-      (sight (g.K.Link.told c.events.link) (g.O.Sink.written c.events.out))
-      (sight (g.K.Link.told c.next.new.self) (g.O.Sink.written c.events.out))
-      (sight (g.K.Link.told c.hear.new.link) (g.O.Sink.written c.hear.new.out)) c.events.invariant.4
+  run-on
+      c.events.invariant.4
       (ap (λ (t : Option (List Doing)). sight t (g.O.Sink.written c.events.out)) c.in-Ok.ensures.heard)
       (λ h k. c.in-Ok-hear.ensures.on h k),
   omega (arith, c.events.invariant.5, c.next.ensures.count, c.hear.ensures.count),

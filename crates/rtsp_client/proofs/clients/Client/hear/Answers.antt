@@ -18,8 +18,8 @@ returns-in-End-clause-ended g c = λ h k.
     subst (λ (x : Heard). HasEnded c.args.wish.now h c.args.self.now.input (doing_of x c.args.bytes.now) (Fault (EndedEarly c.watched-units.result.units))
     (sight (g.K.Link.told c.args.link.now) (g.O.Sink.written c.args.out.now)) (sight (g.K.Link.told c.args.link.now) (g.O.Sink.written c.args.out.now)))
     (sym c.in-End.is)
-    (ended-peer c.args.wish.now h c.args.self.now (Fault (EndedEarly c.watched-units.result.units))
-    (sight (g.K.Link.told c.args.link.now) (g.O.Sink.written c.args.out.now)) k
+    (ended-peer
+    k
     (ap (λ (w : Watched). Fault (EndedEarly w.units)) c.watched-units.ensures))
 
 pub returns-in-Slot-clause-on : goal.returns-in-Slot-clause-on
@@ -28,9 +28,8 @@ returns-in-Slot-clause-on g c = λ h k.
     (record { alloc = c.args.self.now.alloc; input = c.args.self.now.input; replies = c.args.self.now.replies; session = c.args.self.now.session; watching = c.hear_slot.new.self })
     (sight (g.K.Link.told c.args.link.now) (g.O.Sink.written c.args.out.now)) (sight (g.K.Link.told c.args.link.now) (g.O.Sink.written c.args.out.now)))
     (sym c.in-Slot.is)
-    (round-slot c.args.wish.now h c.args.self.now
-    (record { alloc = c.args.self.now.alloc; input = c.args.self.now.input; replies = c.args.self.now.replies; session = c.args.self.now.session; watching = c.hear_slot.new.self })
-    c.in-Slot.slot c.cut_bytes-cut.result (sight (g.K.Link.told c.args.link.now) (g.O.Sink.written c.args.out.now)) k
+    (round-slot
+    k
     (omega (arith, c.requires.wish.some_units)) c.hear_slot.ensures.timed (c.cut_bytes-cut.ensures.cut ∙ ap cut_bytes c.waiting.ensures)
     c.requires.idle refl refl refl c.hear_slot.ensures.state)
 
@@ -44,11 +43,10 @@ returns-in-Ok-clause-on g c = λ h k.
     (subst (λ (i : List ℕ). OnOk c.take_up.result (HasTaken c.args.wish.now h i c.take_up.new.self
     (sight (g.K.Link.told c.args.link.now) (g.O.Sink.written c.args.out.now))
     (sight (g.K.Link.told c.take_up.new.link) (g.O.Sink.written c.take_up.new.out)))) grown
-    (c.take_up.ensures.taken h (keeps-moved c.args.wish.now h c.args.self.now _ k refl refl refl)))
+    (c.take_up.ensures.taken h (keeps-moved k refl refl refl)))
     c.take_up.ensures.idle
-    (λ taken idle. round-bytes c.args.wish.now h c.args.self.now.input (take c.in-Bytes.count c.args.bytes.now) c.take_up.new.self
-    (sight (g.K.Link.told c.args.link.now) (g.O.Sink.written c.args.out.now))
-    (sight (g.K.Link.told c.take_up.new.link) (g.O.Sink.written c.take_up.new.out)) taken idle))
+    (λ taken idle. round-bytes
+    taken idle))
 
 pub returns-in-Ok-clause-ended : goal.returns-in-Ok-clause-ended
 returns-in-Ok-clause-ended g c = λ h k.
@@ -66,7 +64,6 @@ returns-in-Ok-clause-ended g c = λ h k.
     (subst (λ (i : List ℕ). IfErr c.take_up.result (λ end. HasStopped c.args.wish.now h i end
     (sight (g.K.Link.told c.args.link.now) (g.O.Sink.written c.args.out.now))
     (sight (g.K.Link.told c.take_up.new.link) (g.O.Sink.written c.take_up.new.out)))) grown
-    (c.take_up.ensures.stopped h (keeps-moved c.args.wish.now h c.args.self.now _ k refl refl refl)))
-    (λ end stopped. ended-bytes c.args.wish.now h c.args.self.now.input (take c.in-Bytes.count c.args.bytes.now) end
-    (sight (g.K.Link.told c.args.link.now) (g.O.Sink.written c.args.out.now))
-    (sight (g.K.Link.told c.take_up.new.link) (g.O.Sink.written c.take_up.new.out)) stopped))
+    (c.take_up.ensures.stopped h (keeps-moved k refl refl refl)))
+    (λ end stopped. ended-bytes
+    stopped))

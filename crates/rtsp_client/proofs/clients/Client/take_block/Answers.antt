@@ -30,10 +30,8 @@ returns-in-1-clause-passed g c = λ h k.
     (record { alloc = c.args.self.now.alloc; input = c.args.self.now.input; replies = c.args.self.now.replies; session = c.args.self.now.session; watching = c.add_report.new.self })
     (sight (g.K.Link.told c.args.link.now) (g.O.Sink.written c.args.out.now)) (sight (g.K.Link.told c.args.link.now) (g.O.Sink.written c.args.out.now)))
     (sym c.in-1.is)
-    (report-done c.args.wish.now h c.args.self.now
-    (record { alloc = c.args.self.now.alloc; input = c.args.self.now.input; replies = c.args.self.now.replies; session = c.args.self.now.session; watching = c.add_report.new.self })
-    (take c.args.length c.args.self.now.input)
-    (sight (g.K.Link.told c.args.link.now) (g.O.Sink.written c.args.out.now)) k refl refl
+    (report-done
+    k refl refl
     (state ∙ ap (after_report c.args.self.now.watching) (sym whole)))
 
 pub returns-in_default-clause-passed : goal.returns-in_default-clause-passed
@@ -41,5 +39,5 @@ returns-in_default-clause-passed g c = λ h k.
     subst (λ (ms : List Moment). HasPassed c.args.wish.now h ms c.args.self.now
     (sight (g.K.Link.told c.args.link.now) (g.O.Sink.written c.args.out.now)) (sight (g.K.Link.told c.args.link.now) (g.O.Sink.written c.args.out.now)))
     (sym (other-moments c.args.channel (take c.args.length c.args.self.now.input) (search rules) (search rules)))
-    (passed-none c.args.wish.now h c.args.self.now c.args.self.now
-    (sight (g.K.Link.told c.args.link.now) (g.O.Sink.written c.args.out.now)) k refl refl refl)
+    (passed-none
+    k refl refl refl)

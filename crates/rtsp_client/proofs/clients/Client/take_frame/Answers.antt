@@ -14,15 +14,15 @@ use Rattle.rtsp_client.proofs.clients.Client.take_frame.Goals as goal
 
 pub returns-in_default-clause-ended : goal.returns-in_default-clause-ended
 returns-in_default-clause-ended g c = λ h k.
-    bad-frame c.args.wish.now h c.args.self.now (take c.args.length c.args.self.now.input) (Fault (BadFrame c.watched-number.result.frames))
-    (sight (g.K.Link.told c.args.link.now) (g.O.Sink.written c.args.out.now)) k
+    bad-frame
+    k
     (ap (λ i. source_with c.args.self.now.watching (take c.args.length i)) (sym c.waiting.ensures) ∙ (sym c.source_with.ensures.source ∙ c.in_default.is))
     (ap (λ (w : Watched). Fault (BadFrame w.frames)) c.watched-number.ensures)
 
 pub returns-then-is_err-clause-ended : goal.returns-then-is_err-clause-ended
 returns-then-is_err-clause-ended g c = λ h k.
-    frame-starved c.args.wish.now h c.args.self.now (take c.args.length c.args.self.now.input) c.in-Some.source NoMemory
-    (sight (g.K.Link.told c.args.link.now) (g.O.Sink.written c.args.out.now)) k
+    frame-starved
+    k
     (ap (λ i. source_with c.args.self.now.watching (take c.args.length i)) (sym c.waiting.ensures) ∙ (sym c.source_with.ensures.source ∙ c.in-Some.is)) refl
 
 pub returns-then-is_err-2-clause-ended : goal.returns-then-is_err-2-clause-ended
@@ -32,8 +32,8 @@ returns-then-is_err-2-clause-ended g c = λ h k.
     let front : IsFrontMore (g.O.Sink.written c.args.out.now) (g.O.Sink.written c.write_all.new.self) (drop 20 (take c.args.length c.waiting.result.now)) =
     subst (IsFrontMore (g.O.Sink.written c.args.out.now) (g.O.Sink.written c.write_all.new.self)) (take_all (length (take c.args.length c.waiting.result.now) - 20) (drop 20 (take c.args.length c.waiting.result.now)) (omega (arith, length-drop 20 (take c.args.length c.waiting.result.now))))
     (err-of c.write_all.result (sym c.is_err-2.ensures.value ∙ c.if-is_err-2.true) c.write_all.ensures.front) in
-    frame-cut c.args.wish.now h c.args.self.now (take c.args.length c.args.self.now.input) c.in-Some.source SinkFault
-    (g.K.Link.told c.args.link.now) old new k
+    frame-cut
+    (g.K.Link.told c.args.link.now) k
     (ap (λ i. source_with c.args.self.now.watching (take c.args.length i)) (sym c.waiting.ensures) ∙ (sym c.source_with.ensures.source ∙ c.in-Some.is)) refl
     (subst (λ i. IsFrontMore (g.O.Sink.written c.args.out.now) (g.O.Sink.written c.write_all.new.self) (drop 20 (take c.args.length i))) c.waiting.ensures front)
 
@@ -46,8 +46,8 @@ returns-then-not-is_complete-clause-passed g c = λ h k.
     let handed : g.O.Sink.written c.write_all.new.self ≡ more (g.O.Sink.written c.args.out.now) (drop 20 (take c.args.length c.waiting.result.now)) =
     ok-of c.write_all.result (sym c.is_err-2.ensures.value ∙ c.if-is_err-2.false) c.write_all.ensures.whole
     ∙ ap (λ b. more (g.O.Sink.written c.args.out.now) b) (take_all (length (take c.args.length c.waiting.result.now) - 20) (drop 20 (take c.args.length c.waiting.result.now)) (omega (arith, length-drop 20 (take c.args.length c.waiting.result.now)))) in
-    frame-done c.args.wish.now h c.args.self.now _ (take c.args.length c.args.self.now.input) c.in-Some.source
-    (g.K.Link.told c.args.link.now) (g.O.Sink.written c.args.out.now) (g.O.Sink.written c.write_all.new.self) k
+    frame-done
+    (g.K.Link.told c.args.link.now) k
     (ap (λ i. source_with c.args.self.now.watching (take c.args.length i)) (sym c.waiting.ensures) ∙ (sym c.source_with.ensures.source ∙ c.in-Some.is))
     (subst (λ (i : List ℕ). 20 ≤ length (take c.args.length i)) c.waiting.ensures long) refl refl
     (state ∙ ap (after_frame c.args.self.now.watching c.in-Some.source) (sym whole)) open_
@@ -58,8 +58,8 @@ returns-in_default-teardown_request-clause-ended g c = λ h k.
     let handed : g.O.Sink.written c.write_all.new.self ≡ more (g.O.Sink.written c.args.out.now) (drop 20 (take c.args.length c.waiting.result.now)) =
     ok-of c.write_all.result (sym c.is_err-2.ensures.value ∙ c.if-is_err-2.false) c.write_all.ensures.whole
     ∙ ap (λ b. more (g.O.Sink.written c.args.out.now) b) (take_all (length (take c.args.length c.waiting.result.now) - 20) (drop 20 (take c.args.length c.waiting.result.now)) (omega (arith, length-drop 20 (take c.args.length c.waiting.result.now)))) in
-    teardown-starved c.args.wish.now h c.args.self.now (take c.args.length c.args.self.now.input) c.in-Some.source NoMemory
-    (g.K.Link.told c.args.link.now) (g.O.Sink.written c.args.out.now) (g.O.Sink.written c.write_all.new.self) k
+    teardown-starved
+    (g.K.Link.told c.args.link.now) k
     (ap (λ i. source_with c.args.self.now.watching (take c.args.length i)) (sym c.waiting.ensures) ∙ (sym c.source_with.ensures.source ∙ c.in-Some.is)) refl
     (handed ∙ ap (λ i. more (g.O.Sink.written c.args.out.now) (drop 20 (take c.args.length i))) c.waiting.ensures)
 
@@ -95,8 +95,8 @@ returns-clause-passed g c = λ h k.
     ∙ ap (λ b. more (g.O.Sink.written c.args.out.now) b) (take_all (length (take c.args.length c.waiting.result.now) - 20) (drop 20 (take c.args.length c.waiting.result.now)) (omega (arith, length-drop 20 (take c.args.length c.waiting.result.now)))) in
     let text : c.as_slice-2.result.now ≡ teardown_text c.args.wish.now c.args.self.now.session.items = search rules in
     let sent : g.K.Link.told c.send.new.self ≡ told_more (g.K.Link.told c.args.link.now) (sends c.as_slice-2.result.now) = search rules in
-    last-done c.args.wish.now h c.args.self.now _ (take c.args.length c.args.self.now.input) c.in-Some.source
-    (g.K.Link.told c.args.link.now) (g.K.Link.told c.send.new.self) (g.O.Sink.written c.args.out.now) (g.O.Sink.written c.write_all.new.self) k
+    last-done
+    (g.K.Link.told c.args.link.now) k
     (ap (λ i. source_with c.args.self.now.watching (take c.args.length i)) (sym c.waiting.ensures) ∙ (sym c.source_with.ensures.source ∙ c.in-Some.is))
     (subst (λ (i : List ℕ). 20 ≤ length (take c.args.length i)) c.waiting.ensures long) refl refl
     (state ∙ ap (after_frame c.args.self.now.watching c.in-Some.source) (sym whole)) all

@@ -19,5 +19,5 @@ returns-then-self-eq1-clause-ended g c = λ h out k. c.take_play.ensures.ended h
 
 pub returns-clause-ended : goal.returns-clause-ended
 returns-clause-ended g c = λ h out k.
-    watch-done c.args.wish.now h c.args.self.now (take c.args.length c.args.self.now.input) (Done c.watched.result)
-    (sight (g.K.Link.told c.args.link.now) out) k (omega arith) c.requires.good (ap (λ (w : Watched). Done w) c.watched.ensures)
+    watch-done
+    k (omega arith) c.requires.good (ap (λ (w : Watched). Done w) c.watched.ensures)

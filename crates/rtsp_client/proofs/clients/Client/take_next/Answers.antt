@@ -12,31 +12,30 @@ pub waits_little-requires : goal.waits_little-requires
 waits_little-requires g c =
     let first : IsFirst c.args.self.now.input (Ok c.in-Ok-More.field-0) = c.in-Ok-More.ensures.first in
     let is : c.in-Ok-More.field-0 ≡ More = search rules in
-    first_is c.args.self.now.input c.waiting.result.now c.in-Ok-More.field-0 More first (c.waiting.ensures ∙ c.look.ensures.waiting) is
+    first_is first (c.waiting.ensures ∙ c.look.ensures.waiting) is
 
 pub returns-in-Err-clause-stopped : goal.returns-in-Err-clause-stopped
 returns-in-Err-clause-stopped g c = λ h k.
-    stopped-framing c.args.wish.now h c.args.self.now.input c.in-Err.field-0 (Fault Framing)
-    (sight (g.K.Link.told c.args.link.now) (g.O.Sink.written c.args.out.now)) c.in-Err.ensures.first refl
+    stopped-framing c.in-Err.field-0
+    c.in-Err.ensures.first refl
 
 pub returns-in-Ok-More-clause-idle : goal.returns-in-Ok-More-clause-idle
 returns-in-Ok-More-clause-idle g c =
     let first : IsFirst c.args.self.now.input (Ok c.in-Ok-More.field-0) = c.in-Ok-More.ensures.first in
     let is : c.in-Ok-More.field-0 ≡ More = search rules in
-    λ _. first_is c.args.self.now.input c.look.new.self c.in-Ok-More.field-0 More first c.look.ensures.waiting is
+    λ _. first_is first c.look.ensures.waiting is
 
 pub returns-in-Ok-More-clause-taken : goal.returns-in-Ok-More-clause-taken
 returns-in-Ok-More-clause-taken g c = λ h k.
-    taken-none c.args.wish.now h c.args.self.now _ (sight (g.K.Link.told c.args.link.now) (g.O.Sink.written c.args.out.now)) k refl refl refl
+    taken-none k refl refl refl
     c.look.ensures.waiting
 
 pub returns-in-Ok-Skip-clause-taken : goal.returns-in-Ok-Skip-clause-taken
 returns-in-Ok-Skip-clause-taken g c = λ h k.
     let first : IsFirst c.args.self.now.input (Ok c.in-Ok-Skip.field-0) = c.in-Ok-Skip.ensures.first in
     let is : c.in-Ok-Skip.field-0 ≡ Skip c.in-Ok-Skip.length = search rules in
-    taken-ends c.args.wish.now h c.args.self.now.input c.in-Ok-Skip.length c.args.self.now _
-    (sight (g.K.Link.told c.args.link.now) (g.O.Sink.written c.args.out.now))
-    (first_is c.args.self.now.input c.args.self.now.input c.in-Ok-Skip.field-0 (Skip c.in-Ok-Skip.length) first refl is) k refl refl refl
+    taken-ends
+    (first_is first refl is) k refl refl refl
     (c.drop_front.ensures ∙ ap (drop c.in-Ok-Skip.length) c.look.ensures.waiting)
 
 pub returns-in-Err-take_block-clause-stopped : goal.returns-in-Err-take_block-clause-stopped
@@ -46,11 +45,9 @@ returns-in-Err-take_block-clause-stopped g c = λ h k.
     subst (λ (i : List ℕ). HasStopped c.args.wish.now h i c.in-Err-take_block.end
     (sight (g.K.Link.told c.args.link.now) (g.O.Sink.written c.args.out.now))
     (sight (g.K.Link.told c.take_block.new.link) (g.O.Sink.written c.take_block.new.out))) c.look.ensures.waiting
-    (stopped-block c.args.wish.now h c.look.new.self c.in-Ok-Block.channel c.in-Ok-Block.length c.in-Err-take_block.end
-    (sight (g.K.Link.told c.args.link.now) (g.O.Sink.written c.args.out.now))
-    (sight (g.K.Link.told c.take_block.new.link) (g.O.Sink.written c.take_block.new.out))
-    (first_is c.args.self.now.input c.look.new.self c.in-Ok-Block.field-0 (Block c.in-Ok-Block.channel c.in-Ok-Block.length) first c.look.ensures.waiting is)
-    (c.in-Err-take_block.ensures.ended h (keeps-moved c.args.wish.now h c.args.self.now _ k refl refl refl)))
+    (stopped-block
+    (first_is first c.look.ensures.waiting is)
+    (c.in-Err-take_block.ensures.ended h (keeps-moved k refl refl refl)))
 
 pub returns-in-Ok-clause-taken : goal.returns-in-Ok-clause-taken
 returns-in-Ok-clause-taken g c = λ h k.
@@ -60,11 +57,9 @@ returns-in-Ok-clause-taken g c = λ h k.
     (record { alloc = c.take_block.new.self.alloc; input = c.drop_front-in-Ok.new.self; replies = c.take_block.new.self.replies; session = c.take_block.new.self.session; watching = c.take_block.new.self.watching })
     (sight (g.K.Link.told c.args.link.now) (g.O.Sink.written c.args.out.now))
     (sight (g.K.Link.told c.take_block.new.link) (g.O.Sink.written c.take_block.new.out))) c.look.ensures.waiting
-    (taken-block c.args.wish.now h c.look.new.self c.in-Ok-Block.channel c.in-Ok-Block.length c.take_block.new.self _
-    (sight (g.K.Link.told c.args.link.now) (g.O.Sink.written c.args.out.now))
-    (sight (g.K.Link.told c.take_block.new.link) (g.O.Sink.written c.take_block.new.out))
-    (first_is c.args.self.now.input c.look.new.self c.in-Ok-Block.field-0 (Block c.in-Ok-Block.channel c.in-Ok-Block.length) first c.look.ensures.waiting is)
-    (c.in-Ok.ensures.passed h (keeps-moved c.args.wish.now h c.args.self.now _ k refl refl refl)) refl refl refl
+    (taken-block
+    (first_is first c.look.ensures.waiting is)
+    (c.in-Ok.ensures.passed h (keeps-moved k refl refl refl)) refl refl refl
     (c.drop_front-in-Ok.ensures ∙ ap (drop c.in-Ok-Block.length) c.take_block.ensures.input))
 
 pub returns-in-Err-take_reply-clause-stopped : goal.returns-in-Err-take_reply-clause-stopped
@@ -74,11 +69,9 @@ returns-in-Err-take_reply-clause-stopped g c = λ h k.
     subst (λ (i : List ℕ). HasStopped c.args.wish.now h i c.in-Err-take_reply.end
     (sight (g.K.Link.told c.args.link.now) (g.O.Sink.written c.args.out.now))
     (sight (g.K.Link.told c.take_reply.new.link) (g.O.Sink.written c.args.out.now))) c.look.ensures.waiting
-    (stopped-reply c.args.wish.now h c.look.new.self c.in-Ok-Request.length c.in-Err-take_reply.end
-    (sight (g.K.Link.told c.args.link.now) (g.O.Sink.written c.args.out.now))
-    (sight (g.K.Link.told c.take_reply.new.link) (g.O.Sink.written c.args.out.now))
-    (first_is c.args.self.now.input c.look.new.self c.in-Ok-Request.field-0 (Request c.in-Ok-Request.length) first c.look.ensures.waiting is)
-    (c.in-Err-take_reply.ensures.ended h (g.O.Sink.written c.args.out.now) (keeps-moved c.args.wish.now h c.args.self.now _ k refl refl refl)))
+    (stopped-reply
+    (first_is first c.look.ensures.waiting is)
+    (c.in-Err-take_reply.ensures.ended h (g.O.Sink.written c.args.out.now) (keeps-moved k refl refl refl)))
 
 pub returns-in-Ok-take_reply-clause-taken : goal.returns-in-Ok-take_reply-clause-taken
 returns-in-Ok-take_reply-clause-taken g c = λ h k.
@@ -88,9 +81,7 @@ returns-in-Ok-take_reply-clause-taken g c = λ h k.
     (record { alloc = c.take_reply.new.self.alloc; input = c.drop_front-in-Ok-take_reply.new.self; replies = c.take_reply.new.self.replies; session = c.take_reply.new.self.session; watching = c.take_reply.new.self.watching })
     (sight (g.K.Link.told c.args.link.now) (g.O.Sink.written c.args.out.now))
     (sight (g.K.Link.told c.take_reply.new.link) (g.O.Sink.written c.args.out.now))) c.look.ensures.waiting
-    (taken-reply c.args.wish.now h c.look.new.self c.in-Ok-Request.length c.take_reply.new.self _
-    (sight (g.K.Link.told c.args.link.now) (g.O.Sink.written c.args.out.now))
-    (sight (g.K.Link.told c.take_reply.new.link) (g.O.Sink.written c.args.out.now))
-    (first_is c.args.self.now.input c.look.new.self c.in-Ok-Request.field-0 (Request c.in-Ok-Request.length) first c.look.ensures.waiting is)
-    (c.in-Ok-take_reply.ensures.passed h (g.O.Sink.written c.args.out.now) (keeps-moved c.args.wish.now h c.args.self.now _ k refl refl refl)) refl refl refl
+    (taken-reply
+    (first_is first c.look.ensures.waiting is)
+    (c.in-Ok-take_reply.ensures.passed h (g.O.Sink.written c.args.out.now) (keeps-moved k refl refl refl)) refl refl refl
     (c.drop_front-in-Ok-take_reply.ensures ∙ ap (drop c.in-Ok-Request.length) c.take_reply.ensures.input))

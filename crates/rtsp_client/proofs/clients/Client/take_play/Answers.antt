@@ -9,7 +9,7 @@ pub returns-in_default-clause-ended : goal.returns-in_default-clause-ended
 returns-in_default-clause-ended c = λ h s k.
     let range : play_range (take c.args.length c.args.self.now.input) ≡ None =
     ap (λ i. play_range (take c.args.length i)) (sym c.waiting.ensures) ∙ (sym c.play_range.ensures.range ∙ c.in_default.is) in
-    play-lacks c.args.wish.now h c.args.self.now (take c.args.length c.args.self.now.input) (Fault (BadReply 2)) s k c.requires.second
+    play-lacks k c.requires.second
     c.requires.good (ap (λ o. is_some o && is_some (play_start (take c.args.length c.args.self.now.input))) range) refl
 
 pub returns-in_default-play_start-clause-ended : goal.returns-in_default-play_start-clause-ended
@@ -18,7 +18,7 @@ returns-in_default-play_start-clause-ended c = λ h s k.
     ap (λ i. play_range (take c.args.length i)) (sym c.waiting.ensures) ∙ (sym c.play_range.ensures.range ∙ c.in-Some.is) in
     let start : play_start (take c.args.length c.args.self.now.input) ≡ None =
     ap (λ i. play_start (take c.args.length i)) (sym c.waiting.ensures) ∙ (sym c.play_start.ensures ∙ c.in_default-play_start.is) in
-    play-lacks c.args.wish.now h c.args.self.now (take c.args.length c.args.self.now.input) (Fault (BadReply 2)) s k c.requires.second
+    play-lacks k c.requires.second
     c.requires.good
     (ap (λ o. is_some o && is_some (play_start (take c.args.length c.args.self.now.input))) range ∙ ap is_some start) refl
 
@@ -28,5 +28,5 @@ returns-clause-passed c = λ h s k.
     ap (λ i. play_range (take c.args.length i)) (sym c.waiting.ensures) ∙ (sym c.play_range.ensures.range ∙ c.in-Some.is) in
     let start : play_start (take c.args.length c.args.self.now.input) ≡ Some c.in-Some-play_start.start =
     ap (λ i. play_start (take c.args.length i)) (sym c.waiting.ensures) ∙ (sym c.play_start.ensures ∙ c.in-Some-play_start.is) in
-    play-done c.args.wish.now h c.args.self.now _ (take c.args.length c.args.self.now.input) c.in-Some-play_start.start c.in-Some.end_ms s k
+    play-done k
     c.requires.second c.requires.good start range refl refl c.begin.ensures

@@ -13,14 +13,14 @@ awaited_code-requires-clause-whole g c =
 
 pub returns-in-None-clause-ended : goal.returns-in-None-clause-ended
 returns-in-None-clause-ended g c = λ h out k.
-    bad-reply c.args.wish.now h c.args.self.now (take c.args.length c.args.self.now.input) (Fault (BadReply (c.args.self.now.replies + 1)))
-    (sight (g.K.Link.told c.args.link.now) out) k
+    bad-reply
+    k
     (subst (λ (i : List ℕ). (code : ℕ) → ¬ IsAwaited c.args.self.now (take c.args.length i) code) c.waiting.ensures c.in-None.ensures) refl
 
 pub returns-then-code-ne200-clause-ended : goal.returns-then-code-ne200-clause-ended
 returns-then-code-ne200-clause-ended g c = λ h out k.
-    refused-reply c.args.wish.now h c.args.self.now (take c.args.length c.args.self.now.input) c.in-Some.code (Fault (Refused c.in-Some.code))
-    (sight (g.K.Link.told c.args.link.now) out) k
+    refused-reply
+    k
     (subst (λ (i : List ℕ). IsAwaited c.args.self.now (take c.args.length i) c.in-Some.code) c.waiting.ensures c.in-Some.ensures)
     c.if-code-ne200.true refl
 

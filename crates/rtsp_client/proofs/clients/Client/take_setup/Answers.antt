@@ -11,22 +11,22 @@ use Rattle.rtsp_client.proofs.clients.Client.take_setup.Goals as goal
 pub returns-in_default-clause-ended : goal.returns-in_default-clause-ended
 returns-in_default-clause-ended g c = λ h out k.
     let here : session_in (take c.args.length c.waiting.result.now) ≡ None = search rules in
-    setup-lacks c.args.wish.now h c.args.self.now (take c.args.length c.args.self.now.input) (Fault (BadReply 1))
-    (sight (g.K.Link.told c.args.link.now) out) k c.requires.first c.requires.good
+    setup-lacks
+    k c.requires.first c.requires.good
     (ap (λ i. session_in (take c.args.length i)) (sym c.waiting.ensures) ∙ here) refl
 
 pub returns-in_default-play_request-clause-ended : goal.returns-in_default-play_request-clause-ended
 returns-in_default-play_request-clause-ended g c = λ h out k.
     let here : session_in (take c.args.length c.waiting.result.now) ≡ Some c.in-Some.session.now = search rules in
-    setup-starved c.args.wish.now h c.args.self.now (take c.args.length c.args.self.now.input) c.in-Some.session.now NoMemory
-    (sight (g.K.Link.told c.args.link.now) out) k c.requires.first c.requires.good
+    setup-starved
+    k c.requires.first c.requires.good
     (ap (λ i. session_in (take c.args.length i)) (sym c.waiting.ensures) ∙ here) refl
 
 pub returns-in_default-copy_of-clause-ended : goal.returns-in_default-copy_of-clause-ended
 returns-in_default-copy_of-clause-ended g c = λ h out k.
     let here : session_in (take c.args.length c.waiting.result.now) ≡ Some c.in-Some.session.now = search rules in
-    setup-starved c.args.wish.now h c.args.self.now (take c.args.length c.args.self.now.input) c.in-Some.session.now NoMemory
-    (sight (g.K.Link.told c.args.link.now) out) k c.requires.first c.requires.good
+    setup-starved
+    k c.requires.first c.requires.good
     (ap (λ i. session_in (take c.args.length i)) (sym c.waiting.ensures) ∙ here) refl
 
 pub returns-then-is_err-clause-ended : goal.returns-then-is_err-clause-ended
@@ -34,8 +34,8 @@ returns-then-is_err-clause-ended g c = λ h out k.
     let here : session_in (take c.args.length c.waiting.result.now) ≡ Some c.in-Some.session.now = search rules in
     let text : c.as_slice.result.now ≡ play_text c.args.wish.now c.in-Some.session.now = c.as_slice.ensures.value ∙ c.in-Ok.ensures in
     let front : IsFrontTold (g.K.Link.told c.args.link.now) (g.K.Link.told c.send.new.self) c.as_slice.result.now = search rules in
-    setup-cut c.args.wish.now h c.args.self.now (take c.args.length c.args.self.now.input) c.in-Some.session.now LinkFault
-    (g.K.Link.told c.args.link.now) (g.K.Link.told c.send.new.self) out k c.requires.first c.requires.good
+    setup-cut
+    out k c.requires.first c.requires.good
     (ap (λ i. session_in (take c.args.length i)) (sym c.waiting.ensures) ∙ here) refl
     (subst (IsFrontTold (g.K.Link.told c.args.link.now) (g.K.Link.told c.send.new.self)) text front)
 
@@ -44,7 +44,7 @@ returns-clause-passed g c = λ h out k.
     let here : session_in (take c.args.length c.waiting.result.now) ≡ Some c.in-Some.session.now = search rules in
     let text : c.as_slice.result.now ≡ play_text c.args.wish.now c.in-Some.session.now = c.as_slice.ensures.value ∙ c.in-Ok.ensures in
     let sent : g.K.Link.told c.send.new.self ≡ told_more (g.K.Link.told c.args.link.now) (sends c.as_slice.result.now) = search rules in
-    setup-done c.args.wish.now h c.args.self.now _ (take c.args.length c.args.self.now.input) c.in-Some.session.now
-    (g.K.Link.told c.args.link.now) (g.K.Link.told c.send.new.self) out k c.requires.first c.requires.good
+    setup-done
+    (g.K.Link.told c.args.link.now) out k c.requires.first c.requires.good
     (ap (λ i. session_in (take c.args.length i)) (sym c.waiting.ensures) ∙ here) refl (search rules) refl
     (sent ∙ ap (λ x. told_more (g.K.Link.told c.args.link.now) (sends x)) text)
