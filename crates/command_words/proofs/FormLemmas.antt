@@ -9,6 +9,7 @@ use Rattle.std.proofs.lemmas.List.Elements.{All-cons, All-nil}
 use Rattle.std.proofs.lemmas.List.Folds.{Any-from_list_any}
 use Rattle.std.proofs.lemmas.List.Sums.{passes_at_first, split_at_first}
 use Rattle.std.proofs.lemmas.Slice.Eq.{bytes_eq-Decides}
+use Rattle.std.proofs.lemmas.Option.{none-some}
 use Rattle.vod_base.specs.Names.{is_good_name}
 use Rattle.slot_calendar.specs.declared.profiles.CapStep.{CapStep}
 use Rattle.command_words.specs.Settings.{number_or, one_name, one_number, setting_value, values_of}
@@ -22,52 +23,49 @@ use Rattle.command_words.specs.Spelling.{word_of}
 use Rattle.command_words.specs.Words.{Source, Viewer, Pace, Listening, Order, help, version, plan_of, check_of, scan_of, day_of, fair_of, serve_of, watch_of, are_distinct, are_films, are_names, command_order, lone_order, source_of, source_given, viewer_given, script_run_given, fair_run_given, listening_given, pace_given, serving_given, watching_given, order_given, meaning}
 use Rattle.command_words.proofs.MeaningLemmas.{meaning_of}
 
-none_is_some : {A : Type 0} {a : A} → None ≡ Some a → ⊥
-none_is_some e = cc
-
 -- what a step of a reading found, and the rest of it
 step_found : {A B : Type 0} (f : A → Option B) (o : Option A) (b : B) → option_and_then f o ≡ Some b → (a : A) × (o ≡ Some a) × (f a ≡ Some b)
-step_found f None b e = absurd (none_is_some e)
+step_found f None b e = absurd (none-some _ e)
 step_found f (Some a) b e = (a, refl, e)
 
 last_step_found : {A B : Type 0} (f : A → B) (o : Option A) (b : B) → option_map f o ≡ Some b → (a : A) × (o ≡ Some a)
-last_step_found f None b e = absurd (none_is_some e)
+last_step_found f None b e = absurd (none-some _ e)
 last_step_found f (Some a) b e = (a, refl)
 
 -- a value that a test lets through
 test_passes : {A : Type 0} (t : Bool) (o : Option A) (a : A) → (if t then o else None) ≡ Some a → (t ≡ true) × (o ≡ Some a)
 test_passes true o a e = (refl, e)
-test_passes false o a e = absurd (none_is_some e)
+test_passes false o a e = absurd (none-some _ e)
 
 -- ---- how often a key is given that was read
 one_of_number : (least most n : ℕ) (values : List (List ℕ)) → one_number least most values ≡ Some n → length values ≡ 1
-one_of_number least most n [] e = absurd (none_is_some e)
+one_of_number least most n [] e = absurd (none-some _ e)
 one_of_number least most n (value ∷ []) e = refl
-one_of_number least most n (value ∷ other ∷ others) e = absurd (none_is_some e)
+one_of_number least most n (value ∷ other ∷ others) e = absurd (none-some _ e)
 
 few_of_number : (default least most n : ℕ) (values : List (List ℕ)) → number_or default least most values ≡ Some n → length values ≤ 1
 few_of_number default least most n [] e = omega arith
 few_of_number default least most n (value ∷ values) e = omega (arith, one_of_number least most n (value ∷ values) e)
 
 one_of_name : (name : List ℕ) (values : List (List ℕ)) → one_name values ≡ Some name → length values ≡ 1
-one_of_name name [] e = absurd (none_is_some e)
+one_of_name name [] e = absurd (none-some _ e)
 one_of_name name (value ∷ []) e = refl
-one_of_name name (value ∷ other ∷ others) e = absurd (none_is_some e)
+one_of_name name (value ∷ other ∷ others) e = absurd (none-some _ e)
 
 few_of_capacity : (steps : List CapStep) (values : List (List ℕ)) → one_capacity values ≡ Some steps → length values ≤ 1
 few_of_capacity steps [] e = omega arith
 few_of_capacity steps (value ∷ []) e = omega arith
-few_of_capacity steps (value ∷ other ∷ others) e = absurd (none_is_some e)
+few_of_capacity steps (value ∷ other ∷ others) e = absurd (none-some _ e)
 
 few_of_bind : (all : Bool) (values : List (List ℕ)) → one_bind values ≡ Some all → length values ≤ 1
 few_of_bind all [] e = omega arith
 few_of_bind all (value ∷ []) e = omega arith
-few_of_bind all (value ∷ other ∷ others) e = absurd (none_is_some e)
+few_of_bind all (value ∷ other ∷ others) e = absurd (none-some _ e)
 
 one_of_kind : (kind : Made) (values : List (List ℕ)) → one_kind values ≡ Some kind → length values ≡ 1
-one_of_kind kind [] e = absurd (none_is_some e)
+one_of_kind kind [] e = absurd (none-some _ e)
 one_of_kind kind (value ∷ []) e = refl
-one_of_kind kind (value ∷ other ∷ others) e = absurd (none_is_some e)
+one_of_kind kind (value ∷ other ∷ others) e = absurd (none-some _ e)
 
 -- ---- what was given where a group of keys was read
 pub record HasPace (words : List (List ℕ)) : Type 0 where
@@ -127,8 +125,8 @@ source_form (trace ∷ traces) [] [] source e =
       slot = λ some. absurd (omega (arith, some));
       few = omega arith;
     }
-source_form (trace ∷ traces) [] (slot ∷ slots) source e = absurd (none_is_some e)
-source_form (trace ∷ traces) (film ∷ films) slots source e = absurd (none_is_some e)
+source_form (trace ∷ traces) [] (slot ∷ slots) source e = absurd (none-some _ e)
+source_form (trace ∷ traces) (film ∷ films) slots source e = absurd (none-some _ e)
 
 pub record HasViewer (words : List (List ℕ)) : Type 0 where
   pub source : HasOneSource (values_of (codes "trace") words) (values_of (codes "film") words) (values_of (codes "slot") words)
@@ -416,10 +414,10 @@ words_form name command words order named e =
 -- ---- words with a meaning
 alone : (lone : Order) (words : List (List ℕ)) (order : Order) → lone_order lone words ≡ Some order → words ≡ []
 alone lone [] order e = refl
-alone lone (word ∷ words) order e = absurd (none_is_some e)
+alone lone (word ∷ words) order e = absurd (none-some _ e)
 
 pub meaning_form : (words : List (List ℕ)) (order : Order) → meaning words ≡ Some order → HaveMeaning words
-meaning_form [] order e = absurd (none_is_some e)
+meaning_form [] order e = absurd (none-some _ e)
 meaning_form (first ∷ words) order e =
     let helps = bytes_eq first (codes "--help") in
     let tells = bytes_eq first (codes "--version") in

@@ -22,14 +22,16 @@ command_named word =
 
 abbrev pub keys_of : Command → List (List ℕ)
 keys_of Plan = codes "trace" ∷ codes "film" ∷ codes "buffer" ∷ codes "startup" ∷ codes "slot" ∷ []
-keys_of Check = codes "trace" ∷ codes "film" ∷ codes "cert" ∷ codes "buffer" ∷ codes "startup" ∷ codes "slot" ∷ []
+keys_of Check =
+    codes "trace" ∷ codes "film" ∷ codes "cert" ∷ codes "buffer" ∷ codes "startup" ∷ codes "slot"
+    ∷ []
 keys_of Scan = codes "film" ∷ []
 keys_of Make = codes "kind" ∷ codes "seed" ∷ codes "pictures" ∷ []
 keys_of Day = codes "script" ∷ codes "capacity" ∷ codes "journal" ∷ codes "slot" ∷ []
 keys_of Fair = codes "seed" ∷ codes "plays" ∷ codes "capacity" ∷ []
 keys_of Serve =
-    codes "film" ∷ codes "port" ∷ codes "bind" ∷ codes "capacity" ∷ codes "buffer" ∷ codes "startup" ∷ codes "slot" ∷ codes "journal"
-    ∷ codes "workers" ∷ codes "connections" ∷ []
+    codes "film" ∷ codes "port" ∷ codes "bind" ∷ codes "capacity" ∷ codes "buffer"
+    ∷ codes "startup" ∷ codes "slot" ∷ codes "journal" ∷ codes "workers" ∷ codes "connections" ∷ []
 keys_of Watch = codes "film" ∷ codes "port" ∷ codes "buffer" ∷ codes "startup" ∷ codes "slot" ∷ []
 
 -- the word gives a value to one of the keys

@@ -8,15 +8,9 @@ ghost use Rattle.command_words.specs.Capacities.{one_capacity, stands_after, ste
 ghost use Rattle.command_words.specs.Capacities.{step_more};
 
 use crate::settings::{Given, find_given, number_within};
-use crate::steps::{MOST_STEPS, Steps};
-use slot_calendar::CapStep;
-use vod_base::read_number;
-
-/// The most bytes of a slot.
-const MOST_BYTES: u64 = 1 << 42;
-
-/// The greatest slot of a step.
-const LAST_SLOT: u64 = 1 << 62;
+use crate::steps::Steps;
+use slot_calendar::{CapStep, MAX_CAPACITY, MAX_STEPS};
+use vod_base::{LATEST_SLOT, read_number};
 
 /// The bytes of a slot where the words say nothing.
 const BYTES: u64 = 50_000;
@@ -27,7 +21,7 @@ pub(crate) fn one_capacity(words: &[String], key: &str) -> Option<Steps>
     ensures profile { IfSome result IsProfile }
 {
     match find_given(words, key) {
-        Given::Absent => Some(flat(BYTES)),
+        Given::Absent => Some(flat_steps(BYTES)),
         Given::Once(text) => read_capacity(text),
         Given::Again => None,
     }
@@ -62,10 +56,10 @@ fn stands_after(steps: &[CapStep], slot: u64) -> bool
 fn may_follow(steps: &[CapStep], step: CapStep) -> bool
     ensures { result ≡ may_follow steps.now step }
 {
-    steps.len() < MOST_STEPS
+    steps.len() < MAX_STEPS
         && stands_after(steps, step.from)
-        && step.from <= LAST_SLOT
-        && step.bytes <= MOST_BYTES
+        && step.from <= LATEST_SLOT
+        && step.bytes <= MAX_CAPACITY
 }
 
 /// Puts the step that a part writes after these, and tells whether it may stand there.
@@ -106,7 +100,7 @@ fn read_steps(text: &str) -> Option<Steps>
 }
 
 /// The steps of one capacity in all slots.
-fn flat(bytes: u64) -> Steps
+fn flat_steps(bytes: u64) -> Steps
     requires { bytes ≤ 2 ^ 42 }
     ensures steps { result ≡ flat_steps bytes }
     ensures profile { IsProfile result }
@@ -124,6 +118,6 @@ fn read_capacity(text: &str) -> Option<Steps>
     if text.split_once(':').is_some() {
         return read_steps(text);
     }
-    let bytes = number_within(text, 1, MOST_BYTES)?;
-    Some(flat(bytes))
+    let bytes = number_within(text, 1, MAX_CAPACITY)?;
+    Some(flat_steps(bytes))
 }

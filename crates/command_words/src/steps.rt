@@ -2,18 +2,15 @@
 
 ghost use Rattle.std.specs.Prelude.{◌≡◌, ◌<◌, ◌++◌, ◌∷◌, [], length};
 
-use slot_calendar::CapStep;
+use slot_calendar::{CapStep, MAX_STEPS};
 use std::marker::Model;
-
-/// The most steps.
-pub const MOST_STEPS: usize = 64;
 
 /// Up to 64 steps of a capacity, held without memory of their own.
 ///
 /// Contracts see the list of the steps.
 #[derive(Debug, Drop)]
 pub struct Steps {
-    steps: [CapStep; MOST_STEPS],
+    steps: [CapStep; MAX_STEPS],
     count: usize,
 }
 
@@ -34,7 +31,7 @@ impl Steps {
         ensures { result ≡ [] }
     {
         Steps {
-            steps: [CapStep { from: 0, bytes: 0 }; MOST_STEPS],
+            steps: [CapStep { from: 0, bytes: 0 }; MAX_STEPS],
             count: 0,
         }
     }
