@@ -1,6 +1,7 @@
 -- What an answer decides: it is a refusal exactly where a relation holds of it.
 use Rattle.std.proofs.Common.{Bool, true, false, cond, ◌≡◌, ◌↔◌, Option, Some, None, sym, ap, refl, subst, inl, inr, ◌∙◌}
 use Rattle.std.proofs.lemmas.Bool.{false≢true}
+use Rattle.std.proofs.lemmas.Option.{none-some, same_Some}
 use Rattle.mpeg_scan.specs.declared.faults.FilmFault.{FilmFault}
 use Rattle.mpeg_scan.specs.Faults.{first_refusal}
 use Rattle.mpeg_scan.specs.Refusals.{Otherwise}
@@ -8,12 +9,6 @@ use Rattle.mpeg_scan.specs.Refusals.{Otherwise}
 -- an answer is that of a relation
 abbrev pub Decides : (FilmFault → Type 0) → Option FilmFault → Type 0
 Decides P o = (f : FilmFault) → (o ≡ Some f) ↔ P f
-
-pub some-is : (f g : FilmFault) → Some f ≡ Some g → f ≡ g
-some-is f g e = cc
-
-pub none-some : (f : FilmFault) → None ≡ Some f → ⊥
-none-some f e = cc
 
 pub none-of : (P : FilmFault → Type 0) → ((f : FilmFault) → P f → ⊥) → Decides P None
 none-of P never f = (λ e. absurd (none-some f e), λ p. absurd (never f p))
@@ -44,7 +39,7 @@ both P Q (Some h) b one other f = (
 pub decide : (P : FilmFault → Type 0) (b : Bool) (h : FilmFault) → (b ≡ true → P h)
     → ((g : FilmFault) → P g → (b ≡ true) × (g ≡ h)) → Decides P (cond b (Some h) None)
 decide P true h one other f =
-    (λ e. subst P (some-is h f e) (one refl), λ p. ap Some (sym (other f p).1))
+    (λ e. subst P (same_Some h f e) (one refl), λ p. ap Some (sym (other f p).1))
 decide P false h one other f = (λ e. absurd (none-some f e), λ p. absurd (false≢true (other f p).0))
 
 cond-otherwise : (b : Bool) (h : FilmFault) (o : Option FilmFault) →

@@ -1,7 +1,8 @@
 -- A whole film fed at once.
-use Rattle.std.proofs.Common.{ℕ, cond, ltb, ◌+◌, ◌^◌, ◌<◌, ◌≤◌, ◌≡◌, List, [], ◌∷◌, ◌++◌, Option, Some, None, length, ◌∙◌, ap, refl, arith}
+use Rattle.std.proofs.Common.{ℕ, cond, ltb, ◌+◌, ◌^◌, ◌<◌, ◌≤◌, ◌≡◌, List, [], ◌∷◌, ◌++◌, Option, Some, None, Result, Err, length, ◌∙◌, ap, refl, arith}
 use Rattle.std.proofs.lemmas.Bool.{ne_eqb, le-ltb, lt-ltb}
 use Rattle.mpeg_scan.specs.declared.faults.FilmFault.{FilmFault}
+use Rattle.mpeg_scan.specs.declared.faults.ScanRefused.{ScanRefused}
 use Rattle.mpeg_scan.specs.declared.faults.FilmFault.TheVariants.{Empty, TooLong}
 use Rattle.mpeg_scan.specs.declared.units.Unit.{Unit as PictureUnit}
 use Rattle.mpeg_scan.specs.Codes.{read, codes_of}
@@ -9,6 +10,11 @@ use Rattle.mpeg_scan.specs.Faults.{first_refusal, first_fault, end_fault, refusa
 use Rattle.mpeg_scan.specs.Calls.{Call, head_call, slice_call, unit_call, calls_of}
 use Rattle.mpeg_scan.specs.Films.{units_in, slices_in, refusal}
 use Rattle.mpeg_scan.proofs.StepLemmas.{codes-none}
+
+-- an answer is one error
+pub same-error : {T : Type 0} {e f : ScanRefused} (r : Result T ScanRefused) → r ≡ Err e →
+    r ≡ Err f → e ≡ f
+same-error r p q = cc
 
 pub length-read : (xs r : List ℕ) → length (read r xs) ≡ length r + length xs
 length-read [] r = omega arith

@@ -13,7 +13,8 @@ use Rattle.mpeg_scan.specs.Refusals.{BeginsUnit, CodeRefusal, CountRefusal, HasP
 use Rattle.mpeg_scan.specs.Standard.{IsFirstCode, IsHeadKind, IsSliceKind, StandsThere}
 use Rattle.mpeg_scan.proofs.TextLemmas.{TextsAre}
 use Rattle.mpeg_scan.proofs.TileLemmas.{Spaced}
-use Rattle.mpeg_scan.proofs.DecideLemmas.{Decides, both, both-cond, decide, decide-if, decide-with, neither, no-more, none-of, only-second, some-is}
+use Rattle.std.proofs.lemmas.Option.{same_Some}
+use Rattle.mpeg_scan.proofs.DecideLemmas.{Decides, both, both-cond, decide, decide-if, decide-with, neither, no-more, none-of, only-second}
 use Rattle.mpeg_scan.proofs.BeforeLemmas.{Knows, PictureThere, head-kind, no-head, no-slice, not-open, one-head, one-picture, open-head, picture-there, slice-kind, slice-there, has-new, new-below}
 use Rattle.mpeg_scan.proofs.SinceLemmas.{codes-from, codes-since, group-tests, is_group, is_nothing, is_picture, most-since, picture-tests, since-all, since-group}
 use Rattle.mpeg_scan.proofs.HeaderLemmas.{Same, latest-decides}
@@ -123,7 +124,7 @@ picture-slices Has at unit (Some h) head picture = λ f. (
     place = h.place;
     open_head = head;
     picture = picture;
-    is = sym (some-is (PictureWithoutSlices h.place) f e);
+    is = sym (same_Some (PictureWithoutSlices h.place) f e);
   },
   λ p. let same = one-head Has p.unit unit at p.open_head head in
       let its = one-picture Has p.place at (subst (λ u.
@@ -177,7 +178,7 @@ head-decides {t_unit = unit} Has at past None is head none =
         unit = unit;
         open_head = head;
         none = none;
-        is = sym (some-is (HeadWithoutPicture unit) f e);
+        is = sym (same_Some (HeadWithoutPicture unit) f e);
       }),
       λ either. elim either [
         | inl p ↦ ap (λ u.

@@ -17,7 +17,8 @@ use Rattle.mpeg_scan.proofs.StepLemmas.{accepted-older, otherwise-second}
 use Rattle.mpeg_scan.proofs.PlaceLemmas.{at-bytes, codes-stand}
 use Rattle.mpeg_scan.proofs.TextLemmas.{TextsAre, codes-texts}
 use Rattle.mpeg_scan.proofs.TileLemmas.{Spaced, all-below, placed-codes, room-after}
-use Rattle.mpeg_scan.proofs.DecideLemmas.{Decides, both, both-cond, neither, no-more, none-of, only-first, only-second, some-is}
+use Rattle.std.proofs.lemmas.Option.{same_Some}
+use Rattle.mpeg_scan.proofs.DecideLemmas.{Decides, both, both-cond, neither, no-more, none-of, only-first, only-second}
 use Rattle.mpeg_scan.proofs.BeforeLemmas.{Knows, PictureThere, earlier, has-new, here, new-below, not-open, older, one-head, open-head, picture-there, slice-there, where-is}
 use Rattle.mpeg_scan.proofs.HeaderLemmas.{Same, latest-decides}
 use Rattle.mpeg_scan.proofs.RefusalLemmas.{begins-after, code-decides, picture-slices}
@@ -153,7 +154,7 @@ open-decides {unit} Has end past None is head none =
         unit = unit;
         open_head = head;
         none = none;
-        is = sym (some-is (HeadWithoutPicture unit) f e);
+        is = sym (same_Some (HeadWithoutPicture unit) f e);
       },
       λ p. ap (λ u. Some (HeadWithoutPicture u))
           (one-head Has unit p.unit end head p.open_head) ∙ ap Some (sym p.is),
@@ -190,7 +191,7 @@ last-decides Has [] end k spaced all =
       λ e. (
         (λ place kind has.
             k.back place kind has (all place kind has)),
-        sym (some-is NoSequence f e),
+        sym (same_Some NoSequence f e),
       ),
       λ p. ap Some (sym p.1),
     ))

@@ -1,3 +1,4 @@
+//! Start codes, found byte by byte.
 ghost use Rattle.std.specs.Prelude.{◌≡◌, ◌↔◌, IsTrue};
 ghost use Rattle.mpeg_scan.specs.Codes.{is_whole, next_prefix};
 
@@ -55,10 +56,13 @@ impl Prefix {
     }
 }
 
-/// A start code: the place of its prefix in the film, its kind, and the bytes after it.
+/// A start code of a film.
 #[derive(Drop)]
 pub struct Code {
+    /// The place of its prefix.
     pub place: u64,
+    /// The byte after the prefix.
     pub kind: u8,
+    /// The bytes after it, as far as they are kept.
     pub text: Text,
 }

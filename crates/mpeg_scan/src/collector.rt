@@ -1,3 +1,4 @@
+//! Keeps the units of a film and the places of its slices.
 ghost use Rattle.std.specs.Prelude.{◌≡◌, [], List};
 ghost use Rattle.mpeg_scan.specs.Calls.{Call};
 ghost use Rattle.mpeg_scan.specs.Films.{slices_in, units_in};
@@ -10,7 +11,9 @@ use vod_base::NoMemory;
 /// Keeps a film's units and the places of its slices.
 #[derive(Drop)]
 pub struct Collector {
+    /// The units, in order.
     pub units: Vec<Unit>,
+    /// The places of the slices, in order.
     pub slices: Vec<u64>,
 }
 

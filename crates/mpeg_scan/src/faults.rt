@@ -1,3 +1,4 @@
+//! Why a film is refused, judged by its start codes one after another.
 ghost use Rattle.std.specs.Prelude.{◌≡◌};
 ghost use Rattle.mpeg_scan.specs.Faults.{header_fault, kind_fault, second_fault, first_slice_fault};
 ghost use Rattle.mpeg_scan.specs.Faults.{count_fault, code_fault, last_fault, picture_fault};
@@ -7,6 +8,7 @@ use crate::codes::Code;
 use crate::tallies::{
     EXTENSION, FIRST_SYSTEM, GROUP, PICTURE, SEQUENCE, Tally, is_head, is_slice, rate_code, type_of,
 };
+use crate::units::{MAX_FILM_PICTURES, MAX_GROUP_PICTURES, MAX_HEAD_BYTES};
 use std::error::Error;
 use std::fmt;
 use vod_base::NoMemory;
@@ -93,6 +95,16 @@ impl fmt::Display for ScanRefused {
 
 impl Error for ScanRefused {}
 
+impl From<FilmFault> for ScanRefused {
+    ghost use Rattle.mpeg_scan.specs.declared.faults.ScanRefused.TheVariants.{Fault};
+
+    ghost from_gives = { λ fault refused. refused ≡ Fault fault };
+
+    fn from(fault: FilmFault) -> ScanRefused {
+        ScanRefused::Fault(fault)
+    }
+}
+
 impl From<NoMemory> for ScanRefused {
     ghost use Rattle.mpeg_scan.specs.declared.faults.ScanRefused.{ScanRefused};
     ghost use Rattle.mpeg_scan.specs.declared.faults.ScanRefused.TheVariants.{NoMemory as WantsMemory};
@@ -104,23 +116,17 @@ impl From<NoMemory> for ScanRefused {
     }
 }
 
-// Bytes of a sequence header, of a group header, and of a picture header without and with the
-// fields of its vectors, each with the start code.
+/// The bytes of a sequence header without matrices, its start code among them.
 const SEQUENCE_HEADER: u64 = 12;
 
+/// The bytes of a group header, its start code among them.
 const GROUP_HEADER: u64 = 8;
 
+/// The bytes of a picture header without the fields of its vectors, its start code among them.
 const PICTURE_HEADER: u64 = 8;
 
+/// The bytes of a picture header with the fields of its vectors, its start code among them.
 const VECTORS_HEADER: u64 = 9;
-
-// Bytes of a head.
-const HEAD: u64 = 1380;
-
-// Pictures of a group, and of a film.
-const GROUP_PICTURES: u32 = 1024;
-
-const FILM_PICTURES: u32 = 4_194_304;
 
 /// The refusal of the header that `code` begins, where the next code, or the film's end, stands at
 /// `end`. `rate` is the rate code of the film, or 0 before its first sequence header.
@@ -179,6 +185,8 @@ pub fn last_fault(tally: &Tally) -> Option<FilmFault>
     }
 }
 
+/// The refusal of a sequence header by its picture rate code: none of the eight, or another than
+/// the film's first.
 fn rate_fault(rate: u8, code: &Code) -> Option<FilmFault>
     ensures { result ≡ rate_fault rate code.now }
 {
@@ -190,6 +198,7 @@ fn rate_fault(rate: u8, code: &Code) -> Option<FilmFault>
     }
 }
 
+/// The refusal of a picture header: too short, or of no type.
 fn picture_fault(code: &Code, end: u64) -> Option<FilmFault>
     ensures { result ≡ picture_fault code.now end }
 {
@@ -204,6 +213,8 @@ fn picture_fault(code: &Code, end: u64) -> Option<FilmFault>
     }
 }
 
+/// The refusal of a code by its kind: a system code, an extension, or another than a sequence
+/// header in front.
 fn kind_fault(tally: &Tally, place: u64, kind: u8) -> Option<FilmFault>
     ensures { result ≡ kind_fault tally.now place kind }
 {
@@ -218,19 +229,18 @@ fn kind_fault(tally: &Tally, place: u64, kind: u8) -> Option<FilmFault>
     }
 }
 
+/// The refusal of a code of a head after a picture that has no slice yet.
 fn second_fault(tally: &Tally, kind: u8) -> Option<FilmFault>
     ensures { result ≡ second_fault tally.now kind }
 {
     if is_head(kind) && tally.slices == 0 {
-        match tally.picture {
-            None => None,
-            Some(picture) => Some(FilmFault::PictureWithoutSlices(picture.place)),
-        }
+        Some(FilmFault::PictureWithoutSlices(tally.picture?.place))
     } else {
         None
     }
 }
 
+/// The refusal of the first slice of a unit by the head before it: without a picture, or too long.
 fn first_slice_fault(tally: &Tally, place: u64, kind: u8) -> Option<FilmFault>
     ensures { result ≡ first_slice_fault tally.now place kind }
 {
@@ -238,7 +248,7 @@ fn first_slice_fault(tally: &Tally, place: u64, kind: u8) -> Option<FilmFault>
         match tally.picture {
             None => Some(FilmFault::HeadWithoutPicture(tally.unit)),
             Some(_) => {
-                if HEAD < place.saturating_sub(tally.unit) {
+                if MAX_HEAD_BYTES < place.saturating_sub(tally.unit) {
                     Some(FilmFault::HeadTooLong(tally.unit))
                 } else {
                     None
@@ -250,14 +260,15 @@ fn first_slice_fault(tally: &Tally, place: u64, kind: u8) -> Option<FilmFault>
     }
 }
 
+/// The refusal of one picture more in its group or film.
 fn count_fault(tally: &Tally, place: u64, kind: u8) -> Option<FilmFault>
     ensures { result ≡ count_fault tally.now place kind }
 {
     if kind != PICTURE {
         None
-    } else if tally.pictures.saturating_sub(tally.before_group) >= GROUP_PICTURES {
+    } else if tally.pictures.saturating_sub(tally.before_group) >= MAX_GROUP_PICTURES {
         Some(FilmFault::GroupTooLong(place))
-    } else if tally.pictures >= FILM_PICTURES {
+    } else if tally.pictures >= MAX_FILM_PICTURES {
         Some(FilmFault::TooLong)
     } else {
         None

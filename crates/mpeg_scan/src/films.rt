@@ -1,3 +1,4 @@
+//! A film in memory, scanned whole.
 ghost use Rattle.std.specs.Prelude.{◌≡◌, ℕ, ◌↔◌, [], Some, Err, IfOk};
 ghost use Rattle.mpeg_scan.specs.Films.{IsFilm, refusal, told_of};
 ghost use Rattle.mpeg_scan.specs.Codes.{codes_of, read};
@@ -9,7 +10,7 @@ ghost use Rattle.mpeg_scan.specs.Tiles.{Tiles};
 use crate::collector::Collector;
 use crate::faults::{FilmFault, ScanRefused};
 use crate::scanner::Scanner;
-use crate::units::Unit;
+use crate::units::{MAX_FILM_BYTES, Unit};
 use std::alloc::Global;
 
 /// An accepted film, with what the grammar says of its bytes.
@@ -26,9 +27,6 @@ pub struct Film {
     pub ghost grammar: { IsFilm bytes.items rate units.items slice_starts.items },
 }
 
-// The most bytes of a film.
-const FILM: usize = 1 << 40;
-
 /// Scans a whole film.
 pub fn scan(alloc: Global, bytes: Vec<u8>) -> Result<Film, ScanRefused>
     ensures film { IfOk result (λ film. film.bytes.items ≡ bytes.items) }
@@ -39,24 +37,19 @@ pub fn scan(alloc: Global, bytes: Vec<u8>) -> Result<Film, ScanRefused>
     ensures fault { (f : FilmFault) → result ≡ Err (ScanRefused.Fault f) →
         refusal bytes.items ≡ Some f }
 {
-    if FILM < bytes.len() {
+    if MAX_FILM_BYTES < bytes.len() as u64 {
         return Err(ScanRefused::Fault(FilmFault::TooLong));
     }
     let mut scanner = Scanner::new();
     let mut found = Collector::new(alloc);
-    match scanner.feed(&bytes, &mut found) {
-        Ok(()) => {}
-        Err(refused) => return Err(refused),
-    }
-    match scanner.finish(&mut found) {
-        Ok(ending) => Ok(Film {
-            bytes,
-            rate: ending.rate,
-            units: found.units,
-            slice_starts: found.slices,
-        }),
-        Err(refused) => Err(refused),
-    }
+    scanner.feed(&bytes, &mut found)?;
+    let ending = scanner.finish(&mut found)?;
+    Ok(Film {
+        bytes,
+        rate: ending.rate,
+        units: found.units,
+        slice_starts: found.slices,
+    })
 }
 
 /// A law on the definitions: the start codes of a film's bytes are those that stand in them, each

@@ -1,8 +1,9 @@
+//! Tells of a film's heads, slices and units as they end.
 ghost use Rattle.std.specs.Prelude.{◌≡◌, ◌+◌, ◌^◌, ◌<◌, ◌≤◌, ◌++◌, ◌∷◌, ℕ, [], List, OnOk, true};
 ghost use Rattle.mpeg_scan.specs.Room.{AwaitsSlice, AwaitsSliceAfter};
 ghost use Rattle.mpeg_scan.specs.Words.{is_slice};
 ghost use Rattle.mpeg_scan.specs.Calls.{Call, calls_at, head_call, slice_call, unit_at, unit_call};
-ghost use Rattle.mpeg_scan.specs.Calls.{unit_end, kind_of};
+ghost use Rattle.mpeg_scan.specs.Calls.{unit_end};
 
 use crate::tallies::{Header, Tally, is_head, is_slice};
 use crate::units::{Kind, Unit};
@@ -13,7 +14,7 @@ use vod_base::NoMemory;
 pub trait Found {
     ghost heard: { Self → List Call → Type 0 };
 
-    // the next slice may begin at a place
+    /// the next slice may begin at a place
     ghost ready_at: { Self → ℕ → Type 0 } = { λ _ _. Unit {0} };
 
     /// A head, from its unit's first start code to its first slice: 1 to 1,380 bytes.
@@ -80,22 +81,7 @@ pub fn tell<F: Found>(tally: &Tally, place: u64, kind: u8, found: &mut F) -> Res
     }
 }
 
-// The kind of a picture of type 1 to 4.
-fn kind_of(coding: u8) -> Kind
-    ensures { result ≡ kind_of coding }
-{
-    if coding == 1 {
-        Kind::I
-    } else if coding == 2 {
-        Kind::P
-    } else if coding == 3 {
-        Kind::B
-    } else {
-        Kind::D
-    }
-}
-
-// The latest unit, where it ends at `to`.
+/// The latest unit, where it ends at `to`.
 fn unit_at(tally: &Tally, to: u64) -> Unit
     ensures { result ≡ unit_at tally.now to }
 {
@@ -113,7 +99,7 @@ fn unit_at(tally: &Tally, to: u64) -> Unit
         slices: tally.slices,
         temporal: picture.temporal,
         presentation: u64::from(tally.before_group) + u64::from(picture.temporal),
-        kind: kind_of(picture.coding),
+        kind: Kind::from_code(picture.coding),
         vectors: picture.vectors,
         has_sequence: tally.has_sequence,
         starts_group: tally.starts_group,

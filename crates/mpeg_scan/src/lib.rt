@@ -14,6 +14,7 @@ mod tallies;
 mod texts;
 mod units;
 
+pub use codes::Prefix;
 pub use faults::{FilmFault, ScanRefused};
 pub use films::{Film, law_start_codes, scan};
 pub use found::Found;
@@ -22,7 +23,10 @@ pub use laws::{
     law_refused_early, law_slices, law_standard_units, law_units,
 };
 pub use scanner::{Ending, Scanner};
-pub use units::{Kind, Unit, picture_units};
+pub use units::{
+    Kind, MAX_FILM_BYTES, MAX_FILM_PICTURES, MAX_GROUP_PICTURES, MAX_HEAD_BYTES, Unit,
+    picture_units,
+};
 
 #[cfg(test)]
 mod tests;

@@ -1,3 +1,4 @@
+//! How far a film was read, and what a further byte does.
 ghost use Rattle.std.specs.Prelude.{◌≡◌, ℕ, ◌+◌, ◌^◌, ◌<◌, ◌≤◌, List, [], ◌∷◌, ◌++◌, Some, None};
 ghost use Rattle.std.specs.Prelude.{length, take, slice_index, IsTrue, true, IfOk, IfErr, OnOk};
 ghost use Rattle.std.specs.Prelude.{MatchResult, ◌≢◌};
@@ -15,16 +16,19 @@ use crate::faults::{FilmFault, ScanRefused, code_fault, header_fault, last_fault
 use crate::found::{Found, tell};
 use crate::tallies::Tally;
 use crate::texts::Text;
+use crate::units::MAX_FILM_BYTES;
 use memchr::memchr;
-use vod_base::NoMemory;
 
 /// How far a film was read: what is kept of its bytes.
 #[derive(Drop)]
 pub struct Progress {
+    /// How many bytes were read.
     pub fed: u64,
+    /// How much of the next prefix stands at the end.
     prefix: Prefix,
+    /// The latest code, with what was read of its header.
     latest: Option<Code>,
-    // Of the codes before the latest.
+    /// Of the codes before the latest.
     tally: Tally,
 }
 
@@ -44,7 +48,7 @@ impl Progress {
         }
     }
 
-    // A byte that isn't the kind of a code.
+    /// A byte that isn't the kind of a code.
     fn note(&mut self, byte: u8)
         requires { self.old.fed < 2 ^ 41 }
         ensures { self.new ≡ scan_with_byte self.old byte }
@@ -56,17 +60,15 @@ impl Progress {
         self.fed += 1;
     }
 
-    // The refusal of the latest code's header, where the next code, or the end, stands at `end`.
+    /// The refusal of the latest code's header, where the next code, or the end, stands at `end`.
     fn header_fault(&self, end: u64) -> Option<FilmFault>
         ensures { result ≡ latest_header_fault self.now.latest self.now.tally.rate end }
     {
-        match &self.latest {
-            None => None,
-            Some(code) => header_fault(self.tally.rate, code, end),
-        }
+        let code = self.latest.as_ref()?;
+        header_fault(self.tally.rate, code, end)
     }
 
-    // The tally with the latest code.
+    /// The tally with the latest code.
     fn tally_now(&self) -> Tally
         ensures { result ≡ tally_now self.now }
     {
@@ -76,7 +78,7 @@ impl Progress {
         }
     }
 
-    // Judges a code.
+    /// Judges a code.
     #[tactic(auto, unfolding(crate::specs::Steps::code_judgement))]
     fn judge(&self, place: u64, kind: u8) -> Result<Tally, FilmFault>
         ensures { MatchResult result
@@ -93,7 +95,7 @@ impl Progress {
         }
     }
 
-    // Takes a code, and tells of what ends at it.
+    /// Takes a code, and tells of what ends at it.
     fn take_code<F: Found>(
         &mut self,
         place: u64,
@@ -115,14 +117,8 @@ impl Progress {
         ensures ready { OnOk result
             (AwaitsSliceAfter (F.ready_at found.new) (tally_now self.old) place kind) }
     {
-        let tally = match self.judge(place, kind) {
-            Ok(tally) => tally,
-            Err(fault) => return Err(ScanRefused::Fault(fault)),
-        };
-        match tell(&tally, place, kind, found) {
-            Ok(()) => {}
-            Err(NoMemory) => return Err(ScanRefused::NoMemory),
-        }
+        let tally = self.judge(place, kind)?;
+        tell(&tally, place, kind, found)?;
         self.tally = tally;
         self.latest = Some(Code {
             place,
@@ -132,7 +128,7 @@ impl Progress {
         Ok(())
     }
 
-    // Takes a byte.
+    /// Takes a byte.
     fn take_byte<F: Found>(&mut self, byte: u8, found: &mut F) -> Result<(), ScanRefused>
         requires short { self.old.fed < 2 ^ 40 }
         requires room { IsAhead self.old }
@@ -163,7 +159,7 @@ impl Progress {
         }
     }
 
-    // Whether nothing of a prefix stands at the end, and the latest text is full.
+    /// Whether nothing of a prefix stands at the end, and the latest text is full.
     fn is_quiet(&self) -> bool
         ensures { IsTrue result → (self.now.prefix ≡ Prefix.Nothing)
             × (is_text_full self.now.latest ≡ true) }
@@ -175,8 +171,8 @@ impl Progress {
             }
     }
 
-    // Passes over the bytes in front of `rest` that change nothing but the place, and says how
-    // many: those before its first zero byte, where no prefix and no text takes them.
+    /// Passes over the bytes in front of `rest` that change nothing but the place, and says how
+    /// many: those before its first zero byte, where no prefix and no text takes them.
     fn skip(&mut self, rest: &[u8]) -> usize
         requires { self.old.fed + length rest.now < 2 ^ 41 }
         ensures bound { result ≤ length rest.now }
@@ -224,16 +220,14 @@ impl Progress {
         while at < piece.len() {
             at += self.skip(&piece[at..]);
             if at < piece.len() {
-                match self.take_byte(piece[at], found) {
-                    Ok(()) => at += 1,
-                    Err(refused) => return Err(refused),
-                }
+                self.take_byte(piece[at], found)?;
+                at += 1;
             }
         }
         Ok(())
     }
 
-    // Judges the film's end.
+    /// Judges the film's end.
     #[tactic(auto, unfolding(crate::specs::Steps::end_judgement))]
     fn judge_end(&self) -> Result<Tally, FilmFault>
         ensures { MatchResult result
@@ -262,7 +256,7 @@ impl Progress {
     {
         if self.fed == 0 {
             Err(FilmFault::Empty)
-        } else if FILM < self.fed {
+        } else if MAX_FILM_BYTES < self.fed {
             Err(FilmFault::TooLong)
         } else {
             self.judge_end()
@@ -270,10 +264,7 @@ impl Progress {
     }
 }
 
-// The most bytes of a film.
-const FILM: u64 = 1 << 40;
-
-// How many bytes stand before the first zero byte.
+/// How many bytes stand before the first zero byte.
 fn run_before_zero(bytes: &[u8]) -> usize
     ensures bound { result ≤ length bytes.now }
     ensures run { (k : ℕ) → k < result → slice_index bytes.now k ≢ 0 }

@@ -1,7 +1,9 @@
+//! Scans a film whose bytes come in pieces.
 ghost use Rattle.std.specs.Prelude.{◌≡◌, None};
+ghost use Rattle.mpeg_scan.specs.declared.faults.FilmFault.{FilmFault};
 ghost use Rattle.mpeg_scan.specs.Room.{IsAhead};
 
-use crate::faults::{FilmFault, ScanRefused};
+use crate::faults::ScanRefused;
 use crate::found::{Found, tell_unit};
 use crate::progress::Progress;
 
@@ -99,17 +101,12 @@ impl Scanner {
         if let Some(refused) = self.refused {
             return Err(refused);
         }
-        let tally = match self.progress.judge_film() {
-            Ok(tally) => tally,
-            Err(fault) => return Err(ScanRefused::Fault(fault)),
-        };
-        match tell_unit(&tally, self.progress.fed, found) {
-            Ok(()) => Ok(Ending {
-                rate: tally.rate,
-                bytes: self.progress.fed,
-            }),
-            Err(NoMemory) => Err(ScanRefused::NoMemory),
-        }
+        let tally = self.progress.judge_film()?;
+        tell_unit(&tally, self.progress.fed, found)?;
+        Ok(Ending {
+            rate: tally.rate,
+            bytes: self.progress.fed,
+        })
     }
 }
 

@@ -1,3 +1,4 @@
+//! What the start codes so far say of the latest unit: its picture header, counts and places.
 ghost use Rattle.std.specs.Prelude.{◌≡◌, ℕ, List, []};
 ghost use Rattle.mpeg_scan.specs.Words.{header_of, is_head, is_slice, rate_code, tally_of, type_of};
 ghost use Rattle.mpeg_scan.specs.Steps.{next, next_all_slices, next_before_group, next_begins};
@@ -7,17 +8,22 @@ ghost use Rattle.mpeg_scan.specs.Steps.{next_starts_group, next_unit};
 
 use crate::codes::Code;
 
-// Kinds of start codes (ISO/IEC 11172-2, table 2-D.1).
+/// The kind of a picture's start code (ISO/IEC 11172-2, table 2-D.1).
 pub const PICTURE: u8 = 0x00;
 
+/// The kind of a sequence header's start code.
 pub const SEQUENCE: u8 = 0xb3;
 
+/// The kind of an extension's start code.
 pub const EXTENSION: u8 = 0xb5;
 
+/// The kind of a group header's start code.
 pub const GROUP: u8 = 0xb8;
 
+/// The least kind of a system start code; those above it are system start codes too.
 pub const FIRST_SYSTEM: u8 = 0xb9;
 
+/// The greatest kind of a slice's start code; those from 1 to it are slices.
 const LAST_SLICE: u8 = 0xaf;
 
 /// Whether a code of this kind begins a header of a head.
@@ -51,13 +57,19 @@ pub fn type_of(code: &Code) -> u8
 /// What a unit's picture header says.
 #[derive(Clone, Copy)]
 pub struct Header {
+    /// The place of its start code.
     pub place: u64,
+    /// temporal_reference.
     pub temporal: u16,
+    /// picture_coding_type.
     pub coding: u8,
+    /// full_pel_backward, backward_f_code, full_pel_forward and forward_f_code, from the highest
+    /// bit; those that the picture hasn't are 0.
     pub vectors: u8,
 }
 
 impl Header {
+    /// What the text of a picture's start code says.
     fn read(code: &Code) -> Header
         ensures { result ≡ header_of code.now }
     {
@@ -82,17 +94,29 @@ impl Header {
 /// What the start codes so far say of the latest unit, and of the units before it.
 #[derive(Clone, Copy)]
 pub struct Tally {
+    /// Whether a code was read.
     pub begun: bool,
+    /// The rate code of the film's first sequence header, or 0 before it.
     pub rate: u8,
+    /// The place of the latest unit.
     pub unit: u64,
+    /// Its picture's header.
     pub picture: Option<Header>,
+    /// How many pictures the film has.
     pub pictures: u32,
+    /// How many of them come before the latest group.
     pub before_group: u32,
+    /// How many slices the latest unit has.
     pub slices: u64,
+    /// How many slices the film has.
     pub all_slices: u64,
+    /// The place of the latest unit's first slice.
     pub head_end: u64,
+    /// The place of the latest slice.
     pub slice: u64,
+    /// Whether a sequence header stands in the latest unit's head.
     pub has_sequence: bool,
+    /// Whether the latest unit starts a group.
     pub starts_group: bool,
 }
 
@@ -139,13 +163,14 @@ impl Tally {
         }
     }
 
-    // Whether a code of this kind begins a unit.
+    /// Whether a code of this kind begins a unit.
     fn begins_unit(&self, kind: u8) -> bool
         ensures { result ≡ next_begins self.now kind }
     {
         !self.begun || (is_head(kind) && 0 < self.slices)
     }
 
+    /// The film's rate code with one code more.
     fn next_rate(&self, code: &Code) -> u8
         ensures { result ≡ next_rate self.now code.now }
     {
@@ -156,6 +181,7 @@ impl Tally {
         }
     }
 
+    /// The place of the latest unit with one code more.
     fn next_unit(&self, code: &Code) -> u64
         ensures { result ≡ next_unit self.now code.now }
     {
@@ -166,6 +192,7 @@ impl Tally {
         }
     }
 
+    /// The header of the latest unit's picture with one code more.
     fn next_picture(&self, code: &Code) -> Option<Header>
         ensures { result ≡ next_picture self.now code.now }
     {
@@ -178,6 +205,7 @@ impl Tally {
         }
     }
 
+    /// The pictures of the film with one code more.
     fn next_pictures(&self, code: &Code) -> u32
         ensures { result ≡ next_pictures self.now code.now }
     {
@@ -188,6 +216,7 @@ impl Tally {
         }
     }
 
+    /// The pictures before the latest group with one code more.
     fn next_before_group(&self, code: &Code) -> u32
         ensures { result ≡ next_before_group self.now code.now }
     {
@@ -198,6 +227,7 @@ impl Tally {
         }
     }
 
+    /// The slices of the latest unit with one code more.
     fn next_slices(&self, code: &Code) -> u64
         ensures { result ≡ next_slices self.now code.now }
     {
@@ -210,6 +240,7 @@ impl Tally {
         }
     }
 
+    /// The slices of the film with one code more.
     fn next_all_slices(&self, code: &Code) -> u64
         ensures { result ≡ next_all_slices self.now code.now }
     {
@@ -220,6 +251,7 @@ impl Tally {
         }
     }
 
+    /// The place of the latest unit's first slice with one code more.
     fn next_head_end(&self, code: &Code) -> u64
         ensures { result ≡ next_head_end self.now code.now }
     {
@@ -230,6 +262,7 @@ impl Tally {
         }
     }
 
+    /// The place of the latest slice with one code more.
     fn next_slice(&self, code: &Code) -> u64
         ensures { result ≡ next_slice self.now code.now }
     {
@@ -240,12 +273,14 @@ impl Tally {
         }
     }
 
+    /// Whether a sequence header stands in the latest unit's head, with one code more.
     fn next_has_sequence(&self, code: &Code) -> bool
         ensures { result ≡ next_has_sequence self.now code.now }
     {
         code.kind == SEQUENCE || (!self.begins_unit(code.kind) && self.has_sequence)
     }
 
+    /// Whether the latest unit starts a group, with one code more.
     fn next_starts_group(&self, code: &Code) -> bool
         ensures { result ≡ next_starts_group self.now code.now }
     {

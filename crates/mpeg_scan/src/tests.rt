@@ -80,10 +80,8 @@ impl Listener {
         if !self.keeps {
             return Ok(());
         }
-        match self.told.push(told) {
-            Ok(()) => Ok(()),
-            Err(_) => Err(NoMemory),
-        }
+        self.told.push(told)?;
+        Ok(())
     }
 }
 

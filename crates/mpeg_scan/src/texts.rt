@@ -1,3 +1,4 @@
+//! The first bytes after a start code, where the fields of its header stand.
 ghost use Rattle.std.specs.Prelude.{◌≡◌, ℕ, ◌<◌, ◌≤◌, List, [], length, take, slice_index, not};
 ghost use Rattle.std.specs.Prelude.{nat_lt};
 ghost use Rattle.mpeg_scan.specs.Texts.{text_with};
@@ -23,7 +24,7 @@ impl Model for Text {
 }
 
 impl Text {
-    // No bytes.
+    /// No bytes.
     pub fn new() -> Text
         ensures { result ≡ [] }
     {
@@ -33,7 +34,7 @@ impl Text {
         }
     }
 
-    // Whether it takes no further byte.
+    /// Whether it takes no further byte.
     pub fn is_full(&self) -> bool
         ensures full { result ≡ not (nat_lt (length self.now) 5) }
         ensures bound { length self.now ≤ 5 }
@@ -41,7 +42,7 @@ impl Text {
         self.len == TEXT
     }
 
-    // Adds a byte, where there is room.
+    /// Adds a byte, where there is room.
     pub fn note(&mut self, byte: u8)
         ensures { self.new ≡ text_with self.old byte }
     {
@@ -51,7 +52,7 @@ impl Text {
         }
     }
 
-    // The byte at an index, or 0 where it isn't read.
+    /// The byte at an index, or 0 where it isn't read.
     pub fn byte(&self, index: u8) -> u8
         ensures { result ≡ slice_index self.now index }
     {

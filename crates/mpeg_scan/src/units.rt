@@ -1,5 +1,20 @@
+//! The pictures of a film with their headers and slices, and how long a picture lasts.
 ghost use Rattle.std.specs.Prelude.{◌≡◌, ◌≤◌};
+ghost use Rattle.mpeg_scan.specs.Calls.{kind_of};
 ghost use Rattle.mpeg_scan.specs.Rates.{picture_time};
+ghost use Rattle.mpeg_scan.specs.Standard.{type_number};
+
+/// The most bytes of a film.
+pub const MAX_FILM_BYTES: u64 = 1 << 40;
+
+/// The most bytes of a unit before its first slice: they go into one packet.
+pub const MAX_HEAD_BYTES: u64 = 1380;
+
+/// The most pictures of a group: a temporal_reference has 10 bits.
+pub const MAX_GROUP_PICTURES: u32 = 1024;
+
+/// The most pictures of a film.
+pub const MAX_FILM_PICTURES: u32 = 4_194_304;
 
 /// The kind of a picture (ISO/IEC 11172-2, picture_coding_type).
 #[derive(Clone, Copy, Debug, PartialEq, Eq)]
@@ -12,6 +27,35 @@ pub enum Kind {
     B,
     /// Coded by its average colours alone.
     D,
+}
+
+impl Kind {
+    /// The kind that picture_coding_type says, a number from 1 to 4.
+    pub(crate) fn from_code(code: u8) -> Kind
+        ensures { result ≡ kind_of code }
+    {
+        if code == 1 {
+            Kind::I
+        } else if code == 2 {
+            Kind::P
+        } else if code == 3 {
+            Kind::B
+        } else {
+            Kind::D
+        }
+    }
+
+    /// Its picture_coding_type (ISO/IEC 11172-2, 2.4.3.4).
+    pub fn code(self) -> u8
+        ensures { result ≡ type_number self }
+    {
+        match self {
+            Kind::I => 1,
+            Kind::P => 2,
+            Kind::B => 3,
+            Kind::D => 4,
+        }
+    }
 }
 
 /// A picture of a film with the headers before it, and its slices. Places are in bytes from the

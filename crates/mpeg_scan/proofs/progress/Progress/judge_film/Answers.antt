@@ -7,31 +7,31 @@ use Rattle.mpeg_scan.proofs.progress.Progress.judge_film.Goals as goal
 pub returns-then-self-eq0-clause-fault : goal.returns-then-self-eq0-clause-fault
 returns-then-self-eq0-clause-fault c = λ r kept. refusal-empty c.args.self.now r c.if-self-eq0.true kept
 
-pub returns-then-self-gt-FILM-clause-fault : goal.returns-then-self-gt-FILM-clause-fault
-returns-then-self-gt-FILM-clause-fault c = λ r kept. refusal-long c.args.self.now r c.if-self-gt-FILM.true kept
+pub returns-then-self-gt-MAX_FILM_BYTES-clause-fault : goal.returns-then-self-gt-MAX_FILM_BYTES-clause-fault
+returns-then-self-gt-MAX_FILM_BYTES-clause-fault c = λ r kept. refusal-long c.args.self.now r c.if-self-gt-MAX_FILM_BYTES.true kept
 
-pub returns-else-self-gt-FILM-clause-accepted : goal.returns-else-self-gt-FILM-clause-accepted
-returns-else-self-gt-FILM-clause-accepted c =
+pub returns-else-self-gt-MAX_FILM_BYTES-clause-accepted : goal.returns-else-self-gt-MAX_FILM_BYTES-clause-accepted
+returns-else-self-gt-MAX_FILM_BYTES-clause-accepted c =
     MatchResult-weaker c.judge_end.result c.judge_end.ensures
     (λ t h r kept. (
-      refusal-is c.args.self.now r (omega arith) c.if-self-gt-FILM.false kept ∙ h.0,
-      h.1 ∙ tally-ended c.args.self.now r c.if-self-gt-FILM.false kept,
+      refusal-is c.args.self.now r (omega arith) c.if-self-gt-MAX_FILM_BYTES.false kept ∙ h.0,
+      h.1 ∙ tally-ended c.args.self.now r c.if-self-gt-MAX_FILM_BYTES.false kept,
     ))
     (λ f h. tt)
 
-pub returns-else-self-gt-FILM-clause-fault : goal.returns-else-self-gt-FILM-clause-fault
-returns-else-self-gt-FILM-clause-fault c =
+pub returns-else-self-gt-MAX_FILM_BYTES-clause-fault : goal.returns-else-self-gt-MAX_FILM_BYTES-clause-fault
+returns-else-self-gt-MAX_FILM_BYTES-clause-fault c =
     MatchResult-weaker c.judge_end.result c.judge_end.ensures (λ t h. tt)
-    (λ f h r kept. refusal-is c.args.self.now r (omega arith) c.if-self-gt-FILM.false kept ∙ h)
+    (λ f h r kept. refusal-is c.args.self.now r (omega arith) c.if-self-gt-MAX_FILM_BYTES.false kept ∙ h)
 
-pub returns-else-self-gt-FILM-clause-tally : goal.returns-else-self-gt-FILM-clause-tally
-returns-else-self-gt-FILM-clause-tally c =
+pub returns-else-self-gt-MAX_FILM_BYTES-clause-tally : goal.returns-else-self-gt-MAX_FILM_BYTES-clause-tally
+returns-else-self-gt-MAX_FILM_BYTES-clause-tally c =
     MatchResult-weaker c.judge_end.result c.judge_end.ensures (λ t h. h.1) (λ f h. tt)
 
-pub returns-else-self-gt-FILM-clause-sliced : goal.returns-else-self-gt-FILM-clause-sliced
-returns-else-self-gt-FILM-clause-sliced c =
+pub returns-else-self-gt-MAX_FILM_BYTES-clause-sliced : goal.returns-else-self-gt-MAX_FILM_BYTES-clause-sliced
+returns-else-self-gt-MAX_FILM_BYTES-clause-sliced c =
     MatchResult-weaker c.judge_end.result c.judge_end.ensures (λ t h. end_judgement-sliced c.args.self.now.latest c.args.self.now.tally t c.args.self.now.fed h.0 h.1) (λ f h. tt)
 
-pub returns-else-self-gt-FILM-clause-short : goal.returns-else-self-gt-FILM-clause-short
-returns-else-self-gt-FILM-clause-short c =
-    MatchResult-weaker c.judge_end.result c.judge_end.ensures (λ t h. c.if-self-gt-FILM.false) (λ f h. tt)
+pub returns-else-self-gt-MAX_FILM_BYTES-clause-short : goal.returns-else-self-gt-MAX_FILM_BYTES-clause-short
+returns-else-self-gt-MAX_FILM_BYTES-clause-short c =
+    MatchResult-weaker c.judge_end.result c.judge_end.ensures (λ t h. c.if-self-gt-MAX_FILM_BYTES.false) (λ f h. tt)

@@ -1,4 +1,5 @@
 use Rattle.std.proofs.Common.{◌+◌, ◌++◌, List, ℕ, take, subst, sym, ap, ◌∙◌, arith}
+use Rattle.std.proofs.lemmas.Result.{err_from_is_err_and}
 use Rattle.mpeg_scan.specs.Calls.{Call, calls_of}
 use Rattle.mpeg_scan.specs.Codes.{codes_of, read}
 use Rattle.mpeg_scan.specs.Faults.{first_fault}
@@ -21,8 +22,8 @@ loop-at-preserved g c =
       told = λ r calls kept heard. subst (λ (l : List Call). g.F.Found.heard c.loop-at.found l) (told-run r piece at n calls (c.skip-at.ensures.quiet (read r (take at piece)) (i.kept r kept))) (i.told r calls kept heard);
     }
 
-pub loop-at-preserved-in-Ok : goal.loop-at-preserved-in-Ok
-loop-at-preserved-in-Ok g c =
+pub loop-at-preserved-then-at-piece : goal.loop-at-preserved-then-at-piece
+loop-at-preserved-then-at-piece g c =
     let i = c.loop-at.invariant in
     let piece = c.args.piece.now in
     let at = c.loop-at.at in
@@ -30,21 +31,22 @@ loop-at-preserved-in-Ok g c =
     let b = at + n in record {
       within = omega arith;
       fed = omega (arith, i.fed, c.skip-at.ensures.fed, c.take_byte.ensures.fed);
-      room = c.in-Ok.ensures.room;
-      ready = c.in-Ok.ensures.ready;
-      kept = λ r kept. subst (λ (q : List ℕ). HasRead c.take_byte.new.self q) (read-byte r piece b c.if-at-piece.true) (c.in-Ok.ensures.kept (read r (take b piece)) (subst (λ (q : List ℕ). HasRead c.skip-at.new.self q) (read-run r piece at n) (c.skip-at.ensures.kept (read r (take at piece)) (i.kept r kept))));
+      room = c.in_ok-take_byte.ensures.room;
+      ready = c.in_ok-take_byte.ensures.ready;
+      kept = λ r kept. subst (λ (q : List ℕ). HasRead c.take_byte.new.self q) (read-byte r piece b c.if-at-piece.true) (c.in_ok-take_byte.ensures.kept (read r (take b piece)) (subst (λ (q : List ℕ). HasRead c.skip-at.new.self q) (read-run r piece at n) (c.skip-at.ensures.kept (read r (take at piece)) (i.kept r kept))));
       told = λ r calls kept heard. subst (λ (q : List ℕ). g.F.Found.heard c.take_byte.new.found (calls ++ calls_of (codes_of q))) (read-byte r piece b c.if-at-piece.true)
-          (c.in-Ok.ensures.told (read r (take b piece)) calls (subst (λ (q : List ℕ). HasRead c.skip-at.new.self q) (read-run r piece at n) (c.skip-at.ensures.kept (read r (take at piece)) (i.kept r kept)))
+          (c.in_ok-take_byte.ensures.told (read r (take b piece)) calls (subst (λ (q : List ℕ). HasRead c.skip-at.new.self q) (read-run r piece at n) (c.skip-at.ensures.kept (read r (take at piece)) (i.kept r kept)))
           (subst (λ (l : List Call). g.F.Found.heard c.loop-at.found l) (told-run r piece at n calls (c.skip-at.ensures.quiet (read r (take at piece)) (i.kept r kept))) (i.told r calls kept heard)));
     }
 
-pub returns-in-Err-clause-fault : goal.returns-in-Err-clause-fault
-returns-in-Err-clause-fault g c =
+pub returns-in_err-take_byte-clause-fault : goal.returns-in_err-take_byte-clause-fault
+returns-in_err-take_byte-clause-fault g c =
     let i = c.loop-at.invariant in
     let piece = c.args.piece.now in
     let at = c.loop-at.at in
     let n = c.skip-at.result in
-    let b = at + n in λ f is r kept. fault-rest r piece b f c.if-at-piece.true (c.take_byte.ensures.fault f (c.in-Err.is ∙ is) (read r (take b piece)) (subst (λ (q : List ℕ). HasRead c.skip-at.new.self q) (read-run r piece at n) (c.skip-at.ensures.kept (read r (take at piece)) (i.kept r kept))))
+    let b = at + n in
+    let p = err_from_is_err_and c.from_residual.result c.from_residual.ensures.1 in rw (p.1, p.2) λ f is r kept. fault-rest r piece b f c.if-at-piece.true (c.take_byte.ensures.fault f (c.in_err-take_byte.was ∙ is) (read r (take b piece)) (subst (λ (q : List ℕ). HasRead c.skip-at.new.self q) (read-run r piece at n) (c.skip-at.ensures.kept (read r (take at piece)) (i.kept r kept))))
 
 pub take_byte-requires : goal.take_byte-requires
 take_byte-requires g c =
@@ -55,19 +57,20 @@ take_byte-requires g c =
       ready = skipped-awaits (g.F.Found.ready_at c.loop-at.found) c.loop-at.self c.skip-at.new.self c.skip-at.ensures.latest c.skip-at.ensures.tally i.ready;
     }
 
-pub returns-in-Err-clause-told_before : goal.returns-in-Err-clause-told_before
-returns-in-Err-clause-told_before g c =
+pub returns-in_err-take_byte-clause-told_before : goal.returns-in_err-take_byte-clause-told_before
+returns-in_err-take_byte-clause-told_before g c =
     let i = c.loop-at.invariant in
     let piece = c.args.piece.now in
     let at = c.loop-at.at in
     let n = c.skip-at.result in
-    let b = at + n in λ f is r calls kept heard.
+    let b = at + n in
+    let p = err_from_is_err_and c.from_residual.result c.from_residual.ensures.1 in rw (p.1, p.2) λ f is r calls kept heard.
     let here : HasRead c.skip-at.new.self (read r (take b piece)) = subst (λ (q : List ℕ). HasRead c.skip-at.new.self q) (read-run r piece at n) (c.skip-at.ensures.kept (read r (take at piece)) (i.kept r kept)) in
     let before = subst (λ (l : List Call). g.F.Found.heard c.loop-at.found l) (told-run r piece at n calls (c.skip-at.ensures.quiet (read r (take at piece)) (i.kept r kept))) (i.told r calls kept heard) in
     record {
       count = b;
       within = c.if-at-piece.true;
       accepted = here.accepted;
-      fault = ap (λ (q : List ℕ). first_fault (codes_of q)) (sym (read-byte r piece b c.if-at-piece.true)) ∙ c.take_byte.ensures.fault f (c.in-Err.is ∙ is) (read r (take b piece)) here;
-      heard = let same = c.take_byte.ensures.untold f (c.in-Err.is ∙ is) in rw same before;
+      fault = ap (λ (q : List ℕ). first_fault (codes_of q)) (sym (read-byte r piece b c.if-at-piece.true)) ∙ c.take_byte.ensures.fault f (c.in_err-take_byte.was ∙ is) (read r (take b piece)) here;
+      heard = let same = c.take_byte.ensures.untold f (c.in_err-take_byte.was ∙ is) in rw same before;
     }
