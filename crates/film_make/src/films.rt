@@ -1,3 +1,4 @@
+//! Makes a film, as an MPEG-1 video stream.
 ghost use Rattle.std.specs.Prelude.{◌≡◌, ◌++◌, ◌≤◌, IfOk, take};
 ghost use Rattle.film_make.specs.Generator.{words_of};
 ghost use Rattle.film_make.specs.Film.{film_of, pictures_of, sequence_and_group};

@@ -1,3 +1,4 @@
+//! Makes a trace: the sizes of pictures, one a line.
 ghost use Rattle.std.specs.Prelude.{◌≡◌, ℕ, ◌++◌, ◌≤◌, IfOk, ◌*◌, ◌+◌, ◌%◌, ◌==◌, [], ◌∷◌};
 ghost use Rattle.std.specs.Prelude.{if◌then◌else◌, decimal, OnOk};
 ghost use Rattle.film_make.specs.Generator.{after, words_left, words_of};

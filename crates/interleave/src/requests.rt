@@ -1,3 +1,4 @@
+//! Finds the end of a request.
 ghost use Rattle.std.specs.Prelude.{◌≡◌, ◌+◌, ◌<◌, ◌≤◌, true, false, ℕ, length, MatchOption};
 ghost use Rattle.std.specs.Prelude.{MatchResult, Ok, Err};
 ghost use Rattle.interleave.specs.declared.pieces.DemuxFault.{DemuxFault};

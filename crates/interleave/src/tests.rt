@@ -1,3 +1,4 @@
+//! The requests and blocks are written by hand from RFC 2326.
 use super::*;
 use std::alloc::Global;
 use std::test::Fail;
